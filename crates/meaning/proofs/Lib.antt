@@ -1,0 +1,2 @@
+-- The laws about the definitions of specs/ that other crates cite, and document 01's examples.
+pub mod Examples
