@@ -45,20 +45,26 @@ documentsOf ix t = map (λ h. h .doc) (fullList ix t)
 abbrev scoresOf : Index → Tree → List ℕ
 scoresOf ix t = map (λ h. toBits binary32 (h .score)) (fullList ix t)
 
+-- ---- the pieces of an index: one field of average 1, without norms or positions
+abbrev field : List ℕ
+field = 0x3f80_0000 ∷ 0 ∷ 0 ∷ []
+
+-- a leaf of field 0, idf 1, and a posting of frequency 1
+abbrev leaf : ℕ → ℕ → List ℕ
+leaf first number = 0 ∷ first ∷ number ∷ 0x3f80_0000 ∷ []
+
+abbrev posting : ℕ → List ℕ
+posting d = d ∷ 1 ∷ 0 ∷ []
+
+-- an index of N documents with these fields, leaves and postings, and nothing else
+abbrev indexOf : ℕ → List ℕ → List ℕ → List ℕ → Index
+indexOf n fields leaves postings =
+    record { maxDoc = n; fields = fields; leaves = leaves; postings = postings; positions = []; norms = []; live = []; columns = []; values = [] }
+
 -- ---- "A is {1,4,6}, B {4,6}, C {1,7}"
 abbrev lots : Index
 lots =
-    record {
-      maxDoc = 8;
-      fields = 0x3f80_0000 ∷ 0 ∷ 0 ∷ [];
-      leaves = 0 ∷ 0 ∷ 3 ∷ 0x3f80_0000 ∷ 0 ∷ 3 ∷ 2 ∷ 0x3f80_0000 ∷ 0 ∷ 5 ∷ 2 ∷ 0x3f80_0000 ∷ [];
-      postings = 1 ∷ 1 ∷ 0 ∷ 4 ∷ 1 ∷ 0 ∷ 6 ∷ 1 ∷ 0 ∷ 4 ∷ 1 ∷ 0 ∷ 6 ∷ 1 ∷ 0 ∷ 1 ∷ 1 ∷ 0 ∷ 7 ∷ 1 ∷ 0 ∷ [];
-      positions = [];
-      norms = [];
-      live = [];
-      columns = [];
-      values = [];
-    }
+    indexOf 8 field (leaf 0 3 ++ (leaf 3 2 ++ leaf 5 2)) (posting 1 ++ (posting 4 ++ (posting 6 ++ (posting 4 ++ (posting 6 ++ (posting 1 ++ posting 7))))))
 
 abbrev a : Tree
 a = term 0
@@ -81,7 +87,7 @@ words =
     record {
       maxDoc = 1;
       fields = 0x3f80_0000 ∷ 0 ∷ 1 ∷ [];
-      leaves = 0 ∷ 0 ∷ 1 ∷ 0x3f80_0000 ∷ 0 ∷ 1 ∷ 1 ∷ 0x3f80_0000 ∷ 0 ∷ 2 ∷ 1 ∷ 0x3f80_0000 ∷ [];
+      leaves = leaf 0 1 ++ (leaf 1 1 ++ leaf 2 1);
       postings = 0 ∷ 3 ∷ 0 ∷ 0 ∷ 3 ∷ 3 ∷ 0 ∷ 1 ∷ 6 ∷ [];
       positions = 0 ∷ 5 ∷ 5 ∷ 6 ∷ 6 ∷ 9 ∷ 0 ∷ [];
       norms = [];
@@ -90,6 +96,7 @@ words =
       values = [];
     }
 
+-- the term of a leaf at an offset
 abbrev at : ℕ → ℕ → PhraseTerm
 at l o = record { leaf = l; offset = o }
 
@@ -103,18 +110,7 @@ ends kinds low high = record { column = 0; kinds = kinds; lower = low; upper = h
 -- ---- rows in which the order and the format of the additions show in the last bit
 -- A in document 0, B in documents 0 and 1
 abbrev two : Index
-two =
-    record {
-      maxDoc = 2;
-      fields = 0x3f80_0000 ∷ 0 ∷ 0 ∷ [];
-      leaves = 0 ∷ 0 ∷ 1 ∷ 0x3f80_0000 ∷ 0 ∷ 1 ∷ 2 ∷ 0x3f80_0000 ∷ [];
-      postings = 0 ∷ 1 ∷ 0 ∷ 0 ∷ 1 ∷ 0 ∷ 1 ∷ 1 ∷ 0 ∷ [];
-      positions = [];
-      norms = [];
-      live = [];
-      columns = [];
-      values = [];
-    }
+two = indexOf 2 field (leaf 0 1 ++ leaf 1 2) (posting 0 ++ (posting 0 ++ posting 1))
 
 -- a constant score, as f32 bits
 abbrev scored : ℕ → Tree → Tree
@@ -122,18 +118,7 @@ scored bits t = boost bits (constantScore t)
 
 -- ---- the whole case: leaf 0 in documents 0, 2, 3, leaf 1 in 2
 abbrev catalogue : Index
-catalogue =
-    record {
-      maxDoc = 4;
-      fields = 0x3f80_0000 ∷ 0 ∷ 0 ∷ [];
-      leaves = 0 ∷ 0 ∷ 3 ∷ 0x3f80_0000 ∷ 0 ∷ 3 ∷ 1 ∷ 0x3f80_0000 ∷ [];
-      postings = 0 ∷ 1 ∷ 0 ∷ 2 ∷ 1 ∷ 0 ∷ 3 ∷ 1 ∷ 0 ∷ 2 ∷ 1 ∷ 0 ∷ [];
-      positions = [];
-      norms = [];
-      live = [];
-      columns = [];
-      values = [];
-    }
+catalogue = indexOf 4 field (leaf 0 3 ++ leaf 3 1) (posting 0 ++ (posting 2 ++ (posting 3 ++ posting 2)))
 
 -- a query record with one value, the others 0
 abbrev recordOf : ℕ → ℕ → ℕ → ℕ → List ℕ
@@ -150,23 +135,19 @@ abbrev places : List ℤ
 places = negsuc 6 ∷ negsuc 6 ∷ negsuc 6 ∷ []
 
 -- ---- one input for each refusal
--- an index of N documents with these fields, norms, leaves, postings and columns, and nothing else
-abbrev indexOf : ℕ → List ℕ → List ℕ → List ℕ → List ℕ → List ℕ → Index
-indexOf n fields norms leaves postings columns =
-    record { maxDoc = n; fields = fields; leaves = leaves; postings = postings; positions = []; norms = norms; live = []; columns = columns; values = [] }
+-- one lot with one word
+abbrev lot : Index
+lot = indexOf 1 field (leaf 0 1) (posting 0)
 
-abbrev field : List ℕ
-field = 0x3f80_0000 ∷ 0 ∷ 0 ∷ []
-
--- MatchAll, and a search for it with a state lent
+-- MatchAll, and a search with a state for one record lent
 abbrev all : List ℕ
 all = recordOf 5 0 0 0
 
-abbrev one-state : Work
-one-state = record { states = 24; starts = 0; otherStarts = 0; ranges = 0 }
+abbrev oneState : Work
+oneState = record { states = 24; starts = 0; otherStarts = 0; ranges = 0 }
 
 abbrev searched : Index → List ℕ → List ℕ
-searched ix q = searchAnswer ix q 1 0 one-state 1
+searched ix q = searchAnswer ix q 1 0 oneState 1
 
 -- the rows' names
 pub data Example : Type 0 where
@@ -218,19 +199,19 @@ table wholeDocuments = map toDoc (take 2 (searchHits catalogue order 2 work plac
 table wholeScores = map (λ h. toBits binary32 (toScore h)) (take 2 (searchHits catalogue order 2 work places)) gives 0x4040_0000 ∷ 0x3f80_0000 ∷ []
 table wholeRest = record { computed = drop 2 (searchHits catalogue order 2 work places); expected = negsuc 6 ∷ [] }
 -- ---- one input for each refusal
-table refused1 = searched (indexOf 1048577 [] [] [] [] []) all gives 1 ∷ []
-table refused2 = searched (indexOf 1 (0x3f7f_ffff ∷ 0 ∷ 0 ∷ []) [] [] [] []) all gives 2 ∷ []
-table refused3 = searched (indexOf 1 field (0 ∷ []) [] [] []) all gives 3 ∷ []
-table refused4 = searched (indexOf 1 field [] (0 ∷ 0 ∷ 1 ∷ 0 ∷ []) [] []) all gives 4 ∷ []
-table refused5 = searched (indexOf 1 field [] (0 ∷ 0 ∷ 1 ∷ 0 ∷ []) (1 ∷ 1 ∷ 0 ∷ []) []) all gives 5 ∷ []
-table refused6 = searched (indexOf 1 field [] [] [] (0 ∷ [])) all gives 6 ∷ []
-table refused7 = searched (indexOf 1 field [] [] [] []) (recordOf 9 0 0 0) gives 7 ∷ []
-table refused8 = searched (indexOf 1 field [] [] [] []) (recordOf 1 0 0 0) gives 8 ∷ []
-table refused9 = searched (indexOf 1 field [] [] [] []) (recordOf 7 0 1 0x4780_0000 ++ (recordOf 7 0 1 0x3f80_0001 ++ all)) gives 9 ∷ []
-table refused10 = searched (indexOf 1 field [] (0 ∷ 0 ∷ 0 ∷ 0 ∷ []) [] []) (recordOf 2 0 1 0 ++ recordOf 9 0 0 0) gives 10 ∷ []
-table refused11 = searchAnswer (indexOf 1 field [] [] [] []) all 0 0 one-state 1 gives 11 ∷ []
-table refused12 = searchAnswer (indexOf 1 field [] [] [] []) all 1 0 one-state 0 gives 12 ∷ []
-table refused13 = pageAnswer (indexOf 1 field [] [] [] []) all 2 one-state 1 1 gives 13 ∷ []
+table refused1 = searched (indexOf 1048577 [] [] []) all gives 1 ∷ []
+table refused2 = searched (indexOf 1 (0x3f7f_ffff ∷ 0 ∷ 0 ∷ []) [] []) all gives 2 ∷ []
+table refused3 = searched (indexOf 1 (0x3f80_0000 ∷ 1 ∷ 0 ∷ []) [] []) all gives 3 ∷ []
+table refused4 = searched (indexOf 1 field (leaf 0 1) []) all gives 4 ∷ []
+table refused5 = searched (indexOf 1 field (leaf 0 1) (posting 1)) all gives 5 ∷ []
+table refused6 = searched (columnsOnly 1 (0 ∷ []) []) all gives 6 ∷ []
+table refused7 = searched lot (recordOf 9 0 0 0) gives 7 ∷ []
+table refused8 = searched lot (recordOf 1 0 0 1) gives 8 ∷ []
+table refused9 = searched lot (recordOf 7 0 1 0x4780_0000 ++ (recordOf 7 0 1 0x3f80_0001 ++ all)) gives 9 ∷ []
+table refused10 = searched lot (recordOf 2 0 1 0 ++ recordOf 9 0 0 0) gives 10 ∷ []
+table refused11 = searchAnswer lot all 0 0 oneState 1 gives 11 ∷ []
+table refused12 = searchAnswer lot all 1 0 oneState 0 gives 12 ∷ []
+table refused13 = pageAnswer lot all 2 oneState 1 1 gives 13 ∷ []
 table refused14 = pickAnswer (0 ∷ []) (0x8000_0000 ∷ []) 1 0 1 gives 14 ∷ []
 
 -- every row gives what it says

@@ -1,3 +1,4 @@
+-- Document 01 as definitions, one file an idea, each after those that it uses.
 pub mod Below
 pub mod Limits
 pub mod Lent
@@ -10,6 +11,7 @@ pub mod Range
 pub mod Phrase
 pub mod Query
 pub mod Takes
+pub mod First
 pub mod Scorer
 pub mod Cost
 pub mod Score
