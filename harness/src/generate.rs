@@ -2,10 +2,17 @@
 //! weights and costs are chosen so that the order of additions shows in the last bit.
 mod index;
 mod order;
+mod shown;
 mod sums;
 
 use crate::case::Case;
 use crate::random::Random;
+
+/// x, y and z: in f64 their sum narrows to 3f800001, but with y added last to 3f800000.
+const BY_ORDER: [u32; 3] = [X, Y, Z];
+const X: u32 = 0x3f7f_ffff;
+const Y: u32 = 0x3400_0000;
+const Z: u32 = 0x253f_ffff;
 
 /// The case of a seed.
 pub fn case(seed: u64) -> Case {
@@ -52,5 +59,14 @@ fn value_bits(random: &mut Random, kind: u32) -> u64 {
         (0, _) => random.word(),
         (_, 0) => random.pick(&whole),
         _ => random.pick(&floats),
+    }
+}
+
+/// Where bits stand in the order of their column's values: as i64, or in IEEE 754's totalOrder.
+fn order_key(kind: u32, bits: u64) -> i64 {
+    let whole = bits as i64;
+    match kind {
+        0 => whole,
+        _ => whole ^ ((whole >> 63) & i64::MAX),
     }
 }

@@ -169,6 +169,24 @@ fn picked_ties_go_to_the_lower_document() {
 }
 
 #[test]
+fn picking_at_the_edges() {
+    with_oracle!({
+        let (infinity, last) = (0x7f80_0000, NO_MORE_DOCS - 1);
+        let documents = [0, 7, last - 1, last];
+        let scores = [0, infinity, 1, infinity];
+        let picked = |k, t| oracle::pick(&documents, &scores, k, t);
+        let all = [(7, infinity), (last, infinity), (last - 1, 1), (0, 0)];
+        assert_eq!(pairs(&picked(1024, u32::MAX).hits), all);
+        for k in 1..=4 {
+            assert_eq!(pairs(&picked(k, 0).hits), all[..k as usize]);
+        }
+        let marks = [(4, 3), (4, 4), (5, 3), (1, 0)].map(|(k, t)| picked(k, t).mark);
+        assert_eq!(marks, [true, false, false, true]);
+        assert_eq!(pairs(&oracle::pick(&[], &[], 1, 0).hits), []);
+    });
+}
+
+#[test]
 fn pages_of_match_all() {
     with_oracle!({
         let case = Catalogue::new(3).case(1, 0, &match_all());

@@ -1,5 +1,5 @@
 //! The generated index: fields, leaves, postings, positions, norms, live words and columns.
-use super::value_bits;
+use super::{BY_ORDER, value_bits};
 use crate::case::Case;
 use crate::random::Random;
 
@@ -7,6 +7,8 @@ pub struct Index {
     pub case: Case,
     /// leaves that stand in every document of the core, so that conjunctions match
     pub dense: Vec<u32>,
+    /// leaves of few documents
+    pub sparse: Vec<u32>,
     /// fields with positions, each with its leaves
     pub phrases: Vec<(u32, Vec<u32>)>,
 }
@@ -18,7 +20,7 @@ pub fn index(random: &mut Random) -> Index {
         0 => 0,
         1 => 1,
         2 => random.pick(&[63, 64, 65]),
-        3..=7 => random.within(2, 8),
+        3..=5 => random.within(2, 8),
         _ => random.within(9, 40),
     };
     let case = Case {
@@ -29,17 +31,17 @@ pub fn index(random: &mut Random) -> Index {
         random,
         case,
         dense: vec![],
+        sparse: vec![],
     };
     maker.fields();
     maker.leaves();
     maker.columns();
     maker.live();
-    let (case, dense) = (maker.case, maker.dense);
-    let phrases = phrases(&case);
     Index {
-        case,
-        dense,
-        phrases,
+        phrases: phrases(&maker.case),
+        case: maker.case,
+        dense: maker.dense,
+        sparse: maker.sparse,
     }
 }
 
@@ -60,6 +62,7 @@ struct Maker<'a> {
     random: &'a mut Random,
     case: Case,
     dense: Vec<u32>,
+    sparse: Vec<u32>,
 }
 
 impl Maker<'_> {
@@ -99,31 +102,47 @@ impl Maker<'_> {
     fn leaves(&mut self) {
         let fields = (self.case.fields.len() / 3) as u32;
         let n = self.case.n;
-        let half = self.random.below(n / 2 + 1);
-        let core = self.random.documents(n, half);
+        let number = self.random.within(1, n / 3 + 1);
+        let core = self.random.documents(n, number);
         let number = match self.random.below(40) {
             _ if fields == 0 => 0,
             0 => 0,
             1 => 512,
-            _ => self.random.within(2, 10),
+            _ => self.random.within(4, 12),
         };
+        let favourite = self.random.below(fields.max(1));
+        let in_turn = self.random.once_in(2);
         for leaf in 0..number {
-            let field = self.random.below(fields);
-            // past the tenth no run of its own, so that the files stay short
-            let (first, postings) = match self.random.below(8) {
-                0 => (self.random.below(self.postings() + 1), 0),
-                1 | 2 => self.shared_run(field),
-                _ if leaf > 10 => self.shared_run(field),
-                3 => self.sparse_run(field),
-                _ => {
-                    self.dense.push(leaf);
-                    self.dense_run(field, &core)
-                }
+            let field = match self.random.once_in(2) {
+                true => favourite,
+                false => self.random.below(fields),
             };
-            let idf = self.idf();
+            let (first, postings) = self.leaf_run(leaf, field, &core);
+            let idf = match in_turn && field == favourite {
+                true => BY_ORDER[leaf as usize % 3],
+                false => self.idf(),
+            };
             self.case.leaves.extend([field, first, postings, idf]);
         }
         self.end_runs_at_the_count();
+    }
+
+    /// The run of a leaf: (first posting, number). Past the twelfth leaf there is none of its own,
+    /// so that the files stay short.
+    fn leaf_run(&mut self, leaf: u32, field: u32, core: &[u32]) -> (u32, u32) {
+        match self.random.below(8) {
+            0 => (self.random.below(self.postings() + 1), 0),
+            1 => self.shared_run(field),
+            _ if leaf > 11 => self.shared_run(field),
+            2 => {
+                self.sparse.push(leaf);
+                self.sparse_run(field)
+            }
+            _ => {
+                self.dense.push(leaf);
+                self.dense_run(field, core)
+            }
+        }
     }
 
     fn postings(&self) -> u32 {
@@ -157,12 +176,13 @@ impl Maker<'_> {
         self.run(field, &documents)
     }
 
-    /// The core and some more: of few sizes, so that costs differ and also tie.
+    /// The core and some more, so that costs differ; the least and the most are often taken, so
+    /// that they also tie.
     fn dense_run(&mut self, field: u32, core: &[u32]) -> (u32, u32) {
         let (n, least) = (self.case.n, core.len() as u32);
-        let size = self
-            .random
-            .pick(&[least, least + 1, least + 1, (least + n) / 2, n]);
+        let any = self.random.within(least, n);
+        let more = self.random.within(least, n);
+        let size = self.random.pick(&[least, any, more, any.min(more), n]);
         let mut documents = self.random.documents(n, n);
         self.random.shuffle(&mut documents);
         documents.sort_by_key(|document| !core.contains(document));
@@ -224,8 +244,8 @@ impl Maker<'_> {
             self.case.positions.push(JUNK);
         }
         let first = self.case.positions.len() as u32;
-        let number = self.random.pick(&[1, 2, 3, 3, 4, 6]);
-        let mut positions: Vec<_> = (0..number).map(|_| self.random.below(7)).collect();
+        let number = self.random.pick(&[1, 2, 3, 4, 4, 6]);
+        let mut positions: Vec<_> = (0..number).map(|_| self.random.below(4)).collect();
         if self.random.once_in(12) {
             positions[0] = 2_147_483_647 - self.random.below(3);
         }

@@ -1,6 +1,6 @@
 //! The generated query: trees of every kind, occurrence, child count and depth.
 use super::index::Index;
-use super::value_bits;
+use super::{order_key, value_bits};
 use crate::query::*;
 use crate::random::Random;
 
@@ -12,6 +12,8 @@ pub struct Orders<'a> {
     pub index: &'a Index,
     /// records that may still be made
     pub records: u32,
+    /// dense leaves are mostly taken in turn, so that the costs beside each other differ
+    pub turn: usize,
 }
 
 pub fn query(random: &mut Random, index: &Index) -> Node {
@@ -19,13 +21,19 @@ pub fn query(random: &mut Random, index: &Index) -> Node {
         random,
         index,
         records: 60,
+        turn: 0,
     };
     match orders.random.below(32) {
         0 => orders.chain(MOST_LEVELS, 1.0),
         1 => orders.wide(),
-        2..=13 => orders.node(5, 1.0),
-        14 | 15 => orders.phrase(),
-        _ => orders.sums(6, 1.0),
+        2..=8 => orders.node(5, 1.0),
+        9 | 10 => orders.phrase(),
+        11 => orders.term(),
+        12..=18 => orders.sums(6, 1.0),
+        _ => {
+            let shown = (0..8).find_map(|_| orders.shown());
+            shown.unwrap_or_else(|| orders.sums(6, 1.0))
+        }
     }
 }
 
@@ -73,7 +81,7 @@ impl Orders<'_> {
     }
 
     /// A factor and its product with the boost that reaches it, which is not too large.
-    fn factor(&mut self, reaching: f32) -> (u32, f32) {
+    pub fn factor(&mut self, reaching: f32) -> (u32, f32) {
         let any = self.random.within(0, 0x4780_0000);
         let edges = [0, 1, 0x007f_ffff, 0x0080_0000, 0x4780_0000, 0x3f80_0000];
         let factor = match self.random.below(4) {
@@ -108,9 +116,10 @@ impl Orders<'_> {
     pub fn with_msm(&mut self, clauses: Vec<Node>) -> Node {
         let should = |clause: &&Node| clause.occurrence == SHOULD;
         let shoulds = clauses.iter().filter(should).count() as u32;
-        let msm = match self.random.below(24) {
+        let msm = match self.random.below(32) {
             0 => u32::MAX,
             1 => shoulds + 1,
+            _ if shoulds == 0 => 0,
             2..=5 => shoulds,
             6..=9 if shoulds > 2 => self.random.within(2, shoulds - 1),
             10..=14 => 1,
@@ -119,19 +128,33 @@ impl Orders<'_> {
         boolean(msm, clauses)
     }
 
+    /// A range of any kinds and ends.
     fn range(&mut self) -> Node {
-        let case = &self.index.case;
-        let column = self.random.below(case.columns.len() as u32);
+        let column = self.random.below(self.index.case.columns.len() as u32);
+        let ends = [self.end(column), self.end(column)];
         let kinds = self.random.below(9);
-        let [lower, upper] = [kinds % 3, kinds / 3].map(|kind| match kind {
-            0 => 0,
-            _ => self.end(column),
+        let [lower, upper] = [(kinds % 3, ends[0]), (kinds / 3, ends[1])].map(|end| match end {
+            (0, _) => 0,
+            (_, bits) => bits,
         });
         range(column, kinds, lower, upper)
     }
 
+    /// A range that holds several of its column's values.
+    pub fn wide_range(&mut self) -> Node {
+        let case = &self.index.case;
+        let column = self.random.below(case.columns.len() as u32);
+        let mut ends = [(); 4].map(|()| self.end(column));
+        ends.sort_by_key(|bits| order_key(case.columns[column as usize], *bits));
+        match self.random.below(3) {
+            0 => range(column, 1, ends[1], 0),
+            1 => range(column, 3, 0, ends[2]),
+            _ => range(column, 4, ends[0], ends[3]),
+        }
+    }
+
     /// An end of a range: often a value of the column, so that included and excluded differ.
-    fn end(&mut self, column: u32) -> u64 {
+    pub fn end(&mut self, column: u32) -> u64 {
         let case = &self.index.case;
         if case.n == 0 || self.random.once_in(4) {
             return value_bits(self.random, case.columns[column as usize]);
@@ -148,27 +171,36 @@ impl Orders<'_> {
             7..=20 => 2,
             _ => self.random.within(3, 4),
         };
-        if self.index.phrases.is_empty() || !self.reserve(number) {
+        let shape = self.random.below(8);
+        let offset = |i: u32, random: &mut Random| match shape {
+            _ if number == 32 => 3,
+            0 | 4 => 0,
+            1 | 5 => i,
+            2 => 2 * i,
+            3 => 2_147_483_647 - random.below(2),
+            _ => random.below(6),
+        };
+        let offsets: Vec<_> = (0..number).map(|i| offset(i, self.random)).collect();
+        let one = number == 32 || shape < 2;
+        self.phrase_of(&offsets, one, false)
+    }
+
+    /// A phrase at these offsets, of one leaf or of several, dense ones where they are asked for.
+    pub fn phrase_of(&mut self, offsets: &[u32], one: bool, dense: bool) -> Node {
+        if self.index.phrases.is_empty() || !self.reserve(offsets.len() as u32) {
             return self.childless();
         }
         let at = self.random.below(self.index.phrases.len() as u32);
-        let (field, leaves) = &self.index.phrases[at as usize];
-        let one = self.random.pick(leaves);
-        let shape = self.random.below(8);
-        let mut terms = Vec::new();
-        for i in 0..number {
-            let any = self.random.pick(leaves);
-            let leaf = if shape < 2 || number == 32 { one } else { any };
-            let offset = match shape {
-                _ if number == 32 => 3,
-                0 | 4 => 0,
-                1 | 5 => i,
-                2 => 2 * i,
-                3 => 2_147_483_647 - self.random.below(2),
-                _ => self.random.below(9),
-            };
-            terms.push((leaf, offset));
+        let (field, all) = &self.index.phrases[at as usize];
+        let mut leaves = all.clone();
+        leaves.retain(|leaf| !dense || self.index.dense.contains(leaf));
+        if leaves.is_empty() {
+            leaves = all.clone();
         }
+        self.random.shuffle(&mut leaves);
+        leaves.truncate(if one { 1 } else { offsets.len() });
+        let terms = leaves.iter().cycle().zip(offsets);
+        let terms: Vec<_> = terms.map(|(leaf, offset)| (*leaf, *offset)).collect();
         phrase(*field, &terms)
     }
 

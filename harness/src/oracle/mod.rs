@@ -37,7 +37,8 @@ impl Oracle {
 
     /// The list from `advance(target)` on: what a Page begun there sees.
     pub fn list_from(&self, target: u32) -> Vec<Hit> {
-        walk::list(&self.segment, &self.query, Some(target as i32))
+        let target = i32::try_from(target).expect("a target up to N");
+        walk::list(&self.segment, &self.query, Some(target))
     }
 
     /// Search, with the case's k and t.

@@ -1,5 +1,11 @@
 //! What several test files share; each uses its own part.
 #![allow(dead_code, unused_macros)]
+#[cfg(oracle)]
+pub mod leaves;
+#[cfg(oracle)]
+pub mod model;
+pub mod plain;
+
 use harness::answer::Hit;
 #[cfg(oracle)]
 use harness::case::Case;
@@ -59,4 +65,15 @@ pub fn documents(case: &Case) -> Vec<u32> {
 
 pub fn pairs(hits: &[Hit]) -> Vec<(u32, u32)> {
     hits.iter().map(|hit| (hit.document, hit.bits)).collect()
+}
+
+/// Tells at which seed a test failed.
+pub struct Seed(pub u64);
+
+impl Drop for Seed {
+    fn drop(&mut self) {
+        if std::thread::panicking() {
+            eprintln!("at seed {}", self.0);
+        }
+    }
 }
