@@ -91,7 +91,7 @@ impl Orders<'_> {
         }
     }
 
-    /// A clause that scores by BM25; it is at most three levels deep.
+    /// A clause that scores by BM25, two levels deep at most.
     fn plain(&mut self, reaching: f32) -> Node {
         match self.random.below(6) {
             0 => self.phrase_of(&[0, 1], false, true),
