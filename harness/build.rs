@@ -1,0 +1,113 @@
+//! Writes OUT_DIR/root.rs: the module tree of the oracle, with `#[path]` straight at the files of
+//! the Rust source, so that they are compiled as they stand. The source's folder is ORACLE_SRC
+//! (relative to this package), by default `shared/docs/src` beside the repository. Without it
+//! there is no `cfg(oracle)`, and what needs the Rust is left out.
+use std::path::{Path, PathBuf};
+use std::{env, fs};
+
+const DEFAULT: &str = "../../shared/docs/src";
+
+fn main() {
+    println!("cargo::rustc-check-cfg=cfg(oracle)");
+    println!("cargo::rerun-if-env-changed=ORACLE_SRC");
+    println!("cargo::rerun-if-changed=build.rs");
+    let package = PathBuf::from(env::var("CARGO_MANIFEST_DIR").unwrap());
+    let source = package.join(env::var("ORACLE_SRC").unwrap_or_else(|_| DEFAULT.into()));
+    if !source.is_dir() {
+        // named although it is absent: cargo then looks for it again at the next build
+        println!("cargo::rerun-if-changed={}", source.display());
+        println!("cargo::warning=no Rust source in ORACLE_SRC: what needs it is skipped");
+        return;
+    }
+    let out = PathBuf::from(env::var("OUT_DIR").unwrap());
+    fs::write(out.join("cuts.rs"), cuts(&source)).unwrap();
+    let own = package.join("src/oracle");
+    fs::write(out.join("root.rs"), root(&source, &own, &out)).unwrap();
+    println!("cargo::rustc-cfg=oracle");
+}
+
+/// The source file at `path`, which may also be spelled `src--src--search--scorer.rs.txt`.
+fn find(source: &Path, path: &str) -> PathBuf {
+    let spelled = source.join(format!("src--{}.txt", path.replace('/', "--")));
+    let plain = source.join(path);
+    let file = if spelled.exists() { spelled } else { plain };
+    assert!(file.exists(), "the Rust source has no {path}");
+    println!("cargo::rerun-if-changed={}", file.display());
+    file.canonicalize().unwrap()
+}
+
+/// The text from the mark `from` up to, and without, the mark `to` (or to the end).
+fn cut<'a>(text: &'a str, from: &str, to: Option<&str>) -> &'a str {
+    assert_eq!(text.matches(from).count(), 1, "mark {from:?} is not single");
+    let rest = &text[text.find(from).unwrap()..];
+    let end = to.map_or(rest.len(), |mark| rest.find(mark).expect("no end mark"));
+    &rest[..end]
+}
+
+/// Two files can't be compiled whole (index/mod.rs names missing modules, index/reader.rs reads a
+/// directory): what is needed is cut out of their text, and nothing is retyped.
+fn cuts(source: &Path) -> String {
+    let read = |path| fs::read_to_string(find(source, path)).unwrap();
+    let term = "/// A term in a field: the unit of indexing";
+    let stats = "/// Index-wide statistics of a field";
+    let reader = "/// An immutable view of one commit";
+    let mut text = cut(&read("src/index/mod.rs"), term, None).to_string();
+    text += cut(&read("src/index/reader.rs"), stats, Some(reader));
+    text
+}
+
+/// The module tree. A path is of the Rust source, or a stand-in of ours (`own:`), or `cuts.rs`.
+const ROOT: &str = r#"
+#[path = "src/sim.rs"] mod sim_source;
+#[path = "own:sim.rs"] mod sim;
+#[path = "own:num.rs"] mod num;
+#[path = "own:error.rs"] mod error;
+#[path = "own:document.rs"] mod document;
+mod codec {
+    #[path = "own:forutil.rs"] pub mod forutil;
+    #[path = "own:cursor.rs"] pub mod postings_reader;
+    #[path = "own:store.rs"] pub mod store;
+}
+mod index {
+    #[path = "own:codec_util.rs"] pub mod codec_util;
+    #[path = "cuts.rs"] mod cuts;
+    #[path = "src/index/doc_values.rs"] pub mod doc_values;
+    #[path = "src/index/field_infos.rs"] pub mod field_infos;
+    #[path = "src/index/live_docs.rs"] pub mod live_docs;
+    #[path = "own:segment.rs"] pub mod segment;
+    pub use cuts::{CollectionStats, Term, TermStats};
+    pub use field_infos::{FieldInfo, FieldInfos};
+    pub use live_docs::LiveDocs;
+    pub use segment::{DirectoryReader, SegmentReader};
+}
+mod search {
+    #[path = "own:bulk.rs"] pub mod bulk;
+    #[path = "src/search/collector.rs"] pub mod collector;
+    #[path = "src/search/query.rs"] pub mod query;
+    #[path = "src/search/scorer.rs"] pub mod scorer;
+    #[path = "src/search/searcher.rs"] pub mod searcher;
+    #[path = "src/search/term_scorer.rs"] pub mod term_scorer;
+    #[path = "src/search/util.rs"] pub mod util;
+    #[path = "own:walk.rs"] pub mod walk;
+}
+"#;
+
+/// ROOT with whole paths. The source has more than we call, so unused parts draw no warning.
+fn root(source: &Path, own: &Path, out: &Path) -> String {
+    let mut text = String::new();
+    for line in ROOT.lines() {
+        let Some((before, rest)) = line.split_once("#[path = \"") else {
+            text += &format!("{line}\n");
+            continue;
+        };
+        let (path, after) = rest.split_once('"').unwrap();
+        let file = match path.strip_prefix("own:") {
+            Some(ours) => own.join(ours),
+            None if path == "cuts.rs" => out.join(path),
+            None => find(source, path),
+        };
+        let quiet = "#[allow(dead_code, unused_imports, clippy::all)]";
+        text += &format!("{before}{quiet} #[path = {file:?}{after}\n");
+    }
+    text
+}

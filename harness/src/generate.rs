@@ -1,0 +1,72 @@
+//! Small valid cases from a seed: none of refusals 1 to 12 holds, and every file fits `hits`. The
+//! weights and costs are chosen so that the order of additions shows in the last bit.
+mod index;
+mod order;
+mod shown;
+mod sums;
+
+use crate::case::Case;
+use crate::random::Random;
+
+/// x, y and z: in f64 their sum narrows to 3f800001, but with y added last to 3f800000.
+const BY_ORDER: [u32; 3] = [X, Y, Z];
+const X: u32 = 0x3f7f_ffff;
+const Y: u32 = 0x3400_0000;
+const Z: u32 = 0x253f_ffff;
+
+/// The case of a seed.
+pub fn case(seed: u64) -> Case {
+    let mut random = Random::new(seed);
+    let index = index::index(&mut random);
+    let query = order::query(&mut random, &index).words();
+    let n = index.case.n;
+    let k = match random.below(8) {
+        0 => 1024,
+        1 => n.max(1),
+        2 => 1,
+        _ => random.within(1, 6),
+    };
+    let t = match random.below(8) {
+        0 => 0,
+        1 => u32::MAX,
+        _ => random.below(n + 2),
+    };
+    Case {
+        k,
+        t,
+        query,
+        ..index.case
+    }
+}
+
+/// Bits of a value that an i64 column (kind 0) or an f64 column may hold.
+fn value_bits(random: &mut Random, kind: u32) -> u64 {
+    let whole = [17, 18, 19, 0, -1, i64::MIN, i64::MAX].map(|v| v as u64);
+    let numbers = [
+        17.0,
+        17.5,
+        18.0,
+        0.0,
+        -0.0,
+        f64::INFINITY,
+        f64::NEG_INFINITY,
+    ];
+    let mut floats = numbers.map(f64::to_bits).to_vec();
+    // quiet and signalling NaNs of both signs, the largest of each, the least above 0
+    floats.extend([0x7ff8 << 48, 0xfff8 << 48, (0x7ff0 << 48) + 1]);
+    floats.extend([(0xfff0 << 48) + 1, u64::MAX >> 1, u64::MAX, 1]);
+    match (random.below(8), kind) {
+        (0, _) => random.word(),
+        (_, 0) => random.pick(&whole),
+        _ => random.pick(&floats),
+    }
+}
+
+/// Where bits stand in the order of their column's values: as i64, or in IEEE 754's totalOrder.
+fn order_key(kind: u32, bits: u64) -> i64 {
+    let whole = bits as i64;
+    match kind {
+        0 => whole,
+        _ => whole ^ ((whole >> 63) & i64::MAX),
+    }
+}

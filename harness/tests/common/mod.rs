@@ -1,0 +1,79 @@
+//! What several test files share; each uses its own part.
+#![allow(dead_code, unused_macros)]
+#[cfg(oracle)]
+pub mod leaves;
+#[cfg(oracle)]
+pub mod model;
+pub mod plain;
+
+use harness::answer::Hit;
+#[cfg(oracle)]
+use harness::case::Case;
+#[cfg(oracle)]
+use harness::oracle::Oracle;
+#[cfg(oracle)]
+use harness::refusal::refusal;
+use std::path::{Path, PathBuf};
+
+/// In f64 x + y + z narrows to 3f800001, x + z + y to 3f800000.
+pub const X: u32 = 0x3f7f_ffff;
+pub const Y: u32 = 0x3400_0000;
+pub const Z: u32 = 0x253f_ffff;
+pub const ONE: u32 = 0x3f80_0000;
+/// 2^-24, half of the last place of 1
+pub const HALF: u32 = 0x3380_0000;
+
+/// The body of a test that needs the Rust source; without it the test only says so.
+macro_rules! with_oracle {
+    ($body:block) => {
+        #[cfg(oracle)]
+        $body
+        #[cfg(not(oracle))]
+        println!("skipped: the Rust source is absent");
+    };
+}
+
+/// A folder of a test's own, below cargo's folder for tests; what an earlier run left is gone.
+pub fn folder(name: &str) -> PathBuf {
+    let folder = Path::new(env!("CARGO_TARGET_TMPDIR")).join(name);
+    if folder.exists() {
+        std::fs::remove_dir_all(&folder).unwrap();
+    }
+    folder
+}
+
+/// The oracle for a case that none of the refusals hits.
+#[cfg(oracle)]
+pub fn ask(case: &Case) -> Oracle {
+    assert_eq!(refusal(case), 0, "{case:?}");
+    Oracle::new(case)
+}
+
+/// The full list as pairs.
+#[cfg(oracle)]
+pub fn list(case: &Case) -> Vec<(u32, u32)> {
+    pairs(&ask(case).list())
+}
+
+#[cfg(oracle)]
+pub fn documents(case: &Case) -> Vec<u32> {
+    list(case)
+        .into_iter()
+        .map(|(document, _)| document)
+        .collect()
+}
+
+pub fn pairs(hits: &[Hit]) -> Vec<(u32, u32)> {
+    hits.iter().map(|hit| (hit.document, hit.bits)).collect()
+}
+
+/// Tells at which seed a test failed.
+pub struct Seed(pub u64);
+
+impl Drop for Seed {
+    fn drop(&mut self) {
+        if std::thread::panicking() {
+            eprintln!("at seed {}", self.0);
+        }
+    }
+}
