@@ -3,6 +3,8 @@
 pub mod answer;
 pub mod case;
 pub mod catalogue;
+pub mod damage;
+pub mod definitions;
 pub mod generate;
 #[cfg(oracle)]
 pub mod oracle;
