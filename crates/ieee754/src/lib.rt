@@ -10,7 +10,7 @@ pub fn total_key(bits: u64) -> u64
     if bits < 0x8000_0000_0000_0000 {
         bits + 0x8000_0000_0000_0000
     } else {
-        0xffff_ffff_ffff_ffff - bits
+        !bits
     }
 }
 

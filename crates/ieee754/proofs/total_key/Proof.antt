@@ -7,9 +7,6 @@ use Rattle.ieee754.proofs.total_key.Tie as tie
 add-result : tie.Need-add-result
 add-result c = search needs
 
-sub-result : tie.Need-sub-result
-sub-result c = search needs
-
 returns : tie.Need-returns
 returns c = key-clear (c .before .args .bits) (c .if1 .taken)
 
@@ -17,4 +14,4 @@ returns-2 : tie.Need-returns-2
 returns-2 c = key-set (c .before .args .bits) (c .if1 .left)
 
 pub total-key-spec : {M : Type 1} → statement M
-total-key-spec = tie.close (tie.spec add-result sub-result returns returns-2)
+total-key-spec = tie.close (tie.spec add-result returns returns-2)
