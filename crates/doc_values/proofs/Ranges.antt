@@ -1,16 +1,16 @@
 -- The documents of a range: what the list depends on and what stands in it, and the column's scan that writes it. Assumes nothing.
 use mathlib.Core.Path.{_≡_, refl, sym, ap, ap₂, _∙_}
-use mathlib.Core.Bool.{Bool, true, false, not, _&&_, _||_, and-assoc}
+use mathlib.Core.Bool.{Bool, true, false, _&&_, and-assoc}
 use mathlib.Core.List.{List}
 use Prim.Native.Nat.{ℕ, suc, _+_, _*_, _/_, _%_, _^_, _≤_, _<_}
 use native.Mathlib.Nat.{mul-le-mul-right, suc-mul}
 use native.Mathlib.Omega.{arith}
-use lib.Dec.{eqb, leb, ltb}
+use lib.Dec.{eqb, ltb}
 use lib.ListN.{length, getD}
-use borrow.Author.Tests.{ltb-false, leb-false, eqb-true, not-false}
+use borrow.Author.Tests.{leb-false, eqb-true, not-false}
 use Rattle.meaning.specs.Limits.{maxColumns}
 use Rattle.meaning.specs.Below.{listBelow, anyBelow}
-use Rattle.meaning.specs.Lent.{Index, joined, columnType, valueBits}
+use Rattle.meaning.specs.Lent.{Index, columnType, valueBits}
 use Rattle.meaning.specs.Range.{NumericRange, comparable, atLower, atUpper, inRange, rangeDocuments}
 use Rattle.meaning.specs.IndexRefusals.{wrong1, wrongColumn, wrong6}
 use Rattle.meaning.specs.QueryRefusals.{wrongRange}

@@ -30,7 +30,7 @@ leb-as-ltb a b c d f g = elim (cmp b a) as (λ _. leb a b ≡ ltb c d) [
   | inr h ↦ le-leb a b h ∙ sym (lt-ltb c d (f h))
 ]
 
--- neither of two holds where the one or the other does not
+-- where `or` of two tests is false, each is
 pub or-left : (a b : Bool) → (a || b) ≡ false → a ≡ false
 or-left true b e = e
 or-left false b e = refl

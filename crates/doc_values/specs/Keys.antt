@@ -1,7 +1,7 @@
 -- Values of a column as numbers in their order, and the ends of a range among them. Assumes nothing: these are definitions.
 use mathlib.Core.Bool.{Bool, true, cond, _&&_}
 use mathlib.Core.List.{List}
-use Prim.Native.Nat.{ℕ, _+_, _-_, _*_, _^_}
+use Prim.Native.Nat.{ℕ, _+_, _-_, _^_}
 use lib.Dec.{eqb, leb, ltb}
 use lib.ListN.{getD}
 use Rattle.meaning.specs.Lent.{joined}

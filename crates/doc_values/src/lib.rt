@@ -1,11 +1,11 @@
 // Numeric columns: the documents whose value lies in a range, by one scan of the column.
 ghost use Prim.Native.Nat.{ℕ, _+_, _*_, _/_, _%_, _^_, _≤_, _<_, max, min};
 ghost use mathlib.Core.Path.{_≡_};
-ghost use mathlib.Core.Bool.{true, false, _&&_};
+ghost use mathlib.Core.Bool.{false, _&&_};
 ghost use lib.ListN.{length};
 ghost use Rattle.meaning.specs.Below.{listBelow};
 ghost use Rattle.meaning.specs.Lent.{joined};
-ghost use Rattle.meaning.specs.Range.{NumericRange, rangeDocuments};
+ghost use Rattle.meaning.specs.Range.{rangeDocuments};
 ghost use Rattle.meaning.specs.IndexRefusals.{wrong1, wrong6};
 ghost use Rattle.meaning.specs.QueryRefusals.{wrongRange};
 ghost use Rattle.meaning.specs.Entries.{written, columnsOnly};
@@ -42,23 +42,23 @@ struct Keys {
     to: u64,
 }
 
-// The keys that a lower end lets in. None lie above the largest one, so nothing is added to it.
-fn lower_keys(kind: u32, end: u64) -> Keys
-    ensures { λ r. ⌜ ((k : ℕ) → k < 2 ^ 64 → between (r .from) (r .to) k ≡ keyAtLower kind end k) ⌝ }
+// The keys that a lower end lets in: 0 is unbounded, 1 included, 2 excluded; above the largest key lies none.
+fn lower_keys(lower_kind: u32, lower: u64) -> Keys
+    ensures { λ r. ⌜ ((k : ℕ) → k < 2 ^ 64 → between (r .from) (r .to) k ≡ keyAtLower «lower_kind» lower k) ⌝ }
 {
-    if kind == 0 {
+    if lower_kind == 0 {
         Keys {
             from: 0,
             to: u64::MAX,
         }
-    } else if kind == 1 {
+    } else if lower_kind == 1 {
         Keys {
-            from: end,
+            from: lower,
             to: u64::MAX,
         }
-    } else if end < u64::MAX {
+    } else if lower < u64::MAX {
         Keys {
-            from: end + 1,
+            from: lower + 1,
             to: u64::MAX,
         }
     } else {
@@ -66,33 +66,35 @@ fn lower_keys(kind: u32, end: u64) -> Keys
     }
 }
 
-// The keys that an upper end lets in. None lie below 0, so nothing is taken from it.
-fn upper_keys(kind: u32, end: u64) -> Keys
-    ensures { λ r. ⌜ ((k : ℕ) → k < 2 ^ 64 → between (r .from) (r .to) k ≡ keyAtUpper kind end k) ⌝ }
+// The keys that an upper end lets in: 0 is unbounded, 1 included, 2 excluded; below key 0 lies none.
+fn upper_keys(upper_kind: u32, upper: u64) -> Keys
+    ensures { λ r. ⌜ ((k : ℕ) → k < 2 ^ 64 → between (r .from) (r .to) k ≡ keyAtUpper «upper_kind» upper k) ⌝ }
 {
-    if kind == 0 {
+    if upper_kind == 0 {
         Keys {
             from: 0,
             to: u64::MAX,
         }
-    } else if kind == 1 {
-        Keys { from: 0, to: end }
-    } else if 0 < end {
+    } else if upper_kind == 1 {
+        Keys { from: 0, to: upper }
+    } else if 0 < upper {
         Keys {
             from: 0,
-            to: end - 1,
+            to: upper - 1,
         }
     } else {
         Keys { from: 1, to: 0 }
     }
 }
 
+// Two intervals have in common what begins at the larger start ..
 fn larger(a: u64, b: u64) -> u64
     ensures { λ r. ⌜ r ≡ max a b ⌝ }
 {
     if a < b { b } else { a }
 }
 
+// .. and ends at the smaller end.
 fn smaller(a: u64, b: u64) -> u64
     ensures { λ r. ⌜ r ≡ min a b ⌝ }
 {
@@ -126,7 +128,8 @@ fn value_in(values: &[u32], at: usize, column_type: u32, from: u64, to: u64) -> 
     key <= to
 }
 
-// The documents of the column that starts at this word, whose value lies between the keys, to the front of the output.
+// The documents whose value lies between the keys, to the front of the output; the column begins at word `start`.
+// A branch and no select: a store that is always made would leave the output changed beyond what is listed.
 fn scan(
     max_doc: u32,
     values: &[u32],

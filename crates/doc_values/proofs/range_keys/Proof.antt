@@ -1,6 +1,6 @@
 -- `doc_values::range_keys` meets its contract: a key lies in both ends' intervals where it lies in their common part. Assumes nothing.
 use Prim.Native.Nat.{ℕ, _/_, _%_}
-use mathlib.Core.Path.{_≡_, ap, ap₂, _∙_}
+use mathlib.Core.Path.{ap, ap₂, _∙_}
 use mathlib.Core.Bool.{_&&_}
 use borrow.Author.Needs.{needs}
 use Rattle.doc_values.specs.Keys.{keyAtLower, keyAtUpper}

@@ -5,7 +5,6 @@ use lib.ListN.{getD}
 use Rattle.meaning.specs.Lent.{joined}
 use Rattle.doc_values.specs.Keys.{valueKey}
 use native.Mathlib.Omega.{arith}
-use borrow.Author.Needs.{needs}
 use Rattle.doc_values.proofs.KeyOrder.{value-absent, value-below, value-present}
 use Rattle.doc_values.proofs.value_in.Statement.{statement}
 use Rattle.doc_values.proofs.value_in.Tie as tie
