@@ -1,0 +1,10 @@
+-- `doc_values::i64_key` meets its contract: turning the sign bit over is the key. Assumes nothing.
+use Rattle.doc_values.proofs.KeyOrder.{xor-sign}
+use Rattle.doc_values.proofs.i64_key.Statement.{statement}
+use Rattle.doc_values.proofs.i64_key.Tie as tie
+
+returns : tie.Need-returns
+returns c = xor-sign (c .args .bits) (c .fits .bits .fits)
+
+pub i64-key-spec : {M : Type 1} → statement M
+i64-key-spec = tie.close (tie.spec returns)
