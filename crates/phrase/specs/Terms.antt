@@ -43,8 +43,9 @@ pub record Room (ts : List ℕ) (places : ℕ) : Type 0 where
   pub one-of-them : term < length ts
   pub enough : getD ts (term + 1) 0 ≤ places
 
--- the record at a word is a term's with the least frequency
+-- the record at a word is that of the first term with the least frequency
 pub record Rarest (ts : List ℕ) (r : ℕ) : Type 0 where
   pub record-start : r % 3 ≡ 0
   pub one-of-them : r < length ts
   pub least : (at : ℕ) → at % 3 ≡ 0 → at < length ts → getD ts (r + 1) 0 ≤ getD ts (at + 1) 0
+  pub first : (at : ℕ) → at % 3 ≡ 0 → at < r → getD ts (r + 1) 0 < getD ts (at + 1) 0

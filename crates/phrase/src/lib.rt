@@ -74,10 +74,10 @@ fn write_starts(positions: &[u32], t: Term, out: &mut [i32])
     let first = t.first;
     let freq = t.freq;
     let offset = t.offset;
-    let mut i = 0;
-    while i < freq {
-        out[i] = start(positions[first + i], offset);
-        i += 1;
+    let mut j = 0;
+    while j < freq {
+        out[j] = start(positions[first + j], offset);
+        j += 1;
     }
 }
 
@@ -106,7 +106,7 @@ fn intersect(positions: &[u32], t: Term, cands: &[i32], out: &mut [i32]) -> usiz
         } else {
             out[n] = s;
             n += 1;
-            c += 1;
+            c += 1; // used up
             i += 1;
         }
     }

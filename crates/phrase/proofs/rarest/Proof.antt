@@ -3,7 +3,7 @@ use mathlib.Core.Path.{_≡_, refl, sym, subst}
 use mathlib.Core.List.{List}
 use mathlib.Core.Logic.{⊎-elim}
 use Prim.Native.Nat.{ℕ, _+_, _%_, _≤_, _<_, _-_}
-use native.Mathlib.Nat.{eq-or-lt-of-le, le-trans}
+use native.Mathlib.Nat.{eq-or-lt-of-le, le-trans, lt-of-lt-of-le, not-suc-le-zero}
 use native.Mathlib.Omega.{arith}
 use lib.ListN.{length, getD}
 use borrow.Author.Needs.{needs}
@@ -18,6 +18,7 @@ record Passed (ts : List ℕ) (best least at : ℕ) : Type 0 where
   best-passed : best < at
   held : least ≡ getD ts (best + 1) 0
   below : (k : ℕ) → k % 3 ≡ 0 → k < at → least ≤ getD ts (k + 1) 0
+  first : (k : ℕ) → k % 3 ≡ 0 → k < best → least < getD ts (k + 1) 0
 
 -- what holds of the records before a word and of the one there
 more : (ts : List ℕ) (least at : ℕ) → at % 3 ≡ 0 → ((k : ℕ) → k % 3 ≡ 0 → k < at → least ≤ getD ts (k + 1) 0) → least ≤ getD ts (at + 1) 0 → (k : ℕ) → k % 3 ≡ 0 → k < at + 3 → least ≤ getD ts (k + 1) 0
@@ -35,6 +36,7 @@ module _ (ts : List ℕ) (best least at : ℕ) (p : Passed ts best least at) (w 
         best-passed = omega arith;
         held = refl;
         below = more ts (getD ts (at + 1) 0) at (p .whole) (λ k e q. le-trans (omega (arith, l)) (p .below k e q)) (omega arith);
+        first = λ k e q. lt-of-lt-of-le l (p .below k e q);
       }
 
   kept : least ≤ getD ts (at + 1) 0 → Passed ts best least (at + 3)
@@ -46,6 +48,7 @@ module _ (ts : List ℕ) (best least at : ℕ) (p : Passed ts best least at) (w 
         best-passed = omega (arith, p .best-passed);
         held = p .held;
         below = more ts least at (p .whole) (p .below) l;
+        first = p .first;
       }
 
 abbrev Inv-loop : tie.InvT-loop
@@ -66,6 +69,7 @@ loop-holds c =
       best-passed = omega arith;
       held = refl;
       below = λ k e l. (let z : k ≡ 0 = omega arith in rw z (omega arith));
+      first = λ k e l. absurd (not-suc-le-zero l);
     }
 
 add-freq : tie.Need-add-freq Inv-loop μ-loop
@@ -102,6 +106,7 @@ returns c =
       record-start = i .best-whole;
       one-of-them = omega arith;
       least = λ k e q. (let b = i .below k e (omega (arith, h, q)) in omega (arith, b, i .held));
+      first = λ k e q. (let b = i .first k e q in omega (arith, b, i .held));
     }
 
 pub rarest-spec : {M : Type 1} → statement M

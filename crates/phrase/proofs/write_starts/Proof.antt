@@ -17,10 +17,10 @@ use Rattle.phrase.proofs.write_starts.Statement.{statement}
 use Rattle.phrase.proofs.write_starts.Tie as tie
 
 abbrev Inv-loop : tie.InvT-loop
-Inv-loop positions out₀ first freq offset i₀ out i = (length out ≡ length out₀) × (i ≤ freq) × (take i out ≡ take i (startsOf positions (record { first = first; freq = freq; offset = offset })))
+Inv-loop positions out₀ first freq offset j₀ out j = (length out ≡ length out₀) × (j ≤ freq) × (take j out ≡ take j (startsOf positions (record { first = first; freq = freq; offset = offset })))
 
 abbrev μ-loop : tie.MeasureT-loop
-μ-loop positions out₀ first freq offset i₀ out i = freq - i
+μ-loop positions out₀ first freq offset j₀ out j = freq - j
 
 -- one more start is written
 written : (ps : List ℕ) (t : Term) (out : List ℤ) (i : ℕ) (z : ℤ) → i < t .freq → i < length out → z ≡ subℕ (getD ps (t .first + i) 0) (t .offset) → take i out ≡ take i (startsOf ps t) → take (i + 1) (set out i z) ≡ take (i + 1) (startsOf ps t)
@@ -49,7 +49,7 @@ shared-slice-read-start c = search needs
 start-requires : tie.Need-start-requires Inv-loop μ-loop
 start-requires c κs =
     let g = c .before .before .before .before .pre .0 in
-    (g .small (c .before .before .loop .i) (c .before .loop-test .taken), g .offset-small)
+    (g .small (c .before .before .loop .j) (c .before .loop-test .taken), g .offset-small)
 
 mul-t14 : tie.Need-mul-t14 Inv-loop μ-loop
 mul-t14 c = search needs
@@ -57,8 +57,8 @@ mul-t14 c = search needs
 slice-set-from-out : tie.Need-slice-set-from-out Inv-loop μ-loop
 slice-set-from-out c = search needs
 
-add-i : tie.Need-add-i Inv-loop μ-loop
-add-i c = search needs
+add-j : tie.Need-add-j Inv-loop μ-loop
+add-j c = search needs
 
 loop-less : tie.Need-loop-less Inv-loop μ-loop
 loop-less c = search needs
@@ -68,7 +68,7 @@ loop-again c =
     let l = c .before .before .before in
     let a = l .before .before .args in
     let h = c .before .before .loop-test .taken in
-    (simp length-set (l .loop .inv .0), omega arith, written (a .positions .now) (a .t) (l .loop .out) (l .loop .i) _ h (omega (arith, h, l .loop .inv .0, l .before .before .pre .1)) (toZ-ofZ w32 (c .start .result) (record { sfits = c .start .ok }) ∙ c .start .ensures) (l .loop .inv .2))
+    (simp length-set (l .loop .inv .0), omega arith, written (a .positions .now) (a .t) (l .loop .out) (l .loop .j) _ h (omega (arith, h, l .loop .inv .0, l .before .before .pre .1)) (toZ-ofZ w32 (c .start .result) (record { sfits = c .start .ok }) ∙ c .start .ensures) (l .loop .inv .2))
 
 same-length : tie.Need-same-length Inv-loop μ-loop
 same-length c = search needs
@@ -76,7 +76,7 @@ same-length c = search needs
 returns : tie.Need-returns Inv-loop μ-loop
 returns c =
     let a = c .before .before .before .args in
-    all-written (a .positions .now) (a .t) (c .before .loop .out) (c .before .loop .i) (omega arith) (c .before .loop .inv .2)
+    all-written (a .positions .now) (a .t) (c .before .loop .out) (c .before .loop .j) (omega arith) (c .before .loop .inv .2)
 
 pub write-starts-spec : {M : Type 1} → statement M
 write-starts-spec =
@@ -91,7 +91,7 @@ write-starts-spec =
     start-requires
     mul-t14
     slice-set-from-out
-    add-i
+    add-j
     loop-less
     loop-again
     same-length
