@@ -17,7 +17,7 @@ eqℤ→eq (pos a) (negsuc b) h = absurd h
 eqℤ→eq (negsuc a) (pos b) h = absurd h
 eqℤ→eq (negsuc a) (negsuc b) h = ap negsuc (eqb→eq a b h)
 
-eqℤ-refl : (a : ℤ) → T (eqℤ a a)
+pub eqℤ-refl : (a : ℤ) → T (eqℤ a a)
 eqℤ-refl (pos a) = eqb-refl a
 eqℤ-refl (negsuc a) = eqb-refl a
 
@@ -79,7 +79,7 @@ sum-has s (x ∷ ss) xss h k = go (eqℤ s x) (eqℤ→eq s x) h (λ g. sum-has 
     go true q g more = let e = subst (λ (z : ℤ). 0 < smallest z xss) (q tt) k in omega (arith, e)
     go false q g more = let e = more (omega (arith, g)) in omega (arith, e)
 
-smallest-head : (s : ℤ) (xs : List ℤ) (xss : List (List ℤ)) → 0 < smallest s (xs ∷ xss) → 0 < multiplicity s xs
+pub smallest-head : (s : ℤ) (xs : List ℤ) (xss : List (List ℤ)) → 0 < smallest s (xs ∷ xss) → 0 < multiplicity s xs
 unfolding smallest
 smallest-head s xs [] h = h
 smallest-head s xs (ys ∷ yss) h = omega (arith, h)

@@ -1,0 +1,94 @@
+-- `phrase::common` meets its contract: the rarest term's starts fit both buffers, and all terms leave the common part of them. Assumes nothing.
+use mathlib.Core.Path.{_≡_, sym, ap, subst, _∙_}
+use mathlib.Core.List.{List}
+use Prim.Native.Nat.{ℕ, _+_, _≤_, _<_}
+use native.Mathlib.Nat.{le-trans}
+use native.Mathlib.Omega.{arith}
+use lib.IntN.{ℤ}
+use lib.ListN.{length, take, getD}
+use lib.Seq.{length-take-le}
+use borrow.Author.Needs.{needs}
+use Rattle.meaning.specs.Phrase.{multiplicity}
+use Rattle.phrase.specs.Terms.{termAt, startsOf, startLists, GoodTerm, Good, Room, Rarest}
+use Rattle.phrase.specs.Common.{Ascending, Common, Candidates, Left}
+use Rattle.phrase.proofs.Records.{starts-length, starts-ascending}
+use Rattle.phrase.proofs.Steps.{left-of-all}
+use Rattle.phrase.proofs.common.Statement.{statement}
+use Rattle.phrase.proofs.common.Tie as tie
+
+-- the rarest term's starts have room where some term's have
+enough-room : (ts : List ℕ) (r places : ℕ) → Rarest ts r → Room ts places → getD ts (r + 1) 0 ≤ places
+enough-room ts r places h m = le-trans (h .least (m .term) (m .record-start) (m .one-of-them)) (m .enough)
+
+module _ (ps ts : List ℕ) (g : Good ps ts) (r : ℕ) (h : Rarest ts r) (cs : List ℤ) (e : cs ≡ startsOf ps (termAt ts r)) where
+  long : length cs ≡ getD ts (r + 1) 0
+  long = ap length e ∙ starts-length ps (termAt ts r)
+
+  begun : (places : ℕ) → Room ts places → Candidates ps ts r 0 cs places
+  begun places m =
+      record {
+        good = g;
+        record-start = omega arith;
+        not-past = omega arith;
+        of-the-rarest = λ s. (let q = ap (multiplicity s) e in omega (arith, q));
+        rising = subst Ascending (sym e) (starts-ascending ps (termAt ts r) (g .each r (h .record-start) (h .one-of-them)));
+        room = (let q = enough-room ts r places h m in omega (arith, q, long));
+      }
+
+  ended : (zs : List ℤ) → Left ps ts 0 cs zs → Common (startLists ps ts) zs
+  ended zs l = left-of-all ps ts r zs g (h .record-start) (h .one-of-them) (subst (λ (k : List ℤ). Left ps ts 0 k zs) e l)
+
+rarest-requires : tie.Need-rarest-requires
+rarest-requires c κs = search needs
+
+term-at-requires : tie.Need-term-at-requires
+term-at-requires c κs = search needs
+
+write-starts-requires : tie.Need-write-starts-requires
+write-starts-requires c κs =
+    let b = c .before .before .before .before .before in
+    let h = c .before .before .rarest .ensures in
+    let q = c .before .term-at .ensures in
+    let ts = b .args .terms .now in
+    let g = b .pre .0 .each (c .before .before .rarest .result) (h .record-start) (h .one-of-them) in
+    let m = enough-room ts (c .before .before .rarest .result) (length (b .args .a .now)) h (b .pre .1 .0) in
+    (subst (λ x. GoodTerm (b .args .positions .now) x) (sym q) g, subst (λ x. x .freq ≤ length (b .args .a .now)) (sym q) m)
+
+slice-aggregate-survivors : tie.Need-slice-aggregate-survivors
+slice-aggregate-survivors c =
+    let b = c .before .before .before .before .before .before .before .before in
+    let h = c .before .before .before .before .before .rarest in
+    let t = c .before .before .before .before .term-at in
+    let w = c .before .before .write-starts in
+    let m = enough-room (b .args .terms .now) (h .result) (length (b .args .a .now)) (h .ensures) (b .pre .1 .0) in
+    let f = ap (λ x. x .freq) (t .ensures) in
+    sym (length-take-le (t .result .freq) (w .last .1 .1 .0) (omega (arith, m, f, w .kept .1 .1 .0)))
+
+survivors-requires : tie.Need-survivors-requires
+survivors-requires c κs =
+    let b = c .before .before .before .before .before .before .before .before in
+    let h = c .before .before .before .before .before .rarest in
+    let t = c .before .before .before .before .term-at in
+    let w = c .before .before .write-starts in
+    begun (b .args .positions .now) (b .args .terms .now) (b .pre .0) (h .result) (h .ensures) (take (t .result .freq) (w .last .1 .1 .0)) (w .ensures ∙ ap (startsOf (b .args .positions .now)) (t .ensures)) (length (b .args .b .now)) (b .pre .1 .1)
+
+returns : tie.Need-returns
+returns c =
+    let b = c .before .before .before .before .before .before .before .before .before in
+    let h = c .before .before .before .before .before .before .rarest in
+    let t = c .before .before .before .before .before .term-at in
+    let w = c .before .before .before .write-starts in
+    let n = long (b .args .positions .now) (b .args .terms .now) (b .pre .0) (h .result) (h .ensures) (take (t .result .freq) (w .last .1 .1 .0)) (w .ensures ∙ ap (startsOf (b .args .positions .now)) (t .ensures)) in
+    let k = c .before .before .before .before .before .before .before .shared-slice-known2 .given (h .result + 1) in
+    (ended (b .args .positions .now) (b .args .terms .now) (b .pre .0) (h .result) (h .ensures) (take (t .result .freq) (w .last .1 .1 .0)) (w .ensures ∙ ap (startsOf (b .args .positions .now)) (t .ensures)) (c .survivors .result .now) (c .survivors .ensures), omega (arith, c .survivors .ensures .no-more, n, k))
+
+pub common-spec : {M : Type 1} → statement M
+common-spec =
+    tie.close
+    (tie.spec
+    rarest-requires
+    term-at-requires
+    write-starts-requires
+    slice-aggregate-survivors
+    survivors-requires
+    returns)

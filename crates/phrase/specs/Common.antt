@@ -1,0 +1,38 @@
+-- The common part of lists of starts, as a list that does not fall. Assumes nothing: these are definitions.
+use mathlib.Core.Path.{_≡_}
+use mathlib.Core.List.{List, [], _∷_}
+use Prim.Native.Nat.{ℕ, _+_, _%_, _≤_}
+use lib.IntN.{ℤ}
+use lib.ListN.{length, drop}
+use lib.Signed.{_≤ℤ_}
+use Rattle.meaning.specs.Phrase.{multiplicity, smallest}
+use Rattle.phrase.specs.Terms.{Good, termAt, startsOf, startLists}
+
+-- each entry is at least x
+unfoldable pub AtLeast : ℤ → List ℤ → Type 0
+AtLeast x [] = Unit
+AtLeast x (y ∷ ys) = (x ≤ℤ y) × AtLeast x ys
+
+-- the entries do not fall
+unfoldable pub Ascending : List ℤ → Type 0
+Ascending [] = Unit
+Ascending (x ∷ xs) = AtLeast x xs × Ascending xs
+
+-- zs has each entry with its smallest multiplicity over the lists, and does not fall
+pub record Common (xss : List (List ℤ)) (zs : List ℤ) : Type 0 where
+  pub counts : (s : ℤ) → multiplicity s zs ≡ smallest s xss
+  pub rising : Ascending zs
+
+-- what the phrase step asks: the candidates are some of the rarest term's starts, and the spare places are as many
+pub record Candidates (ps ts : List ℕ) (rarest at : ℕ) (cs : List ℤ) (places : ℕ) : Type 0 where
+  pub good : Good ps ts
+  pub record-start : at % 3 ≡ 0
+  pub not-past : at ≤ length ts
+  pub of-the-rarest : (s : ℤ) → multiplicity s cs ≤ multiplicity s (startsOf ps (termAt ts rarest))
+  pub rising : Ascending cs
+  pub room : length cs ≤ places
+
+-- what is left of the candidates: their common part with the starts of the terms from a word on
+pub record Left (ps ts : List ℕ) (at : ℕ) (cs zs : List ℤ) : Type 0 where
+  pub common : Common (cs ∷ startLists ps (drop at ts)) zs
+  pub no-more : length zs ≤ length cs

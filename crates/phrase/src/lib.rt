@@ -1,0 +1,172 @@
+// A phrase's frequency in a document: the common part of its terms' starts (position − offset), equal starts counting
+// with the smallest multiplicity. A term is a record of three words: index of its first position, frequency, offset.
+ghost use mathlib.Core.Path.{_≡_};
+ghost use mathlib.Core.List.{[], _∷_};
+ghost use Prim.Native.Nat.{ℕ, _≤_, _<_, _+_, _%_};
+ghost use lib.ListN.{length, take};
+ghost use lib.IntN.{subℕ};
+ghost use Rattle.meaning.specs.Phrase.{commonSize};
+ghost use Rattle.phrase.specs.Terms.{termAt, startsOf, startLists, GoodTerm, Good, Room, Rarest};
+ghost use Rattle.phrase.specs.Common.{Ascending, Common, Candidates, Left};
+ghost use Rattle.phrase.specs.Place.{PlacedIn};
+
+pub enum Placed {
+    At(i32),
+    Nothing,
+}
+
+// One term's words.
+pub struct Term {
+    pub first: usize,
+    pub freq: usize,
+    pub offset: u32,
+}
+
+fn wide(x: u32) -> usize
+    ensures { λ r. ⌜ r ≡ x ⌝ }
+{
+    x as usize
+}
+
+// Where the phrase would start, given a position of one of its terms: below 0 for a term too near the front.
+fn start(position: u32, offset: u32) -> i32
+    requires { ⌜ (position ≤ 2147483647) × (offset ≤ 2147483647) ⌝ }
+    ensures { λ r. ⌜ r ≡ subℕ position offset ⌝ }
+{
+    position as i32 - offset as i32
+}
+
+// The first record with the least frequency.
+fn rarest(terms: &[u32]) -> usize
+    requires { ⌜ (0 < length (now terms)) × (length (now terms) % 3 ≡ 0) ⌝ }
+    ensures { λ r. ⌜ Rarest (now (terms .entry)) r ⌝ }
+{
+    let mut best = 0;
+    let mut least = terms[1];
+    let mut at = 3;
+    while at < terms.len() {
+        let freq = terms[at + 1];
+        if freq < least {
+            best = at;
+            least = freq;
+        }
+        at += 3;
+    }
+    best
+}
+
+fn term_at(terms: &[u32], at: usize) -> Term
+    requires { ⌜ at + 2 < length (now terms) ⌝ }
+    ensures { λ r. ⌜ r ≡ termAt (now (terms .entry)) at ⌝ }
+{
+    Term {
+        first: wide(terms[at]),
+        freq: wide(terms[at + 1]),
+        offset: terms[at + 2],
+    }
+}
+
+// The starts of one term, written to the front of `out`.
+fn write_starts(positions: &[u32], t: Term, out: &mut [i32])
+    requires { ⌜ GoodTerm (now positions) t × (t .freq ≤ length (now out)) ⌝ }
+    ensures { λ _. ⌜ take (t .freq) (now (out .exit)) ≡ startsOf (now (positions .entry)) t ⌝ }
+{
+    let first = t.first;
+    let freq = t.freq;
+    let offset = t.offset;
+    let mut j = 0;
+    while j < freq {
+        out[j] = start(positions[first + j], offset);
+        j += 1;
+    }
+}
+
+// The candidates that one more term has too, written to the front of `out`: a merge of two ascending lists that uses up a
+// candidate with each match, and reads no position after the last candidate is passed.
+fn intersect(positions: &[u32], t: Term, cands: &[i32], out: &mut [i32]) -> usize
+    requires { ⌜ GoodTerm (now positions) t × ((length (now cands) ≤ length (now out)) × Ascending (now cands)) ⌝ }
+    ensures { λ r. ⌜ (r ≤ length (now (cands .entry))) × Common (now (cands .entry) ∷ startsOf (now (positions .entry)) t ∷ []) (take r (now (out .exit))) ⌝ }
+{
+    let first = t.first;
+    let freq = t.freq;
+    let offset = t.offset;
+    let mut i = 0;
+    let mut c = 0;
+    let mut n = 0;
+    while i < freq {
+        if c == cands.len() {
+            return n;
+        }
+        let s = start(positions[first + i], offset);
+        let cand = cands[c];
+        if cand < s {
+            c += 1;
+        } else if s < cand {
+            i += 1;
+        } else {
+            out[n] = s;
+            n += 1;
+            c += 1; // used up
+            i += 1;
+        }
+    }
+    n
+}
+
+// The candidates that every term from `at` on has, but for the rarest, which they came from: a part of whichever buffer was
+// written last. The buffers change places with each term met.
+fn survivors<'a>(
+    positions: &[u32],
+    terms: &[u32],
+    rarest: usize,
+    at: usize,
+    cands: &'a mut [i32],
+    spare: &'a mut [i32],
+) -> &'a mut [i32]
+    requires { ⌜ Candidates (now positions) (now terms) rarest at (now cands) (length (now spare)) ⌝ }
+    ensures { λ r. ⌜ Left (now (positions .entry)) (now (terms .entry)) at (now (cands .entry)) (now r) ⌝ }
+{
+    if at == terms.len() {
+        return cands;
+    }
+    if cands.len() == 0 {
+        return cands;
+    }
+    if at == rarest {
+        return survivors(positions, terms, rarest, at + 3, cands, spare);
+    }
+    let n = intersect(positions, term_at(terms, at), cands, spare);
+    survivors(positions, terms, rarest, at + 3, &mut spare[..n], cands)
+}
+
+// The common part of all the terms' starts: the rarest term's first, then whatever the others leave of them.
+fn common<'a>(positions: &[u32], terms: &[u32], a: &'a mut [i32], b: &'a mut [i32]) -> &'a mut [i32]
+    requires { ⌜ Good (now positions) (now terms) × (Room (now terms) (length (now a)) × Room (now terms) (length (now b))) ⌝ }
+    ensures { λ r. ⌜ Common (startLists (now (positions .entry)) (now (terms .entry))) (now r) × (length (now r) < 4294967296) ⌝ }
+{
+    let best = rarest(terms);
+    let t = term_at(terms, best);
+    let freq = t.freq;
+    write_starts(positions, t, a);
+    survivors(positions, terms, best, 0, &mut a[..freq], b)
+}
+
+pub fn frequency(positions: &[u32], terms: &[u32], a: &mut [i32], b: &mut [i32]) -> u32
+    requires { ⌜ Good (now positions) (now terms) × (Room (now terms) (length (now a)) × Room (now terms) (length (now b))) ⌝ }
+    ensures { λ r. ⌜ r ≡ commonSize (startLists (now (positions .entry)) (now (terms .entry))) ⌝ }
+{
+    let left = common(positions, terms, a, b);
+    left.len() as u32
+}
+
+pub fn place(positions: &[u32], terms: &[u32], a: &mut [i32], b: &mut [i32]) -> Placed
+    requires { ⌜ Good (now positions) (now terms) × (Room (now terms) (length (now a)) × Room (now terms) (length (now b))) ⌝ }
+    ensures { λ r. ⌜ PlacedIn (startLists (now (positions .entry)) (now (terms .entry))) r ⌝ }
+{
+    let left = common(positions, terms, a, b);
+    if left.len() == 0 {
+        Placed::Nothing
+    } else {
+        Placed::At(left[0])
+    }
+}
