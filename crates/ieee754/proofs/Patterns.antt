@@ -8,11 +8,11 @@ use mathlib.Core.Bool.{Bool, true, false, not, _&&_, _||_, cond}
 use lib.Dec.{T, leb, ltb, eqb, ltb→lt, lt→ltb, nltb→le, leb→le, le→leb, nleb→lt, eqb→eq, lit<, T-not, not-T}
 use lib.Pow.{pow-add, pow-pos, pow-lt, shr-mono, le-ones}
 use lib.Arith.{lt-of-le-ne}
-use lib.Ieee.{Float, nan, inf, fin, Format, binary32, prec, emax, low, up, down, size, hid, odd, fits, isNan, nanBits, toBits, ofFields, ofBits, lt, le, eq}
+use lib.Ieee.{Float, nan, inf, fin, Format, binary32, prec, emax, low, up, down, size, hid, top, ones, odd, fits, isNan, nanBits, toBits, ofFields, ofBits, lt, le, eq}
 use lib.Ieee.Fits.{kept-lt, two, two-le-pos, eq→eqb}
 use lib.Ieee.Exact.{odd-sign}
 use lib.Ieee.Digits.{size-lt, size-le, size-reaches}
-use lib.Ieee.Bits.{ofBits-toBits, toBits-ofBits, nanBits-is}
+use lib.Ieee.Bits.{ofBits-toBits, toBits-ofBits, nanBits-is, nanBits-above}
 use lib.Ieee.Nearest.{div-mono}
 use lib.Ieee.Positive.{num, den, den-pos}
 use Rattle.ieee754.specs.Nonneg.{nonneg, signClear}
@@ -159,7 +159,7 @@ le-bits f x y F G p q =
         not-T (leb a b) (λ u. not-le-of-lt (above a b (nltb→le a b (n .0)) (λ (e : a ≡ b). T-not (eqb a b) (n .1) (eq→eqb e))) (leb→le a b u)))
 
 -- ---- plus infinity too: the values of binary32 whose sign is clear are in the order of their patterns, of which plus infinity's is the last
-inf-pattern : toBits binary32 (inf false) ≡ 0x7f80_0000
+pub inf-pattern : toBits binary32 (inf false) ≡ 0x7f80_0000
 unfolding toBits
 inf-pattern = refl
 
@@ -226,6 +226,13 @@ pub nonneg-clear : (x : Float) → T (nonneg x) → T (signClear x)
 nonneg-clear nan p = absurd p
 nonneg-clear (inf s) p = absurd p
 nonneg-clear (fin s m e) p = p
+
+-- without its sign, the pattern of what is no NaN is at most plus infinity's
+pub number-bits : (f : Format) (x : Float) → T (fits f x) → T (not (isNan x)) → toBits f x % top f ≤ ones f * hid f
+number-bits f x F N =
+    let b = toBits f x in
+    nltb→le (ones f * hid f) (b % top f)
+    (subst (λ (z : Bool). T (not z)) (nanBits-above f b) (subst (λ (z : Bool). T (not z)) (sym (nanBits-is f b ∙ ap isNan (ofBits-toBits f x F))) N))
 
 -- ---- a pattern up to plus infinity's: its value has the sign clear, and comes back to it
 odd-clear : (d q k l : ℕ) → T (nonneg (odd d false q k l))
