@@ -4,3 +4,12 @@ pub mod Counts
 pub mod Sorted
 pub mod Heaps
 pub mod Halves
+pub mod Best
+pub mod Ranked
+pub mod Marks
+pub mod Lists
+pub mod Steps
+pub mod Collecting
+pub mod Popping
+pub mod Beginning
+pub mod Picked

@@ -1,2 +1,3 @@
 -- What the contracts of this crate cite beyond document 01's definitions.
 pub mod Heap
+pub mod Collected
