@@ -1,22 +1,23 @@
--- The state before anything is collected, and the answer at the end. Assumes nothing.
+-- The state before anything is collected, between two documents, and the answer at the end. Assumes nothing.
 use mathlib.Core.Path.{_≡_, refl, sym, ap, _∙_, subst}
-use mathlib.Core.Bool.{Bool, true, false}
-use mathlib.Core.List.{List, [], _∷_, _++_}
-use Prim.Native.Nat.{ℕ, _^_, _≤_, _<_, min}
+use mathlib.Core.Bool.{Bool, false}
+use mathlib.Core.List.{List, [], _++_}
+use Prim.Native.Nat.{ℕ, _^_, _≤_, _<_}
 use native.Mathlib.Omega.{arith}
 use lib.ListN.{length, take, drop, length-take}
 use lib.Seq.{take-nil}
 use lib.IntN.{ℤ}
-use lib.Ieee.{Float, binary32, ofBits}
+use lib.Ieee.{binary32, ofBits}
 use Rattle.meaning.specs.FullList.{ScoreDoc}
 use Rattle.meaning.specs.Hits.{descending, hits, mark}
-use Rattle.meaning.specs.Entries.{written}
+use Rattle.meaning.specs.Entries.{written, topDocs}
 use Rattle.collector.specs.declared.TopScoreDocCollector.{TopScoreDocCollector}
 use Rattle.collector.specs.declared.TopDocs.{TopDocs}
-use Rattle.collector.specs.Heap.{at, MinHeap}
-use Rattle.collector.specs.Collected.{Collected, competitive, answer, Drawn}
+use Rattle.collector.specs.State.{competitive}
+use Rattle.collector.specs.Collected.{Collected, Ready, answer, numbers, Drawn}
 use Rattle.collector.proofs.Best.{length-descending}
 use Rattle.collector.proofs.Marks.{mark-few}
+use Rattle.collector.proofs.Lists.{all-below}
 use Rattle.collector.proofs.Steps.{stateOf, top-few, lowest, zero-is}
 use Rattle.collector.proofs.Popping.{Popped, popped-end}
 
@@ -42,6 +43,41 @@ begun k t start some most size =
       least = zero-is ∙ ap (λ (b : Bool). competitive b (ofBits binary32 0xff80_0000)) (sym m);
       marked = sym m;
     }
+
+-- ---- between two documents
+-- documents that were passed by without a match
+pub collected-later : (k t b b′ : ℕ) (list : List ScoreDoc) (start : List ℤ) (c : TopScoreDocCollector) (heap : List ℤ) → b ≤ b′ → Collected k t b list start c heap → Collected k t b′ list start c heap
+collected-later k t b b′ list start c heap e s = record {
+  some = s .some;
+  most = s .most;
+  places = s .places;
+  listed = record { few = omega (arith, s .listed .few, e); each = all-below b b′ list e (s .listed .each) };
+  total = s .total;
+  threshold = s .threshold;
+  held = s .held;
+  best = s .best;
+  heaped = s .heaped;
+  rest = s .rest;
+  top = s .top;
+  least = s .least;
+  marked = s .marked;
+}
+
+-- a list that was collected, over the heap's own length
+pub ready-at : (k t b : ℕ) (list : List ScoreDoc) (start : List ℤ) (c : TopScoreDocCollector) (heap : List ℤ) (doc : ℕ) → b ≤ doc → Collected k t b list start c heap → Ready doc c heap
+ready-at k t b list start c heap doc e s = record {
+  t = t;
+  b = b;
+  list = list;
+  start = start;
+  before = e;
+  collected = subst (λ (n : ℕ). Collected n t b list start c heap) (sym (s .places)) s;
+}
+
+-- ---- the answer
+-- the answer has the numbers of document 01
+pub answer-numbers : (k t : ℕ) (list : List ScoreDoc) → numbers (answer k t list) ≡ topDocs k t list
+answer-numbers k t list = refl
 
 abbrev made : ℕ → ℕ → Bool → TopDocs
 made a b m = record { held = a; count = b; mark = m }

@@ -1,17 +1,16 @@
 -- The arithmetic of codes: sortable bits, the join of two 32-bit halves in one i64, and the way back. Assumes nothing.
 use mathlib.Core.Path.{_≡_, refl, sym, ap, _∙_, subst}
 use mathlib.Core.Logic.{_⊎_, inl, inr}
-use mathlib.Core.Bool.{Bool, true, false, cond}
-use Prim.Native.Nat.{ℕ, zero, suc, _+_, _-_, _*_, _/_, _%_, _^_, _≤_, _<_}
+use mathlib.Core.Bool.{Bool, cond}
+use Prim.Native.Nat.{ℕ, suc, _+_, _-_, _*_, _/_, _%_, _^_, _≤_, _<_}
 use native.Mathlib.Decide.{decLt}
 use native.Mathlib.Omega.{arith}
 use borrow.Author.Tests.{le-leb, lt-leb, lt-ltb}
-use lib.Dec.{leb, ltb}
-use lib.Bits.{bitAnd, bitOr, bitXor, xor-zero-l, xor-zero-r, or-zero-l, and-comm, and-mask, mask-lt, xor-add-and, xor-comm, or-shifted}
-use lib.IntN.{ℤ, pos, negsuc, negℤ, subℕ, _+ℤ_, _-ℤ_, _*ℤ_, natAbs}
+use lib.Bits.{bitAnd, bitOr, bitXor, xor-zero-l, xor-zero-r, or-zero-l, and-comm, and-mask, xor-add-and, xor-comm, or-shifted}
+use lib.IntN.{ℤ, pos, negsuc, negℤ, _+ℤ_, _-ℤ_, _*ℤ_}
 use lib.Signed.{mag, shrZ}
 use mir.Syntax.{w32, w64}
-use mir.Val.{SFits, Fits, ofZ, toZ}
+use mir.Val.{SFits, ofZ, toZ}
 use mir.ValLaws.{toZ-pos, toZ-neg, toZ-ofZ}
 use Rattle.meaning.specs.Ieee754.{sortableInt, sortableBits}
 use Rattle.meaning.specs.Hits.{lowWord}

@@ -1,13 +1,13 @@
 -- Lists of documents with scores, and which of them a code comes from. Assumes nothing.
-use mathlib.Core.Path.{_≡_, refl, sym, ap, _∙_, subst}
-use mathlib.Core.Logic.{_⊎_, inl, inr}
+use mathlib.Core.Path.{_≡_, sym, ap, _∙_, subst}
+use mathlib.Core.Logic.{inl, inr}
 use mathlib.Core.Bool.{not}
 use mathlib.Core.List.{List, [], _∷_, _++_, map}
-use Prim.Native.Nat.{ℕ, zero, suc, _+_, _^_, _≤_, _<_}
+use Prim.Native.Nat.{ℕ, _+_, _^_, _≤_, _<_}
 use native.Mathlib.Nat.{not-suc-le-zero}
 use native.Mathlib.Omega.{arith}
 use lib.Dec.{T}
-use lib.ListN.{length, getD, take, length-append}
+use lib.ListN.{length, length-append}
 use lib.IntN.{ℤ, pos}
 use lib.Signed.{shrZ}
 use lib.Ieee.{Float, binary32, fits, nanBits, toBits}
@@ -17,7 +17,7 @@ use Rattle.meaning.specs.Hits.{code, toScore, hits}
 use Rattle.ieee754.specs.Nonneg.{signClear}
 use Rattle.collector.specs.Heap.{at}
 use Rattle.collector.specs.Collected.{Scored, AllScored, Listed}
-use Rattle.collector.proofs.Counts.{same, count, Alike, in-head-or-tail, count-take, counted}
+use Rattle.collector.proofs.Counts.{count, Alike, in-head-or-tail, count-take, counted}
 use Rattle.collector.proofs.Sorted.{count-descending}
 use Rattle.collector.proofs.Best.{ranked, hits-is}
 use Rattle.collector.proofs.Ranked.{scoreBits, toScore-code, code-number}

@@ -1,21 +1,21 @@
 -- The mark and the least competitive score, through one collected document. Assumes nothing.
 use mathlib.Core.Path.{_≡_, refl, sym, ap, _∙_, subst}
-use mathlib.Core.Logic.{_⊎_, inl, inr}
-use mathlib.Core.Bool.{Bool, true, false, not, cond, _&&_}
+use mathlib.Core.Logic.{inl, inr}
+use mathlib.Core.Bool.{Bool, true, false, cond, _&&_}
 use Prim.Native.Nat.{ℕ, _+_, _≤_, _<_, min}
 use native.Mathlib.Nat.{eq-or-lt-of-le}
 use native.Mathlib.Decide.{decLt}
 use native.Mathlib.Omega.{arith}
-use borrow.Author.Tests.{lt-ltb, le-ltb, le-leb, lt-leb, ltb-false, eq-eqb, ne-eqb}
-use lib.Dec.{T, leb, ltb, eqb, lt→ltb}
+use borrow.Author.Tests.{lt-ltb, le-ltb, le-leb, lt-leb, ltb-false}
+use lib.Dec.{T, leb, ltb}
 use lib.Ieee.{Float, inf, binary32, fits, toBits, ofBits, lt}
-use lib.Ieee.Bits.{ofBits-toBits, ofBits-fits, is-true}
+use lib.Ieee.Bits.{ofBits-toBits, ofBits-fits}
 use Rattle.meaning.specs.Ieee754.{zeroFloat, nextUp}
 use Rattle.meaning.specs.Hits.{mark}
 use Rattle.ieee754.specs.Nonneg.{signClear}
 use Rattle.ieee754.proofs.Patterns.{clear-bits, clear-lt, clear-number, pattern-clear, pattern-back}
 use Rattle.ieee754.proofs.Successor.{next-finite, next-infinite}
-use Rattle.collector.specs.Collected.{competitive}
+use Rattle.collector.specs.State.{competitive}
 
 -- ---- nextUp of a value with a clear sign, by patterns
 record Next (x : Float) : Type 0 where

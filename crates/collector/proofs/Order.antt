@@ -1,12 +1,11 @@
 -- The order of ℤ, beyond `lib.Signed`. Assumes nothing.
-use mathlib.Core.Path.{_≡_, refl, sym, ap, _∙_, subst}
+use mathlib.Core.Path.{_≡_, refl, sym, ap, subst}
 use mathlib.Core.Logic.{_⊎_, inl, inr}
 use mathlib.Core.Bool.{Bool, true, false, not}
-use Prim.Native.Nat.{ℕ, _≤_, _<_}
 use native.Mathlib.Nat.{le-trans, le-antisymm, le-of-lt}
-use lib.Dec.{T, leb, ltb, leb→le, le→leb, ltb→lt, lt→ltb, nleb→lt}
+use lib.Dec.{T, leb→le, le→leb, ltb→lt, lt→ltb, nleb→lt}
 use lib.IntN.{ℤ, pos, negsuc}
-use lib.Signed.{ltZ, leZ, _≤ℤ_, _<ℤ_, ltZ-no, <ℤ-≤ℤ-trans}
+use lib.Signed.{ltZ, leZ, _≤ℤ_, _<ℤ_, ltZ-no}
 
 le-trans′ : (a b c : ℤ) → T (leZ a b) → T (leZ b c) → T (leZ a c)
 le-trans′ (pos a) (pos b) (pos c) h k = le→leb a c (le-trans (leb→le a b h) (leb→le b c k))

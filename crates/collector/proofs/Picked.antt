@@ -1,9 +1,9 @@
 -- What wrong14 rules out, and the picked list document by document. Assumes nothing.
 use mathlib.Core.Path.{_≡_, refl, sym, ap, _∙_, subst}
 use mathlib.Core.Bool.{Bool, true, false, not, _&&_, _||_}
-use mathlib.Core.Logic.{_⊎_, inl, inr}
+use mathlib.Core.Logic.{inl, inr}
 use mathlib.Core.List.{List, [], _∷_, _++_}
-use Prim.Native.Nat.{ℕ, zero, suc, _+_, _-_, _^_, _≤_, _<_}
+use Prim.Native.Nat.{ℕ, zero, suc, _+_, _-_, _≤_, _<_}
 use native.Mathlib.Nat.{eq-or-lt-of-le, le-of-suc-le-suc, not-suc-le-zero}
 use native.Mathlib.Numerals.{add-one}
 use native.Mathlib.Omega.{arith}
@@ -15,13 +15,12 @@ use lib.Ieee.{binary32, ofBits, nanBits}
 use Rattle.meaning.specs.Below.{anyBelow, listTo}
 use Rattle.meaning.specs.Limits.{noMoreDocs, plusInfinity}
 use Rattle.meaning.specs.FullList.{ScoreDoc}
-use Rattle.meaning.specs.Hits.{hits}
 use Rattle.meaning.specs.CallRefusals.{wrongPicked, wrong14}
 use Rattle.meaning.specs.Entries.{pickedList}
 use Rattle.ieee754.specs.Nonneg.{signClear}
 use Rattle.ieee754.proofs.Patterns.{pattern-clear, pattern-number}
 use Rattle.collector.specs.declared.TopScoreDocCollector.{TopScoreDocCollector}
-use Rattle.collector.specs.Collected.{Collected, Ready, Extended}
+use Rattle.collector.specs.Collected.{Collected, Extended}
 
 or-left : (a b : Bool) → (a || b) ≡ false → a ≡ false
 or-left true b e = e
@@ -96,17 +95,6 @@ pub record Picking (documents scores : List ℕ) (t : ℕ) (start : List ℤ) (c
   pub room : b ≤ noMoreDocs
   pub next : i < length documents → b ≤ getD documents i 0
   pub collected : Collected (length start) t b (listTo i (pickedAt documents scores)) start c heap
-
--- a list that was collected, over the heap's own length
-pub ready-at : (k t b : ℕ) (list : List ScoreDoc) (start : List ℤ) (c : TopScoreDocCollector) (heap : List ℤ) (doc : ℕ) → b ≤ doc → Collected k t b list start c heap → Ready doc c heap
-ready-at k t b list start c heap doc e s = record {
-  t = t;
-  b = b;
-  list = list;
-  start = start;
-  before = e;
-  collected = subst (λ (n : ℕ). Collected n t b list start c heap) (sym (s .places)) s;
-}
 
 module _ (documents scores : List ℕ) (w : wrong14 documents scores ≡ false) (t : ℕ) (start : List ℤ) (c c′ : TopScoreDocCollector) (heap heap′ : List ℤ) (i : ℕ) (h : i < length documents) where
   pub picking-turn : Picking documents scores t start c heap i → Extended (pickedAt documents scores i) c heap c′ heap′ → Picking documents scores t start c′ heap′ (i + 1)

@@ -1,22 +1,22 @@
 -- Codes of documents with scores: the round trip, and their order. Assumes nothing.
 use mathlib.Core.Path.{_≡_, refl, sym, ap, _∙_, subst}
-use mathlib.Core.Logic.{_⊎_, inl, inr}
-use mathlib.Core.Bool.{Bool, true, false, not, cond, _&&_, _||_}
-use Prim.Native.Nat.{ℕ, zero, suc, _+_, _-_, _*_, _/_, _%_, _^_, _≤_, _<_}
+use mathlib.Core.Logic.{inl, inr}
+use mathlib.Core.Bool.{Bool, not, _&&_, _||_}
+use Prim.Native.Nat.{ℕ, _+_, _-_, _*_, _%_, _^_, _≤_, _<_}
 use native.Mathlib.Decide.{decLt}
 use native.Mathlib.Omega.{arith}
 use borrow.Author.Tests.{lt-ltb, le-ltb, le-leb, lt-leb}
-use lib.Dec.{T, leb, ltb, lt→ltb, le→leb, leb→le, ltb→lt}
-use lib.IntN.{ℤ, pos, negsuc, _+ℤ_, _*ℤ_}
-use lib.Signed.{ltZ, leZ, shrZ, _≤ℤ_, _<ℤ_}
-use lib.Ieee.{Float, binary32, fits, isNan, nanBits, toBits, ofBits, lt, le}
+use lib.Dec.{T, leb, ltb, lt→ltb, leb→le}
+use lib.IntN.{ℤ, pos, _+ℤ_, _*ℤ_}
+use lib.Signed.{ltZ, shrZ, _≤ℤ_, _<ℤ_}
+use lib.Ieee.{binary32, fits, nanBits, toBits, ofBits, lt, le}
 use lib.Ieee.Bits.{ofBits-toBits, toBits-lt}
 use Rattle.meaning.specs.Limits.{noMoreDocs}
 use Rattle.meaning.specs.Ieee754.{sortableInt, sortableBits}
 use Rattle.meaning.specs.FullList.{ScoreDoc}
-use Rattle.meaning.specs.Hits.{code, lowWord, toDoc, toScore}
+use Rattle.meaning.specs.Hits.{code, toDoc, toScore}
 use Rattle.ieee754.specs.Nonneg.{signClear}
-use Rattle.ieee754.proofs.Patterns.{clear-bits, clear-lt, clear-le, clear-number, pattern-number}
+use Rattle.ieee754.proofs.Patterns.{clear-bits, clear-lt, clear-le, pattern-number}
 use Rattle.collector.specs.Collected.{Scored}
 use Rattle.collector.proofs.Halves.{clear-or-set, sortable-clear, sortable-set, low-joined, high-joined}
 

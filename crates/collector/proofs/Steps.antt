@@ -2,7 +2,7 @@
 use mathlib.Core.Path.{_≡_, refl, sym, ap, _∙_}
 use mathlib.Core.Bool.{Bool, true, false, cond, _&&_}
 use mathlib.Core.List.{List}
-use Prim.Native.Nat.{ℕ, _+_, _≤_, _<_}
+use Prim.Native.Nat.{ℕ, _≤_, _<_}
 use borrow.Author.Tests.{lt-ltb, le-ltb}
 use lib.Dec.{ltb, eqb}
 use lib.ListN.{length}
@@ -14,7 +14,7 @@ use Rattle.meaning.specs.Ieee754.{zeroFloat, nextUp}
 use Rattle.meaning.specs.Hits.{toScore}
 use Rattle.collector.specs.declared.TopScoreDocCollector.{TopScoreDocCollector}
 use Rattle.collector.specs.Heap.{at}
-use Rattle.collector.specs.Collected.{topScore, counted, updated, passed}
+use Rattle.collector.specs.State.{topScore, counted, updated, passed}
 use Rattle.collector.proofs.Marks.{newLeast, newMark}
 
 -- ---- the state, field by field

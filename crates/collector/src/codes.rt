@@ -8,7 +8,6 @@ ghost use lib.Signed.{shrZ};
 ghost use lib.Ieee.{binary32, ofBits, toBits, isNan, nanBits};
 ghost use Rattle.meaning.specs.Limits.{noMoreDocs};
 ghost use Rattle.meaning.specs.Ieee754.{sortableInt, sortableBits};
-ghost use Rattle.meaning.specs.FullList.{ScoreDoc};
 ghost use Rattle.meaning.specs.Hits.{code, lowWord, toDoc, toScore};
 
 // floatToSortableInt: a negative pattern has its 31 lower bits turned over.
