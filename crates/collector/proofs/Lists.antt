@@ -15,6 +15,7 @@ use Rattle.meaning.specs.Ieee754.{sortableBits}
 use Rattle.meaning.specs.FullList.{ScoreDoc}
 use Rattle.meaning.specs.Hits.{code, toScore, hits}
 use Rattle.ieee754.specs.Nonneg.{signClear}
+use Rattle.ieee754.proofs.Patterns.{clear-number}
 use Rattle.collector.specs.Heap.{at}
 use Rattle.collector.specs.Collected.{Scored, AllScored, Listed}
 use Rattle.collector.proofs.Counts.{count, Alike, in-head-or-tail, count-take, counted}
@@ -74,4 +75,4 @@ module _ (b : ℕ) (m : ℤ) (f : From b m) where
   from-bits = ap (toBits binary32) from-score
 
   pub from-number : T (not (nanBits binary32 (sortableBits (shrZ m (2 ^ 32)))))
-  from-number = subst (λ (z : ℤ). T (not (nanBits binary32 (sortableBits (shrZ z (2 ^ 32)))))) (sym (f .is)) (code-number b (f .source) (f .scored))
+  from-number = subst (λ (z : ℤ). T (not (nanBits binary32 (sortableBits (shrZ z (2 ^ 32)))))) (sym (f .is)) (code-number (f .source) (f .scored .fits) (clear-number (f .source .score) (f .scored .clear)))

@@ -9,14 +9,14 @@ use borrow.Author.Tests.{lt-ltb, le-ltb, le-leb, lt-leb}
 use lib.Dec.{T, leb, ltb, lt→ltb, leb→le}
 use lib.IntN.{ℤ, pos, _+ℤ_, _*ℤ_}
 use lib.Signed.{ltZ, shrZ, _≤ℤ_, _<ℤ_}
-use lib.Ieee.{binary32, fits, nanBits, toBits, ofBits, lt, le}
-use lib.Ieee.Bits.{ofBits-toBits, toBits-lt}
+use lib.Ieee.{isNan, binary32, fits, nanBits, toBits, ofBits, lt, le}
+use lib.Ieee.Bits.{ofBits-toBits, toBits-lt, nanBits-is}
 use Rattle.meaning.specs.Limits.{noMoreDocs}
 use Rattle.meaning.specs.Ieee754.{sortableInt, sortableBits}
 use Rattle.meaning.specs.FullList.{ScoreDoc}
-use Rattle.meaning.specs.Hits.{code, toDoc, toScore}
+use Rattle.meaning.specs.Hits.{lowWord, code, toDoc, toScore}
 use Rattle.ieee754.specs.Nonneg.{signClear}
-use Rattle.ieee754.proofs.Patterns.{clear-bits, clear-lt, clear-le, pattern-number}
+use Rattle.ieee754.proofs.Patterns.{clear-bits, clear-lt, clear-le}
 use Rattle.collector.specs.Collected.{Scored}
 use Rattle.collector.proofs.Halves.{clear-or-set, sortable-clear, sortable-set, low-joined, high-joined}
 
@@ -47,13 +47,20 @@ pub toScore-code : (h : ScoreDoc) → T (fits binary32 (h .score)) → toScore (
 unfolding toScore
 toScore-code h F = ap (ofBits binary32) (high-code h F) ∙ ofBits-toBits binary32 (h .score) F
 
+-- what `to_doc` and `to_score` require of a code
+pub code-low : (h : ScoreDoc) → lowWord (code h) ≤ noMoreDocs
+unfolding code
+code-low h = subst (λ (n : ℕ). n ≤ noMoreDocs) (sym (low-joined (sortableInt (scoreBits h)) (noMoreDocs - h .doc) (omega arith))) (omega arith)
+
+pub code-number : (h : ScoreDoc) → T (fits binary32 (h .score)) → T (not (isNan (h .score))) → T (not (nanBits binary32 (sortableBits (shrZ (code h) (2 ^ 32)))))
+code-number h F N =
+    subst (λ (n : ℕ). T (not (nanBits binary32 n))) (sym (high-code h F))
+    (subst (λ (b : Bool). T (not b)) (sym (nanBits-is binary32 (scoreBits h) ∙ ap isNan (ofBits-toBits binary32 (h .score) F))) N)
+
 -- ---- scores that are not negative
 pub clear-code : (h : ScoreDoc) → T (fits binary32 (h .score)) → T (signClear (h .score)) → code h ≡ pos (scoreBits h * 4294967296 + (noMoreDocs - h .doc))
 unfolding code
 clear-code h F p = ap (λ (z : ℤ). z *ℤ pos (2 ^ 32) +ℤ pos (noMoreDocs - h .doc)) (sortable-clear (scoreBits h) (omega (arith, clear-bits (h .score) F p)))
-
-pub code-number : (b : ℕ) (h : ScoreDoc) → Scored b h → T (not (nanBits binary32 (sortableBits (shrZ (code h) (2 ^ 32)))))
-code-number b h s = subst (λ (n : ℕ). T (not (nanBits binary32 n))) (sym (high-code h (s .fits))) (pattern-number (scoreBits h) (clear-bits (h .score) (s .fits) (s .clear)))
 
 module _ (b b′ : ℕ) (g h : ScoreDoc) (s : Scored b g) (t : Scored b′ h) where
   both-lt : scoreBits g * 4294967296 + (noMoreDocs - g .doc) < scoreBits h * 4294967296 + (noMoreDocs - h .doc) → code g <ℤ code h
