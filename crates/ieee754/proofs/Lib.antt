@@ -7,4 +7,5 @@ pub mod Narrowing
 pub mod NarrowSteps
 pub mod Successor
 pub mod Lengths
+pub mod Bounds
 pub mod Sums

@@ -1,87 +1,14 @@
--- A sum in binary64 of values of at most M each is at most their number times M, and so it is once narrowed; and the bounds of which that is made. Assumes nothing.
-use mathlib.Core.Path.{_≡_, refl, sym, ap, _∙_, subst}
+-- A sum in binary64 of values of at most M each is at most their number times M, and so it is once narrowed. Assumes nothing.
+use mathlib.Core.Path.{_≡_, refl, sym, subst}
 use mathlib.Core.List.{List, [], _∷_, _++_}
 use Prim.Native.Nat.{ℕ, zero, suc, _+_, _*_, _^_, _≤_, _<_, zero-le, suc-le-suc}
-use native.Mathlib.Nat.{le-refl, le-trans, le-of-eq, le-of-suc-le-suc, not-suc-le-zero, lt-of-le-of-lt, add-mul, mul-one, one-mul, zero-add, suc-mul, zero-mul, mul-comm, mul-assoc, mul-le-mul-right, mul-pos, add-le-add}
+use native.Mathlib.Nat.{le-trans, le-of-eq, le-of-suc-le-suc, not-suc-le-zero, zero-add, suc-mul}
 use native.Mathlib.Omega.{arith}
-use mathlib.Core.Bool.{true, false, not}
-use lib.IntN.{pos}
-use lib.Dec.{T, lit<, lit≤}
-use lib.Pow.{pow-add, pow-lt}
 use lib.ListN.{length, getD}
-use lib.Ieee.{Float, nan, inf, fin, Format, binary32, binary64, prec, round, add, le, isNan}
-use lib.Ieee.Exact.{HasValue, round-exact}
-use lib.Ieee.Back.{round-whole}
-use lib.Ieee.Positive.{num, den, den-pos, value→cross, through}
+use lib.Ieee.{Float, nan, binary32, binary64, add}
 use Rattle.meaning.specs.Ieee754.{zeroFloat, narrow, sumFrom, narrowedSum}
-use Rattle.ieee754.specs.Nonneg.{nonneg, AtMost, UpTo}
-use Rattle.ieee754.proofs.Nonneg.{nonneg-of-value, no-nan}
-use Rattle.ieee754.proofs.Ranges.{add-is, round-nonneg, round-cross, cross→le}
-use Rattle.ieee754.proofs.Narrowing.{narrow-is}
-
--- the format holds the whole number p
-abbrev pub Held : Format → ℕ → Type 0
-Held f p = HasValue (round f false p 1) false p 1
-
--- binary32 holds the powers of two up to 2 ^ 127
-pub held-power : (k : ℕ) → k ≤ 127 → Held binary32 (2 ^ k)
-held-power k h =
-    round-exact binary32 false (2 ^ k) 1 1 (k + 149) (lit< tt) (lit< tt)
-    (subst (λ (z : ℕ). z < 2 ^ 277) (sym (one-mul (2 ^ (k + 149)))) (pow-lt (room k h)))
-    (sym (pow-add 2 k 149) ∙ sym (one-mul (2 ^ (k + 149))) ∙ sym (mul-one (1 * 2 ^ (k + 149))))
-  where
-    room : (k : ℕ) → k ≤ 127 → k + 149 < 277
-    room k h = omega arith
-
--- ---- bounds
-pub atmost-more : {p q : ℕ} {x : Float} → p ≤ q → AtMost p x → AtMost q x
-atmost-more {p} {q} {x} h m = record { sign = m .sign; most = le-trans (m .most) (mul-le-mul-right (den x) h) }
-
-pub atmost-number : {p : ℕ} {x : Float} → AtMost p x → T (not (isNan x))
-atmost-number {p} {x} m = no-nan x (m .sign)
-
-pub zero-atmost : (p : ℕ) → AtMost p zeroFloat
-zero-atmost p = record { sign = tt; most = zero-le }
-
--- what is at most a weight is at most what that is
-pub upto-atmost : (p : ℕ) (w x : Float) → AtMost p w → UpTo w x → AtMost p x
-upto-atmost p w x i u =
-    let m : num x * 1 ≤ p * den x = through (num x) (num w) p (den x) (den w) 1 (den-pos w) (u .most) (subst (λ (z : ℕ). z ≤ p * den w) (sym (mul-one (num w))) (i .most)) in
-    record { sign = u .sign; most = subst (λ (z : ℕ). z ≤ p * den x) (mul-one (num x)) m }
-
-pub zero-le-nonneg : (x : Float) → T (nonneg x) → T (le zeroFloat x)
-zero-le-nonneg x p = cross→le zeroFloat x tt p (le-trans (le-of-eq (zero-mul (den x))) zero-le)
-
--- in the words of `le`
-pub upto-le : (w x : Float) → T (nonneg w) → UpTo w x → T (le zeroFloat x) × T (le x w)
-upto-le w x W u = (zero-le-nonneg x (u .sign), cross→le x w (u .sign) W (u .most))
-
--- a fraction a / b of at most p rounds to at most p
-pub round-atmost : (f : Format) (a b p : ℕ) → 0 < b → Held f p → a ≤ p * b → AtMost p (round f false a b)
-round-atmost f a b p B H h =
-    let r = round f false a b in
-    let t = round f false p 1 in
-    let fine : T (nonneg t) = nonneg-of-value t p 1 H in
-    let one-pos : 0 < 1 = lit< tt in
-    let k : a * 1 ≤ p * b = subst (λ (z : ℕ). z ≤ p * b) (sym (mul-one a)) h in
-    let c : num r * den t ≤ num t * den r = round-cross f a b p 1 B one-pos k fine in
-    let v : num t * 1 ≤ p * den t = le-of-eq (value→cross t p 1 H) in
-    let m : num r * 1 ≤ p * den r = through (num r) (num t) p (den r) (den t) 1 (den-pos t) c v in
-    record { sign = round-nonneg f a b p 1 B one-pos k fine; most = subst (λ (z : ℕ). z ≤ p * den r) (mul-one (num r)) m }
-
-pub add-atmost : (f : Format) (p q : ℕ) (x y : Float) → AtMost p x → AtMost q y → Held f (p + q) → AtMost (p + q) (add f x y)
-add-atmost f p q x y i j H =
-    subst (λ (z : Float). AtMost (p + q) z) (sym (add-is f x y (i .sign) (j .sign)))
-    (round-atmost f (num x * den y + num y * den x) (den x * den y) (p + q) (mul-pos (den-pos x) (den-pos y)) H
-    (le-trans (add-le-add (le-trans (mul-le-mul-right (den y) (i .most)) (le-of-eq (mul-assoc p (den x) (den y)))) (le-trans (mul-le-mul-right (den x) (j .most)) (le-of-eq (mul-assoc q (den y) (den x) ∙ ap (λ (z : ℕ). q * z) (mul-comm (den y) (den x))))))
-    (le-of-eq (sym (add-mul p q (den x * den y))))))
-
--- in binary64, up to 2 ^ 53
-pub sum-two-atmost : (p q : ℕ) (x y : Float) → AtMost p x → AtMost q y → p + q ≤ 2 ^ 53 → AtMost (p + q) (add binary64 x y)
-sum-two-atmost p q x y i j h = add-atmost binary64 p q x y i j (round-whole binary64 false (p + q) h)
-
-pub narrow-atmost : (p : ℕ) (x : Float) → AtMost p x → Held binary32 p → AtMost p (narrow x)
-narrow-atmost p x i H = subst (λ (z : Float). AtMost p z) (sym (narrow-is x (i .sign))) (round-atmost binary32 (num x) (den x) p (den-pos x) H (i .most))
+use Rattle.ieee754.specs.Nonneg.{AtMost}
+use Rattle.ieee754.proofs.Bounds.{Held, atmost-more, zero-atmost, sum-two-atmost, narrow-atmost}
 
 -- ---- a list of which each element is at most M
 pub data Each (M : ℕ) : List Float → Type 0 where
