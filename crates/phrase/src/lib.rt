@@ -7,7 +7,7 @@ ghost use lib.ListN.{length, take};
 ghost use lib.IntN.{subℕ};
 ghost use Rattle.meaning.specs.Phrase.{commonSize};
 ghost use Rattle.phrase.specs.Terms.{termAt, startsOf, startLists, GoodTerm, Good, Room, Rarest};
-ghost use Rattle.phrase.specs.Common.{Ascending, Common, Candidates, Left};
+ghost use Rattle.phrase.specs.Common.{Ascending, Common, unmetFrom, Candidates, Left};
 ghost use Rattle.phrase.specs.Place.{PlacedIn};
 
 pub enum Placed {
@@ -113,6 +113,14 @@ fn intersect(positions: &[u32], t: Term, cands: &[i32], out: &mut [i32]) -> usiz
     n
 }
 
+// The record to meet at or after a word: the rarest term's is not met again.
+fn unmet(rarest: usize, at: usize) -> usize
+    requires { ⌜ rarest + 3 < 18446744073709551616 ⌝ }
+    ensures { λ r. ⌜ r ≡ unmetFrom rarest at ⌝ }
+{
+    if at == rarest { at + 3 } else { at }
+}
+
 // The candidates that every term from `at` on has, but for the rarest, which they came from: a part of whichever buffer was
 // written last. The buffers change places with each term met.
 fn survivors<'a>(
@@ -126,17 +134,15 @@ fn survivors<'a>(
     requires { ⌜ Candidates (now positions) (now terms) rarest at (now cands) (length (now spare)) ⌝ }
     ensures { λ r. ⌜ Left (now (positions .entry)) (now (terms .entry)) at (now (cands .entry)) (now r) ⌝ }
 {
-    if at == terms.len() {
-        return cands;
-    }
-    if cands.len() == 0 {
-        return cands;
-    }
-    if at == rarest {
-        return survivors(positions, terms, rarest, at + 3, cands, spare);
-    }
     let n = intersect(positions, term_at(terms, at), cands, spare);
-    survivors(positions, terms, rarest, at + 3, &mut spare[..n], cands)
+    let next = unmet(rarest, at + 3);
+    if next == terms.len() {
+        return &mut spare[..n];
+    }
+    if n == 0 {
+        return &mut spare[..n];
+    }
+    survivors(positions, terms, rarest, next, &mut spare[..n], cands)
 }
 
 // The common part of all the terms' starts: the rarest term's first, then whatever the others leave of them.
@@ -148,7 +154,11 @@ fn common<'a>(positions: &[u32], terms: &[u32], a: &'a mut [i32], b: &'a mut [i3
     let t = term_at(terms, best);
     let freq = t.freq;
     write_starts(positions, t, a);
-    survivors(positions, terms, best, 0, &mut a[..freq], b)
+    let at = unmet(best, 0);
+    if at == terms.len() {
+        return &mut a[..freq];
+    }
+    survivors(positions, terms, best, at, &mut a[..freq], b)
 }
 
 pub fn frequency(positions: &[u32], terms: &[u32], a: &mut [i32], b: &mut [i32]) -> u32
