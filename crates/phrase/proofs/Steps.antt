@@ -10,7 +10,7 @@ use lib.IntN.{ℤ}
 use lib.ListN.{length, drop}
 use Rattle.meaning.specs.Phrase.{multiplicity, smallest}
 use Rattle.phrase.specs.Terms.{termAt, startsOf, startLists, Good}
-use Rattle.phrase.specs.Common.{Ascending, Common, Held, unmetFrom, Candidates, Left}
+use Rattle.phrase.specs.Common.{Ascending, Common, Held, unmetFrom, Candidates, Left, Meets}
 use Rattle.phrase.proofs.Records.{lists-at, lists-end, lists-some, smallest-at}
 
 -- ---- the common part of lists
@@ -45,6 +45,11 @@ pub left-none : (ps ts : List ℕ) (at : ℕ) (cs : List ℤ) → length cs ≡ 
 left-none ps ts at [] e = record { common = common-none (startLists ps (drop at ts)); no-more = omega arith }
 left-none ps ts at (c ∷ cs) e = absurd (omega (arith, e))
 
+none-same : (ms zs : List ℤ) → length ms ≡ 0 → length zs ≡ 0 → ms ≡ zs
+none-same [] [] e f = refl
+none-same (x ∷ ms) zs e f = absurd (omega (arith, e))
+none-same [] (z ∷ zs) e f = absurd (omega (arith, f))
+
 -- ---- the next record to meet
 module _ (ps ts : List ℕ) (r : ℕ) (cs : List ℤ) (k : Held ps ts r cs) (at : ℕ) (w : at % 3 ≡ 0) (h : at ≤ length ts) where
   pub unmet-start : unmetFrom r at % 3 ≡ 0
@@ -63,7 +68,7 @@ module _ (ps ts : List ℕ) (r : ℕ) (cs : List ℤ) (k : Held ps ts r cs) (at 
       go true e = let q = e tt in omega (arith, q, k .good .whole, k .rarest-there, k .rarest-start)
       go false e = h
 
-  pub unmet-not-before : at ≤ unmetFrom r at
+  unmet-not-before : at ≤ unmetFrom r at
   unfolding unmetFrom
   unmet-not-before = go (eqb at r)
     where
@@ -93,7 +98,7 @@ module _ (ps ts : List ℕ) (r at : ℕ) (cs : List ℤ) (places : ℕ) (c : Can
   record-there = omega (arith, c .held .good .whole, c .record-start, c .there)
 
   module _ (ms : List ℤ) (m : Common (cs ∷ startsOf ps (termAt ts at) ∷ []) ms) (few : length ms ≤ length cs) where
-    pub held-met : Held ps ts r ms
+    held-met : Held ps ts r ms
     unfolding smallest
     held-met =
         record {
@@ -111,25 +116,45 @@ module _ (ps ts : List ℕ) (r at : ℕ) (cs : List ℤ) (places : ℕ) (c : Can
     past-there : at + 3 ≤ length ts
     past-there = omega (arith, record-there)
 
-    pub further : at + 3 ≤ unmetFrom r (at + 3)
-    further = unmet-not-before ps ts r ms held-met (at + 3) past-start past-there
-
-    pub candidates-met : (unmetFrom r (at + 3) ≡ length ts → ⊥) → Candidates ps ts r (unmetFrom r (at + 3)) ms (length cs)
-    candidates-met h =
-        record {
-          held = held-met;
-          record-start = unmet-start ps ts r ms held-met (at + 3) past-start past-there;
-          there = (let n = unmet-not-past ps ts r ms held-met (at + 3) past-start past-there in omega (arith, n, h));
-          room = few;
-        }
-
-    pub left-met : (zs : List ℤ) → Left ps ts (unmetFrom r (at + 3)) ms zs → Left ps ts at cs zs
+    left-met : (zs : List ℤ) → Left ps ts (at + 3) ms zs → Left ps ts at cs zs
     left-met zs l =
-        let u = left-unmet ps ts r ms held-met (at + 3) past-start past-there zs l in
         record {
-          common = rw (lists-at ps ts at record-there) (common-met cs (startsOf ps (termAt ts at)) ms (startLists ps (drop (at + 3) ts)) zs m (u .common));
-          no-more = le-trans (u .no-more) few;
+          common = rw (lists-at ps ts at record-there) (common-met cs (startsOf ps (termAt ts at)) ms (startLists ps (drop (at + 3) ts)) zs m (l .common));
+          no-more = le-trans (l .no-more) few;
         }
+
+    -- the other terms are still to be met
+    pub meets : Meets ps ts r at cs ms (unmetFrom r (at + 3))
+    meets =
+        record {
+          rising = m .rising;
+          further = (let f = unmet-not-before ps ts r ms held-met (at + 3) past-start past-there in omega (arith, f));
+          on = λ zs l. left-met zs (left-unmet ps ts r ms held-met (at + 3) past-start past-there zs l);
+          ready = λ h.
+              record {
+                held = held-met;
+                record-start = unmet-start ps ts r ms held-met (at + 3) past-start past-there;
+                there = (let n = unmet-not-past ps ts r ms held-met (at + 3) past-start past-there in omega (arith, n, h));
+                room = few;
+              };
+        }
+
+    -- or nothing is left, and none is
+    pub meets-none : length ms ≡ 0 → Meets ps ts r at cs ms (length ts)
+    meets-none e =
+        record {
+          rising = m .rising;
+          further = c .there;
+          on = λ zs l. left-met zs (nothing zs l);
+          ready = λ h. absurd (h refl);
+        }
+      where
+        nothing : (zs : List ℤ) → Left ps ts (length ts) ms zs → Left ps ts (at + 3) ms zs
+        nothing zs l = subst (λ (k : List ℤ). Left ps ts (at + 3) ms k) (none-same ms zs e (omega (arith, l .no-more, e))) (left-none ps ts (at + 3) ms e)
+
+-- ---- at the end
+pub left-at-end : (ps ts : List ℕ) (r at next : ℕ) (cs ms : List ℤ) → Meets ps ts r at cs ms next → next ≡ length ts → Left ps ts at cs ms
+left-at-end ps ts r at next cs ms k e = k .on ms (left-end ps ts next ms e (k .rising))
 
 -- ---- all terms
 smallest-among : (s : ℤ) (xs : List ℤ) (xss : List (List ℤ)) → 0 < length xss → smallest s xss ≤ multiplicity s xs → smallest s (xs ∷ xss) ≡ smallest s xss

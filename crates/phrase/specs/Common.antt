@@ -48,3 +48,10 @@ pub record Candidates (ps ts : List ℕ) (rarest at : ℕ) (cs : List ℤ) (plac
 pub record Left (ps ts : List ℕ) (at : ℕ) (cs zs : List ℤ) : Type 0 where
   pub common : Common (cs ∷ startLists ps (drop at ts)) zs
   pub no-more : length zs ≤ length cs
+
+-- one more term is met: ms is what it leaves, and what is left of ms from the next record on is left of the candidates
+pub record Meets (ps ts : List ℕ) (rarest at : ℕ) (cs ms : List ℤ) (next : ℕ) : Type 0 where
+  pub rising : Ascending ms
+  pub further : at < next
+  pub on : (zs : List ℤ) → Left ps ts next ms zs → Left ps ts at cs zs
+  pub ready : (next ≡ length ts → ⊥) → Candidates ps ts rarest next ms (length cs)

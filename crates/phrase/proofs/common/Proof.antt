@@ -12,7 +12,7 @@ use Rattle.meaning.specs.Phrase.{multiplicity}
 use Rattle.phrase.specs.Terms.{termAt, startsOf, startLists, GoodTerm, Good, Room, Rarest}
 use Rattle.phrase.specs.Common.{Ascending, Common, Held, unmetFrom, Candidates, Left}
 use Rattle.phrase.proofs.Records.{starts-length, starts-ascending}
-use Rattle.phrase.proofs.Steps.{left-end, unmet-start, unmet-not-past, left-unmet, left-of-all}
+use Rattle.phrase.proofs.Steps.{left-end, left-at-end, unmet-start, unmet-not-past, left-unmet, left-of-all}
 use Rattle.phrase.proofs.common.Statement.{statement}
 use Rattle.phrase.proofs.common.Tie as tie
 
@@ -90,9 +90,76 @@ returns c =
     let l = left-end (b .args .positions .now) (b .args .terms .now) (u .unmet .result) (take (t .result .freq) (w .last .1 .1 .0)) (c .before .if1 .taken) (held (b .args .positions .now) (b .args .terms .now) (b .pre .0) (h .result) (h .ensures) (take (t .result .freq) (w .last .1 .1 .0)) (w .ensures ∙ ap (startsOf (b .args .positions .now)) (t .ensures)) (u .unmet .result) (u .unmet .ensures) .rising) in
     (ended (b .args .positions .now) (b .args .terms .now) (b .pre .0) (h .result) (h .ensures) (take (t .result .freq) (w .last .1 .1 .0)) (w .ensures ∙ ap (startsOf (b .args .positions .now)) (t .ensures)) (u .unmet .result) (u .unmet .ensures) (take (t .result .freq) (w .last .1 .1 .0)) l, omega (arith, long (b .args .positions .now) (b .args .terms .now) (b .pre .0) (h .result) (h .ensures) (take (t .result .freq) (w .last .1 .1 .0)) (w .ensures ∙ ap (startsOf (b .args .positions .now)) (t .ensures)) (u .unmet .result) (u .unmet .ensures), k))
 
+slice-reshare-prefix-meet : tie.Need-slice-reshare-prefix-meet
+slice-reshare-prefix-meet c =
+    let u = c .before in
+    let b = u .before .before .before .before .before .before .before .before in
+    let h = u .before .before .before .before .before .rarest in
+    let t = u .before .before .before .before .term-at in
+    let w = u .before .before .write-starts in
+    let m = enough-room (b .args .terms .now) (h .result) (length (b .args .a .now)) (h .ensures) (b .pre .1 .0) in
+    let f = ap (λ x. x .freq) (t .ensures) in
+    omega (arith, m, f, w .kept .1 .1 .0)
+
+slice-aggregate-meet : tie.Need-slice-aggregate-meet
+slice-aggregate-meet c =
+    let u = c .before .before in
+    let b = u .before .before .before .before .before .before .before .before in
+    let h = u .before .before .before .before .before .rarest in
+    let t = u .before .before .before .before .term-at in
+    let w = u .before .before .write-starts in
+    let m = enough-room (b .args .terms .now) (h .result) (length (b .args .a .now)) (h .ensures) (b .pre .1 .0) in
+    let f = ap (λ x. x .freq) (t .ensures) in
+    sym (length-take-le (t .result .freq) (w .last .1 .1 .0) (omega (arith, m, f, w .kept .1 .1 .0)))
+
+meet-requires : tie.Need-meet-requires
+meet-requires c κs =
+    let u = c .before .before .before in
+    let b = u .before .before .before .before .before .before .before .before in
+    let h = u .before .before .before .before .before .rarest in
+    let t = u .before .before .before .before .term-at in
+    let w = u .before .before .write-starts in
+    begun (b .args .positions .now) (b .args .terms .now) (b .pre .0) (h .result) (h .ensures) (take (t .result .freq) (w .last .1 .1 .0)) (w .ensures ∙ ap (startsOf (b .args .positions .now)) (t .ensures)) (u .unmet .result) (u .unmet .ensures) (length (b .args .b .now)) (b .pre .1 .1) (c .before .before .if1 .left)
+
+slice-aggregate-result-2 : tie.Need-slice-aggregate-result-2
+slice-aggregate-result-2 c =
+    let u = c .before .before .before .before .before .before .before in
+    let b = u .before .before .before .before .before .before .before .before in
+    let h = u .before .before .before .before .before .rarest in
+    let t = u .before .before .before .before .term-at in
+    let w = u .before .before .write-starts in
+    let m = c .before .before .before .meet in
+    let v = enough-room (b .args .terms .now) (h .result) (length (b .args .b .now)) (h .ensures) (b .pre .1 .1) in
+    let q = long (b .args .positions .now) (b .args .terms .now) (b .pre .0) (h .result) (h .ensures) (take (t .result .freq) (w .last .1 .1 .0)) (w .ensures ∙ ap (startsOf (b .args .positions .now)) (t .ensures)) (u .unmet .result) (u .unmet .ensures) in
+    sym (length-take-le (m .result .n) (m .last .1 .1 .1 .1 .1 .0) (omega (arith, m .ensures .0, m .kept .1 .1 .1 .1 .1 .0, v, q)))
+
+returns-2 : tie.Need-returns-2
+returns-2 c =
+    let u = c .before .before .before .before .before .before .before in
+    let b = u .before .before .before .before .before .before .before .before in
+    let h = u .before .before .before .before .before .rarest in
+    let t = u .before .before .before .before .term-at in
+    let w = u .before .before .write-starts in
+    let k = u .before .before .before .before .before .before .shared-slice-known2 .given (h .result + 1) in
+    let m = c .before .before .before .meet in
+    let l = left-at-end (b .args .positions .now) (b .args .terms .now) (h .result) (u .unmet .result) (m .result .next) (take (t .result .freq) (w .last .1 .1 .0)) (take (m .result .n) (m .last .1 .1 .1 .1 .1 .0)) (m .ensures .1) (c .before .if2 .taken) in
+    (ended (b .args .positions .now) (b .args .terms .now) (b .pre .0) (h .result) (h .ensures) (take (t .result .freq) (w .last .1 .1 .0)) (w .ensures ∙ ap (startsOf (b .args .positions .now)) (t .ensures)) (u .unmet .result) (u .unmet .ensures) (take (m .result .n) (m .last .1 .1 .1 .1 .1 .0)) l, omega (arith, l .no-more, long (b .args .positions .now) (b .args .terms .now) (b .pre .0) (h .result) (h .ensures) (take (t .result .freq) (w .last .1 .1 .0)) (w .ensures ∙ ap (startsOf (b .args .positions .now)) (t .ensures)) (u .unmet .result) (u .unmet .ensures), k))
+
 slice-aggregate-survivors : tie.Need-slice-aggregate-survivors
 slice-aggregate-survivors c =
-    let u = c .before .before in
+    let u = c .before .before .before .before .before .before .before in
+    let b = u .before .before .before .before .before .before .before .before in
+    let h = u .before .before .before .before .before .rarest in
+    let t = u .before .before .before .before .term-at in
+    let w = u .before .before .write-starts in
+    let m = c .before .before .before .meet in
+    let v = enough-room (b .args .terms .now) (h .result) (length (b .args .b .now)) (h .ensures) (b .pre .1 .1) in
+    let q = long (b .args .positions .now) (b .args .terms .now) (b .pre .0) (h .result) (h .ensures) (take (t .result .freq) (w .last .1 .1 .0)) (w .ensures ∙ ap (startsOf (b .args .positions .now)) (t .ensures)) (u .unmet .result) (u .unmet .ensures) in
+    sym (length-take-le (m .result .n) (m .last .1 .1 .1 .1 .1 .0) (omega (arith, m .ensures .0, m .kept .1 .1 .1 .1 .1 .0, v, q)))
+
+slice-aggregate-survivors-2 : tie.Need-slice-aggregate-survivors-2
+slice-aggregate-survivors-2 c =
+    let u = c .before .before .before .before .before .before .before .before in
     let b = u .before .before .before .before .before .before .before .before in
     let h = u .before .before .before .before .before .rarest in
     let t = u .before .before .before .before .term-at in
@@ -103,22 +170,20 @@ slice-aggregate-survivors c =
 
 survivors-requires : tie.Need-survivors-requires
 survivors-requires c κs =
-    let u = c .before .before in
-    let b = u .before .before .before .before .before .before .before .before in
-    let h = u .before .before .before .before .before .rarest in
-    let t = u .before .before .before .before .term-at in
-    let w = u .before .before .write-starts in
-    begun (b .args .positions .now) (b .args .terms .now) (b .pre .0) (h .result) (h .ensures) (take (t .result .freq) (w .last .1 .1 .0)) (w .ensures ∙ ap (startsOf (b .args .positions .now)) (t .ensures)) (u .unmet .result) (u .unmet .ensures) (length (b .args .b .now)) (b .pre .1 .1) (c .before .if1 .left)
+    let m = c .before .before .before .before .meet in
+    m .ensures .1 .ready (c .before .before .if2 .left)
 
-returns-2 : tie.Need-returns-2
-returns-2 c =
-    let u = c .before .before .before in
+returns-3 : tie.Need-returns-3
+returns-3 c =
+    let u = c .before .before .before .before .before .before .before .before .before in
     let b = u .before .before .before .before .before .before .before .before in
     let h = u .before .before .before .before .before .rarest in
     let t = u .before .before .before .before .term-at in
     let w = u .before .before .write-starts in
     let k = u .before .before .before .before .before .before .shared-slice-known2 .given (h .result + 1) in
-    (ended (b .args .positions .now) (b .args .terms .now) (b .pre .0) (h .result) (h .ensures) (take (t .result .freq) (w .last .1 .1 .0)) (w .ensures ∙ ap (startsOf (b .args .positions .now)) (t .ensures)) (u .unmet .result) (u .unmet .ensures) (c .survivors .result .now) (c .survivors .ensures), omega (arith, c .survivors .ensures .no-more, long (b .args .positions .now) (b .args .terms .now) (b .pre .0) (h .result) (h .ensures) (take (t .result .freq) (w .last .1 .1 .0)) (w .ensures ∙ ap (startsOf (b .args .positions .now)) (t .ensures)) (u .unmet .result) (u .unmet .ensures), k))
+    let m = c .before .before .before .before .before .meet in
+    let l = m .ensures .1 .on (c .survivors .result .now) (c .survivors .ensures) in
+    (ended (b .args .positions .now) (b .args .terms .now) (b .pre .0) (h .result) (h .ensures) (take (t .result .freq) (w .last .1 .1 .0)) (w .ensures ∙ ap (startsOf (b .args .positions .now)) (t .ensures)) (u .unmet .result) (u .unmet .ensures) (c .survivors .result .now) l, omega (arith, l .no-more, long (b .args .positions .now) (b .args .terms .now) (b .pre .0) (h .result) (h .ensures) (take (t .result .freq) (w .last .1 .1 .0)) (w .ensures ∙ ap (startsOf (b .args .positions .now)) (t .ensures)) (u .unmet .result) (u .unmet .ensures), k))
 
 pub common-spec : {M : Type 1} → statement M
 common-spec =
@@ -130,6 +195,12 @@ common-spec =
     unmet-requires
     slice-aggregate-result
     returns
+    slice-reshare-prefix-meet
+    slice-aggregate-meet
+    meet-requires
+    slice-aggregate-result-2
+    returns-2
     slice-aggregate-survivors
+    slice-aggregate-survivors-2
     survivors-requires
-    returns-2)
+    returns-3)
