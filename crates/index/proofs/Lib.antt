@@ -7,3 +7,5 @@ pub mod Values
 pub mod Parts
 pub mod Words
 pub mod Refused
+pub mod Accepted
+pub mod PostingAt

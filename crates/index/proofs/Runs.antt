@@ -64,18 +64,18 @@ module _ (positions : List ℕ) (index frequency : ℕ) (fits : index + frequenc
   unfolding wrongPlace
   part-like j l = let h : j < index + frequency - index = omega arith in let g : j - 1 < index + frequency - index = omega arith in rw (getD-take _ _ _ _ h, getD-take _ _ _ _ g)
 
-  pub places-part : anyBelow (length (take (index + frequency - index) (drop index positions))) (wrongPlace (take (index + frequency - index) (drop index positions))) ≡ anyBelow frequency (wrongPlace (drop index positions))
+  places-part : anyBelow (length (take (index + frequency - index) (drop index positions))) (wrongPlace (take (index + frequency - index) (drop index positions))) ≡ anyBelow frequency (wrongPlace (drop index positions))
   places-part = rw part-length (any-like frequency (wrongPlace (take (index + frequency - index) (drop index positions))) (wrongPlace (drop index positions)) part-like)
 
-  -- the turn of the loop over a run's positions, where they lie in the slice
-  pub places-flag : (run : List ℕ) (i : ℕ) (t : Bool) → index ≡ getD run (3 * i + 2) 0 → frequency ≡ getD run (3 * i + 1) 0 → t ≡ anyBelow frequency (wrongPlace (drop index positions)) → t ≡ wrongPlaces run positions i
+-- the turn of the loop over a run's positions, where the code holds their ends in locals
+module _ (run positions : List ℕ) (i from end : ℕ) (e : from ≡ getD run (3 * i + 2) 0) (g : end ≡ getD run (3 * i + 2) 0 + getD run (3 * i + 1) 0) where
+  pub places-flag : end ≤ length positions → (t : Bool) → t ≡ anyBelow (length (take (end - from) (drop from positions))) (wrongPlace (take (end - from) (drop from positions))) → t ≡ wrongPlaces run positions i
   unfolding wrongPlaces
-  places-flag run i t e g h = rw (← e, ← g, le-ltb _ _ fits) h
+  places-flag h t s = let k : getD run (3 * i + 2) 0 + getD run (3 * i + 1) 0 ≤ length positions = omega arith in s ∙ rw (e, g, le-ltb _ _ k) (places-part positions (getD run (3 * i + 2) 0) (getD run (3 * i + 1) 0) k)
 
--- and where they do not
-pub places-past : (run positions : List ℕ) (i index frequency : ℕ) → index ≡ getD run (3 * i + 2) 0 → frequency ≡ getD run (3 * i + 1) 0 → length positions < index + frequency → wrongPlaces run positions i ≡ true
-unfolding wrongPlaces
-places-past run positions i index frequency e g h = rw (← e, ← g, lt-ltb _ _ h)
+  pub places-past : length positions < end → wrongPlaces run positions i ≡ true
+  unfolding wrongPlaces
+  places-past h = let k : length positions < getD run (3 * i + 2) 0 + getD run (3 * i + 1) 0 = omega arith in rw (lt-ltb _ _ k)
 
 -- the positions of a posting of the leaf, asked of the slice from its index on
 places-are : (ix : Index) (l i j : ℕ) → wrongPlace (drop (leafPositionsIndex ix l i) (ix .positions)) j ≡ wrongPosition ix l i j

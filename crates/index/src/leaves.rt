@@ -6,6 +6,7 @@ ghost use lib.ListN.{length};
 ghost use Rattle.meaning.specs.IndexRefusals.{wrongLeaf, wrong4};
 ghost use Rattle.index.specs.Slices.{leavesOnly};
 ghost use Rattle.index.specs.Records.{leafOf};
+use super::sum;
 use super::wide;
 
 // The limits of document 01: 512 leaves, an idf of 0 to 64 as f32 bits.
@@ -34,13 +35,13 @@ pub fn leaf_at(leaves: &[u32], l: usize) -> Leaf
     }
 }
 
-// Leaf l: its field absent, its run past the postings, or its idf outside. The sum of two words needs more than 32 bits.
+// Leaf l: its field absent, its run past the postings, or its idf outside.
 fn wrong_leaf(fields: &[u32], leaves: &[u32], postings: &[u32], l: usize) -> bool
     requires { ⌜ l < length (now leaves) / 4 ⌝ }
     ensures { λ r. ⌜ r ≡ wrongLeaf (leavesOnly (now (fields .entry)) (now (leaves .entry)) (now (postings .entry))) l ⌝ }
 {
     let leaf = leaf_at(leaves, l);
-    let end = wide(leaf.first) + wide(leaf.number);
+    let end = sum(leaf.first, leaf.number);
     (wide(leaf.field) >= fields.len() / 3) | (end > postings.len() / 3) | (leaf.idf > LARGEST_IDF)
 }
 

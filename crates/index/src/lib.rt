@@ -8,6 +8,7 @@ pub mod postings;
 
 ghost use mathlib.Core.Path.{_≡_};
 ghost use mathlib.Core.List.{[]};
+ghost use Prim.Native.Nat.{_+_};
 ghost use Rattle.meaning.specs.IndexRefusals.{wrong1};
 ghost use Rattle.index.specs.Slices.{lent};
 ghost use Rattle.index.specs.Refusal.{indexRefusal};
@@ -20,6 +21,13 @@ pub fn wide(x: u32) -> usize
     ensures { λ r. ⌜ r ≡ x ⌝ }
 {
     x as usize
+}
+
+// The sum of two words, which may need more than 32 bits.
+pub fn sum(a: u32, b: u32) -> usize
+    ensures { λ r. ⌜ r ≡ a + b ⌝ }
+{
+    wide(a) + wide(b)
 }
 
 // 1, N above the limit.

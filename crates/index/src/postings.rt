@@ -12,6 +12,7 @@ ghost use Rattle.index.specs.Slices.{leavesOnly, runsOnly};
 ghost use Rattle.index.specs.Runs.{postingDocument, postingFrequency, postingIndex, wrongRecord, wrongPlace, wrongPlaces};
 use super::fields::field_at;
 use super::leaves::leaf_at;
+use super::sum;
 use super::wide;
 
 // The limits of document 01: NO_MORE_DOCS is also the largest position; a frequency of 1 to 16,777,216.
@@ -96,7 +97,7 @@ fn wrong_places(part: &[u32]) -> bool
     bad
 }
 
-// The positions of a run's postings. Index + frequency needs more than 32 bits.
+// The positions of a run's postings, where they lie within the slice.
 fn wrong_run_places(run: &[u32], positions: &[u32]) -> bool
     ensures { λ r. ⌜ r ≡ anyBelow (length (now (run .entry)) / 3) (wrongPlaces (now (run .entry)) (now (positions .entry))) ⌝ }
 {
@@ -104,12 +105,13 @@ fn wrong_run_places(run: &[u32], positions: &[u32]) -> bool
     let mut bad = false;
     let mut i = 0;
     while i < count {
-        let index = wide(run[3 * i + 2]);
-        let end = index + wide(run[3 * i + 1]);
+        let index = run[3 * i + 2];
+        let from = wide(index);
+        let end = sum(index, run[3 * i + 1]);
         if end > positions.len() {
             return true;
         }
-        bad = bad | wrong_places(&positions[index..end]);
+        bad = bad | wrong_places(&positions[from..end]);
         i += 1;
     }
     bad
