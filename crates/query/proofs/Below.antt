@@ -61,15 +61,26 @@ pub count-more : (n : ℕ) (p : ℕ → Bool) → countBelow (n + 1) p ≡ count
 unfolding countBelow
 count-more n p = rw (add-one n)
 
+pub cond-at-most : (b : Bool) → cond b 1 0 ≤ 1
+cond-at-most true = omega arith
+cond-at-most false = omega arith
+
 pub count-at-most : (n : ℕ) (p : ℕ → Bool) → countBelow n p ≤ n
 unfolding countBelow
 count-at-most zero p = omega arith
-count-at-most (suc n) p = let e = count-at-most n p in let c = one-at-most (p n) in omega (arith, e, c)
-  where
-    one-at-most : (b : Bool) → cond b 1 0 ≤ 1
-    one-at-most true = omega arith
-    one-at-most false = omega arith
+count-at-most (suc n) p = let e = count-at-most n p in let c = cond-at-most (p n) in omega (arith, e, c)
 
 pub largest-more : (n : ℕ) (f : ℕ → ℕ) → largestBelow (n + 1) f ≡ max (largestBelow n f) (f n)
 unfolding largestBelow
 largest-more n f = rw (add-one n)
+
+pub count-none : (p : ℕ → Bool) → countBelow 0 p ≡ 0
+unfolding countBelow
+count-none p = refl
+
+pub largest-none : (f : ℕ → ℕ) → largestBelow 0 f ≡ 0
+unfolding largestBelow
+largest-none f = refl
+
+pub equal : (a b : ℕ) → a ≤ b → b ≤ a → a ≡ b
+equal a b h g = omega arith

@@ -11,7 +11,7 @@ use borrow.Author.Tests.{lt-ltb, le-leb}
 use Rattle.meaning.specs.Query.{recordCount, recordKind, recordChildren, Decoded, DecodedClauses, decode, decodeClauses, isPhraseTerm}
 use Rattle.query.proofs.Inverse.{opened, one-clause, record-here, term-at, phrase-at, boolean-at, range-at, all-at, constant-at, boost-at, none-at, kind-is, KindIs, is-term, is-phrase, is-boolean, is-range, is-all, is-constant, is-boost, is-none, some-same}
 
-nothing : {A : Type 0} {P : Type 0} (x : A) → _≡_ {A = Option A} none (some x) → P
+pub nothing : {A : Type 0} {P : Type 0} (x : A) → _≡_ {A = Option A} none (some x) → P
 nothing x e = let z : _≡_ {A = ℕ} 0 1 = cc in absurd (omega arith)
 
 -- ---- a tree ends after its own record and within the query
@@ -30,7 +30,7 @@ clauses-span q at f (suc n) r C h e =
     let past = s .past in
     (omega (arith, past, more .0, same), omega (arith, more .1, same))
 
-no-depth : (q : List ℕ) (r : ℕ) (D : Decoded) → decode q zero r ≡ some D → none ≡ some D
+pub no-depth : (q : List ℕ) (r : ℕ) (D : Decoded) → decode q zero r ≡ some D → none ≡ some D
 unfolding decode
 no-depth q r D e = e
 
@@ -58,3 +58,65 @@ tree-span q (suc k) r D e = go (tree-span q k) (kind-is q k r D e)
     go f (is-constant h) = let c = constant-at q k r D e h in child (c .child) (c .next-is) (f (r + 1) (c .child) (c .decoded))
     go f (is-boost h) = let c = boost-at q k r D e h in child (c .child) (c .next-is) (f (r + 1) (c .child) (c .decoded))
     go f (is-none h) = leaf (none-at q k r D e h .next-is)
+
+-- ---- each record from a tree's to its end stands for a tree, or for a phrase's term
+pub data Stands (q : List ℕ) (i : ℕ) : Type 0 where
+  a-tree : (k : ℕ) (D : Decoded) → decode q (suc k) i ≡ some D → Stands q i
+  a-phrase-term : isPhraseTerm q i ≡ true → Stands q i
+
+-- r itself, or one after it
+from-or : (r i : ℕ) → r ≤ i → (i ≡ r) ⊎ (r + 1 ≤ i)
+from-or zero zero h = inl refl
+from-or zero (suc i) h = inr (omega arith)
+from-or (suc r) zero h = absurd (omega (arith, h))
+from-or (suc r) (suc i) h = elim (from-or r i (omega (arith, h))) [
+  | inl e ↦ inl (ap suc e)
+  | inr g ↦ inr (omega (arith, g))
+]
+
+before-or : (e i : ℕ) → (i < e) ⊎ (e ≤ i)
+before-or zero i = inr (omega arith)
+before-or (suc e) zero = inl (omega arith)
+before-or (suc e) (suc i) = elim (before-or e i) [
+  | inl h ↦ inl (omega (arith, h))
+  | inr h ↦ inr (omega (arith, h))
+]
+
+abbrev Standing : List ℕ → ℕ → ℕ → Type 0
+Standing q r e = (i : ℕ) → r ≤ i → i < e → Stands q i
+
+clauses-stand : (q : List ℕ) (at : ℕ → Option Decoded) → ((r : ℕ) (D : Decoded) → at r ≡ some D → Standing q r (D .next)) → (n r : ℕ) (C : DecodedClauses) → decodeClauses q at n r ≡ some C → Standing q r (C .next)
+unfolding decodeClauses
+clauses-stand q at f zero r C e i h g = let same = ap DecodedClauses.next (some-same _ C e) in absurd (omega (arith, same, h, g))
+clauses-stand q at f (suc n) r C e i h g =
+    let o = one-clause q at n r C e in
+    let same = o .next-is in
+    elim (before-or (o .first .next) i) [
+      | inl b ↦ f r (o .first) (o .first-is) i h b
+      | inr b ↦ clauses-stand q at f n (o .first .next) (o .rest) (o .rest-is) i b (omega (arith, same, g))
+    ]
+
+pub tree-stands : (q : List ℕ) (k r : ℕ) (D : Decoded) → decode q k r ≡ some D → Standing q r (D .next)
+tree-stands q zero r D e i h g = nothing D (no-depth q r D e)
+tree-stands q (suc k) r D e i h g = here-or (tree-stands q k) (from-or r i h)
+  where
+    after : ((r : ℕ) (D : Decoded) → decode q k r ≡ some D → Standing q r (D .next)) → r + 1 ≤ i → KindIs (recordKind q r) → Stands q i
+    after f b (is-term h) = let n = term-at q k r D e h .next-is in absurd (omega (arith, n, b, g))
+    after f b (is-phrase h) =
+        let p = phrase-at q k r D e h in
+        let n = p .next-is in
+        let at : r + 1 + (i - (r + 1)) ≡ i = omega (arith, b) in
+        a-phrase-term (subst (λ (z : ℕ). isPhraseTerm q z ≡ true) at (p .terms-are (i - (r + 1)) (omega (arith, n, b, g))))
+    after f b (is-boolean h) =
+        let o = boolean-at q k r D e h in
+        let n = o .next-is in
+        clauses-stand q (decode q k) f (recordChildren q r) (r + 1) (o .inside) (o .decoded) i b (omega (arith, n, g))
+    after f b (is-range h) = let n = range-at q k r D e h .next-is in absurd (omega (arith, n, b, g))
+    after f b (is-all h) = let n = all-at q k r D e h .next-is in absurd (omega (arith, n, b, g))
+    after f b (is-constant h) = let c = constant-at q k r D e h in let n = c .next-is in f (r + 1) (c .child) (c .decoded) i b (omega (arith, n, g))
+    after f b (is-boost h) = let c = boost-at q k r D e h in let n = c .next-is in f (r + 1) (c .child) (c .decoded) i b (omega (arith, n, g))
+    after f b (is-none h) = let n = none-at q k r D e h .next-is in absurd (omega (arith, n, b, g))
+
+    here-or : ((r : ℕ) (D : Decoded) → decode q k r ≡ some D → Standing q r (D .next)) → (i ≡ r) ⊎ (r + 1 ≤ i) → Stands q i
+    here-or f (inl a) = a-tree k D (subst (λ (z : ℕ). decode q (suc k) z ≡ some D) (sym a) e)
+    here-or f (inr b) = after f b (kind-is q k r D e)

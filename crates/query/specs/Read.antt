@@ -1,15 +1,17 @@
 -- What this crate's functions read of the query and of the index. Assumes nothing: these are definitions.
-use mathlib.Core.Bool.{Bool, true, false, cond}
+use mathlib.Core.Bool.{Bool, true, false, not, cond, _&&_, _||_}
 use mathlib.Core.List.{List}
 use mathlib.Core.Option.{Option, none, some}
 use mathlib.Core.Path.{_≡_}
 use Prim.Native.Nat.{ℕ, _+_, _*_, _/_, _≤_, _<_}
+use lib.Dec.{eqb, leb, ltb}
 use lib.ListN.{length, getD}
 use lib.Ieee.{Float}
-use Rattle.meaning.specs.Limits.{largestBoost}
-use Rattle.meaning.specs.Lent.{Index}
+use Rattle.meaning.specs.Below.{anyBelow}
+use Rattle.meaning.specs.Limits.{noMoreDocs, largestBoost}
+use Rattle.meaning.specs.Lent.{Index, joined}
 use Rattle.meaning.specs.Query.{recordCount, recordKind, recordOccurrence, recordChildren, recordValue, Kind, childrenFit, Decoded, DecodedClauses, treeOf, Clauses, empty}
-use Rattle.meaning.specs.QueryRefusals.{carriesAbove, clausesAbove}
+use Rattle.meaning.specs.QueryRefusals.{unusedFrom, carriesAbove, clausesAbove}
 
 -- the record after a decoded tree, and 0, which is after none, where nothing is decoded
 abbrev pub endOf : Option Decoded → ℕ
@@ -45,9 +47,37 @@ pub record Lends (ix : Index) (fields leaves columns : List ℕ) : Type 0 where
   pub columns-are : ix .columns ≡ columns
 
 -- each boost is at most 65,536, and so no NaN
-abbrev pub BoostsFit : List ℕ → Type 0
-BoostsFit q = (r : ℕ) → r < recordCount q → recordKind q r ≡ 7 → recordValue q r 0 ≤ largestBoost
+pub record Boosts (q : List ℕ) : Type 0 where
+  pub fit : (r : ℕ) → r < recordCount q → recordKind q r ≡ 7 → recordValue q r 0 ≤ largestBoost
 
 -- each phrase's field is among the fields
-abbrev pub FieldsFit : List ℕ → List ℕ → Type 0
-FieldsFit q fields = (r : ℕ) → r < recordCount q → recordKind q r ≡ 2 → recordValue q r 0 < length fields / 3
+pub record PhraseFields (q fields : List ℕ) : Type 0 where
+  pub present : (r : ℕ) → r < recordCount q → recordKind q r ≡ 2 → recordValue q r 0 < length fields / 3
+
+-- each PhraseTerm's leaf is among the leaves, and its run among the postings
+pub record PhraseRuns (q leaves postings : List ℕ) : Type 0 where
+  pub present : (r : ℕ) → r < recordCount q → recordKind q r ≡ 9 → recordValue q r 0 < length leaves / 4
+  pub within : (r : ℕ) → r < recordCount q → recordKind q r ≡ 9 → getD leaves (4 * recordValue q r 0 + 1) 0 + getD leaves (4 * recordValue q r 0 + 2) 0 ≤ length postings / 3
+
+-- ---- refusal 8 in a record of a kind, as QueryRefusals has it, for the slices that it looks at
+abbrev pub termWrong : List ℕ → List ℕ → ℕ → Bool
+termWrong leaves q r = leb (length leaves / 4) (recordValue q r 0) || unusedFrom q r 1
+
+abbrev pub anyOtherField : List ℕ → List ℕ → ℕ → Bool
+anyOtherField leaves q r = anyBelow (recordChildren q r) (λ j. not (eqb (getD leaves (4 * recordValue q (r + 1 + j) 0) 0) (recordValue q r 0)))
+
+abbrev pub phraseWrong : List ℕ → List ℕ → List ℕ → ℕ → Bool
+phraseWrong fields leaves q r = leb (length fields / 3) (recordValue q r 0) || unusedFrom q r 1 || anyOtherField leaves q r
+
+abbrev pub unboundedSet : ℕ → ℕ → ℕ → Bool
+unboundedSet kind low high = eqb kind 0 && not (eqb (joined low high) 0)
+
+abbrev pub boostWrong : List ℕ → ℕ → Bool
+boostWrong q r = ltb largestBoost (recordValue q r 0) || unusedFrom q r 1
+
+abbrev pub phraseTermWrong : List ℕ → List ℕ → ℕ → Bool
+phraseTermWrong leaves q r = leb (length leaves / 4) (recordValue q r 0) || ltb noMoreDocs (recordValue q r 1) || unusedFrom q r 2
+
+-- refusal 10 in a record
+abbrev pub withoutPositions : List ℕ → List ℕ → ℕ → Bool
+withoutPositions fields q r = eqb (recordKind q r) 2 && not (eqb (getD fields (3 * recordValue q r 0 + 2) 0) 1)
