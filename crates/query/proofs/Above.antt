@@ -1,23 +1,22 @@
 -- Refusal 9: the boost that is carried down a tree, as the code carries it. Assumes nothing.
 use mathlib.Core.Path.{_≡_, refl, sym, _∙_, ap, subst}
-use mathlib.Core.Bool.{Bool, true, false, not, cond, _||_, _&&_}
+use mathlib.Core.Bool.{Bool, true, false, not, cond}
 use mathlib.Core.List.{List}
-use mathlib.Core.Option.{Option, none, some}
-use Prim.Native.Nat.{ℕ, zero, suc, _+_, _-_, _*_, _%_, _≤_, _<_}
+use mathlib.Core.Option.{Option, some}
+use Prim.Native.Nat.{ℕ, zero, suc, _+_, _-_, _%_, _≤_, _<_}
 use native.Mathlib.Omega.{arith}
 use native.Mathlib.Nat.{not-suc-le-zero}
-use lib.Dec.{T, eqb, leb, ltb}
+use lib.Dec.{T, eqb}
 use lib.Ieee.{Float, binary32, lt, ofBits, nanBits}
 use lib.Ieee.Bits.{nanBits-above}
 use borrow.Author.Tests.{le-ltb, eq-eqb, ne-eqb}
 use Rattle.meaning.specs.Limits.{largestBoost}
 use Rattle.meaning.specs.Ieee754.{zeroFloat}
 use Rattle.meaning.specs.Score.{boosted, passed}
-use Rattle.meaning.specs.Query.{recordCount, recordKind, recordOccurrence, recordChildren, recordValue, Occur, must, should, mustNot, filter, occurOf, Tree, term, phrase, boolean, range, matchAll, constantScore, boost, matchNone, Clauses, empty, clause, Decoded, DecodedClauses, decode, decodeClauses, treeOf}
+use Rattle.meaning.specs.Query.{recordCount, recordKind, recordChildren, recordValue, Occur, must, should, mustNot, filter, occurOf, Tree, term, phrase, boolean, range, matchAll, constantScore, boost, matchNone, empty, Decoded, DecodedClauses, decode, decodeClauses, treeOf}
 use Rattle.meaning.specs.Bm25.{one}
 use Rattle.meaning.specs.QueryRefusals.{wrong7, aboveLimit, carriesAbove, clausesAbove, wrong9}
-use Rattle.query.specs.Read.{endOf, endOfClauses, clausesOf, endBelowLimit, clausesBelowLimit}
-use Rattle.query.proofs.Steps.{one-less}
+use Rattle.query.specs.Read.{endBelowLimit, clausesBelowLimit}
 use Rattle.query.proofs.Inverse.{OneClause, one-clause, record-here, term-at, phrase-at, boolean-at, range-at, all-at, constant-at, boost-at, none-at, kind-is, KindIs, is-term, is-phrase, is-boolean, is-range, is-all, is-constant, is-boost, is-none, some-same}
 use Rattle.query.proofs.Whole.{whole}
 use Rattle.query.proofs.Spans.{tree-span, no-depth, nothing}

@@ -1,23 +1,20 @@
 -- What refusal 8 lets through, and the lowest of the four numbers. Assumes nothing.
-use mathlib.Core.Path.{_≡_, refl, sym, _∙_, ap, subst}
-use mathlib.Core.Bool.{Bool, true, false, not, cond, _||_, _&&_}
+use mathlib.Core.Path.{_≡_, refl}
+use mathlib.Core.Bool.{Bool, true, false, not, _||_}
 use mathlib.Core.List.{List, [], _∷_}
-use mathlib.Core.Option.{Option, none, some}
-use Prim.Native.Nat.{ℕ, zero, suc, _+_, _-_, _*_, _/_, _%_, _≤_, _<_}
-use native.Mathlib.Omega.{arith}
+use Prim.Native.Nat.{ℕ, _+_, _%_, _≤_, _<_}
 use lib.Dec.{eqb, leb, ltb}
-use lib.ListN.{length, getD}
+use lib.ListN.{length}
 use borrow.Author.Tests.{ltb-false, leb-false, eqb-true, not-false}
 use Rattle.meaning.specs.Below.{anyBelow}
 use Rattle.meaning.specs.Limits.{noMoreDocs, largestBoost, largestIdf}
 use Rattle.meaning.specs.Lent.{Index, fieldCount, leafCount, leafField, leafFirst, leafNumber, leafIdf, postingCount, columnCount}
 use Rattle.meaning.specs.Refusals.{lowest, _when_}
-use Rattle.meaning.specs.Query.{kindOf, recordCount, recordKind, recordChildren, recordValue, rangeOf, isPhraseTerm}
+use Rattle.meaning.specs.Query.{kindOf, recordCount, recordKind, recordChildren, recordValue, rangeOf}
 use Rattle.meaning.specs.IndexRefusals.{wrong4, wrongLeaf}
-use Rattle.meaning.specs.QueryRefusals.{wrong7, wrong8, wrong9, wrong10, wrongValues, wrongKind, wrongRange, unusedFrom, otherField}
+use Rattle.meaning.specs.QueryRefusals.{wrong8, wrongValues, wrongKind, wrongRange, unusedFrom, otherField}
 use Rattle.query.specs.Read.{Lends, Boosts, PhraseFields, PhraseRuns}
 use Rattle.query.proofs.Below.{none-below, false-left, false-right}
-use Rattle.query.proofs.Inverse.{both-true}
 
 module _ (ix : Index) (q : List ℕ) (e : wrong8 ix q ≡ false) (r : ℕ) (h : r < recordCount q) where
   record-right : wrongValues ix q r (kindOf (recordKind q r)) ≡ false

@@ -1,6 +1,6 @@
 -- The numbers below a bound that have a property, one by one. Assumes nothing.
-use mathlib.Core.Path.{_≡_, refl, sym, _∙_, ap, subst}
-use mathlib.Core.Bool.{Bool, true, false, cond, not, _||_, _&&_}
+use mathlib.Core.Path.{_≡_, refl, sym, ap, subst}
+use mathlib.Core.Bool.{Bool, true, false, cond, _||_}
 use mathlib.Core.Logic.{_⊎_, inl, inr}
 use Prim.Native.Nat.{ℕ, zero, suc, _+_, _≤_, _<_, max}
 use native.Mathlib.Omega.{arith}
@@ -27,7 +27,7 @@ false-right true b e = absurd (let z : _≡_ {A = ℕ} 0 1 = cc in omega arith)
 false-right false b e = e
 
 -- the last number below suc n, or one below n
-last-or : (i n : ℕ) → i < suc n → (i < n) ⊎ (i ≡ n)
+pub last-or : (i n : ℕ) → i < suc n → (i < n) ⊎ (i ≡ n)
 last-or zero zero h = inr refl
 last-or zero (suc n) h = inl (omega arith)
 last-or (suc i) zero h = absurd (omega (arith, h))

@@ -1,14 +1,14 @@
 -- What a decoded tree says of the records that it was decoded from. Assumes nothing.
-use mathlib.Core.Path.{_≡_, refl, sym, _∙_, ap, subst}
-use mathlib.Core.Bool.{Bool, true, false, not, cond, _||_, _&&_}
-use mathlib.Core.List.{List, []}
+use mathlib.Core.Path.{_≡_, refl, sym, _∙_, ap}
+use mathlib.Core.Bool.{Bool, true, false, not, _&&_}
+use mathlib.Core.List.{List}
 use mathlib.Core.Option.{Option, none, some}
-use Prim.Native.Nat.{ℕ, zero, suc, _+_, _-_, _≤_, _<_}
+use Prim.Native.Nat.{ℕ, zero, suc, _+_, _≤_, _<_}
 use native.Mathlib.Omega.{arith}
 use lib.Dec.{eqb, leb, ltb}
 use borrow.Author.Tests.{ltb-true, leb-true, eqb-true, not-true, not-false}
 use Rattle.meaning.specs.Below.{anyBelow}
-use Rattle.meaning.specs.Query.{Kind, aTerm, aPhrase, aBoolean, aRange, aMatchAll, aConstantScore, aBoost, aMatchNone, aPhraseTerm, kindOf, childrenFit, recordCount, recordKind, recordOccurrence, recordChildren, recordValue, rangeOf, phraseTermsOf, Occur, occurOf, Tree, term, phrase, boolean, range, matchAll, constantScore, boost, matchNone, Clauses, empty, clause, Decoded, DecodedClauses, decode, decodeKind, decodeClauses, decodeChild, decodePhrase, isPhraseTerm, guard, _>>=_}
+use Rattle.meaning.specs.Query.{Kind, aTerm, aPhrase, aBoolean, aRange, aMatchAll, aConstantScore, aBoost, aMatchNone, aPhraseTerm, kindOf, childrenFit, recordCount, recordKind, recordOccurrence, recordChildren, recordValue, rangeOf, phraseTermsOf, Occur, occurOf, Tree, term, phrase, boolean, range, matchAll, constantScore, boost, matchNone, clause, Decoded, DecodedClauses, decode, decodeKind, decodeClauses, decodeChild, decodePhrase, isPhraseTerm, guard, _>>=_}
 use Rattle.query.proofs.Below.{none-below}
 
 -- ---- what a step of decoding that ends in something says

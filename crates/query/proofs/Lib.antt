@@ -9,3 +9,5 @@ pub mod Values
 pub mod Above
 pub mod Accepted
 pub mod Needs
+pub mod Deeper
+pub mod Right

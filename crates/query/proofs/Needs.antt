@@ -1,14 +1,14 @@
 -- What refusal 12 asks for, as the code comes to it. Assumes nothing.
-use mathlib.Core.Path.{_≡_, refl, sym, _∙_, ap, subst}
-use mathlib.Core.Bool.{Bool, true, false, cond}
+use mathlib.Core.Path.{_≡_, sym, _∙_, ap}
+use mathlib.Core.Bool.{cond}
 use mathlib.Core.List.{List}
-use Prim.Native.Nat.{ℕ, zero, suc, _+_, _-_, _*_, _^_, _≤_, _<_}
+use Prim.Native.Nat.{ℕ, _+_, _*_, _^_, _≤_, _<_}
 use native.Mathlib.Omega.{arith}
-use native.Mathlib.Nat.{le-trans, mul-le-mul, lt-of-le-of-lt}
+use native.Mathlib.Nat.{mul-le-mul, lt-of-le-of-lt}
 use lib.Dec.{eqb, lit<}
 use lib.ListN.{length, getD}
 use borrow.Author.Tests.{eq-eqb, ne-eqb}
-use Rattle.meaning.specs.Below.{countBelow, largestBelow}
+use Rattle.meaning.specs.Below.{largestBelow}
 use Rattle.meaning.specs.Lent.{Index}
 use Rattle.meaning.specs.Query.{recordCount, recordKind, recordValue}
 use Rattle.meaning.specs.CallRefusals.{rangeRecords, rangesNeeded, largestIn, startsNeeded}

@@ -1,15 +1,13 @@
 -- Where a decoded tree ends, that more depth decodes the same, and that each of its records stands for a tree or a phrase's term. Assumes nothing.
-use mathlib.Core.Path.{_≡_, refl, sym, _∙_, ap, subst}
-use mathlib.Core.Bool.{Bool, true, false, not, cond, _||_, _&&_}
-use mathlib.Core.List.{List, []}
+use mathlib.Core.Path.{_≡_, refl, sym, ap, subst}
+use mathlib.Core.Bool.{true}
+use mathlib.Core.List.{List}
 use mathlib.Core.Option.{Option, none, some}
 use mathlib.Core.Logic.{_⊎_, inl, inr}
 use Prim.Native.Nat.{ℕ, zero, suc, _+_, _-_, _≤_, _<_}
 use native.Mathlib.Omega.{arith}
-use lib.Dec.{eqb, leb, ltb}
-use borrow.Author.Tests.{lt-ltb, le-leb}
 use Rattle.meaning.specs.Query.{recordCount, recordKind, recordChildren, Decoded, DecodedClauses, decode, decodeClauses, isPhraseTerm}
-use Rattle.query.proofs.Inverse.{opened, one-clause, record-here, term-at, phrase-at, boolean-at, range-at, all-at, constant-at, boost-at, none-at, kind-is, KindIs, is-term, is-phrase, is-boolean, is-range, is-all, is-constant, is-boost, is-none, some-same}
+use Rattle.query.proofs.Inverse.{one-clause, record-here, term-at, phrase-at, boolean-at, range-at, all-at, constant-at, boost-at, none-at, kind-is, KindIs, is-term, is-phrase, is-boolean, is-range, is-all, is-constant, is-boost, is-none, some-same}
 
 pub nothing : {A : Type 0} {P : Type 0} (x : A) → _≡_ {A = Option A} none (some x) → P
 nothing x e = let z : _≡_ {A = ℕ} 0 1 = cc in absurd (omega arith)

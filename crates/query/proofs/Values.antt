@@ -1,21 +1,19 @@
 -- Refusals 8 and 10: how the code comes to them, record by record. Assumes nothing.
-use mathlib.Core.Path.{_≡_, refl, sym, _∙_, ap, subst}
-use mathlib.Core.Bool.{Bool, true, false, not, cond, _||_, _&&_}
+use mathlib.Core.Path.{_≡_, refl, sym}
+use mathlib.Core.Bool.{Bool, true, false, not, _||_, _&&_}
 use mathlib.Core.List.{List}
-use mathlib.Core.Option.{Option, none, some}
-use Prim.Native.Nat.{ℕ, zero, suc, _+_, _-_, _*_, _/_, _%_, _^_, _≤_, _<_}
+use mathlib.Core.Option.{none}
+use Prim.Native.Nat.{ℕ, zero, suc, _+_, _*_, _/_, _%_, _≤_, _<_}
 use native.Mathlib.Omega.{arith}
 use lib.Dec.{eqb, leb, ltb}
 use lib.ListN.{length, getD}
 use borrow.Author.Tests.{lt-ltb, le-ltb, eq-eqb, ne-eqb, le-leb, lt-leb}
-use Rattle.meaning.specs.Below.{anyBelow}
 use Rattle.meaning.specs.Lent.{Index, joined}
 use Rattle.meaning.specs.Range.{NumericRange}
-use Rattle.meaning.specs.Query.{kindOf, recordCount, recordKind, recordChildren, recordValue, rangeOf}
+use Rattle.meaning.specs.Query.{kindOf, recordCount, recordKind, recordValue, rangeOf}
 use Rattle.meaning.specs.QueryRefusals.{unusedFrom, wrongRange, otherField, wrongKind, wrongValues, wrong8, wrong10}
-use Rattle.query.specs.Read.{Lends, termWrong, phraseWrong, anyOtherField, unboundedSet, boostWrong, phraseTermWrong, withoutPositions}
+use Rattle.query.specs.Read.{Lends, termWrong, phraseWrong, unboundedSet, boostWrong, phraseTermWrong, withoutPositions}
 use Rattle.query.proofs.Below.{any-false, any-true, or-left, or-right}
-use Rattle.query.proofs.Steps.{no-kind}
 
 -- ---- unused values
 abbrev pub usedAt : List ℕ → ℕ → ℕ → ℕ → Bool

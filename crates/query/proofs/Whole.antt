@@ -1,14 +1,14 @@
 -- Refusal 7: how the code comes to it, and what is known of a query that it lets through. Assumes nothing.
-use mathlib.Core.Path.{_≡_, refl, sym, _∙_, ap, subst}
-use mathlib.Core.Bool.{Bool, true, false, not, cond, _||_, _&&_}
+use mathlib.Core.Path.{_≡_, refl, sym, ap}
+use mathlib.Core.Bool.{true, false, not, _||_, _&&_}
 use mathlib.Core.List.{List}
 use mathlib.Core.Option.{Option, none, some}
-use Prim.Native.Nat.{ℕ, zero, suc, _+_, _-_, _%_, _≤_, _<_}
+use Prim.Native.Nat.{ℕ, zero, suc, _+_, _%_, _≤_, _<_}
 use native.Mathlib.Omega.{arith}
-use lib.Dec.{eqb, leb, ltb}
+use lib.Dec.{eqb, ltb}
 use lib.ListN.{length}
-use borrow.Author.Tests.{lt-ltb, le-ltb, eq-eqb, ne-eqb, ltb-true, ltb-false, eqb-true, eqb-false, not-true, not-false}
-use Rattle.meaning.specs.Query.{recordCount, recordKind, recordChildren, recordOccurrence, Decoded, decode, decodeQuery, queryTree, treeOf, guard, _>>=_}
+use borrow.Author.Tests.{lt-ltb, le-ltb, eq-eqb, ne-eqb, ltb-false, eqb-true, eqb-false, not-false}
+use Rattle.meaning.specs.Query.{recordCount, recordKind, recordChildren, recordOccurrence, Decoded, decode, decodeQuery, queryTree, treeOf, guard}
 use Rattle.meaning.specs.QueryRefusals.{wrong7, wrongRecords}
 use Rattle.query.specs.Read.{endOf}
 use Rattle.query.proofs.Below.{or-left, or-right, false-left, false-right}

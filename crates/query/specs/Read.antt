@@ -11,7 +11,13 @@ use Rattle.meaning.specs.Below.{anyBelow}
 use Rattle.meaning.specs.Limits.{noMoreDocs, largestBoost}
 use Rattle.meaning.specs.Lent.{Index, joined}
 use Rattle.meaning.specs.Query.{recordCount, recordKind, recordOccurrence, recordChildren, recordValue, Kind, childrenFit, Decoded, DecodedClauses, treeOf, Clauses, empty}
+use Rattle.query.specs.declared.Record.{Record}
 use Rattle.meaning.specs.QueryRefusals.{unusedFrom, carriesAbove, clausesAbove}
+
+-- the record at r, by value
+abbrev pub recordOf : List ℕ → ℕ → Record
+recordOf q r =
+    record { kind = recordKind q r; occurrence = recordOccurrence q r; children = recordChildren q r; v0 = recordValue q r 0; v1 = recordValue q r 1; v2 = recordValue q r 2; v3 = recordValue q r 3; v4 = recordValue q r 4; v5 = recordValue q r 5 }
 
 -- the record after a decoded tree, and 0, which is after none, where nothing is decoded
 abbrev pub endOf : Option Decoded → ℕ

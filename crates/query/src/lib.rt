@@ -15,7 +15,7 @@ ghost use Rattle.meaning.specs.Query.{recordCount, recordKind, recordOccurrence
 ghost use Rattle.meaning.specs.Score.{passed};
 ghost use Rattle.meaning.specs.QueryRefusals.{wrong7, wrong8, wrong9, wrong10, unusedFrom, wrongRange, wrongValues};
 ghost use Rattle.meaning.specs.CallRefusals.{rangeRecords, statesNeeded, rangesNeeded, largestIn, startsNeeded};
-ghost use Rattle.query.specs.Read.{endOf, endOfClauses, fitting, endBelowLimit, clausesBelowLimit, Lends, Boosts, PhraseFields, PhraseRuns, termWrong, phraseWrong, anyOtherField, unboundedSet, boostWrong, phraseTermWrong, withoutPositions};
+ghost use Rattle.query.specs.Read.{recordOf, endOf, endOfClauses, fitting, endBelowLimit, clausesBelowLimit, Lends, Boosts, PhraseFields, PhraseRuns, termWrong, phraseWrong, anyOtherField, unboundedSet, boostWrong, phraseTermWrong, withoutPositions};
 
 fn wide(x: u32) -> usize
     ensures { λ r. ⌜ r ≡ x ⌝ }
@@ -57,6 +57,36 @@ pub fn value(q: &[u32], at: usize, v: usize) -> u32
     ensures { λ r. ⌜ r ≡ recordValue (now (q .entry)) at v ⌝ }
 {
     q[9 * at + 3 + v]
+}
+
+// A whole record by value, for whoever looks at most of its words.
+pub struct Record {
+    pub kind: u32,
+    pub occurrence: u32,
+    pub children: u32,
+    pub v0: u32,
+    pub v1: u32,
+    pub v2: u32,
+    pub v3: u32,
+    pub v4: u32,
+    pub v5: u32,
+}
+
+pub fn record_at(q: &[u32], at: usize) -> Record
+    requires { ⌜ at < recordCount (now q) ⌝ }
+    ensures { λ r. ⌜ r ≡ recordOf (now (q .entry)) at ⌝ }
+{
+    Record {
+        kind: kind(q, at),
+        occurrence: occurrence(q, at),
+        children: children(q, at),
+        v0: value(q, at, 0),
+        v1: value(q, at, 1),
+        v2: value(q, at, 2),
+        v3: value(q, at, 3),
+        v4: value(q, at, 4),
+        v5: value(q, at, 5),
+    }
 }
 
 // Below a phrase stand PhraseTerms, of occurrence 0 and without children.

@@ -1,13 +1,13 @@
 -- The cycle of calls that passes a tree; the depth left falls. Assumes nothing.
 use borrow.Author.Needs.{needs}
-use mathlib.Core.Path.{_≡_, refl, sym, _∙_, ap, subst}
+use mathlib.Core.Path.{_≡_, sym, _∙_, ap}
 use native.Mathlib.Omega.{arith}
 use borrow.Author.Tests.{eq-eqb, ne-eqb, le-leb, lt-leb}
-use Rattle.meaning.specs.Query.{aBoolean, aBoost, recordChildren, recordKind, recordOccurrence, occurOf, decode, decodeClauses}
+use Rattle.meaning.specs.Query.{aBoolean, aBoost, recordChildren, recordOccurrence, occurOf, decode, decodeClauses}
 use Rattle.query.specs.Read.{endOfClauses}
 use Rattle.query.proofs.Steps.{fit-no, fit-zero, fit-yes, end-root, end-missing, end-term, end-phrase, end-clauses, end-range, end-all, end-constant, end-boost, end-none, end-other, child-missing, child-placed, child-there}
 use Rattle.query.proofs.Clauses.{no-occur-high, occur-known, clause-unknown, clause-none, clause-missing, clause-more, end-zero, no-clauses}
-use Prim.Native.Nat.{ℕ, _<_, _≤_, _+_, _-_, _*_}
+use Prim.Native.Nat.{ℕ, _<_, _+_, _*_}
 use borrow.Fn.Kinds.{In}
 use borrow.Fn.PlainCycle.{Measures, is, falls, and}
 use Rattle.query.proofs.child_end.Reads as child-end
@@ -72,7 +72,9 @@ child-end-children-requires : (t : ℕ) → child-end-lts.Need-children-requires
 child-end-children-requires t c κs = search needs
 
 child-end-returns : (t : ℕ) → child-end-lts.Need-returns (child-end-calls t) (child-end-at t) child-end.Post
-child-end-returns t c = fit-no aBoost (c .before .before .before .args .q .now) (c .before .before .before .args .at) _ (ne-eqb (recordChildren (c .before .before .before .args .q .now) (c .before .before .before .args .at)) 1 (λ e. c .if1 .taken (c .before .children .ensures ∙ e)))
+child-end-returns t c =
+    let s = c .before .before .before in let q = s .args .q .now in let at = s .args .at in
+    fit-no aBoost q at _ (ne-eqb (recordChildren q at) 1 (λ e. c .if1 .taken (c .before .children .ensures ∙ e)))
 
 child-end-record-count-requires : (t : ℕ) → child-end-lts.Need-record-count-requires (child-end-calls t) (child-end-at t) child-end.Post
 child-end-record-count-requires t c κs = search needs
@@ -81,7 +83,9 @@ child-end-add-if2 : (t : ℕ) → child-end-lts.Need-add-if2 (child-end-calls t)
 child-end-add-if2 t c = search needs
 
 child-end-returns-2 : (t : ℕ) → child-end-lts.Need-returns-2 (child-end-calls t) (child-end-at t) child-end.Post
-child-end-returns-2 t c = fit-zero aBoost (c .before .before .before .before .before .args .q .now) (c .before .before .before .before .before .args .at) _ (child-missing (c .before .before .before .before .before .args .q .now) (c .before .before .before .before .before .args .depth) (c .before .before .before .before .before .args .at) (omega arith))
+child-end-returns-2 t c =
+    let s = c .before .before .before .before .before in let q = s .args .q .now in let at = s .args .at in let depth = s .args .depth in
+    fit-zero aBoost q at _ (child-missing q depth at (omega arith))
 
 child-end-add-occurrence : (t : ℕ) → child-end-lts.Need-add-occurrence (child-end-calls t) (child-end-at t) child-end.Post
 child-end-add-occurrence t c = search needs
@@ -90,7 +94,9 @@ child-end-occurrence-requires : (t : ℕ) → child-end-lts.Need-occurrence-requ
 child-end-occurrence-requires t c κs = search needs
 
 child-end-returns-3 : (t : ℕ) → child-end-lts.Need-returns-3 (child-end-calls t) (child-end-at t) child-end.Post
-child-end-returns-3 t c = fit-zero aBoost (c .before .before .before .before .before .before .before .args .q .now) (c .before .before .before .before .before .before .before .args .at) _ (child-placed (c .before .before .before .before .before .before .before .args .q .now) (c .before .before .before .before .before .before .before .args .depth) (c .before .before .before .before .before .before .before .args .at) (λ e. c .if3 .taken (c .before .occurrence .ensures ∙ e)))
+child-end-returns-3 t c =
+    let s = c .before .before .before .before .before .before .before in let q = s .args .q .now in let at = s .args .at in let depth = s .args .depth in
+    fit-zero aBoost q at _ (child-placed q depth at (λ e. c .if3 .taken (c .before .occurrence .ensures ∙ e)))
 
 child-end-add-tree-end : (t : ℕ) → child-end-lts.Need-add-tree-end (child-end-calls t) (child-end-at t) child-end.Post
 child-end-add-tree-end t c = search needs
@@ -99,7 +105,9 @@ child-end-tree-end-requires : (t : ℕ) → child-end-lts.Need-tree-end-requires
 child-end-tree-end-requires t c κs = search needs
 
 child-end-returns-4 : (t : ℕ) → child-end-lts.Need-returns-4 (child-end-calls t) (child-end-at t) child-end.Post
-child-end-returns-4 t c = fit-yes aBoost (c .before .before .before .before .before .before .before .before .args .q .now) (c .before .before .before .before .before .before .before .before .args .at) _ _ (eq-eqb (recordChildren (c .before .before .before .before .before .before .before .before .args .q .now) (c .before .before .before .before .before .before .before .before .args .at)) 1 (sym (c .before .before .before .before .before .before .children .ensures) ∙ c .before .before .before .before .before .if1 .left)) (c .tree-end .ensures ∙ child-there (c .before .before .before .before .before .before .before .before .args .q .now) (c .before .before .before .before .before .before .before .before .args .depth) (c .before .before .before .before .before .before .before .before .args .at) (sym (c .before .before .occurrence .ensures) ∙ c .before .if3 .left))
+child-end-returns-4 t c =
+    let s = c .before .before .before .before .before .before .before .before in let q = s .args .q .now in let at = s .args .at in let depth = s .args .depth in
+    fit-yes aBoost q at _ _ (eq-eqb (recordChildren q at) 1 (sym (c .before .before .before .before .before .before .children .ensures) ∙ c .before .before .before .before .before .if1 .left)) (c .tree-end .ensures ∙ child-there q depth at (sym (c .before .before .occurrence .ensures) ∙ c .before .if3 .left))
 
 abbrev clauses-end-Inv-loop : clauses-end-lts.InvT-loop
 clauses-end-Inv-loop q depth at left₀ next₀ left next = endOfClauses (decodeClauses q (decode q depth) left next) ≡ endOfClauses (decodeClauses q (decode q depth) (recordChildren q at) (at + 1))
@@ -111,7 +119,9 @@ clauses-end-children-requires : (t : ℕ) → clauses-end-lts.Need-children-requ
 clauses-end-children-requires t c κs = search needs
 
 clauses-end-returns : (t : ℕ) → clauses-end-lts.Need-returns (clauses-end-calls t) (clauses-end-at t) clauses-end.Post clauses-end-Inv-loop clauses-end-μ-loop
-clauses-end-returns t c = fit-no aBoolean (c .before .before .before .args .q .now) (c .before .before .before .args .at) _ (lt-leb (recordChildren (c .before .before .before .args .q .now) (c .before .before .before .args .at)) 64 (omega arith))
+clauses-end-returns t c =
+    let s = c .before .before .before in let q = s .args .q .now in let at = s .args .at in
+    fit-no aBoolean q at _ (lt-leb (recordChildren q at) 64 (omega arith))
 
 clauses-end-add-next : (t : ℕ) → clauses-end-lts.Need-add-next (clauses-end-calls t) (clauses-end-at t) clauses-end.Post clauses-end-Inv-loop clauses-end-μ-loop
 clauses-end-add-next t c = search needs
@@ -123,22 +133,30 @@ clauses-end-record-count-requires : (t : ℕ) → clauses-end-lts.Need-record-co
 clauses-end-record-count-requires t c κs = search needs
 
 clauses-end-returns-2 : (t : ℕ) → clauses-end-lts.Need-returns-2 (clauses-end-calls t) (clauses-end-at t) clauses-end.Post clauses-end-Inv-loop clauses-end-μ-loop
-clauses-end-returns-2 t c = fit-zero aBoolean (c .before .before .before .before .before .before .before .args .q .now) (c .before .before .before .before .before .before .before .args .at) _ (sym (ap endOfClauses (clause-missing (c .before .before .before .before .before .before .before .args .q .now) (c .before .before .before .before .before .before .before .args .depth) (c .before .before .before .loop .left) (c .before .before .before .loop .next) (omega arith) (omega arith))) ∙ c .before .before .before .loop .inv)
+clauses-end-returns-2 t c =
+    let s = c .before .before .before .before .before .before .before in let q = s .args .q .now in let at = s .args .at in let depth = s .args .depth in
+    fit-zero aBoolean q at _ (sym (ap endOfClauses (clause-missing q depth (c .before .before .before .loop .left) (c .before .before .before .loop .next) (omega arith) (omega arith))) ∙ c .before .before .before .loop .inv)
 
 clauses-end-occurrence-requires : (t : ℕ) → clauses-end-lts.Need-occurrence-requires (clauses-end-calls t) (clauses-end-at t) clauses-end.Post clauses-end-Inv-loop clauses-end-μ-loop
 clauses-end-occurrence-requires t c κs = search needs
 
 clauses-end-returns-3 : (t : ℕ) → clauses-end-lts.Need-returns-3 (clauses-end-calls t) (clauses-end-at t) clauses-end.Post clauses-end-Inv-loop clauses-end-μ-loop
-clauses-end-returns-3 t c = fit-zero aBoolean (c .before .before .before .before .before .before .before .before .before .args .q .now) (c .before .before .before .before .before .before .before .before .before .args .at) _ (sym (ap endOfClauses (clause-unknown (c .before .before .before .before .before .before .before .before .before .args .q .now) (c .before .before .before .before .before .before .before .before .before .args .depth) (c .before .before .before .before .before .loop .left) (c .before .before .before .before .before .loop .next) (omega arith) (ap occurOf (sym (c .before .occurrence .ensures) ∙ c .if3 .taken)))) ∙ c .before .before .before .before .before .loop .inv)
+clauses-end-returns-3 t c =
+    let s = c .before .before .before .before .before .before .before .before .before in let q = s .args .q .now in let at = s .args .at in let depth = s .args .depth in
+    fit-zero aBoolean q at _ (sym (ap endOfClauses (clause-unknown q depth (c .before .before .before .before .before .loop .left) (c .before .before .before .before .before .loop .next) (omega arith) (ap occurOf (sym (c .before .occurrence .ensures) ∙ c .if3 .taken)))) ∙ c .before .before .before .before .before .loop .inv)
 
 clauses-end-returns-4 : (t : ℕ) → clauses-end-lts.Need-returns-4 (clauses-end-calls t) (clauses-end-at t) clauses-end.Post clauses-end-Inv-loop clauses-end-μ-loop
-clauses-end-returns-4 t c = fit-zero aBoolean (c .before .before .before .before .before .before .before .before .before .before .args .q .now) (c .before .before .before .before .before .before .before .before .before .before .args .at) _ (sym (ap endOfClauses (clause-unknown (c .before .before .before .before .before .before .before .before .before .before .args .q .now) (c .before .before .before .before .before .before .before .before .before .before .args .depth) (c .before .before .before .before .before .before .loop .left) (c .before .before .before .before .before .before .loop .next) (omega arith) (no-occur-high (recordOccurrence (c .before .before .before .before .before .before .before .before .before .before .args .q .now) (c .before .before .before .before .before .before .loop .next)) (omega arith)))) ∙ c .before .before .before .before .before .before .loop .inv)
+clauses-end-returns-4 t c =
+    let s = c .before .before .before .before .before .before .before .before .before .before in let q = s .args .q .now in let at = s .args .at in let depth = s .args .depth in
+    fit-zero aBoolean q at _ (sym (ap endOfClauses (clause-unknown q depth (c .before .before .before .before .before .before .loop .left) (c .before .before .before .before .before .before .loop .next) (omega arith) (no-occur-high (recordOccurrence q (c .before .before .before .before .before .before .loop .next)) (omega arith)))) ∙ c .before .before .before .before .before .before .loop .inv)
 
 clauses-end-tree-end-requires : (t : ℕ) → clauses-end-lts.Need-tree-end-requires (clauses-end-calls t) (clauses-end-at t) clauses-end.Post clauses-end-Inv-loop clauses-end-μ-loop
 clauses-end-tree-end-requires t c κs = search needs
 
 clauses-end-returns-5 : (t : ℕ) → clauses-end-lts.Need-returns-5 (clauses-end-calls t) (clauses-end-at t) clauses-end.Post clauses-end-Inv-loop clauses-end-μ-loop
-clauses-end-returns-5 t c = fit-zero aBoolean (c .before .before .before .before .before .before .before .before .before .before .before .before .args .q .now) (c .before .before .before .before .before .before .before .before .before .before .before .before .args .at) _ (sym (ap endOfClauses (clause-none (c .before .before .before .before .before .before .before .before .before .before .before .before .args .q .now) (c .before .before .before .before .before .before .before .before .before .before .before .before .args .depth) (c .before .before .before .before .before .before .before .before .loop .left) (c .before .before .before .before .before .before .before .before .loop .next) (omega arith) (end-zero (c .before .before .before .before .before .before .before .before .before .before .before .before .args .q .now) (c .before .before .before .before .before .before .before .before .before .before .before .before .args .depth) (c .before .before .before .before .before .before .before .before .loop .next) (sym (c .before .tree-end .ensures) ∙ c .if5 .taken)))) ∙ c .before .before .before .before .before .before .before .before .loop .inv)
+clauses-end-returns-5 t c =
+    let s = c .before .before .before .before .before .before .before .before .before .before .before .before in let q = s .args .q .now in let at = s .args .at in let depth = s .args .depth in
+    fit-zero aBoolean q at _ (sym (ap endOfClauses (clause-none q depth (c .before .before .before .before .before .before .before .before .loop .left) (c .before .before .before .before .before .before .before .before .loop .next) (omega arith) (end-zero q depth (c .before .before .before .before .before .before .before .before .loop .next) (sym (c .before .tree-end .ensures) ∙ c .if5 .taken)))) ∙ c .before .before .before .before .before .before .before .before .loop .inv)
 
 clauses-end-sub-left : (t : ℕ) → clauses-end-lts.Need-sub-left (clauses-end-calls t) (clauses-end-at t) clauses-end.Post clauses-end-Inv-loop clauses-end-μ-loop
 clauses-end-sub-left t c = search needs
@@ -147,20 +165,28 @@ clauses-end-loop-less : (t : ℕ) → clauses-end-lts.Need-loop-less (clauses-en
 clauses-end-loop-less t c = search needs
 
 clauses-end-loop-again : (t : ℕ) → clauses-end-lts.Need-loop-again (clauses-end-calls t) (clauses-end-at t) clauses-end.Post clauses-end-Inv-loop clauses-end-μ-loop
-clauses-end-loop-again t c = let o = occur-known (recordOccurrence (c .before .before .before .before .before .before .before .before .before .before .before .before .args .q .now) (c .before .before .before .before .before .before .before .before .loop .next)) (λ e. c .before .before .before .if3 .left (c .before .before .before .before .occurrence .ensures ∙ e)) (omega arith) in
-    clause-more (c .before .before .before .before .before .before .before .before .before .before .before .before .args .q .now) (c .before .before .before .before .before .before .before .before .before .before .before .before .args .depth) (c .before .before .before .before .before .before .before .before .loop .left) (c .before .before .before .before .before .before .before .before .loop .next) (c .before .tree-end .result) (o .0) (omega arith) (o .1) (c .before .tree-end .ensures) (c .if5 .left) ∙ c .before .before .before .before .before .before .before .before .loop .inv
+clauses-end-loop-again t c =
+    let s = c .before .before .before .before .before .before .before .before .before .before .before .before in let q = s .args .q .now in let depth = s .args .depth in
+    let o = occur-known (recordOccurrence q (c .before .before .before .before .before .before .before .before .loop .next)) (λ e. c .before .before .before .if3 .left (c .before .before .before .before .occurrence .ensures ∙ e)) (omega arith) in
+    clause-more q depth (c .before .before .before .before .before .before .before .before .loop .left) (c .before .before .before .before .before .before .before .before .loop .next) (c .before .tree-end .result) (o .0) (omega arith) (o .1) (c .before .tree-end .ensures) (c .if5 .left) ∙ c .before .before .before .before .before .before .before .before .loop .inv
 
 clauses-end-returns-6 : (t : ℕ) → clauses-end-lts.Need-returns-6 (clauses-end-calls t) (clauses-end-at t) clauses-end.Post clauses-end-Inv-loop clauses-end-μ-loop
-clauses-end-returns-6 t c = fit-yes aBoolean (c .before .before .before .before .before .args .q .now) (c .before .before .before .before .before .args .at) _ _ (le-leb (recordChildren (c .before .before .before .before .before .args .q .now) (c .before .before .before .before .before .args .at)) 64 (omega arith)) (no-clauses (c .before .before .before .before .before .args .q .now) (decode (c .before .before .before .before .before .args .q .now) (c .before .before .before .before .before .args .depth)) (c .before .loop .left) (c .before .loop .next) (omega arith) ∙ c .before .loop .inv)
+clauses-end-returns-6 t c =
+    let s = c .before .before .before .before .before in let q = s .args .q .now in let at = s .args .at in let depth = s .args .depth in
+    fit-yes aBoolean q at _ _ (le-leb (recordChildren q at) 64 (omega arith)) (no-clauses q (decode q depth) (c .before .loop .left) (c .before .loop .next) (omega arith) ∙ c .before .loop .inv)
 
 tree-end-returns : (t : ℕ) → tree-end-lts.Need-returns (tree-end-calls t) (tree-end-at t) tree-end.Post
-tree-end-returns t c = end-root (c .before .before .args .q .now) (c .before .before .args .at) (c .before .before .args .depth) (c .if1 .taken)
+tree-end-returns t c =
+    let s = c .before .before in let q = s .args .q .now in let at = s .args .at in let depth = s .args .depth in
+    end-root q at depth (c .if1 .taken)
 
 tree-end-record-count-requires : (t : ℕ) → tree-end-lts.Need-record-count-requires (tree-end-calls t) (tree-end-at t) tree-end.Post
 tree-end-record-count-requires t c κs = search needs
 
 tree-end-returns-2 : (t : ℕ) → tree-end-lts.Need-returns-2 (tree-end-calls t) (tree-end-at t) tree-end.Post
-tree-end-returns-2 t c = end-missing (c .before .before .before .before .args .q .now) (c .before .before .before .before .args .at) (c .before .before .before .before .args .depth) (omega arith)
+tree-end-returns-2 t c =
+    let s = c .before .before .before .before in let q = s .args .q .now in let at = s .args .at in let depth = s .args .depth in
+    end-missing q at depth (omega arith)
 
 tree-end-kind-requires : (t : ℕ) → tree-end-lts.Need-kind-requires (tree-end-calls t) (tree-end-at t) tree-end.Post
 tree-end-kind-requires t c κs = search needs
@@ -202,32 +228,50 @@ tree-end-leaf-end-requires-4 : (t : ℕ) → tree-end-lts.Need-leaf-end-requires
 tree-end-leaf-end-requires-4 t c κs = search needs
 
 tree-end-returns-3 : (t : ℕ) → tree-end-lts.Need-returns-3 (tree-end-calls t) (tree-end-at t) tree-end.Post
-tree-end-returns-3 t c = c .leaf-end .ensures ∙ end-term (c .before .before .before .before .before .before .before .args .q .now) (c .before .before .before .before .before .before .before .args .at) (c .before .before .before .before .before .before .before .args .depth) (c .before .before .before .before .before .if1 .left) (omega arith) (sym (c .before .before .kind .ensures) ∙ c .before .match .keys1)
+tree-end-returns-3 t c =
+    let s = c .before .before .before .before .before .before .before in let q = s .args .q .now in let at = s .args .at in let depth = s .args .depth in
+    c .leaf-end .ensures ∙ end-term q at depth (c .before .before .before .before .before .if1 .left) (omega arith) (sym (c .before .before .kind .ensures) ∙ c .before .match .keys1)
 
 tree-end-returns-4 : (t : ℕ) → tree-end-lts.Need-returns-4 (tree-end-calls t) (tree-end-at t) tree-end.Post
-tree-end-returns-4 t c = c .phrase-end .ensures ∙ end-phrase (c .before .before .before .before .before .before .before .args .q .now) (c .before .before .before .before .before .before .before .args .at) (c .before .before .before .before .before .before .before .args .depth) (c .before .before .before .before .before .if1 .left) (omega arith) (sym (c .before .before .kind .ensures) ∙ c .before .match .keys2)
+tree-end-returns-4 t c =
+    let s = c .before .before .before .before .before .before .before in let q = s .args .q .now in let at = s .args .at in let depth = s .args .depth in
+    c .phrase-end .ensures ∙ end-phrase q at depth (c .before .before .before .before .before .if1 .left) (omega arith) (sym (c .before .before .kind .ensures) ∙ c .before .match .keys2)
 
 tree-end-returns-5 : (t : ℕ) → tree-end-lts.Need-returns-5 (tree-end-calls t) (tree-end-at t) tree-end.Post
-tree-end-returns-5 t c = c .clauses-end .ensures ∙ end-clauses (c .before .before .before .before .before .before .before .args .q .now) (c .before .before .before .before .before .before .before .args .at) (c .before .before .before .before .before .before .before .args .depth) (c .before .before .before .before .before .if1 .left) (omega arith) (sym (c .before .before .kind .ensures) ∙ c .before .match .keys3)
+tree-end-returns-5 t c =
+    let s = c .before .before .before .before .before .before .before in let q = s .args .q .now in let at = s .args .at in let depth = s .args .depth in
+    c .clauses-end .ensures ∙ end-clauses q at depth (c .before .before .before .before .before .if1 .left) (omega arith) (sym (c .before .before .kind .ensures) ∙ c .before .match .keys3)
 
 tree-end-returns-6 : (t : ℕ) → tree-end-lts.Need-returns-6 (tree-end-calls t) (tree-end-at t) tree-end.Post
-tree-end-returns-6 t c = c .leaf-end2 .ensures ∙ end-range (c .before .before .before .before .before .before .before .args .q .now) (c .before .before .before .before .before .before .before .args .at) (c .before .before .before .before .before .before .before .args .depth) (c .before .before .before .before .before .if1 .left) (omega arith) (sym (c .before .before .kind .ensures) ∙ c .before .match .keys4)
+tree-end-returns-6 t c =
+    let s = c .before .before .before .before .before .before .before in let q = s .args .q .now in let at = s .args .at in let depth = s .args .depth in
+    c .leaf-end2 .ensures ∙ end-range q at depth (c .before .before .before .before .before .if1 .left) (omega arith) (sym (c .before .before .kind .ensures) ∙ c .before .match .keys4)
 
 tree-end-returns-7 : (t : ℕ) → tree-end-lts.Need-returns-7 (tree-end-calls t) (tree-end-at t) tree-end.Post
-tree-end-returns-7 t c = c .leaf-end3 .ensures ∙ end-all (c .before .before .before .before .before .before .before .args .q .now) (c .before .before .before .before .before .before .before .args .at) (c .before .before .before .before .before .before .before .args .depth) (c .before .before .before .before .before .if1 .left) (omega arith) (sym (c .before .before .kind .ensures) ∙ c .before .match .keys5)
+tree-end-returns-7 t c =
+    let s = c .before .before .before .before .before .before .before in let q = s .args .q .now in let at = s .args .at in let depth = s .args .depth in
+    c .leaf-end3 .ensures ∙ end-all q at depth (c .before .before .before .before .before .if1 .left) (omega arith) (sym (c .before .before .kind .ensures) ∙ c .before .match .keys5)
 
 tree-end-returns-8 : (t : ℕ) → tree-end-lts.Need-returns-8 (tree-end-calls t) (tree-end-at t) tree-end.Post
-tree-end-returns-8 t c = c .child-end .ensures ∙ end-constant (c .before .before .before .before .before .before .before .args .q .now) (c .before .before .before .before .before .before .before .args .at) (c .before .before .before .before .before .before .before .args .depth) (c .before .before .before .before .before .if1 .left) (omega arith) (sym (c .before .before .kind .ensures) ∙ c .before .match .keys6)
+tree-end-returns-8 t c =
+    let s = c .before .before .before .before .before .before .before in let q = s .args .q .now in let at = s .args .at in let depth = s .args .depth in
+    c .child-end .ensures ∙ end-constant q at depth (c .before .before .before .before .before .if1 .left) (omega arith) (sym (c .before .before .kind .ensures) ∙ c .before .match .keys6)
 
 tree-end-returns-9 : (t : ℕ) → tree-end-lts.Need-returns-9 (tree-end-calls t) (tree-end-at t) tree-end.Post
-tree-end-returns-9 t c = c .child-end2 .ensures ∙ end-boost (c .before .before .before .before .before .before .before .args .q .now) (c .before .before .before .before .before .before .before .args .at) (c .before .before .before .before .before .before .before .args .depth) (c .before .before .before .before .before .if1 .left) (omega arith) (sym (c .before .before .kind .ensures) ∙ c .before .match .keys7)
+tree-end-returns-9 t c =
+    let s = c .before .before .before .before .before .before .before in let q = s .args .q .now in let at = s .args .at in let depth = s .args .depth in
+    c .child-end2 .ensures ∙ end-boost q at depth (c .before .before .before .before .before .if1 .left) (omega arith) (sym (c .before .before .kind .ensures) ∙ c .before .match .keys7)
 
 tree-end-returns-10 : (t : ℕ) → tree-end-lts.Need-returns-10 (tree-end-calls t) (tree-end-at t) tree-end.Post
-tree-end-returns-10 t c = c .leaf-end4 .ensures ∙ end-none (c .before .before .before .before .before .before .before .args .q .now) (c .before .before .before .before .before .before .before .args .at) (c .before .before .before .before .before .before .before .args .depth) (c .before .before .before .before .before .if1 .left) (omega arith) (sym (c .before .before .kind .ensures) ∙ c .before .match .keys8)
+tree-end-returns-10 t c =
+    let s = c .before .before .before .before .before .before .before in let q = s .args .q .now in let at = s .args .at in let depth = s .args .depth in
+    c .leaf-end4 .ensures ∙ end-none q at depth (c .before .before .before .before .before .if1 .left) (omega arith) (sym (c .before .before .kind .ensures) ∙ c .before .match .keys8)
 
 tree-end-returns-11 : (t : ℕ) → tree-end-lts.Need-returns-11 (tree-end-calls t) (tree-end-at t) tree-end.Post
-tree-end-returns-11 t c = let no = c .match .rest in let is = c .before .kind .ensures in
-    end-other (c .before .before .before .before .before .before .args .q .now) (c .before .before .before .before .before .before .args .at) (c .before .before .before .before .before .before .args .depth) (λ e. no .0 .0 .0 .0 .0 .0 .0 .1 (is ∙ e)) (λ e. no .0 .0 .0 .0 .0 .0 .1 (is ∙ e)) (λ e. no .0 .0 .0 .0 .0 .1 (is ∙ e)) (λ e. no .0 .0 .0 .0 .1 (is ∙ e)) (λ e. no .0 .0 .0 .1 (is ∙ e)) (λ e. no .0 .0 .1 (is ∙ e)) (λ e. no .0 .1 (is ∙ e)) (λ e. no .1 (is ∙ e))
+tree-end-returns-11 t c =
+    let s = c .before .before .before .before .before .before in let q = s .args .q .now in let at = s .args .at in let depth = s .args .depth in
+    let no = c .match .rest in let is = c .before .kind .ensures in
+    end-other q at depth (λ e. no .0 .0 .0 .0 .0 .0 .0 .1 (is ∙ e)) (λ e. no .0 .0 .0 .0 .0 .0 .1 (is ∙ e)) (λ e. no .0 .0 .0 .0 .0 .1 (is ∙ e)) (λ e. no .0 .0 .0 .0 .1 (is ∙ e)) (λ e. no .0 .0 .0 .1 (is ∙ e)) (λ e. no .0 .0 .1 (is ∙ e)) (λ e. no .0 .1 (is ∙ e)) (λ e. no .1 (is ∙ e))
 
 pub +child-end+clauses-end+tree-end-spec : {M : Type 1} → statement M
 +child-end+clauses-end+tree-end-spec =

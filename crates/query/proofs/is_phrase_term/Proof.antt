@@ -1,13 +1,8 @@
-use mathlib.Core.Path.{_≡_, refl, sym, _∙_, ap}
+-- `query::is_phrase_term` meets its contract. Assumes nothing.
 use borrow.Author.Tests.{eq-eqb, ne-eqb}
 use borrow.Author.Needs.{needs}
 use Rattle.query.proofs.is_phrase_term.Statement.{statement}
 use Rattle.query.proofs.is_phrase_term.Tie as tie
-use Rattle.query.proofs.is_phrase_term.Reads as reads
-use Rattle.query.proofs.is_phrase_term.Lts as lts
-use Rattle.query.proofs.children.Reads as children-reads
-use Rattle.query.proofs.kind.Reads as kind-reads
-use Rattle.query.proofs.occurrence.Reads as occurrence-reads
 
 kind-requires : tie.Need-kind-requires
 kind-requires c κs = search needs

@@ -1,16 +1,13 @@
 -- The loop: the largest frequency among the postings passed. Assumes nothing.
 use borrow.Author.Needs.{needs}
-use Prim.Native.Nat.{ℕ, _≤_, _<_, _-_, _+_, _*_, max}
-use mathlib.Core.Path.{_≡_, refl, sym, _∙_, ap, subst}
+use Prim.Native.Nat.{ℕ, _≤_, _-_, _+_, _*_, max}
+use mathlib.Core.Path.{_≡_, sym, _∙_, ap}
 use native.Mathlib.Omega.{arith}
 use lib.ListN.{getD}
 use Rattle.meaning.specs.Below.{largestBelow}
 use Rattle.query.proofs.Below.{largest-none, largest-more, equal}
 use Rattle.query.proofs.largest_in.Statement.{statement}
 use Rattle.query.proofs.largest_in.Tie as tie
-use Rattle.query.proofs.largest_in.Reads as reads
-use Rattle.query.proofs.largest_in.Lts as lts
-use Rattle.query.proofs.larger.Reads as larger-reads
 
 abbrev Inv-loop : tie.InvT-loop
 Inv-loop postings first number largest₀ i₀ largest i = (i ≤ number) × (largest ≡ largestBelow i (λ k. getD postings (3 * (first + k) + 1) 0))
@@ -19,7 +16,9 @@ abbrev μ-loop : tie.MeasureT-loop
 μ-loop postings first number largest₀ i₀ largest i = number - i
 
 loop-holds : tie.Need-loop-holds Inv-loop μ-loop
-loop-holds c = (omega arith, sym (largest-none (λ k. getD (c .before .args .postings .now) (3 * ((c .before .args .first) + k) + 1) 0)))
+loop-holds c =
+    let s = c .before in let postings = s .args .postings .now in let first = s .args .first in
+    (omega arith, sym (largest-none (λ k. getD postings (3 * (first + k) + 1) 0)))
 
 add-larger : tie.Need-add-larger Inv-loop μ-loop
 add-larger c = search needs
@@ -46,10 +45,14 @@ loop-less : tie.Need-loop-less Inv-loop μ-loop
 loop-less c = search needs
 
 loop-again : tie.Need-loop-again Inv-loop μ-loop
-loop-again c = (omega arith, c .larger .ensures ∙ ap (λ (z : ℕ). max z (getD (c .before .before .before .before .before .args .postings .now) (3 * ((c .before .before .before .before .before .args .first) + c .before .before .before .loop .i) + 1) 0)) (c .before .before .before .loop .inv .1) ∙ sym (largest-more (c .before .before .before .loop .i) (λ k. getD (c .before .before .before .before .before .args .postings .now) (3 * ((c .before .before .before .before .before .args .first) + k) + 1) 0)))
+loop-again c =
+    let s = c .before .before .before .before .before in let postings = s .args .postings .now in let first = s .args .first in
+    (omega arith, c .larger .ensures ∙ ap (λ (z : ℕ). max z (getD postings (3 * (first + c .before .before .before .loop .i) + 1) 0)) (c .before .before .before .loop .inv .1) ∙ sym (largest-more (c .before .before .before .loop .i) (λ k. getD postings (3 * (first + k) + 1) 0)))
 
 returns : tie.Need-returns Inv-loop μ-loop
-returns c = c .before .loop .inv .1 ∙ ap (λ (z : ℕ). largestBelow z (λ k. getD (c .before .before .before .args .postings .now) (3 * ((c .before .before .before .args .first) + k) + 1) 0)) (equal (c .before .loop .i) (c .before .before .before .args .number) (c .before .loop .inv .0) (c .loop-test .left))
+returns c =
+    let s = c .before .before .before in let postings = s .args .postings .now in let first = s .args .first in let number = s .args .number in
+    c .before .loop .inv .1 ∙ ap (λ (z : ℕ). largestBelow z (λ k. getD postings (3 * (first + k) + 1) 0)) (equal (c .before .loop .i) number (c .before .loop .inv .0) (c .loop-test .left))
 
 pub largest-in-spec : {M : Type 1} → statement M
 largest-in-spec =

@@ -1,11 +1,8 @@
-use mathlib.Core.Path.{_≡_, refl, sym, _∙_, ap}
+-- `query::leaf_end` meets its contract. Assumes nothing.
 use borrow.Author.Tests.{eq-eqb, ne-eqb}
 use borrow.Author.Needs.{needs}
 use Rattle.query.proofs.leaf_end.Statement.{statement}
 use Rattle.query.proofs.leaf_end.Tie as tie
-use Rattle.query.proofs.leaf_end.Reads as reads
-use Rattle.query.proofs.leaf_end.Lts as lts
-use Rattle.query.proofs.children.Reads as children-reads
 
 children-requires : tie.Need-children-requires
 children-requires c κs = search needs

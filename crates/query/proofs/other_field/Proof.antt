@@ -1,22 +1,15 @@
 -- The loop: every term passed names a leaf of the phrase's field. Assumes nothing.
 use borrow.Author.Needs.{needs}
-use Prim.Native.Nat.{ℕ, _≤_, _<_, _-_, _+_, _*_}
-use mathlib.Core.Path.{_≡_, refl, sym, _∙_, ap}
-use mathlib.Core.Bool.{false, not}
+use Prim.Native.Nat.{ℕ, _≤_, _<_, _-_}
+use mathlib.Core.Path.{_≡_, sym, _∙_}
+use mathlib.Core.Bool.{false}
 use native.Mathlib.Omega.{arith}
-use lib.ListN.{getD}
 use borrow.Author.Count.{below-more}
-use Rattle.meaning.specs.Query.{recordChildren, recordValue}
+use Rattle.meaning.specs.Query.{recordChildren}
 use Rattle.query.proofs.Values.{fieldOther, other-same, other-other}
 use Rattle.query.proofs.Below.{any-false, any-true}
 use Rattle.query.proofs.other_field.Statement.{statement}
 use Rattle.query.proofs.other_field.Tie as tie
-use Rattle.query.proofs.other_field.Reads as reads
-use Rattle.query.proofs.other_field.Lts as lts
-use Rattle.query.proofs.children.Reads as children-reads
-use Rattle.query.proofs.value.Reads as value-reads
-use Rattle.query.proofs.wide.Reads as wide-reads
-use Rattle.query.proofs.word_or_zero.Reads as word-or-zero-reads
 
 abbrev Inv-loop : tie.InvT-loop
 Inv-loop q leaves at field terms j₀ j = (j ≤ terms) × ((i : ℕ) → i < j → fieldOther leaves q at i ≡ false)
@@ -55,7 +48,9 @@ word-or-zero-requires : tie.Need-word-or-zero-requires Inv-loop μ-loop
 word-or-zero-requires c κs = search needs
 
 returns : tie.Need-returns Inv-loop μ-loop
-returns c = sym (any-true (recordChildren (c .before .before .before .before .before .before .before .before .before .before .before .args .q .now) (c .before .before .before .before .before .before .before .before .before .before .before .args .at)) (fieldOther (c .before .before .before .before .before .before .before .before .before .before .before .args .leaves .now) (c .before .before .before .before .before .before .before .before .before .before .before .args .q .now) (c .before .before .before .before .before .before .before .before .before .before .before .args .at)) (c .before .before .before .before .before .loop .j) (omega arith) (other-other (c .before .before .before .before .before .before .before .before .before .before .before .args .leaves .now) (c .before .before .before .before .before .before .before .before .before .before .before .args .q .now) (c .before .before .before .before .before .before .before .before .before .before .before .args .at) (c .before .before .before .before .before .loop .j) (c .before .before .wide2 .result) (c .before .before .wide2 .ensures ∙ c .before .before .before .value2 .ensures) (λ e. c .if1 .taken (c .before .word-or-zero .ensures ∙ e ∙ sym (c .before .before .before .before .before .before .before .before .value .ensures)))))
+returns c =
+    let s = c .before .before .before .before .before .before .before .before .before .before .before in let q = s .args .q .now in let at = s .args .at in let leaves = s .args .leaves .now in
+    sym (any-true (recordChildren q at) (fieldOther leaves q at) (c .before .before .before .before .before .loop .j) (omega arith) (other-other leaves q at (c .before .before .before .before .before .loop .j) (c .before .before .wide2 .result) (c .before .before .wide2 .ensures ∙ c .before .before .before .value2 .ensures) (λ e. c .if1 .taken (c .before .word-or-zero .ensures ∙ e ∙ sym (c .before .before .before .before .before .before .before .before .value .ensures)))))
 
 add-j : tie.Need-add-j Inv-loop μ-loop
 add-j c = search needs
@@ -64,10 +59,14 @@ loop-less : tie.Need-loop-less Inv-loop μ-loop
 loop-less c = search needs
 
 loop-again : tie.Need-loop-again Inv-loop μ-loop
-loop-again c = (omega arith, below-more _ _ (c .before .before .before .before .before .loop .inv .1) (other-same (c .before .before .before .before .before .before .before .before .before .before .before .args .leaves .now) (c .before .before .before .before .before .before .before .before .before .before .before .args .q .now) (c .before .before .before .before .before .before .before .before .before .before .before .args .at) (c .before .before .before .before .before .loop .j) (c .before .before .wide2 .result) (c .before .before .wide2 .ensures ∙ c .before .before .before .value2 .ensures) (sym (c .before .word-or-zero .ensures) ∙ c .if1 .left ∙ c .before .before .before .before .before .before .before .before .value .ensures)))
+loop-again c =
+    let s = c .before .before .before .before .before .before .before .before .before .before .before in let leaves = s .args .leaves .now in let q = s .args .q .now in let at = s .args .at in
+    (omega arith, below-more _ _ (c .before .before .before .before .before .loop .inv .1) (other-same leaves q at (c .before .before .before .before .before .loop .j) (c .before .before .wide2 .result) (c .before .before .wide2 .ensures ∙ c .before .before .before .value2 .ensures) (sym (c .before .word-or-zero .ensures) ∙ c .if1 .left ∙ c .before .before .before .before .before .before .before .before .value .ensures)))
 
 returns-2 : tie.Need-returns-2 Inv-loop μ-loop
-returns-2 c = sym (any-false (recordChildren (c .before .before .before .before .before .before .before .args .q .now) (c .before .before .before .before .before .before .before .args .at)) (fieldOther (c .before .before .before .before .before .before .before .args .leaves .now) (c .before .before .before .before .before .before .before .args .q .now) (c .before .before .before .before .before .before .before .args .at)) (λ i h. c .before .loop .inv .1 i (omega (arith, h))))
+returns-2 c =
+    let s = c .before .before .before .before .before .before .before in let q = s .args .q .now in let at = s .args .at in let leaves = s .args .leaves .now in
+    sym (any-false (recordChildren q at) (fieldOther leaves q at) (λ i h. c .before .loop .inv .1 i (omega (arith, h))))
 
 pub other-field-spec : {M : Type 1} → statement M
 other-field-spec =

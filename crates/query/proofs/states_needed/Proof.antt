@@ -1,12 +1,10 @@
-use mathlib.Core.Path.{_≡_, ap}
+-- `query::states_needed` meets its contract. Assumes nothing.
+use mathlib.Core.Path.{ap}
 use Prim.Native.Nat.{ℕ, _*_}
 use Rattle.meaning.specs.CallRefusals.{statesNeeded}
 use borrow.Author.Needs.{needs}
 use Rattle.query.proofs.states_needed.Statement.{statement}
 use Rattle.query.proofs.states_needed.Tie as tie
-use Rattle.query.proofs.states_needed.Reads as reads
-use Rattle.query.proofs.states_needed.Lts as lts
-use Rattle.query.proofs.record_count.Reads as record-count-reads
 
 record-count-requires : tie.Need-record-count-requires
 record-count-requires c κs = search needs

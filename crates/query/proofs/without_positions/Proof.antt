@@ -1,21 +1,19 @@
-use mathlib.Core.Path.{_≡_, refl, sym, _∙_, ap}
+-- `query::without_positions` meets its contract. Assumes nothing.
+use mathlib.Core.Path.{sym, _∙_}
 use native.Mathlib.Omega.{arith}
 use borrow.Author.Tests.{eq-eqb, ne-eqb}
 use Rattle.meaning.specs.Query.{recordKind}
 use borrow.Author.Needs.{needs}
 use Rattle.query.proofs.without_positions.Statement.{statement}
 use Rattle.query.proofs.without_positions.Tie as tie
-use Rattle.query.proofs.without_positions.Reads as reads
-use Rattle.query.proofs.without_positions.Lts as lts
-use Rattle.query.proofs.kind.Reads as kind-reads
-use Rattle.query.proofs.value.Reads as value-reads
-use Rattle.query.proofs.wide.Reads as wide-reads
 
 kind-requires : tie.Need-kind-requires
 kind-requires c κs = search needs
 
 returns : tie.Need-returns
-returns c = rw (ne-eqb (recordKind (c .before .before .before .before .args .q .now) (c .before .before .before .before .args .at)) 2 (λ e. c .if1 .taken (c .before .kind .ensures ∙ e)))
+returns c =
+    let s = c .before .before .before .before in let q = s .args .q .now in let at = s .args .at in
+    rw (ne-eqb (recordKind q at) 2 (λ e. c .if1 .taken (c .before .kind .ensures ∙ e)))
 
 value-requires : tie.Need-value-requires
 value-requires c κs = search needs
@@ -33,10 +31,14 @@ mul-result-2 : tie.Need-mul-result-2
 mul-result-2 c = search needs
 
 shared-slice-read-result : tie.Need-shared-slice-read-result
-shared-slice-read-result c = let f = c .before .before .before .before .before .before .before .pre .1 (sym (c .before .before .before .before .kind .ensures) ∙ c .before .before .before .if1 .left) in omega (arith, f)
+shared-slice-read-result c =
+    let s = c .before .before .before .before .before .before .before in
+    let f = s .pre .1 (sym (c .before .before .before .before .kind .ensures) ∙ c .before .before .before .if1 .left) in omega (arith, f)
 
 returns-2 : tie.Need-returns-2
-returns-2 c = rw (eq-eqb (recordKind (c .before .before .before .before .before .before .before .args .q .now) (c .before .before .before .before .before .before .before .args .at)) 2 (sym (c .before .before .before .before .kind .ensures) ∙ c .before .before .before .if1 .left), ← c .before .before .value .ensures, ← c .before .wide .ensures)
+returns-2 c =
+    let s = c .before .before .before .before .before .before .before in let q = s .args .q .now in let at = s .args .at in
+    rw (eq-eqb (recordKind q at) 2 (sym (c .before .before .before .before .kind .ensures) ∙ c .before .before .before .if1 .left), ← c .before .before .value .ensures, ← c .before .wide .ensures)
 
 pub without-positions-spec : {M : Type 1} → statement M
 without-positions-spec =

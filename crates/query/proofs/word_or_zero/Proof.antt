@@ -1,10 +1,9 @@
+-- `query::word_or_zero` meets its contract. Assumes nothing.
 use mathlib.Core.Path.{sym}
 use lib.ListN.{List·getD-eq-default}
 use borrow.Author.Needs.{needs}
 use Rattle.query.proofs.word_or_zero.Statement.{statement}
 use Rattle.query.proofs.word_or_zero.Tie as tie
-use Rattle.query.proofs.word_or_zero.Reads as reads
-use Rattle.query.proofs.word_or_zero.Lts as lts
 
 mul-result : tie.Need-mul-result
 mul-result c = search needs
@@ -16,7 +15,9 @@ returns : tie.Need-returns
 returns c = search needs
 
 returns-2 : tie.Need-returns-2
-returns-2 c = sym (List·getD-eq-default (c .before .args .words .now) 0 (c .if1 .left))
+returns-2 c =
+    let s = c .before in let words = s .args .words .now in
+    sym (List·getD-eq-default words 0 (c .if1 .left))
 
 pub word-or-zero-spec : {M : Type 1} → statement M
 word-or-zero-spec = tie.close (tie.spec mul-result shared-slice-read-result returns returns-2)

@@ -1,4 +1,4 @@
-use mathlib.Core.Path.{_≡_, refl, sym, _∙_, ap}
+-- `query::wrong_phrase` meets its contract. Assumes nothing.
 use Prim.Native.Nat.{_/_}
 use native.Mathlib.Omega.{arith}
 use lib.ListN.{length}
@@ -7,12 +7,6 @@ use Rattle.meaning.specs.Query.{recordValue}
 use borrow.Author.Needs.{needs}
 use Rattle.query.proofs.wrong_phrase.Statement.{statement}
 use Rattle.query.proofs.wrong_phrase.Tie as tie
-use Rattle.query.proofs.wrong_phrase.Reads as reads
-use Rattle.query.proofs.wrong_phrase.Lts as lts
-use Rattle.query.proofs.other_field.Reads as other-field-reads
-use Rattle.query.proofs.unused_from.Reads as unused-from-reads
-use Rattle.query.proofs.value.Reads as value-reads
-use Rattle.query.proofs.wide.Reads as wide-reads
 
 value-requires : tie.Need-value-requires
 value-requires c κs = search needs
@@ -21,19 +15,25 @@ wide-requires : tie.Need-wide-requires
 wide-requires c κs = search needs
 
 returns : tie.Need-returns
-returns c = rw (le-leb (length (c .before .before .before .before .before .before .args .fields .now) / 3) (recordValue (c .before .before .before .before .before .before .args .q .now) (c .before .before .before .before .before .before .args .at) 0) (omega arith))
+returns c =
+    let s = c .before .before .before .before .before .before in let fields = s .args .fields .now in let q = s .args .q .now in let at = s .args .at in
+    rw (le-leb (length fields / 3) (recordValue q at 0) (omega arith))
 
 unused-from-requires : tie.Need-unused-from-requires
 unused-from-requires c κs = search needs
 
 returns-2 : tie.Need-returns-2
-returns-2 c = rw (lt-leb (length (c .before .before .before .before .before .before .before .before .args .fields .now) / 3) (recordValue (c .before .before .before .before .before .before .before .before .args .q .now) (c .before .before .before .before .before .before .before .before .args .at) 0) (omega arith), ← c .before .unused-from .ensures, c .if2 .taken)
+returns-2 c =
+    let s = c .before .before .before .before .before .before .before .before in let fields = s .args .fields .now in let q = s .args .q .now in let at = s .args .at in
+    rw (lt-leb (length fields / 3) (recordValue q at 0) (omega arith), ← c .before .unused-from .ensures, c .if2 .taken)
 
 other-field-requires : tie.Need-other-field-requires
 other-field-requires c κs = search needs
 
 returns-3 : tie.Need-returns-3
-returns-3 c = rw (lt-leb (length (c .before .before .before .before .before .before .before .before .before .args .fields .now) / 3) (recordValue (c .before .before .before .before .before .before .before .before .before .args .q .now) (c .before .before .before .before .before .before .before .before .before .args .at) 0) (omega arith), ← c .before .before .unused-from .ensures, c .before .if2 .left) (c .other-field .ensures)
+returns-3 c =
+    let s = c .before .before .before .before .before .before .before .before .before in let fields = s .args .fields .now in let q = s .args .q .now in let at = s .args .at in
+    rw (lt-leb (length fields / 3) (recordValue q at 0) (omega arith), ← c .before .before .unused-from .ensures, c .before .if2 .left) (c .other-field .ensures)
 
 pub wrong-phrase-spec : {M : Type 1} → statement M
 wrong-phrase-spec =

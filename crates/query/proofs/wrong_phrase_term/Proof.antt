@@ -1,4 +1,4 @@
-use mathlib.Core.Path.{_≡_, refl, sym, _∙_, ap}
+-- `query::wrong_phrase_term` meets its contract. Assumes nothing.
 use Prim.Native.Nat.{_/_}
 use native.Mathlib.Omega.{arith}
 use lib.ListN.{length}
@@ -7,11 +7,6 @@ use Rattle.meaning.specs.Query.{recordValue}
 use borrow.Author.Needs.{needs}
 use Rattle.query.proofs.wrong_phrase_term.Statement.{statement}
 use Rattle.query.proofs.wrong_phrase_term.Tie as tie
-use Rattle.query.proofs.wrong_phrase_term.Reads as reads
-use Rattle.query.proofs.wrong_phrase_term.Lts as lts
-use Rattle.query.proofs.unused_from.Reads as unused-from-reads
-use Rattle.query.proofs.value.Reads as value-reads
-use Rattle.query.proofs.wide.Reads as wide-reads
 
 value-requires : tie.Need-value-requires
 value-requires c κs = search needs
@@ -20,19 +15,25 @@ wide-requires : tie.Need-wide-requires
 wide-requires c κs = search needs
 
 returns : tie.Need-returns
-returns c = rw (le-leb (length (c .before .before .before .before .before .args .leaves .now) / 4) (recordValue (c .before .before .before .before .before .args .q .now) (c .before .before .before .before .before .args .at) 0) (omega arith))
+returns c =
+    let s = c .before .before .before .before .before in let leaves = s .args .leaves .now in let q = s .args .q .now in let at = s .args .at in
+    rw (le-leb (length leaves / 4) (recordValue q at 0) (omega arith))
 
 value-requires-2 : tie.Need-value-requires-2
 value-requires-2 c κs = search needs
 
 returns-2 : tie.Need-returns-2
-returns-2 c = rw (lt-leb (length (c .before .before .before .before .before .before .before .args .leaves .now) / 4) (recordValue (c .before .before .before .before .before .before .before .args .q .now) (c .before .before .before .before .before .before .before .args .at) 0) (omega arith), lt-ltb 2147483647 (recordValue (c .before .before .before .before .before .before .before .args .q .now) (c .before .before .before .before .before .before .before .args .at) 1) (omega arith))
+returns-2 c =
+    let s = c .before .before .before .before .before .before .before in let leaves = s .args .leaves .now in let q = s .args .q .now in let at = s .args .at in
+    rw (lt-leb (length leaves / 4) (recordValue q at 0) (omega arith), lt-ltb 2147483647 (recordValue q at 1) (omega arith))
 
 unused-from-requires : tie.Need-unused-from-requires
 unused-from-requires c κs = search needs
 
 returns-3 : tie.Need-returns-3
-returns-3 c = rw (lt-leb (length (c .before .before .before .before .before .before .before .before .args .leaves .now) / 4) (recordValue (c .before .before .before .before .before .before .before .before .args .q .now) (c .before .before .before .before .before .before .before .before .args .at) 0) (omega arith), le-ltb 2147483647 (recordValue (c .before .before .before .before .before .before .before .before .args .q .now) (c .before .before .before .before .before .before .before .before .args .at) 1) (omega arith)) (c .unused-from .ensures)
+returns-3 c =
+    let s = c .before .before .before .before .before .before .before .before in let leaves = s .args .leaves .now in let q = s .args .q .now in let at = s .args .at in
+    rw (lt-leb (length leaves / 4) (recordValue q at 0) (omega arith), le-ltb 2147483647 (recordValue q at 1) (omega arith)) (c .unused-from .ensures)
 
 pub wrong-phrase-term-spec : {M : Type 1} → statement M
 wrong-phrase-term-spec =

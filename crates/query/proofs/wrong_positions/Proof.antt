@@ -1,7 +1,7 @@
 -- The loop: no record passed is a phrase in a field without positions. Assumes nothing.
 use borrow.Author.Needs.{needs}
 use Prim.Native.Nat.{ℕ, _≤_, _<_, _-_}
-use mathlib.Core.Path.{_≡_, refl, sym, _∙_, ap, subst}
+use mathlib.Core.Path.{_≡_, sym, _∙_, subst}
 use mathlib.Core.Bool.{true, false}
 use mathlib.Core.List.{List}
 use native.Mathlib.Omega.{arith}
@@ -10,10 +10,6 @@ use Rattle.query.specs.Read.{withoutPositions}
 use Rattle.query.proofs.Values.{some-positions, no-positions}
 use Rattle.query.proofs.wrong_positions.Statement.{statement}
 use Rattle.query.proofs.wrong_positions.Tie as tie
-use Rattle.query.proofs.wrong_positions.Reads as reads
-use Rattle.query.proofs.wrong_positions.Lts as lts
-use Rattle.query.proofs.record_count.Reads as record-count-reads
-use Rattle.query.proofs.without_positions.Reads as without-positions-reads
 
 abbrev Inv-loop : tie.InvT-loop
 Inv-loop q fields count at₀ at = (at ≤ count) × ((i : ℕ) → i < at → withoutPositions fields q i ≡ false)
@@ -28,10 +24,14 @@ loop-holds : tie.Need-loop-holds Inv-loop μ-loop
 loop-holds c = (omega arith, λ i h. absurd (omega (arith, h)))
 
 without-positions-requires : tie.Need-without-positions-requires Inv-loop μ-loop
-without-positions-requires c κs = (omega arith, c .before .before .before .before .before .pre .present (c .before .loop .at) (omega arith))
+without-positions-requires c κs =
+    let s = c .before .before .before .before .before in
+    (omega arith, s .pre .present (c .before .loop .at) (omega arith))
 
 returns : tie.Need-returns Inv-loop μ-loop
-returns c = λ ix are. some-positions ix (c .before .before .before .before .before .before .before .args .q .now) (c .before .before .before .loop .at) (omega arith) (subst (λ (z : List ℕ). true ≡ withoutPositions z (c .before .before .before .before .before .before .before .args .q .now) (c .before .before .before .loop .at)) (sym are) (sym (c .if1 .taken) ∙ c .before .without-positions .ensures))
+returns c =
+    let s = c .before .before .before .before .before .before .before in let q = s .args .q .now in
+    λ ix are. some-positions ix q (c .before .before .before .loop .at) (omega arith) (subst (λ (z : List ℕ). true ≡ withoutPositions z q (c .before .before .before .loop .at)) (sym are) (sym (c .if1 .taken) ∙ c .before .without-positions .ensures))
 
 add-at : tie.Need-add-at Inv-loop μ-loop
 add-at c = search needs
@@ -43,7 +43,9 @@ loop-again : tie.Need-loop-again Inv-loop μ-loop
 loop-again c = (omega arith, below-more _ _ (c .before .before .before .loop .inv .1) (sym (c .before .without-positions .ensures) ∙ c .if1 .left))
 
 returns-2 : tie.Need-returns-2 Inv-loop μ-loop
-returns-2 c = λ ix are. no-positions ix (c .before .before .before .before .before .args .q .now) (λ i h. subst (λ (z : List ℕ). withoutPositions z (c .before .before .before .before .before .args .q .now) i ≡ false) (sym are) (c .before .loop .inv .1 i (omega (arith, h))))
+returns-2 c =
+    let s = c .before .before .before .before .before in let q = s .args .q .now in
+    λ ix are. no-positions ix q (λ i h. subst (λ (z : List ℕ). withoutPositions z q i ≡ false) (sym are) (c .before .loop .inv .1 i (omega (arith, h))))
 
 pub wrong-positions-spec : {M : Type 1} → statement M
 wrong-positions-spec =

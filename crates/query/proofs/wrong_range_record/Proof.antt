@@ -1,11 +1,7 @@
-use mathlib.Core.Path.{_≡_, refl, sym, _∙_, ap}
+-- `query::wrong_range_record` meets its contract. Assumes nothing.
 use borrow.Author.Needs.{needs}
 use Rattle.query.proofs.wrong_range_record.Statement.{statement}
 use Rattle.query.proofs.wrong_range_record.Tie as tie
-use Rattle.query.proofs.wrong_range_record.Reads as reads
-use Rattle.query.proofs.wrong_range_record.Lts as lts
-use Rattle.query.proofs.value.Reads as value-reads
-use Rattle.query.proofs.wrong_range.Reads as wrong-range-reads
 
 value-requires : tie.Need-value-requires
 value-requires c κs = search needs

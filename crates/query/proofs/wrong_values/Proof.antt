@@ -1,7 +1,7 @@
 -- The loop: no record passed is wrong, for every index that lends the slices. Assumes nothing.
 use borrow.Author.Needs.{needs}
 use Prim.Native.Nat.{ℕ, _≤_, _<_, _-_}
-use mathlib.Core.Path.{_≡_, refl, sym, _∙_, ap}
+use mathlib.Core.Path.{_≡_, sym, _∙_}
 use mathlib.Core.Bool.{false}
 use native.Mathlib.Omega.{arith}
 use borrow.Author.Count.{below-more}
@@ -13,10 +13,6 @@ use Rattle.query.proofs.Whole.{terms-here}
 use Rattle.query.proofs.Values.{some-value, no-value}
 use Rattle.query.proofs.wrong_values.Statement.{statement}
 use Rattle.query.proofs.wrong_values.Tie as tie
-use Rattle.query.proofs.wrong_values.Reads as reads
-use Rattle.query.proofs.wrong_values.Lts as lts
-use Rattle.query.proofs.record_count.Reads as record-count-reads
-use Rattle.query.proofs.wrong_record.Reads as wrong-record-reads
 
 abbrev Inv-loop : tie.InvT-loop
 Inv-loop q fields leaves columns count at₀ at = (at ≤ count) × ((ix : Index) → Lends ix fields leaves columns → (i : ℕ) → i < at → wrongValues ix q i (kindOf (recordKind q i)) ≡ false)
@@ -31,10 +27,14 @@ loop-holds : tie.Need-loop-holds Inv-loop μ-loop
 loop-holds c = (omega arith, λ ix l i h. absurd (omega (arith, h)))
 
 wrong-record-requires : tie.Need-wrong-record-requires Inv-loop μ-loop
-wrong-record-requires c κs = (omega arith, terms-here (c .before .before .before .before .before .before .before .args .q .now) (c .before .before .before .before .before .before .before .pre) (c .before .loop .at) (omega arith))
+wrong-record-requires c κs =
+    let s = c .before .before .before .before .before .before .before in let q = s .args .q .now in
+    (omega arith, terms-here q (s .pre) (c .before .loop .at) (omega arith))
 
 returns : tie.Need-returns Inv-loop μ-loop
-returns c = λ ix l. some-value ix (c .before .before .before .before .before .before .before .before .before .args .q .now) (c .before .before .before .loop .at) (omega arith) (sym (c .if1 .taken) ∙ c .before .wrong-record .ensures ix l)
+returns c =
+    let s = c .before .before .before .before .before .before .before .before .before in let q = s .args .q .now in
+    λ ix l. some-value ix q (c .before .before .before .loop .at) (omega arith) (sym (c .if1 .taken) ∙ c .before .wrong-record .ensures ix l)
 
 add-at : tie.Need-add-at Inv-loop μ-loop
 add-at c = search needs
@@ -46,7 +46,9 @@ loop-again : tie.Need-loop-again Inv-loop μ-loop
 loop-again c = (omega arith, λ ix l. below-more _ _ (c .before .before .before .loop .inv .1 ix l) (sym (c .before .wrong-record .ensures ix l) ∙ c .if1 .left))
 
 returns-2 : tie.Need-returns-2 Inv-loop μ-loop
-returns-2 c = λ ix l. no-value ix (c .before .before .before .before .before .before .before .args .q .now) (λ i h. c .before .loop .inv .1 ix l i (omega (arith, h)))
+returns-2 c =
+    let s = c .before .before .before .before .before .before .before in let q = s .args .q .now in
+    λ ix l. no-value ix q (λ i h. c .before .loop .inv .1 ix l i (omega (arith, h)))
 
 pub wrong-values-spec : {M : Type 1} → statement M
 wrong-values-spec =
