@@ -1,8 +1,8 @@
 -- The merge of two lists that do not fall: what is written has each entry with the lesser of its two multiplicities. Assumes nothing.
-use mathlib.Core.Path.{_≡_, refl, sym, ap, subst, _∙_}
+use mathlib.Core.Path.{_≡_, sym, subst}
 use mathlib.Core.Bool.{Bool, true, false, cond}
-use mathlib.Core.List.{List, [], _∷_, _++_, append-assoc, append-nil}
-use Prim.Native.Nat.{ℕ, zero, suc, _+_, _≤_, min}
+use mathlib.Core.List.{List, [], _∷_, _++_, append-assoc}
+use Prim.Native.Nat.{_+_, min}
 use native.Mathlib.Omega.{arith}
 use lib.Dec.{T}
 use lib.IntN.{ℤ}
@@ -26,9 +26,6 @@ alone s x xs ys h = go (eqℤ s x) (λ t. subst (λ (z : ℤ). multiplicity z ys
 paired : (s x : ℤ) (xs ys : List ℤ) → min (multiplicity s (x ∷ xs)) (multiplicity s (x ∷ ys)) ≡ multiplicity s (x ∷ []) + min (multiplicity s xs) (multiplicity s ys)
 unfolding multiplicity
 paired s x xs ys = omega arith
-
-turned : (a b : ℕ) → min a b ≡ min b a
-turned a b = omega arith
 
 -- ---- the state of the merge: zs is written, and cs and xs are left of the candidates and of the starts
 pub record Merging (all-cs all-xs zs cs xs : List ℤ) : Type 0 where

@@ -1,20 +1,19 @@
 -- What the words of a phrase's terms say: a term's starts one by one, and the lists record by record. Assumes nothing.
 use mathlib.Core.Path.{_≡_, refl, sym, ap, subst, _∙_}
-use mathlib.Core.List.{List, [], _∷_, _++_, map}
-use Prim.Native.Nat.{ℕ, zero, suc, _+_, _%_, _≤_, _<_, min}
+use mathlib.Core.List.{List, [], _∷_, _++_}
+use Prim.Native.Nat.{ℕ, zero, suc, _+_, _%_, _≤_, _<_}
 use native.Mathlib.Nat.{not-suc-le-zero, eq-or-lt-of-le}
 use native.Mathlib.Numerals.{add-one, add-two, add-three}
 use native.Mathlib.Omega.{arith}
-use mathlib.Core.Logic.{_⊎_, inl, inr}
+use mathlib.Core.Logic.{inl, inr}
 use lib.IntN.{ℤ, subℕ}
 use lib.ListN.{length, getD, take, drop, length-append, length-map, List·getD-append, List·getD-map}
 use lib.Seq.{drop-cons, take-suc, getD-at, drop-length}
 use lib.Signed.{_≤ℤ_}
 use Rattle.meaning.specs.Below.{listTo}
 use Rattle.meaning.specs.Phrase.{starts, multiplicity, smallest}
-use Rattle.meaning.proofs.Phrases.{smallest-head}
 use Rattle.phrase.specs.declared.Term.{Term}
-use Rattle.phrase.specs.Terms.{termAt, startsOf, startLists, GoodTerm, Good}
+use Rattle.phrase.specs.Terms.{termAt, startsOf, startLists, GoodTerm}
 use Rattle.phrase.specs.Common.{Ascending}
 use Rattle.phrase.proofs.Order.{ascending, difference-rises}
 
@@ -94,7 +93,7 @@ smallest-first s xs [] = omega arith
 smallest-first s xs (ys ∷ yss) = omega arith
 
 -- past one record, the terms are those of the rest
-term-past : (f n o : ℕ) (ts : List ℕ) (at : ℕ) → termAt (f ∷ n ∷ o ∷ ts) (suc (suc (suc at))) ≡ termAt ts at
+pub term-past : (f n o : ℕ) (ts : List ℕ) (at : ℕ) → termAt (f ∷ n ∷ o ∷ ts) (suc (suc (suc at))) ≡ termAt ts at
 term-past f n o ts at =
     let a : suc (suc (suc at)) + 1 ≡ suc (suc (suc (at + 1))) = omega arith in
     let b : suc (suc (suc at)) + 2 ≡ suc (suc (suc (at + 2))) = omega arith in

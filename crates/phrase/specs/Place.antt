@@ -1,7 +1,7 @@
 -- What Place answers. Assumes nothing: these are definitions.
 use mathlib.Core.Path.{_≡_}
 use mathlib.Core.List.{List}
-use Prim.Native.Nat.{ℕ, _<_}
+use Prim.Native.Nat.{_<_}
 use lib.IntN.{ℤ}
 use Rattle.meaning.specs.Phrase.{smallest, commonSize}
 use Rattle.phrase.specs.declared.Placed.{Placed}

@@ -2,7 +2,7 @@
 // with the smallest multiplicity. A term is a record of three words: index of its first position, frequency, offset.
 ghost use mathlib.Core.Path.{_≡_};
 ghost use mathlib.Core.List.{[], _∷_};
-ghost use Prim.Native.Nat.{ℕ, _≤_, _<_, _+_, _%_};
+ghost use Prim.Native.Nat.{_≤_, _<_, _+_, _%_};
 ghost use lib.ListN.{length, take};
 ghost use lib.IntN.{subℕ};
 ghost use Rattle.meaning.specs.Phrase.{commonSize};

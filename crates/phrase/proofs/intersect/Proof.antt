@@ -1,21 +1,21 @@
 -- `phrase::intersect` meets its contract. The loop's invariant is the state of the merge (proofs/Merge.antt). Assumes nothing.
-use mathlib.Core.Path.{_≡_, refl, sym, ap, subst, _∙_}
+use mathlib.Core.Path.{_≡_, refl, sym, subst, _∙_}
 use mathlib.Core.Bool.{Bool, true, false}
 use mathlib.Core.List.{List, [], _∷_, _++_}
-use Prim.Native.Nat.{ℕ, zero, _+_, _≤_, _<_, _-_}
+use Prim.Native.Nat.{ℕ, _+_, _≤_, _<_, _-_}
 use native.Mathlib.Numerals.{add-one}
 use native.Mathlib.Omega.{arith}
 use lib.ListN.{length, take, drop, set, getD, length-set, drop-of-length-le}
 use lib.Seq.{take-suc-set, drop-cons}
 use lib.IntN.{ℤ, pos, subℕ}
-use lib.Signed.{ltZ, mag}
+use lib.Signed.{ltZ}
 use mir.Val.{SFits, toZ, ofZ}
 use mir.Syntax.{w32}
 use mir.ValLaws.{toZ-ofZ}
 use borrow.Author.Needs.{needs}
 use Rattle.phrase.specs.declared.Term.{Term}
-use Rattle.phrase.specs.Terms.{startsOf, GoodTerm}
-use Rattle.phrase.specs.Common.{Ascending, Common}
+use Rattle.phrase.specs.Terms.{startsOf}
+use Rattle.phrase.specs.Common.{Common}
 use Rattle.phrase.proofs.Order.{less, same}
 use Rattle.phrase.proofs.Merge.{Merging, merge-begins, candidate-passed, start-passed, matched, candidates-end, starts-end}
 use Rattle.phrase.proofs.Records.{starts-length, starts-drop, starts-ascending}

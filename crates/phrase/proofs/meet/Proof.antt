@@ -1,5 +1,5 @@
 -- `phrase::meet` meets its contract: what the term leaves, and the record after it, as proofs/Steps.antt has it. Assumes nothing.
-use mathlib.Core.Path.{_≡_, sym, subst, _∙_}
+use mathlib.Core.Path.{_≡_, sym, subst}
 use mathlib.Core.List.{List, [], _∷_}
 use Prim.Native.Nat.{ℕ, _≤_}
 use native.Mathlib.Omega.{arith}
@@ -8,7 +8,7 @@ use lib.ListN.{length, take, length-take}
 use borrow.Author.Needs.{needs}
 use Rattle.phrase.specs.declared.Term.{Term}
 use Rattle.phrase.specs.Terms.{termAt, startsOf, GoodTerm}
-use Rattle.phrase.specs.Common.{Common, Candidates, Meets}
+use Rattle.phrase.specs.Common.{Common, Meets}
 use Rattle.phrase.proofs.Steps.{meets, meets-none}
 use Rattle.phrase.proofs.meet.Statement.{statement}
 use Rattle.phrase.proofs.meet.Tie as tie

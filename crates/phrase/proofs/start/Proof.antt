@@ -1,10 +1,10 @@
 -- `phrase::start` meets its contract: both words are below 2^31, so the casts keep them and the difference fits. Assumes nothing.
 use mathlib.Core.Path.{_≡_, sym, ap, subst, _∙_}
-use Prim.Native.Nat.{ℕ, _≤_, _<_}
+use Prim.Native.Nat.{ℕ, _≤_}
 use native.Mathlib.Omega.{arith}
 use lib.IntN.{ℤ, pos, subℕ, _-ℤ_}
 use mir.Syntax.{w32}
-use mir.Val.{SFits, toZ}
+use mir.Val.{SFits, toZ, ofZ}
 use mir.ValLaws.{toZ-ofZ}
 use borrow.Author.Needs.{needs}
 use Rattle.phrase.proofs.Order.{difference, difference-small}
@@ -32,13 +32,13 @@ sub-result : tie.Need-sub-result
 sub-result c =
     let p = c .args .position in
     let o = c .args .offset in
-    rw (code-difference p o (c .pre .0) (c .pre .1)) (fits p o (c .pre .0) (c .pre .1))
+    subst (SFits w32) (sym (code-difference p o (c .pre .0) (c .pre .1))) (fits p o (c .pre .0) (c .pre .1))
 
 returns : tie.Need-returns
 returns c =
     let p = c .args .position in
     let o = c .args .offset in
-    rw (code-difference p o (c .pre .0) (c .pre .1)) (toZ-ofZ w32 (subℕ p o) (fits p o (c .pre .0) (c .pre .1)))
+    ap (λ (z : ℤ). toZ w32 (ofZ w32 z)) (code-difference p o (c .pre .0) (c .pre .1)) ∙ toZ-ofZ w32 (subℕ p o) (fits p o (c .pre .0) (c .pre .1))
 
 pub start-spec : {M : Type 1} → statement M
 start-spec = tie.close (tie.spec cast-result cast-result-2 sub-result returns)

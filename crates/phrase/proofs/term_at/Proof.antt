@@ -1,51 +1,38 @@
+-- `phrase::term_at` meets its contract. Assumes nothing.
 use borrow.Author.Needs.{needs}
 use Rattle.phrase.proofs.term_at.Statement.{statement}
 use Rattle.phrase.proofs.term_at.Tie as tie
-use Rattle.phrase.proofs.term_at.Reads as reads
-use Rattle.phrase.proofs.term_at.Lts as lts
-use Rattle.phrase.proofs.wide.Reads as wide-reads
 
--- src/lib.rt:62:21
 mul-wide : tie.Need-mul-wide
 mul-wide c = search needs
 
--- src/lib.rt:62:21
 shared-slice-read-wide : tie.Need-shared-slice-read-wide
 shared-slice-read-wide c = search needs
 
--- src/lib.rt:62:16
 wide-requires : tie.Need-wide-requires
 wide-requires c κs = search needs
 
--- src/lib.rt:63:26
 add-wide : tie.Need-add-wide
 add-wide c = search needs
 
--- src/lib.rt:63:20
 mul-wide-2 : tie.Need-mul-wide-2
 mul-wide-2 c = search needs
 
--- src/lib.rt:63:20
 shared-slice-read-wide-2 : tie.Need-shared-slice-read-wide-2
 shared-slice-read-wide-2 c = search needs
 
--- src/lib.rt:63:15
 wide-requires-2 : tie.Need-wide-requires-2
 wide-requires-2 c κs = search needs
 
--- src/lib.rt:64:23
 add-t12 : tie.Need-add-t12
 add-t12 c = search needs
 
--- src/lib.rt:64:17
 mul-t13 : tie.Need-mul-t13
 mul-t13 c = search needs
 
--- src/lib.rt:64:17
 shared-slice-read-t15 : tie.Need-shared-slice-read-t15
 shared-slice-read-t15 c = search needs
 
--- src/lib.rt:57:1
 returns : tie.Need-returns
 returns c = rw (c .before .before .before .wide .ensures, c .before .wide2 .ensures)
 

@@ -1,6 +1,6 @@
 -- `phrase::write_starts` meets its contract. The loop's invariant: the places passed hold the term's first starts. Assumes nothing.
 use mathlib.Core.Path.{_≡_, sym, ap, subst, _∙_}
-use mathlib.Core.List.{List, [], _∷_, _++_}
+use mathlib.Core.List.{List}
 use Prim.Native.Nat.{ℕ, _+_, _≤_, _<_, _-_}
 use native.Mathlib.Numerals.{add-one}
 use native.Mathlib.Omega.{arith}
@@ -11,7 +11,7 @@ use mir.Syntax.{w32}
 use mir.ValLaws.{toZ-ofZ}
 use borrow.Author.Needs.{needs}
 use Rattle.phrase.specs.declared.Term.{Term}
-use Rattle.phrase.specs.Terms.{startsOf, GoodTerm}
+use Rattle.phrase.specs.Terms.{startsOf}
 use Rattle.phrase.proofs.Records.{starts-length, starts-take}
 use Rattle.phrase.proofs.write_starts.Statement.{statement}
 use Rattle.phrase.proofs.write_starts.Tie as tie
