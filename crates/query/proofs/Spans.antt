@@ -84,7 +84,7 @@ before-or (suc e) (suc i) = elim (before-or e i) [
   | inr h ↦ inr (omega (arith, h))
 ]
 
-abbrev Standing : List ℕ → ℕ → ℕ → Type 0
+abbrev pub Standing : List ℕ → ℕ → ℕ → Type 0
 Standing q r e = (i : ℕ) → r ≤ i → i < e → Stands q i
 
 clauses-stand : (q : List ℕ) (at : ℕ → Option Decoded) → ((r : ℕ) (D : Decoded) → at r ≡ some D → Standing q r (D .next)) → (n r : ℕ) (C : DecodedClauses) → decodeClauses q at n r ≡ some C → Standing q r (C .next)
