@@ -13,10 +13,11 @@ use borrow.Author.Tests.{le-ltb, eq-eqb, ne-eqb}
 use Rattle.meaning.specs.Limits.{largestBoost}
 use Rattle.meaning.specs.Ieee754.{zeroFloat}
 use Rattle.meaning.specs.Score.{boosted, passed}
-use Rattle.meaning.specs.Query.{recordCount, recordKind, recordChildren, recordValue, Occur, must, should, mustNot, filter, occurOf, Tree, term, phrase, boolean, range, matchAll, constantScore, boost, matchNone, empty, Decoded, DecodedClauses, decode, decodeClauses, treeOf}
+use Rattle.meaning.specs.Query.{recordCount, recordKind, recordChildren, recordValue, Occur, must, should, mustNot, filter, occurOf, Tree, term, phrase, boolean, range, matchAll, constantScore, boost, matchNone, empty, Decoded, DecodedClauses, decode, decodeClauses, treeOf, clause, Clauses}
 use Rattle.meaning.specs.Bm25.{one}
 use Rattle.meaning.specs.QueryRefusals.{wrong7, aboveLimit, carriesAbove, clausesAbove, wrong9}
-use Rattle.query.specs.Read.{endBelowLimit, clausesBelowLimit}
+use Rattle.query.specs.Inner.{endBelowLimit, clausesBelowLimit}
+use Rattle.query.proofs.Below.{false-left, false-right}
 use Rattle.query.proofs.Inverse.{OneClause, one-clause, record-here, term-at, phrase-at, boolean-at, range-at, all-at, constant-at, boost-at, none-at, kind-is, KindIs, is-term, is-phrase, is-boolean, is-range, is-all, is-constant, is-boost, is-none, some-same}
 use Rattle.query.proofs.Whole.{whole}
 use Rattle.query.proofs.Spans.{tree-span, no-depth, nothing}
@@ -173,3 +174,27 @@ query-above q e x f =
     go : (a : Bool) {n c : ℕ} → x ≡ cond a 0 n → n ≡ c → 0 < c → eqb x 0 ≡ a
     go true g n s = eq-eqb x 0 g
     go false g n s = ne-eqb x 0 (λ z. absurd (omega (arith, g, n, s, z)))
+
+-- ---- what refusal 9 lets through, from a node to those below it
+pub within-here : (t : Tree) (b : Float) → carriesAbove t b ≡ false → aboveLimit b ≡ false
+within-here t b e = go (aboveLimit b) refl
+  where
+    go : (a : Bool) → aboveLimit b ≡ a → aboveLimit b ≡ false
+    go true f = let z : _≡_ {A = Bool} true false = sym (carries-here t b f) ∙ e in let y : _≡_ {A = ℕ} 0 1 = cc in absurd (omega arith)
+    go false f = f
+
+pub within-constant : (t : Tree) (b : Float) → carriesAbove (constantScore t) b ≡ false → carriesAbove t zeroFloat ≡ false
+unfolding carriesAbove
+within-constant t b e = false-right (aboveLimit b) (carriesAbove t zeroFloat) e
+
+pub within-boost : (v : ℕ) (t : Tree) (b : Float) → carriesAbove (boost v t) b ≡ false → carriesAbove t (boosted b v) ≡ false
+unfolding carriesAbove
+within-boost v t b e = false-right (aboveLimit b) (carriesAbove t (boosted b v)) e
+
+pub within-boolean : (m : ℕ) (cs : Clauses) (b : Float) → carriesAbove (boolean m cs) b ≡ false → clausesAbove cs b ≡ false
+unfolding carriesAbove
+within-boolean m cs b e = false-right (aboveLimit b) (clausesAbove cs b) e
+
+pub within-clause : (o : Occur) (t : Tree) (cs : Clauses) (b : Float) → clausesAbove (clause o t cs) b ≡ false → (carriesAbove t (passed o b) ≡ false) × (clausesAbove cs b ≡ false)
+unfolding clausesAbove
+within-clause o t cs b e = (false-left (carriesAbove t (passed o b)) (clausesAbove cs b) e, false-right (carriesAbove t (passed o b)) (clausesAbove cs b) e)

@@ -6,7 +6,7 @@ use Prim.Native.Nat.{ℕ, zero, suc, _-_, _≤_, _<_}
 use native.Mathlib.Omega.{arith}
 use native.Mathlib.Nat.{not-suc-le-zero}
 use Rattle.meaning.specs.Query.{recordCount, recordOccurrence, Occur, must, should, mustNot, filter, occurOf, Decoded, DecodedClauses, decode, decodeClauses, _>>=_}
-use Rattle.query.specs.Read.{endOf, endOfClauses}
+use Rattle.query.specs.Inner.{endOf, endOfClauses}
 use Rattle.query.proofs.Steps.{decode-missing, bind-none}
 use Rattle.query.proofs.Spans.{tree-span}
 

@@ -1,5 +1,5 @@
 -- More depth decodes the same. Assumes nothing.
-use mathlib.Core.Path.{_≡_, _∙_, subst}
+use mathlib.Core.Path.{sym, _≡_, _∙_, subst}
 use mathlib.Core.Bool.{_&&_}
 use mathlib.Core.List.{List}
 use mathlib.Core.Option.{Option, some}
@@ -8,7 +8,7 @@ use native.Mathlib.Omega.{arith}
 use lib.Dec.{eqb, leb, ltb}
 use borrow.Author.Tests.{lt-ltb}
 use Rattle.meaning.specs.Query.{Kind, aTerm, aPhrase, aBoolean, aRange, aMatchAll, aConstantScore, aBoost, aMatchNone, aPhraseTerm, recordCount, recordOccurrence, recordChildren, Decoded, DecodedClauses, decode, decodeKind, decodeClauses, decodeChild, decodePhrase, guard}
-use Rattle.query.proofs.Inverse.{bind-some, guard-some, both-true, opened, one-clause}
+use Rattle.query.proofs.Inverse.{bind-some, guard-some, both-true, opened, one-clause, some-same}
 use Rattle.query.proofs.Steps.{decode-kind}
 use Rattle.query.proofs.Spans.{no-depth, nothing}
 
@@ -64,3 +64,9 @@ deeper-by q k (suc j) r D e = let same : suc (k + j) ≡ k + suc j = omega arith
 
 pub deeper-to : (q : List ℕ) (k m r : ℕ) (D : Decoded) → k ≤ m → decode q k r ≡ some D → decode q m r ≡ some D
 deeper-to q k m r D h e = let same : k + (m - k) ≡ m = omega (arith, h) in subst (λ (z : ℕ). decode q z r ≡ some D) same (deeper-by q k (m - k) r D e)
+
+pub same-tree : (q : List ℕ) (k m r : ℕ) (D E : Decoded) → decode q k r ≡ some D → decode q m r ≡ some E → D ≡ E
+same-tree q k m r D E d e =
+    let a = deeper-to q k (k + m) r D (omega arith) d in
+    let b = deeper-to q m (k + m) r E (omega arith) e in
+    some-same D E (sym a ∙ b)

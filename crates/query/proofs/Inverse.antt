@@ -8,7 +8,7 @@ use native.Mathlib.Omega.{arith}
 use lib.Dec.{eqb, leb, ltb}
 use borrow.Author.Tests.{ltb-true, leb-true, eqb-true, not-true, not-false}
 use Rattle.meaning.specs.Below.{anyBelow}
-use Rattle.meaning.specs.Query.{Kind, aTerm, aPhrase, aBoolean, aRange, aMatchAll, aConstantScore, aBoost, aMatchNone, aPhraseTerm, kindOf, childrenFit, recordCount, recordKind, recordOccurrence, recordChildren, recordValue, rangeOf, phraseTermsOf, Occur, occurOf, Tree, term, phrase, boolean, range, matchAll, constantScore, boost, matchNone, clause, Decoded, DecodedClauses, decode, decodeKind, decodeClauses, decodeChild, decodePhrase, isPhraseTerm, guard, _>>=_}
+use Rattle.meaning.specs.Query.{Kind, aTerm, aPhrase, aBoolean, aRange, aMatchAll, aConstantScore, aBoost, aMatchNone, aPhraseTerm, kindOf, childrenFit, recordCount, recordKind, recordOccurrence, recordChildren, recordValue, rangeOf, phraseTermsOf, Occur, must, should, mustNot, filter, occurOf, Tree, term, phrase, boolean, range, matchAll, constantScore, boost, matchNone, clause, Decoded, DecodedClauses, decode, decodeKind, decodeClauses, decodeChild, decodePhrase, isPhraseTerm, guard, _>>=_}
 use Rattle.query.proofs.Below.{none-below}
 
 -- ---- what a step of decoding that ends in something says
@@ -254,3 +254,18 @@ kind-is q k r D e = let o = opened q k r D e in go (o .kind) (kind-number (recor
     go aBoost h d = is-boost h
     go aMatchNone h d = is-none h
     go aPhraseTerm h d = let z : _≡_ {A = ℕ} 0 1 = cc in absurd (omega arith)
+
+-- ---- the number of an occurrence
+abbrev pub occurNumber : Occur → ℕ
+occurNumber must = 1
+occurNumber should = 2
+occurNumber mustNot = 3
+occurNumber filter = 4
+
+pub occur-number : (o : ℕ) (x : Occur) → occurOf o ≡ some x → o ≡ occurNumber x
+occur-number zero x e = let z : _≡_ {A = ℕ} 0 1 = cc in absurd (omega arith)
+occur-number (suc zero) x e = ap occurNumber (some-same must x e)
+occur-number (suc (suc zero)) x e = ap occurNumber (some-same should x e)
+occur-number (suc (suc (suc zero))) x e = ap occurNumber (some-same mustNot x e)
+occur-number (suc (suc (suc (suc zero)))) x e = ap occurNumber (some-same filter x e)
+occur-number (suc (suc (suc (suc (suc o))))) x e = let z : _≡_ {A = ℕ} 0 1 = cc in absurd (omega arith)

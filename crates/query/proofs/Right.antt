@@ -48,7 +48,7 @@ pub record RightTerm (ix : Index) (field : ℕ) (t : PhraseTerm) : Type 0 where
   pub same-field : leafField ix (t .leaf) ≡ field
   pub offset-within : t .offset ≤ noMoreDocs
 
-abbrev noTerm : PhraseTerm
+abbrev pub noTerm : PhraseTerm
 noTerm = record { leaf = 0; offset = 0 }
 
 pub record RightPhrase (ix : Index) (field : ℕ) (ts : List PhraseTerm) : Type 0 where

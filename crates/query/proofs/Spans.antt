@@ -17,7 +17,7 @@ pub record Span (q : List ℕ) (r next : ℕ) : Type 0 where
   pub past : r < next
   pub within : next ≤ recordCount q
 
-clauses-span : (q : List ℕ) (at : ℕ → Option Decoded) → ((r : ℕ) (D : Decoded) → at r ≡ some D → Span q r (D .next)) → (n r : ℕ) (C : DecodedClauses) → r ≤ recordCount q → decodeClauses q at n r ≡ some C → (r ≤ C .next) × (C .next ≤ recordCount q)
+pub clauses-span : (q : List ℕ) (at : ℕ → Option Decoded) → ((r : ℕ) (D : Decoded) → at r ≡ some D → Span q r (D .next)) → (n r : ℕ) (C : DecodedClauses) → r ≤ recordCount q → decodeClauses q at n r ≡ some C → (r ≤ C .next) × (C .next ≤ recordCount q)
 unfolding decodeClauses
 clauses-span q at f zero r C h e = let same = ap DecodedClauses.next (some-same _ C e) in (omega (arith, same), omega (arith, same))
 clauses-span q at f (suc n) r C h e =
@@ -57,6 +57,10 @@ tree-span q (suc k) r D e = go (tree-span q k) (kind-is q k r D e)
     go f (is-boost h) = let c = boost-at q k r D e h in child (c .child) (c .next-is) (f (r + 1) (c .child) (c .decoded))
     go f (is-none h) = leaf (none-at q k r D e h .next-is)
 
+-- the clauses of a Boolean end within the query, not before they begin
+pub decoded-clauses-span : (q : List ℕ) (k n r : ℕ) (C : DecodedClauses) → r ≤ recordCount q → decodeClauses q (decode q k) n r ≡ some C → (r ≤ C .next) × (C .next ≤ recordCount q)
+decoded-clauses-span q k n r C h e = clauses-span q (decode q k) (tree-span q k) n r C h e
+
 -- ---- each record from a tree's to its end stands for a tree, or for a phrase's term
 pub data Stands (q : List ℕ) (i : ℕ) : Type 0 where
   a-tree : (k : ℕ) (D : Decoded) → decode q (suc k) i ≡ some D → Stands q i
@@ -80,7 +84,7 @@ before-or (suc e) (suc i) = elim (before-or e i) [
   | inr h ↦ inr (omega (arith, h))
 ]
 
-abbrev Standing : List ℕ → ℕ → ℕ → Type 0
+abbrev pub Standing : List ℕ → ℕ → ℕ → Type 0
 Standing q r e = (i : ℕ) → r ≤ i → i < e → Stands q i
 
 clauses-stand : (q : List ℕ) (at : ℕ → Option Decoded) → ((r : ℕ) (D : Decoded) → at r ≡ some D → Standing q r (D .next)) → (n r : ℕ) (C : DecodedClauses) → decodeClauses q at n r ≡ some C → Standing q r (C .next)

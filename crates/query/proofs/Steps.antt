@@ -8,7 +8,7 @@ use native.Mathlib.Omega.{arith}
 use lib.Dec.{eqb, leb, ltb}
 use borrow.Author.Tests.{lt-ltb, le-ltb, eq-eqb, ne-eqb, le-leb, lt-leb, eqb-true, eqb-false}
 use Rattle.meaning.specs.Query.{Kind, aTerm, aPhrase, aBoolean, aRange, aMatchAll, aConstantScore, aBoost, aMatchNone, aPhraseTerm, kindOf, childrenFit, recordCount, recordKind, recordOccurrence, recordChildren, Decoded, DecodedClauses, decode, decodeKind, decodeClauses, decodeChild, decodePhrase, isPhraseTerm, guard, _>>=_}
-use Rattle.query.specs.Read.{endOf, endOfClauses, fitting}
+use Rattle.query.specs.Inner.{endOf, endOfClauses, fitting}
 use Rattle.query.proofs.Below.{any-false, any-true}
 
 pub bind-none : {A B : Type 0} (o : Option A) (f : A → Option B) → ((a : A) → f a ≡ none) → (o >>= f) ≡ none

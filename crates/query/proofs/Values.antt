@@ -12,7 +12,8 @@ use Rattle.meaning.specs.Lent.{Index, joined}
 use Rattle.meaning.specs.Range.{NumericRange}
 use Rattle.meaning.specs.Query.{kindOf, recordCount, recordKind, recordValue, rangeOf}
 use Rattle.meaning.specs.QueryRefusals.{unusedFrom, wrongRange, otherField, wrongKind, wrongValues, wrong8, wrong10}
-use Rattle.query.specs.Read.{Lends, termWrong, phraseWrong, unboundedSet, boostWrong, phraseTermWrong, withoutPositions}
+use Rattle.query.specs.Read.{Lends}
+use Rattle.query.specs.Inner.{termWrong, phraseWrong, unboundedSet, boostWrong, phraseTermWrong, withoutPositions}
 use Rattle.query.proofs.Below.{any-false, any-true, or-left, or-right}
 
 -- ---- unused values

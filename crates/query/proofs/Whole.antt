@@ -10,7 +10,7 @@ use lib.ListN.{length}
 use borrow.Author.Tests.{lt-ltb, le-ltb, eq-eqb, ne-eqb, ltb-false, eqb-true, eqb-false, not-false}
 use Rattle.meaning.specs.Query.{recordCount, recordKind, recordChildren, recordOccurrence, Decoded, decode, decodeQuery, queryTree, treeOf, guard}
 use Rattle.meaning.specs.QueryRefusals.{wrong7, wrongRecords}
-use Rattle.query.specs.Read.{endOf}
+use Rattle.query.specs.Inner.{endOf}
 use Rattle.query.proofs.Below.{or-left, or-right, false-left, false-right}
 use Rattle.query.proofs.Inverse.{bind-some, guard-some, both-true, phrase-at}
 use Rattle.query.proofs.Spans.{Stands, a-tree, a-phrase-term, tree-stands}
@@ -89,10 +89,15 @@ module _ (q : List ℕ) where
 pub record-stands : (q : List ℕ) → wrong7 q ≡ false → (i : ℕ) → i < recordCount q → Stands q i
 record-stands q e i h = let w = whole q e in let n = w .none-left in tree-stands q 16 0 (w .root) (w .root-is) i (omega arith) (omega (arith, n, h))
 
--- a phrase's terms are records of the query, wherever the phrase stands
-pub terms-here : (q : List ℕ) → wrong7 q ≡ false → (r : ℕ) → r < recordCount q → recordKind q r ≡ 2 → r + 1 + recordChildren q r ≤ recordCount q
-terms-here q e r h k = go (record-stands q e r h)
+-- a record that says Phrase is one, wherever it stands, and its terms are records of the query
+pub phrase-stands : (q : List ℕ) → wrong7 q ≡ false → (r : ℕ) → r < recordCount q → recordKind q r ≡ 2 → (k : ℕ) × (D : Decoded) × (decode q (suc k) r ≡ some D)
+phrase-stands q e r h k = go (record-stands q e r h)
   where
-    go : Stands q r → r + 1 + recordChildren q r ≤ recordCount q
-    go (a-tree d D f) = phrase-at q d r D f k .terms-here
-    go (a-phrase-term t) = let nine = eqb-true (recordKind q r) 9 (both-true (eqb (recordKind q r) 9) _ (both-true (eqb (recordKind q r) 9 && eqb (recordOccurrence q r) 0) _ t .0) .0) in absurd (omega (arith, nine, k))
+    go : Stands q r → (k : ℕ) × (D : Decoded) × (decode q (suc k) r ≡ some D)
+    go (a-tree d D f) = (d, D, f)
+    go (a-phrase-term t) =
+        let nine = eqb-true (recordKind q r) 9 (both-true (eqb (recordKind q r) 9) _ (both-true (eqb (recordKind q r) 9 && eqb (recordOccurrence q r) 0) _ t .0) .0) in
+        absurd (omega (arith, nine, k))
+
+pub terms-here : (q : List ℕ) → wrong7 q ≡ false → (r : ℕ) → r < recordCount q → recordKind q r ≡ 2 → r + 1 + recordChildren q r ≤ recordCount q
+terms-here q e r h k = let p = phrase-stands q e r h k in phrase-at q (p .0) r (p .1) (p .2) k .terms-here

@@ -1,2 +1,3 @@
 -- What the contracts of this crate say beside document 01's definitions.
 pub mod Read
+pub mod Inner

@@ -15,7 +15,8 @@ ghost use Rattle.meaning.specs.Query.{recordCount, recordKind, recordOccurrence
 ghost use Rattle.meaning.specs.Score.{passed};
 ghost use Rattle.meaning.specs.QueryRefusals.{wrong7, wrong8, wrong9, wrong10, unusedFrom, wrongRange, wrongValues};
 ghost use Rattle.meaning.specs.CallRefusals.{rangeRecords, statesNeeded, rangesNeeded, largestIn, startsNeeded};
-ghost use Rattle.query.specs.Read.{recordOf, endOf, endOfClauses, fitting, endBelowLimit, clausesBelowLimit, Lends, Boosts, PhraseFields, PhraseRuns, termWrong, phraseWrong, anyOtherField, unboundedSet, boostWrong, phraseTermWrong, withoutPositions};
+ghost use Rattle.query.specs.Read.{recordOf, Lends, Boosts, PhraseFields, PhraseRuns};
+ghost use Rattle.query.specs.Inner.{endOf, endOfClauses, fitting, endBelowLimit, clausesBelowLimit, termWrong, phraseWrong, anyOtherField, unboundedSet, boostWrong, phraseTermWrong, withoutPositions};
 
 fn wide(x: u32) -> usize
     ensures { λ r. ⌜ r ≡ x ⌝ }

@@ -4,7 +4,7 @@ use mathlib.Core.Path.{_≡_, sym, _∙_, ap}
 use native.Mathlib.Omega.{arith}
 use borrow.Author.Tests.{eq-eqb, ne-eqb, le-leb, lt-leb}
 use Rattle.meaning.specs.Query.{aBoolean, aBoost, recordChildren, recordOccurrence, occurOf, decode, decodeClauses}
-use Rattle.query.specs.Read.{endOfClauses}
+use Rattle.query.specs.Inner.{endOfClauses}
 use Rattle.query.proofs.Steps.{fit-no, fit-zero, fit-yes, end-root, end-missing, end-term, end-phrase, end-clauses, end-range, end-all, end-constant, end-boost, end-none, end-other, child-missing, child-placed, child-there}
 use Rattle.query.proofs.Clauses.{no-occur-high, occur-known, clause-unknown, clause-none, clause-missing, clause-more, end-zero, no-clauses}
 use Prim.Native.Nat.{ℕ, _<_, _+_, _*_}

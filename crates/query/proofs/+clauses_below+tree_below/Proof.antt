@@ -6,7 +6,7 @@ use mathlib.Core.Bool.{true, false}
 use native.Mathlib.Omega.{arith}
 use Rattle.meaning.specs.Score.{boosted}
 use Rattle.meaning.specs.Query.{recordChildren, occurOf, DecodedClauses, decode, decodeClauses}
-use Rattle.query.specs.Read.{endBelowLimit, clausesBelowLimit}
+use Rattle.query.specs.Inner.{endBelowLimit, clausesBelowLimit}
 use Rattle.query.proofs.Above.{limit, limit-passed, level, decoded-here, boost-number, below-phrase, below-leaf, below-boolean, below-constant, below-boost, below-clauses, below-constant-child, below-boost-child, left-below, first-clause, none-left-below, clause-above, clause-on}
 use Prim.Native.Nat.{ℕ, _<_, _+_, _-_, _*_}
 use borrow.Fn.Kinds.{In}

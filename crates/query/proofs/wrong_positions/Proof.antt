@@ -6,7 +6,7 @@ use mathlib.Core.Bool.{true, false}
 use mathlib.Core.List.{List}
 use native.Mathlib.Omega.{arith}
 use borrow.Author.Count.{below-more}
-use Rattle.query.specs.Read.{withoutPositions}
+use Rattle.query.specs.Inner.{withoutPositions}
 use Rattle.query.proofs.Values.{some-positions, no-positions}
 use Rattle.query.proofs.wrong_positions.Statement.{statement}
 use Rattle.query.proofs.wrong_positions.Tie as tie
