@@ -2,6 +2,7 @@
 //! the unchanged Rust where it has the function, and else by Rust's own IEEE 754 operations. Both
 //! sides make the inputs by the same short rules.
 mod ieee754;
+mod sim;
 
 use std::io;
 use std::path::Path;
@@ -10,7 +11,10 @@ use std::path::Path;
 pub type Recorded = (&'static str, String);
 
 pub fn all() -> Vec<Recorded> {
-    vec![("ieee754_vectors", ieee754::text())]
+    vec![
+        ("ieee754_vectors", ieee754::text()),
+        ("sim_vectors", sim::text()),
+    ]
 }
 
 /// Writes each stdout into its crate's folder.
