@@ -1,4 +1,5 @@
 // What the programs of vectors share: values from patterns, what a value or a list prints as, and numbers from a seed.
+ghost use Prim.Native.Nat.{_≤_};
 
 // The value of a pattern; every pattern of a NaN gives a NaN.
 pub fn f64_of(bits: u64) -> f64 {
@@ -51,6 +52,11 @@ pub fn end_line() {
     io::write_all(1, b"\n");
 }
 
+// What stands for an answer that is not there.
+pub fn print_nothing() {
+    io::write_all(1, b"-");
+}
+
 // The first n numbers of a list, or all of it, on one line.
 pub fn print_list(list: &[u32], n: u32) {
     let mut i = 0;
@@ -68,4 +74,11 @@ pub fn xorshift(x: u64) -> u64 {
     let a = x ^ (x << 13);
     let b = a ^ (a >> 7);
     b ^ (b << 17)
+}
+
+// What a number leaves, divided by `end`; 0 where that is 0.
+pub fn below(x: u64, end: u32) -> u32
+    ensures { λ r. ⌜ r ≤ end ⌝ }
+{
+    if end == 0 { 0 } else { (x % end as u64) as u32 }
 }

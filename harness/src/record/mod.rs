@@ -3,6 +3,7 @@
 //! sides make the inputs by the same short rules.
 mod doc_values;
 mod ieee754;
+mod phrase;
 mod sim;
 
 use std::io;
@@ -16,6 +17,7 @@ pub fn all() -> Vec<Recorded> {
         ("ieee754_vectors", ieee754::text()),
         ("sim_vectors", sim::text()),
         ("doc_values_vectors", doc_values::text()),
+        ("phrase_vectors", phrase::text()),
     ]
 }
 
