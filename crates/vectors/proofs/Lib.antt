@@ -1,2 +1,3 @@
--- The law that the proofs of this crate cite.
+-- The laws that the proofs of this crate cite.
 pub mod Patterns
+pub mod Signed

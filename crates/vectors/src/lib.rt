@@ -48,13 +48,18 @@ pub fn print_number(n: u32) {
     io::write_all(1, b" ");
 }
 
-pub fn end_line() {
-    io::write_all(1, b"\n");
+// A code's sixteen hexadecimal digits and a space; `-` where it is below 0.
+pub fn print_code(code: i64) {
+    if code >= 0 {
+        io::print_hex(1, code as u64, 16);
+        io::write_all(1, b" ");
+    } else {
+        io::write_all(1, b"- ");
+    }
 }
 
-// What stands for an answer that is not there.
-pub fn print_nothing() {
-    io::write_all(1, b"-");
+pub fn end_line() {
+    io::write_all(1, b"\n");
 }
 
 // The first n numbers of a list, or all of it, on one line.

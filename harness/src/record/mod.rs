@@ -1,6 +1,7 @@
 //! What the programs of vectors (crates/*_vectors) have to print, worked out outside of our code: by
 //! the unchanged Rust where it has the function, and else by Rust's own IEEE 754 operations. Both
 //! sides make the inputs by the same short rules.
+mod collector;
 mod doc_values;
 mod ieee754;
 mod phrase;
@@ -18,6 +19,7 @@ pub fn all() -> Vec<Recorded> {
         ("sim_vectors", sim::text()),
         ("doc_values_vectors", doc_values::text()),
         ("phrase_vectors", phrase::text()),
+        ("collector_vectors", collector::text()),
     ]
 }
 
