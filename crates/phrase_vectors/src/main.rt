@@ -83,7 +83,11 @@ fn print_frequency(positions: &[u32], terms: &[u32])
     vectors::print_number(phrase::frequency(positions, terms, &mut a, &mut b));
 }
 
-// Whether there is a place; which start it is, any common one is right.
+fn print_none() {
+    io::write_all(1, b"none");
+}
+
+// The start that Place answers: any common one is right, and the code gives the least.
 fn print_place(positions: &[u32], terms: &[u32])
     requires { ⌜ Asked (now positions) (now terms) 8 ⌝ }
 {
@@ -91,10 +95,10 @@ fn print_place(positions: &[u32], terms: &[u32])
     let mut b = [0i32; 8];
     let placed = phrase::place(positions, terms, &mut a, &mut b);
     match placed {
-        Placed::At(start) => io::write_all(1, b"at\n"),
-        Placed::Nothing => io::write_all(1, b"-\n"),
+        Placed::At(start) => vectors::print_signed(start),
+        Placed::Nothing => print_none(),
     }
-    ;
+    vectors::end_line();
 }
 
 fn print_phrase(positions: &[u32], terms: &[u32]) {

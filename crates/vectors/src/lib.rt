@@ -58,6 +58,17 @@ pub fn print_code(code: i64) {
     }
 }
 
+// A signed number.
+pub fn print_signed(n: i32) {
+    let x = n as i64;
+    if x >= 0 {
+        io::print_decimal(1, x as u64);
+    } else {
+        io::write_all(1, b"-");
+        io::print_decimal(1, (0 - x) as u64);
+    }
+}
+
 pub fn end_line() {
     io::write_all(1, b"\n");
 }

@@ -1,6 +1,6 @@
 //! A frequency is read back from the score that the unchanged Rust gives to a query of one phrase
-//! over one document; whether there is a place is whether the Rust takes the document. A plain
-//! count of the common starts has to agree.
+//! over one document, and a plain count of the common starts has to agree. The Rust has no Place:
+//! the least common start is the plain count's.
 use super::numbers;
 use crate::catalogue::Catalogue;
 use crate::oracle::{self, Oracle};
@@ -30,9 +30,9 @@ fn asked(position_base: u32, offset_base: u32, times: u64) -> String {
         let seed = 0x9e37_79b9_7f4a_7c15u64.wrapping_mul(i + 1).wrapping_add(1);
         let mut terms = terms(position_base, offset_base, seed);
         terms.truncate(1 + i as usize % 5);
-        let frequency = frequency(&terms);
-        assert_eq!(frequency, common(&terms));
-        let place = if frequency > 0 { "at" } else { "-" };
+        let (frequency, starts) = (frequency(&terms), common(&terms));
+        assert_eq!(frequency as usize, starts.len());
+        let place = starts.first().map_or("none".into(), i64::to_string);
         text += &format!("{frequency} {place}\n");
     }
     text
@@ -77,18 +77,19 @@ fn frequency(terms: &[Term]) -> u32 {
     frequency
 }
 
-/// The starts that every term has, each as often as it has it in all of them.
-fn common(terms: &[Term]) -> u32 {
+/// The starts that every term has, ascending, each with its smallest multiplicity.
+fn common(terms: &[Term]) -> Vec<i64> {
     let starts = |(positions, offset): &Term| -> Vec<i64> {
         let start = |position: &u32| i64::from(*position) - i64::from(*offset);
         positions.iter().map(start).collect()
     };
     let all: Vec<_> = terms.iter().map(starts).collect();
-    let mut first = all[0].clone();
-    first.dedup();
-    let times = |s: i64| {
-        all.iter()
-            .map(move |own| own.iter().filter(|t| **t == s).count())
+    let mut distinct = all[0].clone();
+    distinct.dedup();
+    let times = |s: &i64| {
+        let own = |own: &Vec<i64>| own.iter().filter(|t| *t == s).count();
+        all.iter().map(own).min().unwrap()
     };
-    first.iter().map(|s| times(*s).min().unwrap() as u32).sum()
+    let repeated = distinct.iter().map(|s| vec![*s; times(s)]);
+    repeated.collect::<Vec<_>>().concat()
 }
