@@ -10,6 +10,8 @@ pub mod generate;
 pub mod oracle;
 pub mod query;
 pub mod random;
+#[cfg(oracle)]
+pub mod record;
 pub mod refusal;
 
 // The source names its own modules from the crate's root, so they stand here.

@@ -1,0 +1,2 @@
+-- What the check of picked lists shows.
+pub mod Checks

@@ -1,0 +1,2 @@
+-- What the functions over columns ask.
+pub mod Columns

@@ -1,0 +1,2 @@
+-- What the checks of a phrase show.
+pub mod Checks

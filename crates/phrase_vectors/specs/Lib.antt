@@ -1,0 +1,2 @@
+-- When a phrase may be asked.
+pub mod Asked
