@@ -1,13 +1,12 @@
 // Posting records, three words each: document, frequency, index of the first position.
 ghost use mathlib.Core.Path.{_≡_};
 ghost use mathlib.Core.List.{[]};
-ghost use mathlib.Core.Bool.{false, _||_};
-ghost use Prim.Native.Nat.{_<_, _≤_, _+_, _*_, _/_};
-ghost use lib.Dec.{eqb, leb, ltb};
+ghost use mathlib.Core.Bool.{false};
+ghost use Prim.Native.Nat.{_<_, _≤_, _+_, _/_};
 ghost use lib.ListN.{length};
 ghost use Rattle.meaning.specs.Below.{anyBelow};
-ghost use Rattle.meaning.specs.Lent.{leafCount, leafNumber};
-ghost use Rattle.meaning.specs.IndexRefusals.{wrong4, wrong5, wrongPosting, notWhole};
+ghost use Rattle.meaning.specs.Lent.{leafNumber};
+ghost use Rattle.meaning.specs.IndexRefusals.{wrong4, wrong5, wrongPosting};
 ghost use Rattle.index.specs.Slices.{leavesOnly, runsOnly};
 ghost use Rattle.index.specs.Runs.{postingDocument, postingFrequency, postingIndex, wrongRecord};
 use super::fields::field_at;
