@@ -1,7 +1,7 @@
 -- The law for the crates above: an index of which none of 1 to 6 holds is `Accepted`. Assumes nothing.
 use mathlib.Core.Path.{_≡_, sym, ap, _∙_}
 use mathlib.Core.Logic.{⊎-elim}
-use mathlib.Core.Bool.{Bool, true, false, not, _&&_, _||_, true≢false}
+use mathlib.Core.Bool.{Bool, true, false, not, _&&_, _||_}
 use Prim.Native.Nat.{ℕ, zero, suc, _+_, _-_, _*_, _/_, _≤_, _<_}
 use native.Mathlib.Nat.{mul-le-mul-right}
 use native.Mathlib.Omega.{arith}
@@ -15,13 +15,8 @@ use Rattle.meaning.specs.IndexRefusals.{notWhole, wrong1, wrong2, wrong3, wrong
 use Rattle.index.specs.Accepted.{Accepted, PostingOk, Ascending, ColumnOk}
 use Rattle.index.specs.Refusal.{indexRefusal}
 use Rattle.index.proofs.Refused.{not-1, not-2, not-3, not-4, not-5, not-6}
-use Rattle.index.proofs.Below.{or-left, or-right, or-3, or-4, last-or-below, any-at, count-lt}
+use Rattle.index.proofs.Below.{and-second, or-left, or-right, or-3, or-4, last-or-below, any-at, count-lt}
 use Rattle.index.proofs.Known.{documents-few, whole-words, fields-whole, fields-few, field-ok, leaves-whole, leaves-few, leaf-ok}
-
--- an `&&` whose first part holds
-and-second : (a b : Bool) → (a && b) ≡ false → a ≡ true → b ≡ false
-and-second true b e g = e
-and-second false b e g = absurd (true≢false (sym g))
 
 -- a list that does not fall from one place to the next does not fall at all
 not-falling : (f : ℕ → ℕ) (n : ℕ) → ((i : ℕ) → i + 1 < n → f i ≤ f (i + 1)) → (j k : ℕ) → j ≤ k → k < n → f j ≤ f k

@@ -1,7 +1,7 @@
 -- Laws of `anyBelow` and `countBelow`. Assumes nothing.
 use mathlib.Core.Path.{_≡_, refl, sym, ap, _∙_}
 use mathlib.Core.Logic.{_⊎_, ⊎-elim}
-use mathlib.Core.Bool.{Bool, true, false, cond, _&&_, _||_, and-or-distrib-right, or-assoc, or-comm, or-true, false≢true}
+use mathlib.Core.Bool.{Bool, true, false, cond, _&&_, _||_, and-or-distrib-right, or-assoc, or-comm, or-true, false≢true, true≢false}
 use Prim.Native.Nat.{ℕ, zero, suc, _+_, _*_, _≤_, _<_}
 use native.Mathlib.Nat.{le-refl, eq-or-lt-of-le, add-suc, add-zero}
 use native.Mathlib.Numerals.{add-one}
@@ -16,6 +16,11 @@ or-left false b e = refl
 pub or-right : (a b : Bool) → (a || b) ≡ false → b ≡ false
 or-right true b e = absurd (false≢true (sym e))
 or-right false b e = e
+
+-- an `&&` whose first part holds
+pub and-second : (a b : Bool) → (a && b) ≡ false → a ≡ true → b ≡ false
+and-second true b e g = e
+and-second false b e g = absurd (true≢false (sym g))
 
 -- the parts of a longer one
 pub or-3 : (a b c : Bool) → (a || b || c) ≡ false → (a ≡ false) × (b ≡ false) × (c ≡ false)

@@ -35,6 +35,9 @@ ltb-suc a b = rw add-one (leb·suc-suc a b)
 abbrev pub previousOf : List ℕ → ℕ → ℕ
 previousOf part = carried (λ i. getD part i 0)
 
+pub place-next : (part : List ℕ) (j : ℕ) → getD part j 0 ≡ previousOf part (j + 1)
+place-next part j = carried-next (λ i. getD part i 0) j
+
 place-flag : (part : List ℕ) (j : ℕ) → (leb 2147483648 (getD part j 0) || ltb (getD part j 0) (previousOf part j)) ≡ wrongPlace part j
 unfolding wrongPlace
 place-flag part zero = rw (le-ltb (getD part 0 0) 0 (omega arith))

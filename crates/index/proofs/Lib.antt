@@ -11,3 +11,5 @@ pub mod Words
 pub mod Refused
 pub mod Accepted
 pub mod PostingAt
+pub mod Prefix
+pub mod Joined

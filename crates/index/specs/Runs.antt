@@ -31,3 +31,16 @@ wrongPlace part j = ltb noMoreDocs (getD part j 0) || (ltb 0 j && ltb (getD part
 unfoldable pub wrongPlaces : List ℕ → List ℕ → ℕ → Bool
 wrongPlaces run positions i =
     ltb (length positions) (getD run (3 * i + 2) 0 + getD run (3 * i + 1) 0) || anyBelow (getD run (3 * i + 1) 0) (wrongPlace (drop (getD run (3 * i + 2) 0) positions))
+
+-- the positions of the i-th record do not begin where those of the one before end
+unfoldable pub apartAt : List ℕ → ℕ → Bool
+apartAt run i = ltb 0 i && not (eqb (getD run (3 * i + 2) 0) (getD run (3 * (i - 1) + 2) 0 + getD run (3 * (i - 1) + 1) 0))
+
+-- a fall from the word before
+unfoldable pub fallAt : List ℕ → ℕ → Bool
+fallAt part k = ltb 0 k && ltb (getD part k 0) (getD part (k - 1) 0)
+
+-- a fall where the positions of the i-th record begin
+unfoldable pub seamAt : List ℕ → List ℕ → ℕ → Bool
+seamAt run positions i =
+    ltb 0 i && ltb (getD positions (getD run (3 * i + 2) 0) 0) (getD positions (getD run (3 * i + 2) 0 - 1) 0)

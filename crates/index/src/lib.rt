@@ -4,6 +4,7 @@ pub mod fields;
 pub mod leaves;
 pub mod live;
 pub mod norms;
+pub mod positions;
 pub mod postings;
 
 ghost use mathlib.Core.Path.{_≡_};

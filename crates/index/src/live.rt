@@ -1,6 +1,5 @@
 // Live words, 64 documents each.
 ghost use mathlib.Core.Path.{_≡_};
-ghost use mathlib.Core.Logic.{_⊎_};
 ghost use Prim.Native.Nat.{_<_, _*_};
 ghost use lib.ListN.{length};
 ghost use Rattle.meaning.specs.Live.{isLive};

@@ -5,7 +5,7 @@ ghost use Prim.Native.Nat.{_<_, _≤_, _+_, _*_, _/_};
 ghost use lib.ListN.{length};
 ghost use Rattle.meaning.specs.Below.{countBelow};
 ghost use Rattle.meaning.specs.Lent.{hasNorms, normByte};
-ghost use Rattle.meaning.specs.IndexRefusals.{wrong1, wrong2, wrong3};
+ghost use Rattle.meaning.specs.IndexRefusals.{wrong2, wrong3};
 ghost use Rattle.index.specs.Slices.{fieldsOnly, normsOnly, lengthsOnly};
 use super::wide;
 

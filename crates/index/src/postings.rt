@@ -1,18 +1,17 @@
 // Posting records, three words each: document, frequency, index of the first position.
 ghost use mathlib.Core.Path.{_≡_};
 ghost use mathlib.Core.List.{[]};
-ghost use mathlib.Core.Bool.{false, _||_};
-ghost use Prim.Native.Nat.{_<_, _≤_, _+_, _*_, _/_};
-ghost use lib.Dec.{eqb, leb, ltb};
+ghost use mathlib.Core.Bool.{false};
+ghost use Prim.Native.Nat.{_<_, _≤_, _+_, _/_};
 ghost use lib.ListN.{length};
 ghost use Rattle.meaning.specs.Below.{anyBelow};
-ghost use Rattle.meaning.specs.Lent.{leafCount, leafNumber};
-ghost use Rattle.meaning.specs.IndexRefusals.{wrong4, wrong5, wrongPosting, notWhole};
+ghost use Rattle.meaning.specs.Lent.{leafNumber};
+ghost use Rattle.meaning.specs.IndexRefusals.{wrong4, wrong5, wrongPosting};
 ghost use Rattle.index.specs.Slices.{leavesOnly, runsOnly};
-ghost use Rattle.index.specs.Runs.{postingDocument, postingFrequency, postingIndex, wrongRecord, wrongPlace, wrongPlaces};
+ghost use Rattle.index.specs.Runs.{postingDocument, postingFrequency, postingIndex, wrongRecord};
 use super::fields::field_at;
 use super::leaves::leaf_at;
-use super::sum;
+use super::positions::wrong_run_positions;
 use super::wide;
 use std::num::wrapping_add_u32;
 use std::num::wrapping_sub_u32;
@@ -71,42 +70,6 @@ fn wrong_records(run: &[u32], max_doc: u32, has_positions: bool) -> bool
         | ((indexes > 0) & !has_positions)
 }
 
-// The positions of one posting in one pass without a branch: falling, or above NO_MORE_DOCS, by the high bit of an or.
-fn wrong_places(part: &[u32]) -> bool
-    ensures { λ r. ⌜ r ≡ anyBelow (length (now (part .entry))) (wrongPlace (now (part .entry))) ⌝ }
-{
-    let mut steps: u32 = 0;
-    let mut previous: u32 = 0;
-    let mut j = 0;
-    while j < part.len() {
-        let place = part[j];
-        steps = steps | place | wrapping_sub_u32(place, previous);
-        previous = place;
-        j += 1;
-    }
-    steps > NO_MORE_DOCS
-}
-
-// The positions of a run's postings, where they lie within the slice.
-fn wrong_run_places(run: &[u32], positions: &[u32]) -> bool
-    ensures { λ r. ⌜ r ≡ anyBelow (length (now (run .entry)) / 3) (wrongPlaces (now (run .entry)) (now (positions .entry))) ⌝ }
-{
-    let count = run.len() / 3;
-    let mut bad = false;
-    let mut i = 0;
-    while i < count {
-        let index = run[3 * i + 2];
-        let from = wide(index);
-        let end = sum(index, run[3 * i + 1]);
-        if end > positions.len() {
-            return true;
-        }
-        bad = bad | wrong_places(&positions[from..end]);
-        i += 1;
-    }
-    bad
-}
-
 // Leaf l's run: its records, and in a field with positions its positions; without, every index is 0.
 fn wrong_run(
     max_doc: u32,
@@ -127,7 +90,11 @@ fn wrong_run(
     let to = from + 3 * wide(leaf.number);
     let run = &postings[from..to];
     if field.positions == 1 {
-        wrong_records(run, max_doc, true) | wrong_run_places(run, positions)
+        if wrong_records(run, max_doc, true) {
+            true
+        } else {
+            wrong_run_positions(run, positions)
+        }
     } else {
         wrong_records(run, max_doc, false)
     }

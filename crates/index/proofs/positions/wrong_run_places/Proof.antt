@@ -1,4 +1,4 @@
--- `index::postings::wrong_run_places` meets its contract. Assumes nothing.
+-- `index::positions::wrong_run_places` meets its contract. Assumes nothing.
 use Rattle.index.specs.Runs.{wrongPlaces}
 use Rattle.index.proofs.Runs.{places-flag, places-past}
 use Rattle.meaning.specs.Below.{anyBelow}
@@ -7,8 +7,8 @@ use Prim.Native.Nat.{_-_, _≤_}
 use mathlib.Core.Path.{_≡_, sym}
 use Rattle.index.proofs.Below.{any-none, any-more, any-done, any-hit}
 use borrow.Author.Needs.{needs}
-use Rattle.index.proofs.postings.wrong_run_places.Statement.{statement}
-use Rattle.index.proofs.postings.wrong_run_places.Tie as tie
+use Rattle.index.proofs.positions.wrong_run_places.Statement.{statement}
+use Rattle.index.proofs.positions.wrong_run_places.Tie as tie
 
 abbrev Inv-loop : tie.InvT-loop
 Inv-loop run positions count bad₀ i₀ bad i = (bad ≡ anyBelow i (wrongPlaces run positions)) × (i ≤ count)

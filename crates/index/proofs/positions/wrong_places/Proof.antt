@@ -1,12 +1,12 @@
--- `index::postings::wrong_places` meets its contract. Assumes nothing.
+-- `index::positions::wrong_places` meets its contract. Assumes nothing.
 use Rattle.index.proofs.Below.{any-done}
 use lib.ListN.{length}
 use native.Mathlib.Omega.{arith}
 use Prim.Native.Nat.{_-_, _≤_}
 use borrow.Author.Needs.{needs}
 use Rattle.index.proofs.Gathered.{Places, places-none, places-more}
-use Rattle.index.proofs.postings.wrong_places.Statement.{statement}
-use Rattle.index.proofs.postings.wrong_places.Tie as tie
+use Rattle.index.proofs.positions.wrong_places.Statement.{statement}
+use Rattle.index.proofs.positions.wrong_places.Tie as tie
 
 abbrev Inv-loop : tie.InvT-loop
 Inv-loop part steps₀ previous₀ j₀ steps previous j = Places part j steps previous × (j ≤ length part)

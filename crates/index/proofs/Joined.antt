@@ -1,0 +1,162 @@
+-- A run whose postings' positions follow one another: one pass over all of them. Assumes nothing.
+use mathlib.Core.Path.{_≡_, refl, sym, ap, _∙_}
+use mathlib.Core.Bool.{Bool, true, false, not, _&&_, _||_}
+use mathlib.Core.List.{List}
+use Prim.Native.Nat.{ℕ, zero, suc, _+_, _-_, _*_, _≤_, _<_}
+use native.Mathlib.Omega.{arith}
+use lib.Bits.{bitOr}
+use lib.Dec.{eqb, leb, ltb}
+use lib.ListN.{length, getD, take, drop, length-take, length-drop}
+use lib.Seq.{getD-take, getD-drop}
+use borrow.Author.Tests.{lt-ltb, le-ltb, eqb-true, eqb-false, not-false}
+use Rattle.meaning.specs.Below.{anyBelow, countBelow}
+use Rattle.meaning.specs.Limits.{noMoreDocs}
+use Rattle.index.specs.Runs.{wrongRecord, wrongPlace, wrongPlaces, apartAt, fallAt, seamAt}
+use Rattle.index.proofs.Below.{any-more, any-at, any-hit, any-like, any-or, or-left, or-right, and-second}
+use Rattle.index.specs.declared.positions.Seen.{Seen}
+use Rattle.index.specs.Records.{seenOf}
+use Rattle.index.proofs.High.{high-or}
+use Rattle.index.proofs.Gathered.{previousOf}
+use Rattle.index.proofs.Prefix.{before, before-zero, before-next, before-le, any-parts, more-than-firsts}
+
+-- a record that is right has a frequency above 0
+pub records-some : (n : ℕ) (positions : Bool) (run : List ℕ) (k : ℕ) → anyBelow k (wrongRecord n positions run) ≡ false → (i : ℕ) → i < k → 0 < getD run (3 * i + 1) 0
+unfolding wrongRecord
+records-some n positions run k e i l =
+    let z : getD run (3 * i + 1) 0 ≡ 0 → ⊥ = eqb-false _ _ (or-left (eqb (getD run (3 * i + 1) 0) 0) (ltb 16777216 (getD run (3 * i + 1) 0)) (or-right (leb n (getD run (3 * i) 0) || (ltb 0 i && leb (getD run (3 * i) 0) (getD run (3 * (i - 1)) 0))) (eqb (getD run (3 * i + 1) 0) 0 || ltb 16777216 (getD run (3 * i + 1) 0)) (or-left ((leb n (getD run (3 * i) 0) || (ltb 0 i && leb (getD run (3 * i) 0) (getD run (3 * (i - 1)) 0))) || (eqb (getD run (3 * i + 1) 0) 0 || ltb 16777216 (getD run (3 * i + 1) 0))) (ltb 0 (getD run (3 * i + 2) 0) && not positions) (any-at k (wrongRecord n positions run) e i l)))) in omega arith
+
+abbrev indexAt : List ℕ → ℕ → ℕ
+indexAt run i = getD run (3 * i + 2) 0
+
+abbrev frequencyAt : List ℕ → ℕ → ℕ
+frequencyAt run i = getD run (3 * i + 1) 0
+
+pred-suc : (i : ℕ) → suc i - 1 ≡ i
+pred-suc i = omega arith
+
+module _ (run : List ℕ) (n : ℕ) (joined : anyBelow n (apartAt run) ≡ false) where
+  next-is : (i : ℕ) → suc i < n → indexAt run (suc i) ≡ indexAt run i + frequencyAt run i
+  unfolding apartAt
+  next-is i l =
+      let h : 0 < suc i = omega arith in let e : not (eqb (indexAt run (suc i)) (indexAt run (suc i - 1) + frequencyAt run (suc i - 1))) ≡ false = and-second (ltb 0 (suc i)) _ (any-at n (apartAt run) joined (suc i) l) (lt-ltb _ _ h) in eqb-true _ _ (not-false _ e) ∙ rw (pred-suc i)
+
+  pub index-is : (i : ℕ) → i < n → indexAt run i ≡ indexAt run 0 + before (frequencyAt run) i
+  index-is zero l = omega (arith, before-zero (frequencyAt run))
+  index-is (suc i) l = omega (arith, next-is i l, index-is i (omega arith), before-next (frequencyAt run) i)
+
+  module _ (end : ℕ) (some : 0 < n) (e : end ≡ indexAt run (n - 1) + frequencyAt run (n - 1)) where
+    pub end-is : end ≡ indexAt run 0 + before (frequencyAt run) n
+    end-is = let k : suc (n - 1) ≡ n = omega arith in omega (arith, index-is (n - 1) (omega arith), before-next (frequencyAt run) (n - 1), ap (before (frequencyAt run)) k)
+
+    pub ends-within : (i : ℕ) → i < n → indexAt run i + frequencyAt run i ≤ end
+    ends-within i l = omega (arith, index-is i l, before-next (frequencyAt run) i, before-le (frequencyAt run) (suc i) n (omega arith), end-is)
+
+    -- where they do not fit the slice, the last posting's do not
+    pub joined-past : (positions : List ℕ) → length positions < end → anyBelow n (wrongPlaces run positions) ≡ true
+    unfolding wrongPlaces
+    joined-past positions l =
+        let h : length positions < indexAt run (n - 1) + frequencyAt run (n - 1) = omega arith in any-hit n (wrongPlaces run positions) (n - 1) (omega arith) (rw (lt-ltb _ _ h))
+
+    -- where they do
+    module _ (positions : List ℕ) (fits : end ≤ length positions) (above : (i : ℕ) → i < n → 0 < frequencyAt run i) where
+      abbrev part : List ℕ
+      part = take (end - indexAt run 0) (drop (indexAt run 0) positions)
+
+      part-length : length part ≡ before (frequencyAt run) n
+      part-length = simp (length-take, length-drop) (omega (arith, end-is))
+
+      part-at : (k m : ℕ) → k < before (frequencyAt run) n → indexAt run 0 + k ≡ m → getD part k 0 ≡ getD positions m 0
+      part-at k m l g =
+          let h : k < end - indexAt run 0 = omega (arith, end-is) in getD-take _ _ k 0 h ∙ getD-drop _ positions k 0 ∙ ap (λ (x : ℕ). getD positions x 0) g
+
+      within : (i j : ℕ) → i < n → j < frequencyAt run i → before (frequencyAt run) i + j < before (frequencyAt run) n
+      within i j l g = omega (arith, before-next (frequencyAt run) i, before-le (frequencyAt run) (suc i) n (omega arith))
+
+      place-at : (i j : ℕ) → i < n → j < frequencyAt run i → getD part (before (frequencyAt run) i + j) 0 ≡ getD (drop (indexAt run i) positions) j 0
+      place-at i j l g =
+          part-at (before (frequencyAt run) i + j) (indexAt run i + j) (within i j l g) (omega (arith, index-is i l)) ∙ sym (getD-drop (indexAt run i) positions j 0)
+
+      high-all : anyBelow (length part) (λ k. ltb noMoreDocs (getD part k 0)) ≡ anyBelow n (λ i. anyBelow (frequencyAt run i) (λ j. ltb noMoreDocs (getD (drop (indexAt run i) positions) j 0)))
+      high-all =
+          ap (λ (m : ℕ). anyBelow m (λ k. ltb noMoreDocs (getD part k 0))) part-length ∙ any-parts (frequencyAt run) n (λ k. ltb noMoreDocs (getD part k 0)) ∙ any-like n _ _ (λ i l. any-like (frequencyAt run i) _ _ (λ j g. ap (λ (x : ℕ). ltb noMoreDocs x) (place-at i j l g)))
+
+      -- a posting's first position
+      first-fall : (i : ℕ) → i < n → fallAt part (before (frequencyAt run) i) ≡ seamAt run positions i
+      unfolding fallAt seamAt
+      first-fall zero l = rw (before-zero (frequencyAt run))
+      first-fall (suc i) l =
+          let b : 0 < before (frequencyAt run) (suc i) = omega (arith, before-next (frequencyAt run) i, above i (omega arith)) in let h : 0 < suc i = omega arith in let w : before (frequencyAt run) (suc i) < before (frequencyAt run) n = omega (arith, within (suc i) 0 l (above (suc i) l)) in rw (lt-ltb _ _ b, lt-ltb _ _ h, part-at (before (frequencyAt run) (suc i)) (indexAt run (suc i)) w (omega (arith, index-is (suc i) l)), part-at (before (frequencyAt run) (suc i) - 1) (indexAt run (suc i) - 1) (omega arith) (omega (arith, index-is (suc i) l)))
+
+      -- its others
+      other-fall : (i j : ℕ) → i < n → 0 < j → j < frequencyAt run i → fallAt part (before (frequencyAt run) i + j) ≡ fallAt (drop (indexAt run i) positions) j
+      unfolding fallAt
+      other-fall i j l h g =
+          let b : 0 < before (frequencyAt run) i + j = omega arith in let k : before (frequencyAt run) i + j - 1 ≡ before (frequencyAt run) i + (j - 1) = omega arith in rw (lt-ltb _ _ b, lt-ltb _ _ h, k, place-at i j l g, place-at i (j - 1) l (omega arith))
+
+      no-fall : (i : ℕ) → fallAt (drop (indexAt run i) positions) 0 ≡ false
+      unfolding fallAt
+      no-fall i = refl
+
+      falls-all : not (eqb (countBelow (length part) (fallAt part)) (countBelow n (seamAt run positions))) ≡ anyBelow n (λ i. anyBelow (frequencyAt run i) (fallAt (drop (indexAt run i) positions)))
+      falls-all =
+          ap (λ (m : ℕ). not (eqb (countBelow m (fallAt part)) (countBelow n (seamAt run positions)))) part-length ∙ more-than-firsts (frequencyAt run) (fallAt part) (seamAt run positions) (λ i. fallAt (drop (indexAt run i) positions)) no-fall n above first-fall other-fall
+
+      places-are : (i : ℕ) → i < n → wrongPlaces run positions i ≡ (anyBelow (frequencyAt run i) (λ j. ltb noMoreDocs (getD (drop (indexAt run i) positions) j 0)) || anyBelow (frequencyAt run i) (fallAt (drop (indexAt run i) positions)))
+      unfolding wrongPlaces wrongPlace fallAt
+      places-are i l =
+          let h : indexAt run i + frequencyAt run i ≤ length positions = omega (arith, ends-within i l) in rw (le-ltb _ _ h) (any-or (frequencyAt run i) (λ j. ltb noMoreDocs (getD (drop (indexAt run i) positions) j 0)) (fallAt (drop (indexAt run i) positions)))
+
+      pub joined-all : (anyBelow (length part) (λ k. ltb noMoreDocs (getD part k 0)) || not (eqb (countBelow (length part) (fallAt part)) (countBelow n (seamAt run positions)))) ≡ anyBelow n (wrongPlaces run positions)
+      joined-all =
+          ap (λ (b : Bool). b || not (eqb (countBelow (length part) (fallAt part)) (countBelow n (seamAt run positions)))) high-all ∙ ap (λ (b : Bool). anyBelow n (λ i. anyBelow (frequencyAt run i) (λ j. ltb noMoreDocs (getD (drop (indexAt run i) positions) j 0))) || b) falls-all ∙ sym (any-or n _ _) ∙ any-like n _ _ (λ i l. sym (places-are i l))
+
+      -- the same where the code holds what it saw in locals
+      pub joined-flag : (from : ℕ) → from ≡ indexAt run 0 → (s : Seen) → s ≡ seenOf (take (end - from) (drop from positions)) → (w z : ℕ) → w ≡ s .falls → z ≡ countBelow n (seamAt run positions) → (s .high || not (eqb w z)) ≡ anyBelow n (wrongPlaces run positions)
+      joined-flag from f s k w z g h = rw (g, h, k, f) joined-all
+
+      -- what `seams` reads lies within the slice
+      pub seam-within : (i : ℕ) → 0 < i → i < n → (0 < indexAt run i) × (indexAt run i < length positions)
+      seam-within zero h l = absurd (omega arith)
+      seam-within (suc i) h l = (omega (arith, index-is (suc i) l, before-next (frequencyAt run) i, above i (omega arith)), omega (arith, ends-within (suc i) l, above (suc i) l))
+
+-- ---- the loops
+pub apart-first : (run : List ℕ) → false ≡ anyBelow 1 (apartAt run)
+unfolding anyBelow apartAt
+apart-first run = refl
+
+pub apart-turn : (run : List ℕ) (i w next : ℕ) → 0 < i → w ≡ indexAt run i → next ≡ indexAt run (i - 1) + frequencyAt run (i - 1) → not (eqb w next) ≡ apartAt run i
+unfolding apartAt
+apart-turn run i w next h e g = rw (lt-ltb _ _ h, e, g)
+
+pred-add : (i : ℕ) → i + 1 - 1 ≡ i
+pred-add i = omega arith
+
+pub apart-next : (run : List ℕ) (i x : ℕ) → x ≡ indexAt run i + frequencyAt run i → x ≡ indexAt run (i + 1 - 1) + frequencyAt run (i + 1 - 1)
+apart-next run i x e = e ∙ rw (pred-add i)
+
+pub seam-first : (run positions : List ℕ) → _≡_ {A = ℕ} 0 (countBelow 1 (seamAt run positions))
+unfolding countBelow seamAt
+seam-first run positions = refl
+
+pub seam-turn : (run positions : List ℕ) (i w : ℕ) → 0 < i → w ≡ indexAt run i → ltb (getD positions w 0) (getD positions (w - 1) 0) ≡ seamAt run positions i
+unfolding seamAt
+seam-turn run positions i w h e = rw (lt-ltb _ _ h, e)
+
+-- the pass over positions
+fall-flag : (part : List ℕ) (k : ℕ) → ltb (getD part k 0) (previousOf part k) ≡ fallAt part k
+unfolding fallAt
+fall-flag part zero = le-ltb (getD part 0 0) 0 (omega arith)
+fall-flag part (suc k) = let h : 0 < suc k = omega arith in rw (pred-suc, lt-ltb _ _ h)
+
+abbrev seen : Bool → ℕ → Seen
+seen b f = record { high = b; falls = f }
+
+pub fall-turn : (part : List ℕ) (k p : ℕ) → p ≡ previousOf part k → ltb (getD part k 0) p ≡ fallAt part k
+fall-turn part k p e = ap (λ (x : ℕ). ltb (getD part k 0) x) e ∙ fall-flag part k
+
+pub seen-turn : (part : List ℕ) (k a : ℕ) → leb 2147483648 a ≡ anyBelow k (λ j. ltb noMoreDocs (getD part j 0)) → leb 2147483648 (bitOr a (getD part k 0)) ≡ anyBelow (k + 1) (λ j. ltb noMoreDocs (getD part j 0))
+seen-turn part k a e = high-or 31 a (getD part k 0) ∙ any-more k (λ j. ltb noMoreDocs (getD part j 0)) (leb 2147483648 a) _ e refl
+
+pub seen-all : (part : List ℕ) (k a f : ℕ) → leb 2147483648 a ≡ anyBelow k (λ j. ltb noMoreDocs (getD part j 0)) → f ≡ countBelow k (fallAt part) → k ≤ length part → length part ≤ k → seen (leb 2147483648 a) f ≡ seenOf part
+seen-all part k a f e g l m =
+    let s : k ≡ length part = omega arith in ap (λ (b : Bool). seen b f) (e ∙ ap (λ (x : ℕ). anyBelow x (λ j. ltb noMoreDocs (getD part j 0))) s) ∙ ap (λ (x : ℕ). seen (anyBelow (length part) (λ j. ltb noMoreDocs (getD part j 0))) x) (g ∙ ap (λ (x : ℕ). countBelow x (fallAt part)) s)
