@@ -3,3 +3,4 @@ pub mod Tests
 pub mod Lists
 pub mod KeyOrder
 pub mod Ranges
+pub mod Example

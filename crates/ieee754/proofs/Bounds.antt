@@ -1,20 +1,21 @@
 -- Values that are finite, not negative, and at most a whole number: what rounding, the operations, narrowing and patterns make of them. Assumes nothing.
-use mathlib.Core.Path.{_≡_, sym, ap, _∙_, subst}
+use mathlib.Core.Path.{_≡_, refl, sym, ap, _∙_, subst}
 use Prim.Native.Nat.{ℕ, _+_, _*_, _^_, _≤_, _<_, zero-le}
-use native.Mathlib.Nat.{le-refl, le-trans, le-of-eq, lt-of-le-of-lt, add-mul, mul-one, one-mul, zero-mul, mul-comm, mul-assoc, mul-mul-mul-comm, mul-le-mul, mul-le-mul-right, mul-pos, add-le-add}
+use native.Mathlib.Nat.{le-trans, le-of-eq, lt-of-le-of-lt, add-mul, mul-one, one-mul, zero-mul, mul-comm, mul-assoc, mul-mul-mul-comm, mul-le-mul, mul-le-mul-right, mul-pos, add-le-add}
 use native.Mathlib.Omega.{arith}
-use mathlib.Core.Bool.{true, false, not}
+use mathlib.Core.Bool.{true, false, not, true≢false}
 use lib.Dec.{T, lit<, le→leb}
 use lib.Pow.{pow-add, pow-lt}
-use lib.Ieee.{Float, nan, inf, fin, Format, binary32, binary64, prec, round, add, mul, le, isNan, ofBits, toBits}
+use borrow.Author.Tests.{ltb-false}
+use lib.Ieee.{Float, nan, inf, fin, Format, binary32, binary64, round, add, mul, le, lt, isNan, ofBits, toBits}
 use lib.Ieee.Bits.{ofBits-fits}
 use lib.Ieee.Exact.{HasValue, round-exact}
 use lib.Ieee.Back.{round-whole}
 use lib.Ieee.Positive.{num, den, den-pos, value→cross, through}
 use Rattle.meaning.specs.Ieee754.{zeroFloat, narrow}
-use Rattle.ieee754.specs.Nonneg.{nonneg, AtMost, UpTo, Within}
+use Rattle.ieee754.specs.Nonneg.{nonneg, signClear, AtMost, UpTo, Within}
 use Rattle.ieee754.proofs.Nonneg.{nonneg-of-value, no-nan}
-use Rattle.ieee754.proofs.Patterns.{pattern-nonneg, pattern-back, pattern-clear, clear-le}
+use Rattle.ieee754.proofs.Patterns.{lt-is, pattern-nonneg, pattern-back, pattern-clear, clear-le}
 use Rattle.ieee754.proofs.Ranges.{add-is, mul-is, round-nonneg, round-cross, cross→le, le→cross}
 use Rattle.ieee754.proofs.Narrowing.{narrow-is}
 
@@ -54,6 +55,22 @@ zero-le-nonneg x p = cross→le zeroFloat x tt p (le-trans (le-of-eq (zero-mul (
 -- in the words of `le`
 pub upto-le : (w x : Float) → T (nonneg w) → UpTo w x → T (le zeroFloat x) × T (le x w)
 upto-le w x W u = (zero-le-nonneg x (u .sign), cross→le x w (u .sign) W (u .most))
+
+-- what is not above a limit
+inf-above : (w : Float) → T (nonneg w) → lt w (inf false) ≡ true
+unfolding lt
+inf-above nan p = absurd p
+inf-above (inf s) p = absurd p
+inf-above (fin s m e) p = refl
+
+pub limit-upto : (w x : Float) → T (nonneg w) → T (signClear x) → lt w x ≡ false → UpTo w x
+limit-upto w nan W p h = absurd p
+limit-upto w (inf true) W p h = absurd p
+limit-upto w (inf false) W p h = absurd (true≢false (sym (inf-above w W) ∙ h))
+limit-upto w (fin true m e) W p h = absurd p
+limit-upto w (fin false m e) W p h =
+    let x = fin false m e in
+    record { sign = tt; most = ltb-false (num w * den x) (num x * den w) (sym (lt-is w x W tt) ∙ h) }
 
 -- a fraction a / b of at most p rounds to at most p
 pub round-atmost : (f : Format) (a b p : ℕ) → 0 < b → Held f p → a ≤ p * b → AtMost p (round f false a b)

@@ -1,6 +1,6 @@
 -- A whole number that binary64 holds, narrowed, is that number rounded once. Assumes nothing.
 use mathlib.Core.Path.{_≡_, refl, sym, ap, _∙_}
-use Prim.Native.Nat.{ℕ, _^_, _≤_, _<_}
+use Prim.Native.Nat.{ℕ, _^_, _<_}
 use native.Mathlib.Nat.{le-trans, le-of-lt}
 use mathlib.Core.Bool.{false}
 use lib.IntN.{pos}

@@ -1,20 +1,19 @@
 -- How `narrow` is worked out from a binary64 pattern whose sign is clear, by the three ranges of the pattern, and how the sign goes through. Assumes nothing.
 use mathlib.Core.Path.{_≡_, refl, sym, ap, _∙_, subst}
-use mathlib.Core.Logic.{_⊎_, inl, inr}
+use mathlib.Core.Logic.{inl, inr}
 use Prim.Native.Nat.{ℕ, zero, suc, _+_, _-_, _*_, _/_, _%_, _^_, _≤_, _<_, zero-le, compare, Ordering, Ordering·lt, Ordering·eq, Ordering·gt}
-use native.Mathlib.Nat.{le-trans, le-of-eq, le-of-lt, le-antisymm, lt-of-lt-of-le, lt-of-le-of-lt, lt-of-not-le, lt-irrefl, le-of-suc-le-suc, eq-or-lt-of-le, not-le-of-lt, zero-add, add-zero, zero-mul, mul-one, one-mul, mul-comm, mul-assoc, mul-left-comm, mul-right-comm, mul-le-mul-right, mul-pos, mul-lt-mul-of-pos-right, lt-of-mul-lt-mul-right, mul-div-cancel, div-one, mod-lt, mod-eq-of-lt, div-add-mod', div-lt-iff-lt-mul, le-div-iff-mul-le, le-add-right, add-comm, add-mul-div-right, add-mul-mod-self-right, mod-le, mul-le-mul}
+use native.Mathlib.Nat.{le-trans, le-of-eq, le-of-lt, le-antisymm, lt-of-lt-of-le, lt-of-le-of-lt, lt-of-not-le, lt-irrefl, le-of-suc-le-suc, eq-or-lt-of-le, not-le-of-lt, zero-add, mul-one, one-mul, mul-comm, mul-assoc, mul-le-mul-right, mul-pos, mul-lt-mul-of-pos-right, mul-div-cancel, div-one, mod-lt, mod-eq-of-lt, div-add-mod', div-lt-iff-lt-mul, le-div-iff-mul-le, le-add-right, add-comm, add-mul-div-right, add-mul-mod-self-right, mod-le, mul-le-mul}
 use native.Mathlib.Omega.{arith}
-use mathlib.Core.Bool.{Bool, true, false, not, _&&_, cond}
-use lib.Dec.{T, not-T, le→leb, ltb, leb, eqb, isLe, isEq, ltb→lt, lt→ltb, nltb→le, lit≤, lit<, leb→le, nleb→lt, eqb→eq, eqb-refl}
+use mathlib.Core.Bool.{Bool, true, false, not, cond}
+use lib.Dec.{T, not-T, le→leb, ltb, leb, eqb, isLe, isEq, ltb→lt, lt→ltb, lit≤, lit<, leb→le, nleb→lt, eqb→eq, eqb-refl}
 use lib.Pow.{pow-add, pow-pos, pow-mono, pow-lt, shl-lt, shl-shr, shl-exact}
-use lib.Ieee.{Float, nan, inf, fin, Format, binary32, binary64, prec, emax, low, up, down, size, nearest, odd, units, hid, ones, ofFields, ofBits, toBits, nanBits, isNan, fits, neg, div, round}
-use lib.Ieee.Fits.{and-l, and-r, odd-fits, round-is, core, nearest-le}
-use lib.Ieee.Bits.{ofBits-toBits, nanBits-above, nanBits-is, toBits-lt}
-use lib.Ieee.Digits.{size-lt, size-le, size-reaches}
+use lib.Ieee.{Float, nan, inf, fin, Format, binary32, binary64, low, size, nearest, odd, units, ofFields, ofBits, toBits, nanBits, isNan, fits, neg, div, round}
+use lib.Ieee.Fits.{odd-fits, round-is}
+use lib.Ieee.Bits.{ofBits-toBits, nanBits-above, toBits-lt}
+use lib.Ieee.Digits.{size-lt, size-le}
 use lib.Ieee.Exact.{HasValue, odd-sign}
 use lib.Ieee.Nearest.{closest, closest-mono, closest-same, nearest-ge}
-use lib.Ieee.Scale.{round-same}
-use lib.Ieee.Positive.{num, den, den-pos, value→cross}
+use lib.Ieee.Positive.{den, den-pos, value→cross}
 use Rattle.meaning.specs.Ieee754.{narrow}
 use Rattle.ieee754.specs.Nonneg.{nonneg}
 use Rattle.ieee754.proofs.Nonneg.{nonneg-of-value, inUnits, pattern, toBits-units}

@@ -4,7 +4,7 @@ use Prim.Native.Nat.{ℕ, zero, suc, _+_, _*_, _^_, _<_}
 use mathlib.Core.Bool.{Bool, true, false, not, cond, true≢false}
 use lib.IntN.{ℤ}
 use lib.Dec.{T, ltb}
-use lib.Ieee.{Float, nan, inf, fin, Format, binary32, prec, emax, low, up, down, odd, units, round, neg, fits, isNan, ne, le, lt, eq}
+use lib.Ieee.{Float, nan, inf, fin, Format, binary32, prec, emax, low, up, down, odd, units, round, neg, fits, isNan, ne, le}
 use lib.Ieee.Fits.{round-is, round-fits, nan-fits, inf-fits, neg-fits}
 use lib.Ieee.Exact.{HasValue}
 use lib.Ieee.Order.{round-mono}

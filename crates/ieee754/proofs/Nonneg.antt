@@ -1,22 +1,20 @@
 -- The floats that are finite and not negative, +0 included: such a value is its fraction `num` / `den`, and its bit pattern is a function of its size in the format's smallest units, so equal fractions are one value, and a value that fits comes back from `round`.
 -- Assumes nothing.
 use mathlib.Core.Path.{_≡_, refl, sym, ap, _∙_, subst}
-use mathlib.Core.Logic.{_⊎_, inl, inr}
 use Prim.Native.Nat.{ℕ, zero, suc, _+_, _-_, _*_, _/_, _%_, _^_, _≤_, _<_}
-use native.Mathlib.Nat.{le-trans, le-of-eq, le-of-lt, le-of-suc-le-suc, lt-of-lt-of-le, lt-of-not-le, lt-irrefl, zero-add, zero-mul, mul-one, one-mul, mul-comm, mul-assoc, mul-left-comm, mul-right-comm, mul-le-mul-right, le-of-mul-le-mul-right, mul-pos, mul-lt-mul-of-pos-right, lt-of-mul-lt-mul-right, le-antisymm}
+use native.Mathlib.Nat.{le-of-suc-le-suc, lt-of-lt-of-le, lt-of-not-le, lt-irrefl, zero-add, zero-mul, mul-one, mul-comm, mul-assoc, mul-right-comm, mul-lt-mul-of-pos-right, lt-of-mul-lt-mul-right}
 use native.Mathlib.Omega.{arith}
-use mathlib.Core.Bool.{Bool, true, false, not, _&&_, _||_, cond}
+use mathlib.Core.Bool.{Bool, true, false, not, _&&_}
 use lib.IntN.{ℤ, pos, negsuc}
-use lib.Dec.{T, ltb, leb, eqb, eqb→eq, ltb→lt, leb→le, lt→ltb}
-use lib.Pow.{pow-add, pow-pos, pow-mono, pow-lt}
-use lib.Ieee.{Float, nan, inf, fin, Format, prec, emax, low, up, down, size, hid, top, toBits, ofBits, fits, round, le, lt, eq, isNan}
-use lib.Ieee.Fits.{up-pos, down-pos, and-l, and-r, round-fits}
+use lib.Dec.{T, ltb, leb, eqb, ltb→lt, leb→le}
+use lib.Pow.{pow-add, pow-pos, pow-lt}
+use lib.Ieee.{Float, nan, inf, fin, Format, prec, emax, low, up, down, size, hid, toBits, ofBits, fits, round, isNan}
+use lib.Ieee.Fits.{and-l, and-r, round-fits}
 use lib.Ieee.Bits.{ofBits-toBits}
 use lib.Ieee.Exact.{HasValue, round-exact}
-use lib.Ieee.Order.{le-of-values}
 use lib.Ieee.Nearest.{div-same}
 use lib.Ieee.Positive.{num, den, den-pos, value→cross}
-use Rattle.ieee754.specs.Nonneg.{nonneg, signClear}
+use Rattle.ieee754.specs.Nonneg.{nonneg}
 
 pub no-nan : (x : Float) → T (nonneg x) → T (not (isNan x))
 unfolding isNan

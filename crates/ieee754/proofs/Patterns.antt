@@ -2,13 +2,13 @@
 use mathlib.Core.Path.{_≡_, refl, sym, ap, _∙_, subst}
 use mathlib.Core.Logic.{_⊎_, inl, inr}
 use Prim.Native.Nat.{ℕ, zero, suc, _+_, _-_, _*_, _/_, _%_, _^_, _≤_, _<_, zero-le}
-use native.Mathlib.Nat.{le-refl, le-trans, le-of-eq, le-of-lt, lt-of-le-of-lt, lt-of-lt-of-le, lt-irrefl, not-le-of-lt, eq-or-lt-of-le, mul-comm, mul-right-comm, mul-le-mul-right, mul-div-cancel, le-div-iff-mul-le, add-le-add, suc-mul, two-pow-succ, mod-eq-of-lt}
+use native.Mathlib.Nat.{le-refl, le-trans, le-of-eq, le-of-lt, lt-of-le-of-lt, lt-of-lt-of-le, lt-irrefl, not-le-of-lt, eq-or-lt-of-le, mul-right-comm, mul-le-mul-right, mul-div-cancel, le-div-iff-mul-le, add-le-add, suc-mul, two-pow-succ, mod-eq-of-lt}
 use native.Mathlib.Omega.{arith}
 use mathlib.Core.Bool.{Bool, true, false, not, _&&_, _||_, cond}
 use lib.Dec.{T, leb, ltb, eqb, ltb→lt, lt→ltb, nltb→le, leb→le, le→leb, nleb→lt, eqb→eq, lit<, T-not, not-T}
-use lib.Pow.{pow-add, pow-pos, pow-lt, shr-mono, le-ones}
+use lib.Pow.{pow-add, pow-pos, shr-mono, le-ones}
 use lib.Arith.{lt-of-le-ne}
-use lib.Ieee.{Float, nan, inf, fin, Format, binary32, prec, emax, low, up, down, size, hid, top, ones, odd, fits, isNan, nanBits, toBits, ofFields, ofBits, lt, le, eq}
+use lib.Ieee.{Float, nan, inf, fin, Format, binary32, prec, emax, low, size, hid, top, ones, odd, fits, isNan, nanBits, toBits, ofFields, ofBits, lt, le, eq}
 use lib.Ieee.Fits.{kept-lt, two, two-le-pos, eq→eqb}
 use lib.Ieee.Exact.{odd-sign}
 use lib.Ieee.Digits.{size-lt, size-le, size-reaches}

@@ -2,19 +2,19 @@
 -- Assumes nothing.
 use mathlib.Core.Path.{_≡_, refl, sym, ap, _∙_, subst}
 use mathlib.Core.Logic.{_⊎_, inl, inr}
-use Prim.Native.Nat.{ℕ, zero, suc, _+_, _-_, _*_, _^_, _≤_, _<_}
-use native.Mathlib.Nat.{le-refl, le-trans, le-of-eq, le-of-lt, lt-of-lt-of-le, lt-irrefl, not-le-of-lt, add-mul, mul-one, mul-comm, mul-assoc, mul-left-comm, mul-right-comm, mul-le-mul-right, mul-le-mul-left, mul-le-mul, mul-pos, mul-mul-mul-comm, add-le-add, sub-le}
+use Prim.Native.Nat.{ℕ, suc, _+_, _-_, _*_, _^_, _≤_, _<_}
+use native.Mathlib.Nat.{le-refl, le-trans, le-of-eq, le-of-lt, lt-of-lt-of-le, not-le-of-lt, add-mul, mul-comm, mul-assoc, mul-left-comm, mul-le-mul-right, mul-le-mul, mul-pos, mul-mul-mul-comm, add-le-add}
 use native.Mathlib.Omega.{arith}
-use mathlib.Core.Bool.{Bool, true, false, not, _&&_, _||_, cond}
+use mathlib.Core.Bool.{Bool, true, false, _&&_, _||_, cond}
 use lib.IntN.{ℤ}
-use lib.Dec.{T, leb, ltb, eqb, ltb→lt, eqb→eq, lt→ltb}
-use lib.Ieee.{Float, nan, inf, fin, Format, prec, emax, low, up, down, odd, units, round, sum, add, sub, mul, div, le, lt, eq, fits}
-use lib.Ieee.Fits.{up-pos, down-pos, and-l, round-is}
-use lib.Ieee.Exact.{HasValue, odd-sign}
+use lib.Dec.{T, ltb, eqb, ltb→lt, eqb→eq}
+use lib.Ieee.{Float, nan, inf, fin, Format, prec, emax, low, up, down, odd, units, round, sum, add, sub, mul, div, le}
+use lib.Ieee.Fits.{and-l, round-is}
+use lib.Ieee.Exact.{odd-sign}
 use lib.Ieee.Order.{le-of-values, round-mono, kept, drop}
 use lib.Ieee.Positive.{num, den, den-pos, first-pos}
-use Rattle.ieee754.specs.Nonneg.{nonneg, signClear, UpTo, Within}
-use Rattle.ieee754.proofs.Nonneg.{own-value, nonneg-of-value, round-self}
+use Rattle.ieee754.specs.Nonneg.{nonneg, signClear, Within}
+use Rattle.ieee754.proofs.Nonneg.{own-value, nonneg-of-value}
 use Rattle.ieee754.proofs.Patterns.{le-is, nonneg-clear}
 
 -- ---- the order, as one of fractions
@@ -99,6 +99,13 @@ div-is f (fin false m e) (fin false n d) p q h = go (eqb n 0) (eqb→eq n 0)
     go : (b : Bool) → (T b → n ≡ 0) → cond b (cond (eqb m 0) nan (inf false)) (round f false (m * up e * down d) (n * up d * down e)) ≡ round f false (m * up e * down d) (n * up d * down e)
     go true z = absurd (none n (z tt) (first-pos n (up d) h))
     go false z = refl
+
+-- a sum or a product of two such values has the sign clear, if only as plus infinity
+pub add-clear : (f : Format) (x y : Float) → T (nonneg x) → T (nonneg y) → T (signClear (add f x y))
+add-clear f x y p q = subst (λ (z : Float). T (signClear z)) (sym (add-is f x y p q)) (round-clear f (num x * den y + num y * den x) (den x * den y))
+
+pub mul-clear : (f : Format) (x y : Float) → T (nonneg x) → T (nonneg y) → T (signClear (mul f x y))
+mul-clear f x y p q = subst (λ (z : Float). T (signClear z)) (sym (mul-is f x y p q)) (round-clear f (num x * num y) (den x * den y))
 
 pick : (f : Format) (a b c : ℕ) → b ≤ a → sum f false a true b c ≡ round f false (a - b) c
 unfolding sum

@@ -1,19 +1,18 @@
 -- nextUp by the patterns: one more, one less where the sign is set, and 1 from −0; and that it is above its operand. Assumes nothing.
 use mathlib.Core.Path.{_≡_, refl, sym, ap, _∙_, subst}
 use Prim.Native.Nat.{ℕ, zero, suc, _+_, _-_, _*_, _/_, _%_, _^_, _≤_, _<_, zero-le, suc-le-suc}
-use native.Mathlib.Nat.{le-refl, le-trans, le-of-eq, lt-of-lt-of-le, lt-of-le-of-lt, lt-irrefl, not-le-of-lt, zero-mul, zero-div, le-add-right}
+use native.Mathlib.Nat.{le-refl, le-trans, le-of-eq, not-le-of-lt, zero-mul, zero-div, le-add-right}
 use native.Mathlib.Numerals.{add-one}
 use native.Mathlib.Omega.{arith}
 use mathlib.Core.Bool.{Bool, true, false, not}
 use lib.IntN.{ℤ, pos}
-use lib.Dec.{T, leb, ltb, lt→ltb, ltb→lt, le→leb, leb→le, lit≤, lit<, nltb→le, not-T}
-use lib.Ieee.{Float, nan, inf, fin, binary32, low, up, down, size, toBits, ofBits, ofFields, nanBits, isNan, fits, lt, le}
+use lib.Dec.{T, ltb, lt→ltb, ltb→lt, le→leb, lit≤, not-T}
+use lib.Ieee.{Float, nan, inf, fin, binary32, up, down, size, toBits, ofBits, nanBits, isNan, fits, lt, le}
 use lib.Ieee.Bits.{ofBits-toBits, ofBits-fits, nanBits-above, toBits-lt}
-use lib.Ieee.Positive.{num, den}
 use Rattle.meaning.specs.Ieee754.{zeroFloat, nextUp}
 use Rattle.ieee754.specs.Nonneg.{nonneg, signClear}
 use Rattle.ieee754.proofs.Nonneg.{toBits-units, pattern}
-use Rattle.ieee754.proofs.Patterns.{bits-finite, number-bits, inf-pattern, pattern-clear, pattern-number, pattern-back, nonneg-clear, clear-lt, clear-le}
+use Rattle.ieee754.proofs.Patterns.{bits-finite, number-bits, inf-pattern, pattern-clear, pattern-back, nonneg-clear, clear-lt, clear-le}
 
 -- ---- patterns of the kinds of values
 bits-set : (m : ℕ) (e : ℤ) → toBits binary32 (fin true m e) ≡ 2 ^ 31 + toBits binary32 (fin false m e)

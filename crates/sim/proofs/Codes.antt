@@ -2,13 +2,13 @@
 use mathlib.Core.Path.{_≡_, refl, sym, ap, _∙_, subst}
 use mathlib.Core.Logic.{_⊎_, inl, inr}
 use mathlib.Core.Bool.{Bool, true, false, not, cond}
-use Prim.Native.Nat.{ℕ, zero, suc, _+_, _-_, _*_, _/_, _%_, _^_, _≤_, _<_, zero-le}
-use native.Mathlib.Nat.{le-refl, le-trans, le-of-eq, le-of-suc-le-suc, not-suc-le-zero, eq-or-lt-of-le, lt-of-lt-of-le, lt-of-not-le, not-le-of-lt, le-antisymm, mul-le-mul, mul-one, div-one, mod-lt, mod-eq-of-lt, div-lt-iff-lt-mul, le-div-iff-mul-le, div-mul-le-self, two-pow-succ}
+use Prim.Native.Nat.{ℕ, zero, suc, _+_, _-_, _*_, _/_, _%_, _^_, _≤_, _<_}
+use native.Mathlib.Nat.{le-trans, le-of-eq, le-of-suc-le-suc, not-suc-le-zero, eq-or-lt-of-le, lt-of-lt-of-le, lt-of-not-le, le-antisymm, mul-le-mul, div-lt-iff-lt-mul, le-div-iff-mul-le, div-mul-le-self, two-pow-succ}
 use native.Mathlib.Omega.{arith}
-use lib.Dec.{T, leb, ltb, eqb, eqb→eq, ltb→lt, nltb→le, lit≤}
-use lib.Pow.{pow-add, pow-pos, pow-mono, pow-lt}
+use lib.Dec.{T, ltb, eqb, eqb→eq, ltb→lt, nltb→le, lit≤}
+use lib.Pow.{pow-add, pow-pos, pow-mono}
 use lib.Count.{leadingZeros, leading-length}
-use lib.Ieee.{size, span, climb}
+use lib.Ieee.{size}
 use lib.Ieee.Digits.{size-lt, size-le, size-reaches}
 use borrow.Author.Tests.{lt-ltb, le-ltb}
 use Rattle.meaning.specs.SmallFloat.{longToInt4, int4ToLong, maxInt4, numFreeValues, intToByte4, byte4ToInt}

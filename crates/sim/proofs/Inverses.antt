@@ -4,7 +4,7 @@ use native.Mathlib.Nat.{le-trans, mul-le-mul-right}
 use lib.IntN.{pos}
 use lib.Dec.{T, lit<, lit≤}
 use mathlib.Core.Bool.{false}
-use mathlib.Core.Path.{_≡_, refl, sym, subst}
+use mathlib.Core.Path.{_≡_, refl, subst}
 use lib.Ieee.{Float, fin, binary32, round, add, sub, mul, div, ofBits, ofInt}
 use lib.Ieee.Positive.{num}
 use Rattle.meaning.specs.Ieee754.{zeroFloat}

@@ -1,23 +1,24 @@
 -- A score lies from 0 to its weight, for every frequency from 0 to 2 ^ 24, every average and every byte; and what weights are at most. Assumes nothing.
 use mathlib.Core.Path.{_≡_, refl, sym, ap, _∙_, subst}
 use mathlib.Core.List.{List}
-use Prim.Native.Nat.{ℕ, zero-le, _+_, _-_, _*_, _^_, _≤_, _<_}
+use Prim.Native.Nat.{ℕ, zero-le, _-_, _*_, _^_, _≤_, _<_}
 use native.Mathlib.Nat.{le-refl, le-trans, le-of-eq, lt-of-lt-of-le, mul-one, one-mul, zero-mul, mul-comm, mul-assoc, mul-le-mul-right, mul-le-mul-left, mul-pos, sub-le}
 use native.Mathlib.Omega.{arith}
 use mathlib.Core.Bool.{false}
 use lib.IntN.{pos}
 use lib.Dec.{T, lit<, lit≤}
 use lib.ListN.{length}
-use lib.Ieee.{Float, nan, inf, fin, Format, binary32, round, add, sub, mul, div, le, fits, ofBits, ofInt}
+use lib.Ieee.{Float, nan, inf, fin, binary32, round, add, sub, mul, div, le, fits, ofBits, ofInt}
 use lib.Ieee.Scale.{finite, round-same}
 use lib.Ieee.Positive.{num, den, den-pos}
 use Rattle.meaning.specs.Ieee754.{zeroFloat, narrowedSum}
 use Rattle.meaning.specs.Limits.{leastAverage, largestAverage, largestIdf, largestBoost, largestFrequency, maxPhraseTerms}
 use Rattle.meaning.specs.Bm25.{one, lengthOf, inverse, weight, bm25}
-use Rattle.ieee754.specs.Nonneg.{nonneg, AtMost, UpTo, Within}
+use Rattle.meaning.specs.QueryRefusals.{aboveLimit}
+use Rattle.ieee754.specs.Nonneg.{nonneg, signClear, AtMost, UpTo, Within}
 use Rattle.ieee754.proofs.Nonneg.{round-self}
 use Rattle.ieee754.proofs.Ranges.{round-within, add-within, mul-within, within-self, mul-is, div-is, sub-is, round-nonneg, round-cross}
-use Rattle.ieee754.proofs.Bounds.{held-power, mul-atmost, upto-atmost, upto-le, pattern-atmost}
+use Rattle.ieee754.proofs.Bounds.{held-power, mul-atmost, upto-atmost, upto-le, limit-upto, pattern-atmost}
 use Rattle.ieee754.proofs.Sums.{Each, narrowed-sum-atmost}
 use Rattle.sim.proofs.Inverses.{two-to, least-inverse, most-inverse, fine-one, fine-inverse, byte-inverse-within}
 
@@ -157,6 +158,11 @@ boost-atmost n h = pattern-atmost (2 ^ 16) n largestBoost h (lit< tt) (ends .0)
 
 pub idf-atmost : (n : ℕ) → n ≤ largestIdf → AtMost (2 ^ 6) (ofBits binary32 n)
 idf-atmost n h = pattern-atmost (2 ^ 6) n largestIdf h (lit< tt) (ends .1)
+
+-- a boost that reaches a node and is not refused
+pub carried-atmost : (boost : Float) → T (signClear boost) → aboveLimit boost ≡ false → AtMost (2 ^ 16) boost
+unfolding aboveLimit
+carried-atmost boost p h = let L = ofBits binary32 largestBoost in upto-atmost (2 ^ 16) L boost (ends .0) (limit-upto L boost (ends .0 .sign) p h)
 
 -- a term's, a phrase's idf, and a phrase's
 pub weight-atmost : (boost idf : Float) → AtMost (2 ^ 16) boost → AtMost (2 ^ 6) idf → AtMost (2 ^ 22) (weight boost idf)

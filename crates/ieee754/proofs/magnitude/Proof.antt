@@ -4,16 +4,13 @@ use mathlib.Core.Path.{_≡_, sym, ap, _∙_, subst}
 use Prim.Native.Nat.{ℕ, _+_, _-_, _*_, _/_, _%_, _^_, _≤_, _<_}
 use native.Mathlib.Nat.{le-trans, le-of-lt}
 use native.Mathlib.Omega.{arith}
-use lib.Dec.{T, lit≤}
+use lib.Dec.{lit≤}
 use lib.Pow.{pow-pos}
-use lib.Ieee.{Float, binary32, binary64, fits, ofBits, toBits}
+use lib.Ieee.{binary32, ofBits}
 use lib.Ieee.Nearest.{closest}
 use Rattle.ieee754.proofs.NarrowSteps.{nan-free, gives-zero, unit-is, small-le, gives-small, short-ge, gives-normal, gives-large}
 use Rattle.ieee754.proofs.magnitude.Statement.{statement}
 use Rattle.ieee754.proofs.magnitude.Tie as tie
-use Rattle.ieee754.proofs.magnitude.Reads as reads
-use Rattle.ieee754.proofs.magnitude.Lts as lts
-use Rattle.ieee754.proofs.nearest.Reads as nearest-reads
 
 abbrev b : tie.Start → ℕ
 b c = c .args .bits

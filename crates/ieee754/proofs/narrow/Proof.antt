@@ -1,16 +1,13 @@
 -- `ieee754::narrow` meets its contract: `magnitude` rounds the pattern without its sign. Assumes nothing.
-use borrow.Author.Needs.{needs}
-use mathlib.Core.Path.{_≡_, sym, ap, _∙_, subst}
-use mathlib.Core.Bool.{false, not, true≢false}
+use mathlib.Core.Path.{sym, ap, _∙_, subst}
+use mathlib.Core.Bool.{not}
 use lib.Dec.{T}
-use lib.Ieee.{Float, nan, inf, fin, binary64, fits, isNan, ne, neg, toBits}
+use lib.Ieee.{Float, binary64, fits, isNan, neg}
 use lib.Ieee.Compare.{differs-from-itself}
 use Rattle.ieee754.proofs.NarrowSteps.{plain-le, signed-le, plain-is, signed-is, nan-is}
 use Rattle.ieee754.proofs.Narrowing.{equals-itself}
 use Rattle.ieee754.proofs.narrow.Statement.{statement}
 use Rattle.ieee754.proofs.narrow.Tie as tie
-use Rattle.ieee754.proofs.narrow.Reads as reads
-use Rattle.ieee754.proofs.narrow.Lts as lts
 
 -- what is known once the first test failed
 module _ (c : tie.Else1) where

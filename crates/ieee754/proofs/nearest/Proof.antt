@@ -1,15 +1,13 @@
 -- `ieee754::nearest` meets its contract: which way it rounds goes by whether the remainder is less than what is left of the divisor. Assumes nothing.
 use borrow.Author.Needs.{needs}
 use mathlib.Core.Path.{_≡_, _∙_}
-use Prim.Native.Nat.{ℕ, _+_, _-_, _*_, _/_, _%_, _≤_, _<_, suc}
+use Prim.Native.Nat.{ℕ, _-_, _*_, _/_, _%_, _≤_, _<_}
 use native.Mathlib.Nat.{mod-lt, le-of-lt, le-trans, mul-le-mul-left, div-mul-le-self}
 use native.Mathlib.Numerals.{add-one}
 use native.Mathlib.Omega.{arith}
 use Rattle.ieee754.proofs.NarrowSteps.{nearest-below, nearest-above, nearest-half}
 use Rattle.ieee754.proofs.nearest.Statement.{statement}
 use Rattle.ieee754.proofs.nearest.Tie as tie
-use Rattle.ieee754.proofs.nearest.Reads as reads
-use Rattle.ieee754.proofs.nearest.Lts as lts
 
 div-q : tie.Need-div-q
 div-q c = search needs

@@ -1,12 +1,12 @@
 -- `ieee754::next_up` meets its contract: `proofs/Successor.antt` has a law for each branch. Assumes nothing.
 use borrow.Author.Needs.{needs}
 use mathlib.Core.Path.{_≡_, sym, subst}
-use mathlib.Core.Bool.{Bool, true, false, not, true≢false}
-use Prim.Native.Nat.{ℕ, _+_, _-_, _≤_, _<_}
+use mathlib.Core.Bool.{not}
+use Prim.Native.Nat.{_+_, _<_}
 use native.Mathlib.Omega.{arith}
 use lib.Dec.{T, lit≤}
 use lib.Arith.{lt-of-le-ne}
-use lib.Ieee.{Float, nan, inf, fin, binary32, fits, isNan, ne, toBits, nanBits}
+use lib.Ieee.{Float, binary32, fits, isNan, toBits}
 use lib.Ieee.Compare.{differs-from-itself}
 use Rattle.ieee754.proofs.Patterns.{pattern-number}
 use Rattle.ieee754.proofs.Narrowing.{equals-itself}

@@ -1,7 +1,7 @@
 -- `ieee754::total_below` meets its contract: totalOrder is the order of the keys. Assumes nothing.
 use borrow.Author.Needs.{needs}
 use mathlib.Core.Path.{sym, ap, _∙_}
-use Prim.Native.Nat.{ℕ, _<_, _^_}
+use Prim.Native.Nat.{ℕ}
 use native.Mathlib.Omega.{arith}
 use lib.Dec.{ltb}
 use Rattle.ieee754.specs.TotalOrder.{totalKey}

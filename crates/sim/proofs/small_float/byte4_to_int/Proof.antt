@@ -1,7 +1,7 @@
 -- `sim::small_float::byte4_to_int` meets its contract. Assumes nothing.
 use borrow.Author.Needs.{needs}
 use mathlib.Core.Path.{_≡_, sym, ap, _∙_, subst}
-use Prim.Native.Nat.{ℕ, _+_, _-_, _≤_, _<_}
+use Prim.Native.Nat.{ℕ, _+_, _≤_}
 use native.Mathlib.Omega.{arith}
 use Rattle.meaning.specs.SmallFloat.{byte4ToInt}
 use Rattle.sim.proofs.Codes.{int-few, int-many, byte4ToInt-le}

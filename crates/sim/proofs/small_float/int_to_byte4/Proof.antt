@@ -1,7 +1,7 @@
 -- `sim::small_float::int_to_byte4` meets its contract. Assumes nothing.
 use borrow.Author.Needs.{needs}
 use mathlib.Core.Path.{_≡_, sym, ap, _∙_, subst}
-use Prim.Native.Nat.{ℕ, _+_, _-_, _≤_, _<_}
+use Prim.Native.Nat.{ℕ, _+_, _<_}
 use native.Mathlib.Omega.{arith}
 use Rattle.meaning.specs.SmallFloat.{intToByte4}
 use Rattle.sim.proofs.Codes.{byte-few, byte-many, intToByte4-lt}
