@@ -3,15 +3,17 @@ use mathlib.Core.Path.{_≡_}
 use mathlib.Core.Bool.{Bool, true, false, cond}
 use mathlib.Core.List.{List, [], _∷_, _++_}
 use mathlib.Core.Option.{Option, none, some}
-use Prim.Native.Nat.{ℕ, zero, suc, _+_, _-_, _≤_, _<_, max}
+use Prim.Native.Nat.{ℕ, zero, suc, _+_, _-_, _*_, _^_, _≤_, _<_, max}
 use lib.Dec.{T}
 use lib.ListN.{length, getD}
 use lib.Ieee.{Float, binary32, fits, toBits}
+use Rattle.meaning.specs.Below.{countBelow}
 use Rattle.meaning.specs.Limits.{noMoreDocs}
-use Rattle.meaning.specs.Lent.{Index, leafFirst, leafNumber, leafField, leafDocument}
+use Rattle.meaning.specs.Lent.{Index, hasNorms, leafFirst, leafNumber, leafField, leafDocument}
 use Rattle.meaning.specs.Range.{NumericRange, rangeDocuments}
 use Rattle.meaning.specs.Phrase.{PhraseTerm, phraseFrequency}
 use Rattle.meaning.specs.First.{First}
+use Rattle.ieee754.specs.Nonneg.{AtMost}
 use Rattle.weight.specs.ScorerTree.{Leaf, nothing, term, phrase, range, everything, Scoring, constant, weighted, Joining, oneMore, afterwards, Scorer, leaf, boolean, Scorers, end, more, matches}
 use Rattle.weight.specs.State.{State, wordsOf, leafSize, sizeOf, sizesOf, sizesOfFirst}
 
@@ -24,6 +26,10 @@ pub record RunAt (document : ℕ → ℕ) (number cursor b : ℕ) : Type 0 where
   pub within : cursor ≤ number
   pub passed : (i : ℕ) → i < cursor → document i < b
 
+-- where a field's norm bytes begin, + 1; 0 without norms
+unfoldable pub normsWord : Index → ℕ → ℕ
+normsWord ix f = cond (hasNorms ix f) (suc (countBelow f (hasNorms ix) * ix .maxDoc)) 0
+
 -- the words of a term, and of a phrase's term, which stands one bound with its phrase
 pub record TermIs (ix : Index) (kind l : ℕ) (s : State) (b : ℕ) : Type 0 where
   pub kind-is : s .kind ≡ kind
@@ -31,6 +37,7 @@ pub record TermIs (ix : Index) (kind l : ℕ) (s : State) (b : ℕ) : Type 0 whe
   pub first-is : s .first ≡ leafFirst ix l
   pub number-is : s .number ≡ leafNumber ix l
   pub field-is : s .field ≡ leafField ix l
+  pub norms-is : s .norms ≡ normsWord ix (leafField ix l)
   pub run : RunAt (leafDocument ix l) (leafNumber ix l) (s .cursor) b
 
 -- the words of a range, whose documents stand in the range buffer
@@ -52,6 +59,7 @@ pub record PhraseIs (ix : Index) (f : ℕ) (ts : List PhraseTerm) (s : State) (w
   pub kind-is : s .kind ≡ 2
   pub size-is : s .size ≡ leafSize (phrase f ts)
   pub field-is : s .field ≡ f
+  pub norms-is : s .norms ≡ normsWord ix f
   pub terms : TermsAre ix ts w b
   -- the frequency that was last worked out
   pub worked-out : (d : ℕ) → s .frequencyOf ≡ suc d → s .frequency ≡ phraseFrequency ix ts d
@@ -64,9 +72,10 @@ LeafIs ix ranges (phrase f ts) s w b = PhraseIs ix f ts s w b
 LeafIs ix ranges (range r) s w b = RangeIs ix ranges r s b × (w ≡ [])
 LeafIs ix ranges everything s w b = (s .kind ≡ 5) × (s .size ≡ 24) × (w ≡ [])
 
--- a score in words: a binary32 value that is no NaN
+-- a score in words: a binary32 value from 0 to 2^29
 pub record FloatIs (x : Float) (bits : ℕ) : Type 0 where
   pub held : T (fits binary32 x)
+  pub small : AtMost (2 ^ 29) x
   pub bits-are : bits ≡ toBits binary32 x
 
 unfoldable pub ScoringIs : Scoring → State → Type 0

@@ -3,3 +3,4 @@ pub mod ScorerTree
 pub mod Weigh
 pub mod State
 pub mod Held
+pub mod Sound

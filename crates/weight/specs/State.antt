@@ -36,8 +36,9 @@ pub record State : Type 0 where
   -- a phrase: the document + 1 whose frequency was last worked out, and the frequency
   pub frequencyOf : ℕ
   pub frequency : ℕ
+  -- a term or a phrase: where its field's norm bytes begin, + 1; 0 without norms
+  pub norms : ℕ
   -- not used
-  pub spare0 : ℕ
   pub spare1 : ℕ
   pub spare2 : ℕ
   pub spare3 : ℕ
@@ -47,7 +48,7 @@ pub record State : Type 0 where
 -- the record's words, in order
 abbrev pub wordsOf : State → List ℕ
 wordsOf s =
-    s .kind ∷ s .size ∷ s .cached ∷ s .need ∷ s .requiredEnd ∷ s .optionalEnd ∷ s .first ∷ s .number ∷ s .cursor ∷ s .offset ∷ s .field ∷ s .constant ∷ s .weight ∷ s .afterwards ∷ s .groupAt ∷ s .scores ∷ s .frequencyOf ∷ s .frequency ∷ s .spare0 ∷ s .spare1 ∷ s .spare2 ∷ s .spare3 ∷ s .spare4 ∷ s .spare5 ∷ []
+    s .kind ∷ s .size ∷ s .cached ∷ s .need ∷ s .requiredEnd ∷ s .optionalEnd ∷ s .first ∷ s .number ∷ s .cursor ∷ s .offset ∷ s .field ∷ s .constant ∷ s .weight ∷ s .afterwards ∷ s .groupAt ∷ s .scores ∷ s .frequencyOf ∷ s .frequency ∷ s .norms ∷ s .spare1 ∷ s .spare2 ∷ s .spare3 ∷ s .spare4 ∷ s .spare5 ∷ []
 
 -- the words that a scorer takes
 unfoldable pub leafSize : Leaf → ℕ
