@@ -1,0 +1,2 @@
+-- The laws of `weigh`: the scorer tree means what the query's tree means. The crates above cite them.
+pub mod Matches
