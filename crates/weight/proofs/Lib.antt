@@ -1,2 +1,4 @@
 -- The laws of `weigh`: the scorer tree means what the query's tree means. The crates above cite them.
 pub mod Matches
+pub mod Order
+pub mod Scores
