@@ -2,3 +2,5 @@
 pub mod Matches
 pub mod Order
 pub mod Scores
+pub mod FullList
+pub mod Ready
