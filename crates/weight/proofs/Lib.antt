@@ -4,3 +4,4 @@ pub mod Order
 pub mod Scores
 pub mod FullList
 pub mod Ready
+pub mod Sizes
