@@ -5,3 +5,5 @@ pub mod Scores
 pub mod FullList
 pub mod Ready
 pub mod Sizes
+pub mod Heights
+pub mod Sounds
