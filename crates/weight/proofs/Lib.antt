@@ -7,3 +7,4 @@ pub mod Ready
 pub mod Sizes
 pub mod Heights
 pub mod Sounds
+pub mod Weights
