@@ -8,3 +8,4 @@ pub mod Sizes
 pub mod Heights
 pub mod Sounds
 pub mod Weights
+pub mod Tables
