@@ -5,7 +5,7 @@ mod common;
 
 #[cfg(oracle)]
 mod rows {
-    use crate::common::{ask, folder};
+    use crate::common::ask;
     use harness::case::Case;
     use harness::damage;
     use harness::definitions::{Answers, opened, refused, row, write_crate};
@@ -54,7 +54,11 @@ mod rows {
             };
             rows.push(text);
         }
-        let folder = folder("definitions").join("meaning");
+        // below the repository's own target/, where rt looks for no crate's files
+        let folder = meaning.join("../../target/definitions/meaning");
+        if folder.exists() {
+            std::fs::remove_dir_all(&folder).unwrap();
+        }
         write_crate(&meaning, &folder, &rows).unwrap();
         let out = Command::new("rt")
             .arg("check")
