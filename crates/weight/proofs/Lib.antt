@@ -9,3 +9,4 @@ pub mod Heights
 pub mod Sounds
 pub mod Weights
 pub mod Tables
+pub mod Queries
