@@ -1,20 +1,19 @@
 -- How many levels of Booleans a scorer tree has: `Ok` asks for so many. Assumes nothing.
 use mathlib.Core.Bool.{Bool, true, false, cond}
 use mathlib.Core.List.{List, [], _∷_}
-use mathlib.Core.Option.{Option, none, some}
+use mathlib.Core.Option.{Option, none}
 use Prim.Native.Nat.{ℕ, zero-le, _+_, _≤_, max}
-use native.Mathlib.Nat.{le-refl}
+use native.Mathlib.Nat.{le-refl, le-trans}
 use native.Mathlib.Omega.{arith}
 use lib.Ieee.{Float, binary32, ofBits}
 use Rattle.meaning.specs.Lent.{Index, leafIdf}
-use Rattle.meaning.specs.Ieee754.{zeroFloat}
 use Rattle.meaning.specs.Bm25.{weight}
 use Rattle.meaning.specs.Query
 use Rattle.meaning.specs.Query.{isRequired, isShould, isMustNot, Tree, Clauses, empty, clause}
 use Rattle.meaning.specs.Scorer.{hasScorer}
-use Rattle.meaning.specs.Score.{phraseIdf, boosted, passed}
+use Rattle.meaning.specs.Score.{phraseIdf, passed}
 use Rattle.weight.specs.ScorerTree.{term, phrase, Scorer, leaf, boolean, Scorers, end, more}
-use Rattle.weight.specs.Weigh.{Ready, cheapestFirst, chosen, scorersOf, booleanOf, kept, scoringAt, noScorer, weigh, readied}
+use Rattle.weight.specs.Weigh.{Ready, cheapestFirst, chosen, scorersOf, booleanOf, scoringAt, noScorer, weigh, readied}
 use Rattle.weight.proofs.Ready.{Every, every-sorted, every-chosen}
 
 -- a leaf has none, a Boolean one more than its children
@@ -76,8 +75,8 @@ mutual
       either (1 + levelsOf cs) (hasScorer ix (Query.boolean msm cs)) (booleanOf ix msm cs c (readied ix cs b)) (boolean-height ix msm cs c (levelsOf cs) (readied ix cs b) (readied-height ix cs b (levelsOf cs) (le-refl (levelsOf cs))))
   weigh-height ix (Query.range r) b c = zero-le
   weigh-height ix Query.matchAll b c = zero-le
-  weigh-height ix (Query.constantScore t) b c = let i = weigh-height ix t zeroFloat (some (kept c b)) in omega (arith, i)
-  weigh-height ix (Query.boost v t) b c = let i = weigh-height ix t (boosted b v) c in omega (arith, i)
+  weigh-height ix (Query.constantScore t) b c = le-trans (weigh-height ix t _ _) (omega arith)
+  weigh-height ix (Query.boost v t) b c = le-trans (weigh-height ix t _ _) (omega arith)
   weigh-height ix Query.matchNone b c = zero-le
 
   readied-height : (ix : Index) (cs : Clauses) (b : Float) (n : ℕ) → levelsOf cs ≤ n → Every (Low n) (readied ix cs b)

@@ -2,26 +2,23 @@
 use mathlib.Core.Path.{_≡_, refl, sym, ap, _∙_, subst}
 use mathlib.Core.Bool.{Bool, true, false, not, cond, _&&_, _||_, false≢true}
 use mathlib.Core.List.{List, [], _∷_, _++_}
-use mathlib.Core.Option.{Option, none, some}
-use Prim.Native.Nat.{ℕ, zero, suc, _+_}
+use mathlib.Core.Option.{Option, none}
+use Prim.Native.Nat.{ℕ, _+_}
 use native.Mathlib.Nat.{zero-add}
-use lib.Dec.{T, leb, ltb}
+use lib.Dec.{T, leb}
 use lib.Ieee.{Float, binary32, ofBits}
 use lib.Ieee.Fits.{and-l, and-r}
 use Rattle.meaning.specs.Lent.{Index, leafIdf}
-use Rattle.meaning.specs.Postings.{postingAt, found}
-use Rattle.meaning.specs.Phrase.{phraseFrequency}
 use Rattle.meaning.specs.Query
-use Rattle.meaning.specs.Query.{Occur, must, should, mustNot, filter, isRequired, isMust, isShould, isMustNot, Tree, Clauses, empty, clause, hasRequired}
+use Rattle.meaning.specs.Query.{isRequired, isShould, isMustNot, Tree, Clauses, empty, clause}
 use Rattle.meaning.specs.Takes.{Verdict, requiredHold, someProhibited, shouldsHolding, shouldsNeeded, booleanTakes, takes, takesOf}
 use Rattle.meaning.specs.Scorer
 use Rattle.meaning.specs.Scorer.{hasScorer}
 use Rattle.meaning.specs.Bm25.{weight}
-use Rattle.meaning.specs.Ieee754.{zeroFloat}
-use Rattle.meaning.specs.Score.{phraseIdf, boosted, passed}
+use Rattle.meaning.specs.Score.{phraseIdf, passed}
 use Rattle.meaning.proofs.Scorers.{no-scorer-takes-nothing}
 use Rattle.weight.specs.ScorerTree.{Leaf, term, phrase, Scoring, leaf, leafMatches, matches, allMatch, anyMatches, matching}
-use Rattle.weight.specs.Weigh.{Ready, insertReady, cheapestFirst, chosen, scorersOf, booleanOf, kept, scoringAt, noScorer, weigh, readied}
+use Rattle.weight.specs.Weigh.{Ready, insertReady, cheapestFirst, chosen, scorersOf, booleanOf, scoringAt, noScorer, weigh, readied}
 
 -- ---- the clauses made ready
 -- their verdicts on a document
@@ -157,8 +154,8 @@ mutual
   weigh-matches ix (Query.boolean msm cs) b c d = boolean-matches ix msm cs b c d (readied-takes ix cs b d) (readied-quiet ix cs b d) (hasScorer ix (Query.boolean msm cs)) refl
   weigh-matches ix (Query.range r) b c d = refl
   weigh-matches ix Query.matchAll b c d = refl
-  weigh-matches ix (Query.constantScore t) b c d = weigh-matches ix t zeroFloat (some (kept c b)) d
-  weigh-matches ix (Query.boost v t) b c d = weigh-matches ix t (boosted b v) c d
+  weigh-matches ix (Query.constantScore t) b c d = weigh-matches ix t _ _ d
+  weigh-matches ix (Query.boost v t) b c d = weigh-matches ix t _ _ d
   weigh-matches ix Query.matchNone b c d = refl
 
   pub readied-takes : (ix : Index) (cs : Clauses) (b : Float) (d : ℕ) → readyTakes ix (readied ix cs b) d ≡ takesOf ix cs d

@@ -1,23 +1,22 @@
 -- The tree of a query that is not refused: its records, its levels, and that it is sound. Assumes nothing.
-use mathlib.Core.Path.{_≡_, refl, sym, ap, _∙_, subst}
+use mathlib.Core.Path.{_≡_, refl, sym, ap, subst}
 use mathlib.Core.Bool.{Bool, true, false, not, cond, _&&_, false≢true}
 use mathlib.Core.List.{List, [], _∷_}
 use mathlib.Core.Option.{Option, none, some}
-use mathlib.Core.Logic.{_⊎_, inl, inr}
-use Prim.Native.Nat.{ℕ, zero, suc, suc-le-suc, zero-le, _+_, _*_, _≤_, _<_, max}
-use native.Mathlib.Nat.{le-refl, le-trans, not-suc-le-zero}
+use mathlib.Core.Logic.{inl, inr}
+use Prim.Native.Nat.{ℕ, zero, suc, suc-le-suc, zero-le, _+_, _≤_, _<_}
+use native.Mathlib.Nat.{le-trans, not-suc-le-zero}
 use native.Mathlib.Omega.{arith}
 use lib.Dec.{eqb}
 use lib.ListN.{length, getD}
 use lib.Ieee.{Float}
 use borrow.Author.Tests.{eqb-true, eq-eqb}
-use Rattle.meaning.specs.Below.{listTo, largestBelow}
+use Rattle.meaning.specs.Below.{largestBelow}
 use Rattle.meaning.specs.Lent.{Index, hasPositions}
 use Rattle.meaning.specs.Bm25.{one}
 use Rattle.meaning.specs.Phrase.{PhraseTerm}
-use Rattle.meaning.specs.Query
-use Rattle.meaning.specs.Query.{recordCount, recordKind, recordChildren, recordValue, phraseTermsOf, isPhraseTerm, Tree, Clauses, empty, Decoded, DecodedClauses, decode, decodeClauses, queryTree}
-use Rattle.meaning.specs.QueryRefusals.{carriesAbove, wrong7, wrong8, wrong9, wrong10}
+use Rattle.meaning.specs.Query.{recordCount, recordKind, recordChildren, recordValue, phraseTermsOf, isPhraseTerm, Tree, empty, Decoded, DecodedClauses, decode, decodeClauses, queryTree}
+use Rattle.meaning.specs.QueryRefusals.{wrong7, wrong8, wrong9, wrong10}
 use Rattle.meaning.specs.CallRefusals.{statesNeeded, largestIn, startsNeeded}
 use Rattle.index.specs.Accepted.{Accepted}
 use Rattle.query.proofs.Below.{last-or, none-below}

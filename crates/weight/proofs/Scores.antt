@@ -2,12 +2,12 @@
 use mathlib.Core.Path.{_≡_, refl, sym, ap, _∙_}
 use mathlib.Core.Bool.{Bool, true, false, cond, _&&_, false≢true}
 use mathlib.Core.List.{List, [], _∷_, _++_, map}
-use mathlib.Core.Option.{Option, none, some}
-use Prim.Native.Nat.{ℕ, zero, suc}
+use mathlib.Core.Option.{none, some}
+use Prim.Native.Nat.{ℕ, suc}
 use native.Mathlib.Nat.{le-refl}
 use lib.Dec.{eqb, leb}
 use lib.Ieee.{Float, binary32, binary64, add, ofBits}
-use borrow.Author.Tests.{leb-true, leb-false}
+use borrow.Author.Tests.{leb-false}
 use Rattle.meaning.specs.Lent.{Index, leafIdf}
 use Rattle.meaning.specs.Ieee754.{zeroFloat, narrow, narrowedSum}
 use Rattle.meaning.specs.Bm25.{weight}
@@ -19,7 +19,7 @@ use Rattle.meaning.specs.Cost.{cost, costs, disjunctionCost}
 use Rattle.meaning.specs.Score.{termScore, phraseScore, phraseIdf, boosted, passed, Requirement, byCost, requiredScore, ClauseScore, mustScores, shouldScores, groupScore, booleanScore, score, scores}
 use Rattle.meaning.proofs.Scorers.{no-scorer-takes-nothing}
 use Rattle.weight.specs.ScorerTree.{Leaf, term, phrase, leaf, Scored, leafScore, scoring, withGroup, joinedScore, matches, scorerScore, requiredScores, optionalScores}
-use Rattle.weight.specs.Weigh.{Ready, cheapestFirst, chosen, scorersOf, upToCost, joiningOf, booleanOf, kept, scoringAt, noScorer, weigh, readied}
+use Rattle.weight.specs.Weigh.{Ready, cheapestFirst, chosen, scorersOf, upToCost, joiningOf, booleanOf, scoringAt, noScorer, weigh, readied}
 use Rattle.weight.proofs.Matches.{AllThere, required-there, weigh-matches}
 use Rattle.weight.proofs.Order.{place, place-later, last-placed, Above, Sorted, sorted, requirement, musts, place-front, musts-sorted, musts-chosen}
 

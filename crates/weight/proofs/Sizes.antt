@@ -2,7 +2,7 @@
 use mathlib.Core.Path.{_≡_, refl, sym, ap, _∙_}
 use mathlib.Core.Bool.{Bool, true, false, cond}
 use mathlib.Core.List.{List, [], _∷_}
-use mathlib.Core.Option.{Option, none, some}
+use mathlib.Core.Option.{Option, none}
 use Prim.Native.Nat.{ℕ, zero-le, _+_, _*_, _≤_}
 use native.Mathlib.Nat.{le-refl, le-trans, le-of-eq, mul-one, mul-add}
 use native.Mathlib.Omega.{arith}
@@ -14,7 +14,7 @@ use Rattle.meaning.specs.Bm25.{weight}
 use Rattle.meaning.specs.Query
 use Rattle.meaning.specs.Query.{isRequired, isShould, isMustNot, Tree, Clauses, empty, clause}
 use Rattle.meaning.specs.Scorer.{hasScorer}
-use Rattle.meaning.specs.Score.{phraseIdf, boosted, passed}
+use Rattle.meaning.specs.Score.{phraseIdf, passed}
 use Rattle.weight.specs.ScorerTree.{Leaf, nothing, term, phrase, range, everything, Scoring, constant, Scorer, leaf}
 use Rattle.weight.specs.Weigh.{Ready, cheapestFirst, chosen, scorersOf, booleanOf, kept, scoringAt, noScorer, weigh, readied}
 use Rattle.weight.specs.State.{leafSize, sizeOf, sizesOf}
@@ -75,8 +75,8 @@ module _ (f : Scorer → ℕ) (k : ℕ) (leaf-most : (l : Leaf) (s : Scoring) �
         either (k * (1 + recordsOf cs)) (hasScorer ix (Query.boolean msm cs)) (booleanOf ix msm cs c (readied ix cs b)) (omega (arith, i, h, e)) (omega (arith, e))
     weigh-most ix (Query.range r) b c = leaf-most (range r) (constant (kept c b))
     weigh-most ix Query.matchAll b c = leaf-most everything (constant (kept c b))
-    weigh-most ix (Query.constantScore t) b c = let i = weigh-most ix t zeroFloat (some (kept c b)) in let e = one-more (records t) in omega (arith, i, e)
-    weigh-most ix (Query.boost v t) b c = let i = weigh-most ix t (boosted b v) c in let e = one-more (records t) in omega (arith, i, e)
+    weigh-most ix (Query.constantScore t) b c = let e = one-more (records t) in le-trans (weigh-most ix t _ _) (omega (arith, e))
+    weigh-most ix (Query.boost v t) b c = let e = one-more (records t) in le-trans (weigh-most ix t _ _) (omega (arith, e))
     weigh-most ix Query.matchNone b c = leaf-most nothing (constant zeroFloat)
 
     readied-most : (ix : Index) (cs : Clauses) (b : Float) → total f (readied ix cs b) ≤ k * recordsOf cs

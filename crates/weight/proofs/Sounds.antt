@@ -1,19 +1,18 @@
 -- A scorer tree is sound where its query's tree names what is there. Assumes nothing.
 use mathlib.Core.Bool.{Bool, true, false, cond}
 use mathlib.Core.List.{List, [], _∷_}
-use mathlib.Core.Option.{Option, none, some}
+use mathlib.Core.Option.{Option, none}
 use Prim.Native.Nat.{ℕ, _≤_}
 use lib.Ieee.{Float, binary32, ofBits}
 use Rattle.meaning.specs.Limits.{largestBoost}
 use Rattle.meaning.specs.Lent.{Index, leafIdf}
-use Rattle.meaning.specs.Ieee754.{zeroFloat}
 use Rattle.meaning.specs.Bm25.{weight}
 use Rattle.meaning.specs.Query
 use Rattle.meaning.specs.Query.{isRequired, isShould, isMustNot, Tree, Clauses, empty, clause}
 use Rattle.meaning.specs.Scorer.{hasScorer}
-use Rattle.meaning.specs.Score.{phraseIdf, boosted, passed}
-use Rattle.weight.specs.ScorerTree.{Leaf, nothing, term, phrase, Scorer, leaf}
-use Rattle.weight.specs.Weigh.{Ready, cheapestFirst, chosen, scorersOf, booleanOf, kept, scoringAt, noScorer, weigh, readied}
+use Rattle.meaning.specs.Score.{phraseIdf, passed}
+use Rattle.weight.specs.ScorerTree.{term, phrase, Scorer, leaf}
+use Rattle.weight.specs.Weigh.{Ready, cheapestFirst, chosen, scorersOf, booleanOf, scoringAt, noScorer, weigh, readied}
 use Rattle.weight.specs.Sound.{LeafSound, Sound, Sounds}
 use Rattle.weight.proofs.Ready.{Every, every-sorted, every-chosen}
 
@@ -60,8 +59,8 @@ module _ (ix : Index) (places : ℕ) where
     weigh-sound (Query.boolean msm cs) b c h = either (hasScorer ix (Query.boolean msm cs)) (booleanOf ix msm cs c (readied ix cs b)) (boolean-sound msm cs c (readied ix cs b) (readied-sound cs b h))
     weigh-sound (Query.range r) b c h = tt
     weigh-sound Query.matchAll b c h = tt
-    weigh-sound (Query.constantScore t) b c h = weigh-sound t zeroFloat (some (kept c b)) h
-    weigh-sound (Query.boost v t) b c h = weigh-sound t (boosted b v) c (h .1)
+    weigh-sound (Query.constantScore t) b c h = weigh-sound t _ _ h
+    weigh-sound (Query.boost v t) b c h = weigh-sound t _ _ (h .1)
     weigh-sound Query.matchNone b c h = tt
 
     pub readied-sound : (cs : Clauses) (b : Float) → TreeSounds ix places cs → Every (Sound ix places) (readied ix cs b)

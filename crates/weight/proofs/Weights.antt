@@ -12,7 +12,7 @@ use lib.Ieee.Fits.{mul-fits}
 use lib.Ieee.Bits.{ofBits-fits}
 use Rattle.meaning.specs.Limits.{largestBoost}
 use Rattle.meaning.specs.Lent.{Index, leafCount, leafIdf}
-use Rattle.meaning.specs.Ieee754.{zeroFloat, narrowedSum}
+use Rattle.meaning.specs.Ieee754.{zeroFloat}
 use Rattle.meaning.specs.Bm25.{one, weight}
 use Rattle.meaning.specs.Phrase.{PhraseTerm}
 use Rattle.meaning.specs.Query
@@ -27,7 +27,7 @@ use Rattle.ieee754.proofs.Bounds.{atmost-more, zero-atmost}
 use Rattle.ieee754.proofs.Sums.{Each, each-none, each-one}
 use Rattle.sim.proofs.ScoreBounds.{boost-atmost, idf-atmost, carried-atmost, weight-atmost, phrase-idf-atmost, phrase-weight-atmost}
 use Rattle.index.specs.Accepted.{Accepted}
-use Rattle.weight.specs.ScorerTree.{Leaf, term, phrase, Scoring, constant, weighted, Scorer, leaf, boolean, Scorers, end, more}
+use Rattle.weight.specs.ScorerTree.{term, phrase, Scoring, constant, weighted, Scorer, leaf, boolean, Scorers, end, more}
 use Rattle.weight.specs.Weigh.{Ready, cheapestFirst, chosen, scorersOf, booleanOf, kept, scoringAt, noScorer, weigh, readied}
 use Rattle.weight.specs.Sound.{EachTerm, LeafSound}
 use Rattle.weight.proofs.Ready.{Every, every-sorted, every-chosen}
