@@ -42,8 +42,8 @@ unfoldable mutual
   levelsOf empty = 0
   levelsOf (clause o t cs) = max (levels t) (levelsOf cs)
 
-abbrev Low : ℕ → Scorer → Type 0
-Low n s = height s ≤ n
+abbrev Low : ℕ → Ready → Type 0
+Low n r = height (r .scorer) ≤ n
 
 heights-low : (n : ℕ) (rs : List Ready) → Every (Low n) rs → heights (scorersOf rs) ≤ n
 unfolding heights scorersOf Every

@@ -1,9 +1,9 @@
 -- The laws of `weigh`: the scorer tree means what the query's tree means. The crates above cite them.
+pub mod Ready
 pub mod Matches
 pub mod Order
 pub mod Scores
 pub mod FullList
-pub mod Ready
 pub mod Sizes
 pub mod Heights
 pub mod Sounds

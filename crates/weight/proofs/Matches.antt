@@ -19,6 +19,7 @@ use Rattle.meaning.specs.Score.{phraseIdf, passed}
 use Rattle.meaning.proofs.Scorers.{no-scorer-takes-nothing}
 use Rattle.weight.specs.ScorerTree.{Leaf, term, phrase, Scoring, leaf, leafMatches, matches, allMatch, anyMatches, matching}
 use Rattle.weight.specs.Weigh.{Ready, insertReady, cheapestFirst, chosen, scorersOf, booleanOf, scoringAt, noScorer, weigh, readied}
+use Rattle.weight.proofs.Ready.{Every}
 
 -- ---- the clauses made ready
 -- their verdicts on a document
@@ -27,14 +28,12 @@ readyTakes ix [] d = []
 readyTakes ix (r ∷ rs) d = record { occur = r .occur; holds = matches ix (r .scorer) d } ∷ readyTakes ix rs d
 
 -- one without a scorer matches nothing
-unfoldable pub Quiet : Index → List Ready → ℕ → Type 0
-Quiet ix [] d = Unit
-Quiet ix (r ∷ rs) d = (r .present ≡ false → matches ix (r .scorer) d ≡ false) × Quiet ix rs d
+abbrev pub Quiet : Index → List Ready → ℕ → Type 0
+Quiet ix rs d = Every (λ r. r .present ≡ false → matches ix (r .scorer) d ≡ false) rs
 
 -- each Must and Filter has a scorer
-unfoldable pub AllThere : List Ready → Type 0
-AllThere [] = Unit
-AllThere (r ∷ rs) = (isRequired (r .occur) ≡ true → r .present ≡ true) × AllThere rs
+abbrev pub AllThere : List Ready → Type 0
+AllThere rs = Every (λ r. isRequired (r .occur) ≡ true → r .present ≡ true) rs
 
 -- ---- the required
 and-swap : (a b c : Bool) → (a && (b && c)) ≡ (b && (a && c))
@@ -61,7 +60,7 @@ all-sorted ix [] d = refl
 all-sorted ix (r ∷ rs) d = all-insert ix r (cheapestFirst rs) d ∙ ap (λ (z : Bool). matches ix (r .scorer) d && z) (all-sorted ix rs d)
 
 all-chosen : (ix : Index) (rs : List Ready) (d : ℕ) → AllThere rs → allMatch ix (scorersOf (chosen isRequired rs)) d ≡ requiredHold (readyTakes ix rs d)
-unfolding allMatch scorersOf chosen requiredHold readyTakes AllThere
+unfolding allMatch scorersOf chosen requiredHold readyTakes Every
 all-chosen ix [] d there = refl
 all-chosen ix (r ∷ rs) d there = step (isRequired (r .occur)) (r .present) (there .0) (all-chosen ix rs d (there .1))
   where
@@ -75,7 +74,7 @@ all-chosen ix (r ∷ rs) d there = step (isRequired (r .occur)) (r .present) (th
 
 -- ---- the prohibited and the optional
 any-chosen : (ix : Index) (rs : List Ready) (d : ℕ) → Quiet ix rs d → anyMatches ix (scorersOf (chosen isMustNot rs)) d ≡ someProhibited (readyTakes ix rs d)
-unfolding anyMatches scorersOf chosen someProhibited readyTakes Quiet
+unfolding anyMatches scorersOf chosen someProhibited readyTakes Every
 any-chosen ix [] d quiet = refl
 any-chosen ix (r ∷ rs) d quiet = step (isMustNot (r .occur)) (r .present) (quiet .0) (any-chosen ix rs d (quiet .1))
   where
@@ -91,7 +90,7 @@ any-chosen ix (r ∷ rs) d quiet = step (isMustNot (r .occur)) (r .present) (qui
     step false p f e = e
 
 matching-chosen : (ix : Index) (rs : List Ready) (d : ℕ) → Quiet ix rs d → matching ix (scorersOf (chosen isShould rs)) d ≡ shouldsHolding (readyTakes ix rs d)
-unfolding matching scorersOf chosen shouldsHolding readyTakes Quiet
+unfolding matching scorersOf chosen shouldsHolding readyTakes Every
 matching-chosen ix [] d quiet = refl
 matching-chosen ix (r ∷ rs) d quiet = step (isShould (r .occur)) (r .present) (quiet .0) (matching-chosen ix rs d (quiet .1))
   where
@@ -108,7 +107,7 @@ matching-chosen ix (r ∷ rs) d quiet = step (isShould (r .occur)) (r .present) 
 
 -- ---- where a Boolean has a scorer
 pub all-there : (ix : Index) (cs : Clauses) (b : Float) → T (requiredHold (Scorer.scorersOf ix cs)) → AllThere (readied ix cs b)
-unfolding requiredHold Scorer.scorersOf readied AllThere
+unfolding requiredHold Scorer.scorersOf readied Every
 all-there ix empty b h = tt
 all-there ix (clause o t cs) b h =
     (step (isRequired o) (hasScorer ix t) (and-l (not (isRequired o) || hasScorer ix t) (requiredHold (Scorer.scorersOf ix cs)) h), all-there ix cs b (and-r (not (isRequired o) || hasScorer ix t) (requiredHold (Scorer.scorersOf ix cs)) h))
@@ -146,7 +145,7 @@ leaf-matches ix t d l s same true h = same
 leaf-matches ix t d l s same false h = sym (no-scorer-takes-nothing ix t d h)
 
 mutual
-  unfolding weigh readied matches leafMatches takes readyTakes Quiet
+  unfolding weigh readied matches leafMatches takes readyTakes Every
 
   pub weigh-matches : (ix : Index) (t : Tree) (b : Float) (c : Option Float) (d : ℕ) → matches ix (weigh ix t b c) d ≡ takes ix t d
   weigh-matches ix (Query.term l) b c d = leaf-matches ix (Query.term l) d (term l) (scoringAt c (weight b (ofBits binary32 (leafIdf ix l)))) refl (hasScorer ix (Query.term l)) refl

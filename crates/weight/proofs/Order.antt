@@ -11,6 +11,7 @@ use borrow.Author.Tests.{leb-true, leb-false, le-leb, lt-leb}
 use Rattle.meaning.specs.Query.{Occur, must, should, mustNot, filter, isRequired, isMust}
 use Rattle.meaning.specs.Score.{Requirement, insertByCost, byCost}
 use Rattle.weight.specs.Weigh.{Ready, insertReady, cheapestFirst, chosen}
+use Rattle.weight.proofs.Ready.{Every, every-insert, every-more}
 use Rattle.weight.proofs.Matches.{AllThere}
 
 -- ---- meaning's requirements
@@ -83,37 +84,28 @@ last-placed [] g = refl
 last-placed (m ∷ ms) g = ap (insertByCost m) (last-placed ms g) ∙ insert-place m g (byCost ms)
 
 -- ---- clauses made ready, sorted
+abbrev pub AtLeast : ℕ → Ready → Type 0
+AtLeast n r = n ≤ r .cost
+
 -- each costs so much at least
-unfoldable pub Above : ℕ → List Ready → Type 0
-Above n [] = Unit
-Above n (r ∷ rs) = (n ≤ r .cost) × Above n rs
+abbrev pub Above : ℕ → List Ready → Type 0
+Above n rs = Every (AtLeast n) rs
 
 unfoldable pub Sorted : List Ready → Type 0
 Sorted [] = Unit
 Sorted (r ∷ rs) = Above (r .cost) rs × Sorted rs
 
 above-less : (m n : ℕ) (rs : List Ready) → m ≤ n → Above n rs → Above m rs
-unfolding Above
-above-less m n [] h a = tt
-above-less m n (r ∷ rs) h a = (le-trans h (a .0), above-less m n rs h (a .1))
-
-above-insert : (n : ℕ) (r : Ready) (rs : List Ready) → n ≤ r .cost → Above n rs → Above n (insertReady r rs)
-unfolding Above insertReady
-above-insert n r [] h a = (h, tt)
-above-insert n r (x ∷ xs) h a = step (leb (r .cost) (x .cost)) (above-insert n r xs h (a .1))
-  where
-    step : (b : Bool) → Above n (insertReady r xs) → Above n (cond b (r ∷ x ∷ xs) (x ∷ insertReady r xs))
-    step true i = (h, (a .0, a .1))
-    step false i = (a .0, i)
+above-less m n rs h a = every-more (AtLeast n) (AtLeast m) (λ r g. le-trans h g) rs a
 
 sorted-insert : (r : Ready) (rs : List Ready) → Sorted rs → Sorted (insertReady r rs)
-unfolding Above Sorted insertReady
+unfolding Every Sorted insertReady
 sorted-insert r [] s = (tt, tt)
 sorted-insert r (x ∷ xs) s = step (leb (r .cost) (x .cost)) refl (sorted-insert r xs (s .1))
   where
     step : (b : Bool) → leb (r .cost) (x .cost) ≡ b → Sorted (insertReady r xs) → Sorted (cond b (r ∷ x ∷ xs) (x ∷ insertReady r xs))
     step true e i = ((leb-true (r .cost) (x .cost) e, above-less (r .cost) (x .cost) xs (leb-true (r .cost) (x .cost) e) (s .0)), s)
-    step false e i = (above-insert (x .cost) r xs (omega (arith, leb-false (r .cost) (x .cost) e)) (s .0), i)
+    step false e i = (every-insert (AtLeast (x .cost)) r xs (omega (arith, leb-false (r .cost) (x .cost) e)) (s .0), i)
 
 pub sorted : (rs : List Ready) → Sorted (cheapestFirst rs)
 unfolding Sorted cheapestFirst
@@ -131,7 +123,7 @@ module _ (f : Ready → Float) where
 
   -- what costs no more than all of them comes first
   insert-front : (q : Requirement) (n : ℕ) (rs : List Ready) → q .cost ≤ n → Above n rs → insertByCost q (musts rs) ≡ q ∷ musts rs
-  unfolding insertByCost musts Above
+  unfolding insertByCost musts Every
   insert-front q n [] h a = refl
   insert-front q n (x ∷ xs) h a = step (isMust (x .occur)) (insert-front q n xs h (a .1))
     where
@@ -140,7 +132,7 @@ module _ (f : Ready → Float) where
       step false i = i
 
   pub place-front : (g : Requirement) (n : ℕ) (rs : List Ready) → g .cost < n → Above n rs → place g (musts rs) ≡ g ∷ musts rs
-  unfolding place musts Above
+  unfolding place musts Every
   place-front g n [] h a = refl
   place-front g n (x ∷ xs) h a = step (isMust (x .occur)) (place-front g n xs h (a .1))
     where
@@ -149,7 +141,7 @@ module _ (f : Ready → Float) where
       step false i = i
 
   musts-insert : (r : Ready) (rs : List Ready) → Sorted rs → musts (insertReady r rs) ≡ cond (isMust (r .occur)) (insertByCost (requirement r) (musts rs)) (musts rs)
-  unfolding musts insertReady insertByCost Sorted Above
+  unfolding musts insertReady insertByCost Sorted Every
   musts-insert r [] s = step (isMust (r .occur))
     where
       step : (m : Bool) → (cond m (requirement r ∷ []) [] ++ []) ≡ cond m (requirement r ∷ []) []
@@ -188,7 +180,7 @@ module _ (f : Ready → Float) where
 
   -- and where each required clause has a scorer, leaving out the others leaves out no Must
   pub musts-chosen : (rs : List Ready) → AllThere rs → musts (chosen isRequired rs) ≡ musts rs
-  unfolding musts chosen AllThere
+  unfolding musts chosen Every
   musts-chosen [] there = refl
   musts-chosen (r ∷ rs) there = step (isRequired (r .occur)) (r .present) refl (there .0) (musts-chosen rs (there .1))
     where

@@ -10,13 +10,13 @@ use Rattle.meaning.specs.Query.{Occur, must, should, mustNot, filter, isRequire
 use Rattle.weight.specs.ScorerTree.{Scorer}
 use Rattle.weight.specs.Weigh.{Ready, insertReady, cheapestFirst, chosen}
 
--- ---- a property of each one's scorer
-module _ (P : Scorer → Type 0) where
+-- ---- a property of each one
+module _ (P : Ready → Type 0) where
   unfoldable pub Every : List Ready → Type 0
   Every [] = Unit
-  Every (r ∷ rs) = P (r .scorer) × Every rs
+  Every (r ∷ rs) = P r × Every rs
 
-  every-insert : (r : Ready) (rs : List Ready) → P (r .scorer) → Every rs → Every (insertReady r rs)
+  pub every-insert : (r : Ready) (rs : List Ready) → P r → Every rs → Every (insertReady r rs)
   unfolding Every insertReady
   every-insert r [] p ps = (p, tt)
   every-insert r (x ∷ xs) p ps = step (leb (r .cost) (x .cost)) (every-insert r xs p (ps .1))
@@ -38,6 +38,11 @@ module _ (P : Scorer → Type 0) where
       step : (h : Bool) → Every (chosen o rs) → Every (cond h (r ∷ []) [] ++ chosen o rs)
       step true i = (ps .0, i)
       step false i = i
+
+pub every-more : (P Q : Ready → Type 0) → ((r : Ready) → P r → Q r) → (rs : List Ready) → Every P rs → Every Q rs
+unfolding Every
+every-more P Q f [] ps = tt
+every-more P Q f (r ∷ rs) ps = (f r (ps .0), every-more P Q f rs (ps .1))
 
 -- ---- a number of each one's scorer, added up
 module _ (f : Scorer → ℕ) where

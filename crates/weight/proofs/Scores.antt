@@ -21,7 +21,8 @@ use Rattle.meaning.proofs.Scorers.{no-scorer-takes-nothing}
 use Rattle.weight.specs.ScorerTree.{Leaf, term, phrase, leaf, Scored, leafScore, scoring, withGroup, joinedScore, matches, scorerScore, requiredScores, optionalScores}
 use Rattle.weight.specs.Weigh.{Ready, cheapestFirst, chosen, scorersOf, upToCost, joiningOf, booleanOf, scoringAt, noScorer, weigh, readied}
 use Rattle.weight.proofs.Matches.{AllThere, required-there, weigh-matches}
-use Rattle.weight.proofs.Order.{place, place-later, last-placed, Above, Sorted, sorted, requirement, musts, place-front, musts-sorted, musts-chosen}
+use Rattle.weight.proofs.Ready.{Every}
+use Rattle.weight.proofs.Order.{place, place-later, last-placed, Sorted, sorted, requirement, musts, place-front, musts-sorted, musts-chosen}
 
 -- a clause's score in a document
 abbrev readyScore : Index → ℕ → Ready → Float
@@ -42,7 +43,7 @@ scoring-musts ix (r ∷ rs) d = step (isMust (r .occur)) (scoring-musts ix rs d)
 
 -- and the group after the first that cost no more is the group after all Musts that cost no more
 group-musts : (ix : Index) (g : Requirement) (rs : List Ready) (d : ℕ) → Sorted rs → withGroup (upToCost (g .cost) rs) (g .score) (requiredScores ix (scorersOf rs) d) ≡ scoresOf (place g (musts (readyScore ix d) rs))
-unfolding withGroup upToCost scoring requiredScores scorersOf place musts Sorted Above
+unfolding withGroup upToCost scoring requiredScores scorersOf place musts Sorted Every
 group-musts ix g [] d s = refl
 group-musts ix g (r ∷ rs) d s = step (leb (r .cost) (g .cost)) refl (group-musts ix g rs d (s .1))
   where
@@ -136,7 +137,7 @@ scored-boolean ix msm cs b x d s true e = s
 scored-boolean ix msm cs b x d s false e = absurd (false≢true e)
 
 mutual
-  unfolding weigh readied hasScorer scorerScore leafScore score termScore phraseScore musts mustScores chosen scorersOf shouldScores AllThere
+  unfolding weigh readied hasScorer scorerScore leafScore score termScore phraseScore musts mustScores chosen scorersOf shouldScores Every
 
   -- THE theorem
   pub weigh-score : (ix : Index) (t : Tree) (b : Float) (d : ℕ) → hasScorer ix t ≡ true → scorerScore ix (weigh ix t b none) d ≡ score ix t b d

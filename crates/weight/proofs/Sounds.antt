@@ -33,15 +33,18 @@ unfoldable mutual
   TreeSounds ix places (clause o t cs) = TreeSound ix places t × TreeSounds ix places cs
 
 module _ (ix : Index) (places : ℕ) where
-  sounds : (rs : List Ready) → Every (Sound ix places) rs → Sounds ix places (scorersOf rs)
+  abbrev pub ReadySound : Ready → Type 0
+  ReadySound r = Sound ix places (r .scorer)
+
+  sounds : (rs : List Ready) → Every ReadySound rs → Sounds ix places (scorersOf rs)
   unfolding Sounds scorersOf Every
   sounds [] e = tt
   sounds (r ∷ rs) e = (e .0, sounds rs (e .1))
 
-  boolean-sound : (msm : ℕ) (cs : Clauses) (c : Option Float) (rs : List Ready) → Every (Sound ix places) rs → Sound ix places (booleanOf ix msm cs c rs)
+  boolean-sound : (msm : ℕ) (cs : Clauses) (c : Option Float) (rs : List Ready) → Every ReadySound rs → Sound ix places (booleanOf ix msm cs c rs)
   unfolding Sound booleanOf
   boolean-sound msm cs c rs e =
-      (sounds (cheapestFirst (chosen isRequired rs)) (every-sorted (Sound ix places) (chosen isRequired rs) (every-chosen (Sound ix places) isRequired rs e)), sounds (chosen isShould rs) (every-chosen (Sound ix places) isShould rs e), sounds (chosen isMustNot rs) (every-chosen (Sound ix places) isMustNot rs e))
+      (sounds (cheapestFirst (chosen isRequired rs)) (every-sorted ReadySound (chosen isRequired rs) (every-chosen ReadySound isRequired rs e)), sounds (chosen isShould rs) (every-chosen ReadySound isShould rs e), sounds (chosen isMustNot rs) (every-chosen ReadySound isMustNot rs e))
 
   -- a scorer, or none
   either : (h : Bool) (s : Scorer) → Sound ix places s → Sound ix places (cond h s noScorer)
@@ -63,6 +66,6 @@ module _ (ix : Index) (places : ℕ) where
     weigh-sound (Query.boost v t) b c h = weigh-sound t _ _ (h .1)
     weigh-sound Query.matchNone b c h = tt
 
-    pub readied-sound : (cs : Clauses) (b : Float) → TreeSounds ix places cs → Every (Sound ix places) (readied ix cs b)
+    pub readied-sound : (cs : Clauses) (b : Float) → TreeSounds ix places cs → Every ReadySound (readied ix cs b)
     readied-sound empty b h = tt
     readied-sound (clause o t cs) b h = (weigh-sound t (passed o b) none (h .0), readied-sound cs b (h .1))

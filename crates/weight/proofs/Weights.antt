@@ -123,15 +123,18 @@ fine-phrase : (b idf : Float) → AtMost (2 ^ 16) b → AtMost (2 ^ 11) idf → 
 fine-phrase b idf i j = record { held = mul-fits binary32 b idf; small = atmost-more (lit≤ tt) (phrase-weight-atmost b idf i j) }
 
 -- ---- the tree
-weighted-all : (rs : List Ready) → Every Weighted rs → WeightedAll (scorersOf rs)
+abbrev pub ReadyWeighted : Ready → Type 0
+ReadyWeighted r = Weighted (r .scorer)
+
+weighted-all : (rs : List Ready) → Every ReadyWeighted rs → WeightedAll (scorersOf rs)
 unfolding WeightedAll scorersOf Every
 weighted-all [] e = tt
 weighted-all (r ∷ rs) e = (e .0, weighted-all rs (e .1))
 
-boolean-weighted : (ix : Index) (msm : ℕ) (cs : Clauses) (c : Option Float) (rs : List Ready) → KeptFine c → Every Weighted rs → Weighted (booleanOf ix msm cs c rs)
+boolean-weighted : (ix : Index) (msm : ℕ) (cs : Clauses) (c : Option Float) (rs : List Ready) → KeptFine c → Every ReadyWeighted rs → Weighted (booleanOf ix msm cs c rs)
 unfolding Weighted booleanOf
 boolean-weighted ix msm cs c rs k e =
-    (k, weighted-all (cheapestFirst (chosen isRequired rs)) (every-sorted Weighted (chosen isRequired rs) (every-chosen Weighted isRequired rs e)), weighted-all (chosen isShould rs) (every-chosen Weighted isShould rs e), weighted-all (chosen isMustNot rs) (every-chosen Weighted isMustNot rs e))
+    (k, weighted-all (cheapestFirst (chosen isRequired rs)) (every-sorted ReadyWeighted (chosen isRequired rs) (every-chosen ReadyWeighted isRequired rs e)), weighted-all (chosen isShould rs) (every-chosen ReadyWeighted isShould rs e), weighted-all (chosen isMustNot rs) (every-chosen ReadyWeighted isMustNot rs e))
 
 -- a scorer, or none
 either : (h : Bool) (s : Scorer) → Weighted s → Weighted (cond h s noScorer)
@@ -176,7 +179,7 @@ module _ (ix : Index) (places : ℕ) (accepted : Accepted ix) where
         weigh-weighted t (boosted b v) c (h .1) (no-right (aboveLimit b) (carriesAbove t (boosted b v)) e) (carried-boosted b v (carried-here (Query.boost v t) b r e) (h .0)) k
     weigh-weighted Query.matchNone b c h e r k = fine-zero
 
-    pub readied-weighted : (cs : Clauses) (b : Float) → TreeSounds ix places cs → clausesAbove cs b ≡ false → Carried b → Every Weighted (readied ix cs b)
+    pub readied-weighted : (cs : Clauses) (b : Float) → TreeSounds ix places cs → clausesAbove cs b ≡ false → Carried b → Every ReadyWeighted (readied ix cs b)
     readied-weighted empty b h e r = tt
     readied-weighted (clause o t cs) b h e r =
         (weigh-weighted t (passed o b) none (h .0) (no-left (carriesAbove t (passed o b)) (clausesAbove cs b) e) (carried-passed o b r) tt, readied-weighted cs b (h .1) (no-right (carriesAbove t (passed o b)) (clausesAbove cs b) e) r)
