@@ -10,3 +10,4 @@ pub mod Sounds
 pub mod Weights
 pub mod Tables
 pub mod Queries
+pub mod Deeper
