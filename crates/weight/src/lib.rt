@@ -1,0 +1,1 @@
+// A query made ready for an index.
