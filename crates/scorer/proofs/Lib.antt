@@ -1,0 +1,12 @@
+-- The laws of the scorer tree that the proofs of this crate and of those above it cite.
+pub mod Runs
+pub mod Bounds
+pub mod Firsts
+pub mod Children
+pub mod Loops
+pub mod Leads
+pub mod Nodes
+pub mod LeafLaws
+pub mod PhraseLaws
+pub mod Seeks
+pub mod Stands

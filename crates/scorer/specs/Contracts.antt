@@ -1,0 +1,171 @@
+-- What the functions of a scorer tree ask and answer. Assumes nothing: these are definitions.
+-- The tree and the index stand in no argument: some must fit the words at entry, and for all that fit them the answer is right.
+use mathlib.Core.Path.{_≡_}
+use mathlib.Core.Bool.{Bool, true, false, _&&_}
+use mathlib.Core.List.{List, [], _∷_, _++_}
+use Prim.Native.Nat.{ℕ, suc, _+_, _-_, _*_, _≤_, _<_}
+use lib.ListN.{length, getD}
+use lib.Dec.{leb, ltb}
+use Rattle.meaning.specs.Limits.{noMoreDocs}
+use Rattle.meaning.specs.Lent.{Index}
+use Rattle.meaning.specs.First.{First}
+use Rattle.weight.specs.ScorerTree.{Leaf, Scorer, Scorers, leafMatches, matches, allMatch, anyMatches, matching}
+use Rattle.weight.specs.State.{State, wordsOf, sizesOf}
+use Rattle.weight.specs.Held.{LeafIs, Ok, Oks}
+use Rattle.weight.specs.Sound.{Lends, LeafSound, Sound, Sounds}
+
+-- what is lent beside the words: N, the postings, the positions and the range buffer
+pub record Lent : Type 0 where
+  pub documents : ℕ
+  pub postings : List ℕ
+  pub positions : List ℕ
+  pub ranges : List ℕ
+
+abbrev pub lent : ℕ → List ℕ → List ℕ → List ℕ → Lent
+lent n ps qs rs = record { documents = n; postings = ps; positions = qs; ranges = rs }
+
+-- so many places are there in both phrase buffers
+pub record RoomIn (places a b : ℕ) : Type 0 where
+  pub in-a : places ≤ a
+  pub in-b : places ≤ b
+
+-- the index and the tree of a node's part, asked for documents up to a bound
+pub record NodeHeld (E : Lent) (ix : Index) (places : ℕ) (s : Scorer) (depth scores : ℕ) (st : List ℕ) (b : ℕ) : Type 0 where
+  pub lends : Lends ix (E .documents) (E .postings) (E .positions)
+  pub sound : Sound ix places s
+  pub ok : Ok ix (E .ranges) s depth scores st b
+
+abbrev pub AdvancePre : Lent → ℕ → ℕ → List ℕ → ℕ → ℕ → Type 0
+AdvancePre E a b st target depth = (target ≤ noMoreDocs) × ((ix : Index) × (places : ℕ) × (s : Scorer) × (scores : ℕ) × RoomIn places a b × NodeHeld E ix places s depth scores st target)
+
+abbrev pub AdvancePost : Lent → List ℕ → ℕ → ℕ → ℕ → List ℕ → Type 0
+AdvancePost E st target depth r st′ = (ix : Index) (places : ℕ) (s : Scorer) (scores : ℕ) → NodeHeld E ix places s depth scores st target → First (matches ix s) target r × Ok ix (E .ranges) s depth scores st′ target
+
+-- ---- leaves
+-- a leaf that must be moved, s its record and w the words behind it
+pub record LeafHeld (E : Lent) (ix : Index) (places : ℕ) (l : Leaf) (s : State) (w st : List ℕ) (target : ℕ) : Type 0 where
+  pub lends : Lends ix (E .documents) (E .postings) (E .positions)
+  pub sound : LeafSound ix places l
+  pub words : st ≡ wordsOf s ++ w
+  pub due : s .cached ≤ target
+  pub is : LeafIs ix (E .ranges) l s w target
+
+-- the words of a record that a move leaves as they are
+pub record Kept (s s′ : State) : Type 0 where
+  pub cached : s′ .cached ≡ s .cached
+  pub constant : s′ .constant ≡ s .constant
+  pub weight : s′ .weight ≡ s .weight
+  pub scores : s′ .scores ≡ s .scores
+
+-- the leaf after the move to a document, which its cursors have not passed
+pub record LeafMoved (E : Lent) (ix : Index) (l : Leaf) (s : State) (st : List ℕ) (r : ℕ) : Type 0 where
+  pub state : State
+  pub behind : List ℕ
+  pub words : st ≡ wordsOf state ++ behind
+  pub kept : Kept s state
+  pub is : LeafIs ix (E .ranges) l state behind r
+
+abbrev pub LeafPre : Lent → ℕ → ℕ → List ℕ → ℕ → Type 0
+LeafPre E a b st target = (target ≤ noMoreDocs) × ((ix : Index) × (places : ℕ) × (l : Leaf) × (s : State) × (w : List ℕ) × RoomIn places a b × LeafHeld E ix places l s w st target)
+
+abbrev pub LeafPost : Lent → List ℕ → ℕ → ℕ → List ℕ → Type 0
+LeafPost E st target r st′ = (ix : Index) (places : ℕ) (l : Leaf) (s : State) (w : List ℕ) → LeafHeld E ix places l s w st target → First (leafMatches ix l) target r × LeafMoved E ix l s st′ r
+
+-- ---- children
+-- some parts, one after the other
+pub record PartsHeld (E : Lent) (ix : Index) (places : ℕ) (ss : Scorers) (depth : ℕ) (kids : List ℕ) (b : ℕ) : Type 0 where
+  pub lends : Lends ix (E .documents) (E .postings) (E .positions)
+  pub sounds : Sounds ix places ss
+  pub oks : Oks ix (E .ranges) ss depth kids b
+
+abbrev pub PartsPre : Lent → ℕ → ℕ → List ℕ → ℕ → ℕ → Type 0
+PartsPre E a b kids target depth = (target ≤ noMoreDocs) × ((ix : Index) × (places : ℕ) × (ss : Scorers) × RoomIn places a b × PartsHeld E ix places ss depth kids target)
+
+-- what a loop over the parts may read at a place, and what it reads there
+pub record ChildAt (kids : List ℕ) (at : ℕ) : Type 0 where
+  pub long : 24 ≤ getD kids (at + 1) 0
+  pub fits : at + getD kids (at + 1) 0 ≤ length kids
+
+pub record ChildRead (kids : List ℕ) (at e c : ℕ) : Type 0 where
+  pub end : e ≡ at + getD kids (at + 1) 0
+  pub cached : c ≡ getD kids (at + 2) 0
+
+-- the least document and how many stand there, with one document more
+pub record Tally (best n d best′ n′ : ℕ) : Type 0 where
+  pub below : d < best → (best′ ≡ d) × (n′ ≡ 1)
+  pub same : d ≡ best → (best′ ≡ best) × (n′ ≡ n + 1)
+  pub above : best < d → (best′ ≡ best) × (n′ ≡ n)
+
+-- d is the first document that some of the scorers match, and n of them match it
+pub record LeastIs (ix : Index) (ss : Scorers) (target d n : ℕ) : Type 0 where
+  pub first : First (λ x. ltb 0 (matching ix ss x)) target d
+  pub number : d < noMoreDocs → n ≡ matching ix ss d
+
+abbrev pub LeastPost : Lent → List ℕ → ℕ → ℕ → ℕ → ℕ → List ℕ → Type 0
+LeastPost E kids target depth d n kids′ = (ix : Index) (places : ℕ) (ss : Scorers) → PartsHeld E ix places ss depth kids target → LeastIs ix ss target d n × PartsHeld E ix places ss depth kids′ target
+
+abbrev pub DisjunctionPost : Lent → List ℕ → ℕ → ℕ → ℕ → ℕ → List ℕ → Type 0
+DisjunctionPost E kids need target depth r kids′ = (ix : Index) (places : ℕ) (ss : Scorers) → PartsHeld E ix places ss depth kids target → First (λ x. leb need (matching ix ss x)) target r × PartsHeld E ix places ss depth kids′ r
+
+-- one pass over the required: nothing from t up to r is taken, and r is if it is t
+pub record Passes (P : ℕ → Bool) (t r : ℕ) : Type 0 where
+  pub from : t ≤ r
+  pub top : r ≤ noMoreDocs
+  pub before : (d : ℕ) → t ≤ d → d < r → P d ≡ false
+  pub hit : r ≡ t → r < noMoreDocs → P r ≡ true
+
+abbrev pub PassPost : Lent → List ℕ → ℕ → ℕ → ℕ → List ℕ → Type 0
+PassPost E kids target depth r kids′ = (ix : Index) (places : ℕ) (ss : Scorers) → PartsHeld E ix places ss depth kids target → Passes (allMatch ix ss) target r × PartsHeld E ix places ss depth kids′ r
+
+-- ---- a Boolean
+-- its lead: every required, and so many of the optional
+abbrev pub leads : Index → Scorers → Scorers → ℕ → ℕ → Bool
+leads ix rs os need d = allMatch ix rs d && leb need (matching ix os d)
+
+-- the parts of the required and of the optional
+pub record LeadHeld (E : Lent) (ix : Index) (places : ℕ) (rs os : Scorers) (depth requiredEnd : ℕ) (kids : List ℕ) (b : ℕ) : Type 0 where
+  pub x : List ℕ
+  pub v : List ℕ
+  pub is : kids ≡ x ++ v
+  pub required-end : requiredEnd ≡ sizesOf rs
+  pub required : PartsHeld E ix places rs depth x b
+  pub optional : PartsHeld E ix places os depth v b
+
+abbrev pub LeadPre : Lent → ℕ → ℕ → List ℕ → ℕ → ℕ → ℕ → Type 0
+LeadPre E a b kids requiredEnd target depth = (target ≤ noMoreDocs) × ((ix : Index) × (places : ℕ) × (rs : Scorers) × (os : Scorers) × RoomIn places a b × LeadHeld E ix places rs os depth requiredEnd kids target)
+
+abbrev pub StepPost : Lent → List ℕ → ℕ → ℕ → ℕ → ℕ → ℕ → List ℕ → Type 0
+StepPost E kids requiredEnd need target depth r kids′ = (ix : Index) (places : ℕ) (rs os : Scorers) → LeadHeld E ix places rs os depth requiredEnd kids target → Passes (leads ix rs os need) target r × LeadHeld E ix places rs os depth requiredEnd kids′ r
+
+abbrev pub LeadPost : Lent → List ℕ → ℕ → ℕ → ℕ → ℕ → ℕ → List ℕ → Type 0
+LeadPost E kids requiredEnd need target depth r kids′ = (ix : Index) (places : ℕ) (rs os : Scorers) → LeadHeld E ix places rs os depth requiredEnd kids target → First (leads ix rs os need) target r × LeadHeld E ix places rs os depth requiredEnd kids′ r
+
+-- the parts of a Boolean's children
+pub record BooleanHeld (E : Lent) (ix : Index) (places : ℕ) (rs os ps : Scorers) (depth requiredEnd optionalEnd : ℕ) (kids : List ℕ) (b : ℕ) : Type 0 where
+  pub w : List ℕ
+  pub z : List ℕ
+  pub is : kids ≡ w ++ z
+  pub optional-end : optionalEnd ≡ length w
+  pub lead : LeadHeld E ix places rs os depth requiredEnd w b
+  pub prohibited : PartsHeld E ix places ps depth z b
+
+abbrev pub BooleanPre : Lent → ℕ → ℕ → List ℕ → ℕ → ℕ → ℕ → ℕ → Type 0
+BooleanPre E a b kids requiredEnd optionalEnd target depth = (target ≤ noMoreDocs) × ((ix : Index) × (places : ℕ) × (rs : Scorers) × (os : Scorers) × (ps : Scorers) × RoomIn places a b × BooleanHeld E ix places rs os ps depth requiredEnd optionalEnd kids target)
+
+-- its documents: the lead's that no prohibited matches
+abbrev pub takes : Index → Scorers → Scorers → Scorers → ℕ → ℕ → Bool
+takes ix rs os ps need d = leads ix rs os need d && mathlib.Core.Bool.not (ltb 0 (matching ix ps d))
+
+abbrev pub BooleanPost : Lent → List ℕ → ℕ → ℕ → ℕ → ℕ → ℕ → ℕ → List ℕ → Type 0
+BooleanPost E kids requiredEnd optionalEnd need target depth r kids′ = (ix : Index) (places : ℕ) (rs os ps : Scorers) → BooleanHeld E ix places rs os ps depth requiredEnd optionalEnd kids target → First (takes ix rs os ps need) target r × BooleanHeld E ix places rs os ps depth requiredEnd optionalEnd kids′ r
+
+-- what advance reads of a node's record
+pub record HeadRead (st : List ℕ) (k c : ℕ) : Type 0 where
+  pub kind : k ≡ getD st 0 0
+  pub cached : c ≡ getD st 2 0
+
+-- and of a Boolean's
+pub record BooleanRead (st : List ℕ) (n r o : ℕ) : Type 0 where
+  pub need : n ≡ getD st 3 0
+  pub required-end : r ≡ getD st 4 0
+  pub optional-end : o ≡ getD st 5 0

@@ -1,0 +1,207 @@
+// Scorers without children: the documents of a run, all documents, or a phrase.
+ghost use mathlib.Core.Path.{_≡_};
+ghost use Prim.Native.Nat.{ℕ, _+_, _*_, _≤_, _<_};
+ghost use lib.ListN.{length};
+ghost use Rattle.scorer.specs.Search.{CursorRead, SearchPre, SearchPost, AnyDocument};
+ghost use Rattle.scorer.specs.Phrases.{TermsPre, PassTermsPost, LeapfrogPost, PlaceAt, PlaceRead, GatherPre, GatherPost, FrequencyPre, FrequencyPost, PhrasePre, PhrasePost};
+ghost use Rattle.scorer.specs.Contracts.{lent, LeafPre, LeafPost};
+use super::NO_MORE_DOCS;
+use super::run::document;
+use super::run::lower;
+use super::wide;
+
+const TERM: u32 = 1;
+
+const PHRASE: u32 = 2;
+
+const RANGE: u32 = 4;
+
+// The words of a posting; a document of a range is one word.
+const POSTING: usize = 3;
+
+const ENTRY: usize = 1;
+
+// The words of a record.
+const RECORD: usize = 24;
+
+// A record's run: its first place, how many documents it has, and how many are passed.
+pub struct Cursor {
+    pub first: usize,
+    pub number: usize,
+    pub cursor: usize,
+}
+
+fn cursor_at(st: &[u32]) -> Cursor
+    requires { ⌜ 24 ≤ length (now st) ⌝ }
+    ensures { λ r. ⌜ CursorRead (now (st .entry)) (r .first) (r .number) (r .cursor) ⌝ }
+{
+    Cursor {
+        first: wide(st[6]),
+        number: wide(st[7]),
+        cursor: wide(st[8]),
+    }
+}
+
+// Moves a record's cursor to the first document at or after the target.
+fn search(st: &mut [u32], words: &[u32], stride: usize, target: u32) -> u32
+    requires { ⌜ SearchPre (now words) stride (now st) target ⌝ }
+    ensures { λ r. ⌜ SearchPost (now (words .entry)) stride (now (st .entry)) target r (now (st .exit)) ⌝ }
+{
+    let c = cursor_at(st);
+    let first = c.first;
+    let number = c.number;
+    let at = lower(words, stride, first, number, c.cursor, target);
+    st[8] = at as u32;
+    if at < number {
+        document(words, stride, first, at)
+    } else {
+        NO_MORE_DOCS
+    }
+}
+
+fn everything(max_doc: u32, target: u32) -> u32
+    ensures { λ r. ⌜ AnyDocument «max_doc» target r ⌝ }
+{
+    if target < max_doc {
+        target
+    } else {
+        NO_MORE_DOCS
+    }
+}
+
+// One pass over the terms of a phrase, each moved to where the one before it got.
+fn pass_terms(terms: &mut [u32], postings: &[u32], target: u32) -> u32
+    requires { ⌜ TermsPre (now postings) (now terms) target ⌝ }
+    ensures { λ r. ⌜ PassTermsPost (now (postings .entry)) (now (terms .entry)) target r (now (terms .exit)) ⌝ }
+{
+    let mut d = target;
+    let mut at = 0;
+    while at < terms.len() {
+        let end = at + RECORD;
+        d = search(&mut terms[at..end], postings, POSTING, d);
+        at = end;
+    }
+    d
+}
+
+// The first document that all terms of a phrase have: passes until one moves nothing.
+fn leapfrog(terms: &mut [u32], postings: &[u32], target: u32) -> u32
+    requires { ⌜ TermsPre (now postings) (now terms) target ⌝ }
+    ensures { λ r. ⌜ LeapfrogPost (now (postings .entry)) (now (terms .entry)) target r (now (terms .exit)) ⌝ }
+{
+    let mut d = target;
+    loop {
+        let e = pass_terms(terms, postings, d);
+        if e == d {
+            return d;
+        }
+        d = e;
+    }
+}
+
+// A phrase's term: the word of its posting, and its offset.
+pub struct Place {
+    pub posting: usize,
+    pub offset: u32,
+}
+
+fn place_at(terms: &[u32], at: usize) -> Place
+    requires { ⌜ PlaceAt (now terms) at ⌝ }
+    ensures { λ r. ⌜ PlaceRead (now (terms .entry)) at (r .posting) (r .offset) ⌝ }
+{
+    Place {
+        posting: POSTING * (wide(terms[at + 6]) + wide(terms[at + 8])),
+        offset: terms[at + 9],
+    }
+}
+
+// Of each term that stands at a document: the index of its first position there, its frequency and its offset.
+fn gather(terms: &[u32], postings: &[u32], out: &mut [u32]) -> usize
+    requires { ⌜ GatherPre (now postings) (now terms) (length (now out)) ⌝ }
+    ensures { λ r. ⌜ GatherPost (now (postings .entry)) (now (terms .entry)) r (now (out .exit)) ⌝ }
+{
+    let mut n = 0;
+    let mut at = 0;
+    while at < terms.len() {
+        let p = place_at(terms, at);
+        let posting = p.posting;
+        out[n] = postings[posting + 2];
+        out[n + 1] = postings[posting + 1];
+        out[n + 2] = p.offset;
+        n += POSTING;
+        at += RECORD;
+    }
+    n
+}
+
+// The frequency of a phrase in the document where its terms stand: at most 32 terms of three words.
+fn frequency(
+    terms: &[u32],
+    postings: &[u32],
+    positions: &[u32],
+    a: &mut [i32],
+    b: &mut [i32],
+) -> u32
+    requires { ⌜ FrequencyPre (now postings) (now positions) (now terms) (length (now a)) (length (now b)) ⌝ }
+    ensures { λ r. ⌜ FrequencyPost (now (postings .entry)) (now (positions .entry)) (now (terms .entry)) r ⌝ }
+{
+    let mut out = [0u32; 96];
+    let n = gather(terms, postings, &mut out);
+    phrase::frequency(positions, &out[..n], a, b)
+}
+
+// The first document at or after the target where a phrase stands.
+fn seek_phrase(
+    st: &mut [u32],
+    postings: &[u32],
+    positions: &[u32],
+    a: &mut [i32],
+    b: &mut [i32],
+    target: u32,
+) -> u32
+    requires { ⌜ PhrasePre (now postings) (now positions) (length (now a)) (length (now b)) (now st) target ⌝ }
+    ensures { λ r. ⌜ PhrasePost (now (postings .entry)) (now (positions .entry)) (now (st .entry)) target r (now (st .exit)) ⌝ }
+{
+    let mut t = target;
+    loop {
+        let d = leapfrog(&mut st[RECORD..], postings, t);
+        if d == NO_MORE_DOCS {
+            return d;
+        }
+        let n = frequency(&st[RECORD..], postings, positions, a, b);
+        if n == 0 {
+            t = d + 1;
+        } else {
+            st[16] = d + 1;
+            st[17] = n;
+            return d;
+        }
+    }
+}
+
+// A leaf of any kind, asked for a document beyond the one where it stands.
+pub fn seek(
+    st: &mut [u32],
+    max_doc: u32,
+    postings: &[u32],
+    positions: &[u32],
+    ranges: &[u32],
+    a: &mut [i32],
+    b: &mut [i32],
+    target: u32,
+) -> u32
+    requires { ⌜ LeafPre (lent «max_doc» (now postings) (now positions) (now ranges)) (length (now a)) (length (now b)) (now st) target ⌝ }
+    ensures { λ r. ⌜ LeafPost (lent «max_doc» (now (postings .entry)) (now (positions .entry)) (now (ranges .entry))) (now (st .entry)) target r (now (st .exit)) ⌝ }
+{
+    let kind = st[0];
+    if kind == TERM {
+        return search(st, postings, POSTING, target);
+    }
+    if kind == PHRASE {
+        return seek_phrase(st, postings, positions, a, b, target);
+    }
+    if kind == RANGE {
+        return search(st, ranges, ENTRY, target);
+    }
+    everything(max_doc, target)
+}

@@ -1,0 +1,453 @@
+// Scorers over a lent state: the words of a node are its record of 24 and then its children's parts, one after the other.
+mod leaves;
+pub mod run;
+
+ghost use Prim.Native.Nat.{ℕ, _+_, _≤_, _<_};
+ghost use mathlib.Core.Path.{_≡_};
+ghost use lib.ListN.{length, getD};
+ghost use Rattle.scorer.specs.Contracts.{lent, AdvancePre, AdvancePost, PartsPre, ChildAt, ChildRead, Tally, LeastPost, DisjunctionPost, PassPost, LeadPre, StepPost, LeadPost, BooleanPre, BooleanPost, HeadRead, BooleanRead};
+
+pub const NO_MORE_DOCS: u32 = 2147483647;
+
+// The words of a record, where children begin.
+const RECORD: usize = 24;
+
+const BOOLEAN: u32 = 3;
+
+// A word as a place in a slice.
+pub fn wide(x: u32) -> usize
+    ensures { λ r. ⌜ r ≡ x ⌝ }
+{
+    x as usize
+}
+
+// What a loop over parts reads of a child: where its part ends, and the document where it stands, + 1.
+pub struct Child {
+    pub end: usize,
+    pub cached: u32,
+}
+
+pub fn child_at(kids: &[u32], at: usize) -> Child
+    requires { ⌜ ChildAt (now kids) at ⌝ }
+    ensures { λ r. ⌜ ChildRead (now (kids .entry)) at (r .end) (r .cached) ⌝ }
+{
+    let end = at + wide(kids[at + 1]);
+    Child {
+        end,
+        cached: kids[at + 2],
+    }
+}
+
+pub struct Head {
+    pub kind: u32,
+    pub cached: u32,
+}
+
+fn head_at(st: &[u32]) -> Head
+    requires { ⌜ 24 ≤ length (now st) ⌝ }
+    ensures { λ r. ⌜ HeadRead (now (st .entry)) (r .kind) (r .cached) ⌝ }
+{
+    Head {
+        kind: st[0],
+        cached: st[2],
+    }
+}
+
+pub struct Boolean {
+    pub need: u32,
+    pub required: usize,
+    pub optional: usize,
+}
+
+fn boolean_at(st: &[u32]) -> Boolean
+    requires { ⌜ 24 ≤ length (now st) ⌝ }
+    ensures { λ r. ⌜ BooleanRead (now (st .entry)) (r .need) (r .required) (r .optional) ⌝ }
+{
+    Boolean {
+        need: st[3],
+        required: wide(st[4]),
+        optional: wide(st[5]),
+    }
+}
+
+// The least of some documents, and how many of them it is.
+pub struct Standing {
+    pub doc: u32,
+    pub count: usize,
+}
+
+fn tally(best: u32, count: usize, d: u32) -> Standing
+    requires { ⌜ count < 18446744073709551615 ⌝ }
+    ensures { λ r. ⌜ Tally best count d (r .doc) (r .count) ⌝ }
+{
+    if d < best {
+        return Standing { doc: d, count: 1 };
+    }
+    if d == best {
+        return Standing {
+            doc: best,
+            count: count + 1,
+        };
+    }
+    Standing { doc: best, count }
+}
+
+// The first document at or after the target that the node matches, or NO_MORE_DOCS.
+pub fn advance(
+    st: &mut [u32],
+    max_doc: u32,
+    postings: &[u32],
+    positions: &[u32],
+    ranges: &[u32],
+    a: &mut [i32],
+    b: &mut [i32],
+    target: u32,
+    depth: u32,
+) -> u32
+    requires { ⌜ AdvancePre (lent «max_doc» (now postings) (now positions) (now ranges)) (length (now a)) (length (now b)) (now st) target depth ⌝ }
+    ensures { λ r. ⌜ AdvancePost (lent «max_doc» (now (postings .entry)) (now (positions .entry)) (now (ranges .entry))) (now (st .entry)) target depth r (now (st .exit)) ⌝ }
+    ensures { λ r. ⌜ getD (now (st .exit)) 2 0 ≡ r + 1 ⌝ }
+{
+    let h = head_at(st);
+    let cached = h.cached;
+    if target < cached {
+        return cached - 1;
+    }
+    if h.kind == BOOLEAN {
+        let n = boolean_at(st);
+        let kids = &mut st[RECORD..];
+        let d = excluding(
+            kids,
+            max_doc,
+            postings,
+            positions,
+            ranges,
+            a,
+            b,
+            n.required,
+            n.optional,
+            n.need,
+            target,
+            depth - 1,
+        );
+        st[2] = d + 1;
+        d
+    } else {
+        let d = leaves::seek(st, max_doc, postings, positions, ranges, a, b, target);
+        st[2] = d + 1;
+        d
+    }
+}
+
+// The lead's documents that no prohibited child matches.
+fn excluding(
+    kids: &mut [u32],
+    max_doc: u32,
+    postings: &[u32],
+    positions: &[u32],
+    ranges: &[u32],
+    a: &mut [i32],
+    b: &mut [i32],
+    required_end: usize,
+    optional_end: usize,
+    need: u32,
+    target: u32,
+    depth: u32,
+) -> u32
+    requires { ⌜ BooleanPre (lent «max_doc» (now postings) (now positions) (now ranges)) (length (now a)) (length (now b)) (now kids) «required_end» «optional_end» target depth ⌝ }
+    ensures { λ r. ⌜ BooleanPost (lent «max_doc» (now (postings .entry)) (now (positions .entry)) (now (ranges .entry))) (now (kids .entry)) «required_end» «optional_end» need target depth r (now (kids .exit)) ⌝ }
+{
+    let mut t = target;
+    loop {
+        let d = lead(
+            &mut kids[..optional_end],
+            max_doc,
+            postings,
+            positions,
+            ranges,
+            a,
+            b,
+            required_end,
+            need,
+            t,
+            depth,
+        );
+        if d == NO_MORE_DOCS {
+            return d;
+        }
+        let x = least(
+            &mut kids[optional_end..],
+            max_doc,
+            postings,
+            positions,
+            ranges,
+            a,
+            b,
+            d,
+            depth,
+        );
+        if x.doc == d {
+            t = d + 1;
+        } else {
+            return d;
+        }
+    }
+}
+
+// Every required child and, where some are needed, so many of the optional.
+fn lead(
+    kids: &mut [u32],
+    max_doc: u32,
+    postings: &[u32],
+    positions: &[u32],
+    ranges: &[u32],
+    a: &mut [i32],
+    b: &mut [i32],
+    required_end: usize,
+    need: u32,
+    target: u32,
+    depth: u32,
+) -> u32
+    requires { ⌜ LeadPre (lent «max_doc» (now postings) (now positions) (now ranges)) (length (now a)) (length (now b)) (now kids) «required_end» target depth ⌝ }
+    ensures { λ r. ⌜ LeadPost (lent «max_doc» (now (postings .entry)) (now (positions .entry)) (now (ranges .entry))) (now (kids .entry)) «required_end» need target depth r (now (kids .exit)) ⌝ }
+{
+    if required_end == 0 {
+        if need == 0 {
+            target
+        } else {
+            disjunction(
+                kids,
+                max_doc,
+                postings,
+                positions,
+                ranges,
+                a,
+                b,
+                need,
+                target,
+                depth,
+            )
+        }
+    } else {
+        conjunction(
+            kids,
+            max_doc,
+            postings,
+            positions,
+            ranges,
+            a,
+            b,
+            required_end,
+            need,
+            target,
+            depth,
+        )
+    }
+}
+
+// Passes until one moves nothing.
+fn conjunction(
+    kids: &mut [u32],
+    max_doc: u32,
+    postings: &[u32],
+    positions: &[u32],
+    ranges: &[u32],
+    a: &mut [i32],
+    b: &mut [i32],
+    required_end: usize,
+    need: u32,
+    target: u32,
+    depth: u32,
+) -> u32
+    requires { ⌜ LeadPre (lent «max_doc» (now postings) (now positions) (now ranges)) (length (now a)) (length (now b)) (now kids) «required_end» target depth ⌝ }
+    ensures { λ r. ⌜ LeadPost (lent «max_doc» (now (postings .entry)) (now (positions .entry)) (now (ranges .entry))) (now (kids .entry)) «required_end» need target depth r (now (kids .exit)) ⌝ }
+{
+    let mut d = target;
+    loop {
+        let e = step(
+            kids,
+            max_doc,
+            postings,
+            positions,
+            ranges,
+            a,
+            b,
+            required_end,
+            need,
+            d,
+            depth,
+        );
+        if e == d {
+            return d;
+        }
+        d = e;
+    }
+}
+
+// One pass over the required children and then, where some are needed, the optional.
+fn step(
+    kids: &mut [u32],
+    max_doc: u32,
+    postings: &[u32],
+    positions: &[u32],
+    ranges: &[u32],
+    a: &mut [i32],
+    b: &mut [i32],
+    required_end: usize,
+    need: u32,
+    target: u32,
+    depth: u32,
+) -> u32
+    requires { ⌜ LeadPre (lent «max_doc» (now postings) (now positions) (now ranges)) (length (now a)) (length (now b)) (now kids) «required_end» target depth ⌝ }
+    ensures { λ r. ⌜ StepPost (lent «max_doc» (now (postings .entry)) (now (positions .entry)) (now (ranges .entry))) (now (kids .entry)) «required_end» need target depth r (now (kids .exit)) ⌝ }
+{
+    let e = pass(
+        &mut kids[..required_end],
+        max_doc,
+        postings,
+        positions,
+        ranges,
+        a,
+        b,
+        target,
+        depth,
+    );
+    if need == 0 {
+        e
+    } else {
+        disjunction(
+            &mut kids[required_end..],
+            max_doc,
+            postings,
+            positions,
+            ranges,
+            a,
+            b,
+            need,
+            e,
+            depth,
+        )
+    }
+}
+
+// Each child in turn, cheapest first, advanced to where the one before it got.
+fn pass(
+    kids: &mut [u32],
+    max_doc: u32,
+    postings: &[u32],
+    positions: &[u32],
+    ranges: &[u32],
+    a: &mut [i32],
+    b: &mut [i32],
+    target: u32,
+    depth: u32,
+) -> u32
+    requires { ⌜ PartsPre (lent «max_doc» (now postings) (now positions) (now ranges)) (length (now a)) (length (now b)) (now kids) target depth ⌝ }
+    ensures { λ r. ⌜ PassPost (lent «max_doc» (now (postings .entry)) (now (positions .entry)) (now (ranges .entry))) (now (kids .entry)) target depth r (now (kids .exit)) ⌝ }
+{
+    let mut d = target;
+    let mut at = 0;
+    while at < kids.len() {
+        let k = child_at(kids, at);
+        let end = k.end;
+        let cached = k.cached;
+        if d < cached {
+            d = cached - 1;
+            at = end;
+        } else {
+            d = advance(
+                &mut kids[at..end],
+                max_doc,
+                postings,
+                positions,
+                ranges,
+                a,
+                b,
+                d,
+                depth,
+            );
+            at = end;
+        }
+    }
+    d
+}
+
+// The first document on which at least `need` of the children stand; `need` is any word, so it is compared and never added to.
+fn disjunction(
+    kids: &mut [u32],
+    max_doc: u32,
+    postings: &[u32],
+    positions: &[u32],
+    ranges: &[u32],
+    a: &mut [i32],
+    b: &mut [i32],
+    need: u32,
+    target: u32,
+    depth: u32,
+) -> u32
+    requires { ⌜ (0 < need) × PartsPre (lent «max_doc» (now postings) (now positions) (now ranges)) (length (now a)) (length (now b)) (now kids) target depth ⌝ }
+    ensures { λ r. ⌜ DisjunctionPost (lent «max_doc» (now (postings .entry)) (now (positions .entry)) (now (ranges .entry))) (now (kids .entry)) need target depth r (now (kids .exit)) ⌝ }
+{
+    let enough = wide(need);
+    let mut t = target;
+    loop {
+        let x = least(kids, max_doc, postings, positions, ranges, a, b, t, depth);
+        let d = x.doc;
+        if d == NO_MORE_DOCS {
+            return d;
+        }
+        if x.count < enough {
+            t = d + 1;
+        } else {
+            return d;
+        }
+    }
+}
+
+// The least document at or after the target where some child stands, and how many do.
+fn least(
+    kids: &mut [u32],
+    max_doc: u32,
+    postings: &[u32],
+    positions: &[u32],
+    ranges: &[u32],
+    a: &mut [i32],
+    b: &mut [i32],
+    target: u32,
+    depth: u32,
+) -> Standing
+    requires { ⌜ PartsPre (lent «max_doc» (now postings) (now positions) (now ranges)) (length (now a)) (length (now b)) (now kids) target depth ⌝ }
+    ensures { λ r. ⌜ LeastPost (lent «max_doc» (now (postings .entry)) (now (positions .entry)) (now (ranges .entry))) (now (kids .entry)) target depth (r .doc) (r .count) (now (kids .exit)) ⌝ }
+{
+    let mut best = NO_MORE_DOCS;
+    let mut count = 0;
+    let mut at = 0;
+    while at < kids.len() {
+        let k = child_at(kids, at);
+        let end = k.end;
+        let cached = k.cached;
+        if target < cached {
+            let x = tally(best, count, cached - 1);
+            best = x.doc;
+            count = x.count;
+            at = end;
+        } else {
+            let d = advance(
+                &mut kids[at..end],
+                max_doc,
+                postings,
+                positions,
+                ranges,
+                a,
+                b,
+                target,
+                depth,
+            );
+            let x = tally(best, count, d);
+            best = x.doc;
+            count = x.count;
+            at = end;
+        }
+    }
+    Standing { doc: best, count }
+}
