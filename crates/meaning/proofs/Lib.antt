@@ -1,4 +1,6 @@
 -- The laws about the definitions of specs/ that other crates cite, and document 01's examples.
+pub mod Tests
+pub mod Below
 pub mod Examples
 pub mod Scorers
 pub mod Phrases
