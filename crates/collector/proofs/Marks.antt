@@ -14,7 +14,7 @@ use Rattle.meaning.specs.Ieee754.{zeroFloat, nextUp}
 use Rattle.meaning.specs.Hits.{mark}
 use Rattle.ieee754.specs.Nonneg.{signClear}
 use Rattle.ieee754.proofs.Patterns.{clear-bits, clear-lt, clear-number, pattern-clear, pattern-back}
-use Rattle.ieee754.proofs.Successor.{next-finite, next-infinite}
+use Rattle.ieee754.proofs.Successor.{zero-fits, next-finite, next-infinite}
 use Rattle.collector.specs.State.{competitive}
 
 -- ---- nextUp of a value with a clear sign, by patterns
@@ -41,10 +41,6 @@ next x F p = elim (eq-or-lt-of-le (clear-bits x F p)) [
         bits = ap (toBits binary32) (sym i) ∙ pattern-back (b + 1) (omega (arith, l)) ∙ omega (arith, l);
       }
 ]
-
-zero-fits : T (fits binary32 zeroFloat)
-unfolding fits
-zero-fits = tt
 
 zero-bits : toBits binary32 zeroFloat ≡ 0
 unfolding toBits

@@ -1,11 +1,8 @@
 -- What wrong14 rules out, and the picked list document by document. Assumes nothing.
 use mathlib.Core.Path.{_≡_, refl, sym, ap, _∙_, subst}
-use mathlib.Core.Bool.{Bool, true, false, not, _&&_, _||_}
-use mathlib.Core.Logic.{inl, inr}
+use mathlib.Core.Bool.{Bool, false, not, _&&_, _||_}
 use mathlib.Core.List.{List, [], _∷_, _++_}
-use Prim.Native.Nat.{ℕ, zero, suc, _+_, _-_, _≤_, _<_}
-use native.Mathlib.Nat.{eq-or-lt-of-le, le-of-suc-le-suc, not-suc-le-zero}
-use native.Mathlib.Numerals.{add-one}
+use Prim.Native.Nat.{ℕ, _+_, _-_, _≤_, _<_}
 use native.Mathlib.Omega.{arith}
 use borrow.Author.Tests.{ltb-false, leb-false, eqb-true, not-false, lt-ltb}
 use lib.Dec.{T, ltb, leb, eqb}
@@ -17,26 +14,12 @@ use Rattle.meaning.specs.Limits.{noMoreDocs, plusInfinity}
 use Rattle.meaning.specs.FullList.{ScoreDoc}
 use Rattle.meaning.specs.CallRefusals.{wrongPicked, wrong14}
 use Rattle.meaning.specs.Entries.{pickedList}
+use Rattle.meaning.proofs.Tests.{or-left, or-right}
+use Rattle.meaning.proofs.Below.{none-below, listTo-zero, listTo-next}
 use Rattle.ieee754.specs.Nonneg.{signClear}
 use Rattle.ieee754.proofs.Patterns.{pattern-clear, pattern-number}
 use Rattle.collector.specs.declared.TopScoreDocCollector.{TopScoreDocCollector}
 use Rattle.collector.specs.Collected.{Collected, Extended}
-
-or-left : (a b : Bool) → (a || b) ≡ false → a ≡ false
-or-left true b e = e
-or-left false b e = refl
-
-or-right : (a b : Bool) → (a || b) ≡ false → b ≡ false
-or-right true b e = let z : _≡_ {A = ℕ} 0 1 = cc e in absurd (omega (arith, z))
-or-right false b e = e
-
-none-below : (n : ℕ) (p : ℕ → Bool) → anyBelow n p ≡ false → (i : ℕ) → i < n → p i ≡ false
-unfolding anyBelow
-none-below zero p e i h = absurd (not-suc-le-zero h)
-none-below (suc n) p e i h = elim (eq-or-lt-of-le (le-of-suc-le-suc h)) [
-  | inl q ↦ ap p q ∙ or-right (anyBelow n p) (p n) e
-  | inr q ↦ none-below n p (or-left (anyBelow n p) (p n) e) i q
-]
 
 -- the i-th document with its score
 abbrev pub pickedAt : List ℕ → List ℕ → ℕ → ScoreDoc
@@ -78,16 +61,14 @@ module _ (documents scores : List ℕ) (w : wrong14 documents scores ≡ false) 
       back i = omega arith
 
 pub one-more : (documents scores : List ℕ) (i : ℕ) → listTo i (pickedAt documents scores) ++ (pickedAt documents scores i ∷ []) ≡ listTo (i + 1) (pickedAt documents scores)
-unfolding listTo
-one-more documents scores i = ap (λ (n : ℕ). listTo n (pickedAt documents scores)) (sym (add-one i))
+one-more documents scores i = sym (listTo-next (pickedAt documents scores) i)
 
 pub all-picked : (documents scores : List ℕ) → listTo (length documents) (pickedAt documents scores) ≡ pickedList documents scores
 unfolding pickedList
 all-picked documents scores = refl
 
 pub none-picked : (documents scores : List ℕ) → [] ≡ listTo 0 (pickedAt documents scores)
-unfolding listTo
-none-picked documents scores = refl
+none-picked documents scores = sym (listTo-zero (pickedAt documents scores))
 
 -- what `pick`'s loop keeps: the first i are collected, and the next document is not below b
 pub record Picking (documents scores : List ℕ) (t : ℕ) (start : List ℤ) (c : TopScoreDocCollector) (heap : List ℤ) (i : ℕ) : Type 0 where

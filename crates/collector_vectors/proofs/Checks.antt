@@ -1,16 +1,17 @@
 -- What has been seen of lists to pick from while they are checked place by place. Assumes nothing.
-use mathlib.Core.Path.{_≡_, refl, sym, subst}
-use mathlib.Core.Bool.{Bool, true, false, not, _&&_, _||_}
+use mathlib.Core.Path.{_≡_, sym, subst}
+use mathlib.Core.Bool.{true, false, not, _&&_, _||_}
 use mathlib.Core.List.{List}
 use mathlib.Core.Logic.{_⊎_, inl, inr}
-use Prim.Native.Nat.{ℕ, zero, suc, _+_, _-_, _≤_, _<_}
+use Prim.Native.Nat.{ℕ, suc, _+_, _-_, _≤_, _<_}
 use native.Mathlib.Nat.{eq-or-lt-of-le}
 use native.Mathlib.Omega.{arith}
 use lib.Dec.{eqb, leb, ltb}
 use lib.ListN.{length, getD}
 use borrow.Author.Tests.{ltb-true, lt-leb, le-ltb, eq-eqb}
-use Rattle.meaning.specs.Below.{anyBelow}
 use Rattle.meaning.specs.CallRefusals.{wrong14, wrongPicked}
+use Rattle.meaning.proofs.Tests.{decided}
+use Rattle.meaning.proofs.Below.{any-none}
 
 -- nothing is wrong below a place, and the next document is to be at least this
 pub record Seen (ds ss : List ℕ) (least i : ℕ) : Type 0 where
@@ -23,15 +24,6 @@ pub none-seen : (ds ss : List ℕ) → length ds ≡ length ss → Seen ds ss 0 
 none-seen ds ss e =
     record { same = e; not-past = omega arith; right = λ k h. absurd (omega arith); above = λ k h. absurd (omega arith) }
 
-decided : (b : Bool) → (b ≡ true) ⊎ (b ≡ false)
-decided true = inl refl
-decided false = inr refl
-
-none : (n : ℕ) (p : ℕ → Bool) → ((i : ℕ) → i < n → p i ≡ false) → anyBelow n p ≡ false
-unfolding anyBelow
-none zero p h = refl
-none (suc n) p h = rw (none n p (λ i l. h i (omega arith)), h n (omega arith))
-
 right-here : (ds ss : List ℕ) (i : ℕ) → (ltb 0 i && leb (getD ds i 0) (getD ds (i - 1) 0)) ≡ false → getD ds i 0 < 2147483647 → getD ss i 0 ≤ 0x7f80_0000 → wrongPicked ds ss i ≡ false
 unfolding wrongPicked
 right-here ds ss i rise small clear =
@@ -41,7 +33,7 @@ right-here ds ss i rise small clear =
 picked-right : (ds ss : List ℕ) → length ds ≡ length ss → ((k : ℕ) → k < length ds → wrongPicked ds ss k ≡ false) → wrong14 ds ss ≡ false
 unfolding wrong14
 picked-right ds ss e h =
-    let z : eqb (length ds) (length ss) ≡ true = eq-eqb (length ds) (length ss) e in rw (z, none (length ds) (wrongPicked ds ss) h)
+    let z : eqb (length ds) (length ss) ≡ true = eq-eqb (length ds) (length ss) e in rw (z, any-none (length ds) (wrongPicked ds ss) h)
 
 module _ {ds ss : List ℕ} {least i : ℕ} (s : Seen ds ss least i) where
   rises : least ≤ getD ds i 0 → (ltb 0 i && leb (getD ds i 0) (getD ds (i - 1) 0)) ≡ false

@@ -18,7 +18,8 @@ use Rattle.meaning.specs.Ieee754.{totalBelow}
 use Rattle.ieee754.specs.TotalOrder.{totalKey}
 use Rattle.ieee754.proofs.TotalOrder.{total-key, total-key-lt}
 use Rattle.doc_values.specs.Keys.{i64Key, valueKey, between, keyAtLower, keyAtUpper, valueIn}
-use Rattle.doc_values.proofs.Tests.{cmp, ltb-as-ltb, leb-as-ltb, not-ltb, and-middle}
+use Rattle.meaning.proofs.Tests.{cmp, ltb-as-ltb}
+use Rattle.doc_values.proofs.Tests.{leb-as-ltb, not-ltb, and-middle}
 
 -- ---- i64: a pattern without the sign bit, and one with it
 i64Of-small : (a : ℕ) → a < 2 ^ 63 → i64Of a ≡ pos a

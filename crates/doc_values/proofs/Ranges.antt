@@ -16,8 +16,8 @@ use Rattle.meaning.specs.IndexRefusals.{wrong1, wrongColumn, wrong6}
 use Rattle.meaning.specs.QueryRefusals.{wrongRange}
 use Rattle.meaning.specs.Entries.{columnsOnly}
 use Rattle.doc_values.specs.Keys.{valueKey, between, keyAtLower, keyAtUpper, valueIn}
-use Rattle.doc_values.proofs.Tests.{or-left, or-right}
-use Rattle.doc_values.proofs.Lists.{list-length, list-same, listed-at, listed-ascends, listed-has, listed-exactly}
+use Rattle.meaning.proofs.Tests.{or-left, or-right}
+use Rattle.meaning.proofs.Below.{list-length, list-same, listed-at, listed-ascends, listed-has, listed-exactly}
 use Rattle.doc_values.proofs.KeyOrder.{valueKey-fits, lower-by-key, upper-by-key}
 
 -- ---- the list depends on N, the columns and the values alone, and so do the tests that allow it

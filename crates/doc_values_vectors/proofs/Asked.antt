@@ -7,7 +7,7 @@ use mathlib.Core.Logic.{_⊎_, inl, inr}
 use lib.Dec.{eqb, leb, ltb}
 use lib.ListN.{length}
 use borrow.Author.Tests.{lt-leb, le-ltb, eq-eqb, eqb-true}
-use Rattle.doc_values.proofs.Lists.{decided}
+use Rattle.meaning.proofs.Tests.{decided}
 use Rattle.meaning.specs.Lent.{Index}
 use Rattle.meaning.specs.QueryRefusals.{wrongRange}
 

@@ -9,7 +9,7 @@ use lib.Dec.{T, not-T, le→leb, ltb, leb, eqb, isLe, isEq, ltb→lt, lt→ltb, 
 use lib.Pow.{pow-add, pow-pos, pow-mono, pow-lt, shl-lt, shl-shr, shl-exact}
 use lib.Ieee.{Float, nan, inf, fin, Format, binary32, binary64, low, size, nearest, odd, units, ofFields, ofBits, toBits, nanBits, isNan, fits, neg, div, round}
 use lib.Ieee.Fits.{odd-fits, round-is}
-use lib.Ieee.Bits.{ofBits-toBits, nanBits-above, toBits-lt}
+use lib.Ieee.Bits.{is-true, is-false, ofBits-toBits, nanBits-above, toBits-lt}
 use lib.Ieee.Digits.{size-lt, size-le}
 use lib.Ieee.Exact.{HasValue, odd-sign}
 use lib.Ieee.Nearest.{closest, closest-mono, closest-same, nearest-ge}
@@ -17,7 +17,7 @@ use lib.Ieee.Positive.{den, den-pos, value→cross}
 use Rattle.meaning.specs.Ieee754.{narrow}
 use Rattle.ieee754.specs.Nonneg.{nonneg}
 use Rattle.ieee754.proofs.Nonneg.{nonneg-of-value, inUnits, pattern, toBits-units}
-use Rattle.ieee754.proofs.Patterns.{number-bits}
+use Rattle.ieee754.proofs.Patterns.{number-bits, pattern-infinite}
 use Rattle.ieee754.proofs.Narrowing.{narrow-at, narrow-neg, narrow-nan, odd-neg}
 
 -- ---- a whole even number added before rounding is added after it
@@ -117,10 +117,6 @@ units-bits q k hi p h =
     units-small q k h
     ∙ sym (ofBits-toBits binary32 x (odd-fits binary32 25 false q k (wide q hi) hi h))
     ∙ ap (ofBits binary32) (toBits-units binary32 x (nonneg-of-value x (q * 2 ^ k) (2 ^ 149) v) ∙ ap (pattern binary32) (units-of binary32 x (q * 2 ^ k) v) ∙ p)
-
-inf-bits : ofBits binary32 0x7f80_0000 ≡ inf false
-unfolding ofBits
-inf-bits = refl
 
 zero-bits : ofBits binary32 0 ≡ fin false 0 (lib.IntN.pos 0)
 unfolding ofBits
@@ -355,7 +351,7 @@ module _ (m i : ℕ) (lo : 2 ^ 52 ≤ m) (hi : m < 2 ^ 53) where
   finite-bits h = normal m i lo hi ∙ units-bits Q i Q-le (packs Q i Q-ge Q-le) (held h)
 
   infinite-bits : 255 * 2 ^ 23 ≤ i * 2 ^ 23 + Q → round binary32 false (m * 2 ^ (i + 896)) (2 ^ 1074) ≡ ofBits binary32 0x7f80_0000
-  infinite-bits h = normal m i lo hi ∙ units-large Q i (over h) ∙ sym inf-bits
+  infinite-bits h = normal m i lo hi ∙ units-large Q i (over h) ∙ sym pattern-infinite
 
 -- ---- what the code works out, of a pattern b whose value is finite with the sign clear
 module _ (b : ℕ) (N : T (nonneg (ofBits binary64 b))) where
@@ -491,10 +487,6 @@ fine-fields (suc j) t h = go (eqb (suc j) 2047) (eqb→eq (suc j) 2047)
     go true k = absurd (lt-irrefl 2047 (subst (λ (z : ℕ). z < 2047) (k tt) h))
     go false k = fine-odd (2 ^ 52 + t) j
 
-is-false : (z : Bool) → T (not z) → z ≡ false
-is-false true t = absurd t
-is-false false t = refl
-
 finite-pattern : (b : ℕ) → b < 2047 * 2 ^ 52 → T (nonneg (ofBits binary64 b))
 finite-pattern b h =
     let small : b < 2 ^ 63 = lt-of-lt-of-le h (lit≤ tt) in
@@ -561,10 +553,6 @@ fields-neg (suc j) t = go (eqb (suc j) 2047) (eqb t 0)
     go true true = refl
     go true false = refl
     go false z = odd-neg 53 false (2 ^ 52 + t) j 1074
-
-is-true : (z : Bool) → T z → z ≡ true
-is-true true t = refl
-is-true false t = absurd t
 
 -- a pattern with the sign set is the negation of the rest
 bits-neg : (b : ℕ) → 2 ^ 63 ≤ b → b < 2 ^ 64 → neg (ofBits binary64 (b - 2 ^ 63)) ≡ ofBits binary64 b

@@ -12,7 +12,7 @@ use lib.Ieee.{Float, nan, inf, fin, Format, binary32, prec, emax, low, size, hid
 use lib.Ieee.Fits.{kept-lt, two, two-le-pos, eq→eqb}
 use lib.Ieee.Exact.{odd-sign}
 use lib.Ieee.Digits.{size-lt, size-le, size-reaches}
-use lib.Ieee.Bits.{ofBits-toBits, toBits-ofBits, nanBits-is, nanBits-above}
+use lib.Ieee.Bits.{is-true, is-false, ofBits-toBits, toBits-ofBits, nanBits-is, nanBits-above}
 use lib.Ieee.Nearest.{div-mono}
 use lib.Ieee.Positive.{num, den, den-pos}
 use Rattle.ieee754.specs.Nonneg.{nonneg, signClear}
@@ -163,14 +163,6 @@ pub inf-pattern : toBits binary32 (inf false) ≡ 0x7f80_0000
 unfolding toBits
 inf-pattern = refl
 
-true-is : (b : Bool) → T b → true ≡ b
-true-is true t = refl
-true-is false t = absurd t
-
-false-is : (b : Bool) → T (not b) → false ≡ b
-false-is true t = absurd t
-false-is false t = refl
-
 pub clear-bits : (x : Float) → T (fits binary32 x) → T (signClear x) → toBits binary32 x ≤ 0x7f80_0000
 clear-bits nan F p = absurd p
 clear-bits (inf true) F p = absurd p
@@ -192,12 +184,12 @@ clear-lt (fin false m e) (fin true n d) F G p q = absurd q
 clear-lt (inf false) (inf false) F G p q = sym (ap (λ (z : ℕ). ltb z z) inf-pattern)
 clear-lt (inf false) (fin false n d) F G p q =
     let y = fin false n d in
-    false-is (ltb (toBits binary32 (inf false)) (toBits binary32 y))
+    sym (is-false (ltb (toBits binary32 (inf false)) (toBits binary32 y))
     (not-T (ltb (toBits binary32 (inf false)) (toBits binary32 y))
-    (λ t. not-le-of-lt (ltb→lt (toBits binary32 (inf false)) (toBits binary32 y) t) (le-trans (le-of-lt (bits-finite y G tt)) (le-of-eq (sym inf-pattern)))))
+    (λ t. not-le-of-lt (ltb→lt (toBits binary32 (inf false)) (toBits binary32 y) t) (le-trans (le-of-lt (bits-finite y G tt)) (le-of-eq (sym inf-pattern))))))
 clear-lt (fin false m e) (inf false) F G p q =
     let x = fin false m e in
-    true-is (ltb (toBits binary32 x) (toBits binary32 (inf false))) (lt→ltb (toBits binary32 x) (toBits binary32 (inf false)) (lt-of-lt-of-le (bits-finite x F tt) (le-of-eq (sym inf-pattern))))
+    sym (is-true (ltb (toBits binary32 x) (toBits binary32 (inf false))) (lt→ltb (toBits binary32 x) (toBits binary32 (inf false)) (lt-of-lt-of-le (bits-finite x F tt) (le-of-eq (sym inf-pattern)))))
 clear-lt (fin false m e) (fin false n d) F G p q = lt-bits binary32 (fin false m e) (fin false n d) F G tt tt
 
 pub clear-le : (x y : Float) → T (fits binary32 x) → T (fits binary32 y) → T (signClear x) → T (signClear y) → le x y ≡ leb (toBits binary32 x) (toBits binary32 y)
@@ -214,12 +206,12 @@ clear-le (fin false m e) (fin true n d) F G p q = absurd q
 clear-le (inf false) (inf false) F G p q = sym (ap (λ (z : ℕ). leb z z) inf-pattern)
 clear-le (inf false) (fin false n d) F G p q =
     let y = fin false n d in
-    false-is (leb (toBits binary32 (inf false)) (toBits binary32 y))
+    sym (is-false (leb (toBits binary32 (inf false)) (toBits binary32 y))
     (not-T (leb (toBits binary32 (inf false)) (toBits binary32 y))
-    (λ t. not-le-of-lt (bits-finite y G tt) (le-trans (le-of-eq (sym inf-pattern)) (leb→le (toBits binary32 (inf false)) (toBits binary32 y) t))))
+    (λ t. not-le-of-lt (bits-finite y G tt) (le-trans (le-of-eq (sym inf-pattern)) (leb→le (toBits binary32 (inf false)) (toBits binary32 y) t)))))
 clear-le (fin false m e) (inf false) F G p q =
     let x = fin false m e in
-    true-is (leb (toBits binary32 x) (toBits binary32 (inf false))) (le→leb (toBits binary32 x) (toBits binary32 (inf false)) (le-trans (le-of-lt (bits-finite x F tt)) (le-of-eq (sym inf-pattern))))
+    sym (is-true (leb (toBits binary32 x) (toBits binary32 (inf false))) (le→leb (toBits binary32 x) (toBits binary32 (inf false)) (le-trans (le-of-lt (bits-finite x F tt)) (le-of-eq (sym inf-pattern)))))
 clear-le (fin false m e) (fin false n d) F G p q = le-bits binary32 (fin false m e) (fin false n d) F G tt tt
 
 pub nonneg-clear : (x : Float) → T (nonneg x) → T (signClear x)
@@ -250,7 +242,7 @@ fields-clear (suc j) t h = go (eqb (suc j) 255) (eqb→eq (suc j) 255)
 fields-of : (n : ℕ) → n < 2 ^ 31 → ofBits binary32 n ≡ ofFields binary32 false (n / 2 ^ 23) (n % 2 ^ 23)
 unfolding ofBits
 fields-of n h =
-    ap (λ (z : Bool). ofFields binary32 z (n % 2 ^ 31 / 2 ^ 23) (n % 2 ^ 23)) (sym (false-is (leb (2 ^ 31) n) (not-T (leb (2 ^ 31) n) (λ t. not-le-of-lt h (leb→le (2 ^ 31) n t)))))
+    ap (λ (z : Bool). ofFields binary32 z (n % 2 ^ 31 / 2 ^ 23) (n % 2 ^ 23)) (is-false (leb (2 ^ 31) n) (not-T (leb (2 ^ 31) n) (λ t. not-le-of-lt h (leb→le (2 ^ 31) n t))))
     ∙ ap (λ (z : ℕ). ofFields binary32 false (z / 2 ^ 23) (n % 2 ^ 23)) (mod-eq-of-lt h)
 
 pub pattern-nonneg : (n : ℕ) → n < 0x7f80_0000 → T (nonneg (ofBits binary32 n))

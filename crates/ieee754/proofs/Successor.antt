@@ -11,8 +11,8 @@ use lib.Ieee.{Float, nan, inf, fin, binary32, up, down, size, toBits, ofBits, na
 use lib.Ieee.Bits.{ofBits-toBits, ofBits-fits, nanBits-above, toBits-lt}
 use Rattle.meaning.specs.Ieee754.{zeroFloat, nextUp}
 use Rattle.ieee754.specs.Nonneg.{nonneg, signClear}
-use Rattle.ieee754.proofs.Nonneg.{toBits-units, pattern}
-use Rattle.ieee754.proofs.Patterns.{bits-finite, number-bits, inf-pattern, pattern-clear, pattern-back, nonneg-clear, clear-lt, clear-le}
+use Rattle.ieee754.proofs.Nonneg.{no-nan, toBits-units, pattern}
+use Rattle.ieee754.proofs.Patterns.{bits-finite, number-bits, inf-pattern, pattern-infinite, pattern-clear, pattern-back, nonneg-clear, clear-lt, clear-le}
 
 -- ---- patterns of the kinds of values
 bits-set : (m : ℕ) (e : ℤ) → toBits binary32 (fin true m e) ≡ 2 ^ 31 + toBits binary32 (fin false m e)
@@ -45,10 +45,6 @@ negative-zero : ofBits binary32 0x8000_0000 ≡ fin true 0 (pos 0)
 unfolding ofBits
 negative-zero = refl
 
-infinite : ofBits binary32 0x7f80_0000 ≡ inf false
-unfolding ofBits
-infinite = refl
-
 next-of-zero : (s : Bool) (e : ℤ) → nextUp (fin s 0 e) ≡ ofBits binary32 1
 unfolding nextUp
 next-of-zero s e = refl
@@ -57,7 +53,7 @@ next-of-inf : nextUp (inf false) ≡ inf false
 unfolding nextUp
 next-of-inf = refl
 
-zero-fits : T (fits binary32 zeroFloat)
+pub zero-fits : T (fits binary32 zeroFloat)
 unfolding fits
 zero-fits = tt
 
@@ -77,7 +73,7 @@ next-finite x N h = at-finite x N h
 module _ (x : Float) (F : T (fits binary32 x)) where
   pub next-infinite : toBits binary32 x ≡ 0x7f80_0000 → x ≡ nextUp x
   next-infinite h =
-      let e : x ≡ inf false = sym (ofBits-toBits binary32 x F) ∙ ap (ofBits binary32) h ∙ infinite in
+      let e : x ≡ inf false = sym (ofBits-toBits binary32 x F) ∙ ap (ofBits binary32) h ∙ pattern-infinite in
       e ∙ sym (ap nextUp e ∙ next-of-inf)
 
   pub next-zero : toBits binary32 x ≡ 0x8000_0000 → ofBits binary32 1 ≡ nextUp x
@@ -115,18 +111,12 @@ unfolding nextUp
 next-nan x h = h ∙ sym (ap nextUp h)
 
 -- ---- of a finite x that is not negative: the next pattern, which is the least above
-number : (x : Float) → T (nonneg x) → T (not (isNan x))
-unfolding isNan
-number nan p = absurd p
-number (inf s) p = absurd p
-number (fin s m e) p = tt
-
 module _ (x : Float) (F : T (fits binary32 x)) (p : T (nonneg x)) where
   abbrev b : ℕ
   b = toBits binary32 x
 
   is : ofBits binary32 (b + 1) ≡ nextUp x
-  is = next-finite x (number x p) (bits-finite x F p)
+  is = next-finite x (no-nan x p) (bits-finite x F p)
 
   room : b + 1 ≤ 0x7f80_0000
   room = le-trans (le-of-eq (add-one b)) (bits-finite x F p)

@@ -1,11 +1,13 @@
 -- totalOrder is the order of the keys, and two patterns have two keys. Assumes nothing.
-use mathlib.Core.Path.{_≡_, refl}
+use mathlib.Core.Path.{_≡_, refl, sym}
 use mathlib.Core.Logic.{_⊎_, inl, inr, ⊎-elim}
 use mathlib.Core.Bool.{Bool, true, false, not, cond}
 use Prim.Native.Nat.{ℕ, _+_, _-_, _%_, _^_, _≤_, _<_}
 use native.Mathlib.Omega.{arith}
-use lib.Dec.{T, leb, ltb, leb→le, nleb→lt, ltb→lt, lt→ltb, nltb→le, not-T}
+use lib.Dec.{T, leb, ltb, leb→le, nleb→lt}
+use borrow.Author.Tests.{lt-ltb, le-ltb}
 use Rattle.meaning.specs.Ieee754.{totalBelow}
+use Rattle.meaning.proofs.Tests.{ltb-as-ltb}
 use Rattle.ieee754.specs.TotalOrder.{totalKey}
 
 -- a test by what it says either way
@@ -15,36 +17,21 @@ same-test true false p q = absurd (p tt)
 same-test false true p q = absurd (q tt)
 same-test false false p q = refl
 
-ltb-same : (a b c d : ℕ) → (a < b → c < d) → (b ≤ a → d ≤ c) → ltb a b ≡ ltb c d
-ltb-same a b c d p q =
-    same-test (ltb a b) (ltb c d) (λ t. lt→ltb c d (p (ltb→lt a b t))) (λ t. not-T (ltb c d) (λ u. clash c d (ltb→lt c d u) (q (nltb→le a b t))))
-  where
-    clash : (c d : ℕ) → c < d → d ≤ c → ⊥
-    clash c d h k = omega arith
-
-is-true : (b : Bool) → T b → true ≡ b
-is-true true t = refl
-is-true false t = absurd t
-
-is-false : (b : Bool) → (T b → ⊥) → false ≡ b
-is-false true t = absurd (t tt)
-is-false false t = refl
-
 -- by the sign of each: p and q say what the tests do
 key-cases : (a b : ℕ) → a < 2 ^ 64 → b < 2 ^ 64 → (p q : Bool) → (T p → 2 ^ 63 ≤ a) → (T (not p) → a < 2 ^ 63) → (T q → 2 ^ 63 ≤ b) → (T (not q) → b < 2 ^ 63) → cond p (cond q (ltb (b % 2 ^ 63) (a % 2 ^ 63)) true) (cond q false (ltb a b)) ≡ ltb (cond p (2 ^ 64 - 1 - a) (2 ^ 63 + a)) (cond q (2 ^ 64 - 1 - b) (2 ^ 63 + b))
 key-cases a b A B true true p np q nq =
     let h = p tt in
     let k = q tt in
-    ltb-same (b % 2 ^ 63) (a % 2 ^ 63) (2 ^ 64 - 1 - a) (2 ^ 64 - 1 - b) (λ l. omega arith) (λ l. omega arith)
+    ltb-as-ltb (b % 2 ^ 63) (a % 2 ^ 63) (2 ^ 64 - 1 - a) (2 ^ 64 - 1 - b) (λ l. omega arith) (λ l. omega arith)
 key-cases a b A B true false p np q nq =
     let h = p tt in
     let k = nq tt in
-    is-true (ltb (2 ^ 64 - 1 - a) (2 ^ 63 + b)) (lt→ltb (2 ^ 64 - 1 - a) (2 ^ 63 + b) (omega arith))
+    sym (lt-ltb (2 ^ 64 - 1 - a) (2 ^ 63 + b) (omega arith))
 key-cases a b A B false true p np q nq =
     let h = np tt in
     let k = q tt in
-    is-false (ltb (2 ^ 63 + a) (2 ^ 64 - 1 - b)) (λ t. let l = ltb→lt (2 ^ 63 + a) (2 ^ 64 - 1 - b) t in omega arith)
-key-cases a b A B false false p np q nq = ltb-same a b (2 ^ 63 + a) (2 ^ 63 + b) (λ l. omega arith) (λ l. omega arith)
+    sym (le-ltb (2 ^ 63 + a) (2 ^ 64 - 1 - b) (omega arith))
+key-cases a b A B false false p np q nq = ltb-as-ltb a b (2 ^ 63 + a) (2 ^ 63 + b) (λ l. omega arith) (λ l. omega arith)
 
 pub total-key : (a b : ℕ) → a < 2 ^ 64 → b < 2 ^ 64 → totalBelow a b ≡ ltb (totalKey a) (totalKey b)
 unfolding totalBelow totalKey

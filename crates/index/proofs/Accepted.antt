@@ -3,7 +3,7 @@ use mathlib.Core.Path.{_≡_, sym, ap, _∙_}
 use mathlib.Core.Logic.{⊎-elim}
 use mathlib.Core.Bool.{Bool, true, false, not, _&&_, _||_}
 use Prim.Native.Nat.{ℕ, zero, suc, _+_, _-_, _*_, _/_, _≤_, _<_}
-use native.Mathlib.Nat.{mul-le-mul-right}
+use native.Mathlib.Nat.{mul-le-mul-right, add-sub-cancel}
 use native.Mathlib.Omega.{arith}
 use lib.Dec.{ltb, leb, eqb}
 use lib.ListN.{length}
@@ -15,7 +15,8 @@ use Rattle.meaning.specs.IndexRefusals.{notWhole, wrong1, wrong2, wrong3, wrong
 use Rattle.index.specs.Accepted.{Accepted, PostingOk, Ascending, ColumnOk}
 use Rattle.index.specs.Refusal.{indexRefusal}
 use Rattle.index.proofs.Refused.{not-1, not-2, not-3, not-4, not-5, not-6}
-use Rattle.index.proofs.Below.{and-second, or-left, or-right, or-3, or-4, last-or-below, any-at, count-lt}
+use Rattle.meaning.proofs.Tests.{and-second, or-left, or-right, or-3, or-4}
+use Rattle.meaning.proofs.Below.{last-or-below, none-below, count-lt}
 use Rattle.index.proofs.Known.{documents-few, whole-words, fields-whole, fields-few, field-ok, leaves-whole, leaves-few, leaf-ok}
 
 -- a list that does not fall from one place to the next does not fall at all
@@ -28,9 +29,6 @@ not-falling f n h j (suc k) l g =
 rising : (f : ℕ → ℕ) (n : ℕ) → ((i : ℕ) → i + 1 < n → f i < f (i + 1)) → (j k : ℕ) → j < k → k < n → f j < f k
 rising f n h j k l g =
     let a : f (j + 1) ≤ f k = not-falling f n (λ i m. omega (arith, h i m)) (j + 1) k (omega arith) g in omega (arith, h j (omega arith))
-
-pred-add : (i : ℕ) → i + 1 - 1 ≡ i
-pred-add i = omega arith
 
 -- 3
 module _ (ix : Index) (e : wrong3 ix ≡ false) where
@@ -59,7 +57,7 @@ module _ (ix : Index) (e : wrong5 ix ≡ false) where
 
   module _ (l i : ℕ) (m : l < leafCount ix) (n : i < leafNumber ix l) where
     posting-right : wrongPosting ix l i ≡ false
-    posting-right = any-at (leafNumber ix l) (wrongPosting ix l) (any-at (leafCount ix) (λ k. anyBelow (leafNumber ix k) (wrongPosting ix k)) (runs-right .1) l m) i n
+    posting-right = none-below (leafNumber ix l) (wrongPosting ix l) (none-below (leafCount ix) (λ k. anyBelow (leafNumber ix k) (wrongPosting ix k)) (runs-right .1) l m) i n
 
     words-right : ((leb (ix .maxDoc) (leafDocument ix l i) ≡ false) × ((ltb 0 i && leb (leafDocument ix l i) (leafDocument ix l (i - 1))) ≡ false) × (eqb (leafFrequency ix l i) 0 ≡ false) × (ltb largestFrequency (leafFrequency ix l i) ≡ false)) × (wrongPositions ix l i ≡ false)
     unfolding wrongPosting
@@ -76,7 +74,7 @@ module _ (ix : Index) (e : wrong5 ix ≡ false) where
 
     module _ (h : hasPositions ix (leafField ix l) ≡ true) where
       position-right : (j : ℕ) → j < leafFrequency ix l i → wrongPosition ix l i j ≡ false
-      position-right j g = any-at _ _ (or-right (ltb (length (ix .positions)) (leafPositionsIndex ix l i + leafFrequency ix l i)) (anyBelow (leafFrequency ix l i) (wrongPosition ix l i)) (places-right h)) j g
+      position-right j g = none-below _ _ (or-right (ltb (length (ix .positions)) (leafPositionsIndex ix l i + leafFrequency ix l i)) (anyBelow (leafFrequency ix l i) (wrongPosition ix l i)) (places-right h)) j g
 
       places-fit : leafPositionsIndex ix l i + leafFrequency ix l i ≤ length (ix .positions)
       places-fit = ltb-false _ _ (or-left (ltb (length (ix .positions)) (leafPositionsIndex ix l i + leafFrequency ix l i)) (anyBelow (leafFrequency ix l i) (wrongPosition ix l i)) (places-right h))
@@ -88,7 +86,7 @@ module _ (ix : Index) (e : wrong5 ix ≡ false) where
       place-next : (j : ℕ) → j + 1 < leafFrequency ix l i → leafPosition ix l i j ≤ leafPosition ix l i (j + 1)
       unfolding wrongPosition
       place-next j g =
-          let a : ltb 0 (j + 1) ≡ true = lt-ltb 0 (j + 1) (omega arith) in let b : ltb (leafPosition ix l i (j + 1)) (leafPosition ix l i (j + 1 - 1)) ≡ false = and-second (ltb 0 (j + 1)) (ltb (leafPosition ix l i (j + 1)) (leafPosition ix l i (j + 1 - 1))) (or-right (ltb noMoreDocs (leafPosition ix l i (j + 1))) (ltb 0 (j + 1) && ltb (leafPosition ix l i (j + 1)) (leafPosition ix l i (j + 1 - 1))) (position-right (j + 1) g)) a in let k : leafPosition ix l i (j + 1 - 1) ≤ leafPosition ix l i (j + 1) = ltb-false _ _ b in omega (arith, ap (λ (m : ℕ). leafPosition ix l i m) (pred-add j))
+          let a : ltb 0 (j + 1) ≡ true = lt-ltb 0 (j + 1) (omega arith) in let b : ltb (leafPosition ix l i (j + 1)) (leafPosition ix l i (j + 1 - 1)) ≡ false = and-second (ltb 0 (j + 1)) (ltb (leafPosition ix l i (j + 1)) (leafPosition ix l i (j + 1 - 1))) (or-right (ltb noMoreDocs (leafPosition ix l i (j + 1))) (ltb 0 (j + 1) && ltb (leafPosition ix l i (j + 1)) (leafPosition ix l i (j + 1 - 1))) (position-right (j + 1) g)) a in let k : leafPosition ix l i (j + 1 - 1) ≤ leafPosition ix l i (j + 1) = ltb-false _ _ b in omega (arith, ap (λ (m : ℕ). leafPosition ix l i m) (add-sub-cancel j 1))
 
     posting-ok : PostingOk ix l i
     posting-ok =
@@ -104,7 +102,7 @@ module _ (ix : Index) (e : wrong5 ix ≡ false) where
 
   document-next : (l i : ℕ) → l < leafCount ix → i + 1 < leafNumber ix l → leafDocument ix l i < leafDocument ix l (i + 1)
   document-next l i m n =
-      let a : ltb 0 (i + 1) ≡ true = lt-ltb 0 (i + 1) (omega arith) in let b : leb (leafDocument ix l (i + 1)) (leafDocument ix l (i + 1 - 1)) ≡ false = and-second (ltb 0 (i + 1)) (leb (leafDocument ix l (i + 1)) (leafDocument ix l (i + 1 - 1))) (words-right l (i + 1) m n .0 .1) a in let k : leafDocument ix l (i + 1 - 1) < leafDocument ix l (i + 1) = leb-false _ _ b in omega (arith, ap (λ (m : ℕ). leafDocument ix l m) (pred-add i))
+      let a : ltb 0 (i + 1) ≡ true = lt-ltb 0 (i + 1) (omega arith) in let b : leb (leafDocument ix l (i + 1)) (leafDocument ix l (i + 1 - 1)) ≡ false = and-second (ltb 0 (i + 1)) (leb (leafDocument ix l (i + 1)) (leafDocument ix l (i + 1 - 1))) (words-right l (i + 1) m n .0 .1) a in let k : leafDocument ix l (i + 1 - 1) < leafDocument ix l (i + 1) = leb-false _ _ b in omega (arith, ap (λ (m : ℕ). leafDocument ix l m) (add-sub-cancel i 1))
 
   ascends : (l : ℕ) → l < leafCount ix → Ascending ix l
   ascends l m = λ i j. rising (leafDocument ix l) (leafNumber ix l) (λ k. document-next l k m) i j
@@ -124,7 +122,7 @@ module _ (ix : Index) (e : wrong6 ix ≡ false) where
   column-ok : (c : ℕ) → c < columnCount ix → ColumnOk ix c
   unfolding wrongColumn
   column-ok c l =
-      let h : wrongColumn ix c ≡ false = any-at _ _ (columns-right .2) c l in record { type = ltb-false _ _ (or-left (ltb 1 (columnType ix c)) (anyBelow (ix .maxDoc) (λ d. ltb 1 (valuePresent ix c d))) h); words = λ d g. value-words c d l g; present = λ d g. ltb-false _ _ (any-at (ix .maxDoc) (λ k. ltb 1 (valuePresent ix c k)) (or-right (ltb 1 (columnType ix c)) (anyBelow (ix .maxDoc) (λ k. ltb 1 (valuePresent ix c k))) h) d g) }
+      let h : wrongColumn ix c ≡ false = none-below _ _ (columns-right .2) c l in record { type = ltb-false _ _ (or-left (ltb 1 (columnType ix c)) (anyBelow (ix .maxDoc) (λ d. ltb 1 (valuePresent ix c d))) h); words = λ d g. value-words c d l g; present = λ d g. ltb-false _ _ (none-below (ix .maxDoc) (λ k. ltb 1 (valuePresent ix c k)) (or-right (ltb 1 (columnType ix c)) (anyBelow (ix .maxDoc) (λ k. ltb 1 (valuePresent ix c k))) h) d g) }
 
 pub accepted : (ix : Index) → wrong1 ix ≡ false → wrong2 ix ≡ false → wrong3 ix ≡ false → wrong4 ix ≡ false → wrong5 ix ≡ false → wrong6 ix ≡ false → Accepted ix
 accepted ix e1 e2 e3 e4 e5 e6 =

@@ -1,10 +1,9 @@
 -- What the loops over a run's records and over a posting's positions gather. Assumes nothing.
 use mathlib.Core.Path.{_≡_, refl, sym, ap, _∙_}
-use mathlib.Core.Logic.{_⊎_, inl, inr, ⊎-elim}
+use mathlib.Core.Logic.{⊎-elim}
 use mathlib.Core.Bool.{Bool, true, false, not, _&&_, _||_, or-true}
 use mathlib.Core.List.{List}
 use Prim.Native.Nat.{ℕ, zero, suc, _+_, _-_, _*_, _%_, _≤_, _<_}
-use native.Mathlib.Decide.{decLt}
 use native.Mathlib.Numerals.{add-one}
 use native.Mathlib.Omega.{arith}
 use lib.Dec.{eqb, leb, ltb, leb·suc-suc}
@@ -14,7 +13,8 @@ use borrow.Author.Tests.{le-leb, lt-leb, lt-ltb, le-ltb, leb-false}
 use Rattle.meaning.specs.Below.{anyBelow}
 use Rattle.meaning.specs.Limits.{largestFrequency}
 use Rattle.index.specs.Runs.{wrongRecord, wrongPlace}
-use Rattle.index.proofs.Below.{any-none, any-more, any-like, any-or, any-and, or-left, or-right}
+use Rattle.meaning.proofs.Tests.{cmp, or-left, or-right}
+use Rattle.meaning.proofs.Below.{any-zero, any-more, any-like, any-or, any-and}
 use Rattle.index.proofs.High.{high-or, step-turn, frequency-flag}
 
 -- what a loop carries from one turn to the next: nothing before the first
@@ -25,7 +25,7 @@ carried f (suc i) = f i
 carried-next : (f : ℕ → ℕ) (i : ℕ) → f i ≡ carried f (i + 1)
 carried-next f i = rw add-one
 
-pred-suc : (i : ℕ) → suc i - 1 ≡ i
+pub pred-suc : (i : ℕ) → suc i - 1 ≡ i
 pred-suc i = omega arith
 
 ltb-suc : (a b : ℕ) → ltb a (b + 1) ≡ leb a b
@@ -50,7 +50,7 @@ pub record Places (part : List ℕ) (j steps previous : ℕ) : Type 0 where
   pub small : leb 2147483648 steps ≡ false → previous ≤ 2147483648
 
 pub places-none : (part : List ℕ) → Places part 0 0 0
-places-none part = record { flag = sym (any-none (wrongPlace part)); last = refl; small = λ e. omega arith }
+places-none part = record { flag = sym (any-zero (wrongPlace part)); last = refl; small = λ e. omega arith }
 
 pub places-more : (part : List ℕ) (j s p r : ℕ) → Places part j s p → (r + p) % 4294967296 ≡ getD part j 0 → r < 4294967296 → Places part (j + 1) (bitOr (bitOr s (getD part j 0)) r) (getD part j 0)
 places-more part j s p r h e l =
@@ -92,7 +92,7 @@ pub record Records (run : List ℕ) (i steps frequencies indexes floor : ℕ) : 
   pub index : leb 1 indexes ≡ anyBelow i (indexed run)
 
 pub records-none : (run : List ℕ) → Records run 0 0 0 0 0
-records-none run = record { step = sym (any-none (highStep run)); last = λ e. refl; small = λ e. omega arith; frequency = sym (any-none (outside run)); index = sym (any-none (indexed run)) }
+records-none run = record { step = sym (any-zero (highStep run)); last = λ e. refl; small = λ e. omega arith; frequency = sym (any-zero (outside run)); index = sym (any-zero (indexed run)) }
 
 module _ (run : List ℕ) (i s q x f : ℕ) (h : Records run i s q x f) (r t g : ℕ) (er : (r + f) % 4294967296 ≡ getD run (3 * i) 0) (lr : r < 4294967296) (et : (t + 1) % 4294967296 ≡ getD run (3 * i + 1) 0) (lt : t < 4294967296) (eg : g ≡ (getD run (3 * i) 0 + 1) % 4294967296) where
   turn : leb 2147483648 (bitOr (bitOr s (getD run (3 * i) 0)) r) ≡ (leb 2147483648 s || (leb 2147483648 (getD run (3 * i) 0) || ltb (getD run (3 * i) 0) f))
@@ -121,9 +121,6 @@ module _ (run : List ℕ) (i s q x f : ℕ) (h : Records run i s q x f) (r t g :
 module _ (n : ℕ) (top : n ≤ 2147483648) (run : List ℕ) where
   abbrev wrongDocument : ℕ → Bool
   wrongDocument j = leb n (getD run (3 * j) 0) || ltb (getD run (3 * j) 0) (floorOf run j)
-
-  cmp : (a b : ℕ) → (a < b) ⊎ (b ≤ a)
-  cmp a b = elim (decLt a b) as (λ _. (a < b) ⊎ (b ≤ a)) [ yes p ↦ inl p | no p ↦ inr (omega arith) ]
 
   -- a turn: b says that a high bit was set before, f is the floor and d the document
   last-turn : (b : Bool) (f d : ℕ) → ((b || (leb 2147483648 d || ltb d f)) || ltb n (d + 1)) ≡ ((b || ltb n f) || (leb n d || ltb d f))

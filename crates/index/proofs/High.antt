@@ -1,16 +1,13 @@
 -- The high bits of an or, and differences that wrap: what the loops over a run gather. Assumes nothing.
 use mathlib.Core.Path.{_≡_, refl, sym, ap, _∙_}
-use mathlib.Core.Logic.{_⊎_, inl, inr, ⊎-elim}
+use mathlib.Core.Logic.{⊎-elim}
 use mathlib.Core.Bool.{Bool, true, false, _||_, or-assoc, or-true}
 use Prim.Native.Nat.{ℕ, _+_, _%_, _^_, _≤_, _<_}
-use native.Mathlib.Decide.{decLt}
 use native.Mathlib.Omega.{arith}
 use lib.Dec.{eqb, leb, ltb}
 use lib.Bits.{bitOr, or-lt, or-comm, or-add-and, and-le-r}
 use borrow.Author.Tests.{le-leb, lt-leb, lt-ltb, le-ltb, eq-eqb, ne-eqb}
-
-cmp : (a b : ℕ) → (a < b) ⊎ (b ≤ a)
-cmp a b = elim (decLt a b) as (λ _. (a < b) ⊎ (b ≤ a)) [ yes p ↦ inl p | no p ↦ inr (omega arith) ]
+use Rattle.meaning.proofs.Tests.{cmp}
 
 or-ge : (a b : ℕ) → a ≤ bitOr a b
 or-ge a b = omega (arith, or-add-and a b, and-le-r a b)

@@ -3,6 +3,7 @@ use mathlib.Core.Path.{_≡_, refl, sym, ap, _∙_}
 use mathlib.Core.Bool.{Bool, true, false, not, _&&_, _||_}
 use mathlib.Core.List.{List}
 use Prim.Native.Nat.{ℕ, zero, suc, _+_, _-_, _*_, _≤_, _<_}
+use native.Mathlib.Nat.{add-sub-cancel}
 use native.Mathlib.Omega.{arith}
 use lib.Bits.{bitOr}
 use lib.Dec.{eqb, leb, ltb}
@@ -12,18 +13,19 @@ use borrow.Author.Tests.{lt-ltb, le-ltb, eqb-true, eqb-false, not-false}
 use Rattle.meaning.specs.Below.{anyBelow, countBelow}
 use Rattle.meaning.specs.Limits.{noMoreDocs}
 use Rattle.index.specs.Runs.{wrongRecord, wrongPlace, wrongPlaces, apartAt, fallAt, seamAt}
-use Rattle.index.proofs.Below.{any-more, any-at, any-hit, any-like, any-or, or-left, or-right, and-second}
+use Rattle.meaning.proofs.Tests.{or-left, or-right, and-second}
+use Rattle.meaning.proofs.Below.{any-more, none-below, any-some, any-like, any-or}
 use Rattle.index.specs.declared.positions.Seen.{Seen}
 use Rattle.index.specs.Records.{seenOf}
 use Rattle.index.proofs.High.{high-or}
-use Rattle.index.proofs.Gathered.{previousOf}
+use Rattle.index.proofs.Gathered.{previousOf, pred-suc}
 use Rattle.index.proofs.Prefix.{before, before-zero, before-next, before-le, any-parts, more-than-firsts}
 
 -- a record that is right has a frequency above 0
 pub records-some : (n : ℕ) (positions : Bool) (run : List ℕ) (k : ℕ) → anyBelow k (wrongRecord n positions run) ≡ false → (i : ℕ) → i < k → 0 < getD run (3 * i + 1) 0
 unfolding wrongRecord
 records-some n positions run k e i l =
-    let z : getD run (3 * i + 1) 0 ≡ 0 → ⊥ = eqb-false _ _ (or-left (eqb (getD run (3 * i + 1) 0) 0) (ltb 16777216 (getD run (3 * i + 1) 0)) (or-right (leb n (getD run (3 * i) 0) || (ltb 0 i && leb (getD run (3 * i) 0) (getD run (3 * (i - 1)) 0))) (eqb (getD run (3 * i + 1) 0) 0 || ltb 16777216 (getD run (3 * i + 1) 0)) (or-left ((leb n (getD run (3 * i) 0) || (ltb 0 i && leb (getD run (3 * i) 0) (getD run (3 * (i - 1)) 0))) || (eqb (getD run (3 * i + 1) 0) 0 || ltb 16777216 (getD run (3 * i + 1) 0))) (ltb 0 (getD run (3 * i + 2) 0) && not positions) (any-at k (wrongRecord n positions run) e i l)))) in omega arith
+    let z : getD run (3 * i + 1) 0 ≡ 0 → ⊥ = eqb-false _ _ (or-left (eqb (getD run (3 * i + 1) 0) 0) (ltb 16777216 (getD run (3 * i + 1) 0)) (or-right (leb n (getD run (3 * i) 0) || (ltb 0 i && leb (getD run (3 * i) 0) (getD run (3 * (i - 1)) 0))) (eqb (getD run (3 * i + 1) 0) 0 || ltb 16777216 (getD run (3 * i + 1) 0)) (or-left ((leb n (getD run (3 * i) 0) || (ltb 0 i && leb (getD run (3 * i) 0) (getD run (3 * (i - 1)) 0))) || (eqb (getD run (3 * i + 1) 0) 0 || ltb 16777216 (getD run (3 * i + 1) 0))) (ltb 0 (getD run (3 * i + 2) 0) && not positions) (none-below k (wrongRecord n positions run) e i l)))) in omega arith
 
 abbrev indexAt : List ℕ → ℕ → ℕ
 indexAt run i = getD run (3 * i + 2) 0
@@ -31,14 +33,11 @@ indexAt run i = getD run (3 * i + 2) 0
 abbrev frequencyAt : List ℕ → ℕ → ℕ
 frequencyAt run i = getD run (3 * i + 1) 0
 
-pred-suc : (i : ℕ) → suc i - 1 ≡ i
-pred-suc i = omega arith
-
 module _ (run : List ℕ) (n : ℕ) (joined : anyBelow n (apartAt run) ≡ false) where
   next-is : (i : ℕ) → suc i < n → indexAt run (suc i) ≡ indexAt run i + frequencyAt run i
   unfolding apartAt
   next-is i l =
-      let h : 0 < suc i = omega arith in let e : not (eqb (indexAt run (suc i)) (indexAt run (suc i - 1) + frequencyAt run (suc i - 1))) ≡ false = and-second (ltb 0 (suc i)) _ (any-at n (apartAt run) joined (suc i) l) (lt-ltb _ _ h) in eqb-true _ _ (not-false _ e) ∙ rw (pred-suc i)
+      let h : 0 < suc i = omega arith in let e : not (eqb (indexAt run (suc i)) (indexAt run (suc i - 1) + frequencyAt run (suc i - 1))) ≡ false = and-second (ltb 0 (suc i)) _ (none-below n (apartAt run) joined (suc i) l) (lt-ltb _ _ h) in eqb-true _ _ (not-false _ e) ∙ rw (pred-suc i)
 
   pub index-is : (i : ℕ) → i < n → indexAt run i ≡ indexAt run 0 + before (frequencyAt run) i
   index-is zero l = omega (arith, before-zero (frequencyAt run))
@@ -55,7 +54,7 @@ module _ (run : List ℕ) (n : ℕ) (joined : anyBelow n (apartAt run) ≡ false
     pub joined-past : (positions : List ℕ) → length positions < end → anyBelow n (wrongPlaces run positions) ≡ true
     unfolding wrongPlaces
     joined-past positions l =
-        let h : length positions < indexAt run (n - 1) + frequencyAt run (n - 1) = omega arith in any-hit n (wrongPlaces run positions) (n - 1) (omega arith) (rw (lt-ltb _ _ h))
+        let h : length positions < indexAt run (n - 1) + frequencyAt run (n - 1) = omega arith in any-some n (wrongPlaces run positions) (n - 1) (omega arith) (rw (lt-ltb _ _ h))
 
     -- where they do
     module _ (positions : List ℕ) (fits : end ≤ length positions) (above : (i : ℕ) → i < n → 0 < frequencyAt run i) where
@@ -128,11 +127,8 @@ pub apart-turn : (run : List ℕ) (i w next : ℕ) → 0 < i → w ≡ indexAt r
 unfolding apartAt
 apart-turn run i w next h e g = rw (lt-ltb _ _ h, e, g)
 
-pred-add : (i : ℕ) → i + 1 - 1 ≡ i
-pred-add i = omega arith
-
 pub apart-next : (run : List ℕ) (i x : ℕ) → x ≡ indexAt run i + frequencyAt run i → x ≡ indexAt run (i + 1 - 1) + frequencyAt run (i + 1 - 1)
-apart-next run i x e = e ∙ rw (pred-add i)
+apart-next run i x e = e ∙ rw (add-sub-cancel i 1)
 
 pub seam-first : (run positions : List ℕ) → _≡_ {A = ℕ} 0 (countBelow 1 (seamAt run positions))
 unfolding countBelow seamAt

@@ -11,7 +11,8 @@ use Rattle.meaning.specs.Limits.{maxDocuments, maxFields, maxLeaves, leastAvera
 use Rattle.meaning.specs.Lent.{Index, fieldCount, fieldAverage, fieldNorms, fieldPositions, leafCount, leafField, leafFirst, leafNumber, leafIdf, postingCount}
 use Rattle.meaning.specs.IndexRefusals.{notWhole, wrong1, wrong2, wrongField, wrong4, wrongLeaf}
 use Rattle.index.specs.Accepted.{FieldOk, LeafOk}
-use Rattle.index.proofs.Below.{or-3, or-4, any-at}
+use Rattle.meaning.proofs.Tests.{or-3, or-4}
+use Rattle.meaning.proofs.Below.{none-below}
 
 pub documents-few : (ix : Index) → wrong1 ix ≡ false → ix .maxDoc ≤ maxDocuments
 unfolding wrong1
@@ -34,7 +35,7 @@ module _ (ix : Index) (e : wrong2 ix ≡ false) where
   pub field-ok : (f : ℕ) → f < fieldCount ix → FieldOk ix f
   unfolding wrongField
   field-ok f l =
-      let h = or-4 (ltb (fieldAverage ix f) leastAverage) (ltb largestAverage (fieldAverage ix f)) (ltb 1 (fieldNorms ix f)) (ltb 1 (fieldPositions ix f)) (any-at _ _ (fields-right .2) f l) in record { least = ltb-false _ _ (h .0); largest = ltb-false _ _ (h .1); norms = ltb-false _ _ (h .2); positions = ltb-false _ _ (h .3) }
+      let h = or-4 (ltb (fieldAverage ix f) leastAverage) (ltb largestAverage (fieldAverage ix f)) (ltb 1 (fieldNorms ix f)) (ltb 1 (fieldPositions ix f)) (none-below _ _ (fields-right .2) f l) in record { least = ltb-false _ _ (h .0); largest = ltb-false _ _ (h .1); norms = ltb-false _ _ (h .2); positions = ltb-false _ _ (h .3) }
 
 module _ (ix : Index) (e : wrong4 ix ≡ false) where
   leaves-right : (notWhole (length (ix .leaves)) 4 ≡ false) × (ltb maxLeaves (leafCount ix) ≡ false) × (anyBelow (leafCount ix) (wrongLeaf ix) ≡ false)
@@ -50,4 +51,4 @@ module _ (ix : Index) (e : wrong4 ix ≡ false) where
   pub leaf-ok : (l : ℕ) → l < leafCount ix → LeafOk ix l
   unfolding wrongLeaf
   leaf-ok l g =
-      let h = or-3 (leb (fieldCount ix) (leafField ix l)) (ltb (postingCount ix) (leafFirst ix l + leafNumber ix l)) (ltb largestIdf (leafIdf ix l)) (any-at _ _ (leaves-right .2) l g) in let r : leafFirst ix l + leafNumber ix l ≤ postingCount ix = ltb-false _ _ (h .1) in record { field = leb-false _ _ (h .0); run = r; words = omega arith; idf = ltb-false _ _ (h .2) }
+      let h = or-3 (leb (fieldCount ix) (leafField ix l)) (ltb (postingCount ix) (leafFirst ix l + leafNumber ix l)) (ltb largestIdf (leafIdf ix l)) (none-below _ _ (leaves-right .2) l g) in let r : leafFirst ix l + leafNumber ix l ≤ postingCount ix = ltb-false _ _ (h .1) in record { field = leb-false _ _ (h .0); run = r; words = omega arith; idf = ltb-false _ _ (h .2) }

@@ -12,7 +12,7 @@ use Rattle.meaning.specs.Below.{lastBelow}
 use Rattle.meaning.specs.Lent.{Index, leafNumber, leafDocument}
 use Rattle.meaning.specs.Postings.{postingAt}
 use Rattle.index.specs.Accepted.{Ascending}
-use Rattle.index.proofs.Below.{last-or-below}
+use Rattle.meaning.proofs.Below.{last-or-below}
 
 same-some : (o : Option ℕ) (m n : ℕ) → o ≡ some m → o ≡ some n → m ≡ n
 same-some o m n e g = cc

@@ -8,7 +8,7 @@ use native.Mathlib.Omega.{arith}
 use lib.Dec.{eqb, ltb}
 use borrow.Author.Tests.{lt-ltb, eq-eqb, ne-eqb}
 use Rattle.meaning.specs.Below.{anyBelow, countBelow}
-use Rattle.index.proofs.Below.{any-add, last-or-below}
+use Rattle.meaning.proofs.Below.{any-add, last-or-below}
 
 -- a sum is above 0 where one of the two is
 above-add : (a b : ℕ) → ltb 0 (a + b) ≡ (ltb 0 a || ltb 0 b)

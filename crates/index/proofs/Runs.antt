@@ -13,7 +13,7 @@ use Rattle.meaning.specs.Limits.{largestFrequency}
 use Rattle.meaning.specs.Lent.{Index, hasPositions, postingCount, leafField, leafFirst, leafNumber, leafDocument, leafFrequency, leafPositionsIndex}
 use Rattle.meaning.specs.IndexRefusals.{wrongPosting, wrongPositions, wrongPosition}
 use Rattle.index.specs.Runs.{wrongRecord, wrongPlace, wrongPlaces}
-use Rattle.index.proofs.Below.{any-like, any-or}
+use Rattle.meaning.proofs.Below.{any-like, any-or}
 
 -- a posting's positions
 module _ (positions : List ℕ) (index frequency : ℕ) (fits : index + frequency ≤ length positions) where

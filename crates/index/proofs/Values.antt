@@ -10,7 +10,7 @@ use borrow.Author.Tests.{lt-ltb, le-ltb, eq-eqb, ne-eqb}
 use Rattle.meaning.specs.Below.{anyBelow}
 use Rattle.meaning.specs.Lent.{Index, columnCount, columnType, valuePresent}
 use Rattle.meaning.specs.IndexRefusals.{wrong6, wrongColumn}
-use Rattle.index.proofs.Below.{any-or, any-rows}
+use Rattle.meaning.proofs.Below.{any-or, any-rows}
 
 -- a product of two bounded numbers
 pub product-le : (a b m n : ℕ) → a ≤ m → b ≤ n → a * b ≤ m * n

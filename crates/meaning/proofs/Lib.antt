@@ -1,4 +1,7 @@
 -- The laws about the definitions of specs/ that other crates cite, and document 01's examples.
+pub mod Tests
+pub mod Below
+pub mod Signed
 pub mod Examples
 pub mod Scorers
 pub mod Phrases

@@ -1,46 +1,22 @@
 -- Signed starts in order: a difference of two numbers, and lists that do not fall. Assumes nothing.
-use mathlib.Core.Path.{_≡_, refl, sym, ap, subst}
+use mathlib.Core.Path.{_≡_, refl, ap, subst}
 use mathlib.Core.Bool.{Bool, true, false, cond, not}
 use mathlib.Core.List.{List, [], _∷_, _++_}
 use Prim.Native.Nat.{ℕ, zero, suc, _+_, _-_, _≤_, _<_}
-use native.Mathlib.Nat.{le-trans, le-antisymm, not-suc-le-zero}
+use native.Mathlib.Nat.{not-suc-le-zero}
 use native.Mathlib.Omega.{arith}
-use lib.Dec.{T, ltb, le→leb, leb→le, ltb→lt, nltb→le}
+use lib.Dec.{T, ltb, le→leb, ltb→lt, nltb→le}
 use lib.IntN.{ℤ, pos, negsuc, subℕ, _-ℤ_}
 use lib.ListN.{length, getD}
-use lib.Signed.{mag, ltZ, leZ, _≤ℤ_, _<ℤ_, ltZ-yes, ltZ-no, ≤ℤ-refl, <ℤ-≤ℤ-trans, <ℤ-irrefl}
+use lib.Signed.{mag, ltZ, leZ, _≤ℤ_, _<ℤ_, ≤ℤ-refl, <ℤ-≤ℤ-trans, <ℤ-irrefl}
 use Rattle.meaning.specs.Phrase.{eqℤ, multiplicity}
+use Rattle.meaning.proofs.Signed.{≤ℤ-trans, ≤ℤ-antisym, lt-no}
 use Rattle.meaning.proofs.Phrases.{eqℤ→eq}
 use Rattle.phrase.specs.Common.{AtLeast, Ascending}
 
--- ---- a test's answer
-pub less : (a b : ℤ) → ltZ a b ≡ true → a <ℤ b
-less a b e = ltZ-yes (subst T (sym e) tt)
-
-not-less : (a b : ℤ) → ltZ a b ≡ false → b ≤ℤ a
-not-less a b e = ltZ-no (subst (λ (t : Bool). T (not t)) (sym e) tt)
-
-antisym : (a b : ℤ) → T (leZ a b) → T (leZ b a) → a ≡ b
-antisym (pos a) (pos b) h k = ap pos (le-antisymm (leb→le a b h) (leb→le b a k))
-antisym (pos a) (negsuc b) h k = absurd h
-antisym (negsuc a) (pos b) h k = absurd k
-antisym (negsuc a) (negsuc b) h k = ap negsuc (le-antisymm (leb→le a b k) (leb→le b a h))
-
 -- neither of two is below the other
 pub same : (a b : ℤ) → ltZ a b ≡ false → ltZ b a ≡ false → a ≡ b
-same a b h k = antisym a b (not-less b a k .le) (not-less a b h .le)
-
-trans′ : (a b c : ℤ) → T (leZ a b) → T (leZ b c) → T (leZ a c)
-trans′ (pos a) (pos b) (pos c) h k = le→leb a c (le-trans (leb→le a b h) (leb→le b c k))
-trans′ (pos a) (pos b) (negsuc c) h k = absurd k
-trans′ (pos a) (negsuc b) c h k = absurd h
-trans′ (negsuc a) (pos b) (pos c) h k = tt
-trans′ (negsuc a) (pos b) (negsuc c) h k = absurd k
-trans′ (negsuc a) (negsuc b) (pos c) h k = tt
-trans′ (negsuc a) (negsuc b) (negsuc c) h k = le→leb c a (le-trans (leb→le c b k) (leb→le b a h))
-
-≤ℤ-trans : {a b c : ℤ} → a ≤ℤ b → b ≤ℤ c → a ≤ℤ c
-≤ℤ-trans {a} {b} {c} h k = record { le = trans′ a b c (h .le) (k .le) }
+same a b h k = ≤ℤ-antisym (lt-no b a k) (lt-no a b h)
 
 -- ---- a start
 -- the code's difference is the paper's

@@ -1,47 +1,32 @@
 -- What the words of a phrase's terms say: a term's starts one by one, and the lists record by record. Assumes nothing.
-use mathlib.Core.Path.{_≡_, refl, sym, ap, subst, _∙_}
+use mathlib.Core.Path.{_≡_, sym, ap, subst, _∙_}
 use mathlib.Core.List.{List, [], _∷_, _++_}
 use Prim.Native.Nat.{ℕ, zero, suc, _+_, _%_, _≤_, _<_}
-use native.Mathlib.Nat.{not-suc-le-zero, eq-or-lt-of-le}
 use native.Mathlib.Numerals.{add-one, add-two, add-three}
 use native.Mathlib.Omega.{arith}
-use mathlib.Core.Logic.{inl, inr}
 use lib.IntN.{ℤ, subℕ}
-use lib.ListN.{length, getD, take, drop, length-append, length-map, List·getD-append, List·getD-map}
-use lib.Seq.{drop-cons, take-suc, getD-at, drop-length}
+use lib.ListN.{length, getD, take, drop, length-map, List·getD-map}
+use lib.Seq.{drop-cons, take-suc, drop-length}
 use lib.Signed.{_≤ℤ_}
 use Rattle.meaning.specs.Below.{listTo}
 use Rattle.meaning.specs.Phrase.{starts, multiplicity, smallest}
+use Rattle.meaning.proofs.Below.{length-listTo, getD-listTo}
 use Rattle.phrase.specs.declared.Term.{Term}
 use Rattle.phrase.specs.Terms.{termAt, startsOf, startLists, GoodTerm}
 use Rattle.phrase.specs.Common.{Ascending}
 use Rattle.phrase.proofs.Order.{ascending, difference-rises}
 
--- ---- f 0, f 1 and so on
-listTo-length : (n : ℕ) (f : ℕ → ℕ) → length (listTo n f) ≡ n
-unfolding listTo
-listTo-length zero f = refl
-listTo-length (suc n) f = let a = length-append (listTo n f) (f n ∷ []) in let e = listTo-length n f in omega (arith, a, e)
-
-listTo-at : (n : ℕ) (f : ℕ → ℕ) (j : ℕ) → j < n → getD (listTo n f) j 0 ≡ f j
-unfolding listTo
-listTo-at zero f j h = absurd (not-suc-le-zero h)
-listTo-at (suc n) f j h = elim (eq-or-lt-of-le {n = j} {m = n} (omega (arith, h))) [
-  | inl e ↦ subst (λ (k : ℕ). getD (listTo n f ++ (f n ∷ [])) k 0 ≡ f k) (sym e) (getD-at (listTo n f) (f n) [] 0 n (listTo-length n f))
-  | inr k ↦ List·getD-append (listTo n f) (f n ∷ []) 0 j (subst (λ (m : ℕ). j < m) (sym (listTo-length n f)) k) ∙ listTo-at n f j k
-]
-
 -- ---- a term's starts
 module _ (ps : List ℕ) (t : Term) where
   pub starts-length : length (startsOf ps t) ≡ t .freq
   unfolding startsOf starts
-  starts-length = length-map (listTo (t .freq) (λ j. getD ps (t .first + j) 0)) (λ p. subℕ p (t .offset)) ∙ listTo-length (t .freq) (λ j. getD ps (t .first + j) 0)
+  starts-length = length-map (listTo (t .freq) (λ j. getD ps (t .first + j) 0)) (λ p. subℕ p (t .offset)) ∙ length-listTo (t .freq) (λ j. getD ps (t .first + j) 0)
 
   starts-at : (j : ℕ) → j < t .freq → getD (startsOf ps t) j (subℕ 0 (t .offset)) ≡ subℕ (getD ps (t .first + j) 0) (t .offset)
   unfolding startsOf starts
   starts-at j h =
       List·getD-map (λ p. subℕ p (t .offset)) (listTo (t .freq) (λ i. getD ps (t .first + i) 0)) j 0
-      ∙ ap (λ p. subℕ p (t .offset)) (listTo-at (t .freq) (λ i. getD ps (t .first + i) 0) j h)
+      ∙ ap (λ p. subℕ p (t .offset)) (getD-listTo (t .freq) (λ i. getD ps (t .first + i) 0) 0 j h)
 
   pub starts-drop : (j : ℕ) → j < t .freq → drop j (startsOf ps t) ≡ subℕ (getD ps (t .first + j) 0) (t .offset) ∷ drop (j + 1) (startsOf ps t)
   starts-drop j h =

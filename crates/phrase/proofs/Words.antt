@@ -1,11 +1,10 @@
 -- The words for a phrase of an index say its starts, and are good where the index is accepted. Assumes nothing.
-use mathlib.Core.Path.{_≡_, refl, sym, ap, subst}
-use mathlib.Core.Bool.{Bool, true, false, _&&_, _||_}
+use mathlib.Core.Path.{_≡_, refl, ap}
+use mathlib.Core.Bool.{true, false, _&&_, _||_}
 use mathlib.Core.List.{List, [], _∷_}
 use mathlib.Core.Option.{Option, none, some}
-use mathlib.Core.Logic.{⊎-elim}
 use Prim.Native.Nat.{ℕ, zero, suc, _+_, _-_, _*_, _%_, _≤_, _<_}
-use native.Mathlib.Nat.{not-suc-le-zero, eq-or-lt-of-le}
+use native.Mathlib.Nat.{not-suc-le-zero}
 use native.Mathlib.Omega.{arith}
 use borrow.Author.Tests.{ltb-false, lt-ltb}
 use lib.Dec.{ltb}
@@ -16,6 +15,8 @@ use Rattle.meaning.specs.Lent.{Index, hasPositions, leafField, leafFrequency, l
 use Rattle.meaning.specs.IndexRefusals.{wrongPosition, wrongPositions}
 use Rattle.meaning.specs.Postings.{postingAt, frequencyOf, positionsOf}
 use Rattle.meaning.specs.Phrase.{PhraseTerm, starts, termStarts, commonSize, phraseFrequency}
+use Rattle.meaning.proofs.Tests.{or-left, or-right}
+use Rattle.meaning.proofs.Below.{none-below}
 use Rattle.phrase.specs.declared.Term.{Term}
 use Rattle.phrase.specs.Terms.{termAt, startsOf, startLists, GoodTerm, Good, Room}
 use Rattle.phrase.specs.Words.{firstOf, phraseWords, Fine, AllFine}
@@ -42,20 +43,6 @@ unfolding phraseFrequency
 words-frequency ix d ts = ap commonSize (words-starts ix d ts)
 
 -- ---- an accepted posting's positions
-or-left : (a b : Bool) → (a || b) ≡ false → a ≡ false
-or-left false b e = refl
-or-left true b e = e
-
-or-right : (a b : Bool) → (a || b) ≡ false → b ≡ false
-or-right false b e = e
-or-right true false e = refl
-or-right true true e = e
-
-none-below : (n : ℕ) (p : ℕ → Bool) → anyBelow n p ≡ false → (j : ℕ) → j < n → p j ≡ false
-unfolding anyBelow
-none-below zero p e j h = absurd (not-suc-le-zero h)
-none-below (suc n) p e j h = ⊎-elim (λ q. subst (λ (k : ℕ). p k ≡ false) (sym q) (or-right (anyBelow n p) (p n) e)) (λ (k : j < n). none-below n p (or-left (anyBelow n p) (p n) e) j k) (eq-or-lt-of-le {n = j} {m = n} (omega (arith, h)))
-
 good-posting : (ix : Index) (l offset i : ℕ) → hasPositions ix (leafField ix l) ≡ true → wrongPositions ix l i ≡ false → offset ≤ noMoreDocs → GoodTerm (ix .positions) (term-of ix l offset (some i))
 unfolding wrongPositions wrongPosition
 good-posting ix l offset i p w o =

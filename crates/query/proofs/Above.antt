@@ -17,7 +17,7 @@ use Rattle.meaning.specs.Query.{recordCount, recordKind, recordChildren, record
 use Rattle.meaning.specs.Bm25.{one}
 use Rattle.meaning.specs.QueryRefusals.{wrong7, aboveLimit, carriesAbove, clausesAbove, wrong9}
 use Rattle.query.specs.Inner.{endBelowLimit, clausesBelowLimit}
-use Rattle.query.proofs.Below.{false-left, false-right}
+use Rattle.meaning.proofs.Tests.{or-left, or-right}
 use Rattle.query.proofs.Inverse.{OneClause, one-clause, record-here, term-at, phrase-at, boolean-at, range-at, all-at, constant-at, boost-at, none-at, kind-is, KindIs, is-term, is-phrase, is-boolean, is-range, is-all, is-constant, is-boost, is-none, some-same}
 use Rattle.query.proofs.Whole.{whole}
 use Rattle.query.proofs.Spans.{tree-span, no-depth, nothing}
@@ -185,16 +185,16 @@ within-here t b e = go (aboveLimit b) refl
 
 pub within-constant : (t : Tree) (b : Float) → carriesAbove (constantScore t) b ≡ false → carriesAbove t zeroFloat ≡ false
 unfolding carriesAbove
-within-constant t b e = false-right (aboveLimit b) (carriesAbove t zeroFloat) e
+within-constant t b e = or-right (aboveLimit b) (carriesAbove t zeroFloat) e
 
 pub within-boost : (v : ℕ) (t : Tree) (b : Float) → carriesAbove (boost v t) b ≡ false → carriesAbove t (boosted b v) ≡ false
 unfolding carriesAbove
-within-boost v t b e = false-right (aboveLimit b) (carriesAbove t (boosted b v)) e
+within-boost v t b e = or-right (aboveLimit b) (carriesAbove t (boosted b v)) e
 
 pub within-boolean : (m : ℕ) (cs : Clauses) (b : Float) → carriesAbove (boolean m cs) b ≡ false → clausesAbove cs b ≡ false
 unfolding carriesAbove
-within-boolean m cs b e = false-right (aboveLimit b) (clausesAbove cs b) e
+within-boolean m cs b e = or-right (aboveLimit b) (clausesAbove cs b) e
 
 pub within-clause : (o : Occur) (t : Tree) (cs : Clauses) (b : Float) → clausesAbove (clause o t cs) b ≡ false → (carriesAbove t (passed o b) ≡ false) × (clausesAbove cs b ≡ false)
 unfolding clausesAbove
-within-clause o t cs b e = (false-left (carriesAbove t (passed o b)) (clausesAbove cs b) e, false-right (carriesAbove t (passed o b)) (clausesAbove cs b) e)
+within-clause o t cs b e = (or-left (carriesAbove t (passed o b)) (clausesAbove cs b) e, or-right (carriesAbove t (passed o b)) (clausesAbove cs b) e)

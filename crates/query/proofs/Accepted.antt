@@ -14,7 +14,8 @@ use Rattle.meaning.specs.Query.{kindOf, recordCount, recordKind, recordChildren
 use Rattle.meaning.specs.IndexRefusals.{wrong4, wrongLeaf}
 use Rattle.meaning.specs.QueryRefusals.{wrong8, wrongValues, wrongKind, wrongRange, unusedFrom, otherField}
 use Rattle.query.specs.Read.{Lends, Boosts, PhraseFields, PhraseRuns}
-use Rattle.query.proofs.Below.{none-below, false-left, false-right}
+use Rattle.meaning.proofs.Tests.{or-left, or-right}
+use Rattle.meaning.proofs.Below.{none-below}
 
 module _ (ix : Index) (q : List ℕ) (e : wrong8 ix q ≡ false) (r : ℕ) (h : r < recordCount q) where
   record-right : wrongValues ix q r (kindOf (recordKind q r)) ≡ false
@@ -23,7 +24,7 @@ module _ (ix : Index) (q : List ℕ) (e : wrong8 ix q ≡ false) (r : ℕ) (h : 
 
   pub term-leaf : recordKind q r ≡ 1 → recordValue q r 0 < leafCount ix
   unfolding wrongValues wrongKind
-  term-leaf k = leb-false (leafCount ix) (recordValue q r 0) (false-left (leb (leafCount ix) (recordValue q r 0)) (unusedFrom q r 1) (rw k at record-right))
+  term-leaf k = leb-false (leafCount ix) (recordValue q r 0) (or-left (leb (leafCount ix) (recordValue q r 0)) (unusedFrom q r 1) (rw k at record-right))
 
   pub record PhraseRight : Type 0 where
     pub field-present : recordValue q r 0 < fieldCount ix
@@ -33,10 +34,10 @@ module _ (ix : Index) (q : List ℕ) (e : wrong8 ix q ≡ false) (r : ℕ) (h : 
   unfolding wrongValues wrongKind otherField
   phrase-right k =
       let right : (leb (fieldCount ix) (recordValue q r 0) || unusedFrom q r 1 || anyBelow (recordChildren q r) (otherField ix q r)) ≡ false = rw k at record-right in
-      let first = false-left (leb (fieldCount ix) (recordValue q r 0) || unusedFrom q r 1) (anyBelow (recordChildren q r) (otherField ix q r)) right in
-      let others = none-below (recordChildren q r) (otherField ix q r) (false-right (leb (fieldCount ix) (recordValue q r 0) || unusedFrom q r 1) (anyBelow (recordChildren q r) (otherField ix q r)) right) in
+      let first = or-left (leb (fieldCount ix) (recordValue q r 0) || unusedFrom q r 1) (anyBelow (recordChildren q r) (otherField ix q r)) right in
+      let others = none-below (recordChildren q r) (otherField ix q r) (or-right (leb (fieldCount ix) (recordValue q r 0) || unusedFrom q r 1) (anyBelow (recordChildren q r) (otherField ix q r)) right) in
       record {
-        field-present = leb-false (fieldCount ix) (recordValue q r 0) (false-left (leb (fieldCount ix) (recordValue q r 0)) (unusedFrom q r 1) first);
+        field-present = leb-false (fieldCount ix) (recordValue q r 0) (or-left (leb (fieldCount ix) (recordValue q r 0)) (unusedFrom q r 1) first);
         same-field = λ j g. eqb-true (leafField ix (recordValue q (r + 1 + j) 0)) (recordValue q r 0) (not-false (eqb (leafField ix (recordValue q (r + 1 + j) 0)) (recordValue q r 0)) (others j g));
       }
 
@@ -46,15 +47,15 @@ module _ (ix : Index) (q : List ℕ) (e : wrong8 ix q ≡ false) (r : ℕ) (h : 
 
   pub range-column : recordKind q r ≡ 4 → recordValue q r 0 < columnCount ix
   unfolding wrongRange
-  range-column k = leb-false (columnCount ix) (recordValue q r 0) (false-left _ _ (false-left _ _ (false-left _ _ (range-right k))))
+  range-column k = leb-false (columnCount ix) (recordValue q r 0) (or-left _ _ (or-left _ _ (or-left _ _ (range-right k))))
 
   pub range-kinds : recordKind q r ≡ 4 → recordValue q r 1 ≤ 8
   unfolding wrongRange
-  range-kinds k = ltb-false 8 (recordValue q r 1) (false-right (leb (columnCount ix) (recordValue q r 0)) (ltb 8 (recordValue q r 1)) (false-left _ _ (false-left _ _ (range-right k))))
+  range-kinds k = ltb-false 8 (recordValue q r 1) (or-right (leb (columnCount ix) (recordValue q r 0)) (ltb 8 (recordValue q r 1)) (or-left _ _ (or-left _ _ (range-right k))))
 
   pub boost-within : recordKind q r ≡ 7 → recordValue q r 0 ≤ largestBoost
   unfolding wrongValues wrongKind
-  boost-within k = ltb-false largestBoost (recordValue q r 0) (false-left (ltb largestBoost (recordValue q r 0)) (unusedFrom q r 1) (rw k at record-right))
+  boost-within k = ltb-false largestBoost (recordValue q r 0) (or-left (ltb largestBoost (recordValue q r 0)) (unusedFrom q r 1) (rw k at record-right))
 
   pub record PhraseTermRight : Type 0 where
     pub leaf-present : recordValue q r 0 < leafCount ix
@@ -64,10 +65,10 @@ module _ (ix : Index) (q : List ℕ) (e : wrong8 ix q ≡ false) (r : ℕ) (h : 
   unfolding wrongValues wrongKind
   phrase-term-right k =
       let right : (leb (leafCount ix) (recordValue q r 0) || ltb noMoreDocs (recordValue q r 1) || unusedFrom q r 2) ≡ false = rw k at record-right in
-      let first = false-left (leb (leafCount ix) (recordValue q r 0) || ltb noMoreDocs (recordValue q r 1)) (unusedFrom q r 2) right in
+      let first = or-left (leb (leafCount ix) (recordValue q r 0) || ltb noMoreDocs (recordValue q r 1)) (unusedFrom q r 2) right in
       record {
-        leaf-present = leb-false (leafCount ix) (recordValue q r 0) (false-left (leb (leafCount ix) (recordValue q r 0)) (ltb noMoreDocs (recordValue q r 1)) first);
-        offset-within = ltb-false noMoreDocs (recordValue q r 1) (false-right (leb (leafCount ix) (recordValue q r 0)) (ltb noMoreDocs (recordValue q r 1)) first);
+        leaf-present = leb-false (leafCount ix) (recordValue q r 0) (or-left (leb (leafCount ix) (recordValue q r 0)) (ltb noMoreDocs (recordValue q r 1)) first);
+        offset-within = ltb-false noMoreDocs (recordValue q r 1) (or-right (leb (leafCount ix) (recordValue q r 0)) (ltb noMoreDocs (recordValue q r 1)) first);
       }
 
 -- ---- what the passes after 8, and 12, require
@@ -81,14 +82,14 @@ phrase-fields ix q e = record { present = λ r h k. phrase-right ix q e r h k .f
 pub leaf-run : (ix : Index) → wrong4 ix ≡ false → (l : ℕ) → l < leafCount ix → leafFirst ix l + leafNumber ix l ≤ postingCount ix
 unfolding wrong4 wrongLeaf
 leaf-run ix e l h =
-    let right = none-below (leafCount ix) (wrongLeaf ix) (false-right (not (eqb (length (ix .leaves) % 4) 0) || ltb 512 (leafCount ix)) (anyBelow (leafCount ix) (wrongLeaf ix)) e) l h in
-    ltb-false (postingCount ix) (leafFirst ix l + leafNumber ix l) (false-right (leb (fieldCount ix) (leafField ix l)) (ltb (postingCount ix) (leafFirst ix l + leafNumber ix l)) (false-left _ (ltb largestIdf (leafIdf ix l)) right))
+    let right = none-below (leafCount ix) (wrongLeaf ix) (or-right (not (eqb (length (ix .leaves) % 4) 0) || ltb 512 (leafCount ix)) (anyBelow (leafCount ix) (wrongLeaf ix)) e) l h in
+    ltb-false (postingCount ix) (leafFirst ix l + leafNumber ix l) (or-right (leb (fieldCount ix) (leafField ix l)) (ltb (postingCount ix) (leafFirst ix l + leafNumber ix l)) (or-left _ (ltb largestIdf (leafIdf ix l)) right))
 
 pub leaf-idf : (ix : Index) → wrong4 ix ≡ false → (l : ℕ) → l < leafCount ix → leafIdf ix l ≤ largestIdf
 unfolding wrong4 wrongLeaf
 leaf-idf ix e l h =
-    let right = none-below (leafCount ix) (wrongLeaf ix) (false-right (not (eqb (length (ix .leaves) % 4) 0) || ltb 512 (leafCount ix)) (anyBelow (leafCount ix) (wrongLeaf ix)) e) l h in
-    ltb-false largestIdf (leafIdf ix l) (false-right (leb (fieldCount ix) (leafField ix l) || ltb (postingCount ix) (leafFirst ix l + leafNumber ix l)) (ltb largestIdf (leafIdf ix l)) right)
+    let right = none-below (leafCount ix) (wrongLeaf ix) (or-right (not (eqb (length (ix .leaves) % 4) 0) || ltb 512 (leafCount ix)) (anyBelow (leafCount ix) (wrongLeaf ix)) e) l h in
+    ltb-false largestIdf (leafIdf ix l) (or-right (leb (fieldCount ix) (leafField ix l) || ltb (postingCount ix) (leafFirst ix l + leafNumber ix l)) (ltb largestIdf (leafIdf ix l)) right)
 
 pub phrase-runs : (ix : Index) (q : List ℕ) → wrong4 ix ≡ false → wrong8 ix q ≡ false → PhraseRuns q (ix .leaves) (ix .postings)
 phrase-runs ix q e f =

@@ -9,7 +9,7 @@ use lib.Dec.{eqb, leb, ltb}
 use borrow.Author.Tests.{ltb-true, leb-true, eqb-true, not-true, not-false}
 use Rattle.meaning.specs.Below.{anyBelow}
 use Rattle.meaning.specs.Query.{Kind, aTerm, aPhrase, aBoolean, aRange, aMatchAll, aConstantScore, aBoost, aMatchNone, aPhraseTerm, kindOf, childrenFit, recordCount, recordKind, recordOccurrence, recordChildren, recordValue, rangeOf, phraseTermsOf, Occur, must, should, mustNot, filter, occurOf, Tree, term, phrase, boolean, range, matchAll, constantScore, boost, matchNone, clause, Decoded, DecodedClauses, decode, decodeKind, decodeClauses, decodeChild, decodePhrase, isPhraseTerm, guard, _>>=_}
-use Rattle.query.proofs.Below.{none-below}
+use Rattle.meaning.proofs.Below.{none-below}
 
 -- ---- what a step of decoding that ends in something says
 pub bind-some : {A B : Type 0} (o : Option A) (f : A → Option B) (b : B) → (o >>= f) ≡ some b → (a : A) × (o ≡ some a) × (f a ≡ some b)

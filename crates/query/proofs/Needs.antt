@@ -13,12 +13,12 @@ use Rattle.meaning.specs.Lent.{Index}
 use Rattle.meaning.specs.Query.{recordCount, recordKind, recordValue}
 use Rattle.meaning.specs.CallRefusals.{rangeRecords, rangesNeeded, largestIn, startsNeeded}
 use Rattle.query.specs.Read.{PhraseRuns}
-use Rattle.query.proofs.Below.{count-at-most}
+use Rattle.meaning.proofs.Below.{count-le}
 
 -- ---- ranges
 pub few-ranges : (q : List ℕ) (n : ℕ) → n ≡ rangeRecords q → n ≤ recordCount q
 unfolding rangeRecords
-few-ranges q n e = let h = count-at-most (recordCount q) (λ r. eqb (recordKind q r) 4) in omega (arith, e, h)
+few-ranges q n e = let h = count-le (recordCount q) (λ r. eqb (recordKind q r) 4) in omega (arith, e, h)
 
 pub product-fits : (m n : ℕ) → m < 2 ^ 32 → n ≤ 256 → m * (n + 1) < 2 ^ 64
 product-fits m n h g =

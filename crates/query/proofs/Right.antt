@@ -1,46 +1,22 @@
 -- What refusals 7 and 8 let through, said of the tree: what it names is present, and its values are within their limits. Assumes nothing.
-use mathlib.Core.Path.{_≡_, refl, sym, _∙_, ap, subst}
+use mathlib.Core.Path.{_≡_, sym, subst}
 use mathlib.Core.Bool.{true, false}
-use mathlib.Core.List.{List, [], _∷_, _++_}
+use mathlib.Core.List.{List}
 use mathlib.Core.Option.{Option, some}
-use mathlib.Core.Logic.{inl, inr}
 use Prim.Native.Nat.{ℕ, zero, suc, _+_, _≤_, _<_}
 use native.Mathlib.Omega.{arith}
-use native.Mathlib.Nat.{not-suc-le-zero}
-use lib.ListN.{length, length-append, getD, List·getD-append}
-use lib.Seq.{getD-append-add}
+use lib.ListN.{length, getD}
 use borrow.Author.Tests.{eqb-true}
-use Rattle.meaning.specs.Below.{listTo}
 use Rattle.meaning.specs.Limits.{noMoreDocs, largestBoost}
 use Rattle.meaning.specs.Lent.{Index, fieldCount, leafCount, leafField}
 use Rattle.meaning.specs.Phrase.{PhraseTerm}
 use Rattle.meaning.specs.Query.{recordCount, recordKind, recordChildren, recordValue, phraseTermsOf, isPhraseTerm, Tree, term, phrase, boolean, range, matchAll, constantScore, boost, matchNone, Clauses, empty, clause, Decoded, DecodedClauses, decode, decodeClauses, queryTree}
 use Rattle.meaning.specs.QueryRefusals.{wrong7, wrong8, wrongRange}
-use Rattle.query.proofs.Below.{last-or}
+pub use Rattle.meaning.proofs.Below.{length-listTo, getD-listTo}
 use Rattle.query.proofs.Inverse.{both-true, one-clause, record-here, term-at, phrase-at, boolean-at, range-at, all-at, constant-at, boost-at, none-at, kind-is, KindIs, is-term, is-phrase, is-boolean, is-range, is-all, is-constant, is-boost, is-none, some-same}
 use Rattle.query.proofs.Spans.{no-depth, nothing}
 use Rattle.query.proofs.Whole.{whole}
 use Rattle.query.proofs.Accepted.{term-leaf, phrase-right, range-right, boost-within, phrase-term-right}
-
--- ---- a list from a function, number by number
-pub length-listTo : {A : Type 0} (n : ℕ) (f : ℕ → A) → length (listTo n f) ≡ n
-unfolding listTo
-length-listTo zero f = refl
-length-listTo (suc n) f = let e = length-append (listTo n f) (f n ∷ []) in let h = length-listTo n f in omega (arith, e, h)
-
-pub getD-listTo : {A : Type 0} (n : ℕ) (f : ℕ → A) (d : A) (i : ℕ) → i < n → getD (listTo n f) i d ≡ f i
-unfolding listTo
-getD-listTo zero f d i h = absurd (not-suc-le-zero h)
-getD-listTo (suc n) f d i h = elim (last-or i n h) [
-  | inl a ↦ let l = length-listTo n f in List·getD-append (listTo n f) (f n ∷ []) d i (omega (arith, l, a)) ∙ getD-listTo n f d i a
-  | inr b ↦ last b
-]
-  where
-    last : i ≡ n → getD (listTo n f ++ (f n ∷ [])) i d ≡ f i
-    last b =
-        let l = length-listTo n f in
-        let at : i ≡ length (listTo n f) + 0 = omega (arith, l, b) in
-        ap (λ (z : ℕ). getD (listTo n f ++ (f n ∷ [])) z d) at ∙ getD-append-add (listTo n f) (f n ∷ []) 0 d ∙ ap f (sym b)
 
 -- ---- a phrase's terms
 pub record RightTerm (ix : Index) (field : ℕ) (t : PhraseTerm) : Type 0 where

@@ -9,7 +9,7 @@ use lib.Dec.{eqb, leb, ltb}
 use borrow.Author.Tests.{lt-ltb, le-ltb, eq-eqb, ne-eqb, le-leb, lt-leb, eqb-true, eqb-false}
 use Rattle.meaning.specs.Query.{Kind, aTerm, aPhrase, aBoolean, aRange, aMatchAll, aConstantScore, aBoost, aMatchNone, aPhraseTerm, kindOf, childrenFit, recordCount, recordKind, recordOccurrence, recordChildren, Decoded, DecodedClauses, decode, decodeKind, decodeClauses, decodeChild, decodePhrase, isPhraseTerm, guard, _>>=_}
 use Rattle.query.specs.Inner.{endOf, endOfClauses, fitting}
-use Rattle.query.proofs.Below.{any-false, any-true}
+use Rattle.meaning.proofs.Below.{any-none, any-some}
 
 pub bind-none : {A B : Type 0} (o : Option A) (f : A → Option B) → ((a : A) → f a ≡ none) → (o >>= f) ≡ none
 bind-none none f h = refl
@@ -60,7 +60,7 @@ module _ (q : List ℕ) (r : ℕ) where
   pub phrase-wrong : (d j : ℕ) → j < recordChildren q r → isPhraseTerm q (r + 1 + j) ≡ false → 0 ≡ endOf (decodePhrase q d r)
   unfolding decodePhrase
   phrase-wrong d j h e =
-      let some-wrong = any-true (recordChildren q r) (λ j. not (isPhraseTerm q (r + 1 + j))) j h (ap not e) in
+      let some-wrong = any-some (recordChildren q r) (λ j. not (isPhraseTerm q (r + 1 + j))) j h (ap not e) in
       rw some-wrong (go (ltb 0 d && leb (r + 1 + recordChildren q r) (recordCount q)))
     where
       go : (b : Bool) → 0 ≡ endOf (guard b >>= λ ok. none)
@@ -70,7 +70,7 @@ module _ (q : List ℕ) (r : ℕ) where
   pub phrase-right : (d : ℕ) → 0 < d → r + 1 + recordChildren q r ≤ recordCount q → ((j : ℕ) → j < recordChildren q r → isPhraseTerm q (r + 1 + j) ≡ true) → r + 1 + recordChildren q r ≡ endOf (decodePhrase q d r)
   unfolding decodePhrase
   phrase-right d h g e =
-      let none-wrong = any-false (recordChildren q r) (λ j. not (isPhraseTerm q (r + 1 + j))) (λ j k. ap not (e j k)) in
+      let none-wrong = any-none (recordChildren q r) (λ j. not (isPhraseTerm q (r + 1 + j))) (λ j k. ap not (e j k)) in
       rw (lt-ltb 0 d h, le-leb (r + 1 + recordChildren q r) (recordCount q) g, none-wrong)
 
 -- where the depth left is not 0, it is one more than what is left below

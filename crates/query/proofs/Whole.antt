@@ -11,7 +11,7 @@ use borrow.Author.Tests.{lt-ltb, le-ltb, eq-eqb, ne-eqb, ltb-false, eqb-true, eq
 use Rattle.meaning.specs.Query.{recordCount, recordKind, recordChildren, recordOccurrence, Decoded, decode, decodeQuery, queryTree, treeOf, guard}
 use Rattle.meaning.specs.QueryRefusals.{wrong7, wrongRecords}
 use Rattle.query.specs.Inner.{endOf}
-use Rattle.query.proofs.Below.{or-left, or-right, false-left, false-right}
+use Rattle.meaning.proofs.Tests.{true-left, true-right, or-left, or-right}
 use Rattle.query.proofs.Inverse.{bind-some, guard-some, both-true, phrase-at}
 use Rattle.query.proofs.Spans.{Stands, a-tree, a-phrase-term, tree-stands}
 
@@ -22,15 +22,15 @@ module _ (q : List ℕ) where
 
   pub no-records : recordCount q ≡ 0 → true ≡ wrong7 q
   unfolding wrong7
-  no-records e = sym (or-left _ _ (or-left _ _ (or-right (not (eqb (length q % 9) 0)) (eqb (recordCount q) 0) (eq-eqb (recordCount q) 0 e))))
+  no-records e = sym (true-left _ _ (true-left _ _ (true-right (not (eqb (length q % 9) 0)) (eqb (recordCount q) 0) (eq-eqb (recordCount q) 0 e))))
 
   pub many-records : 256 < recordCount q → true ≡ wrong7 q
   unfolding wrong7
-  many-records h = sym (or-left _ _ (or-right (not (eqb (length q % 9) 0) || eqb (recordCount q) 0) (ltb 256 (recordCount q)) (lt-ltb 256 (recordCount q) h)))
+  many-records h = sym (true-left _ _ (true-right (not (eqb (length q % 9) 0) || eqb (recordCount q) 0) (ltb 256 (recordCount q)) (lt-ltb 256 (recordCount q) h)))
 
   pub root-placed : (recordOccurrence q 0 ≡ 0 → ⊥) → true ≡ wrong7 q
   unfolding wrong7 decodeQuery wrongRecords
-  root-placed h = sym (or-right (not (eqb (length q % 9) 0) || eqb (recordCount q) 0 || ltb 256 (recordCount q)) _ (rw (ne-eqb (recordOccurrence q 0) 0 h)))
+  root-placed h = sym (true-right (not (eqb (length q % 9) 0) || eqb (recordCount q) 0 || ltb 256 (recordCount q)) _ (rw (ne-eqb (recordOccurrence q 0) 0 h)))
 
   ends-wrong : (o : Option Decoded) → (recordCount q ≡ 0 → ⊥) → not (eqb (endOf o) (recordCount q)) ≡ wrongRecords q o
   unfolding wrongRecords
@@ -64,15 +64,15 @@ module _ (q : List ℕ) where
   pub whole : wrong7 q ≡ false → Whole
   unfolding wrong7 decodeQuery queryTree
   whole e =
-      let ab = false-left (not (eqb (length q % 9) 0) || eqb (recordCount q) 0 || ltb 256 (recordCount q)) (wrongRecords q (decodeQuery q)) e in
-      let a = false-left (not (eqb (length q % 9) 0) || eqb (recordCount q) 0) (ltb 256 (recordCount q)) ab in
-      let none = eqb-false (recordCount q) 0 (false-right (not (eqb (length q % 9) 0)) (eqb (recordCount q) 0) a) in
-      let d = right-some (decodeQuery q) (false-right (not (eqb (length q % 9) 0) || eqb (recordCount q) 0 || ltb 256 (recordCount q)) (wrongRecords q (decodeQuery q)) e) in
+      let ab = or-left (not (eqb (length q % 9) 0) || eqb (recordCount q) 0 || ltb 256 (recordCount q)) (wrongRecords q (decodeQuery q)) e in
+      let a = or-left (not (eqb (length q % 9) 0) || eqb (recordCount q) 0) (ltb 256 (recordCount q)) ab in
+      let none = eqb-false (recordCount q) 0 (or-right (not (eqb (length q % 9) 0)) (eqb (recordCount q) 0) a) in
+      let d = right-some (decodeQuery q) (or-right (not (eqb (length q % 9) 0) || eqb (recordCount q) 0 || ltb 256 (recordCount q)) (wrongRecords q (decodeQuery q)) e) in
       let g = bind-some (guard (eqb (recordOccurrence q 0) 0)) (λ ok. decode q 16 0) (d .0) (d .1) in
       record {
-        whole = eqb-true (length q % 9) 0 (not-false (eqb (length q % 9) 0) (false-left (not (eqb (length q % 9) 0)) (eqb (recordCount q) 0) a));
+        whole = eqb-true (length q % 9) 0 (not-false (eqb (length q % 9) 0) (or-left (not (eqb (length q % 9) 0)) (eqb (recordCount q) 0) a));
         some-records = above-none (recordCount q) none;
-        few-records = ltb-false 256 (recordCount q) (false-right (not (eqb (length q % 9) 0) || eqb (recordCount q) 0) (ltb 256 (recordCount q)) ab);
+        few-records = ltb-false 256 (recordCount q) (or-right (not (eqb (length q % 9) 0) || eqb (recordCount q) 0) (ltb 256 (recordCount q)) ab);
         root-occurrence = eqb-true (recordOccurrence q 0) 0 (guard-some (eqb (recordOccurrence q 0) 0) (g .0) (g .1));
         root = d .0;
         root-is = g .2;

@@ -1,17 +1,18 @@
 -- SmallFloat's codes: each definition by its two cases, bounds, and that a code comes back. Assumes nothing.
 use mathlib.Core.Path.{_≡_, refl, sym, ap, _∙_, subst}
-use mathlib.Core.Logic.{_⊎_, inl, inr}
-use mathlib.Core.Bool.{Bool, true, false, not, cond}
+use mathlib.Core.Logic.{inl, inr}
+use mathlib.Core.Bool.{Bool, true, false, cond}
 use Prim.Native.Nat.{ℕ, zero, suc, _+_, _-_, _*_, _/_, _%_, _^_, _≤_, _<_}
 use native.Mathlib.Nat.{le-trans, le-of-eq, le-of-suc-le-suc, not-suc-le-zero, eq-or-lt-of-le, lt-of-lt-of-le, lt-of-not-le, le-antisymm, mul-le-mul, div-lt-iff-lt-mul, le-div-iff-mul-le, div-mul-le-self, two-pow-succ}
 use native.Mathlib.Omega.{arith}
-use lib.Dec.{T, ltb, eqb, eqb→eq, ltb→lt, nltb→le, lit≤}
+use lib.Dec.{T, ltb, eqb, eqb→eq, lit≤}
 use lib.Pow.{pow-add, pow-pos, pow-mono}
 use lib.Count.{leadingZeros, leading-length}
 use lib.Ieee.{size}
 use lib.Ieee.Digits.{size-lt, size-le, size-reaches}
 use borrow.Author.Tests.{lt-ltb, le-ltb}
 use Rattle.meaning.specs.SmallFloat.{longToInt4, int4ToLong, maxInt4, numFreeValues, intToByte4, byte4ToInt}
+use Rattle.meaning.proofs.Tests.{cmp}
 
 -- ---- each definition by its cases
 num-free : numFreeValues ≡ 24
@@ -82,15 +83,8 @@ pub size-few : (i : ℕ) → size i < 4 → i < 8
 size-few i h = lt-of-lt-of-le (size-lt i) (pow-mono {i = size i} {j = 3} (le-of-suc-le-suc h))
 
 -- ---- bounds
-cases : (a b : ℕ) → (a < b) ⊎ (b ≤ a)
-cases a b = go (ltb a b) (ltb→lt a b) (nltb→le a b)
-  where
-    go : (t : Bool) → (T t → a < b) → (T (not t) → b ≤ a) → (a < b) ⊎ (b ≤ a)
-    go true h k = inl (h tt)
-    go false h k = inr (k tt)
-
 pub longToInt4-lt : (i k : ℕ) → 4 ≤ k → i < 2 ^ k → longToInt4 i < (k - 2) * 8
-longToInt4-lt i k K h = elim (cases (size i) 4) [
+longToInt4-lt i k K h = elim (cmp (size i) 4) [
   | inl s ↦ subst (λ (z : ℕ). z < (k - 2) * 8) (long-few i s) (few i k K (size-few i s))
   | inr s ↦ subst (λ (z : ℕ). z < (k - 2) * 8) (long-many i s) (many (size i) (i / 2 ^ (size i - 4)) k K s (size-le i k h))
 ]
@@ -102,7 +96,7 @@ longToInt4-lt i k K h = elim (cases (size i) 4) [
     many s q k K h l = omega arith
 
 pub int4ToLong-le : (i : ℕ) → i ≤ 231 → int4ToLong i ≤ 2013265920
-int4ToLong-le i h = elim (cases i 8) [
+int4ToLong-le i h = elim (cmp i 8) [
   | inl s ↦ subst (λ (z : ℕ). z ≤ 2013265920) (int4-few i s) (le-trans h (lit≤ tt))
   | inr s ↦ subst (λ (z : ℕ). z ≤ 2013265920) (int4-many i s) (le-trans (mul-le-mul (digits i) (pow-mono {i = i / 8 - 1} {j = 27} (places i h))) (lit≤ tt))
 ]
@@ -115,7 +109,7 @@ int4ToLong-le i h = elim (cases i 8) [
 
 -- a length is at most 2,013,265,944, and a byte's number is below 256
 pub byte4ToInt-le : (b : ℕ) → b < 256 → byte4ToInt b ≤ 2013265944
-byte4ToInt-le b h = elim (cases b 24) [
+byte4ToInt-le b h = elim (cmp b 24) [
   | inl s ↦ subst (λ (z : ℕ). z ≤ 2013265944) (int-few b s) (low b h)
   | inr s ↦ subst (λ (z : ℕ). z ≤ 2013265944) (int-many b s) (high (int4ToLong (b - 24)) (int4ToLong-le (b - 24) (less b h)))
 ]
@@ -130,7 +124,7 @@ byte4ToInt-le b h = elim (cases b 24) [
     high x h = omega arith
 
 pub intToByte4-lt : (i : ℕ) → i ≤ 2147483647 → intToByte4 i < 256
-intToByte4-lt i h = elim (cases i 24) [
+intToByte4-lt i h = elim (cmp i 24) [
   | inl s ↦ subst (λ (z : ℕ). z < 256) (byte-few i s) (low i s)
   | inr s ↦ subst (λ (z : ℕ). z < 256) (byte-many i s) (high (longToInt4 (i - 24)) (longToInt4-lt (i - 24) 31 (lit≤ tt) (less i h)))
 ]
@@ -183,13 +177,13 @@ module _ (m : ℕ) (h : 4 ≤ size m) where
       shift s q = omega arith
 
 int4ToLong-below : (m : ℕ) → int4ToLong (longToInt4 m) ≤ m
-int4ToLong-below m = elim (cases (size m) 4) [
+int4ToLong-below m = elim (cmp (size m) 4) [
   | inl h ↦ le-of-eq (sym (int4-few m (size-few m h) ∙ ap int4ToLong (long-few m h)))
   | inr h ↦ le-trans (le-of-eq (back m h)) (div-mul-le-self m (2 ^ (size m - 4)))
 ]
 
 pub byte4ToInt-below : (n : ℕ) → byte4ToInt (intToByte4 n) ≤ n
-byte4ToInt-below n = elim (cases n 24) [
+byte4ToInt-below n = elim (cmp n 24) [
   | inl h ↦ le-of-eq (sym (int-few n h ∙ ap byte4ToInt (byte-few n h)))
   | inr h ↦
       let c = longToInt4 (n - 24) in

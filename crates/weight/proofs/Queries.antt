@@ -19,13 +19,13 @@ use Rattle.meaning.specs.Query.{recordCount, recordKind, recordChildren, record
 use Rattle.meaning.specs.QueryRefusals.{wrong7, wrong8, wrong9, wrong10}
 use Rattle.meaning.specs.CallRefusals.{statesNeeded, largestIn, startsNeeded}
 use Rattle.index.specs.Accepted.{Accepted}
-use Rattle.query.proofs.Below.{last-or, none-below}
+use Rattle.meaning.proofs.Below.{last-or-below, none-below, length-listTo, getD-listTo}
 use Rattle.query.proofs.Inverse.{both-true, one-clause, some-same, record-here, term-at, phrase-at, boolean-at, range-at, all-at, constant-at, boost-at, none-at, kind-is, KindIs, is-term, is-phrase, is-boolean, is-range, is-all, is-constant, is-boost, is-none}
 use Rattle.query.proofs.Spans.{nothing, no-depth}
 use Rattle.query.proofs.Whole.{whole}
 use Rattle.query.proofs.Needs.{startsAt}
 use Rattle.query.proofs.Accepted.{term-leaf, boost-within}
-use Rattle.query.proofs.Right.{length-listTo, getD-listTo, RightPhrase, Right, tree-right}
+use Rattle.query.proofs.Right.{RightPhrase, Right, tree-right}
 use Rattle.weight.specs.ScorerTree.{phrase}
 use Rattle.weight.specs.Weigh.{weigh}
 use Rattle.weight.specs.State.{sizeOf}
@@ -123,9 +123,9 @@ each-term ix f places (t ∷ ts) h = (h 0 (suc-le-suc zero-le), each-term ix f p
 largest-at : (n : ℕ) (f : ℕ → ℕ) (i : ℕ) → i < n → f i ≤ largestBelow n f
 unfolding largestBelow
 largest-at zero f i h = absurd (not-suc-le-zero h)
-largest-at (suc n) f i h = elim (last-or i n h) [
-  | inl a ↦ let b = largest-at n f i a in omega (arith, b)
-  | inr e ↦ let b : f i ≡ f n = ap f e in omega (arith, b)
+largest-at (suc n) f i h = elim (last-or-below i n h) [
+  | inl e ↦ let b : f i ≡ f n = ap f e in omega (arith, b)
+  | inr a ↦ let b = largest-at n f i a in omega (arith, b)
 ]
 
 module _ (ix : Index) (q : List ℕ) (places : ℕ) (values-right : wrong8 ix q ≡ false) (positions-right : wrong10 ix q ≡ false) (room : startsNeeded ix q ≤ places) where

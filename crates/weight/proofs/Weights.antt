@@ -1,6 +1,6 @@
 -- The weights and constant scores of a scorer tree are binary32 values from 0 to 2 ^ 29. Assumes nothing.
-use mathlib.Core.Path.{_≡_, refl}
-use mathlib.Core.Bool.{Bool, true, false, cond, _||_}
+use mathlib.Core.Path.{_≡_}
+use mathlib.Core.Bool.{Bool, true, false, cond}
 use mathlib.Core.List.{List, [], _∷_, map}
 use mathlib.Core.Option.{Option, none, some}
 use Prim.Native.Nat.{ℕ, _^_, _≤_, _<_}
@@ -20,6 +20,9 @@ use Rattle.meaning.specs.Query.{Occur, must, should, mustNot, filter, isRequire
 use Rattle.meaning.specs.Scorer.{hasScorer}
 use Rattle.meaning.specs.Score.{phraseIdf, boosted, passed}
 use Rattle.meaning.specs.QueryRefusals.{aboveLimit, carriesAbove, clausesAbove}
+use Rattle.meaning.proofs.Tests.{or-left, or-right}
+use Rattle.ieee754.proofs.Successor.{zero-fits}
+use Rattle.query.proofs.Above.{within-here}
 use Rattle.ieee754.specs.Nonneg.{signClear, AtMost}
 use Rattle.ieee754.proofs.Patterns.{pattern-clear}
 use Rattle.ieee754.proofs.Ranges.{mul-clear}
@@ -61,35 +64,11 @@ pub record Carried (b : Float) : Type 0 where
   pub held : T (fits binary32 b)
   pub clear : T (signClear b)
 
-no-left : (a b : Bool) → (a || b) ≡ false → a ≡ false
-no-left true b e = e
-no-left false b e = refl
-
-no-right : (a b : Bool) → (a || b) ≡ false → b ≡ false
-no-right true true e = e
-no-right true false e = refl
-no-right false b e = e
-
-within-here : (t : Tree) (b : Float) → carriesAbove t b ≡ false → aboveLimit b ≡ false
-unfolding carriesAbove
-within-here (Query.term l) b e = e
-within-here (Query.phrase f ts) b e = e
-within-here (Query.boolean msm cs) b e = no-left (aboveLimit b) (clausesAbove cs b) e
-within-here (Query.range r) b e = e
-within-here Query.matchAll b e = e
-within-here (Query.constantScore t) b e = no-left (aboveLimit b) (carriesAbove t zeroFloat) e
-within-here (Query.boost v t) b e = no-left (aboveLimit b) (carriesAbove t (boosted b v)) e
-within-here Query.matchNone b e = e
-
 carried-here : (t : Tree) (b : Float) → Carried b → carriesAbove t b ≡ false → AtMost (2 ^ 16) b
 carried-here t b r e = carried-atmost b (r .clear) (within-here t b e)
 
-zero-held : T (fits binary32 zeroFloat)
-unfolding fits
-zero-held = tt
-
 carried-zero : Carried zeroFloat
-carried-zero = record { held = zero-held; clear = tt }
+carried-zero = record { held = zero-fits; clear = tt }
 
 pub carried-one : Carried one
 carried-one = record { held = ofBits-fits binary32 0x3f80_0000; clear = pattern-clear 0x3f80_0000 (lit≤ tt) }
@@ -106,7 +85,7 @@ carried-boosted b v i h =
 
 -- ---- fine floats
 fine-zero : Fine zeroFloat
-fine-zero = record { held = zero-held; small = zero-atmost (2 ^ 29) }
+fine-zero = record { held = zero-fits; small = zero-atmost (2 ^ 29) }
 
 fine-kept : (c : Option Float) (b : Float) → KeptFine c → T (fits binary32 b) → AtMost (2 ^ 16) b → Fine (kept c b)
 fine-kept none b k h i = record { held = h; small = atmost-more (lit≤ tt) i }
@@ -170,16 +149,16 @@ module _ (ix : Index) (places : ℕ) (accepted : Accepted ix) where
         let w = weight b (phraseIdf ix ts) in
         either (hasScorer ix (Query.phrase f ts)) (leaf (phrase f ts) (scoringAt c w)) (fine-scoring c w k (fine-phrase b (phraseIdf ix ts) (carried-here (Query.phrase f ts) b r e) (phrase-idf-small f ts (h .4) (h .3))))
     weigh-weighted (Query.boolean msm cs) b c h e r k =
-        either (hasScorer ix (Query.boolean msm cs)) (booleanOf ix msm cs c (readied ix cs b)) (boolean-weighted ix msm cs c (readied ix cs b) k (readied-weighted cs b h (no-right (aboveLimit b) (clausesAbove cs b) e) r))
+        either (hasScorer ix (Query.boolean msm cs)) (booleanOf ix msm cs c (readied ix cs b)) (boolean-weighted ix msm cs c (readied ix cs b) k (readied-weighted cs b h (or-right (aboveLimit b) (clausesAbove cs b) e) r))
     weigh-weighted (Query.range g) b c h e r k = fine-kept c b k (r .held) (carried-here (Query.range g) b r e)
     weigh-weighted Query.matchAll b c h e r k = fine-kept c b k (r .held) (carried-here Query.matchAll b r e)
     weigh-weighted (Query.constantScore t) b c h e r k =
-        weigh-weighted t zeroFloat (some (kept c b)) h (no-right (aboveLimit b) (carriesAbove t zeroFloat) e) carried-zero (fine-kept c b k (r .held) (carried-here (Query.constantScore t) b r e))
+        weigh-weighted t zeroFloat (some (kept c b)) h (or-right (aboveLimit b) (carriesAbove t zeroFloat) e) carried-zero (fine-kept c b k (r .held) (carried-here (Query.constantScore t) b r e))
     weigh-weighted (Query.boost v t) b c h e r k =
-        weigh-weighted t (boosted b v) c (h .1) (no-right (aboveLimit b) (carriesAbove t (boosted b v)) e) (carried-boosted b v (carried-here (Query.boost v t) b r e) (h .0)) k
+        weigh-weighted t (boosted b v) c (h .1) (or-right (aboveLimit b) (carriesAbove t (boosted b v)) e) (carried-boosted b v (carried-here (Query.boost v t) b r e) (h .0)) k
     weigh-weighted Query.matchNone b c h e r k = fine-zero
 
     pub readied-weighted : (cs : Clauses) (b : Float) → TreeSounds ix places cs → clausesAbove cs b ≡ false → Carried b → Every ReadyWeighted (readied ix cs b)
     readied-weighted empty b h e r = tt
     readied-weighted (clause o t cs) b h e r =
-        (weigh-weighted t (passed o b) none (h .0) (no-left (carriesAbove t (passed o b)) (clausesAbove cs b) e) (carried-passed o b r) tt, readied-weighted cs b (h .1) (no-right (carriesAbove t (passed o b)) (clausesAbove cs b) e) r)
+        (weigh-weighted t (passed o b) none (h .0) (or-left (carriesAbove t (passed o b)) (clausesAbove cs b) e) (carried-passed o b r) tt, readied-weighted cs b (h .1) (or-right (carriesAbove t (passed o b)) (clausesAbove cs b) e) r)

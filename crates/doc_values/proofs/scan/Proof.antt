@@ -10,7 +10,8 @@ use lib.ListN.{length}
 use Rattle.meaning.specs.Below.{listBelow}
 use Rattle.meaning.specs.Entries.{written}
 use Rattle.doc_values.specs.Keys.{valueIn}
-use Rattle.doc_values.proofs.Lists.{list-length, written-length, turn-taken, turn-left}
+use Rattle.meaning.proofs.Below.{list-length}
+use Rattle.doc_values.proofs.Lists.{written-length, turn-taken, turn-left}
 use Rattle.doc_values.proofs.scan.Statement.{statement}
 use Rattle.doc_values.proofs.scan.Tie as tie
 

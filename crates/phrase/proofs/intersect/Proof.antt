@@ -16,7 +16,8 @@ use borrow.Author.Needs.{needs}
 use Rattle.phrase.specs.declared.Term.{Term}
 use Rattle.phrase.specs.Terms.{startsOf}
 use Rattle.phrase.specs.Common.{Common}
-use Rattle.phrase.proofs.Order.{less, same}
+use Rattle.meaning.proofs.Signed.{lt-yes}
+use Rattle.phrase.proofs.Order.{same}
 use Rattle.phrase.proofs.Merge.{Merging, merge-begins, candidate-passed, start-passed, matched, candidates-end, starts-end}
 use Rattle.phrase.proofs.Records.{starts-length, starts-drop, starts-ascending}
 use Rattle.phrase.proofs.intersect.Statement.{statement}
@@ -58,7 +59,7 @@ module _ (ps : List ℕ) (t : Term) (cs : List ℤ) (places : ℕ) (out : List �
         positions = m .positions;
         merging =
             subst (λ (xs : List ℤ). Merging cs (startsOf ps t) (take n out) (drop (c + 1) cs) xs) (sym next-start)
-            (candidate-passed cs (startsOf ps t) (take n out) (getD cs c (pos 0)) (drop (c + 1) cs) s (drop (i + 1) (startsOf ps t)) opened (less (getD cs c (pos 0)) s (tested (getD cs c (pos 0)) s true fc fs h)));
+            (candidate-passed cs (startsOf ps t) (take n out) (getD cs c (pos 0)) (drop (c + 1) cs) s (drop (i + 1) (startsOf ps t)) opened (lt-yes (getD cs c (pos 0)) s (tested (getD cs c (pos 0)) s true fc fs h)));
       }
 
   passed-start : ltZ (toZ w32 (ofZ w32 s)) (toZ w32 (ofZ w32 (getD cs c (pos 0)))) ≡ true → Merged ps t cs places out (i + 1) c n
@@ -70,7 +71,7 @@ module _ (ps : List ℕ) (t : Term) (cs : List ℤ) (places : ℕ) (out : List �
         positions = omega (arith, hi);
         merging =
             subst (λ (l : List ℤ). Merging cs (startsOf ps t) (take n out) l (drop (i + 1) (startsOf ps t))) (sym next-candidate)
-            (start-passed cs (startsOf ps t) (take n out) (getD cs c (pos 0)) (drop (c + 1) cs) s (drop (i + 1) (startsOf ps t)) opened (less s (getD cs c (pos 0)) (tested s (getD cs c (pos 0)) true fs fc h)));
+            (start-passed cs (startsOf ps t) (take n out) (getD cs c (pos 0)) (drop (c + 1) cs) s (drop (i + 1) (startsOf ps t)) opened (lt-yes s (getD cs c (pos 0)) (tested s (getD cs c (pos 0)) true fs fc h)));
       }
 
   written : take (n + 1) (set out n (toZ w32 (ofZ w32 s))) ≡ take n out ++ (s ∷ [])

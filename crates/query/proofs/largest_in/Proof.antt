@@ -2,10 +2,11 @@
 use borrow.Author.Needs.{needs}
 use Prim.Native.Nat.{ℕ, _≤_, _-_, _+_, _*_, max}
 use mathlib.Core.Path.{_≡_, sym, _∙_, ap}
+use native.Mathlib.Nat.{le-antisymm}
 use native.Mathlib.Omega.{arith}
 use lib.ListN.{getD}
 use Rattle.meaning.specs.Below.{largestBelow}
-use Rattle.query.proofs.Below.{largest-none, largest-more, equal}
+use Rattle.meaning.proofs.Below.{largest-zero, largest-more}
 use Rattle.query.proofs.largest_in.Statement.{statement}
 use Rattle.query.proofs.largest_in.Tie as tie
 
@@ -18,7 +19,7 @@ abbrev μ-loop : tie.MeasureT-loop
 loop-holds : tie.Need-loop-holds Inv-loop μ-loop
 loop-holds c =
     let s = c .before in let postings = s .args .postings .now in let first = s .args .first in
-    (omega arith, sym (largest-none (λ k. getD postings (3 * (first + k) + 1) 0)))
+    (omega arith, sym (largest-zero (λ k. getD postings (3 * (first + k) + 1) 0)))
 
 add-larger : tie.Need-add-larger Inv-loop μ-loop
 add-larger c = search needs
@@ -52,7 +53,7 @@ loop-again c =
 returns : tie.Need-returns Inv-loop μ-loop
 returns c =
     let s = c .before .before .before in let postings = s .args .postings .now in let first = s .args .first in let number = s .args .number in
-    c .before .loop .inv .1 ∙ ap (λ (z : ℕ). largestBelow z (λ k. getD postings (3 * (first + k) + 1) 0)) (equal (c .before .loop .i) number (c .before .loop .inv .0) (c .loop-test .left))
+    c .before .loop .inv .1 ∙ ap (λ (z : ℕ). largestBelow z (λ k. getD postings (3 * (first + k) + 1) 0)) (le-antisymm {n = c .before .loop .i} {m = number} (c .before .loop .inv .0) (c .loop-test .left))
 
 pub largest-in-spec : {M : Type 1} → statement M
 largest-in-spec =

@@ -7,7 +7,7 @@ use native.Mathlib.Omega.{arith}
 use borrow.Author.Count.{below-more}
 use Rattle.meaning.specs.Query.{recordChildren}
 use Rattle.query.proofs.Values.{fieldOther, other-same, other-other}
-use Rattle.query.proofs.Below.{any-false, any-true}
+use Rattle.meaning.proofs.Below.{any-none, any-some}
 use Rattle.query.proofs.other_field.Statement.{statement}
 use Rattle.query.proofs.other_field.Tie as tie
 
@@ -50,7 +50,7 @@ word-or-zero-requires c κs = search needs
 returns : tie.Need-returns Inv-loop μ-loop
 returns c =
     let s = c .before .before .before .before .before .before .before .before .before .before .before in let q = s .args .q .now in let at = s .args .at in let leaves = s .args .leaves .now in
-    sym (any-true (recordChildren q at) (fieldOther leaves q at) (c .before .before .before .before .before .loop .j) (omega arith) (other-other leaves q at (c .before .before .before .before .before .loop .j) (c .before .before .wide2 .result) (c .before .before .wide2 .ensures ∙ c .before .before .before .value2 .ensures) (λ e. c .if1 .taken (c .before .word-or-zero .ensures ∙ e ∙ sym (c .before .before .before .before .before .before .before .before .value .ensures)))))
+    sym (any-some (recordChildren q at) (fieldOther leaves q at) (c .before .before .before .before .before .loop .j) (omega arith) (other-other leaves q at (c .before .before .before .before .before .loop .j) (c .before .before .wide2 .result) (c .before .before .wide2 .ensures ∙ c .before .before .before .value2 .ensures) (λ e. c .if1 .taken (c .before .word-or-zero .ensures ∙ e ∙ sym (c .before .before .before .before .before .before .before .before .value .ensures)))))
 
 add-j : tie.Need-add-j Inv-loop μ-loop
 add-j c = search needs
@@ -66,7 +66,7 @@ loop-again c =
 returns-2 : tie.Need-returns-2 Inv-loop μ-loop
 returns-2 c =
     let s = c .before .before .before .before .before .before .before in let q = s .args .q .now in let at = s .args .at in let leaves = s .args .leaves .now in
-    sym (any-false (recordChildren q at) (fieldOther leaves q at) (λ i h. c .before .loop .inv .1 i (omega (arith, h))))
+    sym (any-none (recordChildren q at) (fieldOther leaves q at) (λ i h. c .before .loop .inv .1 i (omega (arith, h))))
 
 pub other-field-spec : {M : Type 1} → statement M
 other-field-spec =

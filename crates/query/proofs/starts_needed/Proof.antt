@@ -2,10 +2,11 @@
 use borrow.Author.Needs.{needs}
 use Prim.Native.Nat.{_≤_, _-_}
 use mathlib.Core.Path.{_≡_, sym, _∙_}
+use native.Mathlib.Nat.{le-antisymm}
 use native.Mathlib.Omega.{arith}
 use Rattle.meaning.specs.Below.{largestBelow}
 use Rattle.meaning.specs.Lent.{Index}
-use Rattle.query.proofs.Below.{largest-none, largest-more, equal}
+use Rattle.meaning.proofs.Below.{largest-zero, largest-more}
 use Rattle.query.proofs.Needs.{startsAt, starts-all}
 use Rattle.query.proofs.starts_needed.Statement.{statement}
 use Rattle.query.proofs.starts_needed.Tie as tie
@@ -22,7 +23,7 @@ record-count-requires c κs = search needs
 loop-holds : tie.Need-loop-holds Inv-loop μ-loop
 loop-holds c =
     let s = c .before .before .before .before in let q = s .args .q .now in
-    (omega arith, λ ix l p. sym (largest-none (startsAt ix q)))
+    (omega arith, λ ix l p. sym (largest-zero (startsAt ix q)))
 
 term-starts-requires : tie.Need-term-starts-requires Inv-loop μ-loop
 term-starts-requires c κs =
@@ -46,7 +47,7 @@ loop-again c =
 returns : tie.Need-returns Inv-loop μ-loop
 returns c =
     let s = c .before .before .before .before .before .before in let q = s .args .q .now in
-    λ ix l p. c .before .loop .inv .1 ix l p ∙ starts-all ix q (c .before .loop .at) (equal (c .before .loop .at) (c .before .before .record-count .result) (c .before .loop .inv .0) (c .loop-test .left) ∙ c .before .before .record-count .ensures)
+    λ ix l p. c .before .loop .inv .1 ix l p ∙ starts-all ix q (c .before .loop .at) (le-antisymm {n = c .before .loop .at} {m = c .before .before .record-count .result} (c .before .loop .inv .0) (c .loop-test .left) ∙ c .before .before .record-count .ensures)
 
 pub starts-needed-spec : {M : Type 1} → statement M
 starts-needed-spec =

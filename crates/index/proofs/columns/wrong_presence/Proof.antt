@@ -5,7 +5,7 @@ use Rattle.meaning.specs.Below.{anyBelow}
 use native.Mathlib.Omega.{arith}
 use Prim.Native.Nat.{_-_, _*_, _≤_}
 use mathlib.Core.Path.{_≡_, refl, sym}
-use Rattle.index.proofs.Below.{any-none, any-more, any-done}
+use Rattle.meaning.proofs.Below.{any-zero, any-more, any-done}
 use borrow.Author.Needs.{needs}
 use Rattle.index.proofs.columns.wrong_presence.Statement.{statement}
 use Rattle.index.proofs.columns.wrong_presence.Tie as tie
@@ -17,7 +17,7 @@ abbrev μ-loop : tie.MeasureT-loop
 μ-loop values count bad₀ k₀ bad k = count - k
 
 loop-holds : tie.Need-loop-holds Inv-loop μ-loop
-loop-holds c = (sym (any-none _), omega arith)
+loop-holds c = (sym (any-zero _), omega arith)
 
 mul-bad : tie.Need-mul-bad Inv-loop μ-loop
 mul-bad c = search needs

@@ -6,7 +6,7 @@ use Rattle.meaning.specs.Below.{anyBelow}
 use native.Mathlib.Omega.{arith}
 use Prim.Native.Nat.{_-_, _≤_}
 use mathlib.Core.Path.{_≡_, sym, _∙_}
-use Rattle.index.proofs.Below.{any-none, any-more, any-done}
+use Rattle.meaning.proofs.Below.{any-zero, any-more, any-done}
 use borrow.Author.Needs.{needs}
 use Rattle.index.proofs.leaves.wrong_leaves.Statement.{statement}
 use Rattle.index.proofs.leaves.wrong_leaves.Tie as tie
@@ -24,7 +24,7 @@ returns-2 : tie.Need-returns-2 Inv-loop μ-loop
 returns-2 c = leaves-too-many _ (c .before .if1 .left) (c .if2 .taken)
 
 loop-holds : tie.Need-loop-holds Inv-loop μ-loop
-loop-holds c = (sym (any-none _), omega arith)
+loop-holds c = (sym (any-zero _), omega arith)
 
 wrong-leaf-requires : tie.Need-wrong-leaf-requires Inv-loop μ-loop
 wrong-leaf-requires c κs = search needs

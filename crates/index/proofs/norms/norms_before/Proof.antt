@@ -7,7 +7,7 @@ use Rattle.index.specs.Slices.{fieldsOnly}
 use native.Mathlib.Omega.{arith}
 use Prim.Native.Nat.{_-_, _≤_}
 use mathlib.Core.Path.{_≡_, sym, _∙_}
-use Rattle.index.proofs.Below.{count-none, count-one, count-same, count-le}
+use Rattle.meaning.proofs.Below.{count-zero, count-one, count-same, count-le}
 use borrow.Author.Needs.{needs}
 use Rattle.index.proofs.norms.norms_before.Statement.{statement}
 use Rattle.index.proofs.norms.norms_before.Tie as tie
@@ -19,7 +19,7 @@ abbrev μ-loop : tie.MeasureT-loop
 μ-loop fields f count₀ i₀ count i = f - i
 
 loop-holds : tie.Need-loop-holds Inv-loop μ-loop
-loop-holds c = (sym (count-none _), omega arith)
+loop-holds c = (sym (count-zero _), omega arith)
 
 mul-if1 : tie.Need-mul-if1 Inv-loop μ-loop
 mul-if1 c = search needs

@@ -4,7 +4,7 @@ use Rattle.index.specs.Slices.{fieldsOnly}
 use Rattle.index.proofs.Values.{product-le}
 use native.Mathlib.Omega.{arith}
 use Prim.Native.Nat.{_≤_}
-use Rattle.index.proofs.Below.{count-le}
+use Rattle.meaning.proofs.Below.{count-le}
 use borrow.Author.Needs.{needs}
 use Rattle.index.proofs.norms.norms_offset.Statement.{statement}
 use Rattle.index.proofs.norms.norms_offset.Tie as tie

@@ -5,7 +5,7 @@ use native.Mathlib.Omega.{arith}
 use Prim.Native.Nat.{_+_, _-_, _*_, _≤_}
 use mathlib.Core.Path.{_≡_}
 use Rattle.index.specs.Runs.{apartAt}
-use Rattle.index.proofs.Below.{any-more, any-done}
+use Rattle.meaning.proofs.Below.{any-more, any-done}
 use Rattle.index.proofs.Joined.{apart-first, apart-turn, apart-next}
 use borrow.Author.Needs.{needs}
 use Rattle.index.proofs.positions.apart.Statement.{statement}

@@ -7,7 +7,7 @@ use native.Mathlib.Omega.{arith}
 use Prim.Native.Nat.{ℕ, _-_, _/_, _≤_, _<_}
 use mathlib.Core.Path.{_≡_, sym, ap, _∙_}
 use Rattle.index.specs.Runs.{seamAt}
-use Rattle.index.proofs.Below.{count-one, count-same, count-le}
+use Rattle.meaning.proofs.Below.{count-one, count-same, count-le}
 use Rattle.index.proofs.Joined.{seam-first, seam-turn}
 use borrow.Author.Needs.{needs}
 use Rattle.index.proofs.positions.seams.Statement.{statement}

@@ -10,7 +10,7 @@ use native.Mathlib.Omega.{arith}
 use Prim.Native.Nat.{_-_, _≤_}
 use mathlib.Core.Path.{_≡_, refl, sym, _∙_}
 use Rattle.index.specs.Runs.{fallAt}
-use Rattle.index.proofs.Below.{any-none, count-none, count-one, count-same, count-le}
+use Rattle.meaning.proofs.Below.{any-zero, count-zero, count-one, count-same, count-le}
 use Rattle.index.proofs.Joined.{fall-turn, seen-turn, seen-all}
 use borrow.Author.Needs.{needs}
 use Rattle.index.proofs.positions.seen_in.Statement.{statement}
@@ -23,7 +23,7 @@ abbrev μ-loop : tie.MeasureT-loop
 μ-loop part all₀ falls₀ previous₀ k₀ all falls previous k = length part - k
 
 loop-holds : tie.Need-loop-holds Inv-loop μ-loop
-loop-holds c = (sym (any-none _), sym (count-none _), refl, omega arith)
+loop-holds c = (sym (any-zero _), sym (count-zero _), refl, omega arith)
 
 mul-place : tie.Need-mul-place Inv-loop μ-loop
 mul-place c = search needs

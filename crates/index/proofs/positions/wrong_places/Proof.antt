@@ -1,5 +1,5 @@
 -- `index::positions::wrong_places` meets its contract. Assumes nothing.
-use Rattle.index.proofs.Below.{any-done}
+use Rattle.meaning.proofs.Below.{any-done}
 use lib.ListN.{length}
 use native.Mathlib.Omega.{arith}
 use Prim.Native.Nat.{_-_, _≤_}

@@ -5,7 +5,7 @@ use Rattle.meaning.specs.Below.{anyBelow}
 use native.Mathlib.Omega.{arith}
 use Prim.Native.Nat.{_-_, _≤_}
 use mathlib.Core.Path.{_≡_, sym}
-use Rattle.index.proofs.Below.{any-none, any-more, any-done, any-hit}
+use Rattle.meaning.proofs.Below.{any-zero, any-more, any-done, any-some}
 use borrow.Author.Needs.{needs}
 use Rattle.index.proofs.positions.wrong_run_places.Statement.{statement}
 use Rattle.index.proofs.positions.wrong_run_places.Tie as tie
@@ -17,7 +17,7 @@ abbrev μ-loop : tie.MeasureT-loop
 μ-loop run positions count bad₀ i₀ bad i = count - i
 
 loop-holds : tie.Need-loop-holds Inv-loop μ-loop
-loop-holds c = (sym (any-none _), omega arith)
+loop-holds c = (sym (any-zero _), omega arith)
 
 mul-index : tie.Need-mul-index Inv-loop μ-loop
 mul-index c = search needs
@@ -50,7 +50,7 @@ sum-requires : tie.Need-sum-requires Inv-loop μ-loop
 sum-requires c κs = search needs
 
 returns : tie.Need-returns Inv-loop μ-loop
-returns c = let a = c .before .before .before .before .before in sym (any-hit _ _ (a .before .loop .i) (a .loop-test .taken) (places-past _ _ _ _ _ (c .before .before .before .wide .ensures) (c .before .sum .ensures) (c .if1 .taken)))
+returns c = let a = c .before .before .before .before .before in sym (any-some _ _ (a .before .loop .i) (a .loop-test .taken) (places-past _ _ _ _ _ (c .before .before .before .wide .ensures) (c .before .sum .ensures) (c .if1 .taken)))
 
 mul-wrong-places : tie.Need-mul-wrong-places Inv-loop μ-loop
 mul-wrong-places c = search needs

@@ -8,7 +8,7 @@ use native.Mathlib.Omega.{arith}
 use Prim.Native.Nat.{ℕ, _/_, _≤_, _<_}
 use mathlib.Core.Path.{_≡_, sym, ap, _∙_}
 use Rattle.index.proofs.Joined.{end-is, joined-past, joined-flag, seam-within}
-use Rattle.index.proofs.Below.{any-none}
+use Rattle.meaning.proofs.Below.{any-zero}
 use borrow.Author.Needs.{needs}
 use Rattle.index.proofs.positions.wrong_run_positions.Statement.{statement}
 use Rattle.index.proofs.positions.wrong_run_positions.Tie as tie
@@ -30,7 +30,7 @@ from-le : (a : tie.After-sum) → a .before .before .before .wide .result ≤ a 
 from-le a = omega (arith, end-is (run a) (length (run a) / 3) (joined a) (a .sum .result) (some a) (a .sum .ensures), a .before .before .before .wide .ensures)
 
 returns : tie.Need-returns
-returns c = let s = c .before .before .before in sym (ap (λ (n : ℕ). anyBelow n (wrongPlaces (s .args .run .now) (s .args .positions .now))) (c .if1 .taken) ∙ any-none _)
+returns c = let s = c .before .before .before in sym (ap (λ (n : ℕ). anyBelow n (wrongPlaces (s .args .run .now) (s .args .positions .now))) (c .if1 .taken) ∙ any-zero _)
 
 apart-requires : tie.Need-apart-requires
 apart-requires c κs = search needs

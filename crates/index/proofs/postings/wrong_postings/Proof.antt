@@ -9,7 +9,7 @@ use Rattle.meaning.specs.Below.{anyBelow}
 use native.Mathlib.Omega.{arith}
 use Prim.Native.Nat.{_-_, _≤_}
 use mathlib.Core.Path.{_≡_, sym, _∙_}
-use Rattle.index.proofs.Below.{any-none, any-more, any-done}
+use Rattle.meaning.proofs.Below.{any-zero, any-more, any-done}
 use Rattle.index.proofs.postings.wrong_postings.Statement.{statement}
 use Rattle.index.proofs.postings.wrong_postings.Tie as tie
 
@@ -23,7 +23,7 @@ returns : tie.Need-returns Inv-loop μ-loop
 returns c = postings-not-whole _ (c .if1 .taken)
 
 loop-holds : tie.Need-loop-holds Inv-loop μ-loop
-loop-holds c = (sym (any-none _), omega arith)
+loop-holds c = (sym (any-zero _), omega arith)
 
 wrong-run-requires : tie.Need-wrong-run-requires Inv-loop μ-loop
 wrong-run-requires c κs = let s = c .before .before .before .before .before .before .before in (s .pre .0, (s .pre .1, omega arith))

@@ -1,5 +1,5 @@
 -- `index::postings::wrong_records` meets its contract. Assumes nothing.
-use Rattle.index.proofs.Below.{any-done}
+use Rattle.meaning.proofs.Below.{any-done}
 use native.Mathlib.Omega.{arith}
 use Prim.Native.Nat.{_-_, _≤_}
 use borrow.Author.Needs.{needs}

@@ -13,7 +13,7 @@ use lib.Ieee.{Float, binary32, ofInt}
 use Rattle.meaning.specs.Below.{listTo}
 use Rattle.meaning.specs.SmallFloat.{byte4ToInt}
 use Rattle.meaning.specs.Bm25.{lengthOf, inverse}
-use Rattle.sim.proofs.Tables.{listTo-zero, listTo-next}
+use Rattle.meaning.proofs.Below.{listTo-zero, listTo-next}
 use Rattle.sim.proofs.bm25.Bm25.new.Statement.{statement}
 use Rattle.sim.proofs.bm25.Bm25.new.Tie as tie
 

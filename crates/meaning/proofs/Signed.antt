@@ -1,11 +1,12 @@
 -- The order of ℤ, beyond `lib.Signed`. Assumes nothing.
 use mathlib.Core.Path.{_≡_, refl, sym, ap, subst}
-use mathlib.Core.Logic.{_⊎_, inl, inr}
+use mathlib.Core.Logic.{_⊎_}
 use mathlib.Core.Bool.{Bool, true, false, not}
 use native.Mathlib.Nat.{le-trans, le-antisymm, le-of-lt}
 use lib.Dec.{T, leb→le, le→leb, ltb→lt, lt→ltb, nleb→lt}
 use lib.IntN.{ℤ, pos, negsuc}
 use lib.Signed.{ltZ, leZ, _≤ℤ_, _<ℤ_, ltZ-no}
+use Rattle.meaning.proofs.Tests.{decided}
 
 le-trans′ : (a b c : ℤ) → T (leZ a b) → T (leZ b c) → T (leZ a c)
 le-trans′ (pos a) (pos b) (pos c) h k = le→leb a c (le-trans (leb→le a b h) (leb→le b c k))
@@ -56,9 +57,5 @@ lt-yes a b e = record { lt = subst T (sym e) tt }
 pub lt-no : (a b : ℤ) → ltZ a b ≡ false → b ≤ℤ a
 lt-no a b e = ltZ-no (subst (λ (z : Bool). T (not z)) (sym e) tt)
 
-told : (b : Bool) → (b ≡ true) ⊎ (b ≡ false)
-told true = inl refl
-told false = inr refl
-
 pub before-or : (a b : ℤ) → (ltZ a b ≡ true) ⊎ (ltZ a b ≡ false)
-before-or a b = told (ltZ a b)
+before-or a b = decided (ltZ a b)
