@@ -1,6 +1,7 @@
 //! The harness: cases in the form in which document 01 lends them, and the unchanged Rust source
 //! as the judge of what is right for them.
 pub mod answer;
+pub mod boundary;
 pub mod case;
 pub mod catalogue;
 pub mod damage;

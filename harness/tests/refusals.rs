@@ -196,3 +196,15 @@ fn the_lowest_number_is_told() {
     let late = boolean(0, [match_none().must(), term(9).must()]);
     assert_eq!(asked(late), 8);
 }
+
+/// The number that stands beside each built case is the judge's, where the caller's are not asked.
+#[test]
+fn every_boundary() {
+    for (at, (number, case)) in harness::boundary::all().into_iter().enumerate() {
+        let told = match refusal(&case) {
+            11.. => 0,
+            told => told,
+        };
+        assert_eq!(told, number, "case {at}: {case:?}");
+    }
+}

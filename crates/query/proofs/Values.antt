@@ -1,20 +1,18 @@
 -- Refusals 8 and 10: how the code comes to them, record by record. Assumes nothing.
 use mathlib.Core.Path.{_≡_, refl, sym}
-use mathlib.Core.Bool.{Bool, true, false, not, _||_, _&&_}
+use mathlib.Core.Bool.{Bool, true, false, not, _&&_}
 use mathlib.Core.List.{List}
 use mathlib.Core.Option.{none}
-use Prim.Native.Nat.{ℕ, zero, suc, _+_, _*_, _/_, _%_, _≤_, _<_}
-use native.Mathlib.Omega.{arith}
-use lib.Dec.{eqb, leb, ltb}
-use lib.ListN.{length, getD}
-use borrow.Author.Tests.{lt-ltb, le-ltb, eq-eqb, ne-eqb, le-leb, lt-leb}
-use Rattle.meaning.specs.Lent.{Index, joined}
-use Rattle.meaning.specs.Range.{NumericRange}
+use Prim.Native.Nat.{ℕ, _+_, _*_, _≤_, _<_}
+use lib.Dec.{eqb, leb}
+use lib.ListN.{getD}
+use borrow.Author.Tests.{eq-eqb, ne-eqb, le-leb, lt-leb}
+use Rattle.meaning.specs.Lent.{Index}
 use Rattle.meaning.specs.Query.{kindOf, recordCount, recordKind, recordValue, rangeOf}
 use Rattle.meaning.specs.QueryRefusals.{unusedFrom, wrongRange, otherField, wrongKind, wrongValues, wrong8, wrong10}
 use Rattle.query.specs.Read.{Lends}
-use Rattle.query.specs.Inner.{termWrong, phraseWrong, unboundedSet, boostWrong, phraseTermWrong, withoutPositions}
-use Rattle.query.proofs.Below.{any-false, any-true, or-left, or-right}
+use Rattle.query.specs.Inner.{termWrong, phraseWrong, boostWrong, phraseTermWrong, withoutPositions}
+use Rattle.query.proofs.Below.{any-false, any-true}
 
 -- ---- unused values
 abbrev pub usedAt : List ℕ → ℕ → ℕ → ℕ → Bool
@@ -49,36 +47,6 @@ module _ (leaves q : List ℕ) (r j leaf : ℕ) (is : leaf ≡ recordValue q (r 
 
   pub other-same : getD leaves (4 * leaf) 0 ≡ recordValue q r 0 → fieldOther leaves q r j ≡ false
   other-same h = rw (← is, eq-eqb (getD leaves (4 * leaf) 0) (recordValue q r 0) h)
-
--- ---- an end of a range
-pub bounded : (kind low high : ℕ) → (kind ≡ 0 → ⊥) → false ≡ unboundedSet kind low high
-bounded kind low high h = rw (ne-eqb kind 0 h)
-
-pub low-set : (kind low high : ℕ) → kind ≡ 0 → (low ≡ 0 → ⊥) → true ≡ unboundedSet kind low high
-low-set kind low high e h =
-    rw (eq-eqb kind 0 e, ne-eqb (joined low high) 0 (λ z. h (omega (arith, z))))
-
-pub high-set : (kind low high : ℕ) → kind ≡ 0 → low ≡ 0 → not (eqb high 0) ≡ unboundedSet kind low high
-high-set kind low zero e f = rw (eq-eqb kind 0 e, eq-eqb (joined low 0) 0 (omega (arith, f)))
-high-set kind low (suc high) e f =
-    rw (eq-eqb kind 0 e, ne-eqb (suc high) 0 (λ z. absurd (omega (arith, z))), ne-eqb (joined low (suc high)) 0 (λ z. absurd (omega (arith, z))))
-
-module _ (ix : Index) (columns : List ℕ) (are : ix .columns ≡ columns) (r : NumericRange) where
-  pub column-absent : length columns ≤ r .column → true ≡ wrongRange ix r
-  unfolding wrongRange
-  column-absent h = rw (are, le-leb (length columns) (r .column) h)
-
-  pub kinds-above : 8 < r .kinds → true ≡ wrongRange ix r
-  unfolding wrongRange
-  kinds-above h = sym (or-left _ _ (or-left _ _ (or-right (leb (length (ix .columns)) (r .column)) (ltb 8 (r .kinds)) (lt-ltb 8 (r .kinds) h))))
-
-  pub lower-set : true ≡ (eqb (r .kinds % 3) 0 && not (eqb (r .lower) 0)) → true ≡ wrongRange ix r
-  unfolding wrongRange
-  lower-set h = sym (or-left _ _ (or-right (leb (length (ix .columns)) (r .column) || ltb 8 (r .kinds)) (eqb (r .kinds % 3) 0 && not (eqb (r .lower) 0)) (sym h)))
-
-  pub upper-left : r .column < length columns → r .kinds ≤ 8 → (eqb (r .kinds % 3) 0 && not (eqb (r .lower) 0)) ≡ false → (eqb (r .kinds / 3) 0 && not (eqb (r .upper) 0)) ≡ wrongRange ix r
-  unfolding wrongRange
-  upper-left h g e = rw (are, lt-leb (length columns) (r .column) h, le-ltb 8 (r .kinds) g, e)
 
 -- ---- 8 in a record, by its kind
 module _ (ix : Index) (fields leaves columns q : List ℕ) (r : ℕ) (l : Lends ix fields leaves columns) where

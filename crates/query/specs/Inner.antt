@@ -8,7 +8,6 @@ use lib.ListN.{length, getD}
 use lib.Ieee.{Float}
 use Rattle.meaning.specs.Below.{anyBelow}
 use Rattle.meaning.specs.Limits.{noMoreDocs, largestBoost}
-use Rattle.meaning.specs.Lent.{joined}
 use Rattle.meaning.specs.Query.{recordKind, recordChildren, recordValue, Kind, childrenFit, Decoded, DecodedClauses, treeOf, Clauses, empty}
 use Rattle.meaning.specs.QueryRefusals.{unusedFrom, carriesAbove, clausesAbove}
 
@@ -51,10 +50,6 @@ anyOtherField leaves q r = anyBelow (recordChildren q r) (λ j. not (eqb (getD l
 -- of a Phrase: its field absent, an unused value not 0, or a leaf of another field
 abbrev pub phraseWrong : List ℕ → List ℕ → List ℕ → ℕ → Bool
 phraseWrong fields leaves q r = leb (length fields / 3) (recordValue q r 0) || unusedFrom q r 1 || anyOtherField leaves q r
-
--- of a Range's end: unbounded, and not 0
-abbrev pub unboundedSet : ℕ → ℕ → ℕ → Bool
-unboundedSet kind low high = eqb kind 0 && not (eqb (joined low high) 0)
 
 -- of a Boost: its pattern above 65,536's, or an unused value not 0
 abbrev pub boostWrong : List ℕ → ℕ → Bool

@@ -4,7 +4,7 @@ ghost use mathlib.Core.Path.{_≡_};
 ghost use mathlib.Core.Bool.{true, false, cond};
 ghost use mathlib.Core.List.{[], _∷_};
 ghost use mathlib.Core.Option.{some};
-ghost use Prim.Native.Nat.{ℕ, _+_, _*_, _/_, _≤_, _<_, max};
+ghost use Prim.Native.Nat.{_+_, _*_, _/_, _≤_, _<_, max};
 ghost use lib.Dec.{eqb};
 ghost use lib.ListN.{length, getD};
 ghost use Rattle.meaning.specs.Below.{largestBelow};
@@ -16,13 +16,9 @@ ghost use Rattle.meaning.specs.Score.{passed};
 ghost use Rattle.meaning.specs.QueryRefusals.{wrong7, wrong8, wrong9, wrong10, unusedFrom, wrongRange, wrongValues};
 ghost use Rattle.meaning.specs.CallRefusals.{rangeRecords, statesNeeded, rangesNeeded, largestIn, startsNeeded};
 ghost use Rattle.query.specs.Read.{recordOf, Lends, Boosts, PhraseFields, PhraseRuns};
-ghost use Rattle.query.specs.Inner.{endOf, endOfClauses, fitting, endBelowLimit, clausesBelowLimit, termWrong, phraseWrong, anyOtherField, unboundedSet, boostWrong, phraseTermWrong, withoutPositions};
-
-fn wide(x: u32) -> usize
-    ensures { λ r. ⌜ r ≡ x ⌝ }
-{
-    x as usize
-}
+ghost use Rattle.query.specs.Inner.{endOf, endOfClauses, fitting, endBelowLimit, clausesBelowLimit, termWrong, phraseWrong, anyOtherField, boostWrong, phraseTermWrong, withoutPositions};
+use index::columns::wrong_range;
+use index::wide;
 
 // How many whole records the query has.
 pub fn record_count(q: &[u32]) -> usize
@@ -296,41 +292,11 @@ fn wrong_phrase(q: &[u32], fields: &[u32], leaves: &[u32], at: usize) -> bool
     other_field(q, leaves, at)
 }
 
-// An end that is unbounded, and not 0.
-fn unbounded_set(kind: u32, low: u32, high: u32) -> bool
-    ensures { λ r. ⌜ r ≡ unboundedSet kind low high ⌝ }
+// A 64-bit pattern from its low and its high half.
+fn joined(low: u32, high: u32) -> u64
+    ensures { λ r. ⌜ r ≡ joined low high ⌝ }
 {
-    if kind != 0 {
-        return false;
-    }
-    if low != 0 {
-        return true;
-    }
-    high != 0
-}
-
-// The Range entry's 8: the column absent, the kinds above 8, or an unbounded end not 0.
-pub fn wrong_range(
-    columns: &[u32],
-    column: u32,
-    kinds: u32,
-    lower_low: u32,
-    lower_high: u32,
-    upper_low: u32,
-    upper_high: u32,
-) -> bool
-    ensures { λ r. ⌜ ((ix : Index) → ix .columns ≡ now (columns .entry) → r ≡ wrongRange ix (record { column = column; kinds = kinds; lower = joined «lower_low» «lower_high»; upper = joined «upper_low» «upper_high» })) ⌝ }
-{
-    if columns.len() <= wide(column) {
-        return true;
-    }
-    if 8 < kinds {
-        return true;
-    }
-    if unbounded_set(kinds % 3, lower_low, lower_high) {
-        return true;
-    }
-    unbounded_set(kinds / 3, upper_low, upper_high)
+    low as u64 + high as u64 * 0x1_0000_0000
 }
 
 fn wrong_range_record(q: &[u32], columns: &[u32], at: usize) -> bool
@@ -341,10 +307,8 @@ fn wrong_range_record(q: &[u32], columns: &[u32], at: usize) -> bool
         columns,
         value(q, at, 0),
         value(q, at, 1),
-        value(q, at, 2),
-        value(q, at, 3),
-        value(q, at, 4),
-        value(q, at, 5),
+        joined(value(q, at, 2), value(q, at, 3)),
+        joined(value(q, at, 4), value(q, at, 5)),
     )
 }
 

@@ -5,6 +5,7 @@ mod collector;
 mod doc_values;
 mod ieee754;
 mod phrase;
+mod refusal;
 mod sim;
 
 use std::io;
@@ -20,13 +21,22 @@ pub fn all() -> Vec<Recorded> {
         ("doc_values_vectors", doc_values::text()),
         ("phrase_vectors", phrase::text()),
         ("collector_vectors", collector::text()),
+        ("refusal_vectors", refusal::text()),
     ]
 }
 
-/// Writes each stdout into its crate's folder.
+/// The files that programs read, by their paths below the folder of crates.
+pub fn data() -> Vec<(&'static str, Vec<u8>)> {
+    vec![("refusal_vectors/data/cases.rec", refusal::data())]
+}
+
+/// Writes each stdout, and each file that a program reads, into its crate's folder.
 pub fn write(crates: &Path) -> io::Result<()> {
     for (name, text) in all() {
         std::fs::write(crates.join(name).join("stdout"), text)?;
+    }
+    for (path, bytes) in data() {
+        std::fs::write(crates.join(path), bytes)?;
     }
     Ok(())
 }

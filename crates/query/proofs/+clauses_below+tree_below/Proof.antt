@@ -22,7 +22,7 @@ use Rattle.query.proofs.kind.Reads as kind-reads
 use Rattle.query.proofs.occurrence.Reads as occurrence-reads
 use Rattle.query.proofs.passed_on.Reads as passed-on-reads
 use Rattle.query.proofs.value.Reads as value-reads
-use Rattle.query.proofs.wide.Reads as wide-reads
+use Rattle.index.proofs.wide.Reads as wide-reads
 use Rattle.query.proofs.+clauses_below+tree_below.{statement}
 use Rattle.query.proofs.+clauses_below+tree_below.Tie.{close}
 
