@@ -1,0 +1,3 @@
+-- Demand 3 as theorems about the definitions, each after the laws that it uses.
+pub mod Rising
+pub mod Pages
