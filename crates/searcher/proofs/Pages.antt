@@ -21,17 +21,8 @@ use Rattle.meaning.specs.IndexRefusals.{wrong1}
 use Rattle.meaning.specs.Entries.{orderConditions, pageRefusal, pageAnswer, pageDocuments, pageScores}
 use Rattle.doc_values.proofs.Lists.{decided}
 use Rattle.searcher.specs.Demands.{Accepts, Call, refusalOf, answerOf, givenBy, nextBy, documentsBy, scoresBy, answered, Follow, joinedDocuments, joinedScores, placesOf, lastNext}
-use Rattle.searcher.proofs.Rising.{Rises, full-rises, from-all, from-next, none-next, next-none}
-
-map-take {ℓ ℓ′} : {A : Type ℓ} {B : Type ℓ′} (f : A → B) (n : ℕ) (l : List A) → map f (take n l) ≡ take n (map f l)
-map-take f zero l = refl
-map-take f (suc n) [] = refl
-map-take f (suc n) (x ∷ xs) = ap (λ r. f x ∷ r) (map-take f n xs)
-
-map-drop {ℓ ℓ′} : {A : Type ℓ} {B : Type ℓ′} (f : A → B) (n : ℕ) (l : List A) → map f (drop n l) ≡ drop n (map f l)
-map-drop f zero l = refl
-map-drop f (suc n) [] = refl
-map-drop f (suc n) (x ∷ xs) = map-drop f n xs
+use Rattle.searcher.proofs.Lists.{map-take, map-drop}
+use Rattle.searcher.proofs.Rising.{full-rises, from-all, from-next, none-next, next-none}
 
 -- an accepted index has at most 1,048,576 documents
 pub accepted-few : (ix : Index) (q : List ℕ) → Accepts ix q → ix .maxDoc ≤ maxDocuments

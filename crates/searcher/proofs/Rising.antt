@@ -1,4 +1,4 @@
--- Lists whose documents rise, and what is at or after the next of them. Assumes nothing.
+-- Lists of matches whose documents rise, and what is at or after the next of them. Assumes nothing.
 use mathlib.Core.Path.{_≡_, refl, sym, ap, _∙_, subst}
 use mathlib.Core.Logic.{inl, inr}
 use mathlib.Core.Bool.{Bool, true, false, cond, _&&_}
@@ -16,6 +16,7 @@ use Rattle.meaning.specs.Query.{Tree}
 use Rattle.meaning.specs.FullList.{ScoreDoc, matches, fullList}
 use Rattle.meaning.specs.Pages.{fromTarget, firstDoc}
 use Rattle.doc_values.proofs.Lists.{decided, list-taken, list-left}
+use Rattle.searcher.proofs.Lists.{All}
 
 -- each document is above the one before it; the first is not below b, and all are below e
 abbrev pub Rises : ℕ → ℕ → List ScoreDoc → Type 0
@@ -26,13 +27,20 @@ pub rises-to : (b e : ℕ) (list : List ScoreDoc) → Rises b e list → b ≤ e
 rises-to b e [] r = r
 rises-to b e (h ∷ hs) r = omega (arith, r .0, rises-to (suc (h .doc)) e hs (r .1))
 
-rises-later : (b e : ℕ) (list : List ScoreDoc) → Rises b e list → Rises b (suc e) list
-rises-later b e [] r = omega (arith, r)
-rises-later b e (h ∷ hs) r = (r .0, rises-later (suc (h .doc)) e hs (r .1))
+pub rises-below : (b e e′ : ℕ) (list : List ScoreDoc) → e ≤ e′ → Rises b e list → Rises b e′ list
+rises-below b e e′ [] l r = omega (arith, l, r)
+rises-below b e e′ (h ∷ hs) l r = (r .0, rises-below (suc (h .doc)) e e′ hs l (r .1))
 
-rises-last : (b e : ℕ) (list : List ScoreDoc) (h : ScoreDoc) → h .doc ≡ e → Rises b e list → Rises b (suc e) (list ++ (h ∷ []))
-rises-last b e [] h p r = (omega (arith, p, r), omega (arith, p))
-rises-last b e (g ∷ gs) h p r = (r .0, rises-last (suc (g .doc)) e gs h p (r .1))
+pub rises-last : (b e : ℕ) (list : List ScoreDoc) (h : ScoreDoc) → e ≤ h .doc → Rises b e list → Rises b (suc (h .doc)) (list ++ (h ∷ []))
+rises-last b e [] h l r = (omega (arith, l, r), omega arith)
+rises-last b e (g ∷ gs) h l r = (r .0, rises-last (suc (g .doc)) e gs h l (r .1))
+
+pub rises-each : (b e : ℕ) (list : List ScoreDoc) → Rises b e list → All (λ (h : ScoreDoc). b ≤ h .doc) list
+rises-each b e list r = go b list (omega arith) r
+  where
+    go : (s : ℕ) (l : List ScoreDoc) → b ≤ s → Rises s e l → All (λ (h : ScoreDoc). b ≤ h .doc) l
+    go s [] h r = tt
+    go s (g ∷ gs) h r = (omega (arith, h, r .0), go (suc (g .doc)) gs (omega (arith, h, r .0)) (r .1))
 
 -- ---- the full list
 rises-listed : (f : ℕ → ScoreDoc) → ((d : ℕ) → f d .doc ≡ d) → (p : ℕ → Bool) (n : ℕ) → Rises 0 n (map f (listBelow n p))
@@ -41,8 +49,8 @@ rises-listed f i p zero = omega arith
 rises-listed f i p (suc n) = elim (decided (p n)) [
   | inl e ↦
       subst (λ (l : List ScoreDoc). Rises 0 (suc n) l) (sym (ap (map f) (list-taken p n e) ∙ map-append f (listBelow n p) (n ∷ [])))
-      (rises-last 0 n (map f (listBelow n p)) (f n) (i n) (rises-listed f i p n))
-  | inr e ↦ subst (λ (l : List ScoreDoc). Rises 0 (suc n) l) (sym (ap (map f) (list-left p n e))) (rises-later 0 n (map f (listBelow n p)) (rises-listed f i p n))
+      (subst (λ (m : ℕ). Rises 0 (suc m) (map f (listBelow n p) ++ (f n ∷ []))) (i n) (rises-last 0 n (map f (listBelow n p)) (f n) (omega (arith, i n)) (rises-listed f i p n)))
+  | inr e ↦ subst (λ (l : List ScoreDoc). Rises 0 (suc n) l) (sym (ap (map f) (list-left p n e))) (rises-below 0 n (suc n) (map f (listBelow n p)) (omega arith) (rises-listed f i p n))
 ]
 
 pub full-rises : (ix : Index) (t : Tree) → Rises 0 (ix .maxDoc) (fullList ix t)
