@@ -3,3 +3,5 @@ pub mod Lists
 pub mod Rising
 pub mod Pages
 pub mod Ranked
+pub mod Rankable
+pub mod Search
