@@ -1,0 +1,1 @@
+// The entries that the sale office calls; so far the theorems about what they answer, in proofs/.
