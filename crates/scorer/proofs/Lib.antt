@@ -10,3 +10,4 @@ pub mod LeafLaws
 pub mod PhraseLaws
 pub mod Seeks
 pub mod Stands
+pub mod Example
