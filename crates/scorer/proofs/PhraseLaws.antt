@@ -11,7 +11,7 @@ use native.Mathlib.Omega.{arith}
 use lib.Dec.{ltb}
 use lib.IntN.{ℤ}
 use lib.ListN.{getD, length, take, drop, set, length-append, length-take, length-drop, length-set}
-use lib.Seq.{take-at, drop-at, take-length, drop-length, getD-append-add, take-suc-set}
+use lib.Seq.{take-at, drop-at, take-length, drop-length, getD-append-add, getD-set-same, getD-set-other, take-suc-set}
 use borrow.Author.Tests.{ltb-false, ltb-true, lt-ltb, le-ltb}
 use Rattle.meaning.specs.Below.{largestBelow, listTo}
 use Rattle.meaning.specs.CallRefusals.{largestIn}
@@ -469,6 +469,10 @@ module _ {ix : Index} {f : ℕ} {ts : List PhraseTerm} {s : State} {st : List �
           worked-out = λ d q. let z : b ≡ d = omega arith in subst (λ (y : ℕ). n ≡ phraseFrequency ix ts y) z e;
         };
       }
+
+-- the document + 1 of the frequency that is stored
+pub stored-at : (y : List ℕ) (v n : ℕ) → 24 ≤ length y → getD (set (set y 16 v) 17 n) 16 0 ≡ v
+stored-at y v n l = getD-set-other (set y 16 v) 17 16 n 0 (λ e. omega arith) ∙ getD-set-same y 16 v 0 (omega arith)
 
 pub moved-start : {postings positions : List ℕ} {ix : Index} {places f : ℕ} {ts : List PhraseTerm} {s : State} {w st : List ℕ} {b : ℕ} → PhraseHeld postings positions ix places f ts s w st b → PhraseMoved ix f ts s st b
 moved-start {s = s} {w = w} h = record { state = s; behind = w; words = h .words; cached = refl; constant = refl; weight = refl; scores = refl; is = h .is }

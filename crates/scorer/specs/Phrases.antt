@@ -163,5 +163,6 @@ pub record PhraseMoved (ix : Index) (f : ℕ) (ts : List PhraseTerm) (s : State)
   pub scores : state .scores ≡ s .scores
   pub is : PhraseIs ix f ts state behind b
 
+-- .. and the frequency that is stored is that of the document where the phrase stands
 abbrev pub PhrasePost : List ℕ → List ℕ → List ℕ → ℕ → ℕ → List ℕ → Type 0
-PhrasePost postings positions st target r st′ = (ix : Index) (places f : ℕ) (ts : List PhraseTerm) (s : State) (w : List ℕ) → PhraseHeld postings positions ix places f ts s w st target → First (λ d. ltb 0 (phraseFrequency ix ts d)) target r × PhraseMoved ix f ts s st′ r
+PhrasePost postings positions st target r st′ = (ix : Index) (places f : ℕ) (ts : List PhraseTerm) (s : State) (w : List ℕ) → PhraseHeld postings positions ix places f ts s w st target → First (λ d. ltb 0 (phraseFrequency ix ts d)) target r × PhraseMoved ix f ts s st′ r × (r < noMoreDocs → getD st′ 16 0 ≡ r + 1)

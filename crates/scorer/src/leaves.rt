@@ -150,8 +150,8 @@ fn frequency(
     phrase::frequency(positions, &out[..n], a, b)
 }
 
-// The first document at or after the target where a phrase stands.
-fn seek_phrase(
+// The first document at or after the target where a phrase stands; its frequency there is stored.
+pub fn seek_phrase(
     st: &mut [u32],
     postings: &[u32],
     positions: &[u32],

@@ -1,5 +1,5 @@
 // Scorers over a lent state: the words of a node are its record of 24 and then its children's parts, one after the other.
-mod leaves;
+pub mod leaves;
 mod run;
 
 ghost use Prim.Native.Nat.{ℕ, _+_, _≤_, _<_};

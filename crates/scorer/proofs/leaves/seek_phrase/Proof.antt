@@ -1,4 +1,4 @@
-use Rattle.scorer.proofs.PhraseLaws.{moved-start, moved-long, leapt-behind, moved-terms, moved-leapt, moved-later, moved-worked, held-there, held-frequency, phrase-top, phrase-hit, phrase-more}
+use Rattle.scorer.proofs.PhraseLaws.{moved-start, moved-long, leapt-behind, moved-terms, moved-leapt, moved-later, moved-worked, stored-at, held-there, held-frequency, phrase-top, phrase-hit, phrase-more}
 use Rattle.scorer.proofs.Loops.{Lengths, Going, going-start}
 use Rattle.scorer.proofs.Children.{back-length}
 use Rattle.weight.specs.State.{State}
@@ -61,7 +61,7 @@ same-length-3 c = (c .before .before .before .before .before) .loop .inv .0 .b-s
 
 -- src/leaves.rt:156:13
 returns : tie.Need-returns Inv-loop μ-loop
-returns c = let a = (c .before .before .before .before .before) .loop in let g = (c .before .before .before) .leapfrog in λ ix p f ts v w h. let i = a .inv .2 ix p f ts v w h in let q = g .ensures ix ts (moved-terms (i .held) (h .accepted) (h .postings-are) (held-there h)) in (phrase-top (i .lo) (i .before) q (c .if1 .taken), moved-leapt (i .held) (g .result) (g .last .0) (q .are))
+returns c = let a = (c .before .before .before .before .before) .loop in let g = (c .before .before .before) .leapfrog in λ ix p f ts v w h. let i = a .inv .2 ix p f ts v w h in let q = g .ensures ix ts (moved-terms (i .held) (h .accepted) (h .postings-are) (held-there h)) in (phrase-top (i .lo) (i .before) q (c .if1 .taken), moved-leapt (i .held) (g .result) (g .last .0) (q .are), λ k. absurd (omega (arith, c .if1 .taken)))
 
 -- src/leaves.rt:158:27
 sub-frequency : tie.Need-sub-frequency Inv-loop μ-loop
@@ -117,7 +117,7 @@ same-length-6 c = let a = (c .before .before .before .before .before .before .be
 
 -- src/leaves.rt:164:13
 returns-2 : tie.Need-returns-2 Inv-loop μ-loop
-returns-2 c = let s = (c .before .before .before .before .before .before .before .before .before .before .before .before .before .before .before .before .before) in let P = s .pre .1 in let a = (c .before .before .before .before .before .before .before .before .before .before .before .before .before) .loop in let i = a .inv .2 (P .0) (P .1) (P .2) (P .3) (P .4) (P .5) (P .8) in let g = (c .before .before .before .before .before .before .before .before .before .before .before) .leapfrog in let x = (c .before .before .before) .frequency in let q = g .ensures (P .0) (P .3) (moved-terms (i .held) (P .8 .accepted) (P .8 .postings-are) (held-there (P .8))) in let d : g .result < noMoreDocs = omega (arith, q .top, (c .before .before .before .before .before .before .before .before) .if1 .left) in λ ix p f ts v w h. let i = a .inv .2 ix p f ts v w h in let q = g .ensures ix ts (moved-terms (i .held) (h .accepted) (h .postings-are) (held-there h)) in let m = moved-leapt (i .held) (g .result) (g .last .0) (q .are) in let e = x .ensures ix p f ts (g .result) (held-frequency h (g .result) _ (rw (leapt-behind (i .held) (g .last .0) _ refl) (q .stand d))) in (phrase-hit (i .lo) (i .before) q (x .result) e (c .if2 .left), moved-worked m (x .result) e)
+returns-2 c = let s = (c .before .before .before .before .before .before .before .before .before .before .before .before .before .before .before .before .before) in let P = s .pre .1 in let a = (c .before .before .before .before .before .before .before .before .before .before .before .before .before) .loop in let i = a .inv .2 (P .0) (P .1) (P .2) (P .3) (P .4) (P .5) (P .8) in let g = (c .before .before .before .before .before .before .before .before .before .before .before) .leapfrog in let x = (c .before .before .before) .frequency in let q = g .ensures (P .0) (P .3) (moved-terms (i .held) (P .8 .accepted) (P .8 .postings-are) (held-there (P .8))) in let d : g .result < noMoreDocs = omega (arith, q .top, (c .before .before .before .before .before .before .before .before) .if1 .left) in λ ix p f ts v w h. let i = a .inv .2 ix p f ts v w h in let q = g .ensures ix ts (moved-terms (i .held) (h .accepted) (h .postings-are) (held-there h)) in let m = moved-leapt (i .held) (g .result) (g .last .0) (q .are) in let e = x .ensures ix p f ts (g .result) (held-frequency h (g .result) _ (rw (leapt-behind (i .held) (g .last .0) _ refl) (q .stand d))) in (phrase-hit (i .lo) (i .before) q (x .result) e (c .if2 .left), moved-worked m (x .result) e, λ k. stored-at (take 24 (a .st) ++ (g .last .0 ++ drop (length (a .st) - 24) (drop 24 (a .st)))) (g .result + 1) (x .result) (moved-long m))
 
 pub seek-phrase-spec : {M : Type 1} → statement M
 seek-phrase-spec =
