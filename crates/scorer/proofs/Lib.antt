@@ -9,3 +9,4 @@ pub mod Nodes
 pub mod LeafLaws
 pub mod PhraseLaws
 pub mod Seeks
+pub mod Stands

@@ -116,6 +116,61 @@ joining-recached afterwards rs s c p = p
 joined-words : (s : State) (rest st w′ w : List ℕ) (c : ℕ) → st ≡ wordsOf s ++ rest → w′ ≡ w → set (take 24 st ++ (w′ ++ drop (length st - 24) (drop 24 st))) 2 c ≡ wordsOf (cachedAt s c) ++ w
 joined-words s rest st w′ w c e f = let size : length st - 24 ≡ length rest = omega (arith, ap length e) in rw (size, e, drop-length, append-nil, f)
 
+rejoined-words : (s : State) (rest st w′ w : List ℕ) → st ≡ wordsOf s ++ rest → w′ ≡ w → take 24 st ++ (w′ ++ drop (length st - 24) (drop 24 st)) ≡ wordsOf s ++ w
+rejoined-words s rest st w′ w e f = let size : length st - 24 ≡ length rest = omega (arith, ap length e) in rw (size, e, drop-length, append-nil, f)
+
+-- ---- a Boolean's children, which can be asked up to the document where it stands
+module _ (E : Lent) (ix : Index) (p : ℕ) (k o : ℕ) (st : List ℕ) (t c : ℕ) (ec : c ≡ getD st 2 0) (near : c ≤ t + 1) where
+  pub boolean-children : (re oe : ℕ) → re ≡ getD st 4 0 → oe ≡ getD st 5 0 → (x : Option Float) (j : Joining) (need : ℕ) (rs os ps : Scorers) → NodeHeld E ix p (boolean x j need rs os ps) k o st t → BooleanHeld E ix p rs os ps (k - 1) re oe (take (length st - 24) (drop 24 st)) t
+  unfolding Ok Sound
+  boolean-children re oe er eo x j need rs os ps h =
+      let q = h .ok in
+      let rest : List ℕ = q .1 ++ (q .2 ++ q .3) in
+      let d : q .0 .cached ≤ t + 1 = rw (ec, q .4) at near in
+      let m : max t (q .0 .cached - 1) ≡ t = omega arith in
+      let size : length st - 24 ≡ length rest = omega (arith, ap length (q .4)) in
+      let a : length (q .1) ≡ sizesOf rs = oks-length ix (E .ranges) rs (k - 1) (q .1) (max t (q .0 .cached - 1)) (q .9) in
+      let b : length (q .2) ≡ sizesOf os = oks-length ix (E .ranges) os (k - 1) (q .2) (max t (q .0 .cached - 1)) (q .10) in
+      let r4 : re ≡ q .0 .requiredEnd = rw (er, q .4) in
+      let r5 : oe ≡ q .0 .optionalEnd = rw (eo, q .4) in
+      record {
+        w = q .1 ++ q .2;
+        z = q .3;
+        is = rw (size, q .4, take-length) (sym (append-assoc (q .1) (q .2) (q .3)));
+        optional-end = omega (arith, r5, q .7 .optional-end, a, b, length-append (q .1) (q .2));
+        lead = record {
+          x = q .1;
+          v = q .2;
+          is = refl;
+          required-end = r4 ∙ q .7 .required-end;
+          required = record { lends = h .lends; sounds = h .sound .0; oks = rw m at (q .9) };
+          optional = record { lends = h .lends; sounds = h .sound .1; oks = rw m at (q .10) };
+        };
+        prohibited = record { lends = h .lends; sounds = h .sound .2; oks = rw m at (q .11) };
+      }
+
+  -- its words with its children's put back, where they have been asked up to that document
+  pub boolean-rejoined : (re oe : ℕ) (w′ : List ℕ) (x : Option Float) (j : Joining) (need : ℕ) (rs os ps : Scorers) → NodeHeld E ix p (boolean x j need rs os ps) k o st t → BooleanHeld E ix p rs os ps (k - 1) re oe w′ t → Ok ix (E .ranges) (boolean x j need rs os ps) k o (take 24 st ++ (w′ ++ drop (length st - 24) (drop 24 st))) t
+  unfolding Ok
+  boolean-rejoined re oe w′ x j need rs os ps h v =
+      let q = h .ok in
+      let d : q .0 .cached ≤ t + 1 = rw (ec, q .4) at near in
+      let b : max t (q .0 .cached - 1) ≡ t = omega arith in
+      let words : w′ ≡ v .lead .x ++ (v .lead .v ++ v .z) = v .is ∙ ap (λ (l : List ℕ). l ++ v .z) (v .lead .is) ∙ append-assoc (v .lead .x) (v .lead .v) (v .z) in (
+        q .0,
+        v .lead .x,
+        v .lead .v,
+        v .z,
+        rejoined-words (q .0) (q .1 ++ (q .2 ++ q .3)) st w′ (v .lead .x ++ (v .lead .v ++ v .z)) (q .4) words,
+        q .5,
+        q .6,
+        q .7,
+        q .8,
+        rw b (v .lead .required .oks),
+        rw b (v .lead .optional .oks),
+        rw b (v .prohibited .oks),
+      )
+
 -- ---- advance
 module _ (E : Lent) (ix : Index) (p : ℕ) (k o : ℕ) (st : List ℕ) (t c : ℕ) (ec : c ≡ getD st 2 0) where
   pub node-cached : (T : Scorer) → NodeHeld E ix p T k o st t → t < c → First (matches ix T) t (c - 1)
@@ -158,32 +213,7 @@ module _ (E : Lent) (ix : Index) (p : ℕ) (k o : ℕ) (st : List ℕ) (t c : �
 
     module _ (is-3 : kind ≡ 3) (n : ℕ) (en : n ≡ getD st 3 0) (re oe : ℕ) (er : re ≡ getD st 4 0) (eo : oe ≡ getD st 5 0) where
       children-held : (x : Option Float) (j : Joining) (need : ℕ) (rs os ps : Scorers) → NodeHeld E ix p (boolean x j need rs os ps) k o st t → BooleanHeld E ix p rs os ps (k - 1) re oe (take (length st - 24) (drop 24 st)) t
-      unfolding Ok Sound
-      children-held x j need rs os ps h =
-          let q = h .ok in
-          let rest : List ℕ = q .1 ++ (q .2 ++ q .3) in
-          let d : q .0 .cached ≤ t = rw (ec, q .4) at due in
-          let m : max t (q .0 .cached - 1) ≡ t = omega arith in
-          let size : length st - 24 ≡ length rest = omega (arith, ap length (q .4)) in
-          let a : length (q .1) ≡ sizesOf rs = oks-length ix (E .ranges) rs (k - 1) (q .1) (max t (q .0 .cached - 1)) (q .9) in
-          let b : length (q .2) ≡ sizesOf os = oks-length ix (E .ranges) os (k - 1) (q .2) (max t (q .0 .cached - 1)) (q .10) in
-          let r4 : re ≡ q .0 .requiredEnd = rw (er, q .4) in
-          let r5 : oe ≡ q .0 .optionalEnd = rw (eo, q .4) in
-          record {
-            w = q .1 ++ q .2;
-            z = q .3;
-            is = rw (size, q .4, take-length) (sym (append-assoc (q .1) (q .2) (q .3)));
-            optional-end = omega (arith, r5, q .7 .optional-end, a, b, length-append (q .1) (q .2));
-            lead = record {
-              x = q .1;
-              v = q .2;
-              is = refl;
-              required-end = r4 ∙ q .7 .required-end;
-              required = record { lends = h .lends; sounds = h .sound .0; oks = rw m at (q .9) };
-              optional = record { lends = h .lends; sounds = h .sound .1; oks = rw m at (q .10) };
-            };
-            prohibited = record { lends = h .lends; sounds = h .sound .2; oks = rw m at (q .11) };
-          }
+      children-held x j need rs os ps h = boolean-children E ix p k o st t c ec (omega arith) re oe er eo x j need rs os ps h
 
       pub node-boolean : (T : Scorer) → NodeHeld E ix p T k o st t → (0 < k) × ((rs : Scorers) × (os : Scorers) × (ps : Scorers) × BooleanHeld E ix p rs os ps (k - 1) re oe (take (length st - 24) (drop 24 st)) t)
       unfolding Ok
