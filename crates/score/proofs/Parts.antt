@@ -1,0 +1,158 @@
+-- The parts of a node's children, one after the other: what is read at a place, and a part put back. Assumes nothing.
+use mathlib.Core.Path.{_≡_, refl, sym, ap, subst, _∙_}
+use mathlib.Core.Logic.{_⊎_, inl, inr, ⊎-elim}
+use mathlib.Core.Bool.{Bool, true, false, cond}
+use mathlib.Core.Bool.{false≢true}
+use mathlib.Core.List.{List, [], _∷_, _++_, append-assoc, append-nil}
+use Prim.Native.Nat.{ℕ, zero, suc, _+_, _-_, _*_, _≤_, _<_, max}
+use native.Mathlib.Nat.{le-refl}
+use native.Mathlib.Decide.{decLt}
+use native.Mathlib.Omega.{arith}
+use lib.ListN.{getD, length, take, drop, length-append, length-take, length-drop}
+use lib.Seq.{take-at, drop-at, getD-append-add}
+use Rattle.meaning.specs.Lent.{Index}
+use Rattle.weight.specs.ScorerTree.{Scorer, leaf, boolean, Scorers, end, more}
+use Rattle.weight.specs.State.{State, wordsOf, sizeOf}
+use Rattle.weight.specs.Held.{Cache, Ok, Oks}
+use Rattle.scorer.proofs.Bounds.{leaf-sizes, ok-length, ok-long}
+use Rattle.score.specs.Words.{ChildThere}
+
+pub cmp : (a b : ℕ) → (a < b) ⊎ (b ≤ a)
+cmp a b = elim (decLt a b) as (λ _. (a < b) ⊎ (b ≤ a)) [ yes p ↦ inl p | no p ↦ inr (omega arith) ]
+
+-- ---- the record at the head of a part
+pub record Head (T : Scorer) (sc : ℕ) (y : List ℕ) : Type 0 where
+  pub s : State
+  pub w : List ℕ
+  pub is : y ≡ wordsOf s ++ w
+  pub size-is : s .size ≡ sizeOf T
+  pub scores-is : s .scores ≡ sc
+
+pub head : (ix : Index) (ranges : List ℕ) (T : Scorer) (k sc : ℕ) (y : List ℕ) (b : ℕ) → Ok ix ranges T k sc y b → Head T sc y
+unfolding Ok sizeOf
+head ix ranges (leaf l c) k sc y b p = record { s = p .0; w = p .1; is = p .2; size-is = leaf-sizes ix ranges l (p .0) (p .1) (max b (p .0 .cached - 1)) (p .4) .size; scores-is = p .3 }
+head ix ranges (boolean c j need rs os ps) k sc y b p = record { s = p .0; w = p .1 ++ (p .2 ++ p .3); is = p .4; size-is = p .7 .size-is; scores-is = p .5 }
+
+-- ---- a node that matches the document and was asked for none beyond stands at most there
+pub at-most-there : (P : ℕ → Bool) (doc cached : ℕ) → P doc ≡ true → Cache P doc cached → max doc (cached - 1) ≡ doc
+at-most-there P doc cached y h = ⊎-elim (λ l. go l (h doc (le-refl _) l .from) (λ m. h doc (le-refl _) l .before doc (le-refl _) m) (cmp doc (cached - 1))) (λ l. omega arith) (cmp doc cached)
+  where
+    go : doc < cached → doc ≤ cached - 1 → (doc < cached - 1 → P doc ≡ false) → (doc < cached - 1) ⊎ (cached - 1 ≤ doc) → max doc (cached - 1) ≡ doc
+    go l a b (inl m) = absurd (false≢true (sym (b m) ∙ y))
+    go l a b (inr m) = omega arith
+
+-- ---- a place in the list of parts: g are the children that are left
+pub record Zip (ix : Index) (ranges : List ℕ) (k doc : ℕ) (fs g : Scorers) (kids : List ℕ) (at : ℕ) : Type 0 where
+  pub x : List ℕ
+  pub z : List ℕ
+  pub is : kids ≡ x ++ z
+  pub place : at ≡ length x
+  pub rest : Oks ix ranges g k z doc
+  pub back : (z′ : List ℕ) → Oks ix ranges g k z′ doc → Oks ix ranges fs k (x ++ z′) doc
+
+pub zip-start : (ix : Index) (ranges : List ℕ) (k doc : ℕ) (fs : Scorers) (w : List ℕ) → Oks ix ranges fs k w doc → Zip ix ranges k doc fs fs w 0
+zip-start ix ranges k doc fs w p = record { x = []; z = w; is = refl; place = refl; rest = p; back = λ z′ q. q }
+
+pub zip-end : {ix : Index} {ranges : List ℕ} {k doc : ℕ} {fs : Scorers} {g : Scorers} {kids : List ℕ} {at : ℕ} → Zip ix ranges k doc fs g kids at → Oks ix ranges fs k kids doc
+zip-end {ix} {ranges} {k} {doc} {fs} q = subst (λ (l : List ℕ). Oks ix ranges fs k l doc) (sym (q .is)) (q .back (q .z) (q .rest))
+
+pub zip-none : {ix : Index} {ranges : List ℕ} {k doc : ℕ} {fs : Scorers} {kids : List ℕ} {at : ℕ} → Zip ix ranges k doc fs end kids at → length kids ≡ at
+unfolding Oks
+zip-none q = omega (arith, ap length (q .is), length-append (q .x) (q .z), ap length (q .rest), q .place)
+
+-- what is read of the child at a place
+pub record View (ix : Index) (ranges : List ℕ) (k doc : ℕ) (fs : Scorers) (f : Bool) (T : Scorer) (g : Scorers) (kids : List ℕ) (at : ℕ) : Type 0 where
+  pub x : List ℕ
+  pub y : List ℕ
+  pub z : List ℕ
+  pub is : kids ≡ x ++ (y ++ z)
+  pub place : at ≡ length x
+  pub ok : Ok ix ranges T k (cond f 1 0) y doc
+  pub rest : Oks ix ranges g k z doc
+  pub size : getD kids (at + 1) 0 ≡ length y
+  pub size-of : getD kids (at + 1) 0 ≡ sizeOf T
+  pub scores : getD kids (at + 15) 0 ≡ cond f 1 0
+  pub long : 24 ≤ length y
+  pub fits : at + length y ≤ length kids
+  pub back : (ys z′ : List ℕ) → Ok ix ranges T k (cond f 1 0) ys doc → Oks ix ranges g k z′ doc → Oks ix ranges fs k (x ++ (ys ++ z′)) doc
+
+word-at : (x y kids : List ℕ) (at i : ℕ) → kids ≡ x ++ y → at ≡ length x → getD kids (at + i) 0 ≡ getD y i 0
+word-at x y kids at i e a = rw (e, a, getD-append-add)
+
+head-size : {T : Scorer} {sc : ℕ} {y : List ℕ} (h : Head T sc y) (z : List ℕ) → getD (y ++ z) 1 0 ≡ h .s .size
+head-size {y = y} h z = ap (λ (l : List ℕ). getD (l ++ z) 1 0) (h .is)
+
+head-scores : {T : Scorer} {sc : ℕ} {y : List ℕ} (h : Head T sc y) (z : List ℕ) → getD (y ++ z) 15 0 ≡ h .s .scores
+head-scores {y = y} h z = ap (λ (l : List ℕ). getD (l ++ z) 15 0) (h .is)
+
+pub view : {ix : Index} {ranges : List ℕ} {k doc : ℕ} {fs : Scorers} {f : Bool} {T : Scorer} {g : Scorers} {kids : List ℕ} {at : ℕ} → Zip ix ranges k doc fs (more f T g) kids at → View ix ranges k doc fs f T g kids at
+unfolding Oks
+view {ix} {ranges} {k} {doc} {fs} {f} {T} {g} {kids} {at} q =
+    let y : List ℕ = q .rest .0 in
+    let z : List ℕ = q .rest .1 in
+    let e : kids ≡ q .x ++ (y ++ z) = q .is ∙ ap (λ (l : List ℕ). q .x ++ l) (q .rest .2) in
+    let p : Ok ix ranges T k (cond f 1 0) y doc = q .rest .3 in
+    let h : Head T (cond f 1 0) y = head ix ranges T k (cond f 1 0) y doc p in
+    let n : length y ≡ sizeOf T = ok-length ix ranges T k (cond f 1 0) y doc p in
+    let a : at ≡ length (q .x) = q .place in
+    let w : getD kids (at + 1) 0 ≡ h .s .size = word-at (q .x) (y ++ z) kids at 1 e a ∙ head-size h z in
+    let v : getD kids (at + 15) 0 ≡ h .s .scores = word-at (q .x) (y ++ z) kids at 15 e a ∙ head-scores h z in
+    record {
+      x = q .x;
+      y = y;
+      z = z;
+      is = e;
+      place = a;
+      ok = p;
+      rest = q .rest .4;
+      size = w ∙ h .size-is ∙ sym n;
+      size-of = w ∙ h .size-is;
+      scores = v ∙ h .scores-is;
+      long = ok-long ix ranges T k (cond f 1 0) y doc p;
+      fits = omega (arith, ap length e, length-append (q .x) (y ++ z), length-append y z);
+      back = λ ys z′ o r. q .back (ys ++ z′) (ys, z′, refl, o, r);
+    }
+
+module _ {ix : Index} {ranges : List ℕ} {k doc : ℕ} {fs : Scorers} {f : Bool} {T : Scorer} {g : Scorers} {kids : List ℕ} {at : ℕ} (v : View ix ranges k doc fs f T g kids at) where
+  pub child-there : ChildThere kids at
+  child-there = record { long = omega (arith, v .long, v .size); fits = omega (arith, v .fits, v .size) }
+
+  pub zip-next : (e : ℕ) → e ≡ at + getD kids (at + 1) 0 → Zip ix ranges k doc fs g kids e
+  zip-next e stop =
+      record {
+        x = v .x ++ v .y;
+        z = v .z;
+        is = v .is ∙ sym (append-assoc (v .x) (v .y) (v .z));
+        place = omega (arith, stop, v .size, v .place, length-append (v .x) (v .y));
+        rest = v .rest;
+        back = λ z′ r. rw append-assoc (v .back (v .y) z′ (v .ok) r);
+      }
+
+  module _ (e : ℕ) (stop : e ≡ at + getD kids (at + 1) 0) where
+    pub span : e - at ≡ length (v .y)
+    span = omega (arith, v .size)
+
+    pub part : take (e - at) (drop at kids) ≡ v .y
+    part = rw (v .is, drop-at (v .x) (v .y ++ v .z) at (sym (v .place)), take-at (v .y) (v .z) (e - at) (sym span))
+
+    pub part-ok : Ok ix ranges T k (cond f 1 0) (take (e - at) (drop at kids)) doc
+    part-ok = subst (λ (l : List ℕ). Ok ix ranges T k (cond f 1 0) l doc) (sym part) (v .ok)
+
+    pub part-back : (ys : List ℕ) → take at kids ++ (ys ++ drop (e - at) (drop at kids)) ≡ v .x ++ (ys ++ v .z)
+    part-back ys = rw (v .is, take-at (v .x) (v .y ++ v .z) at (sym (v .place)), drop-at (v .x) (v .y ++ v .z) at (sym (v .place)), drop-at (v .y) (v .z) (e - at) (sym span))
+
+    -- another part of the same child in its place
+    pub zip-renewed : (ys : List ℕ) → Ok ix ranges T k (cond f 1 0) ys doc → Zip ix ranges k doc fs (more f T g) (take at kids ++ (ys ++ drop (e - at) (drop at kids))) at
+    unfolding Oks
+    zip-renewed ys o =
+        record {
+          x = v .x;
+          z = ys ++ v .z;
+          is = part-back ys;
+          place = v .place;
+          rest = (ys, v .z, refl, o, v .rest);
+          back = λ z′ r. rw (r .2) (v .back (r .0) (r .1) (r .3) (r .4));
+        }
+
+pub back-length : (kids ys : List ℕ) (at e : ℕ) → length ys ≡ length (take (e - at) (drop at kids)) → length (take at kids ++ (ys ++ drop (e - at) (drop at kids))) ≡ length kids
+back-length kids ys at e h = simp (length-append, length-take, length-drop, h) (omega arith)

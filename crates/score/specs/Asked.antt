@@ -1,0 +1,150 @@
+-- What `score` asks and gives, of a node and of the parts of some children. Assumes nothing: these are definitions.
+use mathlib.Core.Path.{_≡_}
+use mathlib.Core.Bool.{Bool, true}
+use mathlib.Core.List.{List, _++_}
+use Prim.Native.Nat.{ℕ, _+_, _-_, _*_, _^_, _≤_, _<_}
+use lib.Ieee.{Float}
+use Rattle.meaning.specs.Limits.{noMoreDocs}
+use Rattle.meaning.specs.Lent.{Index}
+use Rattle.meaning.specs.Phrase.{PhraseTerm, phraseFrequency}
+use Rattle.meaning.specs.Ieee754.{zeroFloat, sumFrom, narrowedSum}
+use Rattle.ieee754.specs.Nonneg.{AtMost}
+use Rattle.weight.specs.ScorerTree.{Leaf, weighted, Scorer, Scorers, Joining, oneMore, afterwards, leafMatches, matches, allMatch, leafScore, scorerScore, scoring, requiredScores, optionalScores, joinedScore}
+use Rattle.weight.specs.State.{State, wordsOf, sizesOf, sizesOfFirst}
+use Rattle.weight.specs.Held.{PhraseIs, LeafIs, FloatIs, Ok, Oks}
+use Rattle.weight.specs.Sound.{Lends, LeafSound, Sound, Sounds, LeafTable, Tables, TablesOf, leaves, leavesOf}
+use Rattle.scorer.specs.Phrases.{PhraseHeld}
+use Rattle.score.specs.declared.Node.{Node}
+
+-- an accepted index whose N, postings, positions and norms are those that are lent, and a document of it
+pub record LentAt (ix : Index) (n : ℕ) (postings positions norms : List ℕ) (doc : ℕ) : Type 0 where
+  pub lends : Lends ix n postings positions
+  pub norms-are : ix .norms ≡ norms
+  pub document : doc < n
+
+-- a tree whose score can be worked out: sound, with its inverses, and of at most 256 leaves
+pub record Scorable (ix : Index) (table : List Float) (places : ℕ) (T : Scorer) : Type 0 where
+  pub sound : Sound ix places T
+  pub tables : Tables ix table T
+  pub few : leaves T ≤ 256
+
+-- some trees, beside so many leaves that are summed already
+pub record Scorables (ix : Index) (table : List Float) (places p : ℕ) (ss : Scorers) : Type 0 where
+  pub sound : Sounds ix places ss
+  pub tables : TablesOf ix table ss
+  pub few : p + leavesOf ss ≤ 256
+
+-- the score, and that it is at most 2^29 for each leaf
+pub record ScoreIs (ix : Index) (T : Scorer) (doc : ℕ) (r : Float) : Type 0 where
+  pub is : r ≡ scorerScore ix T doc
+  pub small : AtMost (leaves T * 2 ^ 29) r
+
+-- a sum in f64, and that it is at most 2^29 for each leaf
+pub record SumIs (x : Float) (xs : List Float) (p : ℕ) (r : Float) : Type 0 where
+  pub is : r ≡ sumFrom x xs
+  pub small : AtMost (p * 2 ^ 29) r
+
+-- some index, tree and scores word that the words hold, where the tree matches the document
+abbrev pub ScorePre : List ℕ → ℕ → List ℕ → List ℕ → List ℕ → List ℕ → List Float → ℕ → ℕ → ℕ → Type 0
+ScorePre st n postings positions norms ranges table places doc depth =
+    (ix : Index) × (T : Scorer) × (scores : ℕ) × LentAt ix n postings positions norms doc × Scorable ix table places T × (matches ix T doc ≡ true) × Ok ix ranges T depth scores st doc
+
+-- for each of them: the score, and the words as good as before
+abbrev pub ScorePost : List ℕ → ℕ → List ℕ → List ℕ → List ℕ → List ℕ → List Float → ℕ → ℕ → ℕ → Float → List ℕ → Type 0
+ScorePost st n postings positions norms ranges table places doc depth r st′ =
+    (ix : Index) (T : Scorer) (scores : ℕ) → LentAt ix n postings positions norms doc → Scorable ix table places T → matches ix T doc ≡ true → Ok ix ranges T depth scores st doc → ScoreIs ix T doc r × Ok ix ranges T depth scores st′ doc
+
+-- the same of the parts of some children, and of a sum of at most 2^29 for each of p leaves: the required, which all match
+abbrev pub RequiredPre : List ℕ → Float → ℕ → List ℕ → List ℕ → List ℕ → List ℕ → List Float → ℕ → ℕ → ℕ → Type 0
+RequiredPre kids sum n postings positions norms ranges table places doc depth =
+    (ix : Index) × (ss : Scorers) × (p : ℕ) × LentAt ix n postings positions norms doc × Scorables ix table places p ss × (allMatch ix ss doc ≡ true) × Oks ix ranges ss depth kids doc × AtMost (p * 2 ^ 29) sum
+
+abbrev pub RequiredPost : List ℕ → Float → ℕ → List ℕ → List ℕ → List ℕ → List ℕ → List Float → ℕ → ℕ → ℕ → Float → List ℕ → Type 0
+RequiredPost kids sum n postings positions norms ranges table places doc depth r kids′ =
+    (ix : Index) (ss : Scorers) (p : ℕ) → LentAt ix n postings positions norms doc → Scorables ix table places p ss → allMatch ix ss doc ≡ true → Oks ix ranges ss depth kids doc → AtMost (p * 2 ^ 29) sum → SumIs sum (scoring (requiredScores ix ss doc)) (p + leavesOf ss) r × Oks ix ranges ss depth kids′ doc
+
+-- and the optional, which match or do not
+abbrev pub OptionalPre : List ℕ → ℕ → List ℕ → List ℕ → List ℕ → List ℕ → List Float → ℕ → ℕ → ℕ → Type 0
+OptionalPre kids n postings positions norms ranges table places doc depth =
+    (ix : Index) × (ss : Scorers) × LentAt ix n postings positions norms doc × Scorables ix table places 0 ss × Oks ix ranges ss depth kids doc
+
+abbrev pub OptionalPost : List ℕ → ℕ → List ℕ → List ℕ → List ℕ → List ℕ → List Float → ℕ → ℕ → ℕ → Float → List ℕ → Type 0
+OptionalPost kids n postings positions norms ranges table places doc depth r kids′ =
+    (ix : Index) (ss : Scorers) → LentAt ix n postings positions norms doc → Scorables ix table places 0 ss → Oks ix ranges ss depth kids doc → SumIs zeroFloat (optionalScores ix ss doc) (leavesOf ss) r × Oks ix ranges ss depth kids′ doc
+
+-- where the group joins, in the two words of the record
+unfoldable pub JoinsAt : Joining → Scorers → ℕ → ℕ → Type 0
+JoinsAt (oneMore n) rs after at = (after ≡ 0) × (at ≡ sizesOfFirst n rs)
+JoinsAt afterwards rs after at = after ≡ 1
+
+-- the words behind a Boolean's record: the required parts, the optional, and the rest
+pub record PartsAre (ix : Index) (ranges : List ℕ) (rs os : Scorers) (depth doc : ℕ) (rest kids : List ℕ) : Type 0 where
+  pub required : List ℕ
+  pub optional : List ℕ
+  pub is : kids ≡ required ++ (optional ++ rest)
+  pub required-ok : Oks ix ranges rs depth required doc
+  pub optional-ok : Oks ix ranges os depth optional doc
+
+-- what the score of a Boolean's children asks: its words, its parts, the required all match
+pub record JoinAsks (ix : Index) (table : List Float) (places : ℕ) (j : Joining) (rs os : Scorers) (n : Node) (doc : ℕ) : Type 0 where
+  pub required : Scorables ix table places 0 rs
+  pub optional : Scorables ix table places 0 os
+  pub few : leavesOf rs + leavesOf os ≤ 256
+  pub all : allMatch ix rs doc ≡ true
+  pub required-end : n .«required_end» ≡ sizesOf rs
+  pub optional-end : n .«optional_end» ≡ sizesOf rs + sizesOf os
+  pub joins : JoinsAt j rs (n .afterwards) (n .«group_at»)
+
+abbrev pub JoinPre : List ℕ → Node → ℕ → List ℕ → List ℕ → List ℕ → List ℕ → List Float → ℕ → ℕ → ℕ → Type 0
+JoinPre kids node n postings positions norms ranges table places doc depth =
+    (ix : Index) × (j : Joining) × (rs : Scorers) × (os : Scorers) × (rest : List ℕ) × LentAt ix n postings positions norms doc × JoinAsks ix table places j rs os node doc × PartsAre ix ranges rs os depth doc rest kids
+
+-- the joined score, and the parts as good as before
+pub record JoinIs (ix : Index) (j : Joining) (rs os : Scorers) (doc : ℕ) (r : Float) : Type 0 where
+  pub is : r ≡ joinedScore j (requiredScores ix rs doc) (narrowedSum (optionalScores ix os doc))
+  pub small : AtMost ((leavesOf rs + leavesOf os) * 2 ^ 29) r
+
+abbrev pub JoinPost : List ℕ → Node → ℕ → List ℕ → List ℕ → List ℕ → List ℕ → List Float → ℕ → ℕ → ℕ → Float → List ℕ → Type 0
+JoinPost kids node n postings positions norms ranges table places doc depth r kids′ =
+    (ix : Index) (j : Joining) (rs os : Scorers) (rest : List ℕ) → LentAt ix n postings positions norms doc → JoinAsks ix table places j rs os node doc → PartsAre ix ranges rs os depth doc rest kids → JoinIs ix j rs os doc r × PartsAre ix ranges rs os depth doc rest kids′
+
+-- a leaf that scores by BM25, its words and the document that it matches
+pub record LeafAsks (ix : Index) (ranges : List ℕ) (table : List Float) (places : ℕ) (l : Leaf) (w : Float) (s : State) (v : List ℕ) (doc : ℕ) : Type 0 where
+  pub sound : LeafSound ix places l
+  pub tables : LeafTable ix table l (weighted w)
+  pub match : leafMatches ix l doc ≡ true
+  pub words : LeafIs ix ranges l s v doc
+  pub weight : FloatIs w (s .weight)
+
+-- the words of a record that a score leaves as they are
+pub record Same (s s′ : State) : Type 0 where
+  pub cached : s′ .cached ≡ s .cached
+  pub constant : s′ .constant ≡ s .constant
+  pub weight : s′ .weight ≡ s .weight
+  pub scores : s′ .scores ≡ s .scores
+
+-- a phrase that stands in the document
+abbrev pub FrequencyPre : List ℕ → List ℕ → ℕ → ℕ → List ℕ → ℕ → Type 0
+FrequencyPre postings positions a b st doc =
+    (doc < noMoreDocs) × ((ix : Index) × (places : ℕ) × (f : ℕ) × (ts : List PhraseTerm) × (s : State) × (w : List ℕ) × (places ≤ a) × (places ≤ b) × PhraseHeld postings positions ix places f ts s w st doc × (0 < phraseFrequency ix ts doc))
+
+-- its frequency there
+abbrev pub FrequencyPost : List ℕ → List ℕ → List ℕ → ℕ → ℕ → List ℕ → Type 0
+FrequencyPost postings positions st doc r st′ =
+    (ix : Index) (places f : ℕ) (ts : List PhraseTerm) (s : State) (w : List ℕ) → PhraseHeld postings positions ix places f ts s w st doc → 0 < phraseFrequency ix ts doc → (r ≡ phraseFrequency ix ts doc) × ((s′ : State) × (w′ : List ℕ) × (st′ ≡ wordsOf s′ ++ w′) × Same s s′ × PhraseIs ix f ts s′ w′ doc)
+
+-- a leaf's words after its score: but for a phrase's terms and frequency they are the same
+pub record LeafKept (ix : Index) (ranges : List ℕ) (l : Leaf) (s : State) (doc : ℕ) (st′ : List ℕ) : Type 0 where
+  pub s′ : State
+  pub v′ : List ℕ
+  pub is : st′ ≡ wordsOf s′ ++ v′
+  pub same : Same s s′
+  pub words : LeafIs ix ranges l s′ v′ doc
+
+abbrev pub LeafPre : List ℕ → ℕ → List ℕ → List ℕ → List ℕ → List Float → ℕ → ℕ → Type 0
+LeafPre st n postings positions norms table places doc =
+    (ix : Index) × (ranges : List ℕ) × (l : Leaf) × (w : Float) × (s : State) × (v : List ℕ) × LentAt ix n postings positions norms doc × LeafAsks ix ranges table places l w s v doc × (st ≡ wordsOf s ++ v)
+
+abbrev pub LeafPost : List ℕ → ℕ → List ℕ → List ℕ → List ℕ → List Float → ℕ → ℕ → Float → List ℕ → Type 0
+LeafPost st n postings positions norms table places doc r st′ =
+    (ix : Index) (ranges : List ℕ) (l : Leaf) (w : Float) (s : State) (v : List ℕ) → LentAt ix n postings positions norms doc → LeafAsks ix ranges table places l w s v doc → st ≡ wordsOf s ++ v → (r ≡ leafScore ix l (weighted w) doc) × AtMost (2 ^ 29) r × LeafKept ix ranges l s doc st′

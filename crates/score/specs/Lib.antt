@@ -1,0 +1,4 @@
+-- What the contracts of this crate name beside the definitions of `meaning` and `weight`.
+pub mod Words
+pub mod Asked
+pub mod Walks
