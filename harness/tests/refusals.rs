@@ -1,28 +1,10 @@
 //! Document 01's refusals from both sides of each boundary. They are ours to say: the Rust, which
 //! answers no refusals, is not asked.
+use harness::boundary::{self, sound};
 use harness::case::Case;
 use harness::catalogue::Catalogue;
 use harness::query::*;
 use harness::refusal::refusal;
-
-/// Three documents; fields 0 (norms, positions) and 1 (neither); leaves 0 and 1 in field 0, leaf 2
-/// in field 1; an i64 column.
-fn sound() -> Case {
-    let mut catalogue = Catalogue::new(3);
-    let full = catalogue.field_with(1.0, Some(&[0, 1, 255]), true);
-    let bare = catalogue.field();
-    catalogue.leaf_of_positions(full, 64.0, &[(0, &[0, 0]), (2, &[2_147_483_647])]);
-    catalogue.leaf_of_positions(full, 0.0, &[(1, &[5])]);
-    catalogue.leaf_of_frequencies(bare, 1.0, &[(1, 16_777_216)]);
-    catalogue.column_of_i64(&[Some(-1), None, Some(7)]);
-    catalogue.kill(1);
-    let clauses = [
-        phrase(0, &[(0, 0), (1, 2_147_483_647)]).must(),
-        boost(0x4780_0000, term(2)).should(),
-        range(0, 8, 1, 2).filter(),
-    ];
-    catalogue.case(1024, 0, &boolean(u32::MAX, clauses))
-}
 
 /// The number with which the sound case is refused once it is changed.
 fn changed(change: impl FnOnce(&mut Case)) -> u32 {
@@ -200,7 +182,7 @@ fn the_lowest_number_is_told() {
 /// The number that stands beside each built case is the judge's, where the caller's are not asked.
 #[test]
 fn every_boundary() {
-    for (at, (number, case)) in harness::boundary::all().into_iter().enumerate() {
+    for (at, (number, case)) in boundary::all().into_iter().enumerate() {
         let told = match refusal(&case) {
             11.. => 0,
             told => told,

@@ -78,8 +78,8 @@ fn norms(cases: &mut Cases) {
     }
     for (n, fields) in [(0, 16), (1, 16), (4097, 16), (65_536, 1)] {
         let right = n as usize * fields;
-        for (number, length) in [(3, right.saturating_sub(1)), (0, right), (3, right + 1)] {
-            let number = if length == right { 0 } else { number };
+        for length in [right.saturating_sub(1), right, right + 1] {
+            let number = if length == right { 0 } else { 3 };
             let norms = vec![0; length];
             let fields = FIELD_WITH_NORMS.repeat(fields);
             let case = Case {
