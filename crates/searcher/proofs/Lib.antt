@@ -5,3 +5,4 @@ pub mod Pages
 pub mod Ranked
 pub mod Rankable
 pub mod Search
+pub mod Example

@@ -1,9 +1,8 @@
 -- Demand 3, of pages: calls of which each begins at the next match that the one before it named give, joined, the beginning of the full list. Assumes nothing.
-use mathlib.Core.Path.{_≡_, refl, sym, ap, _∙_, subst}
-use mathlib.Core.Logic.{_⊎_, inl, inr}
-use mathlib.Core.Bool.{Bool, true, false, cond}
+use mathlib.Core.Path.{_≡_, refl, sym, ap, _∙_}
+use mathlib.Core.Logic.{inl, inr}
 use mathlib.Core.List.{List, [], _∷_, _++_, map}
-use Prim.Native.Nat.{ℕ, zero, suc, _+_, _≤_, _<_}
+use Prim.Native.Nat.{ℕ, _+_, _≤_, _<_}
 use native.Mathlib.Nat.{not-suc-le-zero, add-zero, zero-add}
 use native.Mathlib.Omega.{arith}
 use borrow.Author.Tests.{eqb-true, ltb-false}
@@ -18,7 +17,7 @@ use Rattle.meaning.specs.FullList.{ScoreDoc, fullList}
 use Rattle.meaning.specs.Pages.{fromTarget, firstDoc, page}
 use Rattle.meaning.specs.Refusals.{lowest}
 use Rattle.meaning.specs.IndexRefusals.{wrong1}
-use Rattle.meaning.specs.Entries.{orderConditions, pageRefusal, pageAnswer, pageDocuments, pageScores}
+use Rattle.meaning.specs.Entries.{pageAnswer, pageDocuments, pageScores}
 use Rattle.doc_values.proofs.Lists.{decided}
 use Rattle.searcher.specs.Demands.{Accepts, Call, refusalOf, answerOf, givenBy, nextBy, documentsBy, scoresBy, answered, Follow, joinedDocuments, joinedScores, placesOf, lastNext}
 use Rattle.searcher.proofs.Lists.{map-take, map-drop}

@@ -1,8 +1,8 @@
 -- Which lists can be ranked: those that Pick takes, and the full list where its scores are f32 with a clear sign. Assumes nothing.
-use mathlib.Core.Path.{_≡_, refl, sym, ap, _∙_, subst}
-use mathlib.Core.Bool.{Bool, true, false, _&&_}
-use mathlib.Core.List.{List, [], _∷_, _++_, map}
-use Prim.Native.Nat.{ℕ, zero, suc, _+_, _≤_, _<_}
+use mathlib.Core.Path.{_≡_, ap, subst}
+use mathlib.Core.Bool.{true, false, _&&_}
+use mathlib.Core.List.{List}
+use Prim.Native.Nat.{ℕ, zero, suc, _≤_, _<_}
 use native.Mathlib.Numerals.{add-one}
 use native.Mathlib.Omega.{arith}
 use lib.Dec.{T}
@@ -17,7 +17,7 @@ use Rattle.meaning.specs.Bm25.{one}
 use Rattle.meaning.specs.Query.{queryTree}
 use Rattle.meaning.specs.Takes.{takes}
 use Rattle.meaning.specs.Score.{score}
-use Rattle.meaning.specs.FullList.{ScoreDoc, matches, fullList}
+use Rattle.meaning.specs.FullList.{matches, fullList}
 use Rattle.meaning.specs.CallRefusals.{wrong14}
 use Rattle.meaning.specs.Entries.{pickedList}
 use Rattle.ieee754.specs.Nonneg.{signClear}

@@ -1,11 +1,10 @@
 -- Demand 3, of Search: a larger k only adds hits, and when the mark is set. Assumes nothing.
 use mathlib.Core.Path.{_≡_, refl, sym, ap, _∙_, subst}
-use mathlib.Core.Logic.{inl, inr}
 use mathlib.Core.Bool.{Bool, true, false, cond, _&&_}
-use mathlib.Core.List.{List, [], _∷_, _++_}
+use mathlib.Core.List.{List, [], _∷_}
 use Prim.Native.Nat.{ℕ, _≤_, _<_, min}
 use native.Mathlib.Omega.{arith}
-use borrow.Author.Tests.{lt-ltb, le-leb, ltb-true, ltb-false, leb-true, leb-false}
+use borrow.Author.Tests.{lt-ltb, le-leb, ltb-true, leb-true}
 use lib.Dec.{ltb, leb}
 use lib.ListN.{length, take, drop, getD, length-take}
 use lib.Seq.{take-take, take-at, take-length}
@@ -15,8 +14,7 @@ use Rattle.meaning.specs.Query.{queryTree}
 use Rattle.meaning.specs.FullList.{ScoreDoc, fullList}
 use Rattle.meaning.specs.Hits.{hits, mark}
 use Rattle.meaning.specs.CallRefusals.{Work}
-use Rattle.meaning.specs.Entries.{written, topDocs, searchRefusal, searchAnswer, searchHits}
-use Rattle.doc_values.proofs.Lists.{decided}
+use Rattle.meaning.specs.Entries.{topDocs, searchRefusal, searchAnswer, searchHits}
 use Rattle.collector.proofs.Best.{ranked, ranked-length, hits-is, hits-few, hits-prefix}
 
 hits-length : (k : ℕ) (list : List ScoreDoc) → length (hits k list) ≡ min k (length list)
