@@ -130,7 +130,7 @@ module _ {E : Lent} {ix : Index} {p k : ℕ} {fs : Scorers} {f : Bool} {T : Scor
   held = record { lends = v .lends; sound = v .sound; ok = rw part (v .ok) }
 
   pub of-advance : (r : ℕ) (ys : List ℕ) → AdvancePost E (take (e - at) (drop at kids)) t k r ys → First (matches ix T) t r × Ok ix (E .ranges) T k (cond f 1 0) ys t
-  of-advance r ys post = let q = post ix p T (cond f 1 0) held in (q .0, q .1)
+  of-advance r ys post = post ix p T (cond f 1 0) held
 
   -- where the child stands
   pub of-cached : (c : ℕ) → c ≡ getD kids (at + 2) 0 → t < c → First (matches ix T) t (c - 1)

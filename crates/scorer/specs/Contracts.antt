@@ -38,9 +38,8 @@ pub record NodeHeld (E : Lent) (ix : Index) (places : ℕ) (s : Scorer) (depth s
 abbrev pub AdvancePre : Lent → ℕ → ℕ → List ℕ → ℕ → ℕ → Type 0
 AdvancePre E a b st target depth = (target ≤ noMoreDocs) × ((ix : Index) × (places : ℕ) × (s : Scorer) × (scores : ℕ) × RoomIn places a b × NodeHeld E ix places s depth scores st target)
 
--- the document, the words, and that the document is the cached one
 abbrev pub AdvancePost : Lent → List ℕ → ℕ → ℕ → ℕ → List ℕ → Type 0
-AdvancePost E st target depth r st′ = (ix : Index) (places : ℕ) (s : Scorer) (scores : ℕ) → NodeHeld E ix places s depth scores st target → First (matches ix s) target r × Ok ix (E .ranges) s depth scores st′ target × (getD st′ 2 0 ≡ r + 1)
+AdvancePost E st target depth r st′ = (ix : Index) (places : ℕ) (s : Scorer) (scores : ℕ) → NodeHeld E ix places s depth scores st target → First (matches ix s) target r × Ok ix (E .ranges) s depth scores st′ target
 
 -- ---- leaves
 -- a leaf that must be moved, s its record and w the words behind it

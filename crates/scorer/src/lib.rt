@@ -4,7 +4,7 @@ pub mod run;
 
 ghost use Prim.Native.Nat.{ℕ, _+_, _≤_, _<_};
 ghost use mathlib.Core.Path.{_≡_};
-ghost use lib.ListN.{length};
+ghost use lib.ListN.{length, getD};
 ghost use Rattle.scorer.specs.Contracts.{lent, AdvancePre, AdvancePost, PartsPre, ChildAt, ChildRead, Tally, LeastPost, DisjunctionPost, PassPost, LeadPre, StepPost, LeadPost, BooleanPre, BooleanPost, HeadRead, BooleanRead};
 
 pub const NO_MORE_DOCS: u32 = 2147483647;
@@ -106,6 +106,7 @@ pub fn advance(
 ) -> u32
     requires { ⌜ AdvancePre (lent «max_doc» (now postings) (now positions) (now ranges)) (length (now a)) (length (now b)) (now st) target depth ⌝ }
     ensures { λ r. ⌜ AdvancePost (lent «max_doc» (now (postings .entry)) (now (positions .entry)) (now (ranges .entry))) (now (st .entry)) target depth r (now (st .exit)) ⌝ }
+    ensures { λ r. ⌜ getD (now (st .exit)) 2 0 ≡ r + 1 ⌝ }
 {
     let h = head_at(st);
     let cached = h.cached;

@@ -30,7 +30,7 @@ pub advance-same-length : (t : ℕ) → advance-lts.Need-same-length (advance-ca
 advance-same-length t c = refl
 
 pub advance-returns : (t : ℕ) → advance-lts.Need-returns (advance-calls t) (advance-at t) advance.Post
-advance-returns t c = let s = (c .before .before .before .before .before .before .before) in let h = (c .before) .head-at in λ ix p T o z. (node-cached (lent (s .args .max-doc) (s .args .postings .now) (s .args .positions .now) (s .args .ranges .now)) ix p (s .args .depth) o (s .args .st .now) (s .args .target) (h .result .cached) (h .ensures .cached) T z (c .if1 .taken), z .ok, omega (arith, h .ensures .cached, c .if1 .taken))
+advance-returns t c = let s = (c .before .before .before .before .before .before .before) in let h = (c .before) .head-at in ((λ ix p T o z. (node-cached (lent (s .args .max-doc) (s .args .postings .now) (s .args .positions .now) (s .args .ranges .now)) ix p (s .args .depth) o (s .args .st .now) (s .args .target) (h .result .cached) (h .ensures .cached) T z (c .if1 .taken), z .ok)), omega (arith, h .ensures .cached, c .if1 .taken))
 
 pub advance-boolean-at-requires : (t : ℕ) → advance-lts.Need-boolean-at-requires (advance-calls t) (advance-at t) advance.Post
 advance-boolean-at-requires t c κs = let s = (c .before .before .before .before .before .before .before .before .before .before) in let P = s .pre .1 .1 in let l = ok-long (P .0) (s .args .ranges .now) (P .2) (s .args .depth) (P .3) (s .args .st .now) (s .args .target) (P .5 .ok) in l
@@ -75,7 +75,7 @@ pub advance-same-length-4 : (t : ℕ) → advance-lts.Need-same-length-4 (advanc
 advance-same-length-4 t c = (c .before .before .before .before) .excluding .kept .1 .1 .1 .1 .1 .1 .0
 
 pub advance-returns-2 : (t : ℕ) → advance-lts.Need-returns-2 (advance-calls t) (advance-at t) advance.Post
-advance-returns-2 t c = let s = (c .before .before .before .before .before .before .before .before .before .before .before .before .before .before .before .before .before .before .before) in let P = s .pre .1 .1 in let l = ok-long (P .0) (s .args .ranges .now) (P .2) (s .args .depth) (P .3) (s .args .st .now) (s .args .target) (P .5 .ok) in let h = (c .before .before .before .before .before .before .before .before .before .before .before .before .before) .head-at in let b = (c .before .before .before .before .before .before .before .before) .boolean-at in let x = (c .before .before .before .before) .excluding in let e = getD-set-same (take 24 (s .args .st .now) ++ (x .last .0 ++ drop (length (s .args .st .now) - 24) (drop 24 (s .args .st .now)))) 2 (x .result + 1) 0 (omega (arith, l, back-length (s .args .st .now) (x .last .0) 24 (length (s .args .st .now)) (x .kept .0))) in λ ix p T o z. let v = node-joined (lent (s .args .max-doc) (s .args .postings .now) (s .args .positions .now) (s .args .ranges .now)) ix p (s .args .depth) o (s .args .st .now) (s .args .target) (h .result .cached) (h .ensures .cached) ((c .before .before .before .before .before .before .before .before .before .before .before .before) .if1 .left) (h .result .kind) (h .ensures .kind) ((c .before .before .before .before .before .before .before .before .before .before) .if2 .taken) (b .result .need) (b .ensures .need) (b .result .required) (b .result .optional) (b .ensures .required-end) (b .ensures .optional-end) (x .result) (x .last .0) (x .ensures) T z in (v .0, v .1, e)
+advance-returns-2 t c = let s = (c .before .before .before .before .before .before .before .before .before .before .before .before .before .before .before .before .before .before .before) in let P = s .pre .1 .1 in let l = ok-long (P .0) (s .args .ranges .now) (P .2) (s .args .depth) (P .3) (s .args .st .now) (s .args .target) (P .5 .ok) in let h = (c .before .before .before .before .before .before .before .before .before .before .before .before .before) .head-at in let b = (c .before .before .before .before .before .before .before .before) .boolean-at in let x = (c .before .before .before .before) .excluding in ((λ ix p T o z. node-joined (lent (s .args .max-doc) (s .args .postings .now) (s .args .positions .now) (s .args .ranges .now)) ix p (s .args .depth) o (s .args .st .now) (s .args .target) (h .result .cached) (h .ensures .cached) ((c .before .before .before .before .before .before .before .before .before .before .before .before) .if1 .left) (h .result .kind) (h .ensures .kind) ((c .before .before .before .before .before .before .before .before .before .before) .if2 .taken) (b .result .need) (b .ensures .need) (b .result .required) (b .result .optional) (b .ensures .required-end) (b .ensures .optional-end) (x .result) (x .last .0) (x .ensures) T z), getD-set-same (take 24 (s .args .st .now) ++ (x .last .0 ++ drop (length (s .args .st .now) - 24) (drop 24 (s .args .st .now)))) 2 (x .result + 1) 0 (omega (arith, l, back-length (s .args .st .now) (x .last .0) 24 (length (s .args .st .now)) (x .kept .0))))
 
 pub advance-same-length-5 : (t : ℕ) → advance-lts.Need-same-length-5 (advance-calls t) (advance-at t) advance.Post
 advance-same-length-5 t c = let y = (c .before .before .before .before) .seek in simp length-set (y .kept .0)
@@ -87,7 +87,7 @@ pub advance-same-length-7 : (t : ℕ) → advance-lts.Need-same-length-7 (advanc
 advance-same-length-7 t c = (c .before .before .before .before) .seek .kept .1 .1 .1 .1 .1 .1 .0
 
 pub advance-returns-3 : (t : ℕ) → advance-lts.Need-returns-3 (advance-calls t) (advance-at t) advance.Post
-advance-returns-3 t c = let s = (c .before .before .before .before .before .before .before .before .before .before .before .before .before .before .before .before .before) in let P = s .pre .1 .1 in let l = ok-long (P .0) (s .args .ranges .now) (P .2) (s .args .depth) (P .3) (s .args .st .now) (s .args .target) (P .5 .ok) in let h = (c .before .before .before .before .before .before .before .before .before .before .before) .head-at in let y = (c .before .before .before .before) .seek in let e = getD-set-same (y .last .0) 2 (y .result + 1) 0 (omega (arith, l, y .kept .0)) in λ ix p T o z. let v = node-sought (lent (s .args .max-doc) (s .args .postings .now) (s .args .positions .now) (s .args .ranges .now)) ix p (s .args .depth) o (s .args .st .now) (s .args .target) (h .result .cached) (h .ensures .cached) ((c .before .before .before .before .before .before .before .before .before .before) .if1 .left) (h .result .kind) (h .ensures .kind) (s .pre .1 .0) ((c .before .before .before .before .before .before .before .before) .if2 .left) (y .result) (y .last .0) (y .ensures) T z in (v .0, v .1, e)
+advance-returns-3 t c = let s = (c .before .before .before .before .before .before .before .before .before .before .before .before .before .before .before .before .before) in let P = s .pre .1 .1 in let l = ok-long (P .0) (s .args .ranges .now) (P .2) (s .args .depth) (P .3) (s .args .st .now) (s .args .target) (P .5 .ok) in let h = (c .before .before .before .before .before .before .before .before .before .before .before) .head-at in let y = (c .before .before .before .before) .seek in ((λ ix p T o z. node-sought (lent (s .args .max-doc) (s .args .postings .now) (s .args .positions .now) (s .args .ranges .now)) ix p (s .args .depth) o (s .args .st .now) (s .args .target) (h .result .cached) (h .ensures .cached) ((c .before .before .before .before .before .before .before .before .before .before) .if1 .left) (h .result .kind) (h .ensures .kind) (s .pre .1 .0) ((c .before .before .before .before .before .before .before .before) .if2 .left) (y .result) (y .last .0) (y .ensures) T z), getD-set-same (y .last .0) 2 (y .result + 1) 0 (omega (arith, l, y .kept .0)))
 
 pub excluding-loop-holds : (t : ℕ) → excluding-lts.Need-loop-holds (excluding-calls t) (excluding-at t) excluding.Post excluding-Inv-loop excluding-μ-loop
 excluding-loop-holds t c = let s = (c .before .before .before .before) in (record { kids-same = refl; a-same = refl; b-same = refl }, s .pre .1 .0, λ ix p rs os ps h. going-start h)

@@ -50,7 +50,7 @@ pub least-loop-less-2 : (t : ℕ) → least-lts.Need-loop-less-2 (least-calls t)
 least-loop-less-2 t c = let s = (c .before .before .before .before .before .before .before .before .before .before .before .before .before .before .before .before .before .before) in let P = s .pre .1 .1 in let a = (c .before .before .before .before .before .before .before .before .before .before .before .before .before) .loop in let i = a .inv .1 (P .0) (P .1) (P .2) (P .4) in let k = (c .before .before .before .before .before .before .before .before .before .before) .child-at in let l = (c .before .before .before .before .before .before .before .before .before .before .before .before) .loop-test .taken in let f = child-facts (i .left) (i .zip) l in let d = (c .before .before .before .before .before) .advance in omega (arith, f, k .ensures, l, back-length (a .kids) (d .last .0) (a .at) (k .result .end) (d .kept .0))
 
 pub least-loop-again-2 : (t : ℕ) → least-lts.Need-loop-again-2 (least-calls t) (least-at t) least.Post least-Inv-loop least-μ-loop
-least-loop-again-2 t c = let a = (c .before .before .before .before .before .before .before .before .before .before .before .before .before) .loop in let k = (c .before .before .before .before .before .before .before .before .before .before) .child-at in let l = (c .before .before .before .before .before .before .before .before .before .before .before .before) .loop-test .taken in let d = (c .before .before .before .before .before) .advance in let y = c .tally2 in (record { kids-same = back-length (a .kids) (d .last .0) (a .at) (k .result .end) (d .kept .0) ∙ a .inv .0 .kids-same; a-same = d .kept .1 .1 .1 .1 .1 .0 ∙ a .inv .0 .a-same; b-same = d .kept .1 .1 .1 .1 .1 .1 .0 ∙ a .inv .0 .b-same }, λ ix p ss h. least-took (a .inv .1 ix p ss h) l (k .result .end) (k .ensures .end) (d .result) (y .result .doc) (y .result .count) (d .last .0) (d .kept .0) (d .ensures) (y .ensures))
+least-loop-again-2 t c = let a = (c .before .before .before .before .before .before .before .before .before .before .before .before .before) .loop in let k = (c .before .before .before .before .before .before .before .before .before .before) .child-at in let l = (c .before .before .before .before .before .before .before .before .before .before .before .before) .loop-test .taken in let d = (c .before .before .before .before .before) .advance in let y = c .tally2 in (record { kids-same = back-length (a .kids) (d .last .0) (a .at) (k .result .end) (d .kept .0) ∙ a .inv .0 .kids-same; a-same = d .kept .1 .1 .1 .1 .1 .0 ∙ a .inv .0 .a-same; b-same = d .kept .1 .1 .1 .1 .1 .1 .0 ∙ a .inv .0 .b-same }, λ ix p ss h. least-took (a .inv .1 ix p ss h) l (k .result .end) (k .ensures .end) (d .result) (y .result .doc) (y .result .count) (d .last .0) (d .kept .0) (d .ensures .0) (y .ensures))
 
 pub least-same-length : (t : ℕ) → least-lts.Need-same-length (least-calls t) (least-at t) least.Post least-Inv-loop least-μ-loop
 least-same-length t c = (c .before) .loop .inv .0 .kids-same
@@ -98,7 +98,7 @@ pub pass-loop-less-2 : (t : ℕ) → pass-lts.Need-loop-less-2 (pass-calls t) (p
 pass-loop-less-2 t c = let s = (c .before .before .before .before .before .before .before .before .before .before .before .before .before .before .before .before .before) in let P = s .pre .1 .1 in let a = (c .before .before .before .before .before .before .before .before .before .before .before .before) .loop in let i = a .inv .1 (P .0) (P .1) (P .2) (P .4) in let k = (c .before .before .before .before .before .before .before .before .before) .child-at in let l = (c .before .before .before .before .before .before .before .before .before .before .before) .loop-test .taken in let f = child-facts (i .left) (i .zip) l in let d = (c .before .before .before .before) .advance in omega (arith, f, k .ensures, l, back-length (a .kids) (d .last .0) (a .at) (k .result .end) (d .kept .0))
 
 pub pass-loop-again-2 : (t : ℕ) → pass-lts.Need-loop-again-2 (pass-calls t) (pass-at t) pass.Post pass-Inv-loop pass-μ-loop
-pass-loop-again-2 t c = let a = (c .before .before .before .before .before .before .before .before .before .before .before .before) .loop in let k = (c .before .before .before .before .before .before .before .before .before) .child-at in let l = (c .before .before .before .before .before .before .before .before .before .before .before) .loop-test .taken in let d = (c .before .before .before .before) .advance in (record { kids-same = back-length (a .kids) (d .last .0) (a .at) (k .result .end) (d .kept .0) ∙ a .inv .0 .kids-same; a-same = d .kept .1 .1 .1 .1 .1 .0 ∙ a .inv .0 .a-same; b-same = d .kept .1 .1 .1 .1 .1 .1 .0 ∙ a .inv .0 .b-same }, λ ix p ss h. pass-took (a .inv .1 ix p ss h) l (k .result .end) (k .ensures .end) (d .result) (d .last .0) (d .kept .0) (d .ensures))
+pass-loop-again-2 t c = let a = (c .before .before .before .before .before .before .before .before .before .before .before .before) .loop in let k = (c .before .before .before .before .before .before .before .before .before) .child-at in let l = (c .before .before .before .before .before .before .before .before .before .before .before) .loop-test .taken in let d = (c .before .before .before .before) .advance in (record { kids-same = back-length (a .kids) (d .last .0) (a .at) (k .result .end) (d .kept .0) ∙ a .inv .0 .kids-same; a-same = d .kept .1 .1 .1 .1 .1 .0 ∙ a .inv .0 .a-same; b-same = d .kept .1 .1 .1 .1 .1 .1 .0 ∙ a .inv .0 .b-same }, λ ix p ss h. pass-took (a .inv .1 ix p ss h) l (k .result .end) (k .ensures .end) (d .result) (d .last .0) (d .kept .0) (d .ensures .0))
 
 pub pass-same-length : (t : ℕ) → pass-lts.Need-same-length (pass-calls t) (pass-at t) pass.Post pass-Inv-loop pass-μ-loop
 pass-same-length t c = (c .before) .loop .inv .0 .kids-same
