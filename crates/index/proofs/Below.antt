@@ -1,7 +1,7 @@
 -- Laws of `anyBelow` and `countBelow`. Assumes nothing.
 use mathlib.Core.Path.{_≡_, refl, sym, ap, _∙_}
 use mathlib.Core.Logic.{_⊎_, ⊎-elim}
-use mathlib.Core.Bool.{Bool, true, false, cond, _||_, or-assoc, or-comm, or-true, false≢true}
+use mathlib.Core.Bool.{Bool, true, false, cond, _&&_, _||_, and-or-distrib-right, or-assoc, or-comm, or-true, false≢true}
 use Prim.Native.Nat.{ℕ, zero, suc, _+_, _*_, _≤_, _<_}
 use native.Mathlib.Nat.{le-refl, eq-or-lt-of-le, add-suc, add-zero}
 use native.Mathlib.Numerals.{add-one}
@@ -58,6 +58,11 @@ pub any-or : (n : ℕ) (p q : ℕ → Bool) → anyBelow n (λ i. p i || q i) �
 unfolding anyBelow
 any-or zero p q = refl
 any-or (suc n) p q = rw (any-or n p q) (swap (anyBelow n p) (anyBelow n q) (p n) (q n))
+
+pub any-and : (n : ℕ) (p : ℕ → Bool) (b : Bool) → (anyBelow n p && b) ≡ anyBelow n (λ i. p i && b)
+unfolding anyBelow
+any-and zero p b = refl
+any-and (suc n) p b = and-or-distrib-right (anyBelow n p) (p n) b ∙ ap (λ (c : Bool). c || (p n && b)) (any-and n p b)
 
 -- where none is so, each is not
 pub any-at : (n : ℕ) (p : ℕ → Bool) → anyBelow n p ≡ false → (i : ℕ) → i < n → p i ≡ false

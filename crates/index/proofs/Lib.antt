@@ -1,5 +1,7 @@
 -- What the proofs of several functions use, and the laws that the crates above cite.
 pub mod Below
+pub mod High
+pub mod Gathered
 pub mod Whole
 pub mod Runs
 pub mod Known

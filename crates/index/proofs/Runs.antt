@@ -1,59 +1,19 @@
 -- A leaf's run as a part of the postings, and a posting's positions as a part of the positions. Assumes nothing.
 use mathlib.Core.Path.{_≡_, refl, sym, ap, _∙_}
-use mathlib.Core.Bool.{Bool, true, false, not, _&&_, _||_, or-false}
+use mathlib.Core.Bool.{Bool, true, false, not, _&&_, _||_, or-assoc, or-false, and-true, and-false}
 use mathlib.Core.List.{List}
-use Prim.Native.Nat.{ℕ, zero, suc, _+_, _-_, _*_, _/_, _≤_, _<_, _^_}
-use native.Mathlib.Numerals.{add-one}
+use Prim.Native.Nat.{ℕ, zero, suc, _+_, _-_, _*_, _/_, _≤_, _<_}
 use native.Mathlib.Omega.{arith}
-use lib.Dec.{eqb, leb, ltb, leb·suc-suc}
+use lib.Dec.{eqb, leb, ltb}
 use lib.ListN.{length, getD, take, drop, length-take, length-drop}
 use lib.Seq.{getD-take, getD-drop}
 use borrow.Author.Tests.{lt-ltb, le-ltb, ne-eqb}
 use Rattle.meaning.specs.Below.{anyBelow}
-use Rattle.meaning.specs.Limits.{noMoreDocs, largestFrequency}
+use Rattle.meaning.specs.Limits.{largestFrequency}
 use Rattle.meaning.specs.Lent.{Index, hasPositions, postingCount, leafField, leafFirst, leafNumber, leafDocument, leafFrequency, leafPositionsIndex}
 use Rattle.meaning.specs.IndexRefusals.{wrongPosting, wrongPositions, wrongPosition}
 use Rattle.index.specs.Runs.{wrongRecord, wrongPlace, wrongPlaces}
 use Rattle.index.proofs.Below.{any-like, any-or}
-
--- what a loop carries from one turn to the next: nothing before the first
-abbrev pub carried : (ℕ → ℕ) → ℕ → ℕ
-carried f zero = 0
-carried f (suc i) = f i
-
-carried-next : (f : ℕ → ℕ) (i : ℕ) → f i ≡ carried f (i + 1)
-carried-next f i = rw add-one
-
-pred-suc : (i : ℕ) → suc i - 1 ≡ i
-pred-suc i = omega arith
-
-ltb-suc : (a b : ℕ) → ltb a (b + 1) ≡ leb a b
-ltb-suc a b = rw add-one (leb·suc-suc a b)
-
-pub place-next : (part : List ℕ) (j : ℕ) → getD part j 0 ≡ carried (λ i. getD part i 0) (j + 1)
-place-next part j = carried-next (λ i. getD part i 0) j
-
--- the turn of the loop over positions
-pub place-flag : (part : List ℕ) (j : ℕ) → (ltb noMoreDocs (getD part j 0) || ltb (getD part j 0) (carried (λ i. getD part i 0) j)) ≡ wrongPlace part j
-unfolding wrongPlace
-place-flag part zero = rw (le-ltb (getD part 0 0) 0 (omega arith))
-place-flag part (suc j) = let h : 0 < suc j = omega arith in rw (pred-suc, lt-ltb _ _ h)
-
--- the document before plus 1
-abbrev pub floorOf : List ℕ → ℕ → ℕ
-floorOf run = carried (λ i. getD run (3 * i) 0 + 1)
-
-pub floor-next : (run : List ℕ) (i : ℕ) → getD run (3 * i) 0 + 1 ≡ floorOf run (i + 1)
-floor-next run i = carried-next (λ k. getD run (3 * k) 0 + 1) i
-
-floor-flag : (run : List ℕ) (d i : ℕ) → ltb d (floorOf run i) ≡ (ltb 0 i && leb d (getD run (3 * (i - 1)) 0))
-floor-flag run d zero = le-ltb d 0 (omega arith)
-floor-flag run d (suc i) = let h : 0 < suc i = omega arith in rw (pred-suc, lt-ltb _ _ h) (ltb-suc d (getD run (3 * i) 0))
-
--- the turn of the loop over records
-pub record-flag : (n most : ℕ) (run : List ℕ) (i : ℕ) → (leb n (getD run (3 * i) 0) || ltb (getD run (3 * i) 0) (floorOf run i) || eqb (getD run (3 * i + 1) 0) 0 || ltb largestFrequency (getD run (3 * i + 1) 0) || ltb most (getD run (3 * i + 2) 0)) ≡ wrongRecord n most run i
-unfolding wrongRecord
-record-flag n most run i = rw (floor-flag run (getD run (3 * i) 0) i)
 
 -- a posting's positions
 module _ (positions : List ℕ) (index frequency : ℕ) (fits : index + frequency ≤ length positions) where
@@ -104,47 +64,52 @@ module _ (ix : Index) (l : ℕ) (fits : leafFirst ix l + leafNumber ix l ≤ pos
   run-index i h = run-word (3 * i + 2) (3 * (leafFirst ix l + i) + 2) (omega arith) (omega arith)
 
   -- wrongRecord of the run, said of the leaf
-  leafRecord : ℕ → ℕ → Bool
-  leafRecord most i =
-      leb (ix .maxDoc) (leafDocument ix l i) || (ltb 0 i && leb (leafDocument ix l i) (leafDocument ix l (i - 1))) || eqb (leafFrequency ix l i) 0 || ltb largestFrequency (leafFrequency ix l i) || ltb most (leafPositionsIndex ix l i)
+  leafRecord : Bool → ℕ → Bool
+  leafRecord positions i =
+      (leb (ix .maxDoc) (leafDocument ix l i) || (ltb 0 i && leb (leafDocument ix l i) (leafDocument ix l (i - 1)))) || (eqb (leafFrequency ix l i) 0 || ltb largestFrequency (leafFrequency ix l i)) || (ltb 0 (leafPositionsIndex ix l i) && not positions)
 
-  record-is : (most i : ℕ) → i < leafNumber ix l → wrongRecord (ix .maxDoc) most runOf i ≡ leafRecord most i
+  record-is : (positions : Bool) (i : ℕ) → i < leafNumber ix l → wrongRecord (ix .maxDoc) positions runOf i ≡ leafRecord positions i
   unfolding wrongRecord leafRecord
-  record-is most i h = let g : i - 1 < leafNumber ix l = omega arith in rw (run-document i h, run-document (i - 1) g, run-frequency i h, run-index i h)
+  record-is positions i h =
+      let g : i - 1 < leafNumber ix l = omega arith in rw (run-document i h, run-document (i - 1) g, run-frequency i h, run-index i h)
 
   places-is : (i : ℕ) → i < leafNumber ix l → wrongPlaces runOf (ix .positions) i ≡ (ltb (length (ix .positions)) (leafPositionsIndex ix l i + leafFrequency ix l i) || anyBelow (leafFrequency ix l i) (wrongPosition ix l i))
   unfolding wrongPlaces
   places-is i h = rw (run-frequency i h, run-index i h, any-like (leafFrequency ix l i) _ _ (λ j g. places-are ix l i j))
 
-  posting-with : (i : ℕ) → hasPositions ix (leafField ix l) ≡ true → getD (ix .postings) (3 * (leafFirst ix l + i) + 2) 0 < 2 ^ 32 → (leafRecord 4294967295 i || (ltb (length (ix .positions)) (leafPositionsIndex ix l i + leafFrequency ix l i) || anyBelow (leafFrequency ix l i) (wrongPosition ix l i))) ≡ wrongPosting ix l i
+  -- the first four parts of wrongPosting, grouped as the code has them
+  grouped : (a b c d e : Bool) → ((a || b) || (c || d) || e) ≡ (a || b || c || d || e)
+  grouped a b c d e = ap (λ (x : Bool). x || e) (sym (or-assoc (a || b) c d))
+
+  posting-with : (i : ℕ) → hasPositions ix (leafField ix l) ≡ true → (leafRecord true i || (ltb (length (ix .positions)) (leafPositionsIndex ix l i + leafFrequency ix l i) || anyBelow (leafFrequency ix l i) (wrongPosition ix l i))) ≡ wrongPosting ix l i
   unfolding leafRecord wrongPosting wrongPositions
-  posting-with i e h = let g : leafPositionsIndex ix l i ≤ 4294967295 = omega arith in rw (e, le-ltb _ _ g, or-false)
+  posting-with i e = rw (e, and-false, or-false) (grouped (leb (ix .maxDoc) (leafDocument ix l i)) (ltb 0 i && leb (leafDocument ix l i) (leafDocument ix l (i - 1))) (eqb (leafFrequency ix l i) 0) (ltb largestFrequency (leafFrequency ix l i)) _)
 
   -- an index above 0 is one that is not 0
   above-zero : (n : ℕ) → ltb 0 n ≡ not (eqb n 0)
   above-zero zero = refl
-  above-zero (suc n) = let h : 0 < suc n = omega arith in let g : (suc n ≡ 0) → ⊥ = λ e. omega arith in rw (lt-ltb _ _ h, ne-eqb _ _ g)
+  above-zero (suc n) = let h : 0 < suc n = omega arith in let g : suc n ≡ 0 → ⊥ = λ e. omega arith in rw (lt-ltb _ _ h, ne-eqb _ _ g)
 
-  posting-without : (i : ℕ) → hasPositions ix (leafField ix l) ≡ false → leafRecord 0 i ≡ wrongPosting ix l i
+  posting-without : (i : ℕ) → hasPositions ix (leafField ix l) ≡ false → leafRecord false i ≡ wrongPosting ix l i
   unfolding leafRecord wrongPosting wrongPositions
-  posting-without i e = rw (e, above-zero (leafPositionsIndex ix l i))
+  posting-without i e = rw (e, and-true, above-zero (leafPositionsIndex ix l i)) (grouped (leb (ix .maxDoc) (leafDocument ix l i)) (ltb 0 i && leb (leafDocument ix l i) (leafDocument ix l (i - 1))) (eqb (leafFrequency ix l i) 0) (ltb largestFrequency (leafFrequency ix l i)) _)
 
   -- the two passes over a run in a field with positions
-  run-with : hasPositions ix (leafField ix l) ≡ true → ((k : ℕ) → getD (ix .postings) k 0 < 2 ^ 32) → (anyBelow (length runOf / 3) (wrongRecord (ix .maxDoc) 4294967295 runOf) || anyBelow (length runOf / 3) (wrongPlaces runOf (ix .positions))) ≡ anyBelow (leafNumber ix l) (wrongPosting ix l)
-  run-with e h =
-      rw run-count (sym (any-or (leafNumber ix l) _ _) ∙ any-like (leafNumber ix l) _ _ (λ i g. ap (λ (b : Bool). b || wrongPlaces runOf (ix .positions) i) (record-is 4294967295 i g) ∙ ap (λ (b : Bool). leafRecord 4294967295 i || b) (places-is i g) ∙ posting-with i e (h _)))
+  run-with : hasPositions ix (leafField ix l) ≡ true → (anyBelow (length runOf / 3) (wrongRecord (ix .maxDoc) true runOf) || anyBelow (length runOf / 3) (wrongPlaces runOf (ix .positions))) ≡ anyBelow (leafNumber ix l) (wrongPosting ix l)
+  run-with e =
+      rw run-count (sym (any-or (leafNumber ix l) _ _) ∙ any-like (leafNumber ix l) _ _ (λ i g. ap (λ (b : Bool). b || wrongPlaces runOf (ix .positions) i) (record-is true i g) ∙ ap (λ (b : Bool). leafRecord true i || b) (places-is i g) ∙ posting-with i e))
 
   -- the one pass in a field without
-  run-without : hasPositions ix (leafField ix l) ≡ false → anyBelow (length runOf / 3) (wrongRecord (ix .maxDoc) 0 runOf) ≡ anyBelow (leafNumber ix l) (wrongPosting ix l)
-  run-without e = rw run-count (any-like (leafNumber ix l) _ _ (λ i g. record-is 0 i g ∙ posting-without i e))
+  run-without : hasPositions ix (leafField ix l) ≡ false → anyBelow (length runOf / 3) (wrongRecord (ix .maxDoc) false runOf) ≡ anyBelow (leafNumber ix l) (wrongPosting ix l)
+  run-without e = rw run-count (any-like (leafNumber ix l) _ _ (λ i g. record-is false i g ∙ posting-without i e))
 
   -- the same where the code holds the leaf's words in locals
   abbrev partOf : ℕ → ℕ → List ℕ
   partOf first number = take (3 * first + 3 * number - 3 * first) (drop (3 * first) (ix .postings))
 
   module _ (first number : ℕ) (e : first ≡ leafFirst ix l) (g : number ≡ leafNumber ix l) where
-    pub run-flag-with : (r s : Bool) → r ≡ anyBelow (length (partOf first number) / 3) (wrongRecord (ix .maxDoc) 4294967295 (partOf first number)) → s ≡ anyBelow (length (partOf first number) / 3) (wrongPlaces (partOf first number) (ix .positions)) → hasPositions ix (leafField ix l) ≡ true → ((k : ℕ) → getD (ix .postings) k 0 < 2 ^ 32) → (r || s) ≡ anyBelow (leafNumber ix l) (wrongPosting ix l)
-    run-flag-with r s a b h k = rw (a, b, e, g) (run-with h k)
+    pub run-flag-with : (r s : Bool) → r ≡ anyBelow (length (partOf first number) / 3) (wrongRecord (ix .maxDoc) true (partOf first number)) → s ≡ anyBelow (length (partOf first number) / 3) (wrongPlaces (partOf first number) (ix .positions)) → hasPositions ix (leafField ix l) ≡ true → (r || s) ≡ anyBelow (leafNumber ix l) (wrongPosting ix l)
+    run-flag-with r s a b h = rw (a, b, e, g) (run-with h)
 
-    pub run-flag-without : (r : Bool) → r ≡ anyBelow (length (partOf first number) / 3) (wrongRecord (ix .maxDoc) 0 (partOf first number)) → hasPositions ix (leafField ix l) ≡ false → r ≡ anyBelow (leafNumber ix l) (wrongPosting ix l)
+    pub run-flag-without : (r : Bool) → r ≡ anyBelow (length (partOf first number) / 3) (wrongRecord (ix .maxDoc) false (partOf first number)) → hasPositions ix (leafField ix l) ≡ false → r ≡ anyBelow (leafNumber ix l) (wrongPosting ix l)
     run-flag-without r a h = rw (a, e, g) (run-without h)

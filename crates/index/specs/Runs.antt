@@ -1,6 +1,6 @@
 -- What the loops of refusal 5 look for in a leaf's run of posting records, and in a posting's part of the positions.
 -- Assumes nothing: these are definitions.
-use mathlib.Core.Bool.{Bool, _&&_, _||_}
+use mathlib.Core.Bool.{Bool, not, _&&_, _||_}
 use mathlib.Core.List.{List}
 use Prim.Native.Nat.{ℕ, _+_, _-_, _*_}
 use lib.Dec.{eqb, leb, ltb}
@@ -18,10 +18,10 @@ postingFrequency ps first i = getD ps (3 * (first + i) + 1) 0
 abbrev pub postingIndex : List ℕ → ℕ → ℕ → ℕ
 postingIndex ps first i = getD ps (3 * (first + i) + 2) 0
 
--- a document not below N or not above the one before, a frequency outside, or an index above the most that is allowed
-unfoldable pub wrongRecord : ℕ → ℕ → List ℕ → ℕ → Bool
-wrongRecord n most run i =
-    leb n (getD run (3 * i) 0) || (ltb 0 i && leb (getD run (3 * i) 0) (getD run (3 * (i - 1)) 0)) || eqb (getD run (3 * i + 1) 0) 0 || ltb largestFrequency (getD run (3 * i + 1) 0) || ltb most (getD run (3 * i + 2) 0)
+-- a document not below N or not above the one before, a frequency outside, or in a field without positions an index not 0
+unfoldable pub wrongRecord : ℕ → Bool → List ℕ → ℕ → Bool
+wrongRecord n positions run i =
+    (leb n (getD run (3 * i) 0) || (ltb 0 i && leb (getD run (3 * i) 0) (getD run (3 * (i - 1)) 0))) || (eqb (getD run (3 * i + 1) 0) 0 || ltb largestFrequency (getD run (3 * i + 1) 0)) || (ltb 0 (getD run (3 * i + 2) 0) && not positions)
 
 -- a position falling, or above 2147483647
 unfoldable pub wrongPlace : List ℕ → ℕ → Bool

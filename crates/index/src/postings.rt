@@ -2,7 +2,7 @@
 ghost use mathlib.Core.Path.{_≡_};
 ghost use mathlib.Core.List.{[]};
 ghost use mathlib.Core.Bool.{false, _||_};
-ghost use Prim.Native.Nat.{_<_, _+_, _*_, _/_};
+ghost use Prim.Native.Nat.{_<_, _≤_, _+_, _*_, _/_};
 ghost use lib.Dec.{eqb, leb, ltb};
 ghost use lib.ListN.{length};
 ghost use Rattle.meaning.specs.Below.{anyBelow};
@@ -14,13 +14,13 @@ use super::fields::field_at;
 use super::leaves::leaf_at;
 use super::sum;
 use super::wide;
+use std::num::wrapping_add_u32;
+use std::num::wrapping_sub_u32;
 
 // The limits of document 01: NO_MORE_DOCS is also the largest position; a frequency of 1 to 16,777,216.
 pub const NO_MORE_DOCS: u32 = 2147483647;
 
 const LARGEST_FREQUENCY: u32 = 16777216;
-// Every word is at most this: in a field with positions the index is looked at with the positions.
-const ANY_INDEX: u32 = 4294967295;
 
 // The document of the i-th posting at or after posting first.
 pub fn posting_document(postings: &[u32], first: usize, i: usize) -> u32
@@ -46,55 +46,45 @@ pub fn posting_index(postings: &[u32], first: usize, i: usize) -> u32
     postings[3 * (first + i) + 2]
 }
 
-// A word where a document + 1 must not wrap.
-fn wider(x: u32) -> u64
-    ensures { λ r. ⌜ r ≡ x ⌝ }
-{
-    x as u64
-}
-
-// One record; floor is the document before plus 1, and 0 for the first. Flags and no branches, so that a loop stays tight.
-fn wrong_record(doc: u32, frequency: u32, index: u32, max_doc: u32, floor: u64, most: u32) -> bool
-    ensures { λ r. ⌜ r ≡ leb «max_doc» doc || ltb doc floor || eqb frequency 0 || ltb 16777216 frequency || ltb most index ⌝ }
-{
-    (doc >= max_doc)
-        | (wider(doc) < floor)
-        | (frequency == 0)
-        | (frequency > LARGEST_FREQUENCY)
-        | (index > most)
-}
-
-// The records of a run, in one pass without an early exit.
-fn wrong_records(run: &[u32], max_doc: u32, most: u32) -> bool
-    ensures { λ r. ⌜ r ≡ anyBelow (length (now (run .entry)) / 3) (wrongRecord «max_doc» most (now (run .entry))) ⌝ }
+// The records of a run in one pass without a branch. The or of all words shows in its high bits whether one is too large:
+// a document, or its distance above the document before, from 2^31 on; a frequency less 1 from 2^24 on; an index from 1 on.
+fn wrong_records(run: &[u32], max_doc: u32, has_positions: bool) -> bool
+    requires { ⌜ «max_doc» ≤ 2147483648 ⌝ }
+    ensures { λ r. ⌜ r ≡ anyBelow (length (now (run .entry)) / 3) (wrongRecord «max_doc» «has_positions» (now (run .entry))) ⌝ }
 {
     let count = run.len() / 3;
-    let mut bad = false;
-    let mut floor: u64 = 0;
+    let mut steps: u32 = 0;
+    let mut frequencies: u32 = 0;
+    let mut indexes: u32 = 0;
+    let mut floor: u32 = 0;
     let mut i = 0;
     while i < count {
         let doc = run[3 * i];
-        bad = bad | wrong_record(doc, run[3 * i + 1], run[3 * i + 2], max_doc, floor, most);
-        floor = wider(doc) + 1;
+        steps = steps | doc | wrapping_sub_u32(doc, floor);
+        frequencies = frequencies | wrapping_sub_u32(run[3 * i + 1], 1);
+        indexes = indexes | run[3 * i + 2];
+        floor = wrapping_add_u32(doc, 1);
         i += 1;
     }
-    bad
+    ((steps > NO_MORE_DOCS) | (floor > max_doc))
+        | (frequencies >= LARGEST_FREQUENCY)
+        | ((indexes > 0) & !has_positions)
 }
 
-// The positions of one posting, in one pass without an early exit: falling, or above NO_MORE_DOCS.
+// The positions of one posting in one pass without a branch: falling, or above NO_MORE_DOCS, by the high bit of an or.
 fn wrong_places(part: &[u32]) -> bool
     ensures { λ r. ⌜ r ≡ anyBelow (length (now (part .entry))) (wrongPlace (now (part .entry))) ⌝ }
 {
-    let mut bad = false;
+    let mut steps: u32 = 0;
     let mut previous: u32 = 0;
     let mut j = 0;
     while j < part.len() {
         let place = part[j];
-        bad = bad | ((place > NO_MORE_DOCS) | (place < previous));
+        steps = steps | place | wrapping_sub_u32(place, previous);
         previous = place;
         j += 1;
     }
-    bad
+    steps > NO_MORE_DOCS
 }
 
 // The positions of a run's postings, where they lie within the slice.
@@ -126,6 +116,7 @@ fn wrong_run(
     positions: &[u32],
     l: usize,
 ) -> bool
+    requires { ⌜ «max_doc» ≤ 1048576 ⌝ }
     requires { ⌜ wrong4 (leavesOnly (now fields) (now leaves) (now postings)) ≡ false ⌝ }
     requires { ⌜ l < length (now leaves) / 4 ⌝ }
     ensures { λ r. ⌜ r ≡ anyBelow (leafNumber (leavesOnly [] (now (leaves .entry)) []) l) (wrongPosting (runsOnly «max_doc» (now (fields .entry)) (now (leaves .entry)) (now (postings .entry)) (now (positions .entry))) l) ⌝ }
@@ -136,9 +127,9 @@ fn wrong_run(
     let to = from + 3 * wide(leaf.number);
     let run = &postings[from..to];
     if field.positions == 1 {
-        wrong_records(run, max_doc, ANY_INDEX) | wrong_run_places(run, positions)
+        wrong_records(run, max_doc, true) | wrong_run_places(run, positions)
     } else {
-        wrong_records(run, max_doc, 0)
+        wrong_records(run, max_doc, false)
     }
 }
 
@@ -150,6 +141,7 @@ pub fn wrong_postings(
     postings: &[u32],
     positions: &[u32],
 ) -> bool
+    requires { ⌜ «max_doc» ≤ 1048576 ⌝ }
     requires { ⌜ wrong4 (leavesOnly (now fields) (now leaves) (now postings)) ≡ false ⌝ }
     ensures { λ r. ⌜ r ≡ wrong5 (runsOnly «max_doc» (now (fields .entry)) (now (leaves .entry)) (now (postings .entry)) (now (positions .entry))) ⌝ }
 {

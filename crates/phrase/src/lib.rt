@@ -7,7 +7,7 @@ ghost use lib.ListN.{length, take};
 ghost use lib.IntN.{subℕ};
 ghost use Rattle.meaning.specs.Phrase.{commonSize};
 ghost use Rattle.phrase.specs.Terms.{termAt, startsOf, startLists, GoodTerm, Good, Room, Rarest};
-ghost use Rattle.phrase.specs.Common.{Ascending, Common, Candidates, Left};
+ghost use Rattle.phrase.specs.Common.{Ascending, Common, unmetFrom, Candidates, Left, Meets};
 ghost use Rattle.phrase.specs.Place.{PlacedIn};
 
 pub enum Placed {
@@ -113,6 +113,43 @@ fn intersect(positions: &[u32], t: Term, cands: &[i32], out: &mut [i32]) -> usiz
     n
 }
 
+// The record to meet at or after a word: the rarest term's is not met again.
+fn unmet(rarest: usize, at: usize) -> usize
+    requires { ⌜ rarest + 3 < 18446744073709551616 ⌝ }
+    ensures { λ r. ⌜ r ≡ unmetFrom rarest at ⌝ }
+{
+    if at == rarest { at + 3 } else { at }
+}
+
+// What one more term leaves: so many candidates, and the record to meet next, or the end where there is none to meet or
+// nothing is left.
+pub struct Met {
+    pub n: usize,
+    pub next: usize,
+}
+
+fn meet(
+    positions: &[u32],
+    terms: &[u32],
+    rarest: usize,
+    at: usize,
+    cands: &[i32],
+    spare: &mut [i32],
+) -> Met
+    requires { ⌜ Candidates (now positions) (now terms) rarest at (now cands) (length (now spare)) ⌝ }
+    ensures { λ r. ⌜ (r .n ≤ length (now (cands .entry))) × Meets (now (positions .entry)) (now (terms .entry)) rarest at (now (cands .entry)) (take (r .n) (now (spare .exit))) (r .next) ⌝ }
+{
+    let n = intersect(positions, term_at(terms, at), cands, spare);
+    if n == 0 {
+        return Met {
+            n,
+            next: terms.len(),
+        };
+    }
+    let next = unmet(rarest, at + 3);
+    Met { n, next }
+}
+
 // The candidates that every term from `at` on has, but for the rarest, which they came from: a part of whichever buffer was
 // written last. The buffers change places with each term met.
 fn survivors<'a>(
@@ -126,20 +163,17 @@ fn survivors<'a>(
     requires { ⌜ Candidates (now positions) (now terms) rarest at (now cands) (length (now spare)) ⌝ }
     ensures { λ r. ⌜ Left (now (positions .entry)) (now (terms .entry)) at (now (cands .entry)) (now r) ⌝ }
 {
-    if at == terms.len() {
-        return cands;
+    let m = meet(positions, terms, rarest, at, cands, spare);
+    let n = m.n;
+    let next = m.next;
+    if next == terms.len() {
+        return &mut spare[..n];
     }
-    if cands.len() == 0 {
-        return cands;
-    }
-    if at == rarest {
-        return survivors(positions, terms, rarest, at + 3, cands, spare);
-    }
-    let n = intersect(positions, term_at(terms, at), cands, spare);
-    survivors(positions, terms, rarest, at + 3, &mut spare[..n], cands)
+    survivors(positions, terms, rarest, next, &mut spare[..n], cands)
 }
 
-// The common part of all the terms' starts: the rarest term's first, then whatever the others leave of them.
+// The common part of all the terms' starts: the rarest term's first, then whatever the others leave of them. The first of
+// the others is met here, so that a phrase of two terms makes no further call.
 fn common<'a>(positions: &[u32], terms: &[u32], a: &'a mut [i32], b: &'a mut [i32]) -> &'a mut [i32]
     requires { ⌜ Good (now positions) (now terms) × (Room (now terms) (length (now a)) × Room (now terms) (length (now b))) ⌝ }
     ensures { λ r. ⌜ Common (startLists (now (positions .entry)) (now (terms .entry))) (now r) × (length (now r) < 4294967296) ⌝ }
@@ -148,7 +182,17 @@ fn common<'a>(positions: &[u32], terms: &[u32], a: &'a mut [i32], b: &'a mut [i3
     let t = term_at(terms, best);
     let freq = t.freq;
     write_starts(positions, t, a);
-    survivors(positions, terms, best, 0, &mut a[..freq], b)
+    let at = unmet(best, 0);
+    if at == terms.len() {
+        return &mut a[..freq];
+    }
+    let m = meet(positions, terms, best, at, &a[..freq], b);
+    let n = m.n;
+    let next = m.next;
+    if next == terms.len() {
+        return &mut b[..n];
+    }
+    survivors(positions, terms, best, next, &mut b[..n], &mut a[..freq])
 }
 
 pub fn frequency(positions: &[u32], terms: &[u32], a: &mut [i32], b: &mut [i32]) -> u32

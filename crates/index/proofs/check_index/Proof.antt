@@ -1,4 +1,6 @@
 -- `index::check_index` meets its contract. Assumes nothing.
+use Rattle.index.proofs.Known.{documents-few}
+-- `index::check_index` meets its contract. Assumes nothing.
 use Rattle.index.proofs.Refused.{refused-1, refused-2, refused-3, refused-4, refused-5, refused-6, not-refused}
 use Rattle.index.proofs.Parts.{wrong1-of, wrong2-of, wrong3-of, wrong4-of, wrong5-of, wrong6-of, wrong1-columns}
 use Rattle.index.specs.Slices.{lent}
@@ -60,7 +62,7 @@ returns-4 : tie.Need-returns-4
 returns-4 c = let s = (start (c .before .before .before .before .before .before)) in refused-4 (ix s) (n1 (c .before .before .before .before .before .before)) (n2 (c .before .before .before .before)) (n3 (c .before .before)) (wrong4-of (ix s) ∙ sym (c .before .wrong-leaves .ensures) ∙ c .if4 .taken)
 
 wrong-postings-requires : tie.Need-wrong-postings-requires
-wrong-postings-requires c κs = sym (wrong4-of (ix (start (c .before .before .before .before .before .before)))) ∙ n4 c
+wrong-postings-requires c κs = let a = c .before .before .before .before .before .before in (documents-few (ix (start a)) (n1 a), sym (wrong4-of (ix (start a))) ∙ n4 c)
 
 returns-5 : tie.Need-returns-5
 returns-5 c = let s = (start (c .before .before .before .before .before .before .before .before)) in refused-5 (ix s) (n1 (c .before .before .before .before .before .before .before .before)) (n2 (c .before .before .before .before .before .before)) (n3 (c .before .before .before .before)) (n4 (c .before .before)) (wrong5-of (ix s) ∙ sym (c .before .wrong-postings .ensures) ∙ c .if5 .taken)

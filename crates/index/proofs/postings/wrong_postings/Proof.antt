@@ -26,7 +26,7 @@ loop-holds : tie.Need-loop-holds Inv-loop μ-loop
 loop-holds c = (sym (any-none _), omega arith)
 
 wrong-run-requires : tie.Need-wrong-run-requires Inv-loop μ-loop
-wrong-run-requires c κs = (c .before .before .before .before .before .before .before .pre, omega arith)
+wrong-run-requires c κs = let s = c .before .before .before .before .before .before .before in (s .pre .0, (s .pre .1, omega arith))
 
 add-l : tie.Need-add-l Inv-loop μ-loop
 add-l c = search needs

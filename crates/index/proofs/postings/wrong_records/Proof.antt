@@ -1,23 +1,20 @@
 -- `index::postings::wrong_records` meets its contract. Assumes nothing.
-use Rattle.index.specs.Runs.{wrongRecord}
-use Rattle.index.proofs.Runs.{floorOf, floor-next, record-flag}
-use Rattle.meaning.specs.Below.{anyBelow}
+use Rattle.index.proofs.Below.{any-done}
 use native.Mathlib.Omega.{arith}
-use Prim.Native.Nat.{ℕ, _+_, _-_, _*_, _≤_}
-use mathlib.Core.Path.{_≡_, refl, sym, ap, _∙_}
-use Rattle.index.proofs.Below.{any-none, any-more, any-done}
+use Prim.Native.Nat.{_-_, _≤_}
 use borrow.Author.Needs.{needs}
+use Rattle.index.proofs.Gathered.{Records, records-none, records-more, records-all}
 use Rattle.index.proofs.postings.wrong_records.Statement.{statement}
 use Rattle.index.proofs.postings.wrong_records.Tie as tie
 
 abbrev Inv-loop : tie.InvT-loop
-Inv-loop run max-doc most count bad₀ floor₀ i₀ bad floor i = (bad ≡ anyBelow i (wrongRecord max-doc most run)) × (i ≤ count) × (floor ≡ floorOf run i)
+Inv-loop run max-doc has-positions count steps₀ frequencies₀ indexes₀ floor₀ i₀ steps frequencies indexes floor i = Records run i steps frequencies indexes floor × (i ≤ count)
 
 abbrev μ-loop : tie.MeasureT-loop
-μ-loop run max-doc most count bad₀ floor₀ i₀ bad floor i = count - i
+μ-loop run max-doc has-positions count steps₀ frequencies₀ indexes₀ floor₀ i₀ steps frequencies indexes floor i = count - i
 
 loop-holds : tie.Need-loop-holds Inv-loop μ-loop
-loop-holds c = (sym (any-none _), omega arith, refl)
+loop-holds c = (records-none _, omega arith)
 
 mul-doc : tie.Need-mul-doc Inv-loop μ-loop
 mul-doc c = search needs
@@ -28,38 +25,38 @@ mul-doc-2 c = search needs
 shared-slice-read-doc : tie.Need-shared-slice-read-doc Inv-loop μ-loop
 shared-slice-read-doc c = search needs
 
-mul-wrong-record : tie.Need-mul-wrong-record Inv-loop μ-loop
-mul-wrong-record c = search needs
+wrapping-sub-u32-requires : tie.Need-wrapping-sub-u32-requires Inv-loop μ-loop
+wrapping-sub-u32-requires c κs = search needs
 
-add-wrong-record : tie.Need-add-wrong-record Inv-loop μ-loop
-add-wrong-record c = search needs
+mul-wrapping-sub-u32 : tie.Need-mul-wrapping-sub-u32 Inv-loop μ-loop
+mul-wrapping-sub-u32 c = search needs
 
-mul-wrong-record-2 : tie.Need-mul-wrong-record-2 Inv-loop μ-loop
-mul-wrong-record-2 c = search needs
+add-wrapping-sub-u32 : tie.Need-add-wrapping-sub-u32 Inv-loop μ-loop
+add-wrapping-sub-u32 c = search needs
 
-shared-slice-read-wrong-record : tie.Need-shared-slice-read-wrong-record Inv-loop μ-loop
-shared-slice-read-wrong-record c = search needs
+mul-wrapping-sub-u32-2 : tie.Need-mul-wrapping-sub-u32-2 Inv-loop μ-loop
+mul-wrapping-sub-u32-2 c = search needs
 
-mul-wrong-record-3 : tie.Need-mul-wrong-record-3 Inv-loop μ-loop
-mul-wrong-record-3 c = search needs
+shared-slice-read-wrapping-sub-u32 : tie.Need-shared-slice-read-wrapping-sub-u32 Inv-loop μ-loop
+shared-slice-read-wrapping-sub-u32 c = search needs
 
-add-wrong-record-2 : tie.Need-add-wrong-record-2 Inv-loop μ-loop
-add-wrong-record-2 c = search needs
+wrapping-sub-u32-requires-2 : tie.Need-wrapping-sub-u32-requires-2 Inv-loop μ-loop
+wrapping-sub-u32-requires-2 c κs = search needs
 
-mul-wrong-record-4 : tie.Need-mul-wrong-record-4 Inv-loop μ-loop
-mul-wrong-record-4 c = search needs
+mul-indexes : tie.Need-mul-indexes Inv-loop μ-loop
+mul-indexes c = search needs
 
-shared-slice-read-wrong-record-2 : tie.Need-shared-slice-read-wrong-record-2 Inv-loop μ-loop
-shared-slice-read-wrong-record-2 c = search needs
+add-indexes : tie.Need-add-indexes Inv-loop μ-loop
+add-indexes c = search needs
 
-wrong-record-requires : tie.Need-wrong-record-requires Inv-loop μ-loop
-wrong-record-requires c κs = search needs
+mul-indexes-2 : tie.Need-mul-indexes-2 Inv-loop μ-loop
+mul-indexes-2 c = search needs
 
-wider-requires : tie.Need-wider-requires Inv-loop μ-loop
-wider-requires c κs = search needs
+shared-slice-read-indexes : tie.Need-shared-slice-read-indexes Inv-loop μ-loop
+shared-slice-read-indexes c = search needs
 
-add-floor : tie.Need-add-floor Inv-loop μ-loop
-add-floor c = omega (arith, c .before .before .before .before .shared-slice-known2 .given (3 * c .before .before .before .before .before .before .loop .i), c .wider .ensures)
+wrapping-add-u32-requires : tie.Need-wrapping-add-u32-requires Inv-loop μ-loop
+wrapping-add-u32-requires c κs = search needs
 
 add-i : tie.Need-add-i Inv-loop μ-loop
 add-i c = search needs
@@ -68,10 +65,10 @@ loop-less : tie.Need-loop-less Inv-loop μ-loop
 loop-less c = search needs
 
 loop-again : tie.Need-loop-again Inv-loop μ-loop
-loop-again c = let a = c .before .before .before .before .before .before in (any-more _ _ _ _ (a .loop .inv .0) (c .before .wrong-record .ensures ∙ rw (a .loop .inv .2) (record-flag _ _ _ _)), omega arith, ap (λ (x : ℕ). x + 1) (c .wider .ensures) ∙ floor-next (a .before .before .args .run .now) (a .loop .i))
+loop-again c = let a = c .before .before .before .before .before .before .before in let w = c .before .before .before .before in let v = c .before .before in (records-more _ _ _ _ _ _ (a .loop .inv .0) _ _ _ (w .wrapping-sub-u32 .ensures) (w .wrapping-sub-u32 .ok) (v .wrapping-sub-u322 .ensures) (v .wrapping-sub-u322 .ok) (c .wrapping-add-u32 .ensures), omega arith)
 
 returns : tie.Need-returns Inv-loop μ-loop
-returns c = any-done _ _ _ _ (c .before .loop .inv .0) (c .before .loop .inv .1) (c .loop-test .left)
+returns c = let s = c .before .before .before in any-done _ _ _ _ (records-all (s .args .max-doc) (s .pre) (s .args .run .now) (s .args .has-positions) _ _ _ _ _ (c .before .loop .inv .0)) (c .before .loop .inv .1) (c .loop-test .left)
 
 pub wrong-records-spec : {M : Type 1} → statement M
 wrong-records-spec =
@@ -83,17 +80,17 @@ wrong-records-spec =
     mul-doc
     mul-doc-2
     shared-slice-read-doc
-    mul-wrong-record
-    add-wrong-record
-    mul-wrong-record-2
-    shared-slice-read-wrong-record
-    mul-wrong-record-3
-    add-wrong-record-2
-    mul-wrong-record-4
-    shared-slice-read-wrong-record-2
-    wrong-record-requires
-    wider-requires
-    add-floor
+    wrapping-sub-u32-requires
+    mul-wrapping-sub-u32
+    add-wrapping-sub-u32
+    mul-wrapping-sub-u32-2
+    shared-slice-read-wrapping-sub-u32
+    wrapping-sub-u32-requires-2
+    mul-indexes
+    add-indexes
+    mul-indexes-2
+    shared-slice-read-indexes
+    wrapping-add-u32-requires
     add-i
     loop-less
     loop-again

@@ -19,7 +19,7 @@ abbrev ix : tie.Start → Index
 ix s = runsOnly (s .args .max-doc) (s .args .fields .now) (s .args .leaves .now) (s .args .postings .now) (s .args .positions .now)
 
 ok : (s : tie.Start) → LeafOk (ix s) (s .args .l)
-ok s = leaf-ok (ix s) (wrong4-of (ix s) ∙ s .pre .0) (s .args .l) (s .pre .1)
+ok s = leaf-ok (ix s) (wrong4-of (ix s) ∙ s .pre .1 .0) (s .args .l) (s .pre .1 .1)
 
 -- the leaf's words in the locals
 abbrev start : tie.After-wide3 → tie.Start
@@ -83,7 +83,7 @@ wrong-records-requires-2 : tie.Need-wrong-records-requires-2
 wrong-records-requires-2 c κs = search needs
 
 returns : tie.Need-returns
-returns c = let a = c .before .before .before .before .before in let s = start a in run-flag-with (ix s) (s .args .l) (ok s .run) _ _ (first-is a) (number-is a) _ _ (c .before .wrong-records .ensures) (c .wrong-run-places .ensures) (eq-eqb _ _ (sym (flag-is a) ∙ c .before .before .if1 .taken)) (λ k. a .before .before .before .before .before .before .shared-slice-known3 .given k .fits)
+returns c = let a = c .before .before .before .before .before in let s = start a in run-flag-with (ix s) (s .args .l) (ok s .run) _ _ (first-is a) (number-is a) _ _ (c .before .wrong-records .ensures) (c .wrong-run-places .ensures) (eq-eqb _ _ (sym (flag-is a) ∙ c .before .before .if1 .taken))
 
 returns-2 : tie.Need-returns-2
 returns-2 c = let a = c .before .before .before .before in let s = start a in run-flag-without (ix s) (s .args .l) (ok s .run) _ _ (first-is a) (number-is a) _ (c .wrong-records2 .ensures) (ne-eqb _ _ (λ e. c .before .if1 .left (flag-is a ∙ e)))

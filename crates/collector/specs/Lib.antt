@@ -1,0 +1,4 @@
+-- What the contracts of this crate cite beyond document 01's definitions.
+pub mod Heap
+pub mod State
+pub mod Collected

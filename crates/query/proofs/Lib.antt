@@ -1,0 +1,13 @@
+-- The laws of this crate: those that the functions' proofs cite, and those for the crates above.
+pub mod Below
+pub mod Inverse
+pub mod Spans
+pub mod Steps
+pub mod Clauses
+pub mod Whole
+pub mod Values
+pub mod Above
+pub mod Accepted
+pub mod Needs
+pub mod Deeper
+pub mod Right
