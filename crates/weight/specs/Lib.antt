@@ -4,3 +4,4 @@ pub mod Weigh
 pub mod State
 pub mod Held
 pub mod Sound
+pub mod Measured

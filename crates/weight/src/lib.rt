@@ -1,1 +1,2 @@
 // A query made ready for an index.
+pub mod measure;

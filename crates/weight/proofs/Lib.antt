@@ -1,0 +1,6 @@
+-- The laws of this crate.
+pub mod Standing
+pub mod Tallies
+pub mod Phrases
+pub mod Clauses
+pub mod Measures
