@@ -4,3 +4,4 @@ pub mod Tallies
 pub mod Phrases
 pub mod Clauses
 pub mod Measures
+pub mod Listing

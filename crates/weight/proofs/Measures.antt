@@ -184,7 +184,7 @@ child-here q at w h (inr kind) =
     not-nine n e f = omega (arith, e, f)
 
 -- ---- one record more
-from-or : (r i : ℕ) → r ≤ i → (i ≡ r) ⊎ (r + 1 ≤ i)
+pub from-or : (r i : ℕ) → r ≤ i → (i ≡ r) ⊎ (r + 1 ≤ i)
 from-or zero zero h = inl refl
 from-or zero (suc i) h = inr (omega arith)
 from-or (suc r) zero h = absurd (omega (arith, h))

@@ -79,3 +79,20 @@ pub record Held (q nexts presents costs : List ℕ) (r : ℕ) : Type 0 where
   pub nexts-long : recordCount q ≤ length nexts
   pub presents-long : recordCount q ≤ length presents
   pub costs-long : recordCount q ≤ length costs
+
+-- its N, columns and values are those lent
+pub record Columns (ix : Index) (n : ℕ) (columns values : List ℕ) : Type 0 where
+  pub documents : ix .maxDoc ≡ n
+  pub columns-are : ix .columns ≡ columns
+  pub values-are : ix .values ≡ values
+
+-- the documents of the Range record r stand in the range buffer
+pub record RangeListed (ix : Index) (q ranges : List ℕ) (r place count : ℕ) : Type 0 where
+  pub count-is : count ≡ length (rangeDocuments ix (rangeOf q r))
+  pub there : place + count ≤ length ranges
+  pub listed : (i : ℕ) → i < count → getD ranges (place + i) 0 ≡ getD (rangeDocuments ix (rangeOf q r)) i 0
+
+-- those of each Range record below n
+abbrev pub RangesListed : Index → List ℕ → List ℕ → List ℕ → List ℕ → ℕ → Type 0
+RangesListed ix q places counts ranges n =
+    (r : ℕ) → r < n → recordKind q r ≡ 4 → RangeListed ix q ranges r (getD places r 0) (getD counts r 0)

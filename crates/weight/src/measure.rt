@@ -7,9 +7,12 @@ ghost use Prim.Native.Nat.{ℕ, _+_, _*_, _/_, _≤_, _<_, max, min};
 ghost use lib.Dec.{eqb, leb, ltb};
 ghost use lib.ListN.{length, getD};
 ghost use Rattle.meaning.specs.Lent.{Index, leafNumber};
-ghost use Rattle.meaning.specs.Query.{recordCount, recordKind, recordChildren, recordValue, Occur, must, should, occurOf, Decoded, decode};
+ghost use Rattle.meaning.specs.Query.{recordCount, recordKind, recordChildren, recordValue, rangeOf, Occur, must, should, occurOf, Decoded, decode};
+ghost use Rattle.meaning.specs.Range.{rangeDocuments};
+ghost use Rattle.meaning.specs.Entries.{written};
+ghost use Rattle.meaning.specs.CallRefusals.{rangesNeeded};
 ghost use Rattle.meaning.specs.Cost.{least};
-ghost use Rattle.weight.specs.Measured.{Asks, Held, Known, MeasureIs, Measured, tallied, termNumbers, tallyPresent, tallyCost};
+ghost use Rattle.weight.specs.Measured.{Asks, Held, Columns, RangesListed, Known, MeasureIs, Measured, tallied, termNumbers, tallyPresent, tallyCost};
 
 pub struct Measure {
     pub next: usize,
@@ -301,5 +304,74 @@ pub fn measure_all(
         nexts[at] = m.next;
         presents[at] = m.present;
         costs[at] = m.cost;
+    }
+}
+
+// The words that the record at `at` takes in the range buffer.
+fn range_words(q: &[u32], max_doc: u32, at: usize) -> usize
+    requires { ⌜ at < recordCount (now q) ⌝ }
+    ensures { λ r. ⌜ r ≡ cond (eqb (recordKind (now (q .entry)) at) 4) «max_doc» 0 ⌝ }
+{
+    if query::kind(q, at) == 4 {
+        wide(max_doc)
+    } else {
+        0
+    }
+}
+
+// The documents of the Range record at `at` to the front of the output, and how many there are; another record has none.
+fn list_range(
+    q: &[u32],
+    max_doc: u32,
+    columns: &[u32],
+    values: &[u32],
+    at: usize,
+    output: &mut [u32],
+) -> u32
+    requires { ⌜ (at < recordCount (now q)) × (recordKind (now q) at ≡ 4 → «max_doc» ≤ length (now output)) ⌝ }
+    requires { ⌜ ((ix : Index) × Asks ix (now q) × Columns ix «max_doc» (now columns) (now values)) ⌝ }
+    ensures { λ r. ⌜ ((ix : Index) → Asks ix (now (q .entry)) → Columns ix «max_doc» (now (columns .entry)) (now (values .entry)) → recordKind (now (q .entry)) at ≡ 4 → (r ≡ length (rangeDocuments ix (rangeOf (now (q .entry)) at))) × (now (output .exit) ≡ written (rangeDocuments ix (rangeOf (now (q .entry)) at)) (now (output .entry)))) ⌝ }
+    ensures { λ r. ⌜ length (now (output .exit)) ≡ length (now (output .entry)) ⌝ }
+{
+    if query::kind(q, at) != 4 {
+        return 0;
+    }
+    let lower = doc_values::joined(query::value(q, at, 2), query::value(q, at, 3));
+    let upper = doc_values::joined(query::value(q, at, 4), query::value(q, at, 5));
+    doc_values::range(
+        max_doc,
+        columns,
+        values,
+        query::value(q, at, 0),
+        query::value(q, at, 1),
+        lower,
+        upper,
+        output,
+    )
+}
+
+// The documents of every Range record, one record's after the other's, N places for each: where they begin, how many there are.
+pub fn list_ranges(
+    q: &[u32],
+    max_doc: u32,
+    columns: &[u32],
+    values: &[u32],
+    places: &mut [u32],
+    counts: &mut [u32],
+    ranges: &mut [u32],
+)
+    requires { ⌜ ((recordCount (now q) ≤ length (now places)) × (recordCount (now q) ≤ length (now counts))) ⌝ }
+    requires { ⌜ ((ix : Index) × Asks ix (now q) × Columns ix «max_doc» (now columns) (now values) × (rangesNeeded ix (now q) ≤ length (now ranges))) ⌝ }
+    ensures { λ r. ⌜ ((ix : Index) → Asks ix (now (q .entry)) → Columns ix «max_doc» (now (columns .entry)) (now (values .entry)) → RangesListed ix (now (q .entry)) (now (places .exit)) (now (counts .exit)) (now (ranges .exit)) (recordCount (now (q .entry)))) ⌝ }
+    ensures { λ r. ⌜ ((length (now (places .exit)) ≡ length (now (places .entry))) × (length (now (counts .exit)) ≡ length (now (counts .entry))) × (length (now (ranges .exit)) ≡ length (now (ranges .entry)))) ⌝ }
+{
+    let count = query::record_count(q);
+    let mut used = 0;
+    let mut at = 0;
+    while at < count {
+        places[at] = used as u32;
+        counts[at] = list_range(q, max_doc, columns, values, at, &mut ranges[used..]);
+        used += range_words(q, max_doc, at);
+        at += 1;
     }
 }
