@@ -5,3 +5,5 @@ pub mod Phrases
 pub mod Clauses
 pub mod Measures
 pub mod Listing
+pub mod Placing
+pub mod Norms

@@ -5,3 +5,4 @@ pub mod State
 pub mod Held
 pub mod Sound
 pub mod Measured
+pub mod Placed

@@ -1,0 +1,223 @@
+// The second pass: the words of a tree's scorer, to the front of the lent node states.
+ghost use mathlib.Core.Path.{_≡_};
+ghost use mathlib.Core.Bool.{Bool, true, false, cond};
+ghost use mathlib.Core.List.{List, _++_};
+ghost use Prim.Native.Nat.{ℕ, suc, _+_, _*_, _/_, _^_, _≤_, _<_};
+ghost use lib.ListN.{length, getD, take, drop};
+ghost use lib.Ieee.{Float, binary32, toBits};
+ghost use Rattle.meaning.specs.Lent.{Index, leafCount, fieldCount};
+ghost use Rattle.meaning.specs.Query.{rangeOf};
+ghost use Rattle.index.specs.Accepted.{Accepted};
+ghost use Rattle.ieee754.specs.Nonneg.{AtMost};
+ghost use Rattle.weight.specs.ScorerTree.{Scorer, leaf, term, range, everything, constant};
+ghost use Rattle.weight.specs.Weigh.{noScorer};
+ghost use Rattle.weight.specs.Held.{Ok, normsWord};
+ghost use Rattle.weight.specs.Measured.{RangeListed};
+ghost use Rattle.weight.specs.Placed.{Placed, scoringOf, FieldLent, LeafLent};
+
+// A node's record.
+fn put(st: &mut [u32], words: [u32; 24])
+    requires { ⌜ 24 ≤ length (now st) ⌝ }
+    ensures { λ r. ⌜ now (st .exit) ≡ words ++ drop 24 (now (st .entry)) ⌝ }
+{
+    let mut i = 0;
+    while i < 24 {
+        st[i] = words[i];
+        i += 1;
+    }
+}
+
+// A node that matches nothing stands at the end from the start.
+fn place_nothing(st: &mut [u32], scores: u32) -> usize
+    requires { ⌜ 24 ≤ length (now st) ⌝ }
+    ensures { λ r. ⌜ ((ix : Index) (ranges : List ℕ) (d : ℕ) → Placed ix ranges noScorer d scores r (now (st .exit))) ⌝ }
+    ensures { λ r. ⌜ length (now (st .exit)) ≡ length (now (st .entry)) ⌝ }
+{
+    put(
+        st,
+        [
+            0,
+            24,
+            2147483648,
+            0,
+            0,
+            0,
+            0,
+            0,
+            0,
+            0,
+            0,
+            1,
+            0,
+            0,
+            0,
+            scores,
+            0,
+            0,
+            0,
+            0,
+            0,
+            0,
+            0,
+            0,
+        ],
+    );
+    24
+}
+
+// Every document, each with the same score.
+fn place_everything(st: &mut [u32], score: f32, scores: u32) -> usize
+    requires { ⌜ (24 ≤ length (now st)) × AtMost (2 ^ 29) score ⌝ }
+    ensures { λ r. ⌜ ((ix : Index) (ranges : List ℕ) (d : ℕ) → Placed ix ranges (leaf everything (constant score)) d scores r (now (st .exit))) ⌝ }
+    ensures { λ r. ⌜ length (now (st .exit)) ≡ length (now (st .entry)) ⌝ }
+{
+    let bits = f32::to_bits(score);
+    put(
+        st,
+        [
+            5,
+            24,
+            0,
+            0,
+            0,
+            0,
+            0,
+            0,
+            0,
+            0,
+            0,
+            1,
+            bits,
+            0,
+            0,
+            scores,
+            0,
+            0,
+            0,
+            0,
+            0,
+            0,
+            0,
+            0,
+        ],
+    );
+    24
+}
+
+// The documents of a range, which stand in the range buffer, each with the same score.
+fn place_range(st: &mut [u32], first: u32, number: u32, score: f32, scores: u32) -> usize
+    requires { ⌜ (24 ≤ length (now st)) × AtMost (2 ^ 29) score ⌝ }
+    ensures { λ r. ⌜ ((ix : Index) (ranges q : List ℕ) (at d : ℕ) → RangeListed ix q ranges at first number → Placed ix ranges (leaf (range (rangeOf q at)) (constant score)) d scores r (now (st .exit))) ⌝ }
+    ensures { λ r. ⌜ length (now (st .exit)) ≡ length (now (st .entry)) ⌝ }
+{
+    let bits = f32::to_bits(score);
+    put(
+        st,
+        [
+            4,
+            24,
+            0,
+            0,
+            0,
+            0,
+            first,
+            number,
+            0,
+            0,
+            0,
+            1,
+            bits,
+            0,
+            0,
+            scores,
+            0,
+            0,
+            0,
+            0,
+            0,
+            0,
+            0,
+            0,
+        ],
+    );
+    24
+}
+
+fn wide(x: u32) -> usize
+    ensures { λ r. ⌜ r ≡ x ⌝ }
+{
+    x as usize
+}
+
+fn word(b: bool) -> u32
+    ensures { λ r. ⌜ r ≡ cond b 1 0 ⌝ }
+{
+    if b { 1 } else { 0 }
+}
+
+// Where a field's norm bytes begin, + 1; 0 without norms.
+fn norms_word(max_doc: u32, fields: &[u32], field: u32) -> u32
+    requires { ⌜ ((ix : Index) × FieldLent ix «max_doc» (now fields) × (field < fieldCount ix)) ⌝ }
+    ensures { λ r. ⌜ ((ix : Index) → FieldLent ix «max_doc» (now (fields .entry)) → r ≡ normsWord ix field) ⌝ }
+{
+    let f = wide(field);
+    if fields[3 * f + 1] != 1 {
+        return 0;
+    }
+    index::norms::norms_offset(max_doc, fields, f) as u32 + 1
+}
+
+// A term's run, scored at a weight, or with the score that is kept.
+fn place_term(
+    st: &mut [u32],
+    max_doc: u32,
+    fields: &[u32],
+    leaves: &[u32],
+    leaf: u32,
+    fixed: bool,
+    score: f32,
+    scores: u32,
+) -> usize
+    requires { ⌜ (24 ≤ length (now st)) × AtMost (2 ^ 29) score ⌝ }
+    requires { ⌜ ((ix : Index) × LeafLent ix «max_doc» (now fields) (now leaves) × (leaf < leafCount ix)) ⌝ }
+    ensures { λ r. ⌜ ((ix : Index) (ranges : List ℕ) (d : ℕ) → LeafLent ix «max_doc» (now (fields .entry)) (now (leaves .entry)) → Placed ix ranges (Scorer.leaf (term leaf) (scoringOf fixed score)) d scores r (now (st .exit))) ⌝ }
+    ensures { λ r. ⌜ length (now (st .exit)) ≡ length (now (st .entry)) ⌝ }
+{
+    let l = index::leaves::leaf_at(leaves, wide(leaf));
+    let first = l.first;
+    let number = l.number;
+    let field = l.field;
+    let norms = norms_word(max_doc, fields, field);
+    let bits = f32::to_bits(score);
+    let constant = word(fixed);
+    put(
+        st,
+        [
+            1,
+            24,
+            0,
+            0,
+            0,
+            0,
+            first,
+            number,
+            0,
+            0,
+            field,
+            constant,
+            bits,
+            0,
+            0,
+            scores,
+            0,
+            0,
+            norms,
+            0,
+            0,
+            0,
+            0,
+            0,
+        ],
+    );
+    24
+}
