@@ -7,3 +7,4 @@ pub mod Measures
 pub mod Listing
 pub mod Placing
 pub mod Norms
+pub mod PhraseParts

@@ -57,6 +57,14 @@ abbrev pub leafState : ℕ → ℕ → ℕ → ℕ → ℕ → ℕ → ℕ → �
 leafState kind cached first number offset field fixed weight scores norms =
     record { kind = kind; size = 24; cached = cached; need = 0; requiredEnd = 0; optionalEnd = 0; first = first; number = number; cursor = 0; offset = offset; field = field; constant = fixed; weight = weight; afterwards = 0; groupAt = 0; scores = scores; frequencyOf = 0; frequency = 0; norms = norms; spare1 = 0; spare2 = 0; spare3 = 0; spare4 = 0; spare5 = 0 }
 
+pub no-cache : (P : ℕ → Bool) → Cache P 0 0
+no-cache P t h g = absurd (omega (arith, g))
+
+pub scored : (x : Float) (bits : ℕ) → FloatIs x bits → (b : Bool) (s : State) → s .constant ≡ cond b 1 0 → s .weight ≡ bits → ScoringIs (scoringOf b x) s
+unfolding ScoringIs
+scored x bits is true s e f = (e, rw f is)
+scored x bits is false s e f = (e, rw f is)
+
 module _ (ix : Index) (ranges st₀ st : List ℕ) (d scores : ℕ) (room : 24 ≤ length st₀) where
   record-long : (s : State) → st ≡ wordsOf s ++ drop 24 st₀ → 24 ≤ length st
   record-long s e = let a = ap length e ∙ length-append (wordsOf s) (drop 24 st₀) in omega (arith, a)
@@ -69,9 +77,6 @@ module _ (ix : Index) (ranges st₀ st : List ℕ) (d scores : ℕ) (room : 24 �
         within = record-long s e;
         ok = (s, [], ap (take 24) e, scored, is, scoring, cache);
       }
-
-  no-cache : (P : ℕ → Bool) → Cache P 0 0
-  no-cache P t h g = absurd (omega (arith, g))
 
   pub placed-nothing : st ≡ wordsOf (leafState 0 2147483648 0 0 0 0 1 0 scores 0) ++ drop 24 st₀ → Placed ix ranges noScorer d scores 24 st
   unfolding leafSize LeafIs ScoringIs matches leafMatches fits toBits
@@ -91,14 +96,9 @@ module _ (ix : Index) (ranges st₀ st : List ℕ) (d scores : ℕ) (room : 24 �
         (record { kind-is = refl; size-is = refl; number-is = listed .count-is; there = listed .there; listed = listed .listed; run = record { within = omega arith; passed = λ i h. absurd (omega (arith, h)) } }, refl)
         (refl, is) (no-cache (matches ix (leaf (range (rangeOf q at)) (constant x))))
 
-    scored : (b : Bool) (s : State) → s .constant ≡ cond b 1 0 → s .weight ≡ bits → ScoringIs (scoringOf b x) s
-    unfolding ScoringIs
-    scored true s e f = (e, rw f is)
-    scored false s e f = (e, rw f is)
-
     pub placed-term : (b : Bool) (l fixed first number field norms : ℕ) → fixed ≡ cond b 1 0 → first ≡ leafFirst ix l → number ≡ leafNumber ix l → field ≡ leafField ix l → norms ≡ normsWord ix field → st ≡ wordsOf (leafState 1 0 first number 0 field fixed bits scores norms) ++ drop 24 st₀ → Placed ix ranges (leaf (term l) (scoringOf b x)) d scores 24 st
     unfolding leafSize LeafIs
     placed-term b l fixed first number field norms k f n g m e =
         placed-leaf (term l) (scoringOf b x) (leafState 1 0 first number 0 field fixed bits scores norms) e refl refl
         (record { kind-is = refl; size-is = refl; first-is = f; number-is = n; field-is = g; norms-is = m ∙ ap (normsWord ix) g; run = record { within = omega arith; passed = λ i h. absurd (omega (arith, h)) } }, refl)
-        (scored b (leafState 1 0 first number 0 field fixed bits scores norms) k refl) (no-cache (matches ix (leaf (term l) (scoringOf b x))))
+        (scored x bits is b (leafState 1 0 first number 0 field fixed bits scores norms) k refl) (no-cache (matches ix (leaf (term l) (scoringOf b x))))

@@ -1,19 +1,17 @@
 // The second pass: the words of a tree's scorer, to the front of the lent node states.
 ghost use mathlib.Core.Path.{_≡_};
-ghost use mathlib.Core.Bool.{Bool, true, false, cond};
+ghost use mathlib.Core.Bool.{cond};
 ghost use mathlib.Core.List.{List, _++_};
-ghost use Prim.Native.Nat.{ℕ, suc, _+_, _*_, _/_, _^_, _≤_, _<_};
-ghost use lib.ListN.{length, getD, take, drop};
-ghost use lib.Ieee.{Float, binary32, toBits};
+ghost use Prim.Native.Nat.{ℕ, _+_, _*_, _^_, _≤_, _<_};
+ghost use lib.ListN.{length, take, drop};
 ghost use Rattle.meaning.specs.Lent.{Index, leafCount, fieldCount};
-ghost use Rattle.meaning.specs.Query.{rangeOf};
-ghost use Rattle.index.specs.Accepted.{Accepted};
+ghost use Rattle.meaning.specs.Query.{recordCount, recordChildren, recordValue, phraseTermsOf, rangeOf};
 ghost use Rattle.ieee754.specs.Nonneg.{AtMost};
-ghost use Rattle.weight.specs.ScorerTree.{Scorer, leaf, term, range, everything, constant};
+ghost use Rattle.weight.specs.ScorerTree.{Scorer, leaf, term, phrase, range, everything, constant};
 ghost use Rattle.weight.specs.Weigh.{noScorer};
-ghost use Rattle.weight.specs.Held.{Ok, normsWord};
+ghost use Rattle.weight.specs.Held.{TermsAre, normsWord};
 ghost use Rattle.weight.specs.Measured.{RangeListed};
-ghost use Rattle.weight.specs.Placed.{Placed, scoringOf, FieldLent, LeafLent};
+ghost use Rattle.weight.specs.Placed.{Placed, PhraseTermPlaced, scoringOf, FieldLent, LeafLent};
 
 // A node's record.
 fn put(st: &mut [u32], words: [u32; 24])
@@ -220,4 +218,125 @@ fn place_term(
         ],
     );
     24
+}
+
+// A term of a phrase, with its offset.
+fn place_phrase_term(
+    st: &mut [u32],
+    max_doc: u32,
+    fields: &[u32],
+    leaves: &[u32],
+    leaf: u32,
+    offset: u32,
+)
+    requires { ⌜ 24 ≤ length (now st) ⌝ }
+    requires { ⌜ ((ix : Index) × LeafLent ix «max_doc» (now fields) (now leaves) × (leaf < leafCount ix)) ⌝ }
+    ensures { λ r. ⌜ ((ix : Index) → LeafLent ix «max_doc» (now (fields .entry)) (now (leaves .entry)) → PhraseTermPlaced ix (record { leaf = leaf; offset = offset }) (now (st .entry)) (now (st .exit))) ⌝ }
+{
+    let l = index::leaves::leaf_at(leaves, wide(leaf));
+    let first = l.first;
+    let number = l.number;
+    let field = l.field;
+    let norms = norms_word(max_doc, fields, field);
+    put(
+        st,
+        [
+            9,
+            24,
+            0,
+            0,
+            0,
+            0,
+            first,
+            number,
+            0,
+            offset,
+            field,
+            0,
+            0,
+            0,
+            0,
+            0,
+            0,
+            0,
+            norms,
+            0,
+            0,
+            0,
+            0,
+            0,
+        ],
+    );
+}
+
+// The terms of the phrase at `at`, in record order.
+fn place_terms(st: &mut [u32], q: &[u32], max_doc: u32, fields: &[u32], leaves: &[u32], at: usize)
+    requires { ⌜ (24 * recordChildren (now q) at ≤ length (now st)) × (at + 1 + recordChildren (now q) at ≤ recordCount (now q)) × (recordChildren (now q) at ≤ 32) ⌝ }
+    requires { ⌜ ((ix : Index) × LeafLent ix «max_doc» (now fields) (now leaves) × ((j : ℕ) → j < recordChildren (now q) at → recordValue (now q) (at + 1 + j) 0 < leafCount ix)) ⌝ }
+    ensures { λ r. ⌜ ((ix : Index) → LeafLent ix «max_doc» (now (fields .entry)) (now (leaves .entry)) → TermsAre ix (phraseTermsOf (now (q .entry)) at) (take (24 * recordChildren (now (q .entry)) at) (now (st .exit))) 0) ⌝ }
+    ensures { λ r. ⌜ length (now (st .exit)) ≡ length (now (st .entry)) ⌝ }
+{
+    let terms = wide(query::children(q, at));
+    let mut j: usize = 0;
+    while j < terms {
+        let leaf = query::value(q, at + 1 + j, 0);
+        let offset = query::value(q, at + 1 + j, 1);
+        place_phrase_term(&mut st[24 * j..], max_doc, fields, leaves, leaf, offset);
+        j += 1;
+    }
+}
+
+// A phrase: its record, then its terms.
+fn place_phrase(
+    st: &mut [u32],
+    q: &[u32],
+    max_doc: u32,
+    fields: &[u32],
+    leaves: &[u32],
+    at: usize,
+    fixed: bool,
+    score: f32,
+    scores: u32,
+) -> usize
+    requires { ⌜ (24 + 24 * recordChildren (now q) at ≤ length (now st)) × (at + 1 + recordChildren (now q) at ≤ recordCount (now q)) × (recordChildren (now q) at ≤ 32) × AtMost (2 ^ 29) score ⌝ }
+    requires { ⌜ ((ix : Index) × LeafLent ix «max_doc» (now fields) (now leaves) × ((j : ℕ) → j < recordChildren (now q) at → recordValue (now q) (at + 1 + j) 0 < leafCount ix) × (recordValue (now q) at 0 < fieldCount ix)) ⌝ }
+    ensures { λ r. ⌜ ((ix : Index) (ranges : List ℕ) (d : ℕ) → LeafLent ix «max_doc» (now (fields .entry)) (now (leaves .entry)) → Placed ix ranges (Scorer.leaf (phrase (recordValue (now (q .entry)) at 0) (phraseTermsOf (now (q .entry)) at)) (scoringOf fixed score)) d scores r (now (st .exit))) ⌝ }
+    ensures { λ r. ⌜ length (now (st .exit)) ≡ length (now (st .entry)) ⌝ }
+{
+    let field = query::value(q, at, 0);
+    let size = 24 + 24 * query::children(q, at);
+    let norms = norms_word(max_doc, fields, field);
+    let bits = f32::to_bits(score);
+    let constant = word(fixed);
+    place_terms(&mut st[24..], q, max_doc, fields, leaves, at);
+    put(
+        st,
+        [
+            2,
+            size,
+            0,
+            0,
+            0,
+            0,
+            0,
+            0,
+            0,
+            0,
+            field,
+            constant,
+            bits,
+            0,
+            0,
+            scores,
+            0,
+            0,
+            norms,
+            0,
+            0,
+            0,
+            0,
+            0,
+        ],
+    );
+    wide(size)
 }
