@@ -8,3 +8,4 @@ pub mod Listing
 pub mod Placing
 pub mod Norms
 pub mod PhraseParts
+pub mod Idf

@@ -4,7 +4,11 @@ ghost use mathlib.Core.Bool.{cond};
 ghost use mathlib.Core.List.{List, _++_};
 ghost use Prim.Native.Nat.{ℕ, _+_, _*_, _^_, _≤_, _<_};
 ghost use lib.ListN.{length, take, drop};
-ghost use Rattle.meaning.specs.Lent.{Index, leafCount, fieldCount};
+ghost use lib.Ieee.{binary32, ofBits};
+ghost use Rattle.meaning.specs.Lent.{Index, leafCount, leafIdf, fieldCount};
+ghost use Rattle.meaning.specs.Bm25.{weight};
+ghost use Rattle.meaning.specs.Score.{phraseIdf};
+ghost use Rattle.index.specs.Accepted.{Accepted};
 ghost use Rattle.meaning.specs.Query.{recordCount, recordChildren, recordValue, phraseTermsOf, rangeOf};
 ghost use Rattle.ieee754.specs.Nonneg.{AtMost};
 ghost use Rattle.weight.specs.ScorerTree.{Scorer, leaf, term, phrase, range, everything, constant};
@@ -339,4 +343,39 @@ fn place_phrase(
         ],
     );
     wide(size)
+}
+
+// A leaf's idf.
+fn idf_of(leaves: &[u32], leaf: u32) -> f32
+    requires { ⌜ ((ix : Index) × Accepted ix × (ix .leaves ≡ now leaves) × (leaf < leafCount ix)) ⌝ }
+    ensures { λ r. ⌜ ((ix : Index) → ix .leaves ≡ now (leaves .entry) → r ≡ ofBits binary32 (leafIdf ix leaf)) ⌝ }
+{
+    f32::from_bits(leaves[4 * wide(leaf) + 3])
+}
+
+// A phrase's idf: its terms' added in f64 in record order, then narrowed.
+fn phrase_idf(q: &[u32], leaves: &[u32], at: usize) -> f32
+    requires { ⌜ (at + 1 + recordChildren (now q) at ≤ recordCount (now q)) × (recordChildren (now q) at ≤ 32) ⌝ }
+    requires { ⌜ ((ix : Index) × Accepted ix × (ix .leaves ≡ now leaves) × ((j : ℕ) → j < recordChildren (now q) at → recordValue (now q) (at + 1 + j) 0 < leafCount ix)) ⌝ }
+    ensures { λ r. ⌜ ((ix : Index) → ix .leaves ≡ now (leaves .entry) → r ≡ phraseIdf ix (phraseTermsOf (now (q .entry)) at)) ⌝ }
+{
+    let terms = wide(query::children(q, at));
+    let mut sum: f64 = 0.0;
+    let mut j: usize = 0;
+    while j < terms {
+        sum = ieee754::add_score(sum, idf_of(leaves, query::value(q, at + 1 + j, 0)));
+        j += 1;
+    }
+    ieee754::narrow(sum)
+}
+
+// What a term or a phrase scores by: the score that is kept, or the boost times its idf.
+fn scored_by(fixed: bool, kept: f32, boost: f32, idf: f32) -> f32
+    ensures { λ r. ⌜ r ≡ cond fixed kept (weight boost idf) ⌝ }
+{
+    if fixed {
+        kept
+    } else {
+        sim::bm25::Bm25::weight(boost, idf)
+    }
 }
