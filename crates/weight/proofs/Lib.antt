@@ -9,3 +9,5 @@ pub mod Placing
 pub mod Norms
 pub mod PhraseParts
 pub mod Idf
+pub mod Sorting
+pub mod Weighing

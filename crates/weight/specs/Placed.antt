@@ -2,6 +2,7 @@
 use mathlib.Core.Path.{_≡_}
 use mathlib.Core.Bool.{Bool, true, false, cond}
 use mathlib.Core.List.{List, _++_}
+use mathlib.Core.Option.{Option, none, some}
 use Prim.Native.Nat.{ℕ, _≤_}
 use lib.ListN.{length, take, drop}
 use lib.Ieee.{Float}
@@ -38,3 +39,8 @@ pub record LeafLent (ix : Index) (n : ℕ) (fields leaves : List ℕ) : Type 0 w
 abbrev pub PhraseTermPlaced : Index → PhraseTerm → List ℕ → List ℕ → Type 0
 PhraseTermPlaced ix t before after =
     (s : State) × (after ≡ wordsOf s ++ drop 24 before) × TermIs ix 9 (t .leaf) s 0 × (s .offset ≡ t .offset)
+
+-- the score that a node has already, if any
+abbrev pub keptOf : Bool → Float → Option Float
+keptOf true x = some x
+keptOf false x = none

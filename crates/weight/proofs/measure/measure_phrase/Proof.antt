@@ -1,3 +1,4 @@
+-- `measure::measure_phrase` meets its contract. Assumes nothing.
 use Rattle.weight.proofs.Measures.{terms-here, phrase-measured}
 use Prim.Native.Nat.{ℕ, _+_, _-_, _*_, _≤_, _<_}
 use mathlib.Core.Path.{_≡_, refl, sym, _∙_, ap}
@@ -5,38 +6,25 @@ use native.Mathlib.Omega.{arith}
 use borrow.Author.Needs.{needs}
 use Rattle.weight.proofs.measure.measure_phrase.Statement.{statement}
 use Rattle.weight.proofs.measure.measure_phrase.Tie as tie
-use Rattle.weight.proofs.measure.measure_phrase.Reads as reads
-use Rattle.weight.proofs.measure.measure_phrase.Lts as lts
-use Rattle.query.proofs.children.Reads as children-reads
-use Rattle.weight.proofs.measure.phrase_postings.Reads as phrase-postings-reads
-use Rattle.weight.proofs.measure.wide.Reads as wide-reads
-use Rattle.weight.proofs.measure.word.Reads as word-reads
 
--- src/measure.rt:201:9
 phrase-postings-requires : tie.Need-phrase-postings-requires
 phrase-postings-requires c κs = let s = c .before .before in let a = s .pre .1 in let t = terms-here (a .0) (s .args .q .now) (s .args .leaves .now) (s .args .at) (a .1 .records-right) (a .1 .values-right) (s .pre .0 .0) (s .pre .0 .1) (a .2) in ((t .room, t .some-terms), t .leaves-there)
 
--- src/measure.rt:203:15
 add-t5 : tie.Need-add-t5
 add-t5 c = search needs
 
--- src/measure.rt:203:29
 children-requires : tie.Need-children-requires
 children-requires c κs = search needs
 
--- src/measure.rt:203:24
 wide-requires : tie.Need-wide-requires
 wide-requires c κs = search needs
 
--- src/measure.rt:203:15
 add-t8 : tie.Need-add-t8
 add-t8 c = search needs
 
--- src/measure.rt:204:18
 word-requires : tie.Need-word-requires
 word-requires c κs = search needs
 
--- src/measure.rt:196:1
 returns : tie.Need-returns
 returns c = let s = c .before .before .before .before .before .before in λ ix k D are e. phrase-measured ix (s .args .q .now) k (s .args .at) D e (s .args .leaves .now) (s .args .at + 1 + c .before .wide .result) (c .before .before .before .phrase-postings .result) (c .word .result) (s .pre .0 .1) are (rw (c .before .wide .ensures, c .before .before .children .ensures)) (c .before .before .before .phrase-postings .ensures .0) (c .before .before .before .phrase-postings .ensures .1) (c .word .ensures)
 

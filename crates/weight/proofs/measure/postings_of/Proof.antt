@@ -1,38 +1,29 @@
+-- `measure::postings_of` meets its contract. Assumes nothing.
 use Prim.Native.Nat.{_+_, _*_}
 use native.Mathlib.Omega.{arith}
 use mathlib.Core.Path.{_≡_, refl, sym, _∙_, ap}
 use borrow.Author.Needs.{needs}
 use Rattle.weight.proofs.measure.postings_of.Statement.{statement}
 use Rattle.weight.proofs.measure.postings_of.Tie as tie
-use Rattle.weight.proofs.measure.postings_of.Reads as reads
-use Rattle.weight.proofs.measure.postings_of.Lts as lts
-use Rattle.weight.proofs.measure.wide.Reads as wide-reads
 
--- src/measure.rt:54:16
 wide-requires : tie.Need-wide-requires
 wide-requires c κs = search needs
 
--- src/measure.rt:54:12
 mul-result : tie.Need-mul-result
 mul-result c = search needs
 
--- src/measure.rt:54:12
 add-result : tie.Need-add-result
 add-result c = search needs
 
--- src/measure.rt:54:5
 mul-result-2 : tie.Need-mul-result-2
 mul-result-2 c = search needs
 
--- src/measure.rt:54:5
 shared-slice-read-result : tie.Need-shared-slice-read-result
 shared-slice-read-result c = search needs
 
--- src/measure.rt:54:5
 cast-result : tie.Need-cast-result
 cast-result c = omega (arith, c .shared-slice-known2 .given (4 * c .before .wide .result + 2))
 
--- src/measure.rt:50:1
 returns : tie.Need-returns
 returns c = (rw (c .before .wide .ensures), let h = c .shared-slice-known2 .given (4 * c .before .wide .result + 2) in omega (arith, h))
 

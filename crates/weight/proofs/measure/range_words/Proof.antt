@@ -1,26 +1,19 @@
+-- `measure::range_words` meets its contract. Assumes nothing.
 use borrow.Author.Tests.{eq-eqb, ne-eqb}
 use mathlib.Core.Path.{_≡_, sym, _∙_}
 use borrow.Author.Needs.{needs}
 use Rattle.weight.proofs.measure.range_words.Statement.{statement}
 use Rattle.weight.proofs.measure.range_words.Tie as tie
-use Rattle.weight.proofs.measure.range_words.Reads as reads
-use Rattle.weight.proofs.measure.range_words.Lts as lts
-use Rattle.query.proofs.kind.Reads as kind-reads
-use Rattle.weight.proofs.measure.wide.Reads as wide-reads
 
--- src/measure.rt:315:8
 kind-requires : tie.Need-kind-requires
 kind-requires c κs = search needs
 
--- src/measure.rt:315:34
 wide-requires : tie.Need-wide-requires
 wide-requires c κs = search needs
 
--- src/measure.rt:311:1
 returns : tie.Need-returns
 returns c = rw (eq-eqb _ 4 (sym (c .before .before .kind .ensures) ∙ c .before .if1 .taken)) (c .wide .ensures)
 
--- src/measure.rt:311:1
 returns-2 : tie.Need-returns-2
 returns-2 c = rw (ne-eqb _ 4 (λ e. c .if1 .left (c .before .kind .ensures ∙ e)))
 

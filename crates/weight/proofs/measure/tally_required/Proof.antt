@@ -1,26 +1,20 @@
+-- `measure::tally_required` meets its contract. Assumes nothing.
 use Rattle.weight.proofs.Clauses.{required-absent, required-present}
 use native.Mathlib.Omega.{arith}
 use mathlib.Core.Path.{_≡_, refl, sym, _∙_, ap}
 use borrow.Author.Needs.{needs}
 use Rattle.weight.proofs.measure.tally_required.Statement.{statement}
 use Rattle.weight.proofs.measure.tally_required.Tie as tie
-use Rattle.weight.proofs.measure.tally_required.Reads as reads
-use Rattle.weight.proofs.measure.tally_required.Lts as lts
-use Rattle.weight.proofs.measure.smaller.Reads as smaller-reads
 
--- src/measure.rt:95:9
 returns : tie.Need-returns
 returns c = λ p e. let s = c .before in required-absent (s .args .t) (s .args .present) (s .args .size) p e (c .if1 .taken)
 
--- src/measure.rt:108:29
 smaller-requires : tie.Need-smaller-requires
 smaller-requires c κs = search needs
 
--- src/measure.rt:91:1
 returns-2 : tie.Need-returns-2
 returns-2 c = λ p e. let s = c .before .before .before in required-present (s .args .t) (s .args .present) (s .args .size) p e (c .smaller .result) (c .before .before .if1 .left) (rw (c .before .if2 .taken) (c .smaller .ensures))
 
--- src/measure.rt:91:1
 returns-3 : tie.Need-returns-3
 returns-3 c = λ p e. let s = c .before .before in required-present (s .args .t) (s .args .present) (s .args .size) p e (s .args .size) (c .before .if1 .left) (rw (c .if2 .left))
 

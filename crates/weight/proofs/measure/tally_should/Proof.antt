@@ -1,25 +1,20 @@
+-- `measure::tally_should` meets its contract. Assumes nothing.
 use Rattle.weight.proofs.Clauses.{should-absent, should-present}
 use native.Mathlib.Omega.{arith}
 use mathlib.Core.Path.{_≡_, refl, sym, _∙_, ap}
 use borrow.Author.Needs.{needs}
 use Rattle.weight.proofs.measure.tally_should.Statement.{statement}
 use Rattle.weight.proofs.measure.tally_should.Tie as tie
-use Rattle.weight.proofs.measure.tally_should.Reads as reads
-use Rattle.weight.proofs.measure.tally_should.Lts as lts
 
--- src/measure.rt:79:9
 returns : tie.Need-returns
 returns c = λ p e. let s = c .before in should-absent (s .args .t) (s .args .present) (s .args .size) p e (c .if1 .taken)
 
--- src/measure.rt:86:18
 add-t5 : tie.Need-add-t5
 add-t5 c = search needs
 
--- src/measure.rt:87:16
 add-t6 : tie.Need-add-t6
 add-t6 c = search needs
 
--- src/measure.rt:74:1
 returns-2 : tie.Need-returns-2
 returns-2 c = λ p e. let s = c .before .before .before in should-present (s .args .t) (s .args .present) (s .args .size) p e (c .before .before .if1 .left)
 

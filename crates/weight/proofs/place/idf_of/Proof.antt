@@ -1,3 +1,4 @@
+-- `place::idf_of` meets its contract. Assumes nothing.
 use Rattle.weight.proofs.Idf.{idf-there, idf-number, idf-word}
 use lib.Ieee.{binary32, ofBits}
 use Prim.Native.Nat.{ℕ, _+_, _-_, _*_, _≤_, _<_}
@@ -6,35 +7,25 @@ use native.Mathlib.Omega.{arith}
 use borrow.Author.Needs.{needs}
 use Rattle.weight.proofs.place.idf_of.Statement.{statement}
 use Rattle.weight.proofs.place.idf_of.Tie as tie
-use Rattle.weight.proofs.place.idf_of.Reads as reads
-use Rattle.weight.proofs.place.idf_of.Lts as lts
-use Rattle.weight.proofs.place.wide.Reads as wide-reads
 
--- src/place.rt:353:31
 wide-requires : tie.Need-wide-requires
 wide-requires c κs = search needs
 
--- src/place.rt:353:27
 mul-result : tie.Need-mul-result
 mul-result c = search needs
 
--- src/place.rt:353:27
 add-result : tie.Need-add-result
 add-result c = search needs
 
--- src/place.rt:353:20
 mul-result-2 : tie.Need-mul-result-2
 mul-result-2 c = search needs
 
--- src/place.rt:353:20
 shared-slice-read-result : tie.Need-shared-slice-read-result
 shared-slice-read-result c = let s = c .before .before .before in let a = s .pre in let h = idf-there (a .0) (s .args .leaves .now) (s .args .leaf) (c .before .wide .result) (a .2) (c .before .wide .ensures) (a .3) in omega (arith, h)
 
--- src/place.rt:353:5
 float-from-bits-result : tie.Need-float-from-bits-result
 float-from-bits-result c = let s = c .before .before .before in let a = s .pre in idf-number (a .0) (s .args .leaves .now) (s .args .leaf) (c .before .wide .result) (a .2) (c .before .wide .ensures) (a .1) (a .3)
 
--- src/place.rt:349:1
 returns : tie.Need-returns
 returns c = let s = c .before .before .before in λ ix are. ap (ofBits binary32) (idf-word ix (s .args .leaves .now) (s .args .leaf) (c .before .wide .result) are (c .before .wide .ensures))
 

@@ -1,3 +1,4 @@
+-- `place::norms_word` meets its contract. Assumes nothing.
 use Rattle.weight.proofs.Norms.{field-here, norms-none, norms-some, norms-small}
 use Rattle.index.specs.Slices.{fieldsOnly}
 use Rattle.meaning.specs.Lent.{hasNorms}
@@ -10,48 +11,34 @@ use native.Mathlib.Omega.{arith}
 use borrow.Author.Needs.{needs}
 use Rattle.weight.proofs.place.norms_word.Statement.{statement}
 use Rattle.weight.proofs.place.norms_word.Tie as tie
-use Rattle.weight.proofs.place.norms_word.Reads as reads
-use Rattle.weight.proofs.place.norms_word.Lts as lts
-use Rattle.index.proofs.norms.norms_offset.Reads as norms-offset-reads
-use Rattle.weight.proofs.place.wide.Reads as wide-reads
 
--- src/place.rt:91:9
 wide-requires : tie.Need-wide-requires
 wide-requires c κs = search needs
 
--- src/place.rt:92:15
 mul-if1 : tie.Need-mul-if1
 mul-if1 c = search needs
 
--- src/place.rt:92:15
 add-if1 : tie.Need-add-if1
 add-if1 c = search needs
 
--- src/place.rt:92:8
 mul-if1-2 : tie.Need-mul-if1-2
 mul-if1-2 c = search needs
 
--- src/place.rt:92:8
 shared-slice-read-if1 : tie.Need-shared-slice-read-if1
 shared-slice-read-if1 c = let s = c .before .before .before in let a = s .pre in let h = field-here (a .0) (s .args .max-doc) (s .args .fields .now) (s .args .field) (a .1) (a .2) in omega (arith, h .there, c .before .wide .ensures)
 
--- src/place.rt:93:9
 returns : tie.Need-returns
 returns c = let s = c .before .before .before .before in λ ix l. norms-none ix (s .args .max-doc) (s .args .fields .now) (s .args .field) l _ (ap (λ (z : ℕ). getD (s .args .fields .now) (3 * z + 1) 0) (c .before .before .wide .ensures)) (c .if1 .taken)
 
--- src/place.rt:95:5
 norms-offset-requires : tie.Need-norms-offset-requires
 norms-offset-requires c κs = let s = c .before .before .before .before in let a = s .pre in let h = field-here (a .0) (s .args .max-doc) (s .args .fields .now) (s .args .field) (a .1) (a .2) in (omega (arith, h .there, c .before .before .wide .ensures), omega (arith, h .few, c .before .before .wide .ensures))
 
--- src/place.rt:95:5
 cast-result : tie.Need-cast-result
 cast-result c = let s = c .before .before .before .before .before in let a = s .pre in let h = field-here (a .0) (s .args .max-doc) (s .args .fields .now) (s .args .field) (a .1) (a .2) in let small = norms-small (a .0) (s .args .max-doc) (s .args .fields .now) (s .args .field) (a .1) (c .norms-offset .result) (h .few) (c .norms-offset .ensures ∙ ap (λ (z : ℕ). countBelow z (hasNorms (fieldsOnly (s .args .fields .now))) * s .args .max-doc) (c .before .before .before .wide .ensures)) in omega (arith, small)
 
--- src/place.rt:95:5
 add-result : tie.Need-add-result
 add-result c = let s = c .before .before .before .before .before in let a = s .pre in let h = field-here (a .0) (s .args .max-doc) (s .args .fields .now) (s .args .field) (a .1) (a .2) in let small = norms-small (a .0) (s .args .max-doc) (s .args .fields .now) (s .args .field) (a .1) (c .norms-offset .result) (h .few) (c .norms-offset .ensures ∙ ap (λ (z : ℕ). countBelow z (hasNorms (fieldsOnly (s .args .fields .now))) * s .args .max-doc) (c .before .before .before .wide .ensures)) in omega (arith, small)
 
--- src/place.rt:87:1
 returns-2 : tie.Need-returns-2
 returns-2 c = let s = c .before .before .before .before .before in λ ix l. norms-some ix (s .args .max-doc) (s .args .fields .now) (s .args .field) l _ (c .norms-offset .result) (ap (λ (z : ℕ). getD (s .args .fields .now) (3 * z + 1) 0) (c .before .before .before .wide .ensures)) (c .before .if1 .left) (c .norms-offset .ensures ∙ ap (λ (z : ℕ). countBelow z (hasNorms (fieldsOnly (s .args .fields .now))) * s .args .max-doc) (c .before .before .before .wide .ensures))
 

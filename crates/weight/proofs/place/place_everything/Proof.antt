@@ -1,3 +1,4 @@
+-- `place::place_everything` meets its contract. Assumes nothing.
 use Rattle.weight.specs.State.{wordsOf}
 use lib.Ieee.{binary32, toBits}
 use Rattle.weight.proofs.Placing.{placed-everything, leafState, put-same, score-is}
@@ -10,23 +11,16 @@ use native.Mathlib.Omega.{arith}
 use borrow.Author.Needs.{needs}
 use Rattle.weight.proofs.place.place_everything.Statement.{statement}
 use Rattle.weight.proofs.place.place_everything.Tie as tie
-use Rattle.weight.proofs.place.place_everything.Reads as reads
-use Rattle.weight.proofs.place.place_everything.Lts as lts
-use Rattle.weight.proofs.place.put.Reads as put-reads
 
--- src/place.rt:49:16
 float-to-bits-bits : tie.Need-float-to-bits-bits
 float-to-bits-bits c = atmost-number (c .before .pre .1)
 
--- src/place.rt:50:5
 put-requires : tie.Need-put-requires
 put-requires c κs = search needs
 
--- src/place.rt:44:1
 same-length : tie.Need-same-length
 same-length c = search needs
 
--- src/place.rt:44:1
 returns : tie.Need-returns
 returns c = let s = c .before .before .before .before .before in let st₀ = s .args .st .now in let st = c .before .before .put .last .0 in let e = c .before .before .put .ensures in (λ ix ranges d. placed-everything ix ranges st₀ st d (s .args .scores) (s .pre .0) (s .args .score) (toBits binary32 (s .args .score)) (score-is (s .args .score) (subst T (sym (s .good .1 .0 .1)) tt) (s .pre .1)) e, put-same (wordsOf (leafState 5 0 0 0 0 0 1 (toBits binary32 (s .args .score)) (s .args .scores) 0)) st₀ st e refl (s .pre .0))
 

@@ -1,3 +1,4 @@
+-- `place::place_phrase` meets its contract. Assumes nothing.
 use Rattle.weight.proofs.PhraseParts.{phraseState, placed-phrase}
 use Rattle.weight.proofs.Placing.{put-same, score-is}
 use Rattle.ieee754.proofs.Bounds.{atmost-number}
@@ -13,73 +14,49 @@ use native.Mathlib.Omega.{arith}
 use borrow.Author.Needs.{needs}
 use Rattle.weight.proofs.place.place_phrase.Statement.{statement}
 use Rattle.weight.proofs.place.place_phrase.Tie as tie
-use Rattle.weight.proofs.place.place_phrase.Reads as reads
-use Rattle.weight.proofs.place.place_phrase.Lts as lts
-use Rattle.query.proofs.children.Reads as children-reads
-use Rattle.query.proofs.value.Reads as value-reads
-use Rattle.weight.proofs.place.norms_word.Reads as norms-word-reads
-use Rattle.weight.proofs.place.place_terms.Reads as place-terms-reads
-use Rattle.weight.proofs.place.put.Reads as put-reads
-use Rattle.weight.proofs.place.wide.Reads as wide-reads
-use Rattle.weight.proofs.place.word.Reads as word-reads
 
--- src/place.rt:291:9
 value-requires : tie.Need-value-requires
 value-requires c κs = search needs
 
--- src/place.rt:292:26
 children-requires : tie.Need-children-requires
 children-requires c κs = search needs
 
--- src/place.rt:292:21
 mul-size : tie.Need-mul-size
 mul-size c = search needs
 
--- src/place.rt:292:16
 add-size : tie.Need-add-size
 add-size c = search needs
 
--- src/place.rt:293:9
 norms-word-requires : tie.Need-norms-word-requires
 norms-word-requires c κs = let s = c .before .before .before .before .before .before in let a = s .pre .1 in (a .0, a .1 .field-lent, subst (λ (z : ℕ). z < fieldCount (a .0)) (sym (c .before .value .ensures)) (a .3))
 
--- src/place.rt:294:16
 float-to-bits-bits : tie.Need-float-to-bits-bits
 float-to-bits-bits c = atmost-number (c .before .before .before .before .before .before .before .pre .0 .3)
 
--- src/place.rt:295:9
 word-requires : tie.Need-word-requires
 word-requires c κs = search needs
 
--- src/place.rt:296:17
 sub-place-terms : tie.Need-sub-place-terms
 sub-place-terms c = search needs
 
--- src/place.rt:296:17
 part-place-terms-start : tie.Need-part-place-terms-start
 part-place-terms-start c = search needs
 
--- src/place.rt:296:17
 part-place-terms-end : tie.Need-part-place-terms-end
 part-place-terms-end c = search needs
 
--- src/place.rt:296:5
 place-terms-requires : tie.Need-place-terms-requires
 place-terms-requires c κs = search needs
 
--- src/place.rt:297:5
 put-requires : tie.Need-put-requires
 put-requires c κs = search needs
 
--- src/place.rt:304:5
 wide-requires : tie.Need-wide-requires
 wide-requires c κs = search needs
 
--- src/place.rt:275:1
 same-length : tie.Need-same-length
 same-length c = search needs
 
--- src/place.rt:275:1
 returns : tie.Need-returns
 returns c = let s = c .before .before .before .before .before .before .before .before .before .before .before .before .before .before .before .before .before in
     let st₀ = s .args .st .now in

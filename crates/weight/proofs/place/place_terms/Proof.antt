@@ -1,3 +1,4 @@
+-- `place::place_terms` meets its contract. Assumes nothing.
 use borrow.Author.Needs.{needs}
 use native.Mathlib.Omega.{arith}
 use mathlib.Core.Path.{_≡_, refl, sym, _∙_, ap, subst}
@@ -12,12 +13,6 @@ use Rattle.weight.specs.Placed.{LeafLent}
 use Rattle.weight.proofs.PhraseParts.{termAt, terms-begin, terms-more, terms-all}
 use Rattle.weight.proofs.place.place_terms.Statement.{statement}
 use Rattle.weight.proofs.place.place_terms.Tie as tie
-use Rattle.weight.proofs.place.place_terms.Reads as reads
-use Rattle.weight.proofs.place.place_terms.Lts as lts
-use Rattle.query.proofs.children.Reads as children-reads
-use Rattle.query.proofs.value.Reads as value-reads
-use Rattle.weight.proofs.place.place_phrase_term.Reads as place-phrase-term-reads
-use Rattle.weight.proofs.place.wide.Reads as wide-reads
 
 abbrev Inv-loop : tie.InvT-loop
 Inv-loop st₀ q max-doc fields leaves at terms j₀ st j = ((ix : Index) → LeafLent ix max-doc fields leaves → TermsAre ix (listTo j (termAt ix q at)) (take (24 * j) st) 0) × (j ≤ terms) × (terms ≡ recordChildren q at) × (length st ≡ length st₀)
@@ -25,83 +20,63 @@ Inv-loop st₀ q max-doc fields leaves at terms j₀ st j = ((ix : Index) → Le
 abbrev μ-loop : tie.MeasureT-loop
 μ-loop st₀ q max-doc fields leaves at terms j₀ st j = terms - j
 
--- src/place.rt:264:22
 children-requires : tie.Need-children-requires Inv-loop μ-loop
 children-requires c κs = let s = c .before .before .before .before in omega (arith, s .pre .0 .1)
 
--- src/place.rt:264:9
 wide-requires : tie.Need-wide-requires Inv-loop μ-loop
 wide-requires c κs = search needs
 
--- src/place.rt:266:5
 loop-holds : tie.Need-loop-holds Inv-loop μ-loop
 loop-holds c = let s = c .before .before .before .before .before .before in (λ ix e. terms-begin ix (s .args .q .now) (s .args .at) (s .args .st .now), omega arith, c .wide .ensures ∙ c .before .children .ensures, refl)
 
--- src/place.rt:267:36
 add-value : tie.Need-add-value Inv-loop μ-loop
 add-value c = let s = c .before .before .before .before .before .before .before .before in let l = c .before .loop in let t = c .loop-test .taken in let room = s .pre .0 .0 in let here = s .pre .0 .1 in let few = s .pre .0 .2 in let is = l .inv .2 in let long = l .inv .3 in omega (arith, here, t, is, s .good)
 
--- src/place.rt:267:36
 add-value-2 : tie.Need-add-value-2 Inv-loop μ-loop
 add-value-2 c = let s = c .before .before .before .before .before .before .before .before in let l = c .before .loop in let t = c .loop-test .taken in let room = s .pre .0 .0 in let here = s .pre .0 .1 in let few = s .pre .0 .2 in let is = l .inv .2 in let long = l .inv .3 in omega (arith, here, t, is, s .good)
 
--- src/place.rt:267:13
 value-requires : tie.Need-value-requires Inv-loop μ-loop
 value-requires c κs = let s = c .before .before .before .before .before .before .before .before in let l = c .before .loop in let t = c .loop-test .taken in let room = s .pre .0 .0 in let here = s .pre .0 .1 in let few = s .pre .0 .2 in let is = l .inv .2 in let long = l .inv .3 in (omega (arith, here, t, is), omega arith)
 
--- src/place.rt:268:38
 add-value-3 : tie.Need-add-value-3 Inv-loop μ-loop
 add-value-3 c = let s = c .before .before .before .before .before .before .before .before .before in let l = c .before .before .loop in let t = c .before .loop-test .taken in let room = s .pre .0 .0 in let here = s .pre .0 .1 in let few = s .pre .0 .2 in let is = l .inv .2 in let long = l .inv .3 in omega (arith, here, t, is, s .good)
 
--- src/place.rt:268:38
 add-value-4 : tie.Need-add-value-4 Inv-loop μ-loop
 add-value-4 c = let s = c .before .before .before .before .before .before .before .before .before in let l = c .before .before .loop in let t = c .before .loop-test .taken in let room = s .pre .0 .0 in let here = s .pre .0 .1 in let few = s .pre .0 .2 in let is = l .inv .2 in let long = l .inv .3 in omega (arith, here, t, is, s .good)
 
--- src/place.rt:268:13
 value-requires-2 : tie.Need-value-requires-2 Inv-loop μ-loop
 value-requires-2 c κs = let s = c .before .before .before .before .before .before .before .before .before in let l = c .before .before .loop in let t = c .before .loop-test .taken in let room = s .pre .0 .0 in let here = s .pre .0 .1 in let few = s .pre .0 .2 in let is = l .inv .2 in let long = l .inv .3 in (omega (arith, here, t, is), omega arith)
 
--- src/place.rt:269:35
 mul-place-phrase-term : tie.Need-mul-place-phrase-term Inv-loop μ-loop
 mul-place-phrase-term c = let s = c .before .before .before .before .before .before .before .before .before .before in let l = c .before .before .before .loop in let t = c .before .before .loop-test .taken in let room = s .pre .0 .0 in let here = s .pre .0 .1 in let few = s .pre .0 .2 in let is = l .inv .2 in let long = l .inv .3 in omega (arith, t, is, few)
 
--- src/place.rt:269:27
 mul-place-phrase-term-2 : tie.Need-mul-place-phrase-term-2 Inv-loop μ-loop
 mul-place-phrase-term-2 c = let s = c .before .before .before .before .before .before .before .before .before .before in let l = c .before .before .before .loop in let t = c .before .before .loop-test .taken in let room = s .pre .0 .0 in let here = s .pre .0 .1 in let few = s .pre .0 .2 in let is = l .inv .2 in let long = l .inv .3 in omega (arith, t, is, few)
 
--- src/place.rt:269:27
 sub-place-phrase-term : tie.Need-sub-place-phrase-term Inv-loop μ-loop
 sub-place-phrase-term c = let s = c .before .before .before .before .before .before .before .before .before .before in let l = c .before .before .before .loop in let t = c .before .before .loop-test .taken in let room = s .pre .0 .0 in let here = s .pre .0 .1 in let few = s .pre .0 .2 in let is = l .inv .2 in let long = l .inv .3 in omega (arith, t, is, room, long)
 
--- src/place.rt:269:27
 part-place-phrase-term-start : tie.Need-part-place-phrase-term-start Inv-loop μ-loop
 part-place-phrase-term-start c = let s = c .before .before .before .before .before .before .before .before .before .before in let l = c .before .before .before .loop in let t = c .before .before .loop-test .taken in let room = s .pre .0 .0 in let here = s .pre .0 .1 in let few = s .pre .0 .2 in let is = l .inv .2 in let long = l .inv .3 in omega (arith, t, is, room, long)
 
--- src/place.rt:269:27
 part-place-phrase-term-end : tie.Need-part-place-phrase-term-end Inv-loop μ-loop
 part-place-phrase-term-end c = search needs
 
--- src/place.rt:269:9
 place-phrase-term-requires : tie.Need-place-phrase-term-requires Inv-loop μ-loop
 place-phrase-term-requires c κs = let s = c .before .before .before .before .before .before .before .before .before .before .before in let l = c .before .before .before .before .loop in let t = c .before .before .before .loop-test .taken in let room = s .pre .0 .0 in let here = s .pre .0 .1 in let few = s .pre .0 .2 in let is = l .inv .2 in let long = l .inv .3 in let a = s .pre .1 in (rw (length-take, length-drop) (omega (arith, t, is, room, long)), (a .0, a .1, rw (c .before .before .value .ensures) (a .2 (l .j) (omega (arith, t, is)))))
 
--- src/place.rt:270:9
 add-j : tie.Need-add-j Inv-loop μ-loop
 add-j c = let s = c .before .before .before .before .before .before .before .before .before .before .before .before .before .before in let l = c .before .before .before .before .before .before .before .loop in let t = c .before .before .before .before .before .before .loop-test .taken in let room = s .pre .0 .0 in let here = s .pre .0 .1 in let few = s .pre .0 .2 in let is = l .inv .2 in let long = l .inv .3 in omega (arith, t, is, few)
 
--- src/place.rt:266:5
 loop-less : tie.Need-loop-less Inv-loop μ-loop
 loop-less c = omega (arith, c .before .before .before .before .before .before .loop-test .taken)
 
--- src/place.rt:266:5
 loop-again : tie.Need-loop-again Inv-loop μ-loop
 loop-again c = let s = c .before .before .before .before .before .before .before .before .before .before .before .before .before .before in let l = c .before .before .before .before .before .before .before .loop in let t = c .before .before .before .before .before .before .loop-test .taken in let room = s .pre .0 .0 in let here = s .pre .0 .1 in let few = s .pre .0 .2 in let is = l .inv .2 in let long = l .inv .3 in let k = c .before .before .place-phrase-term in let out = k .last .0 in let part = take (length (l .st) - 24 * l .j) (drop (24 * l .j) (l .st)) in (λ ix e. terms-more ix (s .args .q .now) (s .args .at) (l .st) out part (postOf (24 * l .j) (length (l .st) - 24 * l .j) (l .st)) (l .j) (c .before .before .before .before .before .value .result) (c .before .before .before .before .value2 .result) (omega (arith, t, is, room, long)) (c .before .before .before .before .before .value .ensures) (c .before .before .before .before .value2 .ensures) (k .ensures ix e) (l .inv .0 ix e), omega (arith, t), is, same-len-mid (24 * l .j) (length (l .st) - 24 * l .j) (l .st) out (k .kept .0) ∙ long)
 
--- src/place.rt:251:1
 same-length : tie.Need-same-length Inv-loop μ-loop
 same-length c = c .before .loop .inv .3
 
--- src/place.rt:251:1
 returns : tie.Need-returns Inv-loop μ-loop
 returns c = let s = c .before .before .before .before .before .before .before .before in let l = c .before .loop in (λ ix e. terms-all ix (s .args .q .now) (s .args .at) (l .st) (l .j) 0 (omega (arith, l .inv .1, l .inv .2, c .loop-test .left)) (l .inv .0 ix e), l .inv .3)
 

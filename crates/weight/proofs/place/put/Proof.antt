@@ -1,3 +1,4 @@
+-- `place::put` meets its contract. Assumes nothing.
 use Rattle.weight.proofs.Placing.{put-more, put-long, put-all}
 use lib.ListN.{length, getD, take, drop}
 use Prim.Native.Nat.{ℕ, _+_, _-_, _*_, _≤_, _<_}
@@ -19,43 +20,33 @@ abbrev μ-loop : tie.MeasureT-loop
 words-long : (s : lts.Start reads.Pre reads.Post Inv-loop μ-loop) → length (s .args .t2) ≡ 24
 words-long s = s .good .1 .0 .1 .0 .1
 
--- src/place.rt:24:5
 loop-holds : tie.Need-loop-holds Inv-loop μ-loop
 loop-holds c = (refl, omega arith)
 
--- src/place.rt:25:17
 mul-st : tie.Need-mul-st Inv-loop μ-loop
 mul-st c = search needs
 
--- src/place.rt:25:17
 array-read-st : tie.Need-array-read-st Inv-loop μ-loop
 array-read-st c = search needs
 
--- src/place.rt:25:9
 mul-st-2 : tie.Need-mul-st-2 Inv-loop μ-loop
 mul-st-2 c = search needs
 
--- src/place.rt:25:9
 slice-write-st : tie.Need-slice-write-st Inv-loop μ-loop
 slice-write-st c = let s = c .before .before in let l = c .before .loop in omega (arith, put-long (s .args .t2) (s .args .st .now) (l .st) (l .i) (omega (arith, c .loop-test .taken, words-long s)) (omega (arith, s .pre, c .loop-test .taken)) (l .inv .0), c .loop-test .taken, s .pre)
 
--- src/place.rt:26:9
 add-i : tie.Need-add-i Inv-loop μ-loop
 add-i c = search needs
 
--- src/place.rt:24:5
 loop-less : tie.Need-loop-less Inv-loop μ-loop
 loop-less c = search needs
 
--- src/place.rt:24:5
 loop-again : tie.Need-loop-again Inv-loop μ-loop
 loop-again c = let s = c .before .before in let l = c .before .loop in (put-more (s .args .t2) (s .args .st .now) (l .st) (l .i) (omega (arith, c .loop-test .taken, words-long s)) (omega (arith, c .loop-test .taken, s .pre)) (l .inv .0), omega (arith, c .loop-test .taken))
 
--- src/place.rt:19:1
 same-length : tie.Need-same-length Inv-loop μ-loop
 same-length c = let s = c .before .before in let l = c .before .loop in put-long (s .args .t2) (s .args .st .now) (l .st) (l .i) (omega (arith, words-long s, l .inv .1)) (omega (arith, s .pre, l .inv .1)) (l .inv .0)
 
--- src/place.rt:19:1
 returns : tie.Need-returns Inv-loop μ-loop
 returns c = let s = c .before .before in let l = c .before .loop in put-all (s .args .t2) (s .args .st .now) (l .st) (l .i) (omega (arith, l .inv .1, c .loop-test .left)) (words-long s) (l .inv .0)
 
