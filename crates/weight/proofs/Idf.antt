@@ -15,6 +15,7 @@ use Rattle.meaning.specs.Phrase.{PhraseTerm}
 use Rattle.meaning.specs.Query.{recordChildren, recordValue, phraseTermsOf}
 use Rattle.meaning.specs.Score.{phraseIdf}
 use Rattle.index.specs.Accepted.{Accepted}
+use Rattle.ieee754.specs.Nonneg.{AtMost}
 use Rattle.ieee754.proofs.Bounds.{atmost-number}
 use Rattle.sim.proofs.ScoreBounds.{idf-atmost}
 use Rattle.ieee754.proofs.Patterns.{pattern-number}
@@ -71,3 +72,6 @@ module _ (ix : Index) (q : List ℕ) (at : ℕ) where
 
 pub idf-not-nan : (ix : Index) (l : ℕ) (x : Float) → Accepted ix → l < leafCount ix → x ≡ ofBits binary32 (leafIdf ix l) → T (not (isNan x))
 idf-not-nan ix l x a h e = subst (λ (z : Float). T (not (isNan z))) (sym e) (atmost-number (idf-atmost (leafIdf ix l) (a .leaf l h .idf)))
+
+pub idf-small : (ix : Index) (l : ℕ) (x : Float) → Accepted ix → l < leafCount ix → x ≡ ofBits binary32 (leafIdf ix l) → AtMost (2 ^ 6) x
+idf-small ix l x a h e = subst (λ (z : Float). AtMost (2 ^ 6) z) (sym e) (idf-atmost (leafIdf ix l) (a .leaf l h .idf))

@@ -2,7 +2,8 @@
 use mathlib.Core.Path.{_≡_, refl, sym, _∙_, ap}
 use mathlib.Core.Bool.{Bool, true, false, cond}
 use mathlib.Core.List.{List}
-use Prim.Native.Nat.{ℕ, _^_, _≤_}
+use mathlib.Core.Option.{some}
+use Prim.Native.Nat.{ℕ, _-_, _^_, _≤_}
 use lib.Dec.{lit≤}
 use lib.Ieee.{Float, binary32, ofBits}
 use Rattle.meaning.specs.Lent.{Index, leafIdf}
@@ -10,13 +11,16 @@ use Rattle.meaning.specs.Ieee754.{zeroFloat}
 use Rattle.meaning.specs.Bm25.{weight}
 use Rattle.meaning.specs.Phrase.{PhraseTerm}
 use Rattle.meaning.specs.Range.{NumericRange}
-use Rattle.meaning.specs.Query.{Tree}
+use Rattle.meaning.specs.Query.{Tree, recordKind, recordValue, Decoded, decode}
 use Rattle.meaning.specs.Query
 use Rattle.meaning.specs.Score.{phraseIdf, boosted}
 use Rattle.meaning.specs.Scorer.{hasScorer}
+use Rattle.query.proofs.Inverse.{term-at}
 use Rattle.ieee754.specs.Nonneg.{AtMost}
 use Rattle.ieee754.proofs.Bounds.{atmost-more}
 use Rattle.sim.proofs.ScoreBounds.{weight-atmost, phrase-weight-atmost}
+use Rattle.weight.proofs.Standing.{deep}
+use Rattle.weight.proofs.Clauses.{absent, present}
 use Rattle.weight.specs.ScorerTree.{term, phrase, range, everything, constant, leaf}
 use Rattle.weight.specs.Weigh.{weigh, noScorer}
 use Rattle.weight.specs.Placed.{scoringOf, keptOf}
@@ -68,3 +72,19 @@ term-small false x b idf k s i = atmost-more (lit≤ tt) (weight-atmost b idf s 
 pub phrase-small : (f : Bool) (x b idf : Float) → AtMost (2 ^ 29) x → AtMost (2 ^ 16) b → AtMost (2 ^ 11) idf → AtMost (2 ^ 29) (cond f x (weight b idf))
 phrase-small true x b idf k s i = k
 phrase-small false x b idf k s i = atmost-more (lit≤ tt) (phrase-weight-atmost b idf s i)
+
+-- ---- the Term at a record
+module _ (ix : Index) (q : List ℕ) (k at : ℕ) (D : Decoded) (e : decode q k at ≡ some D) (kind : recordKind q at ≡ 1) (b x : Float) (f : Bool) (here : ℕ) (is : here ≡ cond (hasScorer ix (D .tree)) 1 0) where
+  tree-is : D .tree ≡ Query.term (recordValue q at 0)
+  tree-is = term-at q (k - 1) at D (deep q k at D e) kind .tree-is
+
+  pub term-nothing : here ≡ 0 → weigh ix (D .tree) b (keptOf f x) ≡ noScorer
+  term-nothing z =
+      ap (λ (t : Tree). weigh ix t b (keptOf f x)) tree-is ∙ weigh-term-none ix b f x (recordValue q at 0) (ap (hasScorer ix) (sym tree-is) ∙ absent here (hasScorer ix (D .tree)) is z)
+
+  pub term-there : (l : ℕ) (idf score : Float) → (here ≡ 0 → ⊥) → l ≡ recordValue q at 0 → idf ≡ ofBits binary32 (leafIdf ix l) → score ≡ cond f x (weight b idf) → weigh ix (D .tree) b (keptOf f x) ≡ leaf (term l) (scoringOf f score)
+  term-there l idf score z m i s =
+      ap (λ (t : Tree). weigh ix t b (keptOf f x)) (tree-is ∙ ap Query.term (sym m))
+      ∙ weigh-term ix b x f l (ap (hasScorer ix) (ap Query.term m ∙ sym tree-is) ∙ present here (hasScorer ix (D .tree)) is z)
+      ∙ ap (λ (y : Float). leaf (term l) (scoringOf f (cond f x (weight b y)))) (sym i)
+      ∙ ap (λ (y : Float). leaf (term l) (scoringOf f y)) (sym s)

@@ -2,20 +2,22 @@
 ghost use mathlib.Core.Path.{_≡_};
 ghost use mathlib.Core.Bool.{cond};
 ghost use mathlib.Core.List.{List, _++_};
+ghost use mathlib.Core.Option.{some};
 ghost use Prim.Native.Nat.{ℕ, _+_, _*_, _^_, _≤_, _<_};
 ghost use lib.ListN.{length, take, drop};
 ghost use lib.Ieee.{binary32, ofBits};
 ghost use Rattle.meaning.specs.Lent.{Index, leafCount, leafIdf, fieldCount};
 ghost use Rattle.meaning.specs.Bm25.{weight};
 ghost use Rattle.meaning.specs.Score.{phraseIdf};
+ghost use Rattle.meaning.specs.Scorer.{hasScorer};
 ghost use Rattle.index.specs.Accepted.{Accepted};
-ghost use Rattle.meaning.specs.Query.{recordCount, recordChildren, recordValue, phraseTermsOf, rangeOf};
+ghost use Rattle.meaning.specs.Query.{recordCount, recordKind, Decoded, decode, recordChildren, recordValue, phraseTermsOf, rangeOf};
 ghost use Rattle.ieee754.specs.Nonneg.{AtMost};
 ghost use Rattle.weight.specs.ScorerTree.{Scorer, leaf, term, phrase, range, everything, constant};
-ghost use Rattle.weight.specs.Weigh.{noScorer};
+ghost use Rattle.weight.specs.Weigh.{weigh, noScorer};
 ghost use Rattle.weight.specs.Held.{TermsAre, normsWord};
-ghost use Rattle.weight.specs.Measured.{RangeListed};
-ghost use Rattle.weight.specs.Placed.{Placed, PhraseTermPlaced, scoringOf, FieldLent, LeafLent};
+ghost use Rattle.weight.specs.Measured.{Asks, RangeListed};
+ghost use Rattle.weight.specs.Placed.{Placed, PhraseTermPlaced, scoringOf, keptOf, FieldLent, LeafLent};
 
 // A node's record.
 fn put(st: &mut [u32], words: [u32; 24])
@@ -378,4 +380,32 @@ fn scored_by(fixed: bool, kept: f32, boost: f32, idf: f32) -> f32
     } else {
         sim::bm25::Bm25::weight(boost, idf)
     }
+}
+
+// The Term at `at`, with the score that is kept or at the boost that reaches it; nothing where it has no scorer.
+fn place_term_at(
+    st: &mut [u32],
+    q: &[u32],
+    max_doc: u32,
+    fields: &[u32],
+    leaves: &[u32],
+    present: u32,
+    at: usize,
+    fixed: bool,
+    kept: f32,
+    boost: f32,
+    scores: u32,
+) -> usize
+    requires { ⌜ (24 ≤ length (now st)) × (at < recordCount (now q)) × (recordKind (now q) at ≡ 1) × AtMost (2 ^ 29) kept × AtMost (2 ^ 16) boost ⌝ }
+    requires { ⌜ ((ix : Index) × Asks ix (now q) × LeafLent ix «max_doc» (now fields) (now leaves)) ⌝ }
+    ensures { λ r. ⌜ ((ix : Index) (ranges : List ℕ) (d k : ℕ) (D : Decoded) → LeafLent ix «max_doc» (now (fields .entry)) (now (leaves .entry)) → decode (now (q .entry)) k at ≡ some D → present ≡ cond (hasScorer ix (D .tree)) 1 0 → Placed ix ranges (weigh ix (D .tree) boost (keptOf fixed kept)) d scores r (now (st .exit))) ⌝ }
+    ensures { λ r. ⌜ length (now (st .exit)) ≡ length (now (st .entry)) ⌝ }
+{
+    if present == 0 {
+        return place_nothing(st, scores);
+    }
+    let leaf = query::value(q, at, 0);
+    let idf = idf_of(leaves, leaf);
+    let score = scored_by(fixed, kept, boost, idf);
+    place_term(st, max_doc, fields, leaves, leaf, fixed, score, scores)
 }
