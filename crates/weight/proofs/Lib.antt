@@ -11,3 +11,15 @@ pub mod Weights
 pub mod Tables
 pub mod Queries
 pub mod Deeper
+pub mod Standing
+pub mod Tallies
+pub mod Phrases
+pub mod Clauses
+pub mod Measures
+pub mod Listing
+pub mod Placing
+pub mod Norms
+pub mod PhraseParts
+pub mod Idf
+pub mod Sorting
+pub mod Weighing

@@ -4,3 +4,5 @@ pub mod Weigh
 pub mod State
 pub mod Held
 pub mod Sound
+pub mod Measured
+pub mod Placed

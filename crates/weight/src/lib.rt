@@ -1,1 +1,3 @@
 // A query made ready for an index.
+pub mod measure;
+pub mod place;
