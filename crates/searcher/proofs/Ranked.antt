@@ -14,7 +14,7 @@ use Rattle.meaning.specs.Limits.{noMoreDocs}
 use Rattle.meaning.specs.FullList.{ScoreDoc}
 use Rattle.meaning.specs.Hits.{code, toDoc, toScore, insertDescending, descending, hits}
 use Rattle.collector.specs.Collected.{Scored}
-use Rattle.collector.proofs.Order.{≤ℤ-trans, <ℤ-≤ℤ, lt-yes, lt-no, before-or}
+use Rattle.meaning.proofs.Signed.{≤ℤ-trans, <ℤ-≤ℤ, lt-yes, lt-no, before-or}
 use Rattle.collector.proofs.Best.{hits-is}
 use Rattle.collector.proofs.Ranked.{code-bits, code-later, code-order, toDoc-code, toScore-code}
 use Rattle.searcher.specs.Demands.{ranksBefore}
