@@ -5,4 +5,3 @@ pub mod State
 pub mod Held
 pub mod Sound
 pub mod Measured
-pub mod Placed

@@ -1,3 +1,2 @@
 // A query made ready for an index.
 pub mod measure;
-pub mod place;
