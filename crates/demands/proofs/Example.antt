@@ -15,7 +15,7 @@ use Rattle.meaning.specs.Takes.{takes}
 use Rattle.meaning.specs.Pages.{firstDoc, fromTarget, page}
 use Rattle.meaning.specs.Entries.{pageAnswer, pageRefusal}
 use Rattle.meaning.specs.Lent.{Index}
-use Rattle.searcher.specs.Demands.{Accepts, Call, refusalOf, answerOf, answered, Follow}
+use Rattle.demands.specs.Demands.{Accepts, Call, refusalOf, answerOf, answered, Follow}
 
 abbrev three : Index
 three = record { maxDoc = 3; fields = []; leaves = []; postings = []; positions = []; norms = []; live = []; columns = []; values = [] }

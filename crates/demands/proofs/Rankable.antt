@@ -23,11 +23,11 @@ use Rattle.meaning.specs.Entries.{pickedList}
 use Rattle.ieee754.specs.Nonneg.{signClear}
 use Rattle.collector.specs.Collected.{Scored}
 use Rattle.collector.proofs.Picked.{pickedAt, picked-below, picked-clear, picked-rises, all-picked}
-use Rattle.searcher.specs.Demands.{Accepts}
-use Rattle.searcher.proofs.Lists.{All, all-last, all-listed}
-use Rattle.searcher.proofs.Rising.{Rises, rises-below, rises-last, full-rises}
-use Rattle.searcher.proofs.Pages.{accepted-few}
-use Rattle.searcher.proofs.Ranked.{Rankable}
+use Rattle.demands.specs.Demands.{Accepts}
+use Rattle.demands.proofs.Lists.{All, all-last, all-listed}
+use Rattle.demands.proofs.Rising.{Rises, rises-below, rises-last, full-rises}
+use Rattle.demands.proofs.Pages.{accepted-few}
+use Rattle.demands.proofs.Ranked.{Rankable}
 
 -- ---- picked lists that 14 does not refuse
 module _ (documents scores : List ℕ) (w : wrong14 documents scores ≡ false) where
