@@ -34,7 +34,11 @@ fn write_top_docs(top: TopDocs, answer: &mut [u64])
 {
     answer[0] = top.held as u64;
     answer[1] = top.count;
-    answer[2] = if top.mark { 1 } else { 0 };
+    if top.mark {
+        answer[2] = 1;
+    } else {
+        answer[2] = 0;
+    }
 }
 
 #[no_mangle]
