@@ -34,11 +34,7 @@ fn write_top_docs(top: TopDocs, answer: &mut [u64])
 {
     answer[0] = top.held as u64;
     answer[1] = top.count;
-    if top.mark {
-        answer[2] = 1;
-    } else {
-        answer[2] = 0;
-    }
+    answer[2] = if top.mark { 1 } else { 0 };
 }
 
 #[no_mangle]

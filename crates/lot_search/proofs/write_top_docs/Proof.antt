@@ -1,5 +1,8 @@
 -- `write_top_docs` meets its contract: three numbers stored from the front on. Assumes nothing.
 use borrow.Author.Needs.{needs}
+use mathlib.Core.Path.{_≡_}
+use mathlib.Core.Logic.{inl, inr}
+use mathlib.Core.Bool.{cond}
 use native.Mathlib.Omega.{arith}
 use lib.ListN.{length-set}
 use Rattle.lot_search.proofs.Told.{three-written}
@@ -13,29 +16,19 @@ slice-write-answer : tie.Need-slice-write-answer
 slice-write-answer c = search needs
 
 slice-write-answer-2 : tie.Need-slice-write-answer-2
-slice-write-answer-2 c = omega (arith, c .before .pre, length-set (c .before .args .answer .now) 0 (c .before .args .top .held))
+slice-write-answer-2 c = omega (arith, c .pre, length-set (c .args .answer .now) 0 (c .args .top .held))
 
 slice-write-answer-3 : tie.Need-slice-write-answer-3
 slice-write-answer-3 c = search needs
-
-slice-write-answer-4 : tie.Need-slice-write-answer-4
-slice-write-answer-4 c = search needs
 
 same-length : tie.Need-same-length
 same-length c = search needs
 
 returns : tie.Need-returns
 returns c =
-    let a = c .before .before .args in
-    rw (c .if1 .taken) (three-written (a .top .held) (a .top .count) 1 (a .answer .now) (c .before .before .pre))
-
-same-length-2 : tie.Need-same-length-2
-same-length-2 c = search needs
-
-returns-2 : tie.Need-returns-2
-returns-2 c =
-    let a = c .before .before .args in
-    rw (c .if1 .left) (three-written (a .top .held) (a .top .count) 0 (a .answer .now) (c .before .before .pre))
+    let a = c .before .args in
+    let m : c .if1 .answer ≡ cond (a .top .mark) 1 0 = elim (c .if1 .came) as (λ _. c .if1 .answer ≡ cond (a .top .mark) 1 0) [ inl p ↦ rw (p .0 .taken) (p .1) | inr p ↦ rw (p .0 .left) (p .1) ] in
+    rw (← m) (three-written (a .top .held) (a .top .count) (c .if1 .answer) (a .answer .now) (c .before .pre))
 
 pub write-top-docs-spec : {M : Type 1} → statement M
 write-top-docs-spec =
@@ -45,8 +38,5 @@ write-top-docs-spec =
     slice-write-answer
     slice-write-answer-2
     slice-write-answer-3
-    slice-write-answer-4
     same-length
-    returns
-    same-length-2
-    returns-2)
+    returns)
