@@ -18,10 +18,10 @@ int main(void) {
     const uint32_t no_words[1] = {0};
     const uint8_t no_bytes[1] = {0};
     const uint64_t all_live[1] = {0};
-    uint32_t states[LOT_STATES(54)], ranges[1];
-    int32_t starts[1], other_starts[1];
-    int64_t hits[2];
-    uint64_t answer[LOT_SEARCH_ANSWER];
+    uint32_t states[LOT_STATES(54)] = {0}, ranges[1] = {0};
+    int32_t starts[1] = {0}, other_starts[1] = {0};
+    int64_t hits[2] = {0};
+    uint64_t answer[LOT_SEARCH_ANSWER] = {0};
     uint32_t refusal = lot_search(4, fields, 3, leaves, 8, postings, 12, no_words, 0, no_bytes, 0, all_live, 0,
         no_words, 0, no_words, 0, query, 54, 2, 10, states, LOT_STATES(54), starts, 0, other_starts, 0, ranges, 0,
         hits, 2, answer, LOT_SEARCH_ANSWER);
