@@ -5,3 +5,6 @@ pub mod PhraseParts
 pub mod Idf
 pub mod Sorting
 pub mod Weighing
+pub mod ClauseLaws
+pub mod Inserting
+pub mod ClauseWalk
