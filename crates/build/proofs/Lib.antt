@@ -5,4 +5,5 @@ pub mod PhraseParts
 pub mod Idf
 pub mod Sorting
 pub mod Weighing
+pub mod AtRecord
 pub mod BooleanParts
