@@ -1,17 +1,16 @@
 -- What is known of a record whose tree is to be placed, and of a tree without trees below it. Assumes nothing.
-use mathlib.Core.Path.{_≡_, refl, sym, _∙_, ap, subst}
+use mathlib.Core.Path.{_≡_, sym, _∙_, ap, subst}
 use mathlib.Core.Bool.{Bool, true, false, cond}
 use mathlib.Core.List.{List}
-use mathlib.Core.Option.{some}
 use Prim.Native.Nat.{ℕ, zero-le, _+_, _-_, _*_, _^_, _≤_, _<_}
 use native.Mathlib.Nat.{le-trans}
 use native.Mathlib.Omega.{arith}
 use lib.Dec.{lit≤}
-use lib.ListN.{length, getD}
+use lib.ListN.{getD}
 use lib.Ieee.{Float}
 use Rattle.meaning.specs.Lent.{Index}
 use Rattle.meaning.specs.Query
-use Rattle.meaning.specs.Query.{recordCount, recordKind, recordChildren, rangeOf, Tree, Decoded, decode}
+use Rattle.meaning.specs.Query.{recordCount, recordKind, recordChildren, rangeOf, Tree, Decoded}
 use Rattle.meaning.specs.Scorer.{hasScorer}
 use Rattle.ieee754.specs.Nonneg.{AtMost}
 use Rattle.ieee754.proofs.Bounds.{atmost-more}
@@ -21,7 +20,6 @@ use Rattle.query.proofs.Whole.{whole}
 use Rattle.sim.proofs.ScoreBounds.{carried-atmost}
 use Rattle.weight.proofs.Standing.{deep}
 use Rattle.weight.specs.ScorerTree.{range, everything, constant, leaf}
-use Rattle.weight.specs.State.{sizeOf}
 use Rattle.weight.specs.Weigh.{weigh, noScorer}
 use Rattle.build.specs.Placed.{keptOf}
 use Rattle.build.specs.Prepared.{Records, Prepared, TreeAsked}

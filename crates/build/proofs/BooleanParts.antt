@@ -2,22 +2,21 @@
 use mathlib.Core.Path.{_≡_, refl, sym, _∙_, ap, subst}
 use mathlib.Core.Bool.{Bool, true, false, cond, _&&_}
 use mathlib.Core.List.{List, [], _∷_, _++_, append-assoc}
-use mathlib.Core.Option.{Option, none, some}
-use Prim.Native.Nat.{ℕ, zero, suc, _+_, _-_, _*_, _^_, _≤_, _<_, max}
+use Prim.Native.Nat.{ℕ, zero, suc, _+_, _-_, _^_, _≤_, _<_}
 use native.Mathlib.Omega.{arith}
 use lib.Dec.{T, eqb}
-use lib.ListN.{length, take, drop, length-append, length-take, length-drop}
-use lib.Seq.{take-at, drop-at, take-append-le}
+use lib.ListN.{length, take, drop, length-append, length-take}
+use lib.Seq.{drop-at, take-append-le}
 use lib.Ieee.{Float, binary32, fits, toBits}
 use Rattle.meaning.specs.Lent.{Index}
-use Rattle.meaning.specs.Query.{isMust, isRequired, isShould, isMustNot, Clauses, hasRequired}
+use Rattle.meaning.specs.Query.{isRequired, isShould, isMustNot, Clauses, hasRequired}
 use Rattle.meaning.specs.Takes.{shouldsNeeded}
 use Rattle.meaning.specs.Cost.{costs, disjunctionCost}
 use Rattle.ieee754.specs.Nonneg.{AtMost}
-use Rattle.weight.specs.ScorerTree.{Joining, oneMore, afterwards, Scorer, boolean, Scorers, end, more, matches}
+use Rattle.weight.specs.ScorerTree.{afterwards, matches}
 use Rattle.weight.specs.State.{State, wordsOf, sizeOf, sizesOf, sizesOfFirst}
 use Rattle.weight.specs.Weigh.{Ready, cheapestFirst, chosen, scorersOf, upToCost, joiningOf, booleanOf, readied}
-use Rattle.weight.specs.Held.{Ok, Oks, FloatIs, KeptIs, JoiningIs, BooleanIs}
+use Rattle.weight.specs.Held.{Ok, Oks, FloatIs, KeptIs, JoiningIs}
 use Rattle.build.specs.Placed.{Placed, keptOf, booleanState}
 use Rattle.build.specs.Prepared.{PlacedAll}
 use Rattle.build.proofs.Placing.{no-cache, score-is}

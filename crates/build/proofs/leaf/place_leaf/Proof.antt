@@ -2,8 +2,7 @@
 use Rattle.build.proofs.AtRecord.{at-here, few-records, record-room, boost-small, score-small, present-word, present-small, terms-room, range-weighed, all-weighed, none-weighed}
 use Rattle.build.specs.Prepared.{records}
 use lib.ListN.{length}
-use Prim.Native.Nat.{ℕ, _+_, _-_, _*_, _^_, _≤_, _<_}
-use mathlib.Core.Path.{_≡_, refl, sym, _∙_, ap, subst}
+use mathlib.Core.Path.{sym, _∙_}
 use native.Mathlib.Omega.{arith}
 use borrow.Author.Needs.{needs}
 use Rattle.build.proofs.leaf.place_leaf.Statement.{statement}
