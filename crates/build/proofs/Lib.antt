@@ -8,3 +8,5 @@ pub mod Weighing
 pub mod ClauseLaws
 pub mod Inserting
 pub mod ClauseWalk
+pub mod AtRecord
+pub mod BooleanParts
