@@ -7,3 +7,4 @@ pub mod Sorting
 pub mod Weighing
 pub mod Filling
 pub mod QueryTables
+pub mod Root
