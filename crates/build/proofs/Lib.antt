@@ -10,3 +10,6 @@ pub mod Inserting
 pub mod ClauseWalk
 pub mod AtRecord
 pub mod BooleanParts
+pub mod Filling
+pub mod QueryTables
+pub mod Root
