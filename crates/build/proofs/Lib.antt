@@ -6,3 +6,4 @@ pub mod Idf
 pub mod Sorting
 pub mod Weighing
 pub mod BooleanParts
+pub mod ClauseLaws
