@@ -7,3 +7,4 @@ pub mod Sorting
 pub mod Weighing
 pub mod BooleanParts
 pub mod ClauseLaws
+pub mod PlacingLists
