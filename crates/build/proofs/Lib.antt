@@ -8,3 +8,4 @@ pub mod Weighing
 pub mod BooleanParts
 pub mod ClauseLaws
 pub mod PlacingLists
+pub mod PlacingParts

@@ -8,8 +8,8 @@ use native.Mathlib.Omega.{arith}
 use native.Mathlib.Numerals.{add-one}
 use lib.Dec.{T, eqb}
 use lib.ListN.{length, take, drop, getD, length-append, length-take, length-drop, take-append-drop}
-use lib.Seq.{take-append-add, take-all, length-take-le}
-use lib.Ieee.{Float}
+use lib.Seq.{take-append-add, take-append-le, take-all, length-take-le}
+use lib.Ieee.{Float, binary32, ofBits}
 use Rattle.meaning.specs.Lent.{Index}
 use Rattle.meaning.specs.Ieee754.{zeroFloat}
 use Rattle.meaning.specs.Query.{recordCount, recordOccurrence, Occur, must, should, mustNot, filter, isMust, occurOf, Decoded, decode}
@@ -51,6 +51,17 @@ module _ (ix : Index) (ranges : List ℕ) (d : ℕ) where
         size-is = omega (arith, x, y, sum);
         within = omega (arith, long, both, w);
         ok = subst (λ (z : List ℕ). Oks ix ranges (scorersOf (xs ++ ys)) d z 0) (sym words) (oks-append ix ranges xs ys d (take a st) (take b out) 0 (p .ok) (q .ok));
+      }
+
+  -- what stands after the words does not matter
+  pub placed-longer : (rs : List Ready) (r : ℕ) (out post : List ℕ) → PlacedAll ix ranges rs d r out → PlacedAll ix ranges rs d r (out ++ post)
+  placed-longer rs r out post p =
+      let w = p .within in
+      let both = length-append out post in
+      record {
+        size-is = p .size-is;
+        within = omega (arith, w, both);
+        ok = subst (λ (z : List ℕ). Oks ix ranges (scorersOf rs) d z 0) (sym (take-append-le r out post (p .within))) (p .ok);
       }
 
 -- ---- the clause at a place of a list
@@ -102,14 +113,13 @@ module _ (E : Records) (list : List ℕ) (boost : Float) (words depth : ℕ) whe
         subst (λ (zs : List Ready). PlacedAll ix ranges zs depth used st) (take-all i rs (omega (arith, same, h))) (l .placed ix ranges k rs p readies room levels)
 
     -- the clause at the next record: what the code reads of it, and the boost that reaches it
-    module _ (at occurrence : ℕ) (kept x : Float) (there : i < length list) (at-is : at ≡ getD list i 0) (occurrence-is : occurrence ≡ recordOccurrence (E .query) at) (x-is : (o : Occur) → occurOf occurrence ≡ some o → x ≡ passed o boost) (kept-small : AtMost (2 ^ 29) kept) (clear : T (signClear boost)) (all : length st ≡ words) where
-      asked : (ix : Index) (ranges : List ℕ) (k : ℕ) (rs : List Ready) → Prepared ix E ranges → (readies : ReadiesAt ix (E .query) k boost list rs) → sizesOf (scorersOf rs) ≤ words → k ≤ depth → (t : ReadyThere ix (E .query) k boost at rs i) → TreeAsked ix (E .query) k at (t .ready .tree) false kept x (length (drop used st))
+    module _ (at occurrence : ℕ) (kept x : Float) (there : i < length list) (at-is : at ≡ getD list i 0) (occurrence-is : occurrence ≡ recordOccurrence (E .query) at) (x-is : (o : Occur) → occurOf occurrence ≡ some o → x ≡ passed o boost) (kept-small : AtMost (2 ^ 29) kept) (clear : T (signClear boost)) (all : length st ≡ words) (n : ℕ) (n-is : n ≡ length st - used) where
+      asked : (ix : Index) (ranges : List ℕ) (k : ℕ) (rs : List Ready) → Prepared ix E ranges → (readies : ReadiesAt ix (E .query) k boost list rs) → sizesOf (scorersOf rs) ≤ words → k ≤ depth → (t : ReadyThere ix (E .query) k boost at rs i) → TreeAsked ix (E .query) k at (t .ready .tree) false kept x n
       asked ix ranges k rs p readies room levels t =
           let boost-is : x ≡ passed (t .one .occur) boost = x-is (t .one .occur) (ap occurOf occurrence-is ∙ t .ready .occur-is) in
           let placed = l .placed ix ranges k rs p readies room levels in
           let used-is = placed .size-is in
           let more = t .room in
-          let left = length-drop used st in
           let size : sizeOf (weigh ix (t .ready .tree .tree) x none) ≡ sizeOf (t .one .scorer) =
             ap (λ (z : Float). sizeOf (weigh ix (t .ready .tree .tree) z none)) boost-is ∙ sym (ap sizeOf (t .ready .scorer-is)) in
           record {
@@ -117,19 +127,27 @@ module _ (E : Records) (list : List ℕ) (boost : Float) (words depth : ℕ) whe
             within = subst (λ (z : Float). carriesAbove (t .ready .tree .tree) z ≡ false) (sym boost-is) (t .ready .within);
             boost-clear = subst (λ (z : Float). T (signClear z)) (sym boost-is) (clear-passed (t .one .occur) boost clear);
             kept-small = kept-small;
-            room = omega (arith, used-is, more, left, size, all, room);
+            room = omega (arith, used-is, more, n-is, size, all, room);
           }
 
       at-there : (ix : Index) (k : ℕ) (rs : List Ready) → ReadiesAt ix (E .query) k boost list rs → ReadyThere ix (E .query) k boost at rs i
       at-there ix k rs readies = subst (λ (z : ℕ). ReadyThere ix (E .query) k boost z rs i) (sym at-is) (ready-there ix (E .query) k boost list rs readies i there)
 
-      pub list-tree : ListPre E list boost words depth → TreePre E at false kept x (length (drop used st)) depth
+      pub list-tree : ListPre E list boost words depth → TreePre E at false kept x n depth
       list-tree a =
           let t = at-there (a .0) (a .2) (a .3) (a .5) in
           (a .0, a .1, a .2, t .ready .tree, a .4, asked (a .0) (a .1) (a .2) (a .3) (a .4) (a .5) (a .7) (a .8) t, a .8)
 
-      pub list-more : (scores r : ℕ) (out : List ℕ) → scores ≡ cond (eqb occurrence 1) 1 0 → TreePost E at false kept x (length (drop used st)) depth scores r out → ListAt E list boost words depth (i + 1) (used + r) (take used st ++ out)
-      list-more scores r out s post = record { placed = one-more }
+      -- its part ends within the words
+      pub list-fits : (scores r : ℕ) (out : List ℕ) → ListPre E list boost words depth → length out ≡ n → TreePost E at false kept x n depth scores r out → used + r ≤ length st
+      list-fits scores r out a long tree =
+          let t = at-there (a .0) (a .2) (a .3) (a .5) in
+          let part = tree (a .0) (a .1) (a .2) (t .ready .tree) (a .4) (asked (a .0) (a .1) (a .2) (a .3) (a .4) (a .5) (a .7) (a .8) t) (a .8) .within in
+          let before = list-within a in
+          omega (arith, part, before, long, n-is)
+
+      pub list-more : (scores r : ℕ) (out post : List ℕ) → scores ≡ cond (eqb occurrence 1) 1 0 → TreePost E at false kept x n depth scores r out → ListAt E list boost words depth (i + 1) (used + r) (take used st ++ (out ++ post))
+      list-more scores r out post s tree = record { placed = one-more }
         where
           must-is : (n : ℕ) (o : Occur) → occurOf n ≡ some o → eqb n 1 ≡ isMust o
           must-is n o e = rw (occur-number n o e) (go o)
@@ -140,11 +158,16 @@ module _ (E : Records) (list : List ℕ) (boost : Float) (words depth : ℕ) whe
               go mustNot = refl
               go filter = refl
 
-          one-more : (ix : Index) (ranges : List ℕ) (k : ℕ) (rs : List Ready) → Prepared ix E ranges → ReadiesAt ix (E .query) k boost list rs → sizesOf (scorersOf rs) ≤ words → k ≤ depth → PlacedAll ix ranges (take (i + 1) rs) depth (used + r) (take used st ++ out)
+          one-more : (ix : Index) (ranges : List ℕ) (k : ℕ) (rs : List Ready) → Prepared ix E ranges → ReadiesAt ix (E .query) k boost list rs → sizesOf (scorersOf rs) ≤ words → k ≤ depth → PlacedAll ix ranges (take (i + 1) rs) depth (used + r) (take used st ++ (out ++ post))
           one-more ix ranges k rs p readies room levels =
               let t = at-there ix k rs readies in
               let boost-is : x ≡ passed (t .one .occur) boost = x-is (t .one .occur) (ap occurOf occurrence-is ∙ t .ready .occur-is) in
-              let placed = post ix ranges k (t .ready .tree) p (asked ix ranges k rs p readies room levels t) levels in
+              let placed = tree ix ranges k (t .ready .tree) p (asked ix ranges k rs p readies room levels t) levels in
               let scorer-is : weigh ix (t .ready .tree .tree) x none ≡ t .one .scorer = ap (λ (z : Float). weigh ix (t .ready .tree .tree) z none) boost-is ∙ sym (t .ready .scorer-is) in
               let scores-is : scores ≡ cond (isMust (t .one .occur)) 1 0 = s ∙ ap (λ (z : Bool). cond z 1 0) (must-is occurrence (t .one .occur) (ap occurOf occurrence-is ∙ t .ready .occur-is)) in
-              rw (t .next-is) (placed-both ix ranges depth (take i rs) (t .one ∷ []) used r st out (l .placed ix ranges k rs p readies room levels) (placed-one ix ranges depth (t .one) r out (rw (scorer-is, scores-is) at placed)))
+              rw (t .next-is) (placed-both ix ranges depth (take i rs) (t .one ∷ []) used r st (out ++ post) (l .placed ix ranges k rs p readies room levels) (placed-longer ix ranges depth (t .one ∷ []) r out post (placed-one ix ranges depth (t .one) r out (rw (scorer-is, scores-is) at placed))))
+
+-- the code's 0.0, for a clause without a score of its own
+pub kept-nothing : AtMost (2 ^ 29) (ofBits binary32 0)
+unfolding ofBits
+kept-nothing = zero-atmost (2 ^ 29)
