@@ -5,6 +5,7 @@ pub mod PhraseParts
 pub mod Idf
 pub mod Sorting
 pub mod Weighing
+pub mod AtRecord
 pub mod BooleanParts
 pub mod ClauseLaws
 pub mod PlacingLists

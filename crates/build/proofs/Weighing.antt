@@ -43,6 +43,10 @@ module _ (ix : Index) (b : Float) (f : Bool) (x : Float) where
   unfolding weigh
   weigh-boost v t = refl
 
+  pub weigh-none : weigh ix Query.matchNone b (keptOf f x) ≡ noScorer
+  unfolding weigh
+  weigh-none = refl
+
 module _ (ix : Index) (b x : Float) where
   pub weigh-range : (f : Bool) (r : NumericRange) → weigh ix (Query.range r) b (keptOf f x) ≡ leaf (range r) (constant (cond f x b))
   unfolding weigh

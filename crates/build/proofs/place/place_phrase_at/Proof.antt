@@ -1,13 +1,12 @@
 -- `place::place_phrase_at` meets its contract. Assumes nothing.
 use Rattle.build.proofs.Weighing.{phrase-nothing, phrase-there, phrase-small, only-one}
 use Rattle.build.proofs.Idf.{phrase-idf-small}
-use Rattle.weight.proofs.Measures.{TermsHere, terms-here}
+use Rattle.weight.proofs.Measures.{terms-here}
 use Rattle.query.proofs.Accepted.{phrase-right}
 use Rattle.ieee754.specs.Nonneg.{AtMost}
 use lib.Ieee.{Float}
-use Prim.Native.Nat.{ℕ, _+_, _-_, _*_, _^_, _≤_, _<_}
-use mathlib.Core.Path.{_≡_, refl, sym, _∙_, ap, subst}
-use native.Mathlib.Omega.{arith}
+use Prim.Native.Nat.{_^_}
+use mathlib.Core.Path.{refl, sym, subst}
 use borrow.Author.Needs.{needs}
 use Rattle.build.proofs.place.place_phrase_at.Statement.{statement}
 use Rattle.build.proofs.place.place_phrase_at.Tie as tie
