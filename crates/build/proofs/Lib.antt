@@ -10,3 +10,4 @@ pub mod BooleanParts
 pub mod ClauseLaws
 pub mod PlacingLists
 pub mod PlacingParts
+pub mod Inserting
