@@ -11,3 +11,4 @@ pub mod ClauseLaws
 pub mod PlacingLists
 pub mod PlacingParts
 pub mod Inserting
+pub mod PlacingBooleans

@@ -28,7 +28,7 @@ between list a e h g =
     ∙ ap (drop a) (sym (take-add a (e - a) list) ∙ ap (λ (z : ℕ). take z list) whole)
 
 -- those before a place and those after it take the words of all
-sizes-split : (n : ℕ) (rs : List Ready) → sizesOf (scorersOf (take n rs)) + sizesOf (scorersOf (drop n rs)) ≡ sizesOf (scorersOf rs)
+pub sizes-split : (n : ℕ) (rs : List Ready) → sizesOf (scorersOf (take n rs)) + sizesOf (scorersOf (drop n rs)) ≡ sizesOf (scorersOf rs)
 sizes-split n rs = sym (sizes-append (take n rs) (drop n rs)) ∙ ap (λ (zs : List Ready). sizesOf (scorersOf zs)) (take-append-drop n rs)
 
 module _ (E : Records) (at : ℕ) (boost : Float) (words depth : ℕ) where
