@@ -12,3 +12,4 @@ pub mod PlacingLists
 pub mod PlacingParts
 pub mod Inserting
 pub mod PlacingBooleans
+pub mod PlacingBelow

@@ -121,7 +121,7 @@ module _ (E : Records) (list : List ℕ) (boost : Float) (words depth : ℕ) whe
           let used-is = placed .size-is in
           let more = t .room in
           let size : sizeOf (weigh ix (t .ready .tree .tree) x none) ≡ sizeOf (t .one .scorer) =
-            ap (λ (z : Float). sizeOf (weigh ix (t .ready .tree .tree) z none)) boost-is ∙ sym (ap sizeOf (t .ready .scorer-is)) in
+          ap (λ (z : Float). sizeOf (weigh ix (t .ready .tree .tree) z none)) boost-is ∙ sym (ap sizeOf (t .ready .scorer-is)) in
           record {
             decoded = t .ready .decoded;
             within = subst (λ (z : Float). carriesAbove (t .ready .tree .tree) z ≡ false) (sym boost-is) (t .ready .within);

@@ -118,9 +118,9 @@ module _ (E : Records) (at : ℕ) (boost : Float) (words depth : ℕ) where
             required-placed group group-is n-is tail ix ranges k C p =
                 let rs = requiredOf ix C boost in
                 let up-to : n ≡ upToCost (disjunctionCost (costs ix (C .clauses))) rs =
-                  n-is
-                  ∙ no-dearer-is ix (E .query) k boost (E .nexts) (E .presents) (E .costs) (p .prepared .measured) list rs (listed ix k C boost (part-known p)) group
-                  ∙ ap (λ (z : ℕ). upToCost z rs) (group-is ix k C boost (part-known p)) in (
+                n-is
+                ∙ no-dearer-is ix (E .query) k boost (E .nexts) (E .presents) (E .costs) (p .prepared .measured) list rs (listed ix k C boost (part-known p)) group
+                ∙ ap (λ (z : ℕ). upToCost z rs) (group-is ix k C boost (part-known p)) in (
                   subst (λ (zs : List Ready). PlacedAll ix ranges zs depth (groupAt + rest) (take groupAt st ++ (out ++ tail))) (take-append-drop n rs) (placed-both ix ranges depth (take n rs) (drop n rs) groupAt rest st (out ++ tail) (first-placed p) (placed-longer ix ranges depth (drop n rs) rest out tail (second-placed p))),
                   first-placed p .size-is ∙ sym (sizes-first n rs) ∙ ap (λ (z : ℕ). sizesOfFirst z (scorersOf rs)) up-to,
                 )
