@@ -13,3 +13,4 @@ pub mod PlacingParts
 pub mod Inserting
 pub mod PlacingBooleans
 pub mod PlacingBelow
+pub mod ClauseWalk
