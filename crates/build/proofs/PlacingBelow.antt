@@ -5,12 +5,11 @@ use mathlib.Core.List.{List}
 use Prim.Native.Nat.{ℕ, _+_, _-_, _≤_, _<_}
 use native.Mathlib.Omega.{arith}
 use lib.Dec.{T}
-use lib.ListN.{length, take}
+use lib.ListN.{take}
 use lib.Ieee.{Float, binary32, ofBits, nanBits}
 use Rattle.meaning.specs.Limits.{largestBoost}
 use Rattle.meaning.specs.Lent.{Index}
 use Rattle.meaning.specs.Ieee754.{zeroFloat}
-use Rattle.meaning.specs.Query
 use Rattle.meaning.specs.Query.{recordCount, recordKind, recordValue, Tree, Decoded}
 use Rattle.meaning.specs.QueryRefusals.{carriesAbove}
 use Rattle.meaning.specs.Score.{boosted}

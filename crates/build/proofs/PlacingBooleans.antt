@@ -1,16 +1,16 @@
 -- A Boolean: its record's facts, the room of its three lists, and its whole part. Assumes nothing.
-use mathlib.Core.Path.{_≡_, refl, sym, _∙_, ap, subst}
+use mathlib.Core.Path.{_≡_, sym, _∙_, ap, subst}
 use mathlib.Core.Bool.{Bool, true, false, cond, _&&_}
 use mathlib.Core.List.{List, _++_}
 use mathlib.Core.Option.{some}
-use Prim.Native.Nat.{ℕ, zero-le, _+_, _-_, _*_, _^_, _≤_, _<_, max}
+use Prim.Native.Nat.{ℕ, _+_, _-_, _^_, _≤_, _<_, max}
 use native.Mathlib.Omega.{arith}
 use lib.Dec.{T, eqb}
-use lib.ListN.{length, take, drop, getD, take-append-drop}
+use lib.ListN.{length, take, drop, getD}
 use lib.Ieee.{Float, binary32, fits, toBits}
 use Rattle.meaning.specs.Lent.{Index}
 use Rattle.meaning.specs.Query
-use Rattle.meaning.specs.Query.{recordCount, recordKind, recordValue, Tree, Clauses, hasRequired, isShould, isMustNot, Decoded, DecodedClauses, decode}
+use Rattle.meaning.specs.Query.{recordCount, recordKind, recordValue, Tree, Clauses, hasRequired, isMustNot, Decoded, DecodedClauses}
 use Rattle.meaning.specs.QueryRefusals.{carriesAbove}
 use Rattle.meaning.specs.Takes.{shouldsNeeded}
 use Rattle.meaning.specs.Scorer.{hasScorer}
@@ -21,7 +21,7 @@ use Rattle.query.proofs.Inverse.{boolean-at}
 use Rattle.query.proofs.Spans.{tree-span}
 use Rattle.query.proofs.Whole.{whole}
 use Rattle.weight.specs.Weigh.{Ready, chosen, scorersOf, upToCost, booleanOf, noScorer, weigh, readied}
-use Rattle.weight.specs.State.{wordsOf, sizeOf, sizesOf, sizesOfFirst}
+use Rattle.weight.specs.State.{wordsOf, sizeOf, sizesOf}
 use Rattle.weight.proofs.Clauses.{absent, present}
 use Rattle.weight.proofs.Standing.{deep}
 use Rattle.weight.proofs.Sizes.{weigh-size}

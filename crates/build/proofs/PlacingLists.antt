@@ -1,18 +1,16 @@
 -- Parts that stand one after the other: those of some clauses, as a list of their records is gone through. Assumes nothing.
 use mathlib.Core.Path.{_≡_, refl, sym, _∙_, ap, subst}
-use mathlib.Core.Bool.{Bool, true, false, cond}
+use mathlib.Core.Bool.{Bool, false, cond}
 use mathlib.Core.List.{List, [], _∷_, _++_, append-nil}
 use mathlib.Core.Option.{none, some}
 use Prim.Native.Nat.{ℕ, zero, suc, _+_, _-_, _^_, _≤_, _<_}
 use native.Mathlib.Omega.{arith}
-use native.Mathlib.Numerals.{add-one}
 use lib.Dec.{T, eqb}
-use lib.ListN.{length, take, drop, getD, length-append, length-take, length-drop, take-append-drop}
+use lib.ListN.{length, take, getD, length-append}
 use lib.Seq.{take-append-add, take-append-le, take-all, length-take-le}
 use lib.Ieee.{Float, binary32, ofBits}
 use Rattle.meaning.specs.Lent.{Index}
-use Rattle.meaning.specs.Ieee754.{zeroFloat}
-use Rattle.meaning.specs.Query.{recordCount, recordOccurrence, Occur, must, should, mustNot, filter, isMust, occurOf, Decoded, decode}
+use Rattle.meaning.specs.Query.{recordCount, recordOccurrence, Occur, must, should, mustNot, filter, isMust, occurOf}
 use Rattle.meaning.specs.QueryRefusals.{carriesAbove}
 use Rattle.meaning.specs.Score.{passed}
 use Rattle.ieee754.specs.Nonneg.{signClear, AtMost}
@@ -21,7 +19,7 @@ use Rattle.query.proofs.Inverse.{occur-number, occurNumber}
 use Rattle.weight.specs.Weigh.{Ready, scorersOf, weigh}
 use Rattle.weight.specs.State.{sizeOf, sizesOf}
 use Rattle.weight.specs.Held.{Ok, Oks}
-use Rattle.build.specs.Placed.{Placed, keptOf}
+use Rattle.build.specs.Placed.{Placed}
 use Rattle.build.specs.Prepared.{Records, Prepared, ReadyAt, ReadiesAt, PlacedAll, TreeAsked, ListPre, ListPost, TreePre, TreePost}
 use Rattle.build.proofs.BooleanParts.{oks-append, sizes-append}
 use Rattle.build.proofs.ClauseLaws.{readies-length, readies-here}

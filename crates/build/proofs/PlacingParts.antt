@@ -1,10 +1,10 @@
 -- The clauses of a Boolean by a list of their records: the required, in two lists with the group's place between them, and those of one occurrence. Assumes nothing.
-use mathlib.Core.Path.{_≡_, refl, sym, _∙_, ap, subst}
+use mathlib.Core.Path.{_≡_, sym, _∙_, ap, subst}
 use mathlib.Core.List.{List, _++_}
 use Prim.Native.Nat.{ℕ, _+_, _-_, _≤_, _<_}
 use native.Mathlib.Omega.{arith}
-use lib.ListN.{length, take, drop, getD, length-take, take-append-drop}
-use lib.Seq.{take-take, take-add, drop-at, length-take-le}
+use lib.ListN.{length, take, drop, getD, take-append-drop}
+use lib.Seq.{take-add, drop-at, length-take-le}
 use lib.Ieee.{Float}
 use Rattle.meaning.specs.Lent.{Index}
 use Rattle.meaning.specs.Query.{DecodedClauses}

@@ -293,7 +293,7 @@ fn place_boolean(
         places,
         counts,
         at,
-        2,
+        2, // the optional
         boost,
         depth - 1,
     );
@@ -310,7 +310,7 @@ fn place_boolean(
         places,
         counts,
         at,
-        3,
+        3, // the prohibited
         boost,
         depth - 1,
     );
@@ -394,7 +394,7 @@ pub fn place(
             at + 1,
             true,
             kept_or(fixed, kept, boost),
-            0.0,
+            0.0, // not the boost
             scores,
             depth - 1,
         ),

@@ -1,7 +1,7 @@
 -- `tree::place_list`. Assumes nothing.
 use borrow.Author.Needs.{needs}
 use borrow.Rule.Slice.PartMut.{same-len-mid, mid-len, postOf}
-use mathlib.Core.Path.{refl, sym, _∙_}
+use mathlib.Core.Path.{refl, _∙_}
 use native.Mathlib.Omega.{arith}
 use lib.ListN.{length}
 use Prim.Native.Nat.{ℕ, _-_}

@@ -26,13 +26,6 @@ place-kind-requires t c κs =
 pub place-place-boolean-requires : (t : ℕ) → place-lts.Need-place-boolean-requires (place-calls t) (place-at t) place.Post
 place-place-boolean-requires t c κs =
     let s = c .before .before .before .before .before .before .before .before .before .before .before .before in
-    let E = records (s .args .q .now) (s .args .max-doc) (s .args .fields .now) (s .args .leaves .now) (s .args .nexts .now) (s .args .presents .now) (s .args .costs .now) (s .args .places .now) (s .args .counts .now) in
-    let at = s .args .at in
-    let fixed = s .args .fixed in
-    let kept = s .args .kept in
-    let boost = s .args .boost in
-    let words = length (s .args .st .now) in
-    let depth = s .args .depth in
     let pre = s .pre .1 in
     (omega (arith, s .pre .0), (sym (c .before .before .kind .ensures) ∙ c .before .match .keys1, pre))
 
@@ -149,13 +142,6 @@ place-place-requires-2 t c κs =
 pub place-place-leaf-requires : (t : ℕ) → place-lts.Need-place-leaf-requires (place-calls t) (place-at t) place.Post
 place-place-leaf-requires t c κs =
     let s = c .before .before .before .before .before .before .before .before .before .before .before .before in
-    let E = records (s .args .q .now) (s .args .max-doc) (s .args .fields .now) (s .args .leaves .now) (s .args .nexts .now) (s .args .presents .now) (s .args .costs .now) (s .args .places .now) (s .args .counts .now) in
-    let at = s .args .at in
-    let fixed = s .args .fixed in
-    let kept = s .args .kept in
-    let boost = s .args .boost in
-    let words = length (s .args .st .now) in
-    let depth = s .args .depth in
     let pre = s .pre .1 in
     let no = c .before .match .rest in
     let is = c .before .before .kind .ensures in
@@ -180,7 +166,6 @@ place-returns-2 t c =
     let boost = s .args .boost in
     let words = length (s .args .st .now) in
     let depth = s .args .depth in
-    let pre = s .pre .1 in
     let kind = sym (c .before .before .before .before .before .before .kind .ensures) ∙ c .before .before .before .before .before .match .keys2 in
     (constant-placed E at fixed kept boost words depth kind (c .before .before .before .kept-or .result) (c .before .before .before .kept-or .ensures) (s .args .scores) (c .before .before .place .result) (c .before .before .place .last .0) (c .before .before .place .ensures .0), c .before .before .place .kept .0)
 
@@ -197,7 +182,6 @@ place-returns-3 t c =
     let boost = s .args .boost in
     let words = length (s .args .st .now) in
     let depth = s .args .depth in
-    let pre = s .pre .1 in
     let kind = sym (c .before .before .before .before .before .before .kind .ensures) ∙ c .before .before .before .before .before .match .keys3 in
     (boost-placed E at fixed kept boost words depth kind (c .before .before .before .value .result) (c .before .before .before .value .ensures) (s .args .scores) (c .before .before .place2 .result) (c .before .before .place2 .last .0) (c .before .before .place2 .ensures .0), c .before .before .place2 .kept .0)
 

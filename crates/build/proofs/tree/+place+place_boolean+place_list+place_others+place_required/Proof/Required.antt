@@ -1,5 +1,4 @@
 -- `tree::place_others` and `tree::place_required`. Assumes nothing.
-use borrow.Author.Needs.{needs}
 use borrow.Rule.Slice.PartMut.{same-len-mid, mid-len, postOf}
 use mathlib.Core.Path.{refl, sym, _∙_}
 use native.Mathlib.Omega.{arith}
@@ -30,27 +29,11 @@ place-others-clauses-of-requires t c κs =
 
 pub place-others-array-share-prefix-list : (t : ℕ) → place-others-lts.Need-array-share-prefix-list (place-others-calls t) (place-others-at t) place-others.Post
 place-others-array-share-prefix-list t c =
-    let s = c .before .before .before .before .before .before .before .before .before .before .before .before .before in
-    let E = records (s .args .q .now) (s .args .max-doc) (s .args .fields .now) (s .args .leaves .now) (s .args .nexts .now) (s .args .presents .now) (s .args .costs .now) (s .args .places .now) (s .args .counts .now) in
-    let at = s .args .at in
-    let boost = s .args .boost in
-    let words = length (s .args .st .now) in
-    let depth = s .args .depth in
-    let occurrence = s .args .occurrence in
     let o = c .before .before .clauses-of in
-    let list = o .last .1 .1 .1 .1 .1 .1 .0 in
-    let count = o .result in
     omega (arith, o .ensures .1 .0, o .ensures .1 .1)
 
 pub place-others-slice-aggregate-place-list : (t : ℕ) → place-others-lts.Need-slice-aggregate-place-list (place-others-calls t) (place-others-at t) place-others.Post
 place-others-slice-aggregate-place-list t c =
-    let s = c .before .before .before .before .before .before .before .before .before .before .before .before .before .before in
-    let E = records (s .args .q .now) (s .args .max-doc) (s .args .fields .now) (s .args .leaves .now) (s .args .nexts .now) (s .args .presents .now) (s .args .costs .now) (s .args .places .now) (s .args .counts .now) in
-    let at = s .args .at in
-    let boost = s .args .boost in
-    let words = length (s .args .st .now) in
-    let depth = s .args .depth in
-    let occurrence = s .args .occurrence in
     let o = c .before .before .before .clauses-of in
     let list = o .last .1 .1 .1 .1 .1 .1 .0 in
     let count = o .result in
@@ -87,6 +70,32 @@ place-others-returns t c =
     let count = o .result in
     (others-placed E at boost words depth occurrence (take count list) (o .ensures .0) (c .before .before .place-list .result) (c .before .before .place-list .last .0) (c .before .before .place-list .ensures .0), c .before .before .place-list .kept .0)
 
+-- the list holds those that were found, and the first of them
+listed-enough : (t : ℕ) (c : place-required-lts.After-required-clauses (place-required-calls t) (place-required-at t) place-required.Post) → c .required-clauses .result ≤ length (c .required-clauses .last .1 .1 .1 .1 .1 .0)
+listed-enough t c = omega (arith, c .required-clauses .ensures .1 .0, c .required-clauses .ensures .1 .1)
+
+no-dearer-few : (t : ℕ) (c : place-required-lts.After-no-dearer (place-required-calls t) (place-required-at t) place-required.Post) → c .no-dearer .result ≤ c .before .before .before .required-clauses .result
+no-dearer-few t c =
+    omega (arith, c .no-dearer .ensures .1, length-take (c .before .before .before .required-clauses .result) (c .before .before .before .required-clauses .last .1 .1 .1 .1 .1 .0))
+
+-- where the group joins
+first-within : (t : ℕ) (c : place-required-lts.After-place-list (place-required-calls t) (place-required-at t) place-required.Post) → c .place-list .result ≤ length (c .place-list .last .0)
+first-within t c =
+    let s = c .before .before .before .before .before .before .before .before .before .before .before .before .before .before .before .before .before .before in
+    let E = records (s .args .q .now) (s .args .max-doc) (s .args .fields .now) (s .args .leaves .now) (s .args .nexts .now) (s .args .presents .now) (s .args .costs .now) (s .args .places .now) (s .args .counts .now) in
+    let at = s .args .at in
+    let boost = s .args .boost in
+    let words = length (s .args .st .now) in
+    let depth = s .args .depth in
+    let o = c .before .before .before .before .before .before .required-clauses in
+    let list = o .last .1 .1 .1 .1 .1 .0 in
+    let count = o .result in
+    let n = c .before .before .before .no-dearer .result in
+    let few = no-dearer-few t (c .before .before .before) in
+    let first-is = sym (take-take n count list few) in
+    let p = c .place-list in
+    required-within E at boost words depth (take count list) (o .ensures .0) n (take n list) first-is (p .result) (p .last .0) (p .kept .0) (p .ensures .0) (s .pre .1)
+
 pub place-required-group-cost-requires : (t : ℕ) → place-required-lts.Need-group-cost-requires (place-required-calls t) (place-required-at t) place-required.Post
 place-required-group-cost-requires t c κs =
     let s = c .before .before .before .before .before .before .before .before .before in
@@ -111,32 +120,11 @@ place-required-required-clauses-requires t c κs =
     (required-known E at boost words depth (s .pre .1), refl)
 
 pub place-required-array-share-prefix-list : (t : ℕ) → place-required-lts.Need-array-share-prefix-list (place-required-calls t) (place-required-at t) place-required.Post
-place-required-array-share-prefix-list t c =
-    let s = c .before .before .before .before .before .before .before .before .before .before .before .before .before in
-    let E = records (s .args .q .now) (s .args .max-doc) (s .args .fields .now) (s .args .leaves .now) (s .args .nexts .now) (s .args .presents .now) (s .args .costs .now) (s .args .places .now) (s .args .counts .now) in
-    let at = s .args .at in
-    let boost = s .args .boost in
-    let words = length (s .args .st .now) in
-    let depth = s .args .depth in
-    let o = c .before .required-clauses in
-    let list = o .last .1 .1 .1 .1 .1 .0 in
-    let count = o .result in
-    let enough : count ≤ length list = omega (arith, o .ensures .1 .0, o .ensures .1 .1) in
-    enough
+place-required-array-share-prefix-list t c = listed-enough t (c .before)
 
 pub place-required-slice-aggregate-no-dearer : (t : ℕ) → place-required-lts.Need-slice-aggregate-no-dearer (place-required-calls t) (place-required-at t) place-required.Post
 place-required-slice-aggregate-no-dearer t c =
-    let s = c .before .before .before .before .before .before .before .before .before .before .before .before .before .before in
-    let E = records (s .args .q .now) (s .args .max-doc) (s .args .fields .now) (s .args .leaves .now) (s .args .nexts .now) (s .args .presents .now) (s .args .costs .now) (s .args .places .now) (s .args .counts .now) in
-    let at = s .args .at in
-    let boost = s .args .boost in
-    let words = length (s .args .st .now) in
-    let depth = s .args .depth in
-    let o = c .before .before .required-clauses in
-    let list = o .last .1 .1 .1 .1 .1 .0 in
-    let count = o .result in
-    let enough : count ≤ length list = omega (arith, o .ensures .1 .0, o .ensures .1 .1) in
-    sym (length-take-le count list enough)
+    sym (length-take-le (c .before .before .required-clauses .result) (c .before .before .required-clauses .last .1 .1 .1 .1 .1 .0) (listed-enough t (c .before .before)))
 
 pub place-required-no-dearer-requires : (t : ℕ) → place-required-lts.Need-no-dearer-requires (place-required-calls t) (place-required-at t) place-required.Post
 place-required-no-dearer-requires t c κs =
@@ -149,40 +137,14 @@ place-required-no-dearer-requires t c κs =
     let o = c .before .before .required-clauses in
     let list = o .last .1 .1 .1 .1 .1 .0 in
     let count = o .result in
-    let enough : count ≤ length list = omega (arith, o .ensures .1 .0, o .ensures .1 .1) in
     required-here E at boost words depth (take count list) (o .ensures .0) (s .pre .1)
 
 pub place-required-array-share-prefix-list-2 : (t : ℕ) → place-required-lts.Need-array-share-prefix-list-2 (place-required-calls t) (place-required-at t) place-required.Post
-place-required-array-share-prefix-list-2 t c =
-    let s = c .before .before .before .before .before .before .before .before .before .before .before .before .before .before .before .before in
-    let E = records (s .args .q .now) (s .args .max-doc) (s .args .fields .now) (s .args .leaves .now) (s .args .nexts .now) (s .args .presents .now) (s .args .costs .now) (s .args .places .now) (s .args .counts .now) in
-    let at = s .args .at in
-    let boost = s .args .boost in
-    let words = length (s .args .st .now) in
-    let depth = s .args .depth in
-    let o = c .before .before .before .before .required-clauses in
-    let list = o .last .1 .1 .1 .1 .1 .0 in
-    let count = o .result in
-    let enough : count ≤ length list = omega (arith, o .ensures .1 .0, o .ensures .1 .1) in
-    let n = c .before .no-dearer .result in
-    let few : n ≤ count = omega (arith, c .before .no-dearer .ensures .1, length-take count list) in
-    omega (arith, few, enough)
+place-required-array-share-prefix-list-2 t c = omega (arith, no-dearer-few t (c .before), listed-enough t (c .before .before .before .before))
 
 pub place-required-slice-aggregate-place-list : (t : ℕ) → place-required-lts.Need-slice-aggregate-place-list (place-required-calls t) (place-required-at t) place-required.Post
 place-required-slice-aggregate-place-list t c =
-    let s = c .before .before .before .before .before .before .before .before .before .before .before .before .before .before .before .before .before in
-    let E = records (s .args .q .now) (s .args .max-doc) (s .args .fields .now) (s .args .leaves .now) (s .args .nexts .now) (s .args .presents .now) (s .args .costs .now) (s .args .places .now) (s .args .counts .now) in
-    let at = s .args .at in
-    let boost = s .args .boost in
-    let words = length (s .args .st .now) in
-    let depth = s .args .depth in
-    let o = c .before .before .before .before .before .required-clauses in
-    let list = o .last .1 .1 .1 .1 .1 .0 in
-    let count = o .result in
-    let enough : count ≤ length list = omega (arith, o .ensures .1 .0, o .ensures .1 .1) in
-    let n = c .before .before .no-dearer .result in
-    let few : n ≤ count = omega (arith, c .before .before .no-dearer .ensures .1, length-take count list) in
-    sym (length-take-le n list (omega (arith, few, enough)))
+    sym (length-take-le (c .before .before .no-dearer .result) (c .before .before .before .before .before .required-clauses .last .1 .1 .1 .1 .1 .0) (omega (arith, no-dearer-few t (c .before .before), listed-enough t (c .before .before .before .before .before))))
 
 pub place-required-place-list-requires : (t : ℕ) → place-required-lts.Need-place-list-requires (place-required-calls t) (place-required-at t) place-required.Post
 place-required-place-list-requires t c κs =
@@ -195,129 +157,36 @@ place-required-place-list-requires t c κs =
     let o = c .before .before .before .before .before .required-clauses in
     let list = o .last .1 .1 .1 .1 .1 .0 in
     let count = o .result in
-    let enough : count ≤ length list = omega (arith, o .ensures .1 .0, o .ensures .1 .1) in
     let n = c .before .before .no-dearer .result in
-    let few : n ≤ count = omega (arith, c .before .before .no-dearer .ensures .1, length-take count list) in
-    (omega (arith, s .pre .0), required-first E at boost words depth (take count list) (o .ensures .0) n (take n list) (sym (take-take n count list few)) (s .pre .1))
+    let few = no-dearer-few t (c .before .before) in
+    let first-is = sym (take-take n count list few) in
+    (omega (arith, s .pre .0), required-first E at boost words depth (take count list) (o .ensures .0) n (take n list) first-is (s .pre .1))
 
 pub place-required-mul-place-list : (t : ℕ) → place-required-lts.Need-mul-place-list (place-required-calls t) (place-required-at t) place-required.Post
 place-required-mul-place-list t c =
-    let s = c .before .before .before .before .before .before .before .before .before .before .before .before .before .before .before .before .before .before .before .before in
-    let E = records (s .args .q .now) (s .args .max-doc) (s .args .fields .now) (s .args .leaves .now) (s .args .nexts .now) (s .args .presents .now) (s .args .costs .now) (s .args .places .now) (s .args .counts .now) in
-    let at = s .args .at in
-    let boost = s .args .boost in
-    let words = length (s .args .st .now) in
-    let depth = s .args .depth in
-    let o = c .before .before .before .before .before .before .before .before .required-clauses in
-    let list = o .last .1 .1 .1 .1 .1 .0 in
-    let count = o .result in
-    let enough : count ≤ length list = omega (arith, o .ensures .1 .0, o .ensures .1 .1) in
-    let n = c .before .before .before .before .before .no-dearer .result in
-    let few : n ≤ count = omega (arith, c .before .before .before .before .before .no-dearer .ensures .1, length-take count list) in
-    let p = c .before .before .place-list in
-    let first-is = sym (take-take n count list few) in
-    omega (arith, required-within E at boost words depth (take count list) (o .ensures .0) n (take n list) first-is (p .result) (p .last .0) (p .kept .0) (p .ensures .0) (s .pre .1), p .kept .0, s .good)
+    omega (arith, first-within t (c .before .before), c .before .before .place-list .kept .0, c .before .before .before .before .before .before .before .before .before .before .before .before .before .before .before .before .before .before .before .before .good)
 
 pub place-required-sub-place-list : (t : ℕ) → place-required-lts.Need-sub-place-list (place-required-calls t) (place-required-at t) place-required.Post
-place-required-sub-place-list t c =
-    let s = c .before .before .before .before .before .before .before .before .before .before .before .before .before .before .before .before .before .before .before .before in
-    let E = records (s .args .q .now) (s .args .max-doc) (s .args .fields .now) (s .args .leaves .now) (s .args .nexts .now) (s .args .presents .now) (s .args .costs .now) (s .args .places .now) (s .args .counts .now) in
-    let at = s .args .at in
-    let boost = s .args .boost in
-    let words = length (s .args .st .now) in
-    let depth = s .args .depth in
-    let o = c .before .before .before .before .before .before .before .before .required-clauses in
-    let list = o .last .1 .1 .1 .1 .1 .0 in
-    let count = o .result in
-    let enough : count ≤ length list = omega (arith, o .ensures .1 .0, o .ensures .1 .1) in
-    let n = c .before .before .before .before .before .no-dearer .result in
-    let few : n ≤ count = omega (arith, c .before .before .before .before .before .no-dearer .ensures .1, length-take count list) in
-    let p = c .before .before .place-list in
-    let first-is = sym (take-take n count list few) in
-    required-within E at boost words depth (take count list) (o .ensures .0) n (take n list) first-is (p .result) (p .last .0) (p .kept .0) (p .ensures .0) (s .pre .1)
+place-required-sub-place-list t c = first-within t (c .before .before)
 
 pub place-required-part-place-list-start : (t : ℕ) → place-required-lts.Need-part-place-list-start (place-required-calls t) (place-required-at t) place-required.Post
-place-required-part-place-list-start t c =
-    let s = c .before .before .before .before .before .before .before .before .before .before .before .before .before .before .before .before .before .before .before .before in
-    let E = records (s .args .q .now) (s .args .max-doc) (s .args .fields .now) (s .args .leaves .now) (s .args .nexts .now) (s .args .presents .now) (s .args .costs .now) (s .args .places .now) (s .args .counts .now) in
-    let at = s .args .at in
-    let boost = s .args .boost in
-    let words = length (s .args .st .now) in
-    let depth = s .args .depth in
-    let o = c .before .before .before .before .before .before .before .before .required-clauses in
-    let list = o .last .1 .1 .1 .1 .1 .0 in
-    let count = o .result in
-    let enough : count ≤ length list = omega (arith, o .ensures .1 .0, o .ensures .1 .1) in
-    let n = c .before .before .before .before .before .no-dearer .result in
-    let few : n ≤ count = omega (arith, c .before .before .before .before .before .no-dearer .ensures .1, length-take count list) in
-    let p = c .before .before .place-list in
-    let first-is = sym (take-take n count list few) in
-    required-within E at boost words depth (take count list) (o .ensures .0) n (take n list) first-is (p .result) (p .last .0) (p .kept .0) (p .ensures .0) (s .pre .1)
+place-required-part-place-list-start t c = first-within t (c .before .before)
 
 pub place-required-part-place-list-end : (t : ℕ) → place-required-lts.Need-part-place-list-end (place-required-calls t) (place-required-at t) place-required.Post
 place-required-part-place-list-end t c = omega arith
 
 pub place-required-mul-place-list-2 : (t : ℕ) → place-required-lts.Need-mul-place-list-2 (place-required-calls t) (place-required-at t) place-required.Post
 place-required-mul-place-list-2 t c =
-    let s = c .before .before .before .before .before .before .before .before .before .before .before .before .before .before .before .before .before .before .before .before .before in
-    let E = records (s .args .q .now) (s .args .max-doc) (s .args .fields .now) (s .args .leaves .now) (s .args .nexts .now) (s .args .presents .now) (s .args .costs .now) (s .args .places .now) (s .args .counts .now) in
-    let at = s .args .at in
-    let boost = s .args .boost in
-    let words = length (s .args .st .now) in
-    let depth = s .args .depth in
-    let o = c .before .before .before .before .before .before .before .before .before .required-clauses in
-    let list = o .last .1 .1 .1 .1 .1 .0 in
-    let count = o .result in
-    let enough : count ≤ length list = omega (arith, o .ensures .1 .0, o .ensures .1 .1) in
-    let n = c .before .before .before .before .before .before .no-dearer .result in
-    let few : n ≤ count = omega (arith, c .before .before .before .before .before .before .no-dearer .ensures .1, length-take count list) in
-    omega (arith, few, o .ensures .1 .0)
+    omega (arith, no-dearer-few t (c .before .before .before .before .before .before), c .before .before .before .before .before .before .before .before .before .required-clauses .ensures .1 .0)
 
 pub place-required-sub-place-list-2 : (t : ℕ) → place-required-lts.Need-sub-place-list-2 (place-required-calls t) (place-required-at t) place-required.Post
-place-required-sub-place-list-2 t c =
-    let s = c .before .before .before .before .before .before .before .before .before .before .before .before .before .before .before .before .before .before .before .before .before in
-    let E = records (s .args .q .now) (s .args .max-doc) (s .args .fields .now) (s .args .leaves .now) (s .args .nexts .now) (s .args .presents .now) (s .args .costs .now) (s .args .places .now) (s .args .counts .now) in
-    let at = s .args .at in
-    let boost = s .args .boost in
-    let words = length (s .args .st .now) in
-    let depth = s .args .depth in
-    let o = c .before .before .before .before .before .before .before .before .before .required-clauses in
-    let list = o .last .1 .1 .1 .1 .1 .0 in
-    let count = o .result in
-    let enough : count ≤ length list = omega (arith, o .ensures .1 .0, o .ensures .1 .1) in
-    let n = c .before .before .before .before .before .before .no-dearer .result in
-    let few : n ≤ count = omega (arith, c .before .before .before .before .before .before .no-dearer .ensures .1, length-take count list) in
-    few
+place-required-sub-place-list-2 t c = no-dearer-few t (c .before .before .before .before .before .before)
 
 pub place-required-part-place-list-start-2 : (t : ℕ) → place-required-lts.Need-part-place-list-start-2 (place-required-calls t) (place-required-at t) place-required.Post
-place-required-part-place-list-start-2 t c =
-    let s = c .before .before .before .before .before .before .before .before .before .before .before .before .before .before .before .before .before .before .before .before .before .before in
-    let E = records (s .args .q .now) (s .args .max-doc) (s .args .fields .now) (s .args .leaves .now) (s .args .nexts .now) (s .args .presents .now) (s .args .costs .now) (s .args .places .now) (s .args .counts .now) in
-    let at = s .args .at in
-    let boost = s .args .boost in
-    let words = length (s .args .st .now) in
-    let depth = s .args .depth in
-    let o = c .before .before .before .before .before .before .before .before .before .before .required-clauses in
-    let list = o .last .1 .1 .1 .1 .1 .0 in
-    let count = o .result in
-    let enough : count ≤ length list = omega (arith, o .ensures .1 .0, o .ensures .1 .1) in
-    let n = c .before .before .before .before .before .before .before .no-dearer .result in
-    let few : n ≤ count = omega (arith, c .before .before .before .before .before .before .before .no-dearer .ensures .1, length-take count list) in
-    few
+place-required-part-place-list-start-2 t c = no-dearer-few t (c .before .before .before .before .before .before .before)
 
 pub place-required-part-place-list-end-2 : (t : ℕ) → place-required-lts.Need-part-place-list-end-2 (place-required-calls t) (place-required-at t) place-required.Post
-place-required-part-place-list-end-2 t c =
-    let s = c .before .before .before .before .before .before .before .before .before .before .before .before .before .before .before .before .before .before .before .before .before .before in
-    let E = records (s .args .q .now) (s .args .max-doc) (s .args .fields .now) (s .args .leaves .now) (s .args .nexts .now) (s .args .presents .now) (s .args .costs .now) (s .args .places .now) (s .args .counts .now) in
-    let at = s .args .at in
-    let boost = s .args .boost in
-    let words = length (s .args .st .now) in
-    let depth = s .args .depth in
-    let o = c .before .before .before .before .before .before .before .before .before .before .required-clauses in
-    let list = o .last .1 .1 .1 .1 .1 .0 in
-    let count = o .result in
-    let enough : count ≤ length list = omega (arith, o .ensures .1 .0, o .ensures .1 .1) in
-    enough
+place-required-part-place-list-end-2 t c = listed-enough t (c .before .before .before .before .before .before .before .before .before .before)
 
 pub place-required-place-list-requires-2 : (t : ℕ) → place-required-lts.Need-place-list-requires-2 (place-required-calls t) (place-required-at t) place-required.Post
 place-required-place-list-requires-2 t c κs =
@@ -330,13 +199,12 @@ place-required-place-list-requires-2 t c κs =
     let o = c .before .before .before .before .before .before .before .before .before .before .before .required-clauses in
     let list = o .last .1 .1 .1 .1 .1 .0 in
     let count = o .result in
-    let enough : count ≤ length list = omega (arith, o .ensures .1 .0, o .ensures .1 .1) in
     let n = c .before .before .before .before .before .before .before .before .no-dearer .result in
-    let few : n ≤ count = omega (arith, c .before .before .before .before .before .before .before .before .no-dearer .ensures .1, length-take count list) in
-    let p = c .before .before .before .before .before .place-list in
+    let few = no-dearer-few t (c .before .before .before .before .before .before .before .before) in
     let first-is = sym (take-take n count list few) in
+    let p = c .before .before .before .before .before .place-list in
     let part = mid-len (p .result) (length (p .last .0)) (p .last .0) (omega arith) in
-    let second-is = between list n count few enough in
+    let second-is = between list n count few (listed-enough t (c .before .before .before .before .before .before .before .before .before .before .before)) in
     (omega (arith, s .pre .0), required-second E at boost words depth (take count list) (o .ensures .0) n (take n list) first-is (p .result) (p .last .0) (p .kept .0) (p .ensures .0) _ second-is _ part (s .pre .1))
 
 pub place-required-add-t28 : (t : ℕ) → place-required-lts.Need-add-t28 (place-required-calls t) (place-required-at t) place-required.Post
@@ -350,34 +218,17 @@ place-required-add-t28 t c =
     let o = c .before .before .before .before .before .before .before .before .before .before .before .before .before .before .required-clauses in
     let list = o .last .1 .1 .1 .1 .1 .0 in
     let count = o .result in
-    let enough : count ≤ length list = omega (arith, o .ensures .1 .0, o .ensures .1 .1) in
     let n = c .before .before .before .before .before .before .before .before .before .before .before .no-dearer .result in
-    let few : n ≤ count = omega (arith, c .before .before .before .before .before .before .before .before .before .before .before .no-dearer .ensures .1, length-take count list) in
-    let p = c .before .before .before .before .before .before .before .before .place-list in
+    let few = no-dearer-few t (c .before .before .before .before .before .before .before .before .before .before .before) in
     let first-is = sym (take-take n count list few) in
+    let p = c .before .before .before .before .before .before .before .before .place-list in
     let part = mid-len (p .result) (length (p .last .0)) (p .last .0) (omega arith) in
-    let second-is = between list n count few enough in
-    let r = c .before .before .place-list2 in
-    omega (arith, required-fits E at boost words depth (take count list) (o .ensures .0) n (take n list) first-is (p .result) (p .last .0) (p .kept .0) (p .ensures .0) (take (count - n) (drop n list)) second-is _ part (r .result) (r .last .0) (r .ensures .0) (s .pre .1) (r .kept .0), p .kept .0, s .good)
+    let second-is = between list n count few (listed-enough t (c .before .before .before .before .before .before .before .before .before .before .before .before .before .before)) in
+    omega (arith, required-fits E at boost words depth (take count list) (o .ensures .0) n (take n list) first-is (p .result) (p .last .0) (p .kept .0) (p .ensures .0) (take (count - n) (drop n list)) second-is _ part (c .before .before .place-list2 .result) (c .before .before .place-list2 .last .0) (c .before .before .place-list2 .ensures .0) (s .pre .1) (c .before .before .place-list2 .kept .0), p .kept .0, s .good)
 
 pub place-required-same-length : (t : ℕ) → place-required-lts.Need-same-length (place-required-calls t) (place-required-at t) place-required.Post
 place-required-same-length t c =
-    let s = c .before .before .before .before .before .before .before .before .before .before .before .before .before .before .before .before .before .before .before .before .before .before .before .before .before .before in
-    let E = records (s .args .q .now) (s .args .max-doc) (s .args .fields .now) (s .args .leaves .now) (s .args .nexts .now) (s .args .presents .now) (s .args .costs .now) (s .args .places .now) (s .args .counts .now) in
-    let at = s .args .at in
-    let boost = s .args .boost in
-    let words = length (s .args .st .now) in
-    let depth = s .args .depth in
-    let o = c .before .before .before .before .before .before .before .before .before .before .before .before .before .before .required-clauses in
-    let list = o .last .1 .1 .1 .1 .1 .0 in
-    let count = o .result in
-    let enough : count ≤ length list = omega (arith, o .ensures .1 .0, o .ensures .1 .1) in
-    let n = c .before .before .before .before .before .before .before .before .before .before .before .no-dearer .result in
-    let few : n ≤ count = omega (arith, c .before .before .before .before .before .before .before .before .before .before .before .no-dearer .ensures .1, length-take count list) in
-    let p = c .before .before .before .before .before .before .before .before .place-list in
-    let first-is = sym (take-take n count list few) in
-    let r = c .before .before .place-list2 in
-    same-len-mid (p .result) (length (p .last .0) - p .result) (p .last .0) (r .last .0) (r .kept .0) ∙ p .kept .0
+    same-len-mid (c .before .before .before .before .before .before .before .before .place-list .result) (length (c .before .before .before .before .before .before .before .before .place-list .last .0) - c .before .before .before .before .before .before .before .before .place-list .result) (c .before .before .before .before .before .before .before .before .place-list .last .0) (c .before .before .place-list2 .last .0) (c .before .before .place-list2 .kept .0) ∙ c .before .before .before .before .before .before .before .before .place-list .kept .0
 
 pub place-required-returns : (t : ℕ) → place-required-lts.Need-returns (place-required-calls t) (place-required-at t) place-required.Post
 place-required-returns t c =
@@ -390,12 +241,10 @@ place-required-returns t c =
     let o = c .before .before .before .before .before .before .before .before .before .before .before .before .before .before .required-clauses in
     let list = o .last .1 .1 .1 .1 .1 .0 in
     let count = o .result in
-    let enough : count ≤ length list = omega (arith, o .ensures .1 .0, o .ensures .1 .1) in
     let n = c .before .before .before .before .before .before .before .before .before .before .before .no-dearer .result in
-    let few : n ≤ count = omega (arith, c .before .before .before .before .before .before .before .before .before .before .before .no-dearer .ensures .1, length-take count list) in
-    let p = c .before .before .before .before .before .before .before .before .place-list in
+    let few = no-dearer-few t (c .before .before .before .before .before .before .before .before .before .before .before) in
     let first-is = sym (take-take n count list few) in
+    let p = c .before .before .before .before .before .before .before .before .place-list in
     let part = mid-len (p .result) (length (p .last .0)) (p .last .0) (omega arith) in
-    let second-is = between list n count few enough in
-    let r = c .before .before .place-list2 in
-    (required-placed E at boost words depth (take count list) (o .ensures .0) n (take n list) first-is (p .result) (p .last .0) (p .kept .0) (p .ensures .0) (take (count - n) (drop n list)) second-is _ part (r .result) (r .last .0) (r .ensures .0) (c .before .before .before .before .before .before .before .before .before .before .before .before .before .before .before .before .group-cost .result) (c .before .before .before .before .before .before .before .before .before .before .before .before .before .before .before .before .group-cost .ensures) (c .before .before .before .before .before .before .before .before .before .before .before .no-dearer .ensures .0) (postOf (p .result) (length (p .last .0) - p .result) (p .last .0)), same-len-mid (p .result) (length (p .last .0) - p .result) (p .last .0) (r .last .0) (r .kept .0) ∙ p .kept .0)
+    let second-is = between list n count few (listed-enough t (c .before .before .before .before .before .before .before .before .before .before .before .before .before .before)) in
+    (required-placed E at boost words depth (take count list) (o .ensures .0) n (take n list) first-is (p .result) (p .last .0) (p .kept .0) (p .ensures .0) (take (count - n) (drop n list)) second-is _ part (c .before .before .place-list2 .result) (c .before .before .place-list2 .last .0) (c .before .before .place-list2 .ensures .0) (c .before .before .before .before .before .before .before .before .before .before .before .before .before .before .before .before .group-cost .result) (c .before .before .before .before .before .before .before .before .before .before .before .before .before .before .before .before .group-cost .ensures) (c .before .before .before .before .before .before .before .before .before .before .before .no-dearer .ensures .0) (postOf (p .result) (length (p .last .0) - p .result) (p .last .0)), place-required-same-length t c)
