@@ -2,7 +2,8 @@
 use mathlib.Core.Path.{sym, _∙_}
 use native.Mathlib.Omega.{arith}
 use lib.ListN.{length}
-use Prim.Native.Nat.{ℕ}
+use Prim.Native.Nat.{ℕ, _≤_, _<_}
+use Rattle.meaning.specs.Query.{recordCount}
 use Rattle.build.specs.Prepared.{records}
 use Rattle.build.proofs.PlacingBooleans.{tree-here, tree-deep, tree-present}
 use Rattle.build.proofs.PlacingBelow.{constant-asked, constant-placed, boost-asked, boost-placed, boost-number-here}
@@ -10,9 +11,36 @@ use Rattle.build.proofs.tree.place.Reads as place
 use Rattle.build.proofs.tree.+place+place_boolean+place_list+place_others+place_required.Lts-place as place-lts
 use Rattle.build.proofs.tree.+place+place_boolean+place_list+place_others+place_required.Proof.Calls.{place-at, place-calls}
 
-pub place-kind-requires : (t : ℕ) → place-lts.Need-kind-requires (place-calls t) (place-at t) place.Post
-place-kind-requires t c κs =
-    let s = c .before .before .before .before .before .before .before .before .before in
+-- a level, the record, and a place for it among those lent
+some-levels : (t : ℕ) (c : place-lts.Start (place-calls t) (place-at t) place.Post) → 1 ≤ c .args .depth
+some-levels t c =
+    let s = c in
+    let E = records (s .args .q .now) (s .args .max-doc) (s .args .fields .now) (s .args .leaves .now) (s .args .nexts .now) (s .args .presents .now) (s .args .costs .now) (s .args .places .now) (s .args .counts .now) in
+    let at = s .args .at in
+    let fixed = s .args .fixed in
+    let kept = s .args .kept in
+    let boost = s .args .boost in
+    let words = length (s .args .st .now) in
+    let depth = s .args .depth in
+    let pre = s .pre .1 in
+    tree-deep E at fixed kept boost words depth pre
+
+record-within : (t : ℕ) (c : place-lts.Start (place-calls t) (place-at t) place.Post) → c .args .at < length (c .args .presents .now)
+record-within t c =
+    let s = c in
+    let E = records (s .args .q .now) (s .args .max-doc) (s .args .fields .now) (s .args .leaves .now) (s .args .nexts .now) (s .args .presents .now) (s .args .costs .now) (s .args .places .now) (s .args .counts .now) in
+    let at = s .args .at in
+    let fixed = s .args .fixed in
+    let kept = s .args .kept in
+    let boost = s .args .boost in
+    let words = length (s .args .st .now) in
+    let depth = s .args .depth in
+    let pre = s .pre .1 in
+    tree-present E at fixed kept boost words depth pre
+
+record-counted : (t : ℕ) (c : place-lts.Start (place-calls t) (place-at t) place.Post) → c .args .at < recordCount (c .args .q .now)
+record-counted t c =
+    let s = c in
     let E = records (s .args .q .now) (s .args .max-doc) (s .args .fields .now) (s .args .leaves .now) (s .args .nexts .now) (s .args .presents .now) (s .args .costs .now) (s .args .places .now) (s .args .counts .now) in
     let at = s .args .at in
     let fixed = s .args .fixed in
@@ -23,6 +51,9 @@ place-kind-requires t c κs =
     let pre = s .pre .1 in
     tree-here E at fixed kept boost words depth pre
 
+pub place-kind-requires : (t : ℕ) → place-lts.Need-kind-requires (place-calls t) (place-at t) place.Post
+place-kind-requires t c κs = record-counted t (c .before .before .before .before .before .before .before .before .before)
+
 pub place-place-boolean-requires : (t : ℕ) → place-lts.Need-place-boolean-requires (place-calls t) (place-at t) place.Post
 place-place-boolean-requires t c κs =
     let s = c .before .before .before .before .before .before .before .before .before .before .before .before in
@@ -32,31 +63,14 @@ place-place-boolean-requires t c κs =
 pub place-add-place : (t : ℕ) → place-lts.Need-add-place (place-calls t) (place-at t) place.Post
 place-add-place t c =
     let s = c .before .before .before .before .before .before .before .before .before .before .before .before in
-    let E = records (s .args .q .now) (s .args .max-doc) (s .args .fields .now) (s .args .leaves .now) (s .args .nexts .now) (s .args .presents .now) (s .args .costs .now) (s .args .places .now) (s .args .counts .now) in
-    let at = s .args .at in
-    let fixed = s .args .fixed in
-    let kept = s .args .kept in
-    let boost = s .args .boost in
-    let words = length (s .args .st .now) in
-    let depth = s .args .depth in
-    let pre = s .pre .1 in
-    omega (arith, tree-present E at fixed kept boost words depth pre, s .good)
+    omega (arith, record-within t (c .before .before .before .before .before .before .before .before .before .before .before .before), s .good)
 
 pub place-kept-or-requires : (t : ℕ) → place-lts.Need-kept-or-requires (place-calls t) (place-at t) place.Post
 place-kept-or-requires t c κs = tt
 
 pub place-sub-place : (t : ℕ) → place-lts.Need-sub-place (place-calls t) (place-at t) place.Post
 place-sub-place t c =
-    let s = c .before .before .before .before .before .before .before .before .before .before .before .before .before in
-    let E = records (s .args .q .now) (s .args .max-doc) (s .args .fields .now) (s .args .leaves .now) (s .args .nexts .now) (s .args .presents .now) (s .args .costs .now) (s .args .places .now) (s .args .counts .now) in
-    let at = s .args .at in
-    let fixed = s .args .fixed in
-    let kept = s .args .kept in
-    let boost = s .args .boost in
-    let words = length (s .args .st .now) in
-    let depth = s .args .depth in
-    let pre = s .pre .1 in
-    tree-deep E at fixed kept boost words depth pre
+    some-levels t (c .before .before .before .before .before .before .before .before .before .before .before .before .before)
 
 pub place-place-requires : (t : ℕ) → place-lts.Need-place-requires (place-calls t) (place-at t) place.Post
 place-place-requires t c κs =
@@ -70,33 +84,16 @@ place-place-requires t c κs =
     let depth = s .args .depth in
     let pre = s .pre .1 in
     let kind = sym (c .before .before .before .kind .ensures) ∙ c .before .before .match .keys2 in
-    (omega (arith, s .pre .0, tree-deep E at fixed kept boost words depth pre), constant-asked E at fixed kept boost words depth kind (c .kept-or .result) (c .kept-or .ensures) pre)
+    (omega (arith, s .pre .0, some-levels t (c .before .before .before .before .before .before .before .before .before .before .before .before .before)), constant-asked E at fixed kept boost words depth kind (c .kept-or .result) (c .kept-or .ensures) pre)
 
 pub place-add-place-2 : (t : ℕ) → place-lts.Need-add-place-2 (place-calls t) (place-at t) place.Post
 place-add-place-2 t c =
     let s = c .before .before .before .before .before .before .before .before .before .before .before .before in
-    let E = records (s .args .q .now) (s .args .max-doc) (s .args .fields .now) (s .args .leaves .now) (s .args .nexts .now) (s .args .presents .now) (s .args .costs .now) (s .args .places .now) (s .args .counts .now) in
-    let at = s .args .at in
-    let fixed = s .args .fixed in
-    let kept = s .args .kept in
-    let boost = s .args .boost in
-    let words = length (s .args .st .now) in
-    let depth = s .args .depth in
-    let pre = s .pre .1 in
-    omega (arith, tree-present E at fixed kept boost words depth pre, s .good)
+    omega (arith, record-within t (c .before .before .before .before .before .before .before .before .before .before .before .before), s .good)
 
 pub place-value-requires : (t : ℕ) → place-lts.Need-value-requires (place-calls t) (place-at t) place.Post
 place-value-requires t c κs =
-    let s = c .before .before .before .before .before .before .before .before .before .before .before .before in
-    let E = records (s .args .q .now) (s .args .max-doc) (s .args .fields .now) (s .args .leaves .now) (s .args .nexts .now) (s .args .presents .now) (s .args .costs .now) (s .args .places .now) (s .args .counts .now) in
-    let at = s .args .at in
-    let fixed = s .args .fixed in
-    let kept = s .args .kept in
-    let boost = s .args .boost in
-    let words = length (s .args .st .now) in
-    let depth = s .args .depth in
-    let pre = s .pre .1 in
-    (tree-here E at fixed kept boost words depth pre, omega arith)
+    (record-counted t (c .before .before .before .before .before .before .before .before .before .before .before .before), omega arith)
 
 pub place-float-from-bits-place : (t : ℕ) → place-lts.Need-float-from-bits-place (place-calls t) (place-at t) place.Post
 place-float-from-bits-place t c =
@@ -114,16 +111,7 @@ place-float-from-bits-place t c =
 
 pub place-sub-place-2 : (t : ℕ) → place-lts.Need-sub-place-2 (place-calls t) (place-at t) place.Post
 place-sub-place-2 t c =
-    let s = c .before .before .before .before .before .before .before .before .before .before .before .before .before in
-    let E = records (s .args .q .now) (s .args .max-doc) (s .args .fields .now) (s .args .leaves .now) (s .args .nexts .now) (s .args .presents .now) (s .args .costs .now) (s .args .places .now) (s .args .counts .now) in
-    let at = s .args .at in
-    let fixed = s .args .fixed in
-    let kept = s .args .kept in
-    let boost = s .args .boost in
-    let words = length (s .args .st .now) in
-    let depth = s .args .depth in
-    let pre = s .pre .1 in
-    tree-deep E at fixed kept boost words depth pre
+    some-levels t (c .before .before .before .before .before .before .before .before .before .before .before .before .before)
 
 pub place-place-requires-2 : (t : ℕ) → place-lts.Need-place-requires-2 (place-calls t) (place-at t) place.Post
 place-place-requires-2 t c κs =
@@ -137,7 +125,7 @@ place-place-requires-2 t c κs =
     let depth = s .args .depth in
     let pre = s .pre .1 in
     let kind = sym (c .before .before .before .kind .ensures) ∙ c .before .before .match .keys3 in
-    (omega (arith, s .pre .0, tree-deep E at fixed kept boost words depth pre), boost-asked E at fixed kept boost words depth kind (c .value .result) (c .value .ensures) pre)
+    (omega (arith, s .pre .0, some-levels t (c .before .before .before .before .before .before .before .before .before .before .before .before .before)), boost-asked E at fixed kept boost words depth kind (c .value .result) (c .value .ensures) pre)
 
 pub place-place-leaf-requires : (t : ℕ) → place-lts.Need-place-leaf-requires (place-calls t) (place-at t) place.Post
 place-place-leaf-requires t c κs =
