@@ -17,9 +17,9 @@ use Rattle.collector.specs.Collected.{Scored}
 use Rattle.meaning.proofs.Signed.{≤ℤ-trans, <ℤ-≤ℤ, lt-yes, lt-no, before-or}
 use Rattle.collector.proofs.Best.{hits-is}
 use Rattle.collector.proofs.Ranked.{code-bits, code-later, code-order, toDoc-code, toScore-code}
-use Rattle.searcher.specs.Demands.{ranksBefore}
-use Rattle.searcher.proofs.Lists.{map-take, All, all-at}
-use Rattle.searcher.proofs.Rising.{Rises, rises-each}
+use Rattle.demands.specs.Demands.{ranksBefore}
+use Rattle.demands.proofs.Lists.{map-take, All, all-at}
+use Rattle.demands.proofs.Rising.{Rises, rises-each}
 
 -- rising documents below NO_MORE_DOCS, each with an f32 score that is no NaN's and has a clear sign
 pub record Rankable (list : List ScoreDoc) : Type 0 where

@@ -19,9 +19,9 @@ use Rattle.meaning.specs.Refusals.{lowest}
 use Rattle.meaning.specs.IndexRefusals.{wrong1}
 use Rattle.meaning.specs.Entries.{pageAnswer, pageDocuments, pageScores}
 use Rattle.doc_values.proofs.Lists.{decided}
-use Rattle.searcher.specs.Demands.{Accepts, Call, refusalOf, answerOf, givenBy, nextBy, documentsBy, scoresBy, answered, Follow, joinedDocuments, joinedScores, placesOf, lastNext}
-use Rattle.searcher.proofs.Lists.{map-take, map-drop}
-use Rattle.searcher.proofs.Rising.{full-rises, from-all, from-next, none-next, next-none}
+use Rattle.demands.specs.Demands.{Accepts, Call, refusalOf, answerOf, givenBy, nextBy, documentsBy, scoresBy, answered, Follow, joinedDocuments, joinedScores, placesOf, lastNext}
+use Rattle.demands.proofs.Lists.{map-take, map-drop}
+use Rattle.demands.proofs.Rising.{full-rises, from-all, from-next, none-next, next-none}
 
 -- an accepted index has at most 1,048,576 documents
 pub accepted-few : (ix : Index) (q : List ℕ) → Accepts ix q → ix .maxDoc ≤ maxDocuments

@@ -14,7 +14,7 @@ use Rattle.meaning.specs.Query.{Tree}
 use Rattle.meaning.specs.FullList.{ScoreDoc, matches, fullList}
 use Rattle.meaning.specs.Pages.{fromTarget, firstDoc}
 use Rattle.doc_values.proofs.Lists.{decided, list-taken, list-left}
-use Rattle.searcher.proofs.Lists.{All}
+use Rattle.demands.proofs.Lists.{All}
 
 -- each document is above the one before it; the first is not below b, and all are below e
 abbrev pub Rises : ℕ → ℕ → List ScoreDoc → Type 0
