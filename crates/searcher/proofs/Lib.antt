@@ -1,1 +1,2 @@
--- x
+-- What the proofs of this crate share.
+pub mod Collecting
