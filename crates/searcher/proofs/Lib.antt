@@ -1,3 +1,6 @@
 -- What the proofs of this crate share.
 pub mod Collecting
+pub mod Rooms
 pub mod Preparing
+pub mod Refusing
+pub mod CallConditions

@@ -5,8 +5,6 @@ use mathlib.Core.List.{List}
 use mathlib.Core.Option.{none}
 use Prim.Native.Nat.{ℕ, _≤_, _<_, min}
 use native.Mathlib.Omega.{arith}
-use borrow.Author.Tests.{ltb-false}
-use lib.Dec.{ltb}
 use lib.ListN.{length, take}
 use lib.IntN.{ℤ}
 use lib.Ieee.{Float}
@@ -17,8 +15,7 @@ use Rattle.meaning.specs.FullList.{ScoreDoc, fullList}
 use Rattle.meaning.specs.Hits.{hits}
 use Rattle.meaning.specs.Pages.{page}
 use Rattle.meaning.specs.Entries.{written, pageOf}
-use Rattle.meaning.specs.CallRefusals.{Work, statesNeeded, startsNeeded, rangesNeeded, startsShort, workShort}
-use Rattle.meaning.proofs.Tests.{or-left, or-right, or-3}
+use Rattle.meaning.specs.CallRefusals.{Work, workShort}
 use Rattle.index.specs.Slices as Slices
 use Rattle.collector.specs.declared.TopDocs.{TopDocs}
 use Rattle.collector.specs.Collected.{answer}
@@ -34,26 +31,8 @@ use Rattle.scorer.specs.Contracts.{lent}
 use Rattle.scorer.proofs.Bounds.{ok-mono}
 use Rattle.score.specs.declared.walk.Listed.{Listed}
 use Rattle.score.specs.Walks.{liveScored, PageHeld, PageIs}
+use Rattle.searcher.proofs.Rooms.{starts-room}
 use Rattle.searcher.proofs.QueryTables.{query-tables}
-
--- ---- work buffers that are long enough
-module _ (ix : Index) (q : List ℕ) (w : Work) (e : workShort ix q w ≡ false) where
-  parts : (ltb (w .states) (statesNeeded q) ≡ false) × (startsShort ix q w ≡ false) × (ltb (w .ranges) (rangesNeeded ix q) ≡ false)
-  unfolding workShort
-  parts = or-3 (ltb (w .states) (statesNeeded q)) (startsShort ix q w) (ltb (w .ranges) (rangesNeeded ix q)) e
-
-  pub states-room : statesNeeded q ≤ w .states
-  states-room = ltb-false (w .states) (statesNeeded q) (parts .0)
-
-  pub ranges-room : rangesNeeded ix q ≤ w .ranges
-  ranges-room = ltb-false (w .ranges) (rangesNeeded ix q) (parts .2)
-
-  pub starts-room : startsNeeded ix q ≤ min (w .starts) (w .otherStarts)
-  unfolding startsShort
-  starts-room =
-      let a = ltb-false (w .starts) (startsNeeded ix q) (or-left (ltb (w .starts) (startsNeeded ix q)) (ltb (w .otherStarts) (startsNeeded ix q)) (parts .1)) in
-      let b = ltb-false (w .otherStarts) (startsNeeded ix q) (or-right (ltb (w .starts) (startsNeeded ix q)) (ltb (w .otherStarts) (startsNeeded ix q)) (parts .1)) in
-      omega (arith, a, b)
 
 -- ---- the tree in the node states
 -- the scorer tree of a query
