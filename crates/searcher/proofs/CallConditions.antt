@@ -6,6 +6,8 @@ use Prim.Native.Nat.{ℕ, _≤_, _<_}
 use native.Mathlib.Omega.{arith}
 use borrow.Author.Tests.{lt-ltb, le-ltb, ltb-false, eq-eqb, ne-eqb, eqb-true, not-false}
 use lib.Dec.{lit<, ltb, eqb}
+use lib.ListN.{length, take, length-take}
+use lib.IntN.{ℤ}
 use Rattle.meaning.specs.Limits.{maxHits}
 use Rattle.meaning.specs.Lent.{Index}
 use Rattle.meaning.specs.Refusals.{_when_, lowest}
@@ -40,6 +42,12 @@ pub record Searches (ix : Index) (q : List ℕ) (k : ℕ) (w : Work) (places : �
   pub most : k ≤ maxHits
   pub long : workShort ix q w ≡ false
   pub room : k ≤ places
+
+-- so many places at the front of the hits buffer, as `find` asks for
+pub hits-front : (ix : Index) (q : List ℕ) (k : ℕ) (w : Work) (buffer : List ℤ) → Searches ix q k w (length buffer) → (k ≡ length (take k buffer)) × (0 < length (take k buffer)) × (length (take k buffer) ≤ maxHits)
+hits-front ix q k w buffer s =
+    let n = length-take k buffer in
+    (omega (arith, n, s .room), omega (arith, n, s .room, s .some), omega (arith, n, s .room, s .most))
 
 module _ (ix : Index) (q : List ℕ) (k : ℕ) (w : Work) (places : ℕ) where
   places-short : (b : Bool) → b ≡ workShort ix q w → b ≡ true → wrong12Search ix q w k places ≡ true
@@ -84,10 +92,10 @@ module _ (ix : Index) (q : List ℕ) (k : ℕ) (w : Work) (places : ℕ) where
         pub search-accepted : b ≡ false → k ≤ places → 0 ≡ searchRefusal ix q k w places
         search-accepted f l = search-passed 0 (neither-holds 11 12 (wrong11 k) (wrong12Search ix q w k places) (hits-right k h g) (places-right b d f l))
 
-  pub search-lends : searchRefusal ix q k w places ≡ 0 → Searches ix q k w places
+  pub search-lends : (r : ℕ) → r ≡ searchRefusal ix q k w places → r ≡ 0 → Searches ix q k w places
   unfolding searchRefusal
-  search-lends e =
-      let a = order-accepted ix q ((11 when wrong11 k) ∷ (12 when wrong12Search ix q w k places) ∷ []) e in
+  search-lends r d e =
+      let a = order-accepted ix q ((11 when wrong11 k) ∷ (12 when wrong12Search ix q w k places) ∷ []) (sym d ∙ e) in
       let b = neither-held 11 12 (wrong11 k) (wrong12Search ix q w k places) (lit< tt) (lit< tt) (a .1) in
       let h = hits-within k (b .0) in
       let p = places-within (b .1) in
@@ -151,10 +159,10 @@ module _ (ix : Index) (q : List ℕ) (target : ℕ) (w : Work) (documents scores
       pub page-accepted : b ≡ false → documents ≡ scores → target ≤ ix .maxDoc → 0 ≡ pageRefusal ix q target w documents scores
       page-accepted f h g = page-passed 0 (neither-holds 12 13 (wrong12Page ix q w documents scores) (wrong13Page ix target) (outputs-right b d f h) (target-right g))
 
-  pub page-lends : pageRefusal ix q target w documents scores ≡ 0 → Pages ix q target w documents scores
+  pub page-lends : (r : ℕ) → r ≡ pageRefusal ix q target w documents scores → r ≡ 0 → Pages ix q target w documents scores
   unfolding pageRefusal
-  page-lends e =
-      let a = order-accepted ix q ((12 when wrong12Page ix q w documents scores) ∷ (13 when wrong13Page ix target) ∷ []) e in
+  page-lends r d e =
+      let a = order-accepted ix q ((12 when wrong12Page ix q w documents scores) ∷ (13 when wrong13Page ix target) ∷ []) (sym d ∙ e) in
       let b = neither-held 12 13 (wrong12Page ix q w documents scores) (wrong13Page ix target) (lit< tt) (lit< tt) (a .1) in
       let p = outputs-equal (b .0) in
       record { asks = order-asks ix q (a .0); long = p .0; same = p .1; target-within = target-in (b .1) }

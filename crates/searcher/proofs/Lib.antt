@@ -4,3 +4,4 @@ pub mod Rooms
 pub mod Preparing
 pub mod Refusing
 pub mod CallConditions
+pub mod Answering
