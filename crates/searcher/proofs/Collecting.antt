@@ -1,9 +1,9 @@
 -- The loop from the walk to the collector, step by step: what is collected, and what is left. Assumes nothing.
 use mathlib.Core.Path.{_≡_, refl, sym, ap, subst, _∙_}
 use mathlib.Core.Logic.{⊎-elim}
-use mathlib.Core.Bool.{Bool, true, false, cond}
+use mathlib.Core.Bool.{Bool, true, cond}
 use mathlib.Core.List.{List, [], _∷_, _++_, append-assoc, append-nil}
-use Prim.Native.Nat.{ℕ, zero, suc, _+_, _*_, _^_, _≤_, _<_, min}
+use Prim.Native.Nat.{ℕ, suc, _+_, _^_, _≤_, _<_, min}
 use native.Mathlib.Nat.{eq-or-lt-of-le}
 use native.Mathlib.Omega.{arith}
 use borrow.Author.Tests.{le-leb}
@@ -18,16 +18,16 @@ use Rattle.meaning.specs.FullList.{ScoreDoc}
 use Rattle.meaning.specs.Pages.{fromTarget}
 use Rattle.meaning.specs.Hits.{hits}
 use Rattle.meaning.specs.Entries.{written}
-use Rattle.ieee754.specs.Nonneg.{nonneg, signClear, AtMost}
+use Rattle.ieee754.specs.Nonneg.{nonneg, signClear}
 use Rattle.collector.specs.declared.TopScoreDocCollector.{TopScoreDocCollector}
 use Rattle.collector.specs.declared.TopDocs.{TopDocs}
 use Rattle.collector.specs.Collected.{Collected, Ready, Extended, Drawn, answer}
-use Rattle.collector.proofs.Beginning.{ready-at, collected-later}
-use Rattle.weight.specs.ScorerTree.{Scorer, matches, scorerScore}
+use Rattle.collector.proofs.Beginning.{ready-at}
+use Rattle.weight.specs.ScorerTree.{Scorer, matches}
 use Rattle.weight.specs.Held.{Ok}
-use Rattle.scorer.specs.Contracts.{Lent, lent, RoomIn, NodeHeld}
+use Rattle.scorer.specs.Contracts.{Lent, lent, NodeHeld}
 use Rattle.scorer.proofs.Bounds.{ok-mono}
-use Rattle.score.specs.Asked.{LentAt, Scorable, ScoreIs, ScorePre, ScorePost}
+use Rattle.score.specs.Asked.{LentAt, ScoreIs, ScorePre, ScorePost}
 use Rattle.score.specs.Walks.{liveMatch, scored, liveScored, NextPre, NextPost, PageHeld}
 use Rattle.score.proofs.Loops.{scorable-at}
 use Rattle.score.proofs.Pages.{match-is, walk-end, walk-next}

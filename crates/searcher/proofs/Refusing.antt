@@ -7,15 +7,13 @@ use Prim.Native.Nat.{ℕ, _≤_, _<_}
 use native.Mathlib.Nat.{eq-or-lt-of-le}
 use native.Mathlib.Omega.{arith}
 use lib.Dec.{lit<}
-use lib.ListN.{length}
 use Rattle.meaning.specs.Lent.{Index}
 use Rattle.meaning.specs.Query.{recordCount, recordValue}
 use Rattle.meaning.specs.Limits.{maxRecords}
 use Rattle.meaning.specs.Refusals.{Condition, _when_, lowest}
 use Rattle.meaning.specs.QueryRefusals.{wrong7, wrong8, wrong9, wrong10}
 use Rattle.meaning.specs.Entries.{orderConditions}
-use Rattle.index.specs.Refusal.{indexConditions, indexRefusal}
-use Rattle.index.specs.Accepted.{Accepted}
+use Rattle.index.specs.Refusal.{indexRefusal}
 use Rattle.index.proofs.Refused.{Numbered, lowest-none, lowest-some, index-accepted, index-refused}
 use Rattle.index.proofs.Accepted.{accepted-checked}
 use Rattle.query.specs.Read.{PhraseRuns}

@@ -1,12 +1,12 @@
 -- `collect_matches` meets its contract: the live matches before `from` are collected. Assumes nothing.
 use borrow.Author.Needs.{needs}
 use mathlib.Core.Path.{_≡_, refl, _∙_}
-use Prim.Native.Nat.{ℕ, _+_, _-_, _≤_, _<_, min}
+use Prim.Native.Nat.{_-_, _≤_, min}
 use native.Mathlib.Omega.{arith}
 use lib.ListN.{length}
 use Rattle.meaning.specs.Limits.{noMoreDocs}
 use Rattle.score.proofs.Loops.{places-same}
-use Rattle.searcher.proofs.Collecting.{Call, GatheredAt, gather-start, gather-asks, gather-ready, gather-top, gather-from, gather-done, gather-below, gather-score-asks, gather-clear, gather-more}
+use Rattle.searcher.proofs.Collecting.{Call, GatheredAt, gather-start, gather-asks, gather-ready, gather-from, gather-done, gather-below, gather-score-asks, gather-clear, gather-more}
 use Rattle.searcher.proofs.collect.collect_matches.Statement.{statement}
 use Rattle.searcher.proofs.collect.collect_matches.Tie as tie
 
