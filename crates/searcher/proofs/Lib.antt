@@ -1,1 +1,7 @@
--- x
+-- What the proofs of this crate share.
+pub mod Collecting
+pub mod Rooms
+pub mod Preparing
+pub mod Refusing
+pub mod CallConditions
+pub mod Answering
