@@ -31,11 +31,11 @@ use Rattle.collector.proofs.Picked.{pickedAt, picked-below, picked-clear, picke
 use Rattle.query.proofs.Inverse.{both-true}
 use Rattle.weight.specs.ScorerTree.{Scorer, scorerScore}
 use Rattle.weight.specs.Weigh.{weigh}
-use Rattle.weight.specs.Sound.{Sound, leaves}
+use Rattle.weight.specs.Sound.{Sound, nodes}
 use Rattle.weight.specs.Measured.{Asks}
 use Rattle.weight.proofs.Scores.{weigh-score}
 use Rattle.weight.proofs.Weights.{Weighted}
-use Rattle.weight.proofs.Queries.{query-leaves, query-sound, query-weighted}
+use Rattle.weight.proofs.Queries.{query-nodes, query-sound, query-weighted}
 use Rattle.demands.specs.Demands.{Accepts}
 use Rattle.demands.proofs.Lists.{All, all-last, all-listed}
 use Rattle.demands.proofs.Rising.{Rises, rises-below, rises-last, full-rises}
@@ -103,8 +103,8 @@ good-score ix q a d m = go (hasScorer ix t) refl
     sound : Sound ix places s
     sound = query-sound ix q places (k .values-right) (k .positions-right) (le-refl places) (k .records-right) one none
 
-    small : AtMost (leaves s * 2 ^ 29) (scorerScore ix s d)
-    small = score-small ix (k .accepted) places d s fine sound (query-leaves q (k .records-right) ix one none)
+    small : AtMost (nodes s * 2 ^ 29) (scorerScore ix s d)
+    small = score-small ix (k .accepted) places d s fine sound (query-nodes q (k .records-right) ix one none)
 
     go : (h : Bool) → hasScorer ix t ≡ h → GoodScore (score ix t one d)
     go true e = subst GoodScore (weigh-score ix t one d e) (record { fits = score-fits ix s d fine; clear = nonneg-clear (scorerScore ix s d) (small .sign) })

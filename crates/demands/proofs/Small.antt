@@ -22,12 +22,12 @@ use Rattle.sim.proofs.ScoreBounds.{any-score-atmost}
 use Rattle.index.specs.Accepted.{Accepted}
 use Rattle.index.proofs.PostingAt.{posting-is}
 use Rattle.weight.specs.ScorerTree.{Leaf, nothing, term, phrase, range, everything, Scoring, constant, weighted, Joining, oneMore, afterwards, Scorer, leaf, boolean, Scorers, end, more, leafScore, scoring, joinedScore, scorerScore, requiredScores, optionalScores}
-use Rattle.weight.specs.Sound.{LeafSound, Sound, Sounds, leaves, leavesOf}
+use Rattle.weight.specs.Sound.{LeafSound, Sound, Sounds, nodes, nodesOf}
 use Rattle.weight.proofs.Weights.{Fine, ScoringFine, Weighted, WeightedAll}
 use Rattle.score.proofs.Bounds.{scores-add, scores-narrow, scores-more}
 use Rattle.score.proofs.Frequencies.{phrase-frequency-few}
 use Rattle.score.proofs.Sums.{counted, scores-word, matches-at, required-counted, optional-counted}
-use Rattle.score.proofs.Join.{firstOf, restOf, first-leaves, joined-sum, joined-more, joined-after}
+use Rattle.score.proofs.Join.{firstOf, restOf, first-nodes, joined-sum, joined-more, joined-after}
 
 module _ (ix : Index) (A : Accepted ix) (places d : ℕ) where
   -- ---- a leaf
@@ -52,7 +52,7 @@ module _ (ix : Index) (A : Accepted ix) (places d : ℕ) where
   -- ---- sums of children's scores
   unfoldable Smalls : Scorers → Type 0
   Smalls end = Unit
-  Smalls (more f T g) = AtMost (leaves T * 2 ^ 29) (scorerScore ix T d) × Smalls g
+  Smalls (more f T g) = AtMost (nodes T * 2 ^ 29) (scorerScore ix T d) × Smalls g
 
   first-smalls : (n : ℕ) (ss : Scorers) → Smalls ss → Smalls (firstOf n ss) × Smalls (restOf n ss)
   unfolding Smalls firstOf restOf
@@ -60,66 +60,66 @@ module _ (ix : Index) (A : Accepted ix) (places d : ℕ) where
   first-smalls (suc n) end p = (tt, tt)
   first-smalls (suc n) (more f T g) p = let q = first-smalls n g (p .1) in ((p .0, q .0), q .1)
 
-  sum-small : (c : Bool → Scorer → Bool) (ss : Scorers) → Smalls ss → (p : ℕ) (x : Float) → p + leavesOf ss ≤ 256 → AtMost (p * 2 ^ 29) x → AtMost ((p + leavesOf ss) * 2 ^ 29) (sumFrom x (counted c ix ss d))
-  unfolding Smalls leavesOf counted sumFrom
+  sum-small : (c : Bool → Scorer → Bool) (ss : Scorers) → Smalls ss → (p : ℕ) (x : Float) → p + nodesOf ss ≤ 256 → AtMost (p * 2 ^ 29) x → AtMost ((p + nodesOf ss) * 2 ^ 29) (sumFrom x (counted c ix ss d))
+  unfolding Smalls nodesOf counted sumFrom
   sum-small c end s p x few i = scores-more p (p + 0) x (omega arith) i
   sum-small c (more f T g) s p x few i = go (c f T) (sum-small c g (s .1))
     where
-      go : (b : Bool) → ((p : ℕ) (x : Float) → p + leavesOf g ≤ 256 → AtMost (p * 2 ^ 29) x → AtMost ((p + leavesOf g) * 2 ^ 29) (sumFrom x (counted c ix g d))) → AtMost ((p + (leaves T + leavesOf g)) * 2 ^ 29) (sumFrom x (cond b (scorerScore ix T d ∷ []) [] ++ counted c ix g d))
+      go : (b : Bool) → ((p : ℕ) (x : Float) → p + nodesOf g ≤ 256 → AtMost (p * 2 ^ 29) x → AtMost ((p + nodesOf g) * 2 ^ 29) (sumFrom x (counted c ix g d))) → AtMost ((p + (nodes T + nodesOf g)) * 2 ^ 29) (sumFrom x (cond b (scorerScore ix T d ∷ []) [] ++ counted c ix g d))
       go true r =
           let y = add binary64 x (scorerScore ix T d) in
-          scores-more (p + leaves T + leavesOf g) (p + (leaves T + leavesOf g)) (sumFrom y (counted c ix g d)) (omega arith) (r (p + leaves T) y (omega (arith, few)) (scores-add p (leaves T) x (scorerScore ix T d) (omega (arith, few)) i (s .0)))
-      go false r = scores-more (p + leavesOf g) (p + (leaves T + leavesOf g)) (sumFrom x (counted c ix g d)) (omega arith) (r p x (omega (arith, few)) i)
+          scores-more (p + nodes T + nodesOf g) (p + (nodes T + nodesOf g)) (sumFrom y (counted c ix g d)) (omega arith) (r (p + nodes T) y (omega (arith, few)) (scores-add p (nodes T) x (scorerScore ix T d) (omega (arith, few)) i (s .0)))
+      go false r = scores-more (p + nodesOf g) (p + (nodes T + nodesOf g)) (sumFrom x (counted c ix g d)) (omega arith) (r p x (omega (arith, few)) i)
 
-  required-small : (ss : Scorers) → Smalls ss → (p : ℕ) (x : Float) → p + leavesOf ss ≤ 256 → AtMost (p * 2 ^ 29) x → AtMost ((p + leavesOf ss) * 2 ^ 29) (sumFrom x (scoring (requiredScores ix ss d)))
-  required-small ss s p x few i = subst (λ (l : List Float). AtMost ((p + leavesOf ss) * 2 ^ 29) (sumFrom x l)) (required-counted ix ss d) (sum-small scores-word ss s p x few i)
+  required-small : (ss : Scorers) → Smalls ss → (p : ℕ) (x : Float) → p + nodesOf ss ≤ 256 → AtMost (p * 2 ^ 29) x → AtMost ((p + nodesOf ss) * 2 ^ 29) (sumFrom x (scoring (requiredScores ix ss d)))
+  required-small ss s p x few i = subst (λ (l : List Float). AtMost ((p + nodesOf ss) * 2 ^ 29) (sumFrom x l)) (required-counted ix ss d) (sum-small scores-word ss s p x few i)
 
   from-zero : (p : ℕ) (x : Float) → AtMost ((0 + p) * 2 ^ 29) x → AtMost (p * 2 ^ 29) x
   from-zero p x i = scores-more (0 + p) p x (omega arith) i
 
-  group-small : (ss : Scorers) → Smalls ss → leavesOf ss ≤ 256 → AtMost (leavesOf ss * 2 ^ 29) (narrowedSum (optionalScores ix ss d))
+  group-small : (ss : Scorers) → Smalls ss → nodesOf ss ≤ 256 → AtMost (nodesOf ss * 2 ^ 29) (narrowedSum (optionalScores ix ss d))
   unfolding narrowedSum
   group-small ss s few =
       let xs = optionalScores ix ss d in
-      let sum = subst (λ (l : List Float). AtMost ((0 + leavesOf ss) * 2 ^ 29) (sumFrom zeroFloat l)) (optional-counted ix ss d) (sum-small (matches-at ix d) ss s 0 zeroFloat (omega (arith, few)) (zero-atmost _)) in
-      scores-narrow (leavesOf ss) (sumFrom zeroFloat xs) few (from-zero (leavesOf ss) (sumFrom zeroFloat xs) sum)
+      let sum = subst (λ (l : List Float). AtMost ((0 + nodesOf ss) * 2 ^ 29) (sumFrom zeroFloat l)) (optional-counted ix ss d) (sum-small (matches-at ix d) ss s 0 zeroFloat (omega (arith, few)) (zero-atmost _)) in
+      scores-narrow (nodesOf ss) (sumFrom zeroFloat xs) few (from-zero (nodesOf ss) (sumFrom zeroFloat xs) sum)
 
   -- ---- a Boolean
-  joined-small : (j : Joining) (rs os : Scorers) → leavesOf rs + leavesOf os ≤ 256 → Smalls rs → Smalls os → AtMost ((leavesOf rs + leavesOf os) * 2 ^ 29) (joinedScore j (requiredScores ix rs d) (narrowedSum (optionalScores ix os d)))
+  joined-small : (j : Joining) (rs os : Scorers) → nodesOf rs + nodesOf os ≤ 256 → Smalls rs → Smalls os → AtMost ((nodesOf rs + nodesOf os) * 2 ^ 29) (joinedScore j (requiredScores ix rs d) (narrowedSum (optionalScores ix os d)))
   joined-small (oneMore n) rs os few a b =
       let g = narrowedSum (optionalScores ix os d) in
       let G = group-small os b (omega (arith, few)) in
       let ss = first-smalls n rs a in
-      let len = first-leaves n rs in
+      let len = first-nodes n rs in
       let front = sumFrom zeroFloat (scoring (requiredScores ix (firstOf n rs) d)) in
-      let first = from-zero (leavesOf (firstOf n rs)) front (required-small (firstOf n rs) (ss .0) 0 zeroFloat (omega (arith, few, len)) (zero-atmost _)) in
+      let first = from-zero (nodesOf (firstOf n rs)) front (required-small (firstOf n rs) (ss .0) 0 zeroFloat (omega (arith, few, len)) (zero-atmost _)) in
       let sum = add binary64 front g in
       let joined = joined-sum ix d rs os few g refl G n front sum (record { is = refl; small = first }) refl in
       let all = sumFrom sum (scoring (requiredScores ix (restOf n rs) d)) in
-      let rest = required-small (restOf n rs) (ss .1) (leavesOf (firstOf n rs) + leavesOf os) sum (omega (arith, few, len)) joined in
+      let rest = required-small (restOf n rs) (ss .1) (nodesOf (firstOf n rs) + nodesOf os) sum (omega (arith, few, len)) joined in
       let J = joined-more ix d rs os few g refl G n front sum all (narrow all) (record { is = refl; small = first }) refl (record { is = refl; small = rest }) refl in
-      subst (λ (z : Float). AtMost ((leavesOf rs + leavesOf os) * 2 ^ 29) z) (J .is) (J .small)
+      subst (λ (z : Float). AtMost ((nodesOf rs + nodesOf os) * 2 ^ 29) z) (J .is) (J .small)
   joined-small afterwards rs os few a b =
       let g = narrowedSum (optionalScores ix os d) in
       let G = group-small os b (omega (arith, few)) in
       let sum = sumFrom zeroFloat (scoring (requiredScores ix rs d)) in
-      let required = from-zero (leavesOf rs) sum (required-small rs a 0 zeroFloat (omega (arith, few)) (zero-atmost _)) in
+      let required = from-zero (nodesOf rs) sum (required-small rs a 0 zeroFloat (omega (arith, few)) (zero-atmost _)) in
       let J = joined-after ix d rs os few g refl G sum (narrow sum) (add binary64 (narrow sum) g) (narrow (add binary64 (narrow sum) g)) (record { is = refl; small = required }) refl refl refl in
-      subst (λ (z : Float). AtMost ((leavesOf rs + leavesOf os) * 2 ^ 29) z) (J .is) (J .small)
+      subst (λ (z : Float). AtMost ((nodesOf rs + nodesOf os) * 2 ^ 29) z) (J .is) (J .small)
 
   -- ---- the tree
   mutual
-    unfolding scorerScore Weighted Sound leaves Smalls
+    unfolding scorerScore Weighted Sound nodes Smalls
 
     -- THE theorem
-    pub score-small : (s : Scorer) → Weighted s → Sound ix places s → leaves s ≤ 256 → AtMost (leaves s * 2 ^ 29) (scorerScore ix s d)
+    pub score-small : (s : Scorer) → Weighted s → Sound ix places s → nodes s ≤ 256 → AtMost (nodes s * 2 ^ 29) (scorerScore ix s d)
     score-small (leaf l c) w h few = leaf-small l c h w
-    score-small (boolean (some c) j need rs os ps) w h few = scores-more 1 (1 + (leavesOf rs + (leavesOf os + leavesOf ps))) c (omega arith) (w .0 .small)
+    score-small (boolean (some c) j need rs os ps) w h few = scores-more 1 (1 + (nodesOf rs + (nodesOf os + nodesOf ps))) c (omega arith) (w .0 .small)
     score-small (boolean none j need rs os ps) w h few =
-        scores-more (leavesOf rs + leavesOf os) (1 + (leavesOf rs + (leavesOf os + leavesOf ps))) (joinedScore j (requiredScores ix rs d) (narrowedSum (optionalScores ix os d))) (omega arith)
+        scores-more (nodesOf rs + nodesOf os) (1 + (nodesOf rs + (nodesOf os + nodesOf ps))) (joinedScore j (requiredScores ix rs d) (narrowedSum (optionalScores ix os d))) (omega arith)
         (joined-small j rs os (omega (arith, few)) (children-small rs (w .1) (h .0) (omega (arith, few))) (children-small os (w .2) (h .1) (omega (arith, few))))
 
-    children-small : (ss : Scorers) → WeightedAll ss → Sounds ix places ss → leavesOf ss ≤ 256 → Smalls ss
+    children-small : (ss : Scorers) → WeightedAll ss → Sounds ix places ss → nodesOf ss ≤ 256 → Smalls ss
     children-small end w h few = tt
     children-small (more f s ss) w h few = (score-small s (w .0) (h .0) (omega (arith, few)), children-small ss (w .1) (h .1) (omega (arith, few)))
 
