@@ -1,1 +1,3 @@
--- x
+-- Laws that the proofs of the entries cite.
+pub mod Lowest
+pub mod RangeEntry
