@@ -1,3 +1,4 @@
 -- Laws that the proofs of the entries cite.
 pub mod Lowest
 pub mod RangeEntry
+pub mod PickEntry
