@@ -2,3 +2,4 @@
 pub mod Lowest
 pub mod RangeEntry
 pub mod PickEntry
+pub mod TermWords
