@@ -3,3 +3,5 @@ pub mod Lowest
 pub mod RangeEntry
 pub mod PickEntry
 pub mod TermWords
+pub mod Refusing
+pub mod PlaceEntry

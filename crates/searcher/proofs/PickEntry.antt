@@ -1,10 +1,9 @@
 -- The Pick entry: its lists, its lowest number, and its answer. Assumes nothing.
-use mathlib.Core.Path.{_≡_, refl, sym, ap, subst, _∙_}
-use mathlib.Core.Bool.{Bool, true, false, not, _||_}
-use mathlib.Core.List.{List, [], _∷_, _++_}
+use mathlib.Core.Path.{_≡_, refl, sym, ap, _∙_}
+use mathlib.Core.Bool.{true, false, _||_}
+use mathlib.Core.List.{List, _++_}
 use Prim.Native.Nat.{ℕ, _-_, _≤_, _<_}
-use native.Mathlib.Omega.{arith}
-use lib.Dec.{eqb, leb, ltb, lit<}
+use lib.Dec.{leb, ltb, lit<}
 use lib.IntN.{ℤ}
 use lib.ListN.{length, getD, take, drop}
 use borrow.Author.Tests.{lt-ltb, le-ltb, ltb-false, eq-eqb, ne-eqb}
@@ -13,11 +12,11 @@ use Rattle.meaning.specs.Limits.{noMoreDocs, plusInfinity}
 use Rattle.meaning.specs.Hits.{hits}
 use Rattle.meaning.specs.Refusals.{lowest}
 use Rattle.meaning.specs.CallRefusals.{wrong11, wrong12Pick, wrongPicked, wrong14}
-use Rattle.meaning.specs.Entries.{written, topDocs, pickRefusal, pickedList, pickAnswer, pickHits}
+use Rattle.meaning.specs.Entries.{written, pickRefusal, pickedList, pickAnswer, pickHits}
 use Rattle.meaning.proofs.Tests.{true-left, true-right, or-left, or-right}
 use Rattle.meaning.proofs.Below.{any-zero}
 use Rattle.collector.specs.declared.TopDocs.{TopDocs}
-use Rattle.collector.specs.Collected.{answer, numbers}
+use Rattle.collector.specs.Collected.{answer}
 use Rattle.collector.proofs.Best.{written-part}
 use Rattle.searcher.specs.declared.pick.Picked.{Picked}
 use Rattle.searcher.specs.declared.pick.Picked.the-variants as Picked

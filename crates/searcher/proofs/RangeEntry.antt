@@ -1,21 +1,20 @@
 -- The Range entry: its lowest number, and its answer. Assumes nothing.
-use mathlib.Core.Path.{_≡_, refl, sym, ap, _∙_}
-use mathlib.Core.Bool.{Bool, true, false, _||_}
-use mathlib.Core.List.{List, [], _∷_}
+use mathlib.Core.Path.{_≡_, refl, ap, _∙_}
+use mathlib.Core.Bool.{true, false}
+use mathlib.Core.List.{List, []}
 use Prim.Native.Nat.{ℕ, _≤_, _<_}
-use native.Mathlib.Omega.{arith}
 use lib.Dec.{ltb, lit<}
 use lib.ListN.{length}
 use borrow.Author.Tests.{lt-ltb, le-ltb, ltb-false}
 use Rattle.meaning.specs.Lent.{Index}
 use Rattle.meaning.specs.Range.{NumericRange, rangeDocuments}
-use Rattle.meaning.specs.Refusals.{_when_, lowest}
+use Rattle.meaning.specs.Refusals.{lowest}
 use Rattle.meaning.specs.IndexRefusals.{wrong1, wrong6}
 use Rattle.meaning.specs.QueryRefusals.{wrongRange}
 use Rattle.meaning.specs.CallRefusals.{wrong12Range}
 use Rattle.meaning.specs.Entries.{written, Kept, columnsOnly, rangeRefusal, rangeAnswer, rangeOutput}
 use Rattle.index.specs.Slices.{lent}
-use Rattle.meaning.proofs.Tests.{true-left, true-right, or-left, or-right}
+use Rattle.meaning.proofs.Tests.{true-left, true-right, or-right}
 use Rattle.searcher.specs.declared.range.Ranged.the-variants as Ranged
 use Rattle.searcher.specs.Answers.{rangedNumbers}
 use Rattle.searcher.proofs.Lowest.{lowest-here, lowest-past, lowest-zero, answered-refused, answered-accepted, kept-same, kept-accepted}

@@ -10,12 +10,11 @@ use lib.ListN.{length, getD, take, set, length-set}
 use lib.Seq.{take-suc-set}
 use Rattle.meaning.specs.Below.{listTo}
 use Rattle.meaning.specs.Phrase.{PhraseTerm}
-use Rattle.meaning.specs.Query.{recordCount, recordKind, recordChildren, recordValue, phraseTermsOf}
-use Rattle.meaning.specs.Lent.{Index, leafCount, leafFirst, leafNumber, leafDocument, leafFrequency, leafPositionsIndex}
+use Rattle.meaning.specs.Query.{recordCount, recordKind, recordChildren, recordValue}
+use Rattle.meaning.specs.Lent.{Index, leafCount}
 use Rattle.meaning.specs.Postings.{postingAt, frequencyOf}
 use Rattle.meaning.proofs.Tests.{cmp}
 use Rattle.meaning.proofs.Below.{listTo-next}
-use Rattle.index.specs.Accepted.{Accepted}
 use Rattle.index.specs.Slices.{leavesOnly}
 use Rattle.index.proofs.PostingAt.{posting-at, posting-none}
 use Rattle.scorer.specs.Run.{documentAt, Run, Lower}

@@ -2,7 +2,7 @@
 use mathlib.Core.Path.{_≡_, sym, ap, _∙_}
 use Prim.Native.Nat.{_+_, _*_}
 use native.Mathlib.Omega.{arith}
-use lib.ListN.{getD, length}
+use lib.ListN.{getD}
 use borrow.Author.Needs.{needs}
 use Rattle.index.specs.declared.leaves.Leaf.{Leaf}
 use Rattle.searcher.proofs.TermWords.{run-asked, posting-there, posting-hit, posting-over, posting-missed}

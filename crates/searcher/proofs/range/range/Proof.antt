@@ -1,10 +1,10 @@
 -- `searcher::range::range` meets its contract. Assumes nothing.
-use mathlib.Core.Path.{_≡_, refl, sym, _∙_}
+use mathlib.Core.Path.{_≡_, sym, _∙_}
 use borrow.Author.Needs.{needs}
 use Rattle.meaning.specs.Lent.{Index, joined}
 use Rattle.meaning.specs.Range.{NumericRange}
 use Rattle.meaning.specs.Entries.{columnsOnly}
-use Rattle.searcher.proofs.RangeEntry.{RangeRight, range-right, range-refused, range-done}
+use Rattle.searcher.proofs.RangeEntry.{range-right, range-refused, range-done}
 use Rattle.searcher.proofs.range.range.Statement.{statement}
 use Rattle.searcher.proofs.range.range.Tie as tie
 
