@@ -1,7 +1,12 @@
--- Laws that the proofs of the entries cite.
+-- What the proofs of this crate share.
+pub mod Collecting
+pub mod Rooms
+pub mod Preparing
+pub mod Refusing
+pub mod CallConditions
+pub mod Answering
 pub mod Lowest
 pub mod RangeEntry
 pub mod PickEntry
 pub mod TermWords
-pub mod Refusing
 pub mod PlaceEntry
