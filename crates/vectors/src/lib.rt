@@ -1,4 +1,5 @@
 // What the programs of vectors share: values from patterns, what a value or a list prints as, and numbers from a seed.
+pub mod file;
 ghost use Prim.Native.Nat.{_≤_};
 
 // The value of a pattern; every pattern of a NaN gives a NaN.
@@ -56,6 +57,18 @@ pub fn print_code(code: i64) {
     } else {
         io::write_all(1, b"- ");
     }
+}
+
+// The first n codes of a list, or all of it, on one line.
+pub fn print_codes(codes: &[i64], n: u32) {
+    let mut i = 0;
+    while i < codes.len() {
+        if i < n as usize {
+            print_code(codes[i]);
+        }
+        i += 1;
+    }
+    end_line();
 }
 
 // A signed number.

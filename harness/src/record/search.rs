@@ -1,0 +1,141 @@
+//! What Search and Page answer is the unchanged Rust's, for small trees in which one slip shows and for a
+//! sample of generated cases. Both the cases' file and the answers are made here.
+use super::place;
+use crate::answer::{NO_MORE_DOCS, Paged, Searched};
+use crate::case::Case;
+use crate::generate;
+use crate::oracle::Oracle;
+use crate::refusal::refusal;
+
+/// Words of a case in the file: N, k, t, the first page's target and length, nine lists by first
+/// word + 65,536 × length.
+const HEAD: usize = 14;
+
+/// What the program has room for: the file's words.
+const ROOM: usize = 65_536;
+
+/// The generated indexes, the queries on each, and the most words of an index and of a query.
+const INDEXES: usize = 40;
+const QUERIES: usize = 8;
+const INDEX_WORDS: usize = 800;
+const QUERY_WORDS: usize = 200;
+
+/// A case, and where and how long its first page is.
+struct Asked {
+    case: Case,
+    target: u32,
+    length: usize,
+}
+
+fn index_words(case: &Case) -> usize {
+    case.leaves.len() + case.postings.len() + case.positions.len() + case.values.len()
+}
+
+fn generated() -> Vec<Case> {
+    let small = |case: &Case| case.query.len() <= QUERY_WORDS;
+    let indexes = (0..)
+        .map(|seed| generate::cases(seed, 3 * QUERIES))
+        .filter(|cases| index_words(&cases[0]) <= INDEX_WORDS);
+    indexes
+        .take(INDEXES)
+        .flat_map(|cases| cases.into_iter().filter(small).take(QUERIES))
+        .collect()
+}
+
+fn asked() -> Vec<Asked> {
+    let paged = |(i, case): (usize, Case)| Asked {
+        target: if i % 3 == 0 { 0 } else { case.n * (i as u32 % 7) / 7 },
+        length: if i % 3 == 0 { 100 } else { i % 4 },
+        case,
+    };
+    let cases = generated();
+    cases.into_iter().enumerate().map(paged).collect()
+}
+
+pub fn text() -> String {
+    asked().iter().map(answers).collect()
+}
+
+/// Search's line, and four pages' at most, each a place longer than the one before.
+fn answers(asked: &Asked) -> String {
+    assert_eq!(refusal(&asked.case), 0);
+    let oracle = Oracle::new(&asked.case);
+    let mut text = searched(&oracle.search());
+    let mut target = asked.target;
+    for length in asked.length..asked.length + 4 {
+        let page = oracle.page(target, length);
+        text += &paged(&page);
+        target = page.next;
+        if target == NO_MORE_DOCS {
+            break;
+        }
+    }
+    text
+}
+
+fn searched(searched: &Searched) -> String {
+    let mark = if searched.mark { "+" } else { "" };
+    let codes = searched.hits.iter().map(|hit| hit.code());
+    let codes: String = codes.map(|code| format!("{code:016x} ")).collect();
+    format!("{}{mark} {codes}\n", searched.count)
+}
+
+fn paged(page: &Paged) -> String {
+    let hits = page.hits.iter();
+    let hits: String = hits
+        .map(|hit| format!("{} {:08x} ", hit.document, hit.bits))
+        .collect();
+    format!("page {hits}next {} \n", page.next)
+}
+
+/// Four bytes to a word, or the halves of 64-bit words.
+fn packed(bytes: &[u8]) -> Vec<u32> {
+    let chunks = bytes.chunks(4);
+    let word = |chunk: &[u8]| {
+        let mut four = [0; 4];
+        four[..chunk.len()].copy_from_slice(chunk);
+        u32::from_le_bytes(four)
+    };
+    chunks.map(word).collect()
+}
+
+/// The lists with their lengths: norms in bytes, the others in words.
+fn lists(case: &Case) -> [(Vec<u32>, usize); 9] {
+    let live: Vec<u8> = case.live.iter().flat_map(|w| w.to_le_bytes()).collect();
+    let plain = |list: &Vec<u32>| (list.clone(), list.len());
+    [
+        plain(&case.fields),
+        plain(&case.leaves),
+        plain(&case.postings),
+        plain(&case.positions),
+        (packed(&case.norms), case.norms.len()),
+        (packed(&live), 2 * case.live.len()),
+        plain(&case.columns),
+        plain(&case.values),
+        plain(&case.query),
+    ]
+}
+
+/// The number of cases, their heads, then the words of all lists.
+pub fn data() -> Vec<u8> {
+    let asked = asked();
+    let start = 1 + HEAD * asked.len();
+    let mut heads = vec![asked.len() as u32];
+    let mut pool: Vec<u32> = Vec::new();
+    for Asked {
+        case,
+        target,
+        length,
+    } in &asked
+    {
+        heads.extend([case.n, case.k, case.t, *target, *length as u32]);
+        for (list, length) in lists(case) {
+            let first = start + place(&mut pool, &list);
+            heads.push((first + 65_536 * length) as u32);
+        }
+    }
+    heads.extend(pool);
+    eprintln!("{} cases, {} words", asked.len(), heads.len());
+    assert!(heads.len() <= ROOM, "{} words", heads.len());
+    heads.iter().flat_map(|word| word.to_le_bytes()).collect()
+}
