@@ -10,10 +10,10 @@ use crate::random::Random;
 use index::Index;
 
 /// x, y and z: in f64 their sum narrows to 3f800001, but with y added last to 3f800000.
-const BY_ORDER: [u32; 3] = [X, Y, Z];
-const X: u32 = 0x3f7f_ffff;
-const Y: u32 = 0x3400_0000;
-const Z: u32 = 0x253f_ffff;
+pub const BY_ORDER: [u32; 3] = [X, Y, Z];
+pub const X: u32 = 0x3f7f_ffff;
+pub const Y: u32 = 0x3400_0000;
+pub const Z: u32 = 0x253f_ffff;
 
 /// The case of a seed.
 pub fn case(seed: u64) -> Case {

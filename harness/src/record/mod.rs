@@ -8,6 +8,7 @@ mod phrase;
 mod refusal;
 mod search;
 mod sim;
+mod trees;
 
 use std::io;
 use std::path::Path;

@@ -1,6 +1,6 @@
 //! What Search and Page answer is the unchanged Rust's, for small trees in which one slip shows and for a
 //! sample of generated cases. Both the cases' file and the answers are made here.
-use super::place;
+use super::{place, trees};
 use crate::answer::{NO_MORE_DOCS, Paged, Searched};
 use crate::case::Case;
 use crate::generate;
@@ -15,9 +15,9 @@ const HEAD: usize = 14;
 const ROOM: usize = 65_536;
 
 /// The generated indexes, the queries on each, and the most words of an index and of a query.
-const INDEXES: usize = 40;
+const INDEXES: usize = 38;
 const QUERIES: usize = 8;
-const INDEX_WORDS: usize = 800;
+const INDEX_WORDS: usize = 600;
 const QUERY_WORDS: usize = 200;
 
 /// A case, and where and how long its first page is.
@@ -43,13 +43,22 @@ fn generated() -> Vec<Case> {
 }
 
 fn asked() -> Vec<Asked> {
-    let paged = |(i, case): (usize, Case)| Asked {
-        target: if i % 3 == 0 { 0 } else { case.n * (i as u32 % 7) / 7 },
-        length: if i % 3 == 0 { 100 } else { i % 4 },
+    let whole = |case| Asked {
         case,
+        target: 0,
+        length: 100,
     };
-    let cases = generated();
-    cases.into_iter().enumerate().map(paged).collect()
+    let in_pages = |(i, case): (usize, Case)| match i % 3 {
+        0 => whole(case),
+        _ => Asked {
+            target: case.n * (i as u32 % 7) / 7,
+            length: i % 4,
+            case,
+        },
+    };
+    let small = trees::cases().into_iter().map(whole);
+    let generated = generated().into_iter().enumerate().map(in_pages);
+    small.chain(generated).collect()
 }
 
 pub fn text() -> String {
