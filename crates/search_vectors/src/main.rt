@@ -213,9 +213,9 @@ fn print_case(
 // The work buffers hold what the case before left in them.
 fn print_cases(file: &[u32], bytes: &[u8]) {
     let mut states = [0u32; 6144];
-    let mut a = [0i32; 64];
-    let mut b = [0i32; 64];
-    let mut ranges = [0u32; 8192];
+    let mut a = [0i32; 16_384];
+    let mut b = [0i32; 16_384];
+    let mut ranges = [0u32; 16_384];
     let mut hits = [0i64; 1024];
     let cases = size(file[0]);
     let mut i = 0;

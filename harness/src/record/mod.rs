@@ -6,7 +6,7 @@ mod doc_values;
 mod ieee754;
 mod phrase;
 mod refusal;
-mod search;
+pub mod search;
 mod sim;
 mod trees;
 

@@ -3,16 +3,20 @@
 use super::{place, trees};
 use crate::answer::{NO_MORE_DOCS, Paged, Searched};
 use crate::case::Case;
+use crate::catalogue::Catalogue;
 use crate::generate;
 use crate::oracle::Oracle;
+use crate::query::match_all;
 use crate::refusal::refusal;
 
 /// Words of a case in the file: N, k, t, the first page's target and length, nine lists by first
 /// word + 65,536 × length.
 const HEAD: usize = 14;
 
-/// What the program has room for: the file's words.
+/// What the program has room for: the file's words, and live words. Its work buffers are those of the
+/// program `hits`.
 const ROOM: usize = 65_536;
+const LIVE: usize = 16;
 
 /// The generated indexes, the queries on each, and the most words of an index and of a query.
 const INDEXES: usize = 38;
@@ -21,6 +25,7 @@ const INDEX_WORDS: usize = 600;
 const QUERY_WORDS: usize = 200;
 
 /// A case, and where and how long its first page is.
+#[derive(Clone)]
 struct Asked {
     case: Case,
     target: u32,
@@ -58,20 +63,49 @@ fn asked() -> Vec<Asked> {
     };
     let small = trees::cases().into_iter().map(whole);
     let generated = generated().into_iter().enumerate().map(in_pages);
-    small.chain(generated).collect()
+    small.chain(called()).chain(generated).collect()
+}
+
+/// Every document of three: k and targets at their limits.
+fn called() -> Vec<Asked> {
+    let calls = [(1, 0, 2), (1024, 1, 0), (0, 3, 1), (1025, 4, 2)];
+    let asked = |(k, target, length)| Asked {
+        case: Catalogue::new(3).case(k, 1, &match_all()),
+        target,
+        length,
+    };
+    calls.map(asked).to_vec()
+}
+
+/// The cases that are not refused.
+pub fn cases() -> Vec<Case> {
+    let cases = asked().into_iter().map(|asked| asked.case);
+    cases.filter(|case| refusal(case) == 0).collect()
 }
 
 pub fn text() -> String {
     asked().iter().map(answers).collect()
 }
 
+fn refused(number: u32) -> String {
+    format!("refused {number}\n")
+}
+
 /// Search's line, and four pages' at most, each a place longer than the one before.
 fn answers(asked: &Asked) -> String {
-    assert_eq!(refusal(&asked.case), 0);
     let oracle = Oracle::new(&asked.case);
-    let mut text = searched(&oracle.search());
+    let mut text = match refusal(&asked.case) {
+        0 => searched(&oracle.search()),
+        number => {
+            assert_eq!(number, 11);
+            refused(number)
+        }
+    };
     let mut target = asked.target;
     for length in asked.length..asked.length + 4 {
+        if target > asked.case.n {
+            return text + &refused(13);
+        }
         let page = oracle.page(target, length);
         text += &paged(&page);
         target = page.next;
@@ -137,6 +171,7 @@ pub fn data() -> Vec<u8> {
         length,
     } in &asked
     {
+        assert!(case.live.len() <= LIVE);
         heads.extend([case.n, case.k, case.t, *target, *length as u32]);
         for (list, length) in lists(case) {
             let first = start + place(&mut pool, &list);
@@ -144,7 +179,6 @@ pub fn data() -> Vec<u8> {
         }
     }
     heads.extend(pool);
-    eprintln!("{} cases, {} words", asked.len(), heads.len());
     assert!(heads.len() <= ROOM, "{} words", heads.len());
     heads.iter().flat_map(|word| word.to_le_bytes()).collect()
 }

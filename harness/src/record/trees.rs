@@ -55,12 +55,12 @@ fn index() -> Catalogue {
         index.leaf(field, run);
     }
     let [bytes, others] = [
-        [0, 1, 23, 24, 41, 223, 224, 225, 254, 255],
+        [0, 23, 24, 41, 223, 224, 225, 226, 254, 255],
         [7, 9, 30, 31, 32, 33, 34, 35, 36, 37],
     ];
-    let frequencies = [1, 2, 1, 5, 16_777_216, 3, 1, 16_777_215, 7, 1];
+    let frequencies = [1, 2, 16_777_216, 5, 16_777_215, 1, 3, 7, 2, 1];
     let run: Vec<_> = (0..).zip(frequencies).collect();
-    for (average, bytes) in [(1e7, bytes), (2.5, others)] {
+    for (average, bytes) in [(16_777_216.0, bytes), (2.5, others)] {
         let field = index.field_with(average, Some(&bytes), false);
         index.leaf_of_frequencies(field, 3.5, &run);
     }
@@ -141,7 +141,18 @@ fn at(bits: u32, cost: u32) -> Node {
 }
 
 fn leaves() -> Vec<Node> {
-    let terms = [0, EMPTY, A, B, C, HALF_DEAD, NORMED, PACKED, PLACED, PLACED + 5];
+    let terms = [
+        0,
+        EMPTY,
+        A,
+        B,
+        C,
+        HALF_DEAD,
+        NORMED,
+        PACKED,
+        PLACED,
+        PLACED + 5,
+    ];
     let mut leaves: Vec<_> = terms.map(term).to_vec();
     leaves.extend([match_all(), match_none(), boost(THREE, match_all())]);
     leaves.extend([NORMED, PACKED, PLACED + 1].map(|leaf| boost(0x40b3_3333, term(leaf))));
@@ -150,7 +161,12 @@ fn leaves() -> Vec<Node> {
 
 /// All nine kinds on both columns, for ends that values have, and crossed.
 fn ranges() -> Vec<Node> {
-    let pairs = [[17, 18], [18, 18], [18, 17], [-1i64 as u64, i64::MAX as u64]];
+    let pairs = [
+        [17, 18],
+        [18, 18],
+        [18, 17],
+        [-1i64 as u64, i64::MAX as u64],
+    ];
     let whole = pairs.map(|ends| (0, ends));
     let pairs = [[3, 2], [1, 8], [5, 4], [4, 4], [0, 1], [6, 0]];
     let floats = pairs.map(|ends| (1, ends.map(|i| FLOATS[i])));
@@ -164,7 +180,21 @@ fn ranges() -> Vec<Node> {
     }
     ranges.dedup();
     ranges.push(boost(TWO, range(0, 4, 17, 18)));
+    ranges.push(several_ranges());
     ranges
+}
+
+/// Each has places of its own in the range buffer.
+fn several_ranges() -> Node {
+    let clauses = [
+        range(0, 1, 0, 0).filter(),
+        boost(TWO, range(1, 4, FLOATS[5], FLOATS[2])).should(),
+        term(A).should(),
+        boost(THREE, range(0, 4, 18, 18)).should(),
+        term(C).should(),
+        range(1, 3, 0, FLOATS[3]).must_not(),
+    ];
+    boolean(0, clauses)
 }
 
 fn placed_phrase(terms: &[(u32, u32)]) -> Node {
@@ -214,8 +244,14 @@ fn kept() -> Vec<Node> {
         of(0x417b_0134, of(0x412f_c15e, of(0x4175_b9f1, match_all()))),
         of(0x412f_c15e, of(0x417b_0134, term(NORMED))),
         of(0, term(NORMED)),
-        of(THREE, constant_score(boolean(0, [first(2).must(), at(TWO, 3).should()]))),
-        of(THREE, constant_score(boolean(1, [first(4).filter(), at(TWO, 2).should()]))),
+        of(
+            THREE,
+            constant_score(boolean(0, [first(2).must(), at(TWO, 3).should()])),
+        ),
+        of(
+            THREE,
+            constant_score(boolean(1, [first(4).filter(), at(TWO, 2).should()])),
+        ),
         of(THREE, below(match_all(), MUST)),
         of(THREE, below(match_all(), SHOULD)),
         of(THREE, below(match_all(), FILTER)),
@@ -269,6 +305,10 @@ fn grouped() -> Vec<Node> {
         let musts = [at(a, 1).must(), at(b, 3).must()];
         trees.push(boolean(2, [&shoulds[..], &musts].concat()));
     }
+    // what has no scorer adds no cost to the group
+    let group = [never().should(), at(Z, 3).should()];
+    let musts = [at(X, 1).must(), at(Y, 4).must()];
+    trees.push(boolean(1, [group, musts].concat()));
     trees
 }
 
@@ -336,20 +376,31 @@ fn nothing() -> [Node; 8] {
         boolean(0, [first(1).must_not()]),
         boolean(0, [first(2).must(), match_none().filter()]),
         never(),
-        range(0, 4, 19, 20),
+        empty_range(),
     ]
+}
+
+fn empty_range() -> Node {
+    range(0, 4, 19, 20)
 }
 
 /// Clauses that have no scorer, or take nothing, at each occurrence.
 fn without_scorer() -> Vec<Node> {
     let mut trees = nothing().to_vec();
-    trees.extend([excluded(), boolean(0, [excluded().should(), first(2).should()])]);
+    trees.extend([
+        excluded(),
+        boolean(0, [excluded().should(), first(2).should()]),
+    ]);
     for clause in nothing() {
         for occurrence in [MUST, SHOULD, MUST_NOT, FILTER] {
             let clause = clause.clone().occurring(occurrence);
             trees.push(boolean(0, [clause, first(2).must()]));
         }
-        let clauses = [clause.clone().should(), first(2).should(), first(3).should()];
+        let clauses = [
+            clause.clone().should(),
+            first(2).should(),
+            first(3).should(),
+        ];
         trees.push(boolean(2, clauses.clone()));
         trees.push(boolean(3, clauses));
         trees.push(boolean(0, [clause.must_not(), first(2).should()]));
@@ -361,6 +412,8 @@ fn without_scorer() -> Vec<Node> {
 fn pivots() -> Vec<(Node, u32)> {
     let both = |a: Node, b: Node| boolean(0, [a, b]);
     let three = [first(1).should(), first(2).should(), first(3).should()];
+    // a range without documents has a scorer, so that two Shoulds have
+    let with_empty_range = boolean(2, [empty_range().should(), first(2).should()]);
     vec![
         (first(4), 4),
         (term(HALF_DEAD), 3),
@@ -376,7 +429,8 @@ fn pivots() -> Vec<(Node, u32)> {
         (both(first(3).should(), excluded().should()), 5),
         (both(first(3).should(), never().should()), 3),
         (both(first(3).should(), term(EMPTY).should()), 3),
-        (both(first(3).should(), range(0, 4, 19, 20).should()), 3),
+        (both(first(3).should(), empty_range().should()), 3),
+        (both(first(3).should(), with_empty_range.should()), 5),
         (range(0, 4, 17, 18), 6),
         (range(0, 4, 17, 17), 2),
         (placed_phrase(&[(0, 0), (2, 1)]), 3),
