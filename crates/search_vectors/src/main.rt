@@ -2,15 +2,14 @@
 // `record`), and data/README says how the cases were made.
 // data/cases.rec: the number of cases; for each N, k, t, a target, the length of the first page, and for each list where it
 // stands; then the lists' words. Norm bytes stand four to a word, live words as two, the low half first.
-ghost use Prim.Native.Nat.{_+_, _≤_};
-ghost use lib.ListN.{length};
-use collector::TopDocs;
 use score::walk::Listed;
+use score::walk::NO_MORE_DOCS;
 use searcher::page::Paged;
 use searcher::search::Searched;
 use vectors::file::bytes_at;
-use vectors::file::list;
+use vectors::file::list_at;
 use vectors::file::size;
+use vectors::file::word;
 
 fn print_refused(number: u32) {
     io::write_all(1, b"refused ");
@@ -18,25 +17,10 @@ fn print_refused(number: u32) {
     vectors::end_line();
 }
 
-fn print_mark(mark: bool) {
-    if mark {
-        io::write_all(1, b"+ ");
-    } else {
-        io::write_all(1, b" ");
-    }
-}
-
-// The count, its mark, and the codes of the hits.
-fn print_top(top: TopDocs, hits: &[i64]) {
-    io::print_decimal(1, top.count);
-    print_mark(top.mark);
-    vectors::print_codes(hits, top.held);
-}
-
 fn print_searched(searched: Searched, hits: &[i64]) {
     match searched {
         Searched::Refused(number) => print_refused(number),
-        Searched::Found(top) => print_top(top, hits),
+        Searched::Found(top) => vectors::print_hits(top.count, top.mark, hits, top.held),
     }
 }
 
@@ -51,22 +35,20 @@ fn search(
     b: &mut [i32],
     ranges: &mut [u32],
     hits: &mut [i64],
-)
-    requires { ⌜ at + 14 ≤ length (now file) ⌝ }
-{
+) {
     let searched = searcher::search::search(
-        file[at],
-        list(file, file[at + 5]),
-        list(file, file[at + 6]),
-        list(file, file[at + 7]),
-        list(file, file[at + 8]),
-        bytes_at(bytes, file[at + 9]),
+        word(file, at, 0),
+        list_at(file, at, 5),
+        list_at(file, at, 6),
+        list_at(file, at, 7),
+        list_at(file, at, 8),
+        bytes_at(bytes, word(file, at, 9)),
         live,
-        list(file, file[at + 11]),
-        list(file, file[at + 12]),
-        list(file, file[at + 13]),
-        file[at + 1],
-        file[at + 2],
+        list_at(file, at, 11),
+        list_at(file, at, 12),
+        list_at(file, at, 13),
+        word(file, at, 1),
+        word(file, at, 2),
         states,
         a,
         b,
@@ -107,7 +89,7 @@ fn print_paged(paged: Paged, documents: &[u32], scores: &[u32]) -> u32 {
     match paged {
         Paged::Refused(number) => {
             print_refused(number);
-            2147483647
+            NO_MORE_DOCS
         }
         Paged::Given(listed) => print_listed(listed, documents, scores),
     }
@@ -126,20 +108,18 @@ fn page(
     ranges: &mut [u32],
     documents: &mut [u32],
     scores: &mut [u32],
-) -> u32
-    requires { ⌜ at + 14 ≤ length (now file) ⌝ }
-{
+) -> u32 {
     let paged = searcher::page::page(
-        file[at],
-        list(file, file[at + 5]),
-        list(file, file[at + 6]),
-        list(file, file[at + 7]),
-        list(file, file[at + 8]),
-        bytes_at(bytes, file[at + 9]),
+        word(file, at, 0),
+        list_at(file, at, 5),
+        list_at(file, at, 6),
+        list_at(file, at, 7),
+        list_at(file, at, 8),
+        bytes_at(bytes, word(file, at, 9)),
         live,
-        list(file, file[at + 11]),
-        list(file, file[at + 12]),
-        list(file, file[at + 13]),
+        list_at(file, at, 11),
+        list_at(file, at, 12),
+        list_at(file, at, 13),
         target,
         states,
         a,
@@ -149,6 +129,42 @@ fn page(
         scores,
     );
     print_paged(paged, documents, scores)
+}
+
+// A page of so many places, the end where the outputs have fewer.
+fn page_of(
+    file: &[u32],
+    bytes: &[u8],
+    live: &[u64],
+    at: usize,
+    target: u32,
+    places: usize,
+    states: &mut [u32],
+    a: &mut [i32],
+    b: &mut [i32],
+    ranges: &mut [u32],
+    documents: &mut [u32],
+    scores: &mut [u32],
+) -> u32 {
+    if documents.len() < places {
+        return NO_MORE_DOCS;
+    }
+    if scores.len() < places {
+        return NO_MORE_DOCS;
+    }
+    page(
+        file,
+        bytes,
+        live,
+        at,
+        target,
+        states,
+        a,
+        b,
+        ranges,
+        &mut documents[..places],
+        &mut scores[..places],
+    )
 }
 
 // Four pages at most, each a place longer than the one before.
@@ -161,30 +177,28 @@ fn pages(
     a: &mut [i32],
     b: &mut [i32],
     ranges: &mut [u32],
-)
-    requires { ⌜ at + 14 ≤ length (now file) ⌝ }
-{
-    let mut documents = [0u32; 131];
-    let mut scores = [0u32; 131];
-    let first = size(file[at + 4]) % 128;
-    let mut target = file[at + 3];
+    documents: &mut [u32],
+    scores: &mut [u32],
+) {
+    let first = size(word(file, at, 4));
+    let mut target = word(file, at, 3);
     let mut i = 0;
     while i < 4 {
-        let end = first + i;
-        target = page(
+        target = page_of(
             file,
             bytes,
             live,
             at,
             target,
+            first + i,
             states,
             a,
             b,
             ranges,
-            &mut documents[..end],
-            &mut scores[..end],
+            documents,
+            scores,
         );
-        if target == 2147483647 {
+        if target == NO_MORE_DOCS {
             return;
         }
         i += 1;
@@ -200,41 +214,78 @@ fn print_case(
     b: &mut [i32],
     ranges: &mut [u32],
     hits: &mut [i64],
-)
-    requires { ⌜ at + 14 ≤ length (now file) ⌝ }
-{
+    documents: &mut [u32],
+    scores: &mut [u32],
+) {
     let mut longs = [0u64; 16];
-    let number = vectors::file::read_long_words(list(file, file[at + 10]), &mut longs);
+    let number = vectors::file::read_long_words(list_at(file, at, 10), &mut longs);
     let live = &longs[..number];
     search(file, bytes, live, at, states, a, b, ranges, hits);
-    pages(file, bytes, live, at, states, a, b, ranges);
+    pages(
+        file,
+        bytes,
+        live,
+        at,
+        states,
+        a,
+        b,
+        ranges,
+        documents,
+        scores,
+    );
 }
 
-// The work buffers hold what the case before left in them.
-fn print_cases(file: &[u32], bytes: &[u8]) {
+// The buffers hold what the case before left in them.
+fn print_cases(
+    file: &[u32],
+    bytes: &[u8],
+    states: &mut [u32],
+    a: &mut [i32],
+    b: &mut [i32],
+    ranges: &mut [u32],
+    hits: &mut [i64],
+    documents: &mut [u32],
+    scores: &mut [u32],
+) {
+    let cases = size(word(file, 0, 0));
+    let mut i = 0;
+    while i < cases {
+        print_case(
+            file,
+            bytes,
+            1 + 14 * i,
+            states,
+            a,
+            b,
+            ranges,
+            hits,
+            documents,
+            scores,
+        );
+        i += 1;
+    }
+}
+
+// With the work buffers of the program `hits`.
+fn print_file(file: &[u32], bytes: &[u8]) {
     let mut states = [0u32; 6144];
     let mut a = [0i32; 16_384];
     let mut b = [0i32; 16_384];
     let mut ranges = [0u32; 16_384];
     let mut hits = [0i64; 1024];
-    let cases = size(file[0]);
-    let mut i = 0;
-    while i < cases {
-        if file.len() / 14 <= i + 1 {
-            return;
-        }
-        print_case(
-            file,
-            bytes,
-            1 + 14 * i,
-            &mut states,
-            &mut a,
-            &mut b,
-            &mut ranges,
-            &mut hits,
-        );
-        i += 1;
-    }
+    let mut documents = [0u32; 128];
+    let mut scores = [0u32; 128];
+    print_cases(
+        file,
+        bytes,
+        &mut states,
+        &mut a,
+        &mut b,
+        &mut ranges,
+        &mut hits,
+        &mut documents,
+        &mut scores,
+    );
 }
 
 fn print_all(fd: i32) {
@@ -242,7 +293,7 @@ fn print_all(fd: i32) {
     let mut file = [0u32; 65_536];
     let n = io::read_full(fd, &mut bytes);
     vectors::file::read_words(&bytes[..n], &mut file);
-    print_cases(&file, &bytes);
+    print_file(&file, &bytes);
 }
 
 fn main() {

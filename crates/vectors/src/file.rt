@@ -1,7 +1,12 @@
 // A file of little-endian words: the words, and the lists that a place in it names.
+ghost use mathlib.Core.Path.{_≡_};
+ghost use Prim.Native.Nat.{_≤_};
+ghost use lib.ListN.{length};
 
 // A word's number as a length, with no proof at the caller.
-pub fn size(x: u32) -> usize {
+pub fn size(x: u32) -> usize
+    ensures { λ r. ⌜ r ≡ x ⌝ }
+{
     x as usize
 }
 
@@ -26,6 +31,17 @@ pub fn read_words(bytes: &[u8], words: &mut [u32]) {
     }
 }
 
+// The i-th word from a place on, 0 where the file has ended.
+pub fn word(file: &[u32], at: usize, i: usize) -> u32 {
+    if file.len() <= at {
+        return 0;
+    }
+    if file.len() - at <= i {
+        return 0;
+    }
+    file[at + i]
+}
+
 // The list that stands at `place`, its first word + 65,536 × its length; none where it isn't within the file.
 pub fn list(file: &[u32], place: u32) -> &[u32] {
     let first = size(place % 65536);
@@ -40,9 +56,14 @@ pub fn list(file: &[u32], place: u32) -> &[u32] {
     &file[first..end]
 }
 
+// The list whose place is the i-th word from a place on.
+pub fn list_at(file: &[u32], at: usize, i: usize) -> &[u32] {
+    list(file, word(file, at, i))
+}
+
 // The bytes that stand at `place`, their first word + 65,536 × their number; none where they aren't within the file.
 pub fn bytes_at(bytes: &[u8], place: u32) -> &[u8] {
-    let first = 4 * size(place % 65536);
+    let first = size(4 * (place % 65536));
     let number = size(place / 65536);
     if bytes.len() < first {
         return &bytes[..0];
@@ -55,7 +76,9 @@ pub fn bytes_at(bytes: &[u8], place: u32) -> &[u8] {
 }
 
 // Words of 64 bits from pairs of words, the low half first, as many as both slices have room for: how many.
-pub fn read_long_words(words: &[u32], longs: &mut [u64]) -> usize {
+pub fn read_long_words(words: &[u32], longs: &mut [u64]) -> usize
+    ensures { λ r. ⌜ r ≤ length (now (longs .entry)) ⌝ }
+{
     let mut i = 0;
     while i < longs.len() {
         if words.len() / 2 <= i {

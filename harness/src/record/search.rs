@@ -1,7 +1,8 @@
 //! What Search and Page answer is the unchanged Rust's, for small trees in which one slip shows and for a
 //! sample of generated cases. Both the cases' file and the answers are made here.
+use super::collector::line;
 use super::{place, trees};
-use crate::answer::{NO_MORE_DOCS, Paged, Searched};
+use crate::answer::{NO_MORE_DOCS, Paged};
 use crate::case::Case;
 use crate::catalogue::Catalogue;
 use crate::generate;
@@ -95,7 +96,7 @@ fn refused(number: u32) -> String {
 fn answers(asked: &Asked) -> String {
     let oracle = Oracle::new(&asked.case);
     let mut text = match refusal(&asked.case) {
-        0 => searched(&oracle.search()),
+        0 => line(&oracle.search()),
         number => {
             assert_eq!(number, 11);
             refused(number)
@@ -114,13 +115,6 @@ fn answers(asked: &Asked) -> String {
         }
     }
     text
-}
-
-fn searched(searched: &Searched) -> String {
-    let mark = if searched.mark { "+" } else { "" };
-    let codes = searched.hits.iter().map(|hit| hit.code());
-    let codes: String = codes.map(|code| format!("{code:016x} ")).collect();
-    format!("{}{mark} {codes}\n", searched.count)
 }
 
 fn paged(page: &Paged) -> String {

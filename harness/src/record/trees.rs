@@ -74,12 +74,13 @@ fn index() -> Catalogue {
 fn placed(index: &mut Catalogue) {
     let field = index.field_with(16_777_216.0, None, true);
     assert_eq!(field, PHRASES);
-    let most = 2_147_483_647;
-    let runs: [(u32, &[(u32, &[u32])]); 7] = [
+    const MOST: u32 = 2_147_483_647;
+    type Run = &'static [(u32, &'static [u32])];
+    let runs: [(u32, Run); 7] = [
         (X, &[(0, &[0, 4]), (1, &[3]), (2, &[7])]),
         (Y, &[(0, &[2]), (1, &[5])]),
         (Z, &[(0, &[1]), (1, &[4]), (3, &[0])]),
-        (ONE, &[(0, &[0, 5, 5]), (1, &[0, 0]), (2, &[most])]),
+        (ONE, &[(0, &[0, 5, 5]), (1, &[0, 0]), (2, &[MOST])]),
         (TWO, &[(0, &[6, 6, 9]), (1, &[1]), (2, &[0])]),
         (HALF, &[(4, &[0, 0, 0, 1, 1, 2]), (8, &[0])]),
         (ONE, &[]),
