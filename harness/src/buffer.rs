@@ -13,6 +13,12 @@ pub trait Element: Copy + PartialEq + Debug {
     fn of(word: u64) -> Self;
 }
 
+impl Element for u8 {
+    fn of(word: u64) -> u8 {
+        word as u8
+    }
+}
+
 impl Element for u32 {
     fn of(word: u64) -> u32 {
         word as u32

@@ -2,8 +2,11 @@
 //! buffers, with all else as it was.
 use crate::answer::{Hit, Paged, Searched};
 use crate::buffer::Buffers;
+#[cfg(oracle)]
 use crate::case::Case;
+#[cfg(oracle)]
 use crate::oracle::{self, Oracle};
+#[cfg(oracle)]
 use crate::refusal::calls::{self, Judge, Lengths};
 
 /// A refusal's number, or the answer.
@@ -11,6 +14,7 @@ pub type Found = Result<Searched, u32>;
 pub type Given = Result<Paged, u32>;
 
 /// What is right for the calls with one index and query.
+#[cfg(oracle)]
 pub struct Right {
     pub judge: Judge,
     oracle: Option<Oracle>,
@@ -18,6 +22,7 @@ pub struct Right {
     pub list: Vec<Hit>,
 }
 
+#[cfg(oracle)]
 impl Right {
     pub fn new(case: &Case) -> Right {
         let judge = Judge::new(case);
@@ -45,6 +50,7 @@ impl Right {
     }
 }
 
+#[cfg(oracle)]
 pub fn pick(documents: &[u32], scores: &[u32], k: u32, t: u32, lent: &Lengths) -> Found {
     match calls::pick(documents, scores, k, lent) {
         0 => Ok(oracle::pick(documents, scores, k, t)),

@@ -12,7 +12,6 @@ pub mod damage;
 pub mod definitions;
 #[cfg(oracle)]
 pub mod double;
-#[cfg(oracle)]
 pub mod expect;
 pub mod generate;
 pub mod lots;
