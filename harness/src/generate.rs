@@ -2,6 +2,7 @@
 //! weights and costs are chosen so that the order of additions shows in the last bit.
 mod index;
 mod order;
+pub mod short;
 mod shown;
 mod sums;
 
