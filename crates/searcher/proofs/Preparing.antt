@@ -23,7 +23,7 @@ use Rattle.weight.specs.Measured.{Asks, Columns}
 use Rattle.weight.specs.ScorerTree.{Scorer}
 use Rattle.weight.specs.Weigh.{weigh}
 use Rattle.weight.specs.Sound.{FieldTable}
-use Rattle.weight.proofs.Queries.{query-sound, query-leaves}
+use Rattle.weight.proofs.Queries.{query-sound, query-nodes}
 use Rattle.weight.proofs.FullList.{scorer-list}
 use Rattle.build.specs.Placed.{Placed, LeafLent}
 use Rattle.build.specs.Inverses.{fieldAt, hasField}
@@ -32,7 +32,7 @@ use Rattle.scorer.proofs.Bounds.{ok-mono}
 use Rattle.score.specs.declared.walk.Listed.{Listed}
 use Rattle.score.specs.Walks.{liveScored, PageHeld, PageIs}
 use Rattle.searcher.proofs.Rooms.{starts-room}
-use Rattle.searcher.proofs.QueryTables.{query-tables}
+use Rattle.build.proofs.QueryTables.{query-tables}
 
 -- ---- the tree in the node states
 -- the scorer tree of a query
@@ -70,7 +70,7 @@ module _ (n : ℕ) (fields leaves postings positions norms live columns values q
     scorable = record {
       sound = query-sound ix q (min (w .starts) (w .otherStarts)) (a .values-right) (a .positions-right) (starts-room ix q w e) (a .records-right) one none;
       tables = query-tables ix q table a t one none;
-      few = query-leaves q (a .records-right) ix one none;
+      few = query-nodes q (a .records-right) ix one none;
     };
     ok = ok-mono ix ranges (treeOf ix q) 16 0 (take r states) 0 from (omega arith) (p .ok);
   }

@@ -7,4 +7,3 @@ pub mod pick;
 pub mod place;
 pub mod range;
 pub mod search;
-pub mod stub;

@@ -18,7 +18,7 @@ pub enum Paged {
 }
 
 // The lowest number of 1 to 10, 12 and 13 whose condition holds, and 0 where none does.
-fn page_refusal(
+pub fn page_refusal(
     max_doc: u32,
     fields: &[u32],
     leaves: &[u32],
@@ -100,8 +100,8 @@ fn list_page(
     ensures { λ r. ⌜ PageIs (pageOf (lent «max_doc» (now (fields .entry)) (now (leaves .entry)) (now (postings .entry)) (now (positions .entry)) (now (norms .entry)) (now (live .entry)) (now (columns .entry)) (now (values .entry))) (now (q .entry)) target (length (now (documents .entry)))) (now (documents .entry)) (now (scores .entry)) r (now (documents .exit)) (now (scores .exit)) ⌝ }
 {
     let mut inverses: [f32; 4096] = [0.0; 4096];
-    crate::stub::fill_inverses(max_doc, fields, leaves, q, &mut inverses);
-    let size = crate::stub::build(max_doc, fields, leaves, columns, values, q, states, ranges);
+    build::inverses::fill_inverses(max_doc, fields, leaves, q, &mut inverses);
+    let size = build::build(max_doc, fields, leaves, columns, values, q, states, ranges);
     score::walk::list(
         &mut states[..size],
         max_doc,

@@ -22,7 +22,7 @@ pub enum Searched {
 }
 
 // The lowest number of 1 to 12 whose condition holds, and 0 where none does.
-fn search_refusal(
+pub fn search_refusal(
     max_doc: u32,
     fields: &[u32],
     leaves: &[u32],
@@ -106,8 +106,8 @@ fn find(
     ensures { λ r. ⌜ now (heap .exit) ≡ written (hitsOf (length (now (heap .entry))) (fullList (lent «max_doc» (now (fields .entry)) (now (leaves .entry)) (now (postings .entry)) (now (positions .entry)) (now (norms .entry)) (now (live .entry)) (now (columns .entry)) (now (values .entry))) (queryTree (now (q .entry))))) (now (heap .entry)) ⌝ }
 {
     let mut inverses: [f32; 4096] = [0.0; 4096];
-    crate::stub::fill_inverses(max_doc, fields, leaves, q, &mut inverses);
-    let size = crate::stub::build(max_doc, fields, leaves, columns, values, q, states, ranges);
+    build::inverses::fill_inverses(max_doc, fields, leaves, q, &mut inverses);
+    let size = build::build(max_doc, fields, leaves, columns, values, q, states, ranges);
     crate::collect::collect_matches(
         &mut states[..size],
         max_doc,
