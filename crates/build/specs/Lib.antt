@@ -1,2 +1,4 @@
 -- What the words of a query's scorer tree are when they are written.
 pub mod Placed
+pub mod Prepared
+pub mod Inverses

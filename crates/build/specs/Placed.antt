@@ -44,3 +44,8 @@ PhraseTermPlaced ix t before after =
 abbrev pub keptOf : Bool → Float → Option Float
 keptOf true x = some x
 keptOf false x = none
+
+-- a Boolean's record, not asked yet
+abbrev pub booleanState : ℕ → ℕ → ℕ → ℕ → Bool → ℕ → Bool → ℕ → ℕ → State
+booleanState size need requiredEnd optionalEnd fixed bits after groupAt scores =
+    record { kind = 3; size = size; cached = 0; need = need; requiredEnd = requiredEnd; optionalEnd = optionalEnd; first = 0; number = 0; cursor = 0; offset = 0; field = 0; constant = cond fixed 1 0; weight = bits; afterwards = cond after 1 0; groupAt = groupAt; scores = scores; frequencyOf = 0; frequency = 0; norms = 0; spare1 = 0; spare2 = 0; spare3 = 0; spare4 = 0; spare5 = 0 }

@@ -20,7 +20,7 @@ ghost use Rattle.weight.specs.Measured.{Asks, RangeListed};
 ghost use Rattle.build.specs.Placed.{Placed, PhraseTermPlaced, scoringOf, keptOf, FieldLent, LeafLent};
 
 // A node's record.
-fn put(st: &mut [u32], words: [u32; 24])
+pub fn put(st: &mut [u32], words: [u32; 24])
     requires { ⌜ 24 ≤ length (now st) ⌝ }
     ensures { λ r. ⌜ now (st .exit) ≡ words ++ drop 24 (now (st .entry)) ⌝ }
 {
@@ -32,7 +32,7 @@ fn put(st: &mut [u32], words: [u32; 24])
 }
 
 // A node that matches nothing stands at the end from the start.
-fn place_nothing(st: &mut [u32], scores: u32) -> usize
+pub fn place_nothing(st: &mut [u32], scores: u32) -> usize
     requires { ⌜ 24 ≤ length (now st) ⌝ }
     ensures { λ r. ⌜ ((ix : Index) (ranges : List ℕ) (d : ℕ) → Placed ix ranges noScorer d scores r (now (st .exit))) ⌝ }
     ensures { λ r. ⌜ length (now (st .exit)) ≡ length (now (st .entry)) ⌝ }
@@ -70,7 +70,7 @@ fn place_nothing(st: &mut [u32], scores: u32) -> usize
 }
 
 // Every document, each with the same score.
-fn place_everything(st: &mut [u32], score: f32, scores: u32) -> usize
+pub fn place_everything(st: &mut [u32], score: f32, scores: u32) -> usize
     requires { ⌜ (24 ≤ length (now st)) × AtMost (2 ^ 29) score ⌝ }
     ensures { λ r. ⌜ ((ix : Index) (ranges : List ℕ) (d : ℕ) → Placed ix ranges (leaf everything (constant score)) d scores r (now (st .exit))) ⌝ }
     ensures { λ r. ⌜ length (now (st .exit)) ≡ length (now (st .entry)) ⌝ }
@@ -109,7 +109,7 @@ fn place_everything(st: &mut [u32], score: f32, scores: u32) -> usize
 }
 
 // The documents of a range, which stand in the range buffer, each with the same score.
-fn place_range(st: &mut [u32], first: u32, number: u32, score: f32, scores: u32) -> usize
+pub fn place_range(st: &mut [u32], first: u32, number: u32, score: f32, scores: u32) -> usize
     requires { ⌜ (24 ≤ length (now st)) × AtMost (2 ^ 29) score ⌝ }
     ensures { λ r. ⌜ ((ix : Index) (ranges q : List ℕ) (at d : ℕ) → RangeListed ix q ranges at first number → Placed ix ranges (leaf (range (rangeOf q at)) (constant score)) d scores r (now (st .exit))) ⌝ }
     ensures { λ r. ⌜ length (now (st .exit)) ≡ length (now (st .entry)) ⌝ }
@@ -147,13 +147,13 @@ fn place_range(st: &mut [u32], first: u32, number: u32, score: f32, scores: u32)
     24
 }
 
-fn wide(x: u32) -> usize
+pub fn wide(x: u32) -> usize
     ensures { λ r. ⌜ r ≡ x ⌝ }
 {
     x as usize
 }
 
-fn word(b: bool) -> u32
+pub fn word(b: bool) -> u32
     ensures { λ r. ⌜ r ≡ cond b 1 0 ⌝ }
 {
     if b { 1 } else { 0 }
@@ -383,7 +383,7 @@ fn scored_by(fixed: bool, kept: f32, boost: f32, idf: f32) -> f32
 }
 
 // The Term at `at`, with the score that is kept or at the boost that reaches it; nothing where it has no scorer.
-fn place_term_at(
+pub fn place_term_at(
     st: &mut [u32],
     q: &[u32],
     max_doc: u32,
@@ -408,4 +408,31 @@ fn place_term_at(
     let idf = idf_of(leaves, leaf);
     let score = scored_by(fixed, kept, boost, idf);
     place_term(st, max_doc, fields, leaves, leaf, fixed, score, scores)
+}
+
+// The Phrase at `at`, with the score that is kept or at the boost that reaches it; nothing where it has no scorer.
+pub fn place_phrase_at(
+    st: &mut [u32],
+    q: &[u32],
+    max_doc: u32,
+    fields: &[u32],
+    leaves: &[u32],
+    present: u32,
+    at: usize,
+    fixed: bool,
+    kept: f32,
+    boost: f32,
+    scores: u32,
+) -> usize
+    requires { ⌜ (24 ≤ length (now st)) × (present ≡ 1 → 24 + 24 * recordChildren (now q) at ≤ length (now st)) × (present ≤ 1) × (at < recordCount (now q)) × (recordKind (now q) at ≡ 2) × AtMost (2 ^ 29) kept × AtMost (2 ^ 16) boost ⌝ }
+    requires { ⌜ ((ix : Index) × Asks ix (now q) × LeafLent ix «max_doc» (now fields) (now leaves)) ⌝ }
+    ensures { λ r. ⌜ ((ix : Index) (ranges : List ℕ) (d k : ℕ) (D : Decoded) → LeafLent ix «max_doc» (now (fields .entry)) (now (leaves .entry)) → decode (now (q .entry)) k at ≡ some D → present ≡ cond (hasScorer ix (D .tree)) 1 0 → Placed ix ranges (weigh ix (D .tree) boost (keptOf fixed kept)) d scores r (now (st .exit))) ⌝ }
+    ensures { λ r. ⌜ length (now (st .exit)) ≡ length (now (st .entry)) ⌝ }
+{
+    if present == 0 {
+        return place_nothing(st, scores);
+    }
+    let idf = phrase_idf(q, leaves, at);
+    let score = scored_by(fixed, kept, boost, idf);
+    place_phrase(st, q, max_doc, fields, leaves, at, fixed, score, scores)
 }

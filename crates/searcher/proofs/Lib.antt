@@ -1,8 +1,12 @@
--- Demand 3 as theorems about the definitions, each after the laws that it uses.
-pub mod Lists
-pub mod Rising
-pub mod Pages
-pub mod Ranked
-pub mod Rankable
-pub mod Search
-pub mod Example
+-- What the proofs of this crate share.
+pub mod Collecting
+pub mod Rooms
+pub mod Preparing
+pub mod Refusing
+pub mod CallConditions
+pub mod Answering
+pub mod Lowest
+pub mod RangeEntry
+pub mod PickEntry
+pub mod TermWords
+pub mod PlaceEntry

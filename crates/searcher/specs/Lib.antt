@@ -1,2 +1,5 @@
--- What demand 3 says of a list of pages and of hits.
-pub mod Demands
+-- What the entries are lent, and what their answers say in document 01's numbers.
+pub mod Lends
+pub mod Answers
+pub mod Collects
+pub mod Runs

@@ -1,1 +1,9 @@
-// The entries that the sale office calls; so far the theorems about what they answer, in proofs/.
+// The entries that the sale office calls.
+pub mod collect;
+pub mod length;
+pub mod order;
+pub mod page;
+pub mod pick;
+pub mod place;
+pub mod range;
+pub mod search;
