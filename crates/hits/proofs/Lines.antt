@@ -10,6 +10,8 @@ use lib.IntN.{ℤ, pos}
 use Rattle.meaning.specs.Limits.{noMoreDocs}
 use Rattle.meaning.specs.Hits.{toDoc, lowWord}
 use Rattle.hits.specs.Text.{decimal, hexDigits, hex8, scoreBits, hitLine, hitLines}
+use Rattle.hits.specs.Puts.{Put}
+use Rattle.hits.proofs.Putting.{put-same, put-more}
 use Rattle.hits.proofs.Numbers.{decimal-short, length-hex}
 
 pub lines-last : (cs : List ℤ) (c : ℤ) → hitLines (cs ++ (c ∷ [])) ≡ hitLines cs ++ hitLine c
@@ -35,3 +37,15 @@ line-length c =
 
 pub line-short : (c : ℤ) → length (hitLine c) ≤ 30
 line-short c = omega (arith, line-length c, document-short c)
+
+-- the line of a document and a score's bits that are a code's
+pub line-is : (c : ℤ) (d b : ℕ) → d ≡ toDoc c → b ≡ scoreBits c → decimal d ++ (32 ∷ (hex8 b ++ (10 ∷ []))) ≡ hitLine c
+unfolding hitLine
+line-is c d b e g = ap (λ (n : ℕ). decimal n ++ (32 ∷ (hex8 b ++ (10 ∷ [])))) e ∙ ap (λ (n : ℕ). decimal (toDoc c) ++ (32 ∷ (hex8 n ++ (10 ∷ [])))) g
+
+-- a turn of the loop over the codes: one line more in the output
+pub lines-next : (out : List ℕ) (at : ℕ) (cs : List ℤ) (i next r : ℕ) (mid out′ : List ℕ) (c : ℤ) → i < length cs → c ≡ getD cs i (pos 0) → Put out at (hitLines (take i cs)) next mid → Put mid next (hitLine c) r out′ → Put out at (hitLines (take (i + 1) cs)) r out′
+lines-next out at cs i next r mid out′ c h e p q =
+    put-same out at (hitLines (take i cs) ++ hitLine c) (hitLines (take (i + 1) cs)) r out′
+    (ap (λ (z : ℤ). hitLines (take i cs) ++ hitLine z) e ∙ sym (lines-more cs i h))
+    (put-more out at (hitLines (take i cs)) (hitLine c) next r mid out′ p q)

@@ -33,7 +33,6 @@ module _ (out : List ℕ) (at : ℕ) where
       put-same (take i text ++ (getD text i 0 ∷ [])) (take (i + 1) text) r out′ (sym (ap (λ (n : ℕ). take n text) (add-one i) ∙ take-suc text i 0 h))
       (put-more (take i text) (getD text i 0 ∷ []) next r mid out′ p q)
 
-
 -- text at the front, and that there was room for it
 pub put-front : (out x : List ℕ) (r : ℕ) (out′ : List ℕ) → Put out 0 x r out′ → take r out′ ≡ x
 put-front out x r out′ p = p .holds

@@ -126,7 +126,7 @@ whole size bytes = leb (length bytes) 65536 && eqb (length bytes % size) 0
 -- "a longer or missing one, one not of whole words (live.rec of 8 bytes, norms.rec free), or a run.rec of another length" is not taken
 unfoldable pub taken : Files → Bool
 taken f =
-    eqb (length (f .run)) 12 && (whole 4 (f .fields) && (whole 4 (f .leaves) && (whole 4 (f .postings) && (whole 4 (f .positions) && (whole 1 (f .norms) && (whole 8 (f .live) && (whole 4 (f .columns) && (whole 4 (f .values) && whole 4 (f .query)))))))))
+    eqb (length (f .run)) 12 && whole 4 (f .fields) && whole 4 (f .leaves) && whole 4 (f .postings) && whole 4 (f .positions) && whole 1 (f .norms) && whole 8 (f .live) && whole 4 (f .columns) && whole 4 (f .values) && whole 4 (f .query)
 
 -- the index of the files; "run.rec (N, k, t as words)"
 unfoldable pub indexOf : Files → Index

@@ -13,10 +13,7 @@ fn whole(bytes: &[u8], size: usize) -> bool
     requires { ⌜ 0 < size ⌝ }
     ensures { λ r. ⌜ r ≡ wholeFile size (now (bytes .entry)) ⌝ }
 {
-    if 65536 < bytes.len() {
-        return false;
-    }
-    bytes.len() % size == 0
+    (bytes.len() <= 65536) & (bytes.len() % size == 0)
 }
 
 // Whether each file is one that the program takes.
@@ -34,34 +31,16 @@ fn taken(
 ) -> bool
     ensures { λ r. ⌜ r ≡ takenFiles (files (now (run .entry)) (now (fields .entry)) (now (leaves .entry)) (now (postings .entry)) (now (positions .entry)) (now (norms .entry)) (now (live .entry)) (now (columns .entry)) (now (values .entry)) (now (query .entry))) ⌝ }
 {
-    if run.len() != 12 {
-        return false;
-    }
-    if !whole(fields, 4) {
-        return false;
-    }
-    if !whole(leaves, 4) {
-        return false;
-    }
-    if !whole(postings, 4) {
-        return false;
-    }
-    if !whole(positions, 4) {
-        return false;
-    }
-    if !whole(norms, 1) {
-        return false;
-    }
-    if !whole(live, 8) {
-        return false;
-    }
-    if !whole(columns, 4) {
-        return false;
-    }
-    if !whole(values, 4) {
-        return false;
-    }
-    whole(query, 4)
+    (run.len() == 12)
+        & whole(fields, 4)
+        & whole(leaves, 4)
+        & whole(postings, 4)
+        & whole(positions, 4)
+        & whole(norms, 1)
+        & whole(live, 8)
+        & whole(columns, 4)
+        & whole(values, 4)
+        & whole(query, 4)
 }
 
 // Searches with the program's own buffers.

@@ -37,10 +37,11 @@ loop-again : tie.Need-loop-again Inv-loop μ-loop
 loop-again c =
     let p = c .before .before in
     let l = p .before .before .before .before in
-    let s = l .before .before .before in
-    (put-next (s .args .out .now) (s .args .at) (s .args .text .now) (l .loop .i) (l .loop .next) (p .put-byte .result) (l .loop .out) (p .put-byte .last .1 .0) (p .before .before .before .loop-test .taken) (l .loop .inv .0) (p .put-byte .ensures),
-    p .put-byte .kept .1 .0 ∙ l .loop .inv .1,
-    omega (arith, p .before .before .before .loop-test .taken))
+    let s = l .before .before .before in (
+      put-next (s .args .out .now) (s .args .at) (s .args .text .now) (l .loop .i) (l .loop .next) (p .put-byte .result) (l .loop .out) (p .put-byte .last .1 .0) (p .before .before .before .loop-test .taken) (l .loop .inv .0) (p .put-byte .ensures),
+      p .put-byte .kept .1 .0 ∙ l .loop .inv .1,
+      omega (arith, p .before .before .before .loop-test .taken),
+    )
 
 same-length : tie.Need-same-length Inv-loop μ-loop
 same-length c = c .before .loop .inv .1

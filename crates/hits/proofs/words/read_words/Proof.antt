@@ -39,10 +39,11 @@ loop-less c = search needs
 loop-again : tie.Need-loop-again Inv-loop μ-loop
 loop-again c =
     let l = c .before .before in
-    let s = l .before .before .before in
-    (taken-more (wordAt (s .args .bytes .now)) (l .loop .words) (l .loop .i) (c .word-at .result) (omega (arith, l .loop .inv, c .before .loop-test .taken, s .pre)) (l .loop .inv .0) (c .word-at .ensures),
-    length-set (l .loop .words) (l .loop .i) (c .word-at .result) ∙ l .loop .inv .1,
-    omega (arith, c .before .loop-test .taken))
+    let s = l .before .before .before in (
+      taken-more (wordAt (s .args .bytes .now)) (l .loop .words) (l .loop .i) (c .word-at .result) (omega (arith, l .loop .inv, c .before .loop-test .taken, s .pre)) (l .loop .inv .0) (c .word-at .ensures),
+      length-set (l .loop .words) (l .loop .i) (c .word-at .result) ∙ l .loop .inv .1,
+      omega (arith, c .before .loop-test .taken),
+    )
 
 same-length : tie.Need-same-length Inv-loop μ-loop
 same-length c = c .before .loop .inv .1
