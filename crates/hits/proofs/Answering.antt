@@ -14,7 +14,9 @@ use Rattle.meaning.specs.Hits.{hits, mark}
 use Rattle.meaning.specs.CallRefusals.{Work}
 use Rattle.meaning.specs.Entries.{written, answered, topDocs, searchRefusal, searchAnswer, searchHits}
 use Rattle.collector.specs.declared.TopDocs.{TopDocs}
-use Rattle.collector.specs.Collected.{numbers}
+use Rattle.searcher.specs.declared.search.Searched.{Searched}
+use Rattle.searcher.specs.declared.search.Searched.the-variants as Searched
+use Rattle.searcher.specs.Answers.{searchedNumbers}
 use Rattle.hits.specs.Text.{foundText, refusedText, listText, ownWork, ownPlaces, searchText}
 
 same-mark : (a b : Bool) → _≡_ {A = ℕ} (cond a 1 0) (cond b 1 0) → a ≡ b
@@ -43,32 +45,34 @@ found-numbers (suc r) held count marked h c m e = absurd (omega (arith, ap lengt
 front : (codes buffer after : List ℤ) (held : ℕ) → held ≡ length codes → after ≡ written codes buffer → take held after ≡ codes
 front codes buffer after held h e = ap (λ (l : List ℤ). take held l) e ∙ ap (λ (n : ℕ). take n (written codes buffer)) h ∙ take-append-seam codes (drop (length codes) buffer)
 
+-- how many codes there are, and the text
+pub record Shown (ix : Index) (q : List ℕ) (k t held count : ℕ) (marked : Bool) (after : List ℤ) : Type 0 where
+  pub few : held ≤ length after
+  pub text : foundText count marked (take held after) ≡ searchText ix q k t
+
 -- ---- what Search answers with the program's buffers, and the codes that it leaves
 module _ (ix : Index) (q : List ℕ) (k t : ℕ) (w : Work) (places : ℕ) (own : w ≡ ownWork) (room : places ≡ ownPlaces) where
   own-refusal : searchRefusal ix q k w places ≡ searchRefusal ix q k ownWork ownPlaces
   own-refusal = ap (λ (v : Work). searchRefusal ix q k v places) own ∙ ap (searchRefusal ix q k ownWork) room
 
-  own-text : List ℕ → List ℕ
-  own-text text = answered (searchRefusal ix q k w places) text refusedText
-
   text-is : answered (searchRefusal ix q k w places) (listText k t (fullList ix (queryTree q))) refusedText ≡ searchText ix q k t
   unfolding searchText
   text-is = ap (λ (r : ℕ). answered r (listText k t (fullList ix (queryTree q))) refusedText) own-refusal
 
-  pub refused-text : (n : ℕ) → n ∷ [] ≡ searchAnswer ix q k t w places → refusedText n ≡ searchText ix q k t
-  unfolding searchAnswer
-  refused-text n e =
+  pub refused-text : (r : Searched) (n : ℕ) → r ≡ Searched.Refused n → searchedNumbers r ≡ searchAnswer ix q k t w places → refusedText n ≡ searchText ix q k t
+  unfolding searchAnswer searchedNumbers
+  refused-text r n is numbers =
+      let e : n ∷ [] ≡ searchAnswer ix q k t w places = ap searchedNumbers (sym is) ∙ numbers in
       let list = fullList ix (queryTree q) in
       refused-number (searchRefusal ix q k w places) n (length (hits k list)) (length list) (cond (mark k t (length list)) 1 0) (listText k t list) e ∙ text-is
 
-  -- how many codes there are, and the text
-  pub record Found (held count : ℕ) (marked : Bool) (after : List ℤ) : Type 0 where
-    pub few : held ≤ length after
-    pub text : foundText count marked (take held after) ≡ searchText ix q k t
-
-  pub found-text : (held count : ℕ) (marked : Bool) (buffer after : List ℤ) → length buffer ≡ places → length after ≡ length buffer → 0 ∷ held ∷ count ∷ cond marked 1 0 ∷ [] ≡ searchAnswer ix q k t w places → after ≡ searchHits ix q k w buffer → Found held count marked after
-  unfolding searchAnswer searchHits
-  found-text held count marked buffer after long same e g =
+  pub found-text : (r : Searched) (top : TopDocs) (buffer after : List ℤ) → length buffer ≡ places → r ≡ Searched.Found top → searchedNumbers r ≡ searchAnswer ix q k t w places → after ≡ searchHits ix q k w buffer → Shown ix q k t (top .held) (top .count) (top .mark) after
+  unfolding searchAnswer searchHits searchedNumbers
+  found-text r top buffer after long is numbers g =
+      let held = top .held in
+      let count = top .count in
+      let marked = top .mark in
+      let e : 0 ∷ held ∷ count ∷ cond marked 1 0 ∷ [] ≡ searchAnswer ix q k t w places = ap searchedNumbers (sym is) ∙ numbers in
       let list = fullList ix (queryTree q) in
       let v = found-numbers (searchRefusal ix q k w places) held count (cond marked 1 0) (length (hits k list)) (length list) (cond (mark k t (length list)) 1 0) e in
       let here : searchRefusal ix q k w (length buffer) ≡ 0 = ap (searchRefusal ix q k w) long ∙ v .accepted in

@@ -30,10 +30,11 @@ fn read_all(fd: i32, bytes: &mut [u8]) -> usize
         if got < 0 {
             return bytes.len();
         }
-        if got == 0 {
+        let more = io::count(got, &bytes[done..]);
+        if more == 0 {
             return done;
         }
-        done += io::count(got, &bytes[done..]);
+        done += more;
     }
     done
 }

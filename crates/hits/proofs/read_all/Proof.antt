@@ -39,31 +39,31 @@ same-length c = ?
 returns : tie.Need-returns Inv-loop μ-loop
 returns c = ?
 
--- src/main.rt:34:13
-same-length-2 : tie.Need-same-length-2 Inv-loop μ-loop
-same-length-2 c = ?
-
--- src/main.rt:34:13
-returns-2 : tie.Need-returns-2 Inv-loop μ-loop
-returns-2 c = ?
-
--- src/main.rt:36:32
+-- src/main.rt:33:35
 sub-count : tie.Need-sub-count Inv-loop μ-loop
 sub-count c = ?
 
--- src/main.rt:36:32
+-- src/main.rt:33:35
 part-count-start : tie.Need-part-count-start Inv-loop μ-loop
 part-count-start c = ?
 
--- src/main.rt:36:32
+-- src/main.rt:33:35
 part-count-end : tie.Need-part-count-end Inv-loop μ-loop
 part-count-end c = ?
 
--- src/main.rt:36:17
+-- src/main.rt:33:13
 count-requires : tie.Need-count-requires Inv-loop μ-loop
 count-requires c κs = ?
 
--- src/main.rt:36:9
+-- src/main.rt:35:13
+same-length-2 : tie.Need-same-length-2 Inv-loop μ-loop
+same-length-2 c = ?
+
+-- src/main.rt:35:13
+returns-2 : tie.Need-returns-2 Inv-loop μ-loop
+returns-2 c = ?
+
+-- src/main.rt:37:9
 add-done : tie.Need-add-done Inv-loop μ-loop
 add-done c = ?
 
@@ -96,12 +96,12 @@ read-all-spec =
     read-requires
     same-length
     returns
-    same-length-2
-    returns-2
     sub-count
     part-count-start
     part-count-end
     count-requires
+    same-length-2
+    returns-2
     add-done
     loop-less
     loop-again
