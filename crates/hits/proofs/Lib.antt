@@ -1,6 +1,8 @@
 -- Laws of the text that the program prints.
 pub mod Putting
 pub mod Filling
+pub mod Counting
 pub mod Numbers
 pub mod Lines
 pub mod Answering
+pub mod Taken

@@ -7,13 +7,13 @@ mod words;
 
 ghost use Rattle.io.specs.Counts.{Counts};
 
-// How many bytes of the file stand at the front of the buffer. One that is missing or unreadable counts as 65,537, as one that is too long does: both are refused alike.
-fn read_file(name: &[u8], bytes: &mut [u8; 65537]) -> usize
+// How many bytes of the file stand at the front of the buffer. One that is missing or unreadable counts as one that fills it: both are refused alike.
+fn read_file(name: &[u8], bytes: &mut [u8]) -> usize
     ensures { λ r. ⌜ Counts r (now (bytes .exit)) ⌝ }
 {
     let fd = os::open_read(name);
     if fd < 0 {
-        return 65537;
+        return bytes.len();
     }
     let read = read_all(fd, bytes);
     libc::close(fd);
