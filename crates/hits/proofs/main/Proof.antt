@@ -6,59 +6,89 @@ use Rattle.hits.proofs.main.Tie as tie
 slice-aggregate-read-file : tie.Need-slice-aggregate-read-file
 slice-aggregate-read-file c = search needs
 
-read-file-requires : tie.Need-read-file-requires
-read-file-requires c κs = search needs
-
 slice-aggregate-read-file-2 : tie.Need-slice-aggregate-read-file-2
 slice-aggregate-read-file-2 c = search needs
 
-read-file-requires-2 : tie.Need-read-file-requires-2
-read-file-requires-2 c κs = search needs
+read-file-requires : tie.Need-read-file-requires
+read-file-requires c κs = search needs
 
 slice-aggregate-read-file-3 : tie.Need-slice-aggregate-read-file-3
 slice-aggregate-read-file-3 c = search needs
 
-read-file-requires-3 : tie.Need-read-file-requires-3
-read-file-requires-3 c κs = search needs
-
 slice-aggregate-read-file-4 : tie.Need-slice-aggregate-read-file-4
 slice-aggregate-read-file-4 c = search needs
 
-read-file-requires-4 : tie.Need-read-file-requires-4
-read-file-requires-4 c κs = search needs
+read-file-requires-2 : tie.Need-read-file-requires-2
+read-file-requires-2 c κs = search needs
 
 slice-aggregate-read-file-5 : tie.Need-slice-aggregate-read-file-5
 slice-aggregate-read-file-5 c = search needs
 
-read-file-requires-5 : tie.Need-read-file-requires-5
-read-file-requires-5 c κs = search needs
-
 slice-aggregate-read-file-6 : tie.Need-slice-aggregate-read-file-6
 slice-aggregate-read-file-6 c = search needs
 
-read-file-requires-6 : tie.Need-read-file-requires-6
-read-file-requires-6 c κs = search needs
+read-file-requires-3 : tie.Need-read-file-requires-3
+read-file-requires-3 c κs = search needs
 
 slice-aggregate-read-file-7 : tie.Need-slice-aggregate-read-file-7
 slice-aggregate-read-file-7 c = search needs
 
-read-file-requires-7 : tie.Need-read-file-requires-7
-read-file-requires-7 c κs = search needs
-
 slice-aggregate-read-file-8 : tie.Need-slice-aggregate-read-file-8
 slice-aggregate-read-file-8 c = search needs
 
-read-file-requires-8 : tie.Need-read-file-requires-8
-read-file-requires-8 c κs = search needs
+read-file-requires-4 : tie.Need-read-file-requires-4
+read-file-requires-4 c κs = search needs
 
 slice-aggregate-read-file-9 : tie.Need-slice-aggregate-read-file-9
 slice-aggregate-read-file-9 c = search needs
 
+slice-aggregate-read-file-10 : tie.Need-slice-aggregate-read-file-10
+slice-aggregate-read-file-10 c = search needs
+
+read-file-requires-5 : tie.Need-read-file-requires-5
+read-file-requires-5 c κs = search needs
+
+slice-aggregate-read-file-11 : tie.Need-slice-aggregate-read-file-11
+slice-aggregate-read-file-11 c = search needs
+
+slice-aggregate-read-file-12 : tie.Need-slice-aggregate-read-file-12
+slice-aggregate-read-file-12 c = search needs
+
+read-file-requires-6 : tie.Need-read-file-requires-6
+read-file-requires-6 c κs = search needs
+
+slice-aggregate-read-file-13 : tie.Need-slice-aggregate-read-file-13
+slice-aggregate-read-file-13 c = search needs
+
+slice-aggregate-read-file-14 : tie.Need-slice-aggregate-read-file-14
+slice-aggregate-read-file-14 c = search needs
+
+read-file-requires-7 : tie.Need-read-file-requires-7
+read-file-requires-7 c κs = search needs
+
+slice-aggregate-read-file-15 : tie.Need-slice-aggregate-read-file-15
+slice-aggregate-read-file-15 c = search needs
+
+slice-aggregate-read-file-16 : tie.Need-slice-aggregate-read-file-16
+slice-aggregate-read-file-16 c = search needs
+
+read-file-requires-8 : tie.Need-read-file-requires-8
+read-file-requires-8 c κs = search needs
+
+slice-aggregate-read-file-17 : tie.Need-slice-aggregate-read-file-17
+slice-aggregate-read-file-17 c = search needs
+
+slice-aggregate-read-file-18 : tie.Need-slice-aggregate-read-file-18
+slice-aggregate-read-file-18 c = search needs
+
 read-file-requires-9 : tie.Need-read-file-requires-9
 read-file-requires-9 c κs = search needs
 
-slice-aggregate-read-file-10 : tie.Need-slice-aggregate-read-file-10
-slice-aggregate-read-file-10 c = search needs
+slice-aggregate-read-file-19 : tie.Need-slice-aggregate-read-file-19
+slice-aggregate-read-file-19 c = search needs
+
+slice-aggregate-read-file-20 : tie.Need-slice-aggregate-read-file-20
+slice-aggregate-read-file-20 c = search needs
 
 read-file-requires-10 : tie.Need-read-file-requires-10
 read-file-requires-10 c κs = search needs
@@ -143,24 +173,34 @@ main-spec =
     tie.close
     (tie.spec
     slice-aggregate-read-file
-    read-file-requires
     slice-aggregate-read-file-2
-    read-file-requires-2
+    read-file-requires
     slice-aggregate-read-file-3
-    read-file-requires-3
     slice-aggregate-read-file-4
-    read-file-requires-4
+    read-file-requires-2
     slice-aggregate-read-file-5
-    read-file-requires-5
     slice-aggregate-read-file-6
-    read-file-requires-6
+    read-file-requires-3
     slice-aggregate-read-file-7
-    read-file-requires-7
     slice-aggregate-read-file-8
-    read-file-requires-8
+    read-file-requires-4
     slice-aggregate-read-file-9
-    read-file-requires-9
     slice-aggregate-read-file-10
+    read-file-requires-5
+    slice-aggregate-read-file-11
+    slice-aggregate-read-file-12
+    read-file-requires-6
+    slice-aggregate-read-file-13
+    slice-aggregate-read-file-14
+    read-file-requires-7
+    slice-aggregate-read-file-15
+    slice-aggregate-read-file-16
+    read-file-requires-8
+    slice-aggregate-read-file-17
+    slice-aggregate-read-file-18
+    read-file-requires-9
+    slice-aggregate-read-file-19
+    slice-aggregate-read-file-20
     read-file-requires-10
     array-share-prefix-run
     slice-aggregate-report

@@ -61,17 +61,18 @@ put-byte-requires-2 c κs =
     let b = h .before .before .before .before .before in
     let d = b .before .before .before .before in
     let s = d .before .before .before .before in
-    omega
-    (arith,
-    few (d .before .before),
-    s .pre,
-    d .put-decimal .ensures .after,
-    d .put-decimal .kept .1 .0,
-    b .put-byte .ensures .after,
-    b .put-byte .kept .1 .0,
-    h .put-hex .ensures .after,
-    length-hex 8 (h .before .before .score-bits .result),
-    h .put-hex .kept .1 .1 .0)
+    omega (
+      arith,
+      few (d .before .before),
+      s .pre,
+      d .put-decimal .ensures .after,
+      d .put-decimal .kept .1 .0,
+      b .put-byte .ensures .after,
+      b .put-byte .kept .1 .0,
+      h .put-hex .ensures .after,
+      length-hex 8 (h .before .before .score-bits .result),
+      h .put-hex .kept .1 .1 .0,
+    )
 
 same-length : tie.Need-same-length
 same-length c = search needs
@@ -89,8 +90,8 @@ returns c =
     let blank = put-more (d .put-decimal .last .1 .0) (d .put-decimal .result) (32 ∷ []) text (b .put-byte .result) (e .put-byte2 .result) (b .put-byte .last .1 .0) (e .put-byte2 .last .1 .0) (b .put-byte .ensures) hex in
     let all = put-more out (s .args .at) (decimal (d .before .before .document .result)) (32 ∷ text) (d .put-decimal .result) (e .put-byte2 .result) (d .put-decimal .last .1 .0) (e .put-byte2 .last .1 .0) (d .put-decimal .ensures) blank in
     let line = put-same out (s .args .at) (decimal (d .before .before .document .result) ++ (32 ∷ text)) (hitLine (s .args .code)) (e .put-byte2 .result) (e .put-byte2 .last .1 .0)
-        (line-is (s .args .code) (d .before .before .document .result) (h .before .before .score-bits .result) (document-is (d .before .before)) (h .before .before .score-bits .ensures ∙ ap scoreBits (same s)))
-        all in
+    (line-is (s .args .code) (d .before .before .document .result) (h .before .before .score-bits .result) (document-is (d .before .before)) (h .before .before .score-bits .ensures ∙ ap scoreBits (same s)))
+    all in
     (line, omega (arith, line .after, line-short (s .args .code)))
 
 pub put-hit-spec : {M : Type 1} → statement M

@@ -50,11 +50,12 @@ loop-again c =
     let p = c .before .before in
     let i = p .before .before .before in
     let l = i .before in
-    let s = l .before .before in
-    (lines-next (s .args .out .now) (s .args .at) (s .args .codes .now) (l .loop .i) (l .loop .next) (p .put-hit .result) (l .loop .out) (p .put-hit .last .1 .0) (toZ w64 (ofZ w64 (getD (s .args .codes .now) (l .loop .i) (pos 0)))) (i .loop-test .taken) (toZ-ofZ w64 (getD (s .args .codes .now) (l .loop .i) (pos 0)) (record { sfits = p .before .before .put-hit-arg .given })) (l .loop .inv .0) (p .put-hit .ensures .0),
-    p .put-hit .kept .1 .0 ∙ l .loop .inv .1,
-    omega (arith, i .loop-test .taken),
-    omega (arith, l .loop .inv .3, p .put-hit .ensures .1))
+    let s = l .before .before in (
+      lines-next (s .args .out .now) (s .args .at) (s .args .codes .now) (l .loop .i) (l .loop .next) (p .put-hit .result) (l .loop .out) (p .put-hit .last .1 .0) (toZ w64 (ofZ w64 (getD (s .args .codes .now) (l .loop .i) (pos 0)))) (i .loop-test .taken) (toZ-ofZ w64 (getD (s .args .codes .now) (l .loop .i) (pos 0)) (record { sfits = p .before .before .put-hit-arg .given })) (l .loop .inv .0) (p .put-hit .ensures .0),
+      p .put-hit .kept .1 .0 ∙ l .loop .inv .1,
+      omega (arith, i .loop-test .taken),
+      omega (arith, l .loop .inv .3, p .put-hit .ensures .1),
+    )
 
 same-length : tie.Need-same-length Inv-loop μ-loop
 same-length c = c .before .loop .inv .1

@@ -42,9 +42,10 @@ returns : tie.Need-returns
 returns c =
     let t = c .before .before in
     let s = start (t .before) in
-    let front = put-front (s .args .out .now) _ (c .put-refused .result) (c .put-refused .last .1 .0) (c .put-refused .ensures) in
-    (counted (c .put-refused .result) (c .put-refused .last .1 .0) (put-room (s .args .out .now) _ (c .put-refused .result) (c .put-refused .last .1 .0) (c .put-refused .ensures)),
-    front ∙ refused-files (filesOf s) (sym (t .before .taken .ensures) ∙ not-true (t .before .taken .result) (t .if1 .taken)))
+    let front = put-front (s .args .out .now) _ (c .put-refused .result) (c .put-refused .last .1 .0) (c .put-refused .ensures) in (
+      counted (c .put-refused .result) (c .put-refused .last .1 .0) (put-room (s .args .out .now) _ (c .put-refused .result) (c .put-refused .last .1 .0) (c .put-refused .ensures)),
+      front ∙ refused-files (filesOf s) (sym (t .before .taken .ensures) ∙ not-true (t .before .taken .result) (t .if1 .taken)),
+    )
 
 slice-aggregate-read-words : tie.Need-slice-aggregate-read-words
 slice-aggregate-read-words c = search needs
@@ -171,7 +172,7 @@ returns-2 c =
     let s = start (e .before) in
     let a = s .args in
     let text =
-        taken-files (a .run .now) (a .fields .now) (a .leaves .now) (a .postings .now) (a .positions .now) (a .norms .now) (a .live .now) (a .columns .now) (a .values .now) (a .query .now) (all-taken e) (w1 .word-at .result) (w2 .word-at2 .result) (w3 .word-at3 .result) _ _ _ _ _ _ _ _ (w1 .word-at .ensures) (w2 .word-at2 .ensures) (w3 .word-at3 .ensures) (r1 .read-words .ensures .1) (r2 .read-words2 .ensures .1) (r3 .read-words3 .ensures .1) (r4 .read-words4 .ensures .1) (r5 .read-longs .ensures .1) (r6 .read-words5 .ensures .1) (r7 .read-words6 .ensures .1) (r8 .read-words7 .ensures .1) in
+    taken-files (a .run .now) (a .fields .now) (a .leaves .now) (a .postings .now) (a .positions .now) (a .norms .now) (a .live .now) (a .columns .now) (a .values .now) (a .query .now) (all-taken e) (w1 .word-at .result) (w2 .word-at2 .result) (w3 .word-at3 .result) _ _ _ _ _ _ _ _ (w1 .word-at .ensures) (w2 .word-at2 .ensures) (w3 .word-at3 .ensures) (r1 .read-words .ensures .1) (r2 .read-words2 .ensures .1) (r3 .read-words3 .ensures .1) (r4 .read-words4 .ensures .1) (r5 .read-longs .ensures .1) (r6 .read-words5 .ensures .1) (r7 .read-words6 .ensures .1) (r8 .read-words7 .ensures .1) in
     let p = c .answer .ensures in
     (counted (c .answer .result) (c .answer .last .1 .1 .1 .1 .1 .1 .1 .1 .1 .1 .1 .1 .0) (put-room (a .out .now) _ (c .answer .result) (c .answer .last .1 .1 .1 .1 .1 .1 .1 .1 .1 .1 .1 .1 .0) p), p .holds ∙ text)
 
