@@ -4,5 +4,7 @@ pub mod Filling
 pub mod Counting
 pub mod Numbers
 pub mod Lines
+pub mod Scores
 pub mod Answering
 pub mod Taken
+pub mod Example
