@@ -15,16 +15,12 @@ int main(void) {
         7, 2, 1, TWO, 0, 0, 0, 0, 0, /* Should Boost 2 */
         6, 0, 1, 0, 0, 0, 0, 0, 0, /* of ConstantScore */
         1, 0, 0, 1, 0, 0, 0, 0, 0}; /* of leaf 1 */
-    const uint32_t no_words[1] = {0};
-    const uint8_t no_bytes[1] = {0};
-    const uint64_t all_live[1] = {0};
-    uint32_t states[LOT_STATES(54)], ranges[1];
-    int32_t starts[1], other_starts[1];
-    int64_t hits[2];
-    uint64_t answer[LOT_SEARCH_ANSWER];
-    uint32_t refusal = lot_search(4, fields, 3, leaves, 8, postings, 12, no_words, 0, no_bytes, 0, all_live, 0,
-        no_words, 0, no_words, 0, query, 54, 2, 10, states, LOT_STATES(54), starts, 0, other_starts, 0, ranges, 0,
-        hits, 2, answer, LOT_SEARCH_ANSWER);
+    uint32_t states[LOT_STATES(54)] = {0};
+    int64_t hits[2] = {0};
+    uint64_t answer[LOT_SEARCH_ANSWER] = {0};
+    /* no positions, norms, live words, columns or values, and so no phrase or range buffers */
+    uint32_t refusal = lot_search(4, fields, 3, leaves, 8, postings, 12, NULL, 0, NULL, 0, NULL, 0, NULL, 0, NULL, 0,
+        query, 54, 2, 10, states, LOT_STATES(54), NULL, 0, NULL, 0, NULL, 0, hits, 2, answer, LOT_SEARCH_ANSWER);
     if (refusal != 0) return printf("refused %u\n", (unsigned)refusal), 1;
     printf("count %llu%s\n", (unsigned long long)answer[1], answer[2] ? "+" : "");
     for (uint64_t i = 0; i < answer[0]; i++)

@@ -1,12 +1,17 @@
 /* Ranked lot search: the proved entries Search, Page and Pick.
  *
- * Link target/staticlib/liblot_search.a (rt staticlib lot_search). Every slice is a pointer and a number of elements;
- * where the number is 0 the pointer is not read, but must not be null. Slices must not overlap where one is written.
- * Nothing is kept between calls, and no memory is allocated: calls on different buffers may run at the same time.
+ * Link target/staticlib/liblot_search.a (rt staticlib lot_search), for x86-64 Linux. Nothing is kept between calls and no
+ * memory is allocated: calls with written buffers of their own may run at the same time.
  *
- * Each entry returns 0, or the lowest number of document 01 whose condition holds for what is lent. A refused call
- * leaves every buffer as it was. Lend only the leaves, fields and columns that the order names: each call checks all
- * that it is lent. */
+ * Every slice is a pointer and a number of elements. What is proved is proved of calls that keep to this:
+ * - The pointer is aligned for its elements, and all of them lie there and have been written once, with any value, in
+ *   work and output buffers too. Where the number is 0 the pointer is not used, and may be null.
+ * - A slice that is written (those without const) overlaps no other slice. Those that are only read may overlap.
+ * - Nothing else reads what is written, or changes what is lent, while the call runs.
+ *
+ * Each entry returns 0, or the lowest number of document 01 whose condition holds for what is lent; a slice `answer` that
+ * is too short is a buffer too short, 12. A refused call leaves every buffer as it was, `answer` too. Lend only the
+ * leaves, fields and columns that the order names: each call checks all that it is lent. */
 #ifndef LOT_SEARCH_H
 #define LOT_SEARCH_H
 
@@ -41,7 +46,7 @@ extern "C" {
 /* ---- A hit is one signed 64-bit code: the larger code ranks first ---- */
 
 static inline uint32_t lot_hit_document(int64_t hit) { return LOT_NO_MORE_DOCS - (uint32_t)((uint64_t)hit & 0xffffffffu); }
-/* the score's bits as an IEEE 754 binary32; every score is finite and has a clear sign */
+/* the score's bits as an IEEE 754 binary32 with a clear sign; finite, but for a plus infinity that was lent to Pick */
 static inline uint32_t lot_hit_score_bits(int64_t hit) { return (uint32_t)((uint64_t)hit >> 32); }
 
 /* Search: the best k of the live documents that the query takes, larger score first, lower document first among equals.

@@ -1,13 +1,13 @@
 -- A phrase's idf, as the code adds it up, and the bounds of what a leaf scores by. Assumes nothing.
 use mathlib.Core.Path.{_≡_, refl, sym, _∙_, ap, subst}
-use mathlib.Core.Bool.{Bool, true, false, cond, not}
+use mathlib.Core.Bool.{not}
 use mathlib.Core.List.{List, [], _∷_, _++_, map}
 use Prim.Native.Nat.{ℕ, zero, suc, _+_, _*_, _/_, _^_, _≤_, _<_}
 use native.Mathlib.Omega.{arith}
 use native.Mathlib.Numerals.{add-one}
 use lib.Dec.{T}
 use lib.ListN.{length, getD}
-use lib.Ieee.{Float, isNan, nanBits, binary32, binary64, add, ofBits}
+use lib.Ieee.{Float, nan, isNan, nanBits, binary32, binary64, add, ofBits}
 use Rattle.meaning.specs.Below.{listTo}
 use Rattle.meaning.specs.Lent.{Index, leafCount, leafIdf}
 use Rattle.meaning.specs.Ieee754.{zeroFloat, narrow, sumFrom, narrowedSum}
@@ -17,7 +17,9 @@ use Rattle.meaning.specs.Score.{phraseIdf}
 use Rattle.index.specs.Accepted.{Accepted}
 use Rattle.ieee754.specs.Nonneg.{AtMost}
 use Rattle.ieee754.proofs.Bounds.{atmost-number}
-use Rattle.sim.proofs.ScoreBounds.{idf-atmost}
+use Rattle.ieee754.proofs.Sums.{each-of}
+use Rattle.meaning.proofs.Below.{length-listTo, getD-listTo}
+use Rattle.sim.proofs.ScoreBounds.{idf-atmost, phrase-idf-atmost}
 use Rattle.ieee754.proofs.Patterns.{pattern-number}
 
 -- ---- a leaf's idf
@@ -75,3 +77,16 @@ idf-not-nan ix l x a h e = subst (λ (z : Float). T (not (isNan z))) (sym e) (at
 
 pub idf-small : (ix : Index) (l : ℕ) (x : Float) → Accepted ix → l < leafCount ix → x ≡ ofBits binary32 (leafIdf ix l) → AtMost (2 ^ 6) x
 idf-small ix l x a h e = subst (λ (z : Float). AtMost (2 ^ 6) z) (sym e) (idf-atmost (leafIdf ix l) (a .leaf l h .idf))
+
+-- of a phrase whose leaves are there
+pub phrase-idf-small : (ix : Index) (q : List ℕ) (at : ℕ) → Accepted ix → recordChildren q at ≤ 32 → ((j : ℕ) → j < recordChildren q at → recordValue q (at + 1 + j) 0 < leafCount ix) → AtMost (2 ^ 11) (phraseIdf ix (phraseTermsOf q at))
+unfolding phraseIdf
+phrase-idf-small ix q at a few there =
+    let n = recordChildren q at in
+    let idfs = listTo n (idfAt ix q at) in
+    let long = length-listTo n (idfAt ix q at) in
+    subst (λ (zs : List Float). AtMost (2 ^ 11) (narrowedSum zs)) (sym (map-floats n (λ j. record { leaf = recordValue q (at + 1 + j) 0; offset = recordValue q (at + 1 + j) 1 }) (λ t. ofBits binary32 (leafIdf ix (t .leaf))))) (phrase-idf-atmost idfs (each-of (2 ^ 6) idfs (λ j h. one j (omega (arith, long, h)))) (omega (arith, long, few)))
+  where
+    one : (j : ℕ) → j < recordChildren q at → AtMost (2 ^ 6) (getD (listTo (recordChildren q at) (idfAt ix q at)) j nan)
+    one j h =
+        subst (λ (z : Float). AtMost (2 ^ 6) z) (sym (getD-listTo (recordChildren q at) (idfAt ix q at) nan j h)) (idf-atmost (leafIdf ix (recordValue q (at + 1 + j) 0)) (a .leaf (recordValue q (at + 1 + j) 0) (there j h) .idf))

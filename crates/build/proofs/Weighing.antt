@@ -3,25 +3,30 @@ use mathlib.Core.Path.{_≡_, refl, sym, _∙_, ap}
 use mathlib.Core.Bool.{Bool, true, false, cond}
 use mathlib.Core.List.{List}
 use mathlib.Core.Option.{some}
-use Prim.Native.Nat.{ℕ, _-_, _^_, _≤_}
+use Prim.Native.Nat.{ℕ, zero, suc, _+_, _-_, _*_, _^_, _≤_}
+use native.Mathlib.Nat.{le-refl}
+use native.Mathlib.Omega.{arith}
 use lib.Dec.{lit≤}
+use lib.ListN.{length}
 use lib.Ieee.{Float, binary32, ofBits}
 use Rattle.meaning.specs.Lent.{Index, leafIdf}
 use Rattle.meaning.specs.Ieee754.{zeroFloat}
 use Rattle.meaning.specs.Bm25.{weight}
 use Rattle.meaning.specs.Phrase.{PhraseTerm}
 use Rattle.meaning.specs.Range.{NumericRange}
-use Rattle.meaning.specs.Query.{Tree, recordKind, recordValue, Decoded, decode}
+use Rattle.meaning.specs.Query.{Tree, recordKind, recordChildren, recordValue, phraseTermsOf, Decoded, decode}
 use Rattle.meaning.specs.Query
 use Rattle.meaning.specs.Score.{phraseIdf, boosted}
 use Rattle.meaning.specs.Scorer.{hasScorer}
-use Rattle.query.proofs.Inverse.{term-at}
+use Rattle.meaning.proofs.Below.{length-listTo}
+use Rattle.query.proofs.Inverse.{term-at, phrase-at}
 use Rattle.ieee754.specs.Nonneg.{AtMost}
 use Rattle.ieee754.proofs.Bounds.{atmost-more}
 use Rattle.sim.proofs.ScoreBounds.{weight-atmost, phrase-weight-atmost}
 use Rattle.weight.proofs.Standing.{deep}
 use Rattle.weight.proofs.Clauses.{absent, present}
-use Rattle.weight.specs.ScorerTree.{term, phrase, range, everything, constant, leaf}
+use Rattle.weight.specs.ScorerTree.{Leaf, nothing, term, phrase, range, everything, constant, Scorer, leaf, boolean}
+use Rattle.weight.specs.State.{leafSize, sizeOf}
 use Rattle.weight.specs.Weigh.{weigh, noScorer}
 use Rattle.build.specs.Placed.{scoringOf, keptOf}
 
@@ -37,6 +42,10 @@ module _ (ix : Index) (b : Float) (f : Bool) (x : Float) where
   pub weigh-boost : (v : ℕ) (t : Tree) → weigh ix (Query.boost v t) b (keptOf f x) ≡ weigh ix t (boosted b v) (keptOf f x)
   unfolding weigh
   weigh-boost v t = refl
+
+  pub weigh-none : weigh ix Query.matchNone b (keptOf f x) ≡ noScorer
+  unfolding weigh
+  weigh-none = refl
 
 module _ (ix : Index) (b x : Float) where
   pub weigh-range : (f : Bool) (r : NumericRange) → weigh ix (Query.range r) b (keptOf f x) ≡ leaf (range r) (constant (cond f x b))
@@ -88,3 +97,55 @@ module _ (ix : Index) (q : List ℕ) (k at : ℕ) (D : Decoded) (e : decode q k 
       ∙ weigh-term ix b x f l (ap (hasScorer ix) (ap Query.term m ∙ sym tree-is) ∙ present here (hasScorer ix (D .tree)) is z)
       ∙ ap (λ (y : Float). leaf (term l) (scoringOf f (cond f x (weight b y)))) (sym i)
       ∙ ap (λ (y : Float). leaf (term l) (scoringOf f y)) (sym s)
+
+-- ---- the Phrase at a record
+module _ (ix : Index) (q : List ℕ) (k at : ℕ) (D : Decoded) (e : decode q k at ≡ some D) (kind : recordKind q at ≡ 2) (b x : Float) (f : Bool) (here : ℕ) (is : here ≡ cond (hasScorer ix (D .tree)) 1 0) where
+  phrase-is : D .tree ≡ Query.phrase (recordValue q at 0) (phraseTermsOf q at)
+  phrase-is = phrase-at q (k - 1) at D (deep q k at D e) kind .tree-is
+
+  pub phrase-nothing : here ≡ 0 → weigh ix (D .tree) b (keptOf f x) ≡ noScorer
+  phrase-nothing z =
+      ap (λ (t : Tree). weigh ix t b (keptOf f x)) phrase-is
+      ∙ weigh-phrase-none ix b f x (recordValue q at 0) (phraseTermsOf q at) (ap (hasScorer ix) (sym phrase-is) ∙ absent here (hasScorer ix (D .tree)) is z)
+
+  phrase-weighed : (here ≡ 0 → ⊥) → weigh ix (D .tree) b (keptOf f x) ≡ leaf (phrase (recordValue q at 0) (phraseTermsOf q at)) (scoringOf f (cond f x (weight b (phraseIdf ix (phraseTermsOf q at)))))
+  phrase-weighed z =
+      ap (λ (t : Tree). weigh ix t b (keptOf f x)) phrase-is
+      ∙ weigh-phrase ix b x f (recordValue q at 0) (phraseTermsOf q at) (ap (hasScorer ix) (sym phrase-is) ∙ present here (hasScorer ix (D .tree)) is z)
+
+  pub phrase-there : (idf score : Float) → (here ≡ 0 → ⊥) → idf ≡ phraseIdf ix (phraseTermsOf q at) → score ≡ cond f x (weight b idf) → weigh ix (D .tree) b (keptOf f x) ≡ leaf (phrase (recordValue q at 0) (phraseTermsOf q at)) (scoringOf f score)
+  phrase-there idf score z i s =
+      phrase-weighed z
+      ∙ ap (λ (y : Float). leaf (phrase (recordValue q at 0) (phraseTermsOf q at)) (scoringOf f (cond f x (weight b y)))) (sym i)
+      ∙ ap (λ (y : Float). leaf (phrase (recordValue q at 0) (phraseTermsOf q at)) (scoringOf f y)) (sym s)
+
+  -- its terms have room after its record
+  pub phrase-room : (words : ℕ) → sizeOf (weigh ix (D .tree) b (keptOf f x)) ≤ words → here ≡ 1 → 24 + 24 * recordChildren q at ≤ words
+  unfolding sizeOf leafSize
+  phrase-room words h one =
+      let many = length-listTo {A = PhraseTerm} (recordChildren q at) (λ j. record { leaf = recordValue q (at + 1 + j) 0; offset = recordValue q (at + 1 + j) 1 }) in
+      let size : sizeOf (weigh ix (D .tree) b (keptOf f x)) ≡ 24 + 24 * length (phraseTermsOf q at) = ap sizeOf (phrase-weighed (λ z. not-both here z one)) in
+      omega (arith, many, size, h)
+    where
+      not-both : (n : ℕ) → n ≡ 0 → n ≡ 1 → ⊥
+      not-both n e f = omega (arith, e, f)
+
+-- a word that is 0 or 1
+pub only-one : (x : ℕ) → x ≤ 1 → (x ≡ 0 → ⊥) → x ≡ 1
+only-one zero h n = absurd (n refl)
+only-one (suc zero) h n = refl
+only-one (suc (suc x)) h n = absurd (omega (arith, h))
+
+-- ---- every part has a record
+leaf-least : (l : Leaf) → 24 ≤ leafSize l
+unfolding leafSize
+leaf-least nothing = le-refl 24
+leaf-least (term l) = le-refl 24
+leaf-least (phrase f ts) = omega arith
+leaf-least (range r) = le-refl 24
+leaf-least everything = le-refl 24
+
+pub size-least : (s : Scorer) → 24 ≤ sizeOf s
+unfolding sizeOf
+size-least (leaf l sc) = leaf-least l
+size-least (boolean c j need rs os ps) = omega arith

@@ -25,7 +25,9 @@ use crate::place::put;
 use crate::place::word;
 
 // Must and Should pass the boost on, Filter and MustNot pass 0.
-fn passed_on(occurrence: u32, boost: f32) -> f32 {
+fn passed_on(occurrence: u32, boost: f32) -> f32
+    ensures { λ r. ⌜ ((x : Occur) → occurOf occurrence ≡ some x → r ≡ passed x boost) ⌝ }
+{
     match occurrence {
         1 => boost,
         2 => boost,
@@ -291,7 +293,7 @@ fn place_boolean(
         places,
         counts,
         at,
-        2,
+        2, // the optional
         boost,
         depth - 1,
     );
@@ -308,7 +310,7 @@ fn place_boolean(
         places,
         counts,
         at,
-        3,
+        3, // the prohibited
         boost,
         depth - 1,
     );
@@ -330,7 +332,9 @@ fn place_boolean(
 }
 
 // With msm 0 and something required, the Should sum is added to the required score.
-fn joins_afterwards(required: bool, msm: u32) -> bool {
+fn joins_afterwards(required: bool, msm: u32) -> bool
+    ensures { λ r. ⌜ r ≡ (required && eqb msm 0) ⌝ }
+{
     required && msm == 0
 }
 
@@ -390,7 +394,7 @@ pub fn place(
             at + 1,
             true,
             kept_or(fixed, kept, boost),
-            0.0,
+            0.0, // not the boost
             scores,
             depth - 1,
         ),

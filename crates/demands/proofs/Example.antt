@@ -1,5 +1,5 @@
--- The premises of the theorem of pages can be met: three documents, the query that takes all, and a refused call between two pages. Assumes nothing.
-use mathlib.Core.Path.{refl}
+-- The premises of the theorems of pages and of Search can be met: three documents, the query that takes all, a refused call between two pages, and a search for two hits. Assumes nothing.
+use mathlib.Core.Path.{_≡_, refl}
 use mathlib.Core.List.{List, [], _∷_}
 use Prim.Native.Nat.{ℕ}
 use lib.Ieee.{lt, ofBits}
@@ -9,11 +9,11 @@ use Rattle.meaning.specs.Query.{decode, decodeKind, decodeQuery, queryTree}
 use Rattle.meaning.specs.Refusals.{lowest}
 use Rattle.meaning.specs.Below.{anyBelow, countBelow, largestBelow, listBelow}
 use Rattle.meaning.specs.Live.{isLive}
-use Rattle.meaning.specs.CallRefusals.{rangeRecords, rangesNeeded, startsNeeded, startsShort, statesNeeded, workShort, wrong12Page, wrong13Page}
+use Rattle.meaning.specs.CallRefusals.{rangeRecords, rangesNeeded, startsNeeded, startsShort, statesNeeded, workShort, wrong11, wrong12Page, wrong12Search, wrong13Page}
 use Rattle.meaning.specs.FullList.{fullList, matches}
 use Rattle.meaning.specs.Takes.{takes}
 use Rattle.meaning.specs.Pages.{firstDoc, fromTarget, page}
-use Rattle.meaning.specs.Entries.{pageAnswer, pageRefusal}
+use Rattle.meaning.specs.Entries.{pageAnswer, pageRefusal, searchRefusal}
 use Rattle.meaning.specs.Lent.{Index}
 use Rattle.demands.specs.Demands.{Accepts, Call, refusalOf, answerOf, answered, Follow}
 
@@ -34,3 +34,7 @@ example-accepts = refl
 example-follows : Follow three everything 0 (answered three everything (call 0 ∷ call 9 ∷ call 2 ∷ []))
 unfolding wrong1 wrong2 wrong3 wrong4 wrong5 wrong6 wrong7 wrongRecords wrong8 wrongValues wrongKind unusedFrom wrong9 aboveLimit carriesAbove wrong10 decodeQuery decode decodeKind queryTree lowest anyBelow lt ofBits pageRefusal pageAnswer wrong12Page workShort statesNeeded startsShort startsNeeded largestBelow rangesNeeded rangeRecords countBelow wrong13Page matches fullList listBelow isLive takes fromTarget firstDoc page Follow answered refusalOf answerOf
 example-follows = (refl, (refl, tt))
+
+example-search : searchRefusal three everything 2 (record { states = 24; starts = 0; otherStarts = 0; ranges = 0 }) 2 ≡ 0
+unfolding wrong1 wrong2 wrong3 wrong4 wrong5 wrong6 wrong7 wrongRecords wrong8 wrongValues wrongKind unusedFrom wrong9 aboveLimit carriesAbove wrong10 decodeQuery decode decodeKind queryTree lowest anyBelow lt ofBits searchRefusal wrong11 wrong12Search workShort statesNeeded startsShort startsNeeded largestBelow rangesNeeded rangeRecords countBelow
+example-search = refl

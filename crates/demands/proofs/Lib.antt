@@ -3,6 +3,9 @@ pub mod Lists
 pub mod Rising
 pub mod Pages
 pub mod Ranked
+pub mod Accepting
+pub mod Small
 pub mod Rankable
 pub mod Search
+pub mod Hits
 pub mod Example

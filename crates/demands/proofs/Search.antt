@@ -29,14 +29,14 @@ module _ (ix : Index) (q : List ℕ) (k t : ℕ) (w : Work) where
   abbrev all : List ScoreDoc
   all = fullList ix (queryTree q)
 
-  answer-is : (places : ℕ) → searchRefusal ix q k w places ≡ 0 → searchAnswer ix q k t w places ≡ topDocs k t all
+  pub answer-is : (places : ℕ) → searchRefusal ix q k w places ≡ 0 → searchAnswer ix q k t w places ≡ topDocs k t all
   unfolding searchAnswer
   answer-is places r = rw r
 
   held-is : (places : ℕ) → searchRefusal ix q k w places ≡ 0 → getD (searchAnswer ix q k t w places) 1 0 ≡ length (hits k all)
   held-is places r = ap (λ (l : List ℕ). getD l 1 0) (answer-is places r)
 
-  wrote-is : (buffer : List ℤ) → searchRefusal ix q k w (length buffer) ≡ 0 → take (getD (searchAnswer ix q k t w (length buffer)) 1 0) (searchHits ix q k w buffer) ≡ hits k all
+  pub wrote-is : (buffer : List ℤ) → searchRefusal ix q k w (length buffer) ≡ 0 → take (getD (searchAnswer ix q k t w (length buffer)) 1 0) (searchHits ix q k w buffer) ≡ hits k all
   unfolding searchHits
   wrote-is buffer r = rw r (take-at (hits k all) (drop (length (hits k all)) buffer) (getD (searchAnswer ix q k t w (length buffer)) 1 0) (sym (held-is (length buffer) r)))
 

@@ -4,7 +4,7 @@ ghost use mathlib.Core.Path.{_≡_};
 ghost use mathlib.Core.List.{[], _∷_};
 ghost use Prim.Native.Nat.{_≤_, _<_, _+_, _%_};
 ghost use lib.ListN.{length, take};
-ghost use lib.IntN.{subℕ};
+ghost use lib.IntN.{pos, subℕ};
 ghost use Rattle.meaning.specs.Phrase.{commonSize};
 ghost use Rattle.phrase.specs.Terms.{termAt, startsOf, startLists, GoodTerm, Good, Room, Rarest};
 ghost use Rattle.phrase.specs.Common.{Ascending, Common, unmetFrom, Candidates, Left, Meets};
@@ -28,12 +28,22 @@ fn wide(x: u32) -> usize
     x as usize
 }
 
+// A word below 2^31 as a signed number.
+fn signed(x: u32) -> i32
+    requires { ⌜ x ≤ 2147483647 ⌝ }
+    ensures { λ r. ⌜ r ≡ pos x ⌝ }
+{
+    x as i32
+}
+
 // Where the phrase would start, given a position of one of its terms: below 0 for a term too near the front.
 fn start(position: u32, offset: u32) -> i32
     requires { ⌜ (position ≤ 2147483647) × (offset ≤ 2147483647) ⌝ }
     ensures { λ r. ⌜ r ≡ subℕ position offset ⌝ }
 {
-    position as i32 - offset as i32
+    let p = signed(position);
+    let o = signed(offset);
+    p - o
 }
 
 // The first record with the least frequency.

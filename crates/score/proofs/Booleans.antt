@@ -15,13 +15,13 @@ use Rattle.ieee754.proofs.Bounds.{atmost-number, zero-atmost}
 use Rattle.weight.specs.ScorerTree.{Scorers, end, more, Joining, oneMore, afterwards, scoring, requiredScores, optionalScores, allMatch}
 use Rattle.weight.specs.State.{sizesOf, sizesOfFirst}
 use Rattle.weight.specs.Held.{Oks}
-use Rattle.weight.specs.Sound.{leavesOf}
+use Rattle.weight.specs.Sound.{nodesOf}
 use Rattle.score.specs.declared.Node.{Node}
 use Rattle.score.specs.Asked.{LentAt, Scorables, SumIs, RequiredPre, RequiredPost, OptionalPre, OptionalPost, JoinPre, JoinPost, JoinAsks, JoinIs, JoinsAt, PartsAre}
 use Rattle.score.proofs.Bounds.{scores-narrow}
 use Rattle.scorer.proofs.Bounds.{oks-length}
 use Rattle.score.proofs.Loops.{put}
-use Rattle.score.proofs.Join.{firstOf, restOf, first-sounds, first-tables, first-leaves, first-matches, oks-split, oks-join, group-is, joined-more, joined-sum, joined-after}
+use Rattle.score.proofs.Join.{firstOf, restOf, first-sounds, first-tables, first-nodes, first-matches, oks-split, oks-join, group-is, joined-more, joined-sum, joined-after}
 
 -- ---- a list in three parts
 mid-part : (x v z kids : List ℕ) (a e : ℕ) → kids ≡ x ++ (v ++ z) → length x ≡ a → a + length v ≡ e → take (e - a) (drop a kids) ≡ v
@@ -102,7 +102,7 @@ module _ (kids : List ℕ) (node : Node) (n : ℕ) (postings positions norms ran
   -- the group's sum, and the words after it
   abbrev pub Grouped : Float → List ℕ → Type 0
   Grouped sum kids₁ =
-      (ix : Index) (j : Joining) (rs os : Scorers) (rest : List ℕ) → LentAt ix n postings positions norms doc → JoinAsks ix table places j rs os node doc → PartsAre ix ranges rs os depth doc rest kids → SumIs zeroFloat (optionalScores ix os doc) (leavesOf os) sum × PartsAre ix ranges rs os depth doc rest kids₁
+      (ix : Index) (j : Joining) (rs os : Scorers) (rest : List ℕ) → LentAt ix n postings positions norms doc → JoinAsks ix table places j rs os node doc → PartsAre ix ranges rs os depth doc rest kids → SumIs zeroFloat (optionalScores ix os doc) (nodesOf os) sum × PartsAre ix ranges rs os depth doc rest kids₁
 
   pub grouped : (sum : Float) (ys : List ℕ) → OptionalPost (take (oe - re) (drop re kids)) n postings positions norms ranges table places doc depth sum ys → Grouped sum (put kids re oe ys)
   grouped sum ys post ix j rs os rest L K Q =
@@ -110,8 +110,8 @@ module _ (kids : List ℕ) (node : Node) (n : ℕ) (postings positions norms ran
       (q .0, record { required = Q .required; optional = ys; is = mid-back (Q .required) (Q .optional) rest kids re oe (Q .is) (required-long ix j rs os rest K (Q .required) (Q .required-ok)) (optional-long ix j rs os rest K (Q .optional) (Q .optional-ok)) ys; required-ok = Q .required-ok; optional-ok = q .1 })
 
   module _ (osum : Float) (kids₁ : List ℕ) (G : Grouped osum kids₁) (g : Float) (g-is : g ≡ narrow osum) where
-    group-of : (ix : Index) (j : Joining) (rs os : Scorers) (rest : List ℕ) → LentAt ix n postings positions norms doc → JoinAsks ix table places j rs os node doc → PartsAre ix ranges rs os depth doc rest kids → (g ≡ narrowedSum (optionalScores ix os doc)) × AtMost (leavesOf os * 2 ^ 29) g
-    group-of ix j rs os rest L K Q = let h : leavesOf os ≤ 256 = omega (arith, K .few) in group-is (optionalScores ix os doc) (leavesOf os) osum g h (G ix j rs os rest L K Q .0) g-is
+    group-of : (ix : Index) (j : Joining) (rs os : Scorers) (rest : List ℕ) → LentAt ix n postings positions norms doc → JoinAsks ix table places j rs os node doc → PartsAre ix ranges rs os depth doc rest kids → (g ≡ narrowedSum (optionalScores ix os doc)) × AtMost (nodesOf os * 2 ^ 29) g
+    group-of ix j rs os rest L K Q = let h : nodesOf os ≤ 256 = omega (arith, K .few) in group-is (optionalScores ix os doc) (nodesOf os) osum g h (G ix j rs os rest L K Q .0) g-is
 
     pub group-number : Pre → T (not (isNan g))
     group-number P = atmost-number (group-of (P .0) (P .1) (P .2) (P .3) (P .4) (P .5) (P .6) (P .7) .1)
@@ -132,16 +132,16 @@ module _ (kids : List ℕ) (node : Node) (n : ℕ) (postings positions norms ran
           (P .0, P .2, 0, P .5, scorables-at same (P .6 .required), P .6 .all, all-ok (P .0) (P .1) (P .2) (P .3) (P .4) (P .6) (G (P .0) (P .1) (P .2) (P .3) (P .4) (P .5) (P .6) (P .7) .1), zero-small)
 
       module _ (sum : Float) (ys : List ℕ) (post : RequiredPost (take re kids₁) z n postings positions norms ranges table places′ doc depth sum ys) where
-        after-sum : (ix : Index) (j : Joining) (rs os : Scorers) (rest : List ℕ) → LentAt ix n postings positions norms doc → JoinAsks ix table places j rs os node doc → PartsAre ix ranges rs os depth doc rest kids → SumIs zeroFloat (scoring (requiredScores ix rs doc)) (leavesOf rs) sum × Oks ix ranges rs depth ys doc
+        after-sum : (ix : Index) (j : Joining) (rs os : Scorers) (rest : List ℕ) → LentAt ix n postings positions norms doc → JoinAsks ix table places j rs os node doc → PartsAre ix ranges rs os depth doc rest kids → SumIs zeroFloat (scoring (requiredScores ix rs doc)) (nodesOf rs) sum × Oks ix ranges rs depth ys doc
         after-sum ix j rs os rest L K Q =
             let q = post ix rs 0 L (scorables-at same (K .required)) (K .all) (all-ok ix j rs os rest K (G ix j rs os rest L K Q .1)) zero-small in
-            (sum-of (scoring (requiredScores ix rs doc)) (leavesOf rs) sum (q .0), q .1)
+            (sum-of (scoring (requiredScores ix rs doc)) (nodesOf rs) sum (q .0), q .1)
 
         pub after-number : Pre → (w : Float) → w ≡ narrow sum → T (not (isNan w))
         after-number P w e =
             let q = after-sum (P .0) (P .1) (P .2) (P .3) (P .4) (P .5) (P .6) (P .7) in
-            let h : leavesOf (P .2) ≤ 256 = omega (arith, P .6 .few) in
-            subst (λ (y : Float). T (not (isNan y))) (sym e) (atmost-number (scores-narrow (leavesOf (P .2)) sum h (q .0 .small)))
+            let h : nodesOf (P .2) ≤ 256 = omega (arith, P .6 .few) in
+            subst (λ (y : Float). T (not (isNan y))) (sym e) (atmost-number (scores-narrow (nodesOf (P .2)) sum h (q .0 .small)))
 
         pub after-done : node .afterwards ≡ 1 → (w two r : Float) → w ≡ narrow sum → two ≡ add binary64 w g → r ≡ narrow two → JoinPost kids node n postings positions norms ranges table places doc depth r (ys ++ drop re kids₁)
         after-done a w two r e f h ix j rs os rest L K Q =
@@ -191,10 +191,10 @@ module _ (kids : List ℕ) (node : Node) (n : ℕ) (postings positions norms ran
 
         module _ (ix : Index) (j : Joining) (rs os : Scorers) (rest : List ℕ) (K : JoinAsks ix table places j rs os node doc) (m : ℕ) where
           first-scorables : Scorables ix table places′ 0 (firstOf m rs)
-          first-scorables = scorables-at same (record { sound = first-sounds ix places m rs (K .required .sound) .0; tables = first-tables ix table m rs (K .required .tables) .0; few = omega (arith, K .few, first-leaves m rs) })
+          first-scorables = scorables-at same (record { sound = first-sounds ix places m rs (K .required .sound) .0; tables = first-tables ix table m rs (K .required .tables) .0; few = omega (arith, K .few, first-nodes m rs) })
 
-          rest-scorables : Scorables ix table places′ (leavesOf (firstOf m rs) + leavesOf os) (restOf m rs)
-          rest-scorables = scorables-at same (record { sound = first-sounds ix places m rs (K .required .sound) .1; tables = first-tables ix table m rs (K .required .tables) .1; few = omega (arith, K .few, first-leaves m rs) })
+          rest-scorables : Scorables ix table places′ (nodesOf (firstOf m rs) + nodesOf os) (restOf m rs)
+          rest-scorables = scorables-at same (record { sound = first-sounds ix places m rs (K .required .sound) .1; tables = first-tables ix table m rs (K .required .tables) .1; few = omega (arith, K .few, first-nodes m rs) })
 
         front-ok : (ix : Index) (j : Joining) (rs os : Scorers) (rest : List ℕ) (w : List ℕ) (k : Cut ix j rs os rest w) → Oks ix ranges (firstOf (k .m) rs) depth (take ga w) doc
         front-ok ix j rs os rest w k = subst (λ (l : List ℕ). Oks ix ranges (firstOf (k .m) rs) depth l doc) (sym (front-part (k .x) (k .y ++ (k .v ++ rest)) w ga (k .is) (k .first-long))) (k .first-ok)
@@ -210,7 +210,7 @@ module _ (kids : List ℕ) (node : Node) (n : ℕ) (postings positions norms ran
 
           pub record Front (ix : Index) (j : Joining) (rs os : Scorers) (rest : List ℕ) : Type 0 where
             pub parts : Cut ix j rs os rest kids₂
-            pub sum-is : SumIs zeroFloat (scoring (requiredScores ix (firstOf (parts .m) rs) doc)) (leavesOf (firstOf (parts .m) rs)) front
+            pub sum-is : SumIs zeroFloat (scoring (requiredScores ix (firstOf (parts .m) rs) doc)) (nodesOf (firstOf (parts .m) rs)) front
 
           front-of : (ix : Index) (j : Joining) (rs os : Scorers) (rest : List ℕ) → LentAt ix n postings positions norms doc → JoinAsks ix table places j rs os node doc → PartsAre ix ranges rs os depth doc rest kids → Front ix j rs os rest
           front-of ix j rs os rest L K Q =
@@ -218,28 +218,28 @@ module _ (kids : List ℕ) (node : Node) (n : ℕ) (postings positions norms ran
               let q = post ix (firstOf (k .m) rs) 0 L (first-scorables ix j rs os rest K (k .m)) (first-matches ix doc (k .m) rs (K .all) .0) (front-ok ix j rs os rest kids₁ k) zero-small in
               record {
                 parts = record { m = k .m; joins = k .joins; x = xs; y = k .y; v = k .v; is = front-back (k .x) (k .y ++ (k .v ++ rest)) kids₁ ga (k .is) (k .first-long) xs; first-long = long ∙ ap length (front-part (k .x) (k .y ++ (k .v ++ rest)) kids₁ ga (k .is) (k .first-long)) ∙ k .first-long; rest-long = k .rest-long; first-ok = q .1; rest-ok = k .rest-ok; group-ok = k .group-ok };
-                sum-is = sum-of (scoring (requiredScores ix (firstOf (k .m) rs) doc)) (leavesOf (firstOf (k .m) rs)) front (q .0);
+                sum-is = sum-of (scoring (requiredScores ix (firstOf (k .m) rs) doc)) (nodesOf (firstOf (k .m) rs)) front (q .0);
               }
 
           module _ (places″ : ℕ) (same″ : places″ ≡ places′) (sum : Float) (sum-of-two : sum ≡ add binary64 front g) where
             rest-part : (ix : Index) (j : Joining) (rs os : Scorers) (rest : List ℕ) (k : Cut ix j rs os rest kids₂) → Oks ix ranges (restOf (k .m) rs) depth (take (re - ga) (drop ga kids₂)) doc
             rest-part ix j rs os rest k = subst (λ (l : List ℕ). Oks ix ranges (restOf (k .m) rs) depth l doc) (sym (mid-part (k .x) (k .y) (k .v ++ rest) kids₂ ga re (k .is) (k .first-long) (k .rest-long))) (k .rest-ok)
 
-            rest-small : (ix : Index) (j : Joining) (rs os : Scorers) (rest : List ℕ) → LentAt ix n postings positions norms doc → JoinAsks ix table places j rs os node doc → PartsAre ix ranges rs os depth doc rest kids → (f : Front ix j rs os rest) → AtMost ((leavesOf (firstOf (f .parts .m) rs) + leavesOf os) * 2 ^ 29) sum
+            rest-small : (ix : Index) (j : Joining) (rs os : Scorers) (rest : List ℕ) → LentAt ix n postings positions norms doc → JoinAsks ix table places j rs os node doc → PartsAre ix ranges rs os depth doc rest kids → (f : Front ix j rs os rest) → AtMost ((nodesOf (firstOf (f .parts .m) rs) + nodesOf os) * 2 ^ 29) sum
             rest-small ix j rs os rest L K Q f = let o = group-of ix j rs os rest L K Q in joined-sum ix doc rs os (K .few) g (o .0) (o .1) (f .parts .m) front sum (f .sum-is) sum-of-two
 
             pub rest-asks : Pre → RequiredPre (take (re - ga) (drop ga kids₂)) sum n postings positions norms ranges table places″ doc depth
             rest-asks P =
                 let f = front-of (P .0) (P .1) (P .2) (P .3) (P .4) (P .5) (P .6) (P .7) in
                 let k = f .parts in
-                (P .0, restOf (k .m) (P .2), leavesOf (firstOf (k .m) (P .2)) + leavesOf (P .3), P .5, scorables-at same″ (rest-scorables (P .0) (P .1) (P .2) (P .3) (P .4) (P .6) (k .m)), first-matches (P .0) doc (k .m) (P .2) (P .6 .all) .1, rest-part (P .0) (P .1) (P .2) (P .3) (P .4) k, rest-small (P .0) (P .1) (P .2) (P .3) (P .4) (P .5) (P .6) (P .7) f)
+                (P .0, restOf (k .m) (P .2), nodesOf (firstOf (k .m) (P .2)) + nodesOf (P .3), P .5, scorables-at same″ (rest-scorables (P .0) (P .1) (P .2) (P .3) (P .4) (P .6) (k .m)), first-matches (P .0) doc (k .m) (P .2) (P .6 .all) .1, rest-part (P .0) (P .1) (P .2) (P .3) (P .4) k, rest-small (P .0) (P .1) (P .2) (P .3) (P .4) (P .5) (P .6) (P .7) f)
 
             pub rest-done : (all : Float) (ys : List ℕ) → RequiredPost (take (re - ga) (drop ga kids₂)) sum n postings positions norms ranges table places″ doc depth all ys → (r : Float) → r ≡ narrow all → JoinPost kids node n postings positions norms ranges table places doc depth r (put kids₂ ga re ys)
             rest-done all ys last r h ix j rs os rest L K Q =
                 let f = front-of ix j rs os rest L K Q in
                 let k = f .parts in
                 let o = group-of ix j rs os rest L K Q in
-                let q = last ix (restOf (k .m) rs) (leavesOf (firstOf (k .m) rs) + leavesOf os) L (scorables-at same″ (rest-scorables ix j rs os rest K (k .m))) (first-matches ix doc (k .m) rs (K .all) .1) (rest-part ix j rs os rest k) (rest-small ix j rs os rest L K Q f) in (
+                let q = last ix (restOf (k .m) rs) (nodesOf (firstOf (k .m) rs) + nodesOf os) L (scorables-at same″ (rest-scorables ix j rs os rest K (k .m))) (first-matches ix doc (k .m) rs (K .all) .1) (rest-part ix j rs os rest k) (rest-small ix j rs os rest L K Q f) in (
                   subst (λ (i : Joining). JoinIs ix i rs os doc r) (sym (k .joins)) (joined-more ix doc rs os (K .few) g (o .0) (o .1) (k .m) front sum all r (f .sum-is) sum-of-two (q .0) h),
                   record {
                     required = k .x ++ ys;

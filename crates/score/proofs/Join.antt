@@ -13,7 +13,7 @@ use Rattle.ieee754.specs.Nonneg.{AtMost}
 use Rattle.weight.specs.ScorerTree.{Scorer, Scorers, end, more, matches, allMatch, Joining, oneMore, afterwards, joinedScore, scorerScore, scoring, withGroup, requiredScores, optionalScores}
 use Rattle.weight.specs.State.{sizesOf, sizesOfFirst}
 use Rattle.weight.specs.Held.{Ok, Oks}
-use Rattle.weight.specs.Sound.{Sounds, TablesOf, leaves, leavesOf}
+use Rattle.weight.specs.Sound.{Sounds, TablesOf, nodes, nodesOf}
 use Rattle.score.specs.Asked.{Scorables, SumIs, JoinIs, JoinsAt, PartsAre}
 use Rattle.score.proofs.Bounds.{scores-add, scores-narrow, scores-more}
 use Rattle.scorer.proofs.Bounds.{ok-length}
@@ -48,11 +48,11 @@ first-tables ix table zero ss p = (tt, p)
 first-tables ix table (suc n) end p = (tt, tt)
 first-tables ix table (suc n) (more f T g) p = let q = first-tables ix table n g (p .1) in ((p .0, q .0), q .1)
 
-pub first-leaves : (n : ℕ) (ss : Scorers) → leavesOf (firstOf n ss) + leavesOf (restOf n ss) ≡ leavesOf ss
-unfolding leavesOf firstOf restOf
-first-leaves zero ss = omega arith
-first-leaves (suc n) end = omega arith
-first-leaves (suc n) (more f T g) = omega (arith, first-leaves n g)
+pub first-nodes : (n : ℕ) (ss : Scorers) → nodesOf (firstOf n ss) + nodesOf (restOf n ss) ≡ nodesOf ss
+unfolding nodesOf firstOf restOf
+first-nodes zero ss = omega arith
+first-nodes (suc n) end = omega arith
+first-nodes (suc n) (more f T g) = omega (arith, first-nodes n g)
 
 pub first-matches : (ix : Index) (d n : ℕ) (ss : Scorers) → allMatch ix ss d ≡ true → (allMatch ix (firstOf n ss) d ≡ true) × (allMatch ix (restOf n ss) d ≡ true)
 unfolding allMatch firstOf restOf
@@ -113,31 +113,31 @@ pub group-is : (xs : List Float) (p : ℕ) (r g : Float) → p ≤ 256 → SumIs
 unfolding narrowedSum
 group-is xs p r g h s e = (e ∙ ap narrow (s .is), subst (λ (z : Float). AtMost (p * 2 ^ 29) z) (sym e) (scores-narrow p r h (s .small)))
 
-module _ (ix : Index) (doc : ℕ) (rs os : Scorers) (few : leavesOf rs + leavesOf os ≤ 256) (g : Float) (is-group : g ≡ narrowedSum (optionalScores ix os doc)) (small : AtMost (leavesOf os * 2 ^ 29) g) where
+module _ (ix : Index) (doc : ℕ) (rs os : Scorers) (few : nodesOf rs + nodesOf os ≤ 256) (g : Float) (is-group : g ≡ narrowedSum (optionalScores ix os doc)) (small : AtMost (nodesOf os * 2 ^ 29) g) where
   -- the group joins as one more
-  pub joined-more : (n : ℕ) (front sum all r : Float) → SumIs zeroFloat (scoring (requiredScores ix (firstOf n rs) doc)) (leavesOf (firstOf n rs)) front → sum ≡ add binary64 front g → SumIs sum (scoring (requiredScores ix (restOf n rs) doc)) (leavesOf (firstOf n rs) + leavesOf os + leavesOf (restOf n rs)) all → r ≡ narrow all → JoinIs ix (oneMore n) rs os doc r
+  pub joined-more : (n : ℕ) (front sum all r : Float) → SumIs zeroFloat (scoring (requiredScores ix (firstOf n rs) doc)) (nodesOf (firstOf n rs)) front → sum ≡ add binary64 front g → SumIs sum (scoring (requiredScores ix (restOf n rs) doc)) (nodesOf (firstOf n rs) + nodesOf os + nodesOf (restOf n rs)) all → r ≡ narrow all → JoinIs ix (oneMore n) rs os doc r
   unfolding joinedScore narrowedSum sumFrom
   joined-more n front sum all r a e b q =
       let xs = scoring (requiredScores ix (firstOf n rs) doc) in
       let ys = scoring (requiredScores ix (restOf n rs) doc) in
-      let m : leavesOf (firstOf n rs) + leavesOf os + leavesOf (restOf n rs) ≡ leavesOf rs + leavesOf os = omega (arith, first-leaves n rs) in
+      let m : nodesOf (firstOf n rs) + nodesOf os + nodesOf (restOf n rs) ≡ nodesOf rs + nodesOf os = omega (arith, first-nodes n rs) in
       let t : all ≡ sumFrom zeroFloat (withGroup n g (requiredScores ix rs doc)) =
       b .is ∙ ap (λ (z : Float). sumFrom z ys) (e ∙ ap (λ (z : Float). add binary64 z g) (a .is)) ∙ sym (sum-append zeroFloat xs (g ∷ ys)) ∙ ap (λ (l : List Float). sumFrom zeroFloat l) (sym (with-group ix doc n g rs)) in
       record {
         is = q ∙ ap narrow t ∙ ap (λ (z : Float). narrow (sumFrom zeroFloat (withGroup n z (requiredScores ix rs doc)))) is-group;
-        small = subst (λ (z : Float). AtMost ((leavesOf rs + leavesOf os) * 2 ^ 29) z) (sym q) (scores-narrow (leavesOf rs + leavesOf os) all few (subst (λ (i : ℕ). AtMost (i * 2 ^ 29) all) m (b .small)));
+        small = subst (λ (z : Float). AtMost ((nodesOf rs + nodesOf os) * 2 ^ 29) z) (sym q) (scores-narrow (nodesOf rs + nodesOf os) all few (subst (λ (i : ℕ). AtMost (i * 2 ^ 29) all) m (b .small)));
       }
 
-  pub joined-sum : (n : ℕ) (front sum : Float) → SumIs zeroFloat (scoring (requiredScores ix (firstOf n rs) doc)) (leavesOf (firstOf n rs)) front → sum ≡ add binary64 front g → AtMost ((leavesOf (firstOf n rs) + leavesOf os) * 2 ^ 29) sum
-  joined-sum n front sum a e = subst (λ (z : Float). AtMost ((leavesOf (firstOf n rs) + leavesOf os) * 2 ^ 29) z) (sym e) (scores-add (leavesOf (firstOf n rs)) (leavesOf os) front g (omega (arith, first-leaves n rs)) (a .small) small)
+  pub joined-sum : (n : ℕ) (front sum : Float) → SumIs zeroFloat (scoring (requiredScores ix (firstOf n rs) doc)) (nodesOf (firstOf n rs)) front → sum ≡ add binary64 front g → AtMost ((nodesOf (firstOf n rs) + nodesOf os) * 2 ^ 29) sum
+  joined-sum n front sum a e = subst (λ (z : Float). AtMost ((nodesOf (firstOf n rs) + nodesOf os) * 2 ^ 29) z) (sym e) (scores-add (nodesOf (firstOf n rs)) (nodesOf os) front g (omega (arith, first-nodes n rs)) (a .small) small)
 
   -- the group joins after the required sum is narrowed
-  pub joined-after : (sum wide two r : Float) → SumIs zeroFloat (scoring (requiredScores ix rs doc)) (leavesOf rs) sum → wide ≡ narrow sum → two ≡ add binary64 wide g → r ≡ narrow two → JoinIs ix afterwards rs os doc r
+  pub joined-after : (sum wide two r : Float) → SumIs zeroFloat (scoring (requiredScores ix rs doc)) (nodesOf rs) sum → wide ≡ narrow sum → two ≡ add binary64 wide g → r ≡ narrow two → JoinIs ix afterwards rs os doc r
   unfolding joinedScore narrowedSum
   joined-after sum wide two r a e b q =
       record {
         is = q ∙ ap narrow (b ∙ ap (λ (z : Float). add binary64 z g) (e ∙ ap narrow (a .is))) ∙ ap (λ (z : Float). narrow (add binary64 (narrow (sumFrom zeroFloat (scoring (requiredScores ix rs doc)))) z)) is-group;
-        small = subst (λ (z : Float). AtMost ((leavesOf rs + leavesOf os) * 2 ^ 29) z) (sym (q ∙ ap narrow b))
-            (scores-narrow (leavesOf rs + leavesOf os) (add binary64 wide g) few
-            (scores-add (leavesOf rs) (leavesOf os) wide g few (subst (λ (z : Float). AtMost (leavesOf rs * 2 ^ 29) z) (sym e) (scores-narrow (leavesOf rs) sum (omega arith) (a .small))) small));
+        small = subst (λ (z : Float). AtMost ((nodesOf rs + nodesOf os) * 2 ^ 29) z) (sym (q ∙ ap narrow b))
+            (scores-narrow (nodesOf rs + nodesOf os) (add binary64 wide g) few
+            (scores-add (nodesOf rs) (nodesOf os) wide g few (subst (λ (z : Float). AtMost (nodesOf rs * 2 ^ 29) z) (sym e) (scores-narrow (nodesOf rs) sum (omega arith) (a .small))) small));
       }

@@ -18,7 +18,7 @@ use Rattle.ieee754.proofs.Bounds.{atmost-number, zero-atmost}
 use Rattle.weight.specs.ScorerTree.{Scorer, Scorers, more, matches, allMatch, scoring, requiredScores, optionalScores}
 use Rattle.weight.specs.State.{sizeOf}
 use Rattle.weight.specs.Held.{Ok, Oks}
-use Rattle.weight.specs.Sound.{leavesOf}
+use Rattle.weight.specs.Sound.{nodesOf}
 use Rattle.score.specs.Words.{ChildThere}
 use Rattle.scorer.specs.Contracts.{lent, RoomIn, NodeHeld, AdvancePre, AdvancePost}
 use Rattle.score.specs.Asked.{LentAt, Scorable, Scorables, ScoreIs, SumIs, ScorePre, ScorePost, RequiredPre, RequiredPost, OptionalPre, OptionalPost}
@@ -46,7 +46,7 @@ put kids at e ys = take at kids ++ (ys ++ drop (e - at) (drop at kids))
 module _ (kids₀ : List ℕ) (start : Float) (n : ℕ) (postings positions norms ranges : List ℕ) (table : List Float) (places doc depth : ℕ) where
   abbrev pub RequiredAt : List ℕ → ℕ → Float → Type 0
   RequiredAt kids at sum =
-      (ix : Index) (ss : Scorers) (p : ℕ) → LentAt ix n postings positions norms doc → Scorables ix table places p ss → allMatch ix ss doc ≡ true → Oks ix ranges ss depth kids₀ doc → AtMost (p * 2 ^ 29) start → (g : Scorers) × SumAt scores-word ix ranges table places depth doc ss (sumFrom start (counted scores-word ix ss doc)) (p + leavesOf ss) g kids at sum
+      (ix : Index) (ss : Scorers) (p : ℕ) → LentAt ix n postings positions norms doc → Scorables ix table places p ss → allMatch ix ss doc ≡ true → Oks ix ranges ss depth kids₀ doc → AtMost (p * 2 ^ 29) start → (g : Scorers) × SumAt scores-word ix ranges table places depth doc ss (sumFrom start (counted scores-word ix ss doc)) (p + nodesOf ss) g kids at sum
 
   pub required-start : RequiredAt kids₀ 0 start
   required-start ix ss p L S m o a = (ss, sum-start scores-word ix ranges table places depth doc ss start p kids₀ o a (S .sound) (S .tables) (required-matched ix ss doc m))
@@ -55,25 +55,25 @@ module _ (kids₀ : List ℕ) (start : Float) (n : ℕ) (postings positions norm
     pub required-end : length kids ≤ at → RequiredPost kids₀ start n postings positions norms ranges table places doc depth sum kids
     required-end l ix ss p L S m o a =
         let i = I ix ss p L S m o a in
-        let e = sum-end scores-word ix ranges table places depth doc ss (sumFrom start (counted scores-word ix ss doc)) (p + leavesOf ss) kids at sum (S .few) (i .0) (i .1) l in
+        let e = sum-end scores-word ix ranges table places depth doc ss (sumFrom start (counted scores-word ix ss doc)) (p + nodesOf ss) kids at sum (S .few) (i .0) (i .1) l in
         (record { is = e .0 ∙ ap (λ (xs : List Float). sumFrom start xs) (required-counted ix ss doc); small = e .1 }, e .2)
 
     module _ (l : at < length kids) where
       -- the child at the place
-      abbrev open-at : (ix : Index) (ss : Scorers) (p : ℕ) → LentAt ix n postings positions norms doc → Scorables ix table places p ss → allMatch ix ss doc ≡ true → Oks ix ranges ss depth kids₀ doc → AtMost (p * 2 ^ 29) start → (f : Bool) × (S : Scorer) × (g : Scorers) × SumAt scores-word ix ranges table places depth doc ss (sumFrom start (counted scores-word ix ss doc)) (p + leavesOf ss) (more f S g) kids at sum
-      open-at ix ss p L S m o a = let i = I ix ss p L S m o a in sum-open scores-word ix ranges table places depth doc ss (sumFrom start (counted scores-word ix ss doc)) (p + leavesOf ss) kids at sum (i .0) (i .1) l
+      abbrev open-at : (ix : Index) (ss : Scorers) (p : ℕ) → LentAt ix n postings positions norms doc → Scorables ix table places p ss → allMatch ix ss doc ≡ true → Oks ix ranges ss depth kids₀ doc → AtMost (p * 2 ^ 29) start → (f : Bool) × (S : Scorer) × (g : Scorers) × SumAt scores-word ix ranges table places depth doc ss (sumFrom start (counted scores-word ix ss doc)) (p + nodesOf ss) (more f S g) kids at sum
+      open-at ix ss p L S m o a = let i = I ix ss p L S m o a in sum-open scores-word ix ranges table places depth doc ss (sumFrom start (counted scores-word ix ss doc)) (p + nodesOf ss) kids at sum (i .0) (i .1) l
 
       pub required-there : RequiredPre kids₀ start n postings positions norms ranges table places doc depth → ChildThere kids at
       required-there P =
           let o = open-at (P .0) (P .1) (P .2) (P .3) (P .4) (P .5) (P .6) (P .7) in
-          sum-there scores-word (P .0) ranges table places depth doc (P .1) (sumFrom start (counted scores-word (P .0) (P .1) doc)) (P .2 + leavesOf (P .1)) kids at sum (o .0) (o .1) (o .2) (o .3)
+          sum-there scores-word (P .0) ranges table places depth doc (P .1) (sumFrom start (counted scores-word (P .0) (P .1) doc)) (P .2 + nodesOf (P .1)) kids at sum (o .0) (o .1) (o .2) (o .3)
 
       module _ (e : ℕ) (stop : e ≡ at + getD kids (at + 1) 0) where
         pub required-skip : (getD kids (at + 15) 0 ≡ 1 → ⊥) → RequiredAt kids e sum
         required-skip w ix ss p L S m o a =
             let i = open-at ix ss p L S m o a in
             let total = sumFrom start (counted scores-word ix ss doc) in
-            let most = p + leavesOf ss in
+            let most = p + nodesOf ss in
             (i .2, sum-skipped scores-word ix ranges table places depth doc ss total most kids at sum (i .0) (i .1) (i .2) (i .3) (no-score (i .0) (getD kids (at + 15) 0) (sum-scores scores-word ix ranges table places depth doc ss total most kids at sum (i .0) (i .1) (i .2) (i .3)) w) e stop)
 
         module _ (w : getD kids (at + 15) 0 ≡ 1) (places′ : ℕ) (same : places′ ≡ places) where
@@ -83,7 +83,7 @@ module _ (kids₀ : List ℕ) (start : Float) (n : ℕ) (postings positions norm
               let ss = P .1 in
               let o = open-at ix ss (P .2) (P .3) (P .4) (P .5) (P .6) (P .7) in
               let total = sumFrom start (counted scores-word ix ss doc) in
-              let most = P .2 + leavesOf ss in
+              let most = P .2 + nodesOf ss in
               let f : o .0 ≡ true = must-score (o .0) (getD kids (at + 15) 0) (sum-scores scores-word ix ranges table places depth doc ss total most kids at sum (o .0) (o .1) (o .2) (o .3)) w in
               (ix, o .1, cond (o .0) 1 0, P .3, scorable-at same (sum-scorable scores-word ix ranges table places depth doc ss total most kids at sum (o .0) (o .1) (o .2) (o .3) (P .4 .few)), sum-matched scores-word ix ranges table places depth doc ss total most kids at sum (o .0) (o .1) (o .2) (o .3) f, sum-part scores-word ix ranges table places depth doc ss total most kids at sum (o .0) (o .1) (o .2) (o .3) e stop)
 
@@ -95,7 +95,7 @@ module _ (kids₀ : List ℕ) (start : Float) (n : ℕ) (postings positions norm
             required-took sum′ s ix ss p L S m o a =
                 let i = open-at ix ss p L S m o a in
                 let total = sumFrom start (counted scores-word ix ss doc) in
-                let most = p + leavesOf ss in
+                let most = p + nodesOf ss in
                 let f : i .0 ≡ true = must-score (i .0) (getD kids (at + 15) 0) (sum-scores scores-word ix ranges table places depth doc ss total most kids at sum (i .0) (i .1) (i .2) (i .3)) w in
                 let q = post ix (i .1) (cond (i .0) 1 0) L (scorable-at same (sum-scorable scores-word ix ranges table places depth doc ss total most kids at sum (i .0) (i .1) (i .2) (i .3) (S .few))) (sum-matched scores-word ix ranges table places depth doc ss total most kids at sum (i .0) (i .1) (i .2) (i .3) f) (sum-part scores-word ix ranges table places depth doc ss total most kids at sum (i .0) (i .1) (i .2) (i .3) e stop) in
                 let z = sum-renewed scores-word ix ranges table places depth doc ss total most kids at sum (i .0) (i .1) (i .2) (i .3) e stop ys (q .1) in
@@ -105,14 +105,14 @@ module _ (kids₀ : List ℕ) (start : Float) (n : ℕ) (postings positions norm
 module _ (kids₀ : List ℕ) (n : ℕ) (postings positions norms ranges : List ℕ) (table : List Float) (places doc depth : ℕ) where
   abbrev pub OptionalAt : List ℕ → ℕ → Float → Type 0
   OptionalAt kids at sum =
-      (ix : Index) (ss : Scorers) → LentAt ix n postings positions norms doc → Scorables ix table places 0 ss → Oks ix ranges ss depth kids₀ doc → (g : Scorers) × SumAt (matches-at ix doc) ix ranges table places depth doc ss (sumFrom zeroFloat (counted (matches-at ix doc) ix ss doc)) (leavesOf ss) g kids at sum
+      (ix : Index) (ss : Scorers) → LentAt ix n postings positions norms doc → Scorables ix table places 0 ss → Oks ix ranges ss depth kids₀ doc → (g : Scorers) × SumAt (matches-at ix doc) ix ranges table places depth doc ss (sumFrom zeroFloat (counted (matches-at ix doc) ix ss doc)) (nodesOf ss) g kids at sum
 
   -- between advance and score: the child at the place stands at the document
   pub record Mid (ix : Index) (ss : Scorers) (kids : List ℕ) (at e : ℕ) (sum : Float) : Type 0 where
     pub f : Bool
     pub S : Scorer
     pub g : Scorers
-    pub at-child : SumAt (matches-at ix doc) ix ranges table places depth doc ss (sumFrom zeroFloat (counted (matches-at ix doc) ix ss doc)) (leavesOf ss) (more f S g) kids at sum
+    pub at-child : SumAt (matches-at ix doc) ix ranges table places depth doc ss (sumFrom zeroFloat (counted (matches-at ix doc) ix ss doc)) (nodesOf ss) (more f S g) kids at sum
     pub match : matches ix S doc ≡ true
     pub stop : e ≡ at + getD kids (at + 1) 0
 
@@ -120,29 +120,29 @@ module _ (kids₀ : List ℕ) (n : ℕ) (postings positions norms ranges : List 
   OptionalMid kids at e sum =
       (ix : Index) (ss : Scorers) → LentAt ix n postings positions norms doc → Scorables ix table places 0 ss → Oks ix ranges ss depth kids₀ doc → Mid ix ss kids at e sum
 
-  few-0 : {ix : Index} {ss : Scorers} → Scorables ix table places 0 ss → leavesOf ss ≤ 256
+  few-0 : {ix : Index} {ss : Scorers} → Scorables ix table places 0 ss → nodesOf ss ≤ 256
   few-0 S = omega (arith, S .few)
 
   pub optional-start : (x : Float) → x ≡ zeroFloat → OptionalAt kids₀ 0 x
   optional-start x e ix ss L S o =
-      let z : 0 + leavesOf ss ≡ leavesOf ss = omega arith in
-      (ss, subst (λ (i : ℕ). SumAt (matches-at ix doc) ix ranges table places depth doc ss (sumFrom zeroFloat (counted (matches-at ix doc) ix ss doc)) i ss kids₀ 0 x) z (subst (λ (y : Float). SumAt (matches-at ix doc) ix ranges table places depth doc ss (sumFrom zeroFloat (counted (matches-at ix doc) ix ss doc)) (0 + leavesOf ss) ss kids₀ 0 y) (sym e) (sum-start (matches-at ix doc) ix ranges table places depth doc ss zeroFloat 0 kids₀ o (zero-atmost _) (S .sound) (S .tables) (optional-matched ix ss doc))))
+      let z : 0 + nodesOf ss ≡ nodesOf ss = omega arith in
+      (ss, subst (λ (i : ℕ). SumAt (matches-at ix doc) ix ranges table places depth doc ss (sumFrom zeroFloat (counted (matches-at ix doc) ix ss doc)) i ss kids₀ 0 x) z (subst (λ (y : Float). SumAt (matches-at ix doc) ix ranges table places depth doc ss (sumFrom zeroFloat (counted (matches-at ix doc) ix ss doc)) (0 + nodesOf ss) ss kids₀ 0 y) (sym e) (sum-start (matches-at ix doc) ix ranges table places depth doc ss zeroFloat 0 kids₀ o (zero-atmost _) (S .sound) (S .tables) (optional-matched ix ss doc))))
 
   module _ (kids : List ℕ) (at : ℕ) (sum : Float) (I : OptionalAt kids at sum) where
     pub optional-end : length kids ≤ at → OptionalPost kids₀ n postings positions norms ranges table places doc depth sum kids
     optional-end l ix ss L S o =
         let i = I ix ss L S o in
-        let e = sum-end (matches-at ix doc) ix ranges table places depth doc ss (sumFrom zeroFloat (counted (matches-at ix doc) ix ss doc)) (leavesOf ss) kids at sum (few-0 S) (i .0) (i .1) l in
+        let e = sum-end (matches-at ix doc) ix ranges table places depth doc ss (sumFrom zeroFloat (counted (matches-at ix doc) ix ss doc)) (nodesOf ss) kids at sum (few-0 S) (i .0) (i .1) l in
         (record { is = e .0 ∙ ap (λ (xs : List Float). sumFrom zeroFloat xs) (optional-counted ix ss doc); small = e .1 }, e .2)
 
     module _ (l : at < length kids) where
-      abbrev opened : (ix : Index) (ss : Scorers) → LentAt ix n postings positions norms doc → Scorables ix table places 0 ss → Oks ix ranges ss depth kids₀ doc → (f : Bool) × (S : Scorer) × (g : Scorers) × SumAt (matches-at ix doc) ix ranges table places depth doc ss (sumFrom zeroFloat (counted (matches-at ix doc) ix ss doc)) (leavesOf ss) (more f S g) kids at sum
-      opened ix ss L S o = let i = I ix ss L S o in sum-open (matches-at ix doc) ix ranges table places depth doc ss (sumFrom zeroFloat (counted (matches-at ix doc) ix ss doc)) (leavesOf ss) kids at sum (i .0) (i .1) l
+      abbrev opened : (ix : Index) (ss : Scorers) → LentAt ix n postings positions norms doc → Scorables ix table places 0 ss → Oks ix ranges ss depth kids₀ doc → (f : Bool) × (S : Scorer) × (g : Scorers) × SumAt (matches-at ix doc) ix ranges table places depth doc ss (sumFrom zeroFloat (counted (matches-at ix doc) ix ss doc)) (nodesOf ss) (more f S g) kids at sum
+      opened ix ss L S o = let i = I ix ss L S o in sum-open (matches-at ix doc) ix ranges table places depth doc ss (sumFrom zeroFloat (counted (matches-at ix doc) ix ss doc)) (nodesOf ss) kids at sum (i .0) (i .1) l
 
       pub optional-there : OptionalPre kids₀ n postings positions norms ranges table places doc depth → ChildThere kids at
       optional-there P =
           let o = opened (P .0) (P .1) (P .2) (P .3) (P .4) in
-          sum-there (matches-at (P .0) doc) (P .0) ranges table places depth doc (P .1) (sumFrom zeroFloat (counted (matches-at (P .0) doc) (P .0) (P .1) doc)) (leavesOf (P .1)) kids at sum (o .0) (o .1) (o .2) (o .3)
+          sum-there (matches-at (P .0) doc) (P .0) ranges table places depth doc (P .1) (sumFrom zeroFloat (counted (matches-at (P .0) doc) (P .0) (P .1) doc)) (nodesOf (P .1)) kids at sum (o .0) (o .1) (o .2) (o .3)
 
       module _ (e : ℕ) (stop : e ≡ at + getD kids (at + 1) 0) (a b : ℕ) (same : min a b ≡ places) where
         pub optional-ask : OptionalPre kids₀ n postings positions norms ranges table places doc depth → AdvancePre (lent n postings positions ranges) a b (take (e - at) (drop at kids)) doc depth
@@ -151,7 +151,7 @@ module _ (kids₀ : List ℕ) (n : ℕ) (postings positions norms ranges : List 
             let ss = P .1 in
             let o = opened ix ss (P .2) (P .3) (P .4) in
             let total = sumFrom zeroFloat (counted (matches-at ix doc) ix ss doc) in
-            (omega (arith, P .2 .document, P .2 .lends .documents, P .2 .lends .accepted .documents), (ix, places, o .1, cond (o .0) 1 0, record { in-a = omega arith; in-b = omega arith }, record { lends = P .2 .lends; sound = sum-scorable (matches-at ix doc) ix ranges table places depth doc ss total (leavesOf ss) kids at sum (o .0) (o .1) (o .2) (o .3) (few-0 (P .3)) .sound; ok = sum-part (matches-at ix doc) ix ranges table places depth doc ss total (leavesOf ss) kids at sum (o .0) (o .1) (o .2) (o .3) e stop }))
+            (omega (arith, P .2 .document, P .2 .lends .documents, P .2 .lends .accepted .documents), (ix, places, o .1, cond (o .0) 1 0, record { in-a = omega arith; in-b = omega arith }, record { lends = P .2 .lends; sound = sum-scorable (matches-at ix doc) ix ranges table places depth doc ss total (nodesOf ss) kids at sum (o .0) (o .1) (o .2) (o .3) (few-0 (P .3)) .sound; ok = sum-part (matches-at ix doc) ix ranges table places depth doc ss total (nodesOf ss) kids at sum (o .0) (o .1) (o .2) (o .3) e stop }))
 
         module _ (r : ℕ) (ys : List ℕ) (post : AdvancePost (lent n postings positions ranges) (take (e - at) (drop at kids)) doc depth r ys) where
           -- what is known of the child after advance
@@ -159,7 +159,7 @@ module _ (kids₀ : List ℕ) (n : ℕ) (postings positions norms ranges : List 
             pub f : Bool
             pub S : Scorer
             pub g : Scorers
-            pub at-child : SumAt (matches-at ix doc) ix ranges table places depth doc ss (sumFrom zeroFloat (counted (matches-at ix doc) ix ss doc)) (leavesOf ss) (more f S g) (put kids at e ys) at sum
+            pub at-child : SumAt (matches-at ix doc) ix ranges table places depth doc ss (sumFrom zeroFloat (counted (matches-at ix doc) ix ss doc)) (nodesOf ss) (more f S g) (put kids at e ys) at sum
             pub first : First (matches ix S) doc r
             pub stop-is : e ≡ at + getD (put kids at e ys) (at + 1) 0
 
@@ -167,15 +167,15 @@ module _ (kids₀ : List ℕ) (n : ℕ) (postings positions norms ranges : List 
           moved ix ss L S o =
               let i = opened ix ss L S o in
               let total = sumFrom zeroFloat (counted (matches-at ix doc) ix ss doc) in
-              let q = post ix places (i .1) (cond (i .0) 1 0) (record { lends = L .lends; sound = sum-scorable (matches-at ix doc) ix ranges table places depth doc ss total (leavesOf ss) kids at sum (i .0) (i .1) (i .2) (i .3) (few-0 S) .sound; ok = sum-part (matches-at ix doc) ix ranges table places depth doc ss total (leavesOf ss) kids at sum (i .0) (i .1) (i .2) (i .3) e stop }) in
-              let z = sum-renewed (matches-at ix doc) ix ranges table places depth doc ss total (leavesOf ss) kids at sum (i .0) (i .1) (i .2) (i .3) e stop ys (q .1) in
+              let q = post ix places (i .1) (cond (i .0) 1 0) (record { lends = L .lends; sound = sum-scorable (matches-at ix doc) ix ranges table places depth doc ss total (nodesOf ss) kids at sum (i .0) (i .1) (i .2) (i .3) (few-0 S) .sound; ok = sum-part (matches-at ix doc) ix ranges table places depth doc ss total (nodesOf ss) kids at sum (i .0) (i .1) (i .2) (i .3) e stop }) in
+              let z = sum-renewed (matches-at ix doc) ix ranges table places depth doc ss total (nodesOf ss) kids at sum (i .0) (i .1) (i .2) (i .3) e stop ys (q .1) in
               record {
                 f = i .0;
                 S = i .1;
                 g = i .2;
                 at-child = z;
                 first = q .0;
-                stop-is = stop ∙ ap (λ (x : ℕ). at + x) (sum-size (matches-at ix doc) ix ranges table places depth doc ss total (leavesOf ss) kids at sum (i .0) (i .1) (i .2) (i .3) ∙ sym (sum-size (matches-at ix doc) ix ranges table places depth doc ss total (leavesOf ss) (put kids at e ys) at sum (i .0) (i .1) (i .2) z));
+                stop-is = stop ∙ ap (λ (x : ℕ). at + x) (sum-size (matches-at ix doc) ix ranges table places depth doc ss total (nodesOf ss) kids at sum (i .0) (i .1) (i .2) (i .3) ∙ sym (sum-size (matches-at ix doc) ix ranges table places depth doc ss total (nodesOf ss) (put kids at e ys) at sum (i .0) (i .1) (i .2) z));
               }
 
           pub optional-mid : r ≡ doc → OptionalMid (put kids at e ys) at e sum
@@ -188,7 +188,7 @@ module _ (kids₀ : List ℕ) (n : ℕ) (postings positions norms ranges : List 
           optional-left h ix ss L S o =
               let m = moved ix ss L S o in
               let after : doc < r = before doc r (m .first .from) h in
-              (m .g, sum-skipped (matches-at ix doc) ix ranges table places depth doc ss (sumFrom zeroFloat (counted (matches-at ix doc) ix ss doc)) (leavesOf ss) (put kids at e ys) at sum (m .f) (m .S) (m .g) (m .at-child) (m .first .before doc (le-refl _) after) e (m .stop-is))
+              (m .g, sum-skipped (matches-at ix doc) ix ranges table places depth doc ss (sumFrom zeroFloat (counted (matches-at ix doc) ix ss doc)) (nodesOf ss) (put kids at e ys) at sum (m .f) (m .S) (m .g) (m .at-child) (m .first .before doc (le-refl _) after) e (m .stop-is))
             where
               before : (a b : ℕ) → a ≤ b → (b ≡ a → ⊥) → a < b
               before a b g w = ⊎-elim (λ q. absurd (w (sym q))) (λ q. q) (eq-or-lt-of-le g)
@@ -200,7 +200,7 @@ module _ (kids₀ : List ℕ) (n : ℕ) (postings positions norms ranges : List 
         let ss = P .1 in
         let m = I ix ss (P .2) (P .3) (P .4) in
         let total = sumFrom zeroFloat (counted (matches-at ix doc) ix ss doc) in
-        (ix, m .S, cond (m .f) 1 0, P .2, scorable-at same (sum-scorable (matches-at ix doc) ix ranges table places depth doc ss total (leavesOf ss) kids at sum (m .f) (m .S) (m .g) (m .at-child) (few-0 (P .3))), m .match, sum-part (matches-at ix doc) ix ranges table places depth doc ss total (leavesOf ss) kids at sum (m .f) (m .S) (m .g) (m .at-child) e (m .stop))
+        (ix, m .S, cond (m .f) 1 0, P .2, scorable-at same (sum-scorable (matches-at ix doc) ix ranges table places depth doc ss total (nodesOf ss) kids at sum (m .f) (m .S) (m .g) (m .at-child) (few-0 (P .3))), m .match, sum-part (matches-at ix doc) ix ranges table places depth doc ss total (nodesOf ss) kids at sum (m .f) (m .S) (m .g) (m .at-child) e (m .stop))
 
     module _ (r : Float) (ys : List ℕ) (post : ScorePost (take (e - at) (drop at kids)) n postings positions norms ranges table places′ doc depth r ys) where
       pub optional-number : OptionalPre kids₀ n postings positions norms ranges table places doc depth → T (not (isNan r))
@@ -210,7 +210,7 @@ module _ (kids₀ : List ℕ) (n : ℕ) (postings positions norms ranges : List 
       optional-took sum′ s ix ss L S o =
           let m = I ix ss L S o in
           let total = sumFrom zeroFloat (counted (matches-at ix doc) ix ss doc) in
-          let q = post ix (m .S) (cond (m .f) 1 0) L (scorable-at same (sum-scorable (matches-at ix doc) ix ranges table places depth doc ss total (leavesOf ss) kids at sum (m .f) (m .S) (m .g) (m .at-child) (few-0 S))) (m .match) (sum-part (matches-at ix doc) ix ranges table places depth doc ss total (leavesOf ss) kids at sum (m .f) (m .S) (m .g) (m .at-child) e (m .stop)) in
-          let z = sum-renewed (matches-at ix doc) ix ranges table places depth doc ss total (leavesOf ss) kids at sum (m .f) (m .S) (m .g) (m .at-child) e (m .stop) ys (q .1) in
-          let h : e ≡ at + getD (put kids at e ys) (at + 1) 0 = m .stop ∙ ap (λ (x : ℕ). at + x) (sum-size (matches-at ix doc) ix ranges table places depth doc ss total (leavesOf ss) kids at sum (m .f) (m .S) (m .g) (m .at-child) ∙ sym (sum-size (matches-at ix doc) ix ranges table places depth doc ss total (leavesOf ss) (put kids at e ys) at sum (m .f) (m .S) (m .g) z)) in
-          (m .g, subst (λ (x : Float). SumAt (matches-at ix doc) ix ranges table places depth doc ss total (leavesOf ss) (m .g) (put kids at e ys) e x) (sym s) (sum-took (matches-at ix doc) ix ranges table places depth doc ss total (leavesOf ss) (put kids at e ys) at sum (m .f) (m .S) (m .g) z (few-0 S) (m .match) e h r (q .0)))
+          let q = post ix (m .S) (cond (m .f) 1 0) L (scorable-at same (sum-scorable (matches-at ix doc) ix ranges table places depth doc ss total (nodesOf ss) kids at sum (m .f) (m .S) (m .g) (m .at-child) (few-0 S))) (m .match) (sum-part (matches-at ix doc) ix ranges table places depth doc ss total (nodesOf ss) kids at sum (m .f) (m .S) (m .g) (m .at-child) e (m .stop)) in
+          let z = sum-renewed (matches-at ix doc) ix ranges table places depth doc ss total (nodesOf ss) kids at sum (m .f) (m .S) (m .g) (m .at-child) e (m .stop) ys (q .1) in
+          let h : e ≡ at + getD (put kids at e ys) (at + 1) 0 = m .stop ∙ ap (λ (x : ℕ). at + x) (sum-size (matches-at ix doc) ix ranges table places depth doc ss total (nodesOf ss) kids at sum (m .f) (m .S) (m .g) (m .at-child) ∙ sym (sum-size (matches-at ix doc) ix ranges table places depth doc ss total (nodesOf ss) (put kids at e ys) at sum (m .f) (m .S) (m .g) z)) in
+          (m .g, subst (λ (x : Float). SumAt (matches-at ix doc) ix ranges table places depth doc ss total (nodesOf ss) (m .g) (put kids at e ys) e x) (sym s) (sum-took (matches-at ix doc) ix ranges table places depth doc ss total (nodesOf ss) (put kids at e ys) at sum (m .f) (m .S) (m .g) z (few-0 S) (m .match) e h r (q .0)))

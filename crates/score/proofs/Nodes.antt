@@ -15,7 +15,7 @@ use Rattle.ieee754.proofs.Bounds.{atmost-more}
 use Rattle.weight.specs.ScorerTree.{Leaf, nothing, term, phrase, range, everything, Scoring, constant, weighted, Joining, oneMore, afterwards, Scorer, leaf, boolean, Scorers, end, more, leafMatches, matches, allMatch, anyMatches, matching, leafScore, scorerScore}
 use Rattle.weight.specs.State.{State, wordsOf, sizeOf, sizesOf}
 use Rattle.weight.specs.Held.{LeafIs, ScoringIs, KeptIs, JoiningIs, FloatIs, Ok, Oks}
-use Rattle.weight.specs.Sound.{Sound, Sounds, LeafTable, Tables, TablesOf, leaves, leavesOf}
+use Rattle.weight.specs.Sound.{Sound, Sounds, LeafTable, Tables, TablesOf, nodes, nodesOf}
 use Rattle.score.specs.declared.Node.{Node}
 use Rattle.score.specs.Words.{NodeIs}
 use Rattle.score.specs.Asked.{LentAt, Scorable, Scorables, ScoreIs, LeafAsks, LeafKept, LeafPost, JoinAsks, JoinIs, JoinPost, JoinsAt, PartsAre}
@@ -43,7 +43,7 @@ joins-at afterwards rs s a b e f p = e ∙ p
 module _ (ix : Index) (ranges : List ℕ) (table : List Float) (places k doc : ℕ) (st : List ℕ) (n : Node) (N : NodeIs st n) where
   -- a score that is the same for each document
   pub constant-is : (S : Scorer) (sc : ℕ) → Ok ix ranges S k sc st doc → n .constant ≡ 1 → T (not (nanBits binary32 (n .weight))) × ScoreIs ix S doc (ofBits binary32 (n .weight))
-  unfolding Ok ScoringIs KeptIs scorerScore leafScore leaves
+  unfolding Ok ScoringIs KeptIs scorerScore leafScore nodes
   constant-is (leaf l (constant c)) sc p e =
       let R = read st (p .1) (p .0) n (p .2) N in
       let f : FloatIs c (n .weight) = subst (λ (i : ℕ). FloatIs c i) (sym (R .weight-is)) (p .5 .1) in
@@ -53,8 +53,8 @@ module _ (ix : Index) (ranges : List ℕ) (table : List Float) (places k doc : �
   constant-is (boolean (some c) j need rs os ps) sc p e =
       let R = read st (p .1 ++ (p .2 ++ p .3)) (p .0) n (p .4) N in
       let f : FloatIs c (n .weight) = subst (λ (i : ℕ). FloatIs c i) (sym (R .weight-is)) (p .7 .kept .1) in
-      let m : 2 ^ 29 ≤ (1 + (leavesOf rs + (leavesOf os + leavesOf ps))) * 2 ^ 29 = omega arith in
-      (float-number c (n .weight) f, record { is = float-back c (n .weight) f; small = subst (λ (z : Float). AtMost ((1 + (leavesOf rs + (leavesOf os + leavesOf ps))) * 2 ^ 29) z) (sym (float-back c (n .weight) f)) (atmost-more m (f .small)) })
+      let m : 2 ^ 29 ≤ (1 + (nodesOf rs + (nodesOf os + nodesOf ps))) * 2 ^ 29 = omega arith in
+      (float-number c (n .weight) f, record { is = float-back c (n .weight) f; small = subst (λ (z : Float). AtMost ((1 + (nodesOf rs + (nodesOf os + nodesOf ps))) * 2 ^ 29) z) (sym (float-back c (n .weight) f)) (atmost-more m (f .small)) })
 
   -- a leaf by BM25
   pub record LeafAt (T : Scorer) (sc : ℕ) : Type 0 where
@@ -67,7 +67,7 @@ module _ (ix : Index) (ranges : List ℕ) (table : List Float) (places k doc : �
     pub done : (r : Float) (st′ : List ℕ) → (r ≡ leafScore ix l (weighted w) doc) × AtMost (2 ^ 29) r × LeafKept ix ranges l s doc st′ → ScoreIs ix T doc r × Ok ix ranges T k sc st′ doc
 
   pub leaf-at : (T : Scorer) (sc : ℕ) → Scorable ix table places T → matches ix T doc ≡ true → Ok ix ranges T k sc st doc → (n .constant ≡ 1 → ⊥) → (n .kind ≡ 3 → ⊥) → LeafAt T sc
-  unfolding Ok ScoringIs scorerScore leaves matches Sound Tables
+  unfolding Ok ScoringIs scorerScore nodes matches Sound Tables
   leaf-at (leaf l (constant c)) sc g m p i j = let R = read st (p .1) (p .0) n (p .2) N in absurd (i (R .constant-is ∙ p .5 .0))
   leaf-at (leaf l (weighted w)) sc g m p i j =
       let b : max doc (p .0 .cached - 1) ≡ doc = at-most-there (matches ix (leaf l (weighted w))) doc (p .0 .cached) m (p .6) in
@@ -109,7 +109,7 @@ module _ (ix : Index) (ranges : List ℕ) (table : List Float) (places k doc : �
     pub done : (r : Float) (kids′ : List ℕ) → length kids′ ≡ length kids → JoinIs ix j rs os doc r → PartsAre ix ranges rs os (k - 1) doc rest kids′ → ScoreIs ix T doc r × Ok ix ranges T k sc (take 24 st ++ (kids′ ++ drop (length st - 24) (drop 24 st))) doc
 
   pub node-at : (T : Scorer) (sc : ℕ) → Scorable ix table places T → matches ix T doc ≡ true → Ok ix ranges T k sc st doc → (n .constant ≡ 1 → ⊥) → n .kind ≡ 3 → NodeAt T sc (take (length st - 24) (drop 24 st))
-  unfolding Ok KeptIs scorerScore leaves matches Sound Tables
+  unfolding Ok KeptIs scorerScore nodes matches Sound Tables
   node-at (leaf l c) sc g m p i h = let R = read st (p .1) (p .0) n (p .2) N in absurd (leaf-kind ix ranges l (p .0) (p .1) (max doc (p .0 .cached - 1)) (p .4) (sym (R .kind-is) ∙ h))
   node-at (boolean (some c) j need rs os ps) sc g m p i h = let R = read st (p .1 ++ (p .2 ++ p .3)) (p .0) n (p .4) N in absurd (i (R .constant-is ∙ p .7 .kept .0))
   node-at (boolean none j need rs os ps) sc g m p i h =
@@ -137,7 +137,7 @@ module _ (ix : Index) (ranges : List ℕ) (table : List Float) (places k doc : �
         };
         parts = record { required = p .1; optional = p .2; is = same; required-ok = subst (λ (x : ℕ). Oks ix ranges rs (k - 1) (p .1) x) b (p .9); optional-ok = subst (λ (x : ℕ). Oks ix ranges os (k - 1) (p .2) x) b (p .10) };
         done = λ r kids′ len J P. (
-          record { is = J .is; small = more-leaves (leavesOf rs) (leavesOf os) (leavesOf ps) r (J .small) },
+          record { is = J .is; small = more-nodes (nodesOf rs) (nodesOf os) (nodesOf ps) r (J .small) },
           (
             p .0,
             P .required,
@@ -155,5 +155,5 @@ module _ (ix : Index) (ranges : List ℕ) (table : List Float) (places k doc : �
         );
       }
     where
-      more-leaves : (a b c : ℕ) (r : Float) → AtMost ((a + b) * 2 ^ 29) r → AtMost ((1 + (a + (b + c))) * 2 ^ 29) r
-      more-leaves a b c r h = let m : (a + b) * 2 ^ 29 ≤ (1 + (a + (b + c))) * 2 ^ 29 = omega arith in atmost-more m h
+      more-nodes : (a b c : ℕ) (r : Float) → AtMost ((a + b) * 2 ^ 29) r → AtMost ((1 + (a + (b + c))) * 2 ^ 29) r
+      more-nodes a b c r h = let m : (a + b) * 2 ^ 29 ≤ (1 + (a + (b + c))) * 2 ^ 29 = omega arith in atmost-more m h

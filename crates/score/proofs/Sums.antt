@@ -13,7 +13,7 @@ use Rattle.ieee754.specs.Nonneg.{AtMost}
 use Rattle.weight.specs.ScorerTree.{Scorer, Scorers, end, more, matches, allMatch, scorerScore, scoring, requiredScores, optionalScores}
 use Rattle.weight.specs.State.{sizeOf}
 use Rattle.weight.specs.Held.{Ok, Oks}
-use Rattle.weight.specs.Sound.{Sound, Sounds, Tables, TablesOf, leaves, leavesOf}
+use Rattle.weight.specs.Sound.{Sound, Sounds, Tables, TablesOf, nodes, nodesOf}
 use Rattle.score.specs.Words.{ChildThere}
 use Rattle.score.specs.Asked.{Scorable, ScoreIs}
 use Rattle.score.proofs.Bounds.{scores-add, scores-more}
@@ -66,13 +66,13 @@ pub record SumAt (c : Bool → Scorer → Bool) (ix : Index) (ranges : List ℕ)
   pub left : sumFrom sum (counted c ix g doc) ≡ total
   pub q : ℕ
   pub small : AtMost (q * 2 ^ 29) sum
-  pub few : q + leavesOf g ≤ most
+  pub few : q + nodesOf g ≤ most
   pub sound : Sounds ix places g
   pub tables : TablesOf ix table g
   pub matched : Matched c ix g doc
 
 module _ (c : Bool → Scorer → Bool) (ix : Index) (ranges : List ℕ) (table : List Float) (places k doc : ℕ) (fs : Scorers) where
-  pub sum-start : (x : Float) (p : ℕ) (w : List ℕ) → Oks ix ranges fs k w doc → AtMost (p * 2 ^ 29) x → Sounds ix places fs → TablesOf ix table fs → Matched c ix fs doc → SumAt c ix ranges table places k doc fs (sumFrom x (counted c ix fs doc)) (p + leavesOf fs) fs w 0 x
+  pub sum-start : (x : Float) (p : ℕ) (w : List ℕ) → Oks ix ranges fs k w doc → AtMost (p * 2 ^ 29) x → Sounds ix places fs → TablesOf ix table fs → Matched c ix fs doc → SumAt c ix ranges table places k doc fs (sumFrom x (counted c ix fs doc)) (p + nodesOf fs) fs w 0 x
   sum-start x p w o a s t m = record { zip = zip-start ix ranges k doc fs w o; left = refl; q = p; small = a; few = le-refl _; sound = s; tables = t; matched = m }
 
   module _ (total : Float) (most : ℕ) (kids : List ℕ) (at : ℕ) (sum : Float) where
@@ -80,7 +80,7 @@ module _ (c : Bool → Scorer → Bool) (ix : Index) (ranges : List ℕ) (table 
     At g = SumAt c ix ranges table places k doc fs total most g kids at sum
 
     pub sum-end : most ≤ 256 → (g : Scorers) → At g → length kids ≤ at → (sum ≡ total) × AtMost (most * 2 ^ 29) sum × Oks ix ranges fs k kids doc
-    unfolding counted sumFrom leavesOf
+    unfolding counted sumFrom nodesOf
     sum-end few end p l = (p .left, scores-more (p .q) most sum (omega (arith, p .few)) (p .small), zip-end (p .zip))
     sum-end few (more f T g) p l = let v = view (p .zip) in absurd (omega (arith, v .long, v .fits))
 
@@ -100,7 +100,7 @@ module _ (c : Bool → Scorer → Bool) (ix : Index) (ranges : List ℕ) (table 
       sum-size = view (p .zip) .size-of
 
       pub sum-scorable : most ≤ 256 → Scorable ix table places T
-      unfolding Sounds TablesOf leavesOf
+      unfolding Sounds TablesOf nodesOf
       sum-scorable h = record { sound = p .sound .0; tables = p .tables .0; few = omega (arith, p .few) }
 
       pub sum-matched : c f T ≡ true → matches ix T doc ≡ true
@@ -116,19 +116,19 @@ module _ (c : Bool → Scorer → Bool) (ix : Index) (ranges : List ℕ) (table 
 
       -- on to the next child
       pub sum-skipped : c f T ≡ false → (e : ℕ) → e ≡ at + getD kids (at + 1) 0 → SumAt c ix ranges table places k doc fs total most g kids e sum
-      unfolding Sounds TablesOf leavesOf Matched counted
+      unfolding Sounds TablesOf nodesOf Matched counted
       sum-skipped out e stop =
           record { zip = zip-next (view (p .zip)) e stop; left = (rw out at (p .left)); q = p .q; small = p .small; few = omega (arith, p .few); sound = p .sound .1; tables = p .tables .1; matched = p .matched .1 }
 
       pub sum-took : most ≤ 256 → c f T ≡ true → (e : ℕ) → e ≡ at + getD kids (at + 1) 0 → (r : Float) → ScoreIs ix T doc r → SumAt c ix ranges table places k doc fs total most g kids e (add binary64 sum r)
-      unfolding Sounds TablesOf leavesOf Matched counted sumFrom
+      unfolding Sounds TablesOf nodesOf Matched counted sumFrom
       sum-took h counts e stop r s =
           let l : sumFrom (add binary64 sum (scorerScore ix T doc)) (counted c ix g doc) ≡ total = rw counts at (p .left) in
           record {
             zip = zip-next (view (p .zip)) e stop;
             left = rw (s .is) l;
-            q = p .q + leaves T;
-            small = scores-add (p .q) (leaves T) sum r (omega (arith, p .few)) (p .small) (s .small);
+            q = p .q + nodes T;
+            small = scores-add (p .q) (nodes T) sum r (omega (arith, p .few)) (p .small) (s .small);
             few = omega (arith, p .few);
             sound = p .sound .1;
             tables = p .tables .1;

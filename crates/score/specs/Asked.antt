@@ -12,7 +12,7 @@ use Rattle.ieee754.specs.Nonneg.{AtMost}
 use Rattle.weight.specs.ScorerTree.{Leaf, weighted, Scorer, Scorers, Joining, oneMore, afterwards, leafMatches, matches, allMatch, leafScore, scorerScore, scoring, requiredScores, optionalScores, joinedScore}
 use Rattle.weight.specs.State.{State, wordsOf, sizesOf, sizesOfFirst}
 use Rattle.weight.specs.Held.{PhraseIs, LeafIs, FloatIs, Ok, Oks}
-use Rattle.weight.specs.Sound.{Lends, LeafSound, Sound, Sounds, LeafTable, Tables, TablesOf, leaves, leavesOf}
+use Rattle.weight.specs.Sound.{Lends, LeafSound, Sound, Sounds, LeafTable, Tables, TablesOf, nodes, nodesOf}
 use Rattle.scorer.specs.Phrases.{PhraseHeld}
 use Rattle.score.specs.declared.Node.{Node}
 
@@ -22,22 +22,22 @@ pub record LentAt (ix : Index) (n : ℕ) (postings positions norms : List ℕ) (
   pub norms-are : ix .norms ≡ norms
   pub document : doc < n
 
--- a tree whose score can be worked out: sound, with its inverses, and of at most 256 leaves
+-- a tree whose score can be worked out: sound, with its inverses, and of at most 256 nodes
 pub record Scorable (ix : Index) (table : List Float) (places : ℕ) (T : Scorer) : Type 0 where
   pub sound : Sound ix places T
   pub tables : Tables ix table T
-  pub few : leaves T ≤ 256
+  pub few : nodes T ≤ 256
 
--- some trees, beside so many leaves that are summed already
+-- some trees, beside so many nodes that are summed already
 pub record Scorables (ix : Index) (table : List Float) (places p : ℕ) (ss : Scorers) : Type 0 where
   pub sound : Sounds ix places ss
   pub tables : TablesOf ix table ss
-  pub few : p + leavesOf ss ≤ 256
+  pub few : p + nodesOf ss ≤ 256
 
 -- the score, and that it is at most 2^29 for each leaf
 pub record ScoreIs (ix : Index) (T : Scorer) (doc : ℕ) (r : Float) : Type 0 where
   pub is : r ≡ scorerScore ix T doc
-  pub small : AtMost (leaves T * 2 ^ 29) r
+  pub small : AtMost (nodes T * 2 ^ 29) r
 
 -- a sum in f64, and that it is at most 2^29 for each leaf
 pub record SumIs (x : Float) (xs : List Float) (p : ℕ) (r : Float) : Type 0 where
@@ -54,14 +54,14 @@ abbrev pub ScorePost : List ℕ → ℕ → List ℕ → List ℕ → List ℕ �
 ScorePost st n postings positions norms ranges table places doc depth r st′ =
     (ix : Index) (T : Scorer) (scores : ℕ) → LentAt ix n postings positions norms doc → Scorable ix table places T → matches ix T doc ≡ true → Ok ix ranges T depth scores st doc → ScoreIs ix T doc r × Ok ix ranges T depth scores st′ doc
 
--- the same of the parts of some children, and of a sum of at most 2^29 for each of p leaves: the required, which all match
+-- the same of the parts of some children, and of a sum of at most 2^29 for each of p nodes: the required, which all match
 abbrev pub RequiredPre : List ℕ → Float → ℕ → List ℕ → List ℕ → List ℕ → List ℕ → List Float → ℕ → ℕ → ℕ → Type 0
 RequiredPre kids sum n postings positions norms ranges table places doc depth =
     (ix : Index) × (ss : Scorers) × (p : ℕ) × LentAt ix n postings positions norms doc × Scorables ix table places p ss × (allMatch ix ss doc ≡ true) × Oks ix ranges ss depth kids doc × AtMost (p * 2 ^ 29) sum
 
 abbrev pub RequiredPost : List ℕ → Float → ℕ → List ℕ → List ℕ → List ℕ → List ℕ → List Float → ℕ → ℕ → ℕ → Float → List ℕ → Type 0
 RequiredPost kids sum n postings positions norms ranges table places doc depth r kids′ =
-    (ix : Index) (ss : Scorers) (p : ℕ) → LentAt ix n postings positions norms doc → Scorables ix table places p ss → allMatch ix ss doc ≡ true → Oks ix ranges ss depth kids doc → AtMost (p * 2 ^ 29) sum → SumIs sum (scoring (requiredScores ix ss doc)) (p + leavesOf ss) r × Oks ix ranges ss depth kids′ doc
+    (ix : Index) (ss : Scorers) (p : ℕ) → LentAt ix n postings positions norms doc → Scorables ix table places p ss → allMatch ix ss doc ≡ true → Oks ix ranges ss depth kids doc → AtMost (p * 2 ^ 29) sum → SumIs sum (scoring (requiredScores ix ss doc)) (p + nodesOf ss) r × Oks ix ranges ss depth kids′ doc
 
 -- and the optional, which match or do not
 abbrev pub OptionalPre : List ℕ → ℕ → List ℕ → List ℕ → List ℕ → List ℕ → List Float → ℕ → ℕ → ℕ → Type 0
@@ -70,7 +70,7 @@ OptionalPre kids n postings positions norms ranges table places doc depth =
 
 abbrev pub OptionalPost : List ℕ → ℕ → List ℕ → List ℕ → List ℕ → List ℕ → List Float → ℕ → ℕ → ℕ → Float → List ℕ → Type 0
 OptionalPost kids n postings positions norms ranges table places doc depth r kids′ =
-    (ix : Index) (ss : Scorers) → LentAt ix n postings positions norms doc → Scorables ix table places 0 ss → Oks ix ranges ss depth kids doc → SumIs zeroFloat (optionalScores ix ss doc) (leavesOf ss) r × Oks ix ranges ss depth kids′ doc
+    (ix : Index) (ss : Scorers) → LentAt ix n postings positions norms doc → Scorables ix table places 0 ss → Oks ix ranges ss depth kids doc → SumIs zeroFloat (optionalScores ix ss doc) (nodesOf ss) r × Oks ix ranges ss depth kids′ doc
 
 -- where the group joins, in the two words of the record
 unfoldable pub JoinsAt : Joining → Scorers → ℕ → ℕ → Type 0
@@ -89,7 +89,7 @@ pub record PartsAre (ix : Index) (ranges : List ℕ) (rs os : Scorers) (depth do
 pub record JoinAsks (ix : Index) (table : List Float) (places : ℕ) (j : Joining) (rs os : Scorers) (n : Node) (doc : ℕ) : Type 0 where
   pub required : Scorables ix table places 0 rs
   pub optional : Scorables ix table places 0 os
-  pub few : leavesOf rs + leavesOf os ≤ 256
+  pub few : nodesOf rs + nodesOf os ≤ 256
   pub all : allMatch ix rs doc ≡ true
   pub required-end : n .«required_end» ≡ sizesOf rs
   pub optional-end : n .«optional_end» ≡ sizesOf rs + sizesOf os
@@ -102,7 +102,7 @@ JoinPre kids node n postings positions norms ranges table places doc depth =
 -- the joined score, and the parts as good as before
 pub record JoinIs (ix : Index) (j : Joining) (rs os : Scorers) (doc : ℕ) (r : Float) : Type 0 where
   pub is : r ≡ joinedScore j (requiredScores ix rs doc) (narrowedSum (optionalScores ix os doc))
-  pub small : AtMost ((leavesOf rs + leavesOf os) * 2 ^ 29) r
+  pub small : AtMost ((nodesOf rs + nodesOf os) * 2 ^ 29) r
 
 abbrev pub JoinPost : List ℕ → Node → ℕ → List ℕ → List ℕ → List ℕ → List ℕ → List Float → ℕ → ℕ → ℕ → Float → List ℕ → Type 0
 JoinPost kids node n postings positions norms ranges table places doc depth r kids′ =

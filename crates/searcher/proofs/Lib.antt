@@ -1,1 +1,12 @@
--- x
+-- What the proofs of this crate share.
+pub mod Collecting
+pub mod Rooms
+pub mod Preparing
+pub mod Refusing
+pub mod CallConditions
+pub mod Answering
+pub mod Lowest
+pub mod RangeEntry
+pub mod PickEntry
+pub mod TermWords
+pub mod PlaceEntry

@@ -2,3 +2,4 @@
 pub mod Lends
 pub mod Answers
 pub mod Collects
+pub mod Runs

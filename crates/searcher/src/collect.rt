@@ -31,19 +31,23 @@ pub fn collect_matches(
     ensures { λ r. ⌜ CollectPost (lent «max_doc» (now (postings .entry)) (now (positions .entry)) (now (ranges .entry))) (now (norms .entry)) (now (live .entry)) (now (inverses .entry)) (min (length (now (a .entry))) (length (now (b .entry)))) (now (st .entry)) depth t (now (heap .entry)) r (now (heap .exit)) ⌝ }
 {
     let mut c = TopScoreDocCollector::new(t as u64);
-    let mut next = next_match(
-        st,
-        max_doc,
-        postings,
-        positions,
-        ranges,
-        live,
-        a,
-        b,
-        0,
-        depth,
-    );
-    while next != NO_MORE_DOCS {
+    let mut from = 0;
+    loop {
+        let next = next_match(
+            st,
+            max_doc,
+            postings,
+            positions,
+            ranges,
+            live,
+            a,
+            b,
+            from,
+            depth,
+        );
+        if next == NO_MORE_DOCS {
+            return c.top_docs(heap);
+        }
         let s = score::score(
             st,
             max_doc,
@@ -58,18 +62,6 @@ pub fn collect_matches(
             depth,
         );
         c = c.collect(heap, next, s);
-        next = next_match(
-            st,
-            max_doc,
-            postings,
-            positions,
-            ranges,
-            live,
-            a,
-            b,
-            next + 1,
-            depth,
-        );
+        from = next + 1;
     }
-    c.top_docs(heap)
 }

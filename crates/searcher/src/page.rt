@@ -113,7 +113,7 @@ fn list_page(
         live,
         a,
         b,
-        target,
+        target, // where the walk begins
         16,
         documents,
         scores,

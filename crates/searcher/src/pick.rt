@@ -7,42 +7,43 @@ ghost use Prim.Native.Nat.{ℕ, _<_};
 ghost use Rattle.searcher.specs.Answers.{pickedNumbers};
 use collector::TopDocs;
 
+// A document is below this, and a score's bits are at most those of plus infinity.
+const NO_MORE_DOCS: u32 = 2147483647;
+
+const PLUS_INFINITY: u32 = 0x7f80_0000;
+
 pub enum Picked {
     Refused(u32),
     Found(TopDocs),
 }
 
-// Whether the i-th of them is out of order, or no document or score that can be ranked.
+// Whether one after the first is out of order, or no document or score that can be ranked.
 fn wrong_picked(documents: &[u32], scores: &[u32], i: usize) -> bool
-    requires { ⌜ (i < length (now documents)) × (i < length (now scores)) ⌝ }
+    requires { ⌜ (0 < i) × (i < length (now documents)) × (i < length (now scores)) ⌝ }
     ensures { λ r. ⌜ r ≡ wrongPicked (now (documents .entry)) (now (scores .entry)) i ⌝ }
 {
-    if 0 < i {
-        if documents[i] <= documents[i - 1] {
-            return true;
-        }
-    }
-    if 2147483647 <= documents[i] {
-        return true;
-    }
-    0x7f80_0000 < scores[i]
+    (documents[i] <= documents[i - 1])
+        | (NO_MORE_DOCS <= documents[i])
+        | (PLUS_INFINITY < scores[i])
 }
 
-// The lists are unequal, or one of their documents with its score is wrong.
+// The lists are unequal, or one of their documents with its score is wrong: one pass without an early exit.
 fn wrong_lists(documents: &[u32], scores: &[u32]) -> bool
     ensures { λ r. ⌜ r ≡ wrong14 (now (documents .entry)) (now (scores .entry)) ⌝ }
 {
     if documents.len() != scores.len() {
         return true;
     }
-    let mut i = 0;
+    if documents.len() == 0 {
+        return false;
+    }
+    let mut bad = (NO_MORE_DOCS <= documents[0]) | (PLUS_INFINITY < scores[0]);
+    let mut i = 1;
     while i < documents.len() {
-        if wrong_picked(documents, scores, i) {
-            return true;
-        }
+        bad = bad | wrong_picked(documents, scores, i);
         i += 1;
     }
-    false
+    bad
 }
 
 // The lowest number of 11, 12 and 14 whose condition holds, and 0 where none does.

@@ -1,6 +1,7 @@
 // Place: a start at which a phrase of the order stands in a document.
 ghost use mathlib.Core.Path.{_≡_};
 ghost use mathlib.Core.Bool.{true, false};
+ghost use mathlib.Core.List.{[]};
 ghost use mathlib.Core.Option.{none, some};
 ghost use Prim.Native.Nat.{ℕ, _+_, _*_, _/_, _≤_, _<_};
 ghost use lib.ListN.{length, take};
@@ -8,11 +9,19 @@ ghost use Rattle.meaning.specs.Lent.{Index};
 ghost use Rattle.meaning.specs.Query.{recordCount, recordKind, recordChildren, phraseTermsOf};
 ghost use Rattle.meaning.specs.CallRefusals.{startsShort, wrong13Place};
 ghost use Rattle.meaning.specs.Entries.{Kept, placeRefusal, placeRight};
-ghost use Rattle.index.specs.Slices.{lent};
+ghost use Rattle.meaning.specs.Postings.{postingAt, frequencyOf};
+ghost use Rattle.index.specs.Slices.{lent, leavesOnly};
 ghost use Rattle.weight.specs.Measured.{Asks};
 ghost use Rattle.searcher.specs.Lends.{work, QueryLent};
-ghost use Rattle.phrase.specs.Words.{phraseWords};
+ghost use Rattle.phrase.specs.Words.{firstOf, phraseWords};
 ghost use Rattle.searcher.specs.Answers.{placedNumber, placedStart};
+ghost use Rattle.searcher.specs.Runs.{RunOk};
+use index::leaves::leaf_at;
+use index::postings::posting_document;
+use index::postings::posting_frequency;
+use index::postings::posting_index;
+use index::wide;
+use scorer::run::lower;
 
 pub enum Placed {
     Refused(u32),
@@ -99,6 +108,35 @@ fn locate(
     }
 }
 
+// Where a term's positions in a document begin, and how many there are.
+pub struct Occurrences {
+    pub first: u32,
+    pub frequency: u32,
+}
+
+// Those of a leaf, 0 and 0 without a posting: a search by halves in its run.
+fn occurrences_in(leaves: &[u32], postings: &[u32], l: usize, document: u32) -> Occurrences
+    requires { ⌜ RunOk (leavesOnly [] (now leaves) (now postings)) l ⌝ }
+    ensures { λ r. ⌜ (r .first ≡ firstOf (leavesOnly [] (now (leaves .entry)) (now (postings .entry))) l (postingAt (leavesOnly [] (now (leaves .entry)) (now (postings .entry))) l document)) × (r .frequency ≡ frequencyOf (leavesOnly [] (now (leaves .entry)) (now (postings .entry))) l (postingAt (leavesOnly [] (now (leaves .entry)) (now (postings .entry))) l document)) ⌝ }
+{
+    let leaf = leaf_at(leaves, l);
+    let first = wide(leaf.first);
+    let number = wide(leaf.number);
+    let i = lower(postings, 3, first, number, 0, document);
+    if i < number {
+        if posting_document(postings, first, i) == document {
+            return Occurrences {
+                first: posting_index(postings, first, i),
+                frequency: posting_frequency(postings, first, i),
+            };
+        }
+    }
+    Occurrences {
+        first: 0,
+        frequency: 0,
+    }
+}
+
 // The three words of each term of the phrase at `at` in a document: where its positions begin, how many there are, its offset.
 fn write_terms(
     max_doc: u32,
@@ -113,7 +151,18 @@ fn write_terms(
     requires { ⌜ ((ix : Index) × QueryLent ix «max_doc» (now leaves) (now postings) (now q)) ⌝ }
     ensures { λ r. ⌜ ((ix : Index) → QueryLent ix «max_doc» (now (leaves .entry)) (now (postings .entry)) (now (q .entry)) → take (3 * recordChildren (now (q .entry)) at) (now (terms .exit)) ≡ phraseWords ix document (phraseTermsOf (now (q .entry)) at)) ⌝ }
     ensures { λ r. ⌜ length (now (terms .exit)) ≡ 96 ⌝ }
-{}
+{
+    let count = wide(query::children(q, at));
+    let mut j = 0;
+    while j < count {
+        let term = at + 1 + j;
+        let o = occurrences_in(leaves, postings, wide(query::value(q, term, 0)), document);
+        terms[3 * j] = o.first;
+        terms[3 * j + 1] = o.frequency;
+        terms[3 * j + 2] = query::value(q, term, 1);
+        j += 1;
+    }
+}
 
 // A start at which the phrase at the record stands in the document, live or not; any one.
 pub fn place(

@@ -1,4 +1,4 @@
--- A score lies from 0 to its weight, for every frequency from 0 to 2 ^ 24, every average and every byte; and what weights are at most. Assumes nothing.
+-- A score lies from 0 to its weight, for every frequency from 0 to 2 ^ 24, every average and every number in a byte's place; and what weights are at most. Assumes nothing.
 use mathlib.Core.Path.{_≡_, refl, sym, ap, _∙_, subst}
 use mathlib.Core.List.{List}
 use Prim.Native.Nat.{ℕ, zero-le, _-_, _*_, _^_, _≤_, _<_}
@@ -20,13 +20,13 @@ use Rattle.ieee754.proofs.Nonneg.{round-self}
 use Rattle.ieee754.proofs.Ranges.{round-within, add-within, mul-within, within-self, mul-is, div-is, sub-is, round-nonneg, round-cross}
 use Rattle.ieee754.proofs.Bounds.{held-power, mul-atmost, upto-atmost, upto-le, limit-upto, pattern-atmost}
 use Rattle.ieee754.proofs.Sums.{Each, narrowed-sum-atmost}
-use Rattle.sim.proofs.Inverses.{two-to, least-inverse, most-inverse, fine-one, fine-inverse, byte-inverse-within}
+use Rattle.sim.proofs.Inverses.{two-to, most-inverse, fine-one, fine-inverse, any-inverse-within}
 
 -- ---- the divisor of a score is 1 at least
 abbrev divisor : Float → Float → Float
 divisor frequency inv = add binary32 one (mul binary32 frequency inv)
 
-fine-times : T (nonneg (mul binary32 zeroFloat least-inverse)) × T (nonneg (mul binary32 (two-to 24) most-inverse))
+fine-times : T (nonneg (mul binary32 zeroFloat zeroFloat)) × T (nonneg (mul binary32 (two-to 24) most-inverse))
 unfolding ofBits mul div add sub
 fine-times = (tt, tt)
 
@@ -34,14 +34,14 @@ fine-divisor : T (nonneg (divisor (two-to 24) most-inverse))
 unfolding ofBits mul div add sub
 fine-divisor = tt
 
-divisor-one : divisor zeroFloat least-inverse ≡ two-to 0
+divisor-one : divisor zeroFloat zeroFloat ≡ two-to 0
 unfolding ofBits mul div add sub
 divisor-one = refl
 
-divisor-within : (frequency inv : Float) → Within zeroFloat frequency (two-to 24) → Within least-inverse inv most-inverse → Within (two-to 0) (divisor frequency inv) (divisor (two-to 24) most-inverse)
+divisor-within : (frequency inv : Float) → Within zeroFloat frequency (two-to 24) → Within zeroFloat inv most-inverse → Within (two-to 0) (divisor frequency inv) (divisor (two-to 24) most-inverse)
 divisor-within frequency inv Q I =
     subst (λ (z : Float). Within z (divisor frequency inv) (divisor (two-to 24) most-inverse)) divisor-one
-    (add-within binary32 (fine-one, fine-one) (fine-times .0, fine-times .1) (within-self one fine-one) (mul-within binary32 (tt, tt) (fine-inverse .0, fine-inverse .1) Q I (fine-times .1)) fine-divisor)
+    (add-within binary32 (fine-one, fine-one) (fine-times .0, fine-times .1) (within-self one fine-one) (mul-within binary32 (tt, tt) (tt, fine-inverse .1) Q I (fine-times .1)) fine-divisor)
 
 pub frequency-within : (n : ℕ) → n ≤ largestFrequency → Within zeroFloat (ofInt binary32 (pos n)) (two-to 24)
 unfolding ofInt round
@@ -74,7 +74,7 @@ module _ (w : Float) (F : T (fits binary32 w)) (W : T (nonneg w)) where
       (round-upto n (den w * den y) (mul-pos (den-pos w) (den-pos y))
       (le-trans (mul-le-mul-right (den w) (sub-le (num w * den y) (num y * den w))) (le-of-eq (mul-assoc (num w) (den y) (den w) ∙ ap (λ (z : ℕ). num w * z) (mul-comm (den y) (den w))))))
 
-  pub bm25-upto : (frequency inv : Float) → Within zeroFloat frequency (two-to 24) → Within least-inverse inv most-inverse → UpTo w (bm25 w frequency inv)
+  pub bm25-upto : (frequency inv : Float) → Within zeroFloat frequency (two-to 24) → Within zeroFloat inv most-inverse → UpTo w (bm25 w frequency inv)
   bm25-upto frequency inv Q I =
       let d = divisor frequency inv in
       let i = divisor-within frequency inv Q I in
@@ -92,9 +92,17 @@ finite-of (fin s m e) p = tt
 abbrev pub scoreOf : Float → ℕ → ℕ → ℕ → Float
 scoreOf w n average norm = bm25 w (ofInt binary32 (pos n)) (inverse (ofBits binary32 average) (lengthOf norm))
 
+module _ (w : Float) (n average norm : ℕ) (Q : n ≤ largestFrequency) (lo : leastAverage ≤ average) (hi : average ≤ largestAverage) where
+  any-upto : T (fits binary32 w) → T (nonneg w) → UpTo w (scoreOf w n average norm)
+  any-upto F W = bm25-upto w F W (ofInt binary32 (pos n)) (inverse (ofBits binary32 average) (lengthOf norm)) (frequency-within n Q) (any-inverse-within average norm lo hi)
+
+  -- whatever stands in the byte's place
+  pub any-score-atmost : (p : ℕ) → T (fits binary32 w) → AtMost p w → AtMost p (scoreOf w n average norm)
+  any-score-atmost p F i = upto-atmost p w (scoreOf w n average norm) i (any-upto F (i .sign))
+
 module _ (w : Float) (n average norm : ℕ) (Q : n ≤ largestFrequency) (lo : leastAverage ≤ average) (hi : average ≤ largestAverage) (B : norm < 256) where
   pub score-upto : T (fits binary32 w) → T (nonneg w) → UpTo w (scoreOf w n average norm)
-  score-upto F W = bm25-upto w F W (ofInt binary32 (pos n)) (inverse (ofBits binary32 average) (lengthOf norm)) (frequency-within n Q) (byte-inverse-within average norm lo hi B)
+  score-upto F W = any-upto w n average norm Q lo hi F W
 
   -- THE theorem: a score is finite, at least +0, and at most its weight
   pub score-between : T (fits binary32 w) → T (nonneg w) → T (finite (scoreOf w n average norm)) × T (le zeroFloat (scoreOf w n average norm)) × T (le (scoreOf w n average norm) w)
@@ -104,7 +112,7 @@ module _ (w : Float) (n average norm : ℕ) (Q : n ≤ largestFrequency) (lo : l
       (finite-of (scoreOf w n average norm) (u .sign), l .0, l .1)
 
   pub score-atmost : (p : ℕ) → T (fits binary32 w) → AtMost p w → AtMost p (scoreOf w n average norm)
-  score-atmost p F i = upto-atmost p w (scoreOf w n average norm) i (score-upto F (i .sign))
+  score-atmost p F i = any-score-atmost w n average norm Q lo hi p F i
 
 -- ---- frequency 0 gives +0
 zero-over-one : round binary32 false 0 1 ≡ zeroFloat

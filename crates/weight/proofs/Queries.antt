@@ -29,8 +29,8 @@ use Rattle.query.proofs.Right.{RightPhrase, Right, tree-right}
 use Rattle.weight.specs.ScorerTree.{phrase}
 use Rattle.weight.specs.Weigh.{weigh}
 use Rattle.weight.specs.State.{sizeOf}
-use Rattle.weight.specs.Sound.{PhraseTermIs, EachTerm, LeafSound, Sound, leaves}
-use Rattle.weight.proofs.Sizes.{records, recordsOf, weigh-size, weigh-leaves}
+use Rattle.weight.specs.Sound.{PhraseTermIs, EachTerm, LeafSound, Sound, nodes}
+use Rattle.weight.proofs.Sizes.{records, recordsOf, weigh-size, weigh-nodes}
 use Rattle.weight.proofs.Heights.{height, levels, levelsOf, weigh-height}
 use Rattle.weight.proofs.Sounds.{TreeSound, TreeSounds, weigh-sound}
 use Rattle.weight.proofs.Weights.{Weighted, carried-one, weigh-weighted}
@@ -105,8 +105,8 @@ module _ (q : List ℕ) (whole7 : wrong7 q ≡ false) where
   unfolding statesNeeded
   query-size ix b c = let n = query-records in let h = weigh-size ix (queryTree q) b c in omega (arith, n, h)
 
-  pub query-leaves : (ix : Index) (b : Float) (c : Option Float) → leaves (weigh ix (queryTree q) b c) ≤ 256
-  query-leaves ix b c = let n = query-records in let h = weigh-leaves ix (queryTree q) b c in let m = whole q whole7 .few-records in omega (arith, n, h, m)
+  pub query-nodes : (ix : Index) (b : Float) (c : Option Float) → nodes (weigh ix (queryTree q) b c) ≤ 256
+  query-nodes ix b c = let n = query-records in let h = weigh-nodes ix (queryTree q) b c in let m = whole q whole7 .few-records in omega (arith, n, h, m)
 
   pub query-height : (ix : Index) (b : Float) (c : Option Float) → height (weigh ix (queryTree q) b c) ≤ 16
   query-height ix b c = le-trans (weigh-height ix (queryTree q) b c) query-levels

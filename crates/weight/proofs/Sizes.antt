@@ -1,4 +1,4 @@
--- The words and the leaves of a scorer tree, by the records of its query's tree. Assumes nothing.
+-- The words and the nodes of a scorer tree, by the records of its query's tree. Assumes nothing.
 use mathlib.Core.Path.{_≡_, refl, sym, ap, _∙_}
 use mathlib.Core.Bool.{Bool, true, false, cond}
 use mathlib.Core.List.{List, [], _∷_}
@@ -18,7 +18,7 @@ use Rattle.meaning.specs.Score.{phraseIdf, passed}
 use Rattle.weight.specs.ScorerTree.{Leaf, nothing, term, phrase, range, everything, Scoring, constant, Scorer, leaf}
 use Rattle.weight.specs.Weigh.{Ready, cheapestFirst, chosen, scorersOf, booleanOf, kept, scoringAt, noScorer, weigh, readied}
 use Rattle.weight.specs.State.{leafSize, sizeOf, sizesOf}
-use Rattle.weight.specs.Sound.{leaves, leavesOf}
+use Rattle.weight.specs.Sound.{nodes, nodesOf}
 use Rattle.weight.proofs.Ready.{total, total-sorted, total-chosen}
 
 -- how many records of a query a tree stands for: one for each node and each term of a phrase
@@ -118,30 +118,30 @@ weigh-size = weigh-most sizeOf 24 leaf-size boolean-size
 pub readied-size : (ix : Index) (cs : Clauses) (b : Float) → total sizeOf (readied ix cs b) ≤ 24 * recordsOf cs
 readied-size = readied-most sizeOf 24 leaf-size boolean-size
 
--- ---- the leaves
-leaves-total : (rs : List Ready) → leavesOf (scorersOf rs) ≡ total leaves rs
-unfolding leavesOf scorersOf total
-leaves-total [] = refl
-leaves-total (r ∷ rs) = let i = leaves-total rs in omega (arith, i)
+-- ---- the nodes
+nodes-total : (rs : List Ready) → nodesOf (scorersOf rs) ≡ total nodes rs
+unfolding nodesOf scorersOf total
+nodes-total [] = refl
+nodes-total (r ∷ rs) = let i = nodes-total rs in omega (arith, i)
 
-leaf-leaves : (l : Leaf) (s : Scoring) → leaves (leaf l s) ≤ 1 * leafRecords l
-unfolding leaves
-leaf-leaves nothing s = le-refl 1
-leaf-leaves (term l) s = le-refl 1
-leaf-leaves (phrase f ts) s = omega arith
-leaf-leaves (range r) s = le-refl 1
-leaf-leaves everything s = le-refl 1
+leaf-nodes : (l : Leaf) (s : Scoring) → nodes (leaf l s) ≤ 1 * leafRecords l
+unfolding nodes
+leaf-nodes nothing s = le-refl 1
+leaf-nodes (term l) s = le-refl 1
+leaf-nodes (phrase f ts) s = omega arith
+leaf-nodes (range r) s = le-refl 1
+leaf-nodes everything s = le-refl 1
 
-boolean-leaves : (ix : Index) (msm : ℕ) (cs : Clauses) (c : Option Float) (rs : List Ready) → leaves (booleanOf ix msm cs c rs) ≤ 1 + total leaves rs
-unfolding leaves booleanOf
-boolean-leaves ix msm cs c rs =
-    let a = leaves-total (cheapestFirst (chosen isRequired rs)) in
-    let s = total-sorted leaves (chosen isRequired rs) in
-    let o = leaves-total (chosen isShould rs) in
-    let p = leaves-total (chosen isMustNot rs) in
-    let h = total-chosen leaves rs in
+boolean-nodes : (ix : Index) (msm : ℕ) (cs : Clauses) (c : Option Float) (rs : List Ready) → nodes (booleanOf ix msm cs c rs) ≤ 1 + total nodes rs
+unfolding nodes booleanOf
+boolean-nodes ix msm cs c rs =
+    let a = nodes-total (cheapestFirst (chosen isRequired rs)) in
+    let s = total-sorted nodes (chosen isRequired rs) in
+    let o = nodes-total (chosen isShould rs) in
+    let p = nodes-total (chosen isMustNot rs) in
+    let h = total-chosen nodes rs in
     omega (arith, a, s, o, p, h)
 
 -- THE theorem: a sum of scores has at most as many of them as the query has records
-pub weigh-leaves : (ix : Index) (t : Tree) (b : Float) (c : Option Float) → leaves (weigh ix t b c) ≤ records t
-weigh-leaves ix t b c = let h = weigh-most leaves 1 leaf-leaves boolean-leaves ix t b c in omega (arith, h)
+pub weigh-nodes : (ix : Index) (t : Tree) (b : Float) (c : Option Float) → nodes (weigh ix t b c) ≤ records t
+weigh-nodes ix t b c = let h = weigh-most nodes 1 leaf-nodes boolean-nodes ix t b c in omega (arith, h)

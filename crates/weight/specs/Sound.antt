@@ -51,14 +51,14 @@ unfoldable mutual
   Sounds ix places (more b s ss) = Sound ix places s × Sounds ix places ss
 
 unfoldable mutual
-  -- how many leaves the tree has: a sum of scores has at most so many of them
-  pub leaves : Scorer → ℕ
-  leaves (leaf l s) = 1
-  leaves (boolean c j need rs os ps) = 1 + (leavesOf rs + (leavesOf os + leavesOf ps))
+  -- how many nodes the tree has: a sum of scores has at most so many terms
+  pub nodes : Scorer → ℕ
+  nodes (leaf l s) = 1
+  nodes (boolean c j need rs os ps) = 1 + (nodesOf rs + (nodesOf os + nodesOf ps))
 
-  pub leavesOf : Scorers → ℕ
-  leavesOf end = 0
-  leavesOf (more b s ss) = leaves s + leavesOf ss
+  pub nodesOf : Scorers → ℕ
+  nodesOf end = 0
+  nodesOf (more b s ss) = nodes s + nodesOf ss
 
 -- the inverses of a field: 256 of them, from place 256 × field on
 abbrev pub FieldTable : Index → List Float → ℕ → Type 0

@@ -1,9 +1,9 @@
--- `collector_vectors::print_codes` is safe and ends: its loop goes up to the list's length. Assumes nothing.
+-- `vectors::print_codes` is safe and ends: its loop goes up to the list's length. Assumes nothing.
 use lib.ListN.{length}
 use Prim.Native.Nat.{_≤_, _-_}
 use borrow.Author.Needs.{needs}
-use Rattle.collector_vectors.proofs.print_codes.Statement.{statement}
-use Rattle.collector_vectors.proofs.print_codes.Tie as tie
+use Rattle.vectors.proofs.print_codes.Statement.{statement}
+use Rattle.vectors.proofs.print_codes.Tie as tie
 
 abbrev Inv-loop : tie.InvT-loop
 Inv-loop codes n i₀ i = i ≤ length codes

@@ -1,11 +1,11 @@
--- `refusal_vectors::read_words` is safe and ends: its loop goes up to the words' length, which stays. Assumes nothing.
+-- `vectors::file::read_words` is safe and ends: its loop goes up to the words' length, which stays. Assumes nothing.
 use mathlib.Core.Path.{_≡_}
 use lib.ListN.{length, length-set}
 use native.Mathlib.Omega.{arith}
 use Prim.Native.Nat.{_≤_, _-_}
 use borrow.Author.Needs.{needs}
-use Rattle.refusal_vectors.proofs.read_words.Statement.{statement}
-use Rattle.refusal_vectors.proofs.read_words.Tie as tie
+use Rattle.vectors.proofs.file.read_words.Statement.{statement}
+use Rattle.vectors.proofs.file.read_words.Tie as tie
 
 abbrev Inv-loop : tie.InvT-loop
 Inv-loop bytes words₀ i₀ words i = (i ≤ length words) × (length words ≡ length words₀)

@@ -1,0 +1,126 @@
+-- The lowest number of an entry over an index and a query: each way out, and what a caller knows where it is 0. Assumes nothing.
+use mathlib.Core.Path.{_≡_, refl, sym, subst, _∙_}
+use mathlib.Core.Logic.{⊎-elim}
+use mathlib.Core.Bool.{Bool, true, false}
+use mathlib.Core.List.{List, [], _∷_, _++_}
+use Prim.Native.Nat.{ℕ, _≤_, _<_}
+use native.Mathlib.Nat.{eq-or-lt-of-le}
+use native.Mathlib.Omega.{arith}
+use lib.Dec.{lit<}
+use Rattle.meaning.specs.Lent.{Index}
+use Rattle.meaning.specs.Query.{recordCount, recordValue}
+use Rattle.meaning.specs.Limits.{maxRecords}
+use Rattle.meaning.specs.Refusals.{Condition, _when_, lowest}
+use Rattle.meaning.specs.QueryRefusals.{wrong7, wrong8, wrong9, wrong10}
+use Rattle.meaning.specs.Entries.{orderConditions}
+use Rattle.index.specs.Refusal.{indexRefusal}
+use Rattle.index.proofs.Refused.{Numbered, lowest-none, lowest-some, index-accepted, index-refused}
+use Rattle.index.proofs.Accepted.{accepted-checked}
+use Rattle.query.specs.Read.{PhraseRuns}
+use Rattle.query.proofs.Accepted.{phrase-term-right}
+use Rattle.query.proofs.Whole.{whole}
+use Rattle.weight.specs.Measured.{Asks}
+use Rattle.searcher.specs.Lends.{QueryLent}
+
+above-zero : (n : ℕ) → (n ≡ 0 → ⊥) → 0 < n
+above-zero n h = ⊎-elim (λ e. absurd (h (sym e))) (λ l. l) (eq-or-lt-of-le {n = 0} {m = n} (omega arith))
+
+-- ---- one condition, and two
+module _ (n : ℕ) (above : 0 < n) (cs : List Condition) where
+  first-not : (b : Bool) → lowest ((n when b) ∷ cs) ≡ 0 → b ≡ false
+  unfolding lowest
+  first-not true e = absurd (omega (arith, e))
+  first-not false e = refl
+
+  rest-none : (b : Bool) → lowest ((n when b) ∷ cs) ≡ 0 → lowest cs ≡ 0
+  unfolding lowest
+  rest-none true e = absurd (omega (arith, e))
+  rest-none false e = e
+
+module _ (n m : ℕ) (a b : Bool) where
+  abbrev lowest2 : ℕ
+  lowest2 = lowest ((n when a) ∷ (m when b) ∷ [])
+
+  pub first-holds : a ≡ true → n ≡ lowest2
+  unfolding lowest
+  first-holds e = rw e
+
+  pub second-holds : a ≡ false → b ≡ true → m ≡ lowest2
+  unfolding lowest
+  second-holds e f = rw (e, f)
+
+  pub neither-holds : a ≡ false → b ≡ false → 0 ≡ lowest2
+  unfolding lowest
+  neither-holds e f = rw (e, f)
+
+  pub neither-held : 0 < n → 0 < m → lowest2 ≡ 0 → (a ≡ false) × (b ≡ false)
+  neither-held h g e = (first-not n h ((m when b) ∷ []) a e, first-not m g [] b (rest-none n h ((m when b) ∷ []) a e))
+
+-- ---- the numbers 1 to 10
+module _ (ix : Index) (q : List ℕ) where
+  abbrev from10 : List Condition
+  from10 = (10 when wrong10 ix q) ∷ []
+
+  abbrev from9 : List Condition
+  from9 = (9 when wrong9 q) ∷ from10
+
+  abbrev from8 : List Condition
+  from8 = (8 when wrong8 ix q) ∷ from9
+
+  abbrev from7 : List Condition
+  from7 = (7 when wrong7 q) ∷ from8
+
+  -- the index is refused, or the query decides
+  pub order-index : (r : ℕ) → r ≡ indexRefusal ix → (r ≡ 0 → ⊥) → r ≡ lowest (orderConditions ix q)
+  order-index r e h = e ∙ sym (index-refused ix from7 (subst (λ (i : ℕ). 0 < i) e (above-zero r h)))
+
+  pub order-query : (i : ℕ) → i ≡ indexRefusal ix → i ≡ 0 → (r : ℕ) → r ≡ lowest from7 → r ≡ lowest (orderConditions ix q)
+  order-query i d e r f = f ∙ sym (index-accepted ix from7 (sym d ∙ e))
+
+  -- none of them holds
+  pub order-asks : lowest (orderConditions ix q) ≡ 0 → Asks ix q
+  order-asks e = ⊎-elim (λ z. go (sym z)) (λ l. absurd (omega (arith, l, index-refused ix from7 l, e))) (eq-or-lt-of-le {n = 0} {m = indexRefusal ix} (omega arith))
+    where
+      go : indexRefusal ix ≡ 0 → Asks ix q
+      go z =
+          let e7 : lowest from7 ≡ 0 = sym (index-accepted ix from7 z) ∙ e in
+          let e8 = rest-none 7 (lit< tt) from8 (wrong7 q) e7 in
+          let e9 = rest-none 8 (lit< tt) from9 (wrong8 ix q) e8 in
+          record {
+            accepted = accepted-checked ix z;
+            records-right = first-not 7 (lit< tt) from8 (wrong7 q) e7;
+            values-right = first-not 8 (lit< tt) from9 (wrong8 ix q) e8;
+            boosts-right = first-not 9 (lit< tt) from10 (wrong9 q) e9;
+            positions-right = first-not 10 (lit< tt) [] (wrong10 ix q) (rest-none 9 (lit< tt) from10 (wrong9 q) e9);
+          }
+
+  pub order-checked : (r : ℕ) → r ≡ lowest (orderConditions ix q) → r ≡ 0 → Asks ix q
+  order-checked r o e = order-asks (sym o ∙ e)
+
+  order-numbered : Numbered (orderConditions ix q)
+  order-numbered = (lit< tt, (lit< tt, (lit< tt, (lit< tt, (lit< tt, (lit< tt, (lit< tt, (lit< tt, (lit< tt, (lit< tt, tt))))))))))
+
+  -- with further conditions behind them
+  module _ (ds : List Condition) where
+    pub order-refused : (r : ℕ) → r ≡ lowest (orderConditions ix q) → (r ≡ 0 → ⊥) → r ≡ lowest (orderConditions ix q ++ ds)
+    order-refused r e h = e ∙ sym (lowest-some (orderConditions ix q) ds (subst (λ (i : ℕ). 0 < i) e (above-zero r h)))
+
+    pub order-passed : lowest (orderConditions ix q) ≡ 0 → (r : ℕ) → r ≡ lowest ds → r ≡ lowest (orderConditions ix q ++ ds)
+    order-passed e r f = f ∙ sym (lowest-none (orderConditions ix q) ds order-numbered e)
+
+    pub order-accepted : lowest (orderConditions ix q ++ ds) ≡ 0 → (lowest (orderConditions ix q) ≡ 0) × (lowest ds ≡ 0)
+    order-accepted e =
+        ⊎-elim (λ z. (sym z, sym (lowest-none (orderConditions ix q) ds order-numbered (sym z)) ∙ e))
+        (λ l. absurd (omega (arith, l, lowest-some (orderConditions ix q) ds l, e)))
+        (eq-or-lt-of-le {n = 0} {m = lowest (orderConditions ix q)} (omega arith))
+
+-- ---- what the work's measures ask
+module _ (ix : Index) (n : ℕ) (leaves postings q : List ℕ) (h : QueryLent ix n leaves postings q) where
+  pub query-runs : PhraseRuns q leaves postings
+  query-runs = rw (← h .leaves-are, ← h .postings-are) record {
+    present = λ r l k. phrase-term-right ix q (h .asks .values-right) r l k .leaf-present;
+    within = λ r l k. h .asks .accepted .leaf (recordValue q r 0) (phrase-term-right ix q (h .asks .values-right) r l k .leaf-present) .run;
+  }
+
+  pub query-few : recordCount q ≤ maxRecords
+  query-few = whole q (h .asks .records-right) .few-records
