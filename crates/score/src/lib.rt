@@ -8,12 +8,15 @@ ghost use lib.ListN.{length, getD};
 ghost use lib.Ieee.{nan, binary32, isNan, nanBits, ofBits, ofInt};
 ghost use Rattle.meaning.specs.Bm25.{bm25};
 ghost use Rattle.index.specs.Runs.{postingDocument, postingFrequency};
+ghost use Rattle.scorer.specs.Contracts.{lent, AdvancePre, AdvancePost};
 ghost use Rattle.score.specs.Words.{NodeIs, ChildIs, ChildThere, byteAt};
 ghost use Rattle.score.specs.Asked.{ScorePre, ScorePost, RequiredPre, RequiredPost, OptionalPre, OptionalPost, JoinPre, JoinPost, LeafPre, LeafPost, FrequencyPre, FrequencyPost};
 
 pub mod walk;
 
 use index::wide;
+
+const BOOLEAN: u32 = 3;
 
 // What the score reads of a node's record.
 pub struct Node {
@@ -162,6 +165,52 @@ fn leaf_score(
     0.0
 }
 
+// The score of a node that is no Boolean. It stands outside the cycle below, so that a leaf does not pay for a Boolean.
+pub fn leaf(
+    st: &mut [u32],
+    max_doc: u32,
+    postings: &[u32],
+    positions: &[u32],
+    norms: &[u8],
+    ranges: &[u32],
+    inverses: &[f32],
+    a: &mut [i32],
+    b: &mut [i32],
+    doc: u32,
+    depth: u32,
+) -> f32
+    requires { ⌜ (getD (now st) 0 0 ≡ 3 → ⊥) × ScorePre (now st) «max_doc» (now postings) (now positions) (now norms) (now ranges) (now inverses) (min (length (now a)) (length (now b))) doc depth ⌝ }
+    ensures { λ r. ⌜ ScorePost (now (st .entry)) «max_doc» (now (postings .entry)) (now (positions .entry)) (now (norms .entry)) (now (ranges .entry)) (now (inverses .entry)) (min (length (now (a .entry))) (length (now (b .entry)))) doc depth r (now (st .exit)) ⌝ }
+{
+    let n = node_at(st);
+    if n.constant == 1 {
+        return f32::from_bits(n.weight);
+    }
+    leaf_score(st, max_doc, postings, positions, norms, inverses, a, b, doc)
+}
+
+// Where the node stands at or after the document: its cached document where it is there already.
+fn stands(
+    st: &mut [u32],
+    max_doc: u32,
+    postings: &[u32],
+    positions: &[u32],
+    ranges: &[u32],
+    a: &mut [i32],
+    b: &mut [i32],
+    doc: u32,
+    depth: u32,
+) -> u32
+    requires { ⌜ AdvancePre (lent «max_doc» (now postings) (now positions) (now ranges)) (length (now a)) (length (now b)) (now st) doc depth ⌝ }
+    ensures { λ r. ⌜ AdvancePost (lent «max_doc» (now (postings .entry)) (now (positions .entry)) (now (ranges .entry))) (now (st .entry)) doc depth r (now (st .exit)) ⌝ }
+{
+    let cached = st[2];
+    if doc < cached {
+        return cached - 1;
+    }
+    scorer::advance(st, max_doc, postings, positions, ranges, a, b, doc, depth)
+}
+
 // The score of the document where the node matches it. The children were left at it or before it.
 pub fn score(
     st: &mut [u32],
@@ -183,7 +232,7 @@ pub fn score(
     if n.constant == 1 {
         return f32::from_bits(n.weight);
     }
-    if n.kind == 3 {
+    if n.kind == BOOLEAN {
         joined(
             &mut st[24..],
             n,
@@ -200,6 +249,54 @@ pub fn score(
         )
     } else {
         leaf_score(st, max_doc, postings, positions, norms, inverses, a, b, doc)
+    }
+}
+
+// A child's score; only a Boolean goes round the cycle.
+fn child_score(
+    st: &mut [u32],
+    max_doc: u32,
+    postings: &[u32],
+    positions: &[u32],
+    norms: &[u8],
+    ranges: &[u32],
+    inverses: &[f32],
+    a: &mut [i32],
+    b: &mut [i32],
+    doc: u32,
+    depth: u32,
+) -> f32
+    requires { ⌜ ScorePre (now st) «max_doc» (now postings) (now positions) (now norms) (now ranges) (now inverses) (min (length (now a)) (length (now b))) doc depth ⌝ }
+    ensures { λ r. ⌜ ScorePost (now (st .entry)) «max_doc» (now (postings .entry)) (now (positions .entry)) (now (norms .entry)) (now (ranges .entry)) (now (inverses .entry)) (min (length (now (a .entry))) (length (now (b .entry)))) doc depth r (now (st .exit)) ⌝ }
+{
+    if st[0] == BOOLEAN {
+        score(
+            st,
+            max_doc,
+            postings,
+            positions,
+            norms,
+            ranges,
+            inverses,
+            a,
+            b,
+            doc,
+            depth,
+        )
+    } else {
+        leaf(
+            st,
+            max_doc,
+            postings,
+            positions,
+            norms,
+            ranges,
+            inverses,
+            a,
+            b,
+            doc,
+            depth,
+        )
     }
 }
 
@@ -310,7 +407,7 @@ fn required(
         let k = child_at(kids, at);
         let end = k.end;
         if k.scores == 1 {
-            let s = score(
+            let s = child_score(
                 &mut kids[at..end],
                 max_doc,
                 postings,
@@ -352,7 +449,7 @@ fn optional(
     while at < kids.len() {
         let k = child_at(kids, at);
         let end = k.end;
-        if scorer::advance(
+        if stands(
             &mut kids[at..end],
             max_doc,
             postings,
@@ -365,7 +462,7 @@ fn optional(
         )
             == doc
         {
-            let s = score(
+            let s = child_score(
                 &mut kids[at..end],
                 max_doc,
                 postings,
@@ -383,4 +480,52 @@ fn optional(
         at = end;
     }
     sum
+}
+
+// As `score`, from outside the cycle: a leaf at the root does not pay for a Boolean.
+pub fn score_any(
+    st: &mut [u32],
+    max_doc: u32,
+    postings: &[u32],
+    positions: &[u32],
+    norms: &[u8],
+    ranges: &[u32],
+    inverses: &[f32],
+    a: &mut [i32],
+    b: &mut [i32],
+    doc: u32,
+    depth: u32,
+) -> f32
+    requires { ⌜ ScorePre (now st) «max_doc» (now postings) (now positions) (now norms) (now ranges) (now inverses) (min (length (now a)) (length (now b))) doc depth ⌝ }
+    ensures { λ r. ⌜ ScorePost (now (st .entry)) «max_doc» (now (postings .entry)) (now (positions .entry)) (now (norms .entry)) (now (ranges .entry)) (now (inverses .entry)) (min (length (now (a .entry))) (length (now (b .entry)))) doc depth r (now (st .exit)) ⌝ }
+{
+    if st[0] == BOOLEAN {
+        score(
+            st,
+            max_doc,
+            postings,
+            positions,
+            norms,
+            ranges,
+            inverses,
+            a,
+            b,
+            doc,
+            depth,
+        )
+    } else {
+        leaf(
+            st,
+            max_doc,
+            postings,
+            positions,
+            norms,
+            ranges,
+            inverses,
+            a,
+            b,
+            doc,
+            depth,
+        )
+    }
 }

@@ -90,7 +90,7 @@ pub fn list(
         if next == NO_MORE_DOCS {
             return Listed { given, next };
         }
-        let s = crate::score(
+        let s = crate::score_any(
             st,
             max_doc,
             postings,

@@ -6,8 +6,8 @@ use Rattle.score.proofs.Parts.{back-length}
 use Rattle.score.proofs.Loops.{places-same, required-start, required-end, required-there, required-skip, required-child, required-number, required-took}
 use Prim.Native.Nat.{ℕ, min}
 use Rattle.score.proofs.required.Reads as required
-use Rattle.score.proofs.+joined+optional+required+score.Lts-required as required-lts
-use Rattle.score.proofs.+joined+optional+required+score.Proof.Calls.{required-at, required-calls, required-Inv-loop, required-μ-loop}
+use Rattle.score.proofs.+child_score+joined+optional+required+score.Lts-required as required-lts
+use Rattle.score.proofs.+child_score+joined+optional+required+score.Proof.Calls.{required-at, required-calls, required-Inv-loop, required-μ-loop}
 
 pub required-loop-holds : (t : ℕ) → required-lts.Need-loop-holds (required-calls t) (required-at t) required.Post required-Inv-loop required-μ-loop
 required-loop-holds t c =
@@ -20,40 +20,40 @@ required-child-at-requires t c κs =
     let l = c .before .before .loop in
     required-there (s₀ .args .kids .now) (s₀ .args .start) (s₀ .args .max-doc) (s₀ .args .postings .now) (s₀ .args .positions .now) (s₀ .args .norms .now) (s₀ .args .ranges .now) (s₀ .args .inverses .now) (min (length (s₀ .args .a .now)) (length (s₀ .args .b .now))) (s₀ .args .doc) (s₀ .args .depth) (l .kids) (l .at) (l .sum) (l .inv .3) (c .before .loop-test .taken) (s₀ .pre .1)
 
-pub required-mul-score : (t : ℕ) → required-lts.Need-mul-score (required-calls t) (required-at t) required.Post required-Inv-loop required-μ-loop
-required-mul-score t c =
+pub required-mul-child-score : (t : ℕ) → required-lts.Need-mul-child-score (required-calls t) (required-at t) required.Post required-Inv-loop required-μ-loop
+required-mul-child-score t c =
     let s₀ = c .before .before .before .before .before .before .before .before .before .before .before .before in
     let l = c .before .before .before .before .before .loop in
     let k = c .before .before .child-at .result in
     let h = c .before .before .child-at .ensures in
     omega (arith, required-there (s₀ .args .kids .now) (s₀ .args .start) (s₀ .args .max-doc) (s₀ .args .postings .now) (s₀ .args .positions .now) (s₀ .args .norms .now) (s₀ .args .ranges .now) (s₀ .args .inverses .now) (min (length (s₀ .args .a .now)) (length (s₀ .args .b .now))) (s₀ .args .doc) (s₀ .args .depth) (l .kids) (l .at) (l .sum) (l .inv .3) (c .before .before .before .before .loop-test .taken) (s₀ .pre .1), h .end-is, l .inv .0, s₀ .good)
 
-pub required-sub-score : (t : ℕ) → required-lts.Need-sub-score (required-calls t) (required-at t) required.Post required-Inv-loop required-μ-loop
-required-sub-score t c =
+pub required-sub-child-score : (t : ℕ) → required-lts.Need-sub-child-score (required-calls t) (required-at t) required.Post required-Inv-loop required-μ-loop
+required-sub-child-score t c =
     let s₀ = c .before .before .before .before .before .before .before .before .before .before .before .before in
     let l = c .before .before .before .before .before .loop in
     let k = c .before .before .child-at .result in
     let h = c .before .before .child-at .ensures in
     omega (arith, required-there (s₀ .args .kids .now) (s₀ .args .start) (s₀ .args .max-doc) (s₀ .args .postings .now) (s₀ .args .positions .now) (s₀ .args .norms .now) (s₀ .args .ranges .now) (s₀ .args .inverses .now) (min (length (s₀ .args .a .now)) (length (s₀ .args .b .now))) (s₀ .args .doc) (s₀ .args .depth) (l .kids) (l .at) (l .sum) (l .inv .3) (c .before .before .before .before .loop-test .taken) (s₀ .pre .1), h .end-is, l .inv .0, s₀ .good)
 
-pub required-part-score-start : (t : ℕ) → required-lts.Need-part-score-start (required-calls t) (required-at t) required.Post required-Inv-loop required-μ-loop
-required-part-score-start t c =
+pub required-part-child-score-start : (t : ℕ) → required-lts.Need-part-child-score-start (required-calls t) (required-at t) required.Post required-Inv-loop required-μ-loop
+required-part-child-score-start t c =
     let s₀ = c .before .before .before .before .before .before .before .before .before .before .before .before in
     let l = c .before .before .before .before .before .loop in
     let k = c .before .before .child-at .result in
     let h = c .before .before .child-at .ensures in
     omega (arith, required-there (s₀ .args .kids .now) (s₀ .args .start) (s₀ .args .max-doc) (s₀ .args .postings .now) (s₀ .args .positions .now) (s₀ .args .norms .now) (s₀ .args .ranges .now) (s₀ .args .inverses .now) (min (length (s₀ .args .a .now)) (length (s₀ .args .b .now))) (s₀ .args .doc) (s₀ .args .depth) (l .kids) (l .at) (l .sum) (l .inv .3) (c .before .before .before .before .loop-test .taken) (s₀ .pre .1), h .end-is, l .inv .0, s₀ .good)
 
-pub required-part-score-end : (t : ℕ) → required-lts.Need-part-score-end (required-calls t) (required-at t) required.Post required-Inv-loop required-μ-loop
-required-part-score-end t c =
+pub required-part-child-score-end : (t : ℕ) → required-lts.Need-part-child-score-end (required-calls t) (required-at t) required.Post required-Inv-loop required-μ-loop
+required-part-child-score-end t c =
     let s₀ = c .before .before .before .before .before .before .before .before .before .before .before .before in
     let l = c .before .before .before .before .before .loop in
     let k = c .before .before .child-at .result in
     let h = c .before .before .child-at .ensures in
     omega (arith, required-there (s₀ .args .kids .now) (s₀ .args .start) (s₀ .args .max-doc) (s₀ .args .postings .now) (s₀ .args .positions .now) (s₀ .args .norms .now) (s₀ .args .ranges .now) (s₀ .args .inverses .now) (min (length (s₀ .args .a .now)) (length (s₀ .args .b .now))) (s₀ .args .doc) (s₀ .args .depth) (l .kids) (l .at) (l .sum) (l .inv .3) (c .before .before .before .before .loop-test .taken) (s₀ .pre .1), h .end-is, l .inv .0, s₀ .good)
 
-pub required-score-requires : (t : ℕ) → required-lts.Need-score-requires (required-calls t) (required-at t) required.Post required-Inv-loop required-μ-loop
-required-score-requires t c κs =
+pub required-child-score-requires : (t : ℕ) → required-lts.Need-child-score-requires (required-calls t) (required-at t) required.Post required-Inv-loop required-μ-loop
+required-child-score-requires t c κs =
     let s₀ = c .before .before .before .before .before .before .before .before .before .before .before .before .before .before .before in
     let l = c .before .before .before .before .before .before .before .before .loop in
     let k = c .before .before .before .before .before .child-at .result in
@@ -66,7 +66,7 @@ required-add-score-requires t c κs =
     let l = c .before .before .before .before .before .before .before .before .before .before .before .before .before .loop in
     let k = c .before .before .before .before .before .before .before .before .before .before .child-at .result in
     let h = c .before .before .before .before .before .before .before .before .before .before .child-at .ensures in
-    required-number (s₀ .args .kids .now) (s₀ .args .start) (s₀ .args .max-doc) (s₀ .args .postings .now) (s₀ .args .positions .now) (s₀ .args .norms .now) (s₀ .args .ranges .now) (s₀ .args .inverses .now) (min (length (s₀ .args .a .now)) (length (s₀ .args .b .now))) (s₀ .args .doc) (s₀ .args .depth) (l .kids) (l .at) (l .sum) (l .inv .3) (c .before .before .before .before .before .before .before .before .before .before .before .before .loop-test .taken) (k .end) (h .end-is) (sym (h .scores-is) ∙ c .before .before .before .before .before .before .before .before .if1 .taken) (min (length (l .a)) (length (l .b))) (places-same _ _ _ _ (l .inv .1) (l .inv .2)) (c .before .before .before .before .score .result) (c .before .before .before .before .score .last .0) (c .before .before .before .before .score .ensures) (s₀ .pre .1)
+    required-number (s₀ .args .kids .now) (s₀ .args .start) (s₀ .args .max-doc) (s₀ .args .postings .now) (s₀ .args .positions .now) (s₀ .args .norms .now) (s₀ .args .ranges .now) (s₀ .args .inverses .now) (min (length (s₀ .args .a .now)) (length (s₀ .args .b .now))) (s₀ .args .doc) (s₀ .args .depth) (l .kids) (l .at) (l .sum) (l .inv .3) (c .before .before .before .before .before .before .before .before .before .before .before .before .loop-test .taken) (k .end) (h .end-is) (sym (h .scores-is) ∙ c .before .before .before .before .before .before .before .before .if1 .taken) (min (length (l .a)) (length (l .b))) (places-same _ _ _ _ (l .inv .1) (l .inv .2)) (c .before .before .before .before .child-score .result) (c .before .before .before .before .child-score .last .0) (c .before .before .before .before .child-score .ensures) (s₀ .pre .1)
 
 pub required-loop-less : (t : ℕ) → required-lts.Need-loop-less (required-calls t) (required-at t) required.Post required-Inv-loop required-μ-loop
 required-loop-less t c =
@@ -74,7 +74,7 @@ required-loop-less t c =
     let l = c .before .before .before .before .before .before .before .before .before .before .before .before .before .before .loop in
     let k = c .before .before .before .before .before .before .before .before .before .before .before .child-at .result in
     let h = c .before .before .before .before .before .before .before .before .before .before .before .child-at .ensures in
-    omega (arith, back-length (l .kids) (c .before .before .before .before .before .score .last .0) (l .at) (k .end) (c .before .before .before .before .before .score .kept .0), required-there (s₀ .args .kids .now) (s₀ .args .start) (s₀ .args .max-doc) (s₀ .args .postings .now) (s₀ .args .positions .now) (s₀ .args .norms .now) (s₀ .args .ranges .now) (s₀ .args .inverses .now) (min (length (s₀ .args .a .now)) (length (s₀ .args .b .now))) (s₀ .args .doc) (s₀ .args .depth) (l .kids) (l .at) (l .sum) (l .inv .3) (c .before .before .before .before .before .before .before .before .before .before .before .before .before .loop-test .taken) (s₀ .pre .1), h .end-is, c .before .before .before .before .before .before .before .before .before .before .before .before .before .loop-test .taken)
+    omega (arith, back-length (l .kids) (c .before .before .before .before .before .child-score .last .0) (l .at) (k .end) (c .before .before .before .before .before .child-score .kept .0), required-there (s₀ .args .kids .now) (s₀ .args .start) (s₀ .args .max-doc) (s₀ .args .postings .now) (s₀ .args .positions .now) (s₀ .args .norms .now) (s₀ .args .ranges .now) (s₀ .args .inverses .now) (min (length (s₀ .args .a .now)) (length (s₀ .args .b .now))) (s₀ .args .doc) (s₀ .args .depth) (l .kids) (l .at) (l .sum) (l .inv .3) (c .before .before .before .before .before .before .before .before .before .before .before .before .before .loop-test .taken) (s₀ .pre .1), h .end-is, c .before .before .before .before .before .before .before .before .before .before .before .before .before .loop-test .taken)
 
 pub required-loop-again : (t : ℕ) → required-lts.Need-loop-again (required-calls t) (required-at t) required.Post required-Inv-loop required-μ-loop
 required-loop-again t c =
@@ -82,7 +82,7 @@ required-loop-again t c =
     let l = c .before .before .before .before .before .before .before .before .before .before .before .before .before .before .loop in
     let k = c .before .before .before .before .before .before .before .before .before .before .before .child-at .result in
     let h = c .before .before .before .before .before .before .before .before .before .before .before .child-at .ensures in
-    (back-length (l .kids) (c .before .before .before .before .before .score .last .0) (l .at) (k .end) (c .before .before .before .before .before .score .kept .0) ∙ l .inv .0, c .before .before .before .before .before .score .kept .1 .1 .1 .1 .1 .1 .1 .0 ∙ l .inv .1, c .before .before .before .before .before .score .kept .1 .1 .1 .1 .1 .1 .1 .1 .0 ∙ l .inv .2, required-took (s₀ .args .kids .now) (s₀ .args .start) (s₀ .args .max-doc) (s₀ .args .postings .now) (s₀ .args .positions .now) (s₀ .args .norms .now) (s₀ .args .ranges .now) (s₀ .args .inverses .now) (min (length (s₀ .args .a .now)) (length (s₀ .args .b .now))) (s₀ .args .doc) (s₀ .args .depth) (l .kids) (l .at) (l .sum) (l .inv .3) (c .before .before .before .before .before .before .before .before .before .before .before .before .before .loop-test .taken) (k .end) (h .end-is) (sym (h .scores-is) ∙ c .before .before .before .before .before .before .before .before .before .if1 .taken) (min (length (l .a)) (length (l .b))) (places-same _ _ _ _ (l .inv .1) (l .inv .2)) (c .before .before .before .before .before .score .result) (c .before .before .before .before .before .score .last .0) (c .before .before .before .before .before .score .ensures) (c .add-score .result) (c .add-score .ensures))
+    (back-length (l .kids) (c .before .before .before .before .before .child-score .last .0) (l .at) (k .end) (c .before .before .before .before .before .child-score .kept .0) ∙ l .inv .0, c .before .before .before .before .before .child-score .kept .1 .1 .1 .1 .1 .1 .1 .0 ∙ l .inv .1, c .before .before .before .before .before .child-score .kept .1 .1 .1 .1 .1 .1 .1 .1 .0 ∙ l .inv .2, required-took (s₀ .args .kids .now) (s₀ .args .start) (s₀ .args .max-doc) (s₀ .args .postings .now) (s₀ .args .positions .now) (s₀ .args .norms .now) (s₀ .args .ranges .now) (s₀ .args .inverses .now) (min (length (s₀ .args .a .now)) (length (s₀ .args .b .now))) (s₀ .args .doc) (s₀ .args .depth) (l .kids) (l .at) (l .sum) (l .inv .3) (c .before .before .before .before .before .before .before .before .before .before .before .before .before .loop-test .taken) (k .end) (h .end-is) (sym (h .scores-is) ∙ c .before .before .before .before .before .before .before .before .before .if1 .taken) (min (length (l .a)) (length (l .b))) (places-same _ _ _ _ (l .inv .1) (l .inv .2)) (c .before .before .before .before .before .child-score .result) (c .before .before .before .before .before .child-score .last .0) (c .before .before .before .before .before .child-score .ensures) (c .add-score .result) (c .add-score .ensures))
 
 pub required-loop-less-2 : (t : ℕ) → required-lts.Need-loop-less-2 (required-calls t) (required-at t) required.Post required-Inv-loop required-μ-loop
 required-loop-less-2 t c =
