@@ -1,10 +1,9 @@
 -- Document 01, "BM25 and the hits" and "Sizes": what the program `hits` prints for the bytes of its ten files. Assumes nothing: these are definitions.
-use mathlib.Core.Path.{_≡_}
 use mathlib.Core.Bool.{Bool, cond, _&&_}
 use mathlib.Core.List.{List, [], _∷_, _++_}
 use Prim.Native.Nat.{ℕ, zero, suc, _+_, _*_, _/_, _%_, _^_}
 use lib.Dec.{eqb, leb, ltb}
-use lib.ListN.{length, take, getD}
+use lib.ListN.{length, getD}
 use lib.IntN.{ℤ}
 use lib.Signed.{shrZ}
 use Rattle.meaning.specs.Below.{listTo}
