@@ -1,11 +1,11 @@
 /* Ranked lot search: the proved entries Search, Page and Pick.
  *
  * Link target/staticlib/liblot_search.a (rt staticlib lot_search), for x86-64 Linux. Nothing is kept between calls and no
- * memory is allocated: calls with written buffers of their own may run at the same time.
+ * memory is allocated: calls that share no slice that is written may run at the same time.
  *
  * Every slice is a pointer and a number of elements. What is proved is proved of calls that keep to this:
- * - The pointer is aligned for its elements, and all of them lie there and have been written once, with any value, in
- *   work and output buffers too. Where the number is 0 the pointer is not used, and may be null.
+ * - The pointer is aligned for its elements, and all of them have been written before, work and output buffers too, with
+ *   whatever values. Where the number is 0 nothing is read or written through the pointer, and it may be null.
  * - A slice that is written (those without const) overlaps no other slice. Those that are only read may overlap.
  * - Nothing else reads what is written, or changes what is lent, while the call runs.
  *

@@ -22,7 +22,7 @@ use std::panic::{AssertUnwindSafe, catch_unwind};
 use std::sync::atomic::{AtomicU64, Ordering};
 use std::thread;
 
-const CASES: u64 = 100_000;
+const CASES: u64 = 300_000;
 
 /// The body of a test that needs the library and the Rust source.
 macro_rules! with_library {

@@ -12,3 +12,4 @@ pub mod Collecting
 pub mod Popping
 pub mod Beginning
 pub mod Picked
+pub mod Lent

@@ -48,10 +48,6 @@ refused-keeps : {A : Type 0} (n : ℕ) (accepted kept : A) → 0 < n → kept �
 refused-keeps zero accepted kept h = absurd (omega arith)
 refused-keeps (suc n) accepted kept h = refl
 
--- an accepted call's numbers stand in the slice for the answer
-found-written : (b : ℕ) (xs ys answer : List ℕ) → b ≡ 0 → xs ≡ ys → written xs answer ≡ answered b (written ys answer) (λ n. answer)
-found-written b xs ys answer e f = rw (e, f) refl
-
 -- a work buffer that one refusal keeps, an equal one keeps
 kept-by : {A : Type 0} (b z : ℕ) (before after : List A) → b ≡ z → Kept z before after → Kept b before after
 kept-by b z before after e k = λ h. k (rw e at h)
@@ -73,13 +69,14 @@ abbrev PickTold : (documents scores : List ℕ) (k t : ℕ) (heap : List ℤ) (a
 PickTold documents scores k t heap answer r heap′ answer′ =
     let b = borderPick documents scores k (length heap) (length answer) in
     let list = pickedList documents scores in
-    (r ≡ b) × ((heap′ ≡ answered b (written (hits k list) heap) (λ n. heap)) × (answer′ ≡ answered b (written (topNumbers k t list) answer) (λ n. answer)))
+    (r ≡ b) × ((heap′ ≡ answered r (written (hits k list) heap) (λ n. heap)) × (answer′ ≡ answered r (written (topNumbers k t list) answer) (λ n. answer)))
 
 pub pick-told-short : (documents scores : List ℕ) (k t : ℕ) (heap : List ℤ) (answer : List ℕ) (z r : ℕ) → length answer < 3 → z ≡ pickRefusal documents scores k (length heap) → r ≡ shortAnswer z → PickTold documents scores k t heap answer r heap answer
 pick-told-short documents scores k t heap answer z r h e f =
     let s = pick-short documents scores k (length heap) (length answer) h in
-    let p : 0 < borderPick documents scores k (length heap) (length answer) = rw s (short-refuses (pickRefusal documents scores k (length heap))) in
-    (f ∙ ap shortAnswer e ∙ sym s, (refused-keeps _ _ heap p, refused-keeps _ _ answer p))
+    let i = f ∙ ap shortAnswer e ∙ sym s in
+    let p : 0 < r = rw (f ∙ ap shortAnswer e) (short-refuses (pickRefusal documents scores k (length heap))) in
+    (i, (refused-keeps _ _ heap p, refused-keeps _ _ answer p))
 
 pick-written : (documents scores : List ℕ) (k b : ℕ) (heap : List ℤ) → b ≡ pickRefusal documents scores k (length heap) → pickHits documents scores k heap ≡ answered b (written (hits k (pickedList documents scores)) heap) (λ n. heap)
 unfolding pickHits
@@ -90,28 +87,29 @@ unfolding pickedNumbers pickAnswer
 pick-told-refused documents scores k t heap heap′ answer a n h e f g =
     let l = pick-long documents scores k (length heap) (length answer) h in
     let z = refused-number (pickRefusal documents scores k (length heap)) n _ _ (sym (ap pickedNumbers e) ∙ f) in
-    let p : 0 < borderPick documents scores k (length heap) (length answer) = rw l (z .1) in
-    (z .0 ∙ sym l, (g ∙ pick-written documents scores k _ heap l, refused-keeps _ _ answer p))
+    let p : 0 < n = rw (z .0) (z .1) in
+    (z .0 ∙ sym l, (g ∙ pick-written documents scores k _ heap (z .0), refused-keeps _ _ answer p))
 
 pub pick-told-found : (documents scores : List ℕ) (k t : ℕ) (heap heap′ : List ℤ) (answer answer′ : List ℕ) (a : Picked) (top : TopDocs) → 3 ≤ length answer → a ≡ Picked.Found top → pickedNumbers a ≡ pickAnswer documents scores k t (length heap) → heap′ ≡ pickHits documents scores k heap → answer′ ≡ written (top .held ∷ top .count ∷ cond (top .mark) 1 0 ∷ []) answer → PickTold documents scores k t heap answer 0 heap′ answer′
 unfolding pickedNumbers pickAnswer
 pick-told-found documents scores k t heap heap′ answer answer′ a top h e f g w =
     let l = pick-long documents scores k (length heap) (length answer) h in
     let z = found-numbers (pickRefusal documents scores k (length heap)) (top .held) _ _ (sym (ap pickedNumbers e) ∙ f) in
-    (sym (l ∙ z .0), (g ∙ pick-written documents scores k _ heap l, w ∙ found-written _ _ _ answer (l ∙ z .0) (z .1)))
+    (sym (l ∙ z .0), (g ∙ pick-written documents scores k _ heap (sym (z .0)), w ∙ ap (λ (xs : List ℕ). written xs answer) (z .1)))
 
 -- ---- Search: what the border's entry is to answer and to leave, with the four work buffers before and after
 abbrev SearchTold : (ix : Index) (q : List ℕ) (k t : ℕ) (w : Work) (heap : List ℤ) (answer states : List ℕ) (starts others : List ℤ) (ranges : List ℕ) (r : ℕ) (heap′ : List ℤ) (answer′ states′ : List ℕ) (starts′ others′ : List ℤ) (ranges′ : List ℕ) → Type 0
 SearchTold ix q k t w heap answer states starts others ranges r heap′ answer′ states′ starts′ others′ ranges′ =
     let b = borderSearch ix q k w (length heap) (length answer) in
     let list = fullList ix (queryTree q) in
-    (r ≡ b) × ((heap′ ≡ answered b (written (hits k list) heap) (λ n. heap)) × ((answer′ ≡ answered b (written (topNumbers k t list) answer) (λ n. answer)) × (Kept b states states′ × (Kept b starts starts′ × (Kept b others others′ × Kept b ranges ranges′)))))
+    (r ≡ b) × ((heap′ ≡ answered r (written (hits k list) heap) (λ n. heap)) × ((answer′ ≡ answered r (written (topNumbers k t list) answer) (λ n. answer)) × (Kept r states states′ × (Kept r starts starts′ × (Kept r others others′ × Kept r ranges ranges′)))))
 
 pub search-told-short : (ix : Index) (q : List ℕ) (k t : ℕ) (w : Work) (heap : List ℤ) (answer states : List ℕ) (starts others : List ℤ) (ranges : List ℕ) (z r : ℕ) → length answer < 3 → z ≡ searchRefusal ix q k w (length heap) → r ≡ shortAnswer z → SearchTold ix q k t w heap answer states starts others ranges r heap answer states starts others ranges
 search-told-short ix q k t w heap answer states starts others ranges z r h e f =
     let s = search-short ix q k w (length heap) (length answer) h in
-    let p : 0 < borderSearch ix q k w (length heap) (length answer) = rw s (short-refuses (searchRefusal ix q k w (length heap))) in
-    (f ∙ ap shortAnswer e ∙ sym s, (refused-keeps _ _ heap p, (refused-keeps _ _ answer p, ((λ u. refl), ((λ u. refl), ((λ u. refl), λ u. refl))))))
+    let i = f ∙ ap shortAnswer e ∙ sym s in
+    let p : 0 < r = rw (f ∙ ap shortAnswer e) (short-refuses (searchRefusal ix q k w (length heap))) in
+    (i, (refused-keeps _ _ heap p, (refused-keeps _ _ answer p, ((λ u. refl), ((λ u. refl), ((λ u. refl), λ u. refl))))))
 
 search-written : (ix : Index) (q : List ℕ) (k : ℕ) (w : Work) (b : ℕ) (heap : List ℤ) → b ≡ searchRefusal ix q k w (length heap) → searchHits ix q k w heap ≡ answered b (written (hits k (fullList ix (queryTree q))) heap) (λ n. heap)
 unfolding searchHits
@@ -122,28 +120,29 @@ unfolding searchedNumbers searchAnswer
 search-told-refused ix q k t w heap heap′ answer states states′ starts starts′ others others′ ranges ranges′ a n h e f g ks ka kb kr =
     let l = search-long ix q k w (length heap) (length answer) h in
     let z = refused-number (searchRefusal ix q k w (length heap)) n _ _ (sym (ap searchedNumbers e) ∙ f) in
-    let p : 0 < borderSearch ix q k w (length heap) (length answer) = rw l (z .1) in
-    (z .0 ∙ sym l, (g ∙ search-written ix q k w _ heap l, (refused-keeps _ _ answer p, (kept-by _ _ states states′ l ks, (kept-by _ _ starts starts′ l ka, (kept-by _ _ others others′ l kb, kept-by _ _ ranges ranges′ l kr))))))
+    let p : 0 < n = rw (z .0) (z .1) in
+    (z .0 ∙ sym l, (g ∙ search-written ix q k w _ heap (z .0), (refused-keeps _ _ answer p, (kept-by _ _ states states′ (z .0) ks, (kept-by _ _ starts starts′ (z .0) ka, (kept-by _ _ others others′ (z .0) kb, kept-by _ _ ranges ranges′ (z .0) kr))))))
 
 pub search-told-found : (ix : Index) (q : List ℕ) (k t : ℕ) (w : Work) (heap heap′ : List ℤ) (answer answer′ states states′ : List ℕ) (starts starts′ others others′ : List ℤ) (ranges ranges′ : List ℕ) (a : Searched) (top : TopDocs) → 3 ≤ length answer → a ≡ Searched.Found top → searchedNumbers a ≡ searchAnswer ix q k t w (length heap) → heap′ ≡ searchHits ix q k w heap → answer′ ≡ written (top .held ∷ top .count ∷ cond (top .mark) 1 0 ∷ []) answer → Kept (searchRefusal ix q k w (length heap)) states states′ → Kept (searchRefusal ix q k w (length heap)) starts starts′ → Kept (searchRefusal ix q k w (length heap)) others others′ → Kept (searchRefusal ix q k w (length heap)) ranges ranges′ → SearchTold ix q k t w heap answer states starts others ranges 0 heap′ answer′ states′ starts′ others′ ranges′
 unfolding searchedNumbers searchAnswer
 search-told-found ix q k t w heap heap′ answer answer′ states states′ starts starts′ others others′ ranges ranges′ a top h e f g v ks ka kb kr =
     let l = search-long ix q k w (length heap) (length answer) h in
     let z = found-numbers (searchRefusal ix q k w (length heap)) (top .held) _ _ (sym (ap searchedNumbers e) ∙ f) in
-    (sym (l ∙ z .0), (g ∙ search-written ix q k w _ heap l, (v ∙ found-written _ _ _ answer (l ∙ z .0) (z .1), (kept-by _ _ states states′ l ks, (kept-by _ _ starts starts′ l ka, (kept-by _ _ others others′ l kb, kept-by _ _ ranges ranges′ l kr))))))
+    (sym (l ∙ z .0), (g ∙ search-written ix q k w _ heap (sym (z .0)), (v ∙ ap (λ (xs : List ℕ). written xs answer) (z .1), (kept-by _ _ states states′ (sym (z .0)) ks, (kept-by _ _ starts starts′ (sym (z .0)) ka, (kept-by _ _ others others′ (sym (z .0)) kb, kept-by _ _ ranges ranges′ (sym (z .0)) kr))))))
 
 -- ---- Page, in the same way, with its two outputs
 abbrev PageTold : (ix : Index) (q : List ℕ) (target : ℕ) (w : Work) (documents scores answer states : List ℕ) (starts others : List ℤ) (ranges : List ℕ) (r : ℕ) (documents′ scores′ answer′ states′ : List ℕ) (starts′ others′ : List ℤ) (ranges′ : List ℕ) → Type 0
 PageTold ix q target w documents scores answer states starts others ranges r documents′ scores′ answer′ states′ starts′ others′ ranges′ =
     let b = borderPage ix q target w (length documents) (length scores) (length answer) in
     let p = pageOf ix q target (length documents) in
-    (r ≡ b) × ((documents′ ≡ answered b (written (map (λ h. h .doc) (p .given)) documents) (λ n. documents)) × ((scores′ ≡ answered b (written (map (λ h. toBits binary32 (h .score)) (p .given)) scores) (λ n. scores)) × ((answer′ ≡ answered b (written (pageNumbers p) answer) (λ n. answer)) × (Kept b states states′ × (Kept b starts starts′ × (Kept b others others′ × Kept b ranges ranges′))))))
+    (r ≡ b) × ((documents′ ≡ answered r (written (map (λ h. h .doc) (p .given)) documents) (λ n. documents)) × ((scores′ ≡ answered r (written (map (λ h. toBits binary32 (h .score)) (p .given)) scores) (λ n. scores)) × ((answer′ ≡ answered r (written (pageNumbers p) answer) (λ n. answer)) × (Kept r states states′ × (Kept r starts starts′ × (Kept r others others′ × Kept r ranges ranges′))))))
 
 pub page-told-short : (ix : Index) (q : List ℕ) (target : ℕ) (w : Work) (documents scores answer states : List ℕ) (starts others : List ℤ) (ranges : List ℕ) (z r : ℕ) → length answer < 2 → z ≡ pageRefusal ix q target w (length documents) (length scores) → r ≡ shortAnswer z → PageTold ix q target w documents scores answer states starts others ranges r documents scores answer states starts others ranges
 page-told-short ix q target w documents scores answer states starts others ranges z r h e f =
     let s = page-short ix q target w (length documents) (length scores) (length answer) h in
-    let p : 0 < borderPage ix q target w (length documents) (length scores) (length answer) = rw s (short-refuses (pageRefusal ix q target w (length documents) (length scores))) in
-    (f ∙ ap shortAnswer e ∙ sym s, (refused-keeps _ _ documents p, (refused-keeps _ _ scores p, (refused-keeps _ _ answer p, ((λ u. refl), ((λ u. refl), ((λ u. refl), λ u. refl)))))))
+    let i = f ∙ ap shortAnswer e ∙ sym s in
+    let p : 0 < r = rw (f ∙ ap shortAnswer e) (short-refuses (pageRefusal ix q target w (length documents) (length scores))) in
+    (i, (refused-keeps _ _ documents p, (refused-keeps _ _ scores p, (refused-keeps _ _ answer p, ((λ u. refl), ((λ u. refl), ((λ u. refl), λ u. refl)))))))
 
 documents-written : (ix : Index) (q : List ℕ) (target : ℕ) (w : Work) (b : ℕ) (documents scores : List ℕ) → b ≡ pageRefusal ix q target w (length documents) (length scores) → pageDocuments ix q target w documents scores ≡ answered b (written (map (λ h. h .doc) (pageOf ix q target (length documents) .given)) documents) (λ n. documents)
 unfolding pageDocuments
@@ -158,12 +157,12 @@ unfolding pagedNumbers pageAnswer
 page-told-refused ix q target w documents documents′ scores scores′ answer states states′ starts starts′ others others′ ranges ranges′ a n h e f g i ks ka kb kr =
     let l = page-long ix q target w (length documents) (length scores) (length answer) h in
     let z = refused-number (pageRefusal ix q target w (length documents) (length scores)) n _ _ (sym (ap pagedNumbers e) ∙ f) in
-    let p : 0 < borderPage ix q target w (length documents) (length scores) (length answer) = rw l (z .1) in
-    (z .0 ∙ sym l, (g ∙ documents-written ix q target w _ documents scores l, (i ∙ scores-written ix q target w _ documents scores l, (refused-keeps _ _ answer p, (kept-by _ _ states states′ l ks, (kept-by _ _ starts starts′ l ka, (kept-by _ _ others others′ l kb, kept-by _ _ ranges ranges′ l kr)))))))
+    let p : 0 < n = rw (z .0) (z .1) in
+    (z .0 ∙ sym l, (g ∙ documents-written ix q target w _ documents scores (z .0), (i ∙ scores-written ix q target w _ documents scores (z .0), (refused-keeps _ _ answer p, (kept-by _ _ states states′ (z .0) ks, (kept-by _ _ starts starts′ (z .0) ka, (kept-by _ _ others others′ (z .0) kb, kept-by _ _ ranges ranges′ (z .0) kr)))))))
 
 pub page-told-given : (ix : Index) (q : List ℕ) (target : ℕ) (w : Work) (documents documents′ scores scores′ answer states states′ : List ℕ) (starts starts′ others others′ : List ℤ) (ranges ranges′ : List ℕ) (a : Paged) (listed : Listed) → 2 ≤ length answer → a ≡ Paged.Given listed → pagedNumbers a ≡ pageAnswer ix q target w (length documents) (length scores) → documents′ ≡ pageDocuments ix q target w documents scores → scores′ ≡ pageScores ix q target w documents scores → Kept (pageRefusal ix q target w (length documents) (length scores)) states states′ → Kept (pageRefusal ix q target w (length documents) (length scores)) starts starts′ → Kept (pageRefusal ix q target w (length documents) (length scores)) others others′ → Kept (pageRefusal ix q target w (length documents) (length scores)) ranges ranges′ → PageTold ix q target w documents scores answer states starts others ranges 0 documents′ scores′ (set (set answer 0 (listed .given)) 1 (listed .next)) states′ starts′ others′ ranges′
 unfolding pagedNumbers pageAnswer
 page-told-given ix q target w documents documents′ scores scores′ answer states states′ starts starts′ others others′ ranges ranges′ a listed h e f g i ks ka kb kr =
     let l = page-long ix q target w (length documents) (length scores) (length answer) h in
     let z = found-numbers (pageRefusal ix q target w (length documents) (length scores)) (listed .given) _ _ (sym (ap pagedNumbers e) ∙ f) in
-    (sym (l ∙ z .0), (g ∙ documents-written ix q target w _ documents scores l, (i ∙ scores-written ix q target w _ documents scores l, (two-written (listed .given) (listed .next) answer h ∙ found-written _ _ _ answer (l ∙ z .0) (z .1), (kept-by _ _ states states′ l ks, (kept-by _ _ starts starts′ l ka, (kept-by _ _ others others′ l kb, kept-by _ _ ranges ranges′ l kr)))))))
+    (sym (l ∙ z .0), (g ∙ documents-written ix q target w _ documents scores (sym (z .0)), (i ∙ scores-written ix q target w _ documents scores (sym (z .0)), (two-written (listed .given) (listed .next) answer h ∙ ap (λ (xs : List ℕ). written xs answer) (z .1), (kept-by _ _ states states′ (sym (z .0)) ks, (kept-by _ _ starts starts′ (sym (z .0)) ka, (kept-by _ _ others others′ (sym (z .0)) kb, kept-by _ _ ranges ranges′ (sym (z .0)) kr)))))))

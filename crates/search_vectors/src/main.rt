@@ -131,25 +131,15 @@ fn page(
     print_paged(paged, documents, scores)
 }
 
-// A page of so many places, the end where the outputs have fewer.
-fn page_of(
-    file: &[u32],
-    bytes: &[u8],
-    live: &[u64],
-    at: usize,
-    target: u32,
-    places: usize,
-    states: &mut [u32],
-    a: &mut [i32],
-    b: &mut [i32],
-    ranges: &mut [u32],
-    documents: &mut [u32],
-    scores: &mut [u32],
-) -> u32 {
-    if documents.len() < places {
-        return NO_MORE_DOCS;
-    }
-    if scores.len() < places {
+// A page of so many places, the end where the outputs have fewer; the buffers hold rubbish before.
+fn page_of(file: &[u32], bytes: &[u8], live: &[u64], at: usize, target: u32, places: usize) -> u32 {
+    let mut states = [0xdead_beefu32; 6144];
+    let mut a = [-7i32; 16_384];
+    let mut b = [7i32; 16_384];
+    let mut ranges = [0xdead_beefu32; 16_384];
+    let mut documents = [0u32; 128];
+    let mut scores = [0u32; 128];
+    if 128 < places {
         return NO_MORE_DOCS;
     }
     page(
@@ -158,46 +148,22 @@ fn page_of(
         live,
         at,
         target,
-        states,
-        a,
-        b,
-        ranges,
+        &mut states,
+        &mut a,
+        &mut b,
+        &mut ranges,
         &mut documents[..places],
         &mut scores[..places],
     )
 }
 
 // Four pages at most, each a place longer than the one before.
-fn pages(
-    file: &[u32],
-    bytes: &[u8],
-    live: &[u64],
-    at: usize,
-    states: &mut [u32],
-    a: &mut [i32],
-    b: &mut [i32],
-    ranges: &mut [u32],
-    documents: &mut [u32],
-    scores: &mut [u32],
-) {
+fn pages(file: &[u32], bytes: &[u8], live: &[u64], at: usize) {
     let first = size(word(file, at, 4));
     let mut target = word(file, at, 3);
     let mut i = 0;
     while i < 4 {
-        target = page_of(
-            file,
-            bytes,
-            live,
-            at,
-            target,
-            first + i,
-            states,
-            a,
-            b,
-            ranges,
-            documents,
-            scores,
-        );
+        target = page_of(file, bytes, live, at, target, first + i);
         if target == NO_MORE_DOCS {
             return;
         }
@@ -205,87 +171,41 @@ fn pages(
     }
 }
 
-fn print_case(
-    file: &[u32],
-    bytes: &[u8],
-    at: usize,
-    states: &mut [u32],
-    a: &mut [i32],
-    b: &mut [i32],
-    ranges: &mut [u32],
-    hits: &mut [i64],
-    documents: &mut [u32],
-    scores: &mut [u32],
-) {
-    let mut longs = [0u64; 16];
-    let number = vectors::file::read_long_words(list_at(file, at, 10), &mut longs);
-    let live = &longs[..number];
-    search(file, bytes, live, at, states, a, b, ranges, hits);
-    pages(
+// The hits, in buffers that hold rubbish before.
+fn hits(file: &[u32], bytes: &[u8], live: &[u64], at: usize) {
+    let mut states = [0xdead_beefu32; 6144];
+    let mut a = [7i32; 16_384];
+    let mut b = [-7i32; 16_384];
+    let mut ranges = [0xdead_beefu32; 16_384];
+    let mut hits = [-1i64; 1024];
+    search(
         file,
         bytes,
         live,
         at,
-        states,
-        a,
-        b,
-        ranges,
-        documents,
-        scores,
-    );
-}
-
-// The buffers hold what the case before left in them.
-fn print_cases(
-    file: &[u32],
-    bytes: &[u8],
-    states: &mut [u32],
-    a: &mut [i32],
-    b: &mut [i32],
-    ranges: &mut [u32],
-    hits: &mut [i64],
-    documents: &mut [u32],
-    scores: &mut [u32],
-) {
-    let cases = size(word(file, 0, 0));
-    let mut i = 0;
-    while i < cases {
-        print_case(
-            file,
-            bytes,
-            1 + 14 * i,
-            states,
-            a,
-            b,
-            ranges,
-            hits,
-            documents,
-            scores,
-        );
-        i += 1;
-    }
-}
-
-// With the work buffers of the program `hits`.
-fn print_file(file: &[u32], bytes: &[u8]) {
-    let mut states = [0u32; 6144];
-    let mut a = [0i32; 16_384];
-    let mut b = [0i32; 16_384];
-    let mut ranges = [0u32; 16_384];
-    let mut hits = [0i64; 1024];
-    let mut documents = [0u32; 128];
-    let mut scores = [0u32; 128];
-    print_cases(
-        file,
-        bytes,
         &mut states,
         &mut a,
         &mut b,
         &mut ranges,
         &mut hits,
-        &mut documents,
-        &mut scores,
     );
+}
+
+fn print_case(file: &[u32], bytes: &[u8], at: usize) {
+    let mut longs = [0u64; 16];
+    let number = vectors::file::read_long_words(list_at(file, at, 10), &mut longs);
+    let live = &longs[..number];
+    hits(file, bytes, live, at);
+    pages(file, bytes, live, at);
+}
+
+fn print_cases(file: &[u32], bytes: &[u8]) {
+    let cases = size(word(file, 0, 0));
+    let mut i = 0;
+    while i < cases {
+        print_case(file, bytes, 1 + 14 * i);
+        i += 1;
+    }
 }
 
 fn print_all(fd: i32) {
@@ -293,7 +213,7 @@ fn print_all(fd: i32) {
     let mut file = [0u32; 65_536];
     let n = io::read_full(fd, &mut bytes);
     vectors::file::read_words(&bytes[..n], &mut file);
-    print_file(&file, &bytes);
+    print_cases(&file, &bytes);
 }
 
 fn main() {

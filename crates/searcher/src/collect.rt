@@ -61,7 +61,7 @@ pub fn collect_matches(
             next,
             depth,
         );
-        c = c.collect(heap, next, s);
+        c = c.stepped(heap, next, s);
         from = next + 1;
     }
 }

@@ -20,32 +20,11 @@ array-share-prefix-longs c = search needs
 slice-aggregate-live : tie.Need-slice-aggregate-live
 slice-aggregate-live c = simp length-take (omega arith)
 
-search-requires : tie.Need-search-requires
-search-requires c κs = search needs
+hits-requires : tie.Need-hits-requires
+hits-requires c κs = search needs
 
 pages-requires : tie.Need-pages-requires
 pages-requires c κs = search needs
-
-same-length : tie.Need-same-length
-same-length c = search needs
-
-same-length-2 : tie.Need-same-length-2
-same-length-2 c = search needs
-
-same-length-3 : tie.Need-same-length-3
-same-length-3 c = search needs
-
-same-length-4 : tie.Need-same-length-4
-same-length-4 c = search needs
-
-same-length-5 : tie.Need-same-length-5
-same-length-5 c = search needs
-
-same-length-6 : tie.Need-same-length-6
-same-length-6 c = search needs
-
-same-length-7 : tie.Need-same-length-7
-same-length-7 c = search needs
 
 returns : tie.Need-returns
 returns c = search needs
@@ -59,13 +38,6 @@ print-case-spec =
     read-long-words-requires
     array-share-prefix-longs
     slice-aggregate-live
-    search-requires
+    hits-requires
     pages-requires
-    same-length
-    same-length-2
-    same-length-3
-    same-length-4
-    same-length-5
-    same-length-6
-    same-length-7
     returns)

@@ -1,0 +1,2 @@
+-- What the contracts of this crate cite beyond the layout of the words.
+pub mod Records
