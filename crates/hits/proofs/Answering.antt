@@ -1,18 +1,18 @@
 -- From the numbers that Search answers to the text that is printed. Assumes nothing.
-use mathlib.Core.Path.{_≡_, refl, sym, ap, _∙_, subst}
+use mathlib.Core.Path.{_≡_, refl, sym, ap, _∙_}
 use mathlib.Core.Bool.{Bool, true, false, cond}
-use mathlib.Core.List.{List, [], _∷_, _++_}
-use Prim.Native.Nat.{ℕ, zero, suc, _+_, _≤_}
+use mathlib.Core.List.{List, [], _∷_}
+use Prim.Native.Nat.{ℕ, zero, suc, _≤_}
 use native.Mathlib.Omega.{arith}
 use lib.ListN.{length, take, drop, length-append, length-drop}
 use lib.Seq.{take-append-seam}
 use lib.IntN.{ℤ}
 use Rattle.meaning.specs.Lent.{Index}
 use Rattle.meaning.specs.Query.{queryTree}
-use Rattle.meaning.specs.FullList.{ScoreDoc, fullList}
+use Rattle.meaning.specs.FullList.{fullList}
 use Rattle.meaning.specs.Hits.{hits, mark}
 use Rattle.meaning.specs.CallRefusals.{Work}
-use Rattle.meaning.specs.Entries.{written, answered, topDocs, searchRefusal, searchAnswer, searchHits}
+use Rattle.meaning.specs.Entries.{written, answered, searchRefusal, searchAnswer, searchHits}
 use Rattle.collector.specs.declared.TopDocs.{TopDocs}
 use Rattle.searcher.specs.declared.search.Searched.{Searched}
 use Rattle.searcher.specs.declared.search.Searched.the-variants as Searched

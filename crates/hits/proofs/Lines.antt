@@ -1,15 +1,15 @@
 -- Laws of the lines of hits: one line more, and how long a line is. Assumes nothing.
-use mathlib.Core.Path.{_≡_, refl, sym, ap, _∙_}
+use mathlib.Core.Path.{_≡_, sym, ap, _∙_}
 use mathlib.Core.List.{List, [], _∷_, _++_, append-assoc, append-nil}
-use Prim.Native.Nat.{ℕ, _+_, _-_, _^_, _≤_, _<_}
+use Prim.Native.Nat.{ℕ, _+_, _≤_, _<_}
 use native.Mathlib.Numerals.{add-one}
 use native.Mathlib.Omega.{arith}
 use lib.ListN.{length, take, getD, length-append}
 use lib.Seq.{take-suc}
 use lib.IntN.{ℤ, pos}
 use Rattle.meaning.specs.Limits.{noMoreDocs}
-use Rattle.meaning.specs.Hits.{toDoc, lowWord}
-use Rattle.hits.specs.Text.{decimal, hexDigits, hex8, scoreBits, hitLine, hitLines}
+use Rattle.meaning.specs.Hits.{toDoc}
+use Rattle.hits.specs.Text.{decimal, hex8, scoreBits, hitLine, hitLines}
 use Rattle.hits.specs.Puts.{Put}
 use Rattle.hits.proofs.Putting.{put-same, put-more}
 use Rattle.hits.proofs.Numbers.{decimal-short, length-hex}

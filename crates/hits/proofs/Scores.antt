@@ -1,14 +1,15 @@
--- The bits that a line shows are those of the code's score, where that is a number. Assumes nothing.
-use mathlib.Core.Path.{_≡_}
-use mathlib.Core.Bool.{not}
-use Prim.Native.Nat.{_<_, _^_}
+-- The line of a hit shows its document and the bits of its score, where the code is of a document and an f32 score. Assumes nothing.
+use mathlib.Core.Path.{_≡_, sym}
+use mathlib.Core.List.{[], _∷_, _++_}
+use Prim.Native.Nat.{_≤_}
 use lib.Dec.{T}
-use lib.IntN.{ℤ}
-use lib.Ieee.{binary32, toBits, isNan}
-use lib.Ieee.Bits.{toBits-ofBits}
-use Rattle.meaning.specs.Hits.{toScore}
-use Rattle.hits.specs.Text.{scoreBits}
+use lib.Ieee.{binary32, toBits, fits}
+use Rattle.meaning.specs.Limits.{noMoreDocs}
+use Rattle.meaning.specs.FullList.{ScoreDoc}
+use Rattle.meaning.specs.Hits.{code}
+use Rattle.collector.proofs.Ranked.{toDoc-code, high-code}
+use Rattle.hits.specs.Text.{decimal, hex8, hitLine}
+use Rattle.hits.proofs.Lines.{line-is}
 
-pub bits-of-score : (c : ℤ) → scoreBits c < 2 ^ 32 → T (not (isNan (toScore c))) → toBits binary32 (toScore c) ≡ scoreBits c
-unfolding toScore
-bits-of-score c h n = toBits-ofBits binary32 (scoreBits c) h n
+pub line-of-hit : (h : ScoreDoc) → h .doc ≤ noMoreDocs → T (fits binary32 (h .score)) → hitLine (code h) ≡ decimal (h .doc) ++ (32 ∷ (hex8 (toBits binary32 (h .score)) ++ (10 ∷ [])))
+line-of-hit h d f = sym (line-is (code h) (h .doc) (toBits binary32 (h .score)) (sym (toDoc-code h d)) (sym (high-code h f)))

@@ -1,10 +1,9 @@
 -- Document 01, "BM25 and the hits" and "Sizes": what the program `hits` prints for the bytes of its ten files. Assumes nothing: these are definitions.
-use mathlib.Core.Path.{_≡_}
 use mathlib.Core.Bool.{Bool, cond, _&&_}
 use mathlib.Core.List.{List, [], _∷_, _++_}
 use Prim.Native.Nat.{ℕ, zero, suc, _+_, _*_, _/_, _%_, _^_}
 use lib.Dec.{eqb, leb, ltb}
-use lib.ListN.{length, take, getD}
+use lib.ListN.{length, getD}
 use lib.IntN.{ℤ}
 use lib.Signed.{shrZ}
 use Rattle.meaning.specs.Below.{listTo}
@@ -27,10 +26,11 @@ wordAt bytes i =
 abbrev pub longAt : List ℕ → ℕ → ℕ
 longAt bytes i = joined (wordAt bytes (2 * i)) (wordAt bytes (2 * i + 1))
 
--- all whole words
+-- all whole words of a file
 unfoldable pub wordsOf : List ℕ → List ℕ
 wordsOf bytes = listTo (length bytes / 4) (wordAt bytes)
 
+-- all of "live.rec of 8 bytes"
 unfoldable pub longsOf : List ℕ → List ℕ
 longsOf bytes = listTo (length bytes / 8) (longAt bytes)
 
@@ -44,7 +44,7 @@ unfoldable pub digitsTo : ℕ → ℕ → List ℕ
 digitsTo zero n = []
 digitsTo (suc most) n = cond (ltb n 10) [] (digitsTo most (n / 10)) ++ (digitOf (n % 10) ∷ [])
 
--- all decimal digits: a number has no more digits than the next one says
+-- all decimal digits: a number has no more of them than its own size and one
 unfoldable pub decimal : ℕ → List ℕ
 decimal n = digitsTo (suc n) n
 
@@ -58,10 +58,11 @@ abbrev pub hex8 : ℕ → List ℕ
 hex8 n = hexDigits 8 n
 
 -- ---- the lines
--- "`count`" and "`refused`", each with a blank after it
+-- "prints `count`", and a blank
 abbrev pub countWord : List ℕ
 countWord = 99 ∷ 111 ∷ 117 ∷ 110 ∷ 116 ∷ 32 ∷ []
 
+-- "prints `refused`", and a blank
 abbrev pub refusedWord : List ℕ
 refusedWord = 114 ∷ 101 ∷ 102 ∷ 117 ∷ 115 ∷ 101 ∷ 100 ∷ 32 ∷ []
 
@@ -73,6 +74,7 @@ scoreBits c = sortableBits (shrZ c (2 ^ 32))
 unfoldable pub hitLine : ℤ → List ℕ
 hitLine c = decimal (toDoc c) ++ (32 ∷ (hex8 (scoreBits c) ++ (10 ∷ [])))
 
+-- the lines of all hits, the best first
 unfoldable pub hitLines : List ℤ → List ℕ
 hitLines [] = []
 hitLines (c ∷ cs) = hitLine c ++ hitLines cs
@@ -90,6 +92,7 @@ refusedText n = refusedWord ++ (decimal n ++ (10 ∷ []))
 abbrev pub ownWork : Work
 ownWork = record { states = maxRecords * nodeStateWords; starts = 16384; otherStarts = 16384; ranges = 16384 }
 
+-- places for as many hits as a k may ask
 abbrev pub ownPlaces : ℕ
 ownPlaces = maxHits
 
@@ -115,6 +118,7 @@ pub record Files : Type 0 where
   pub values : List ℕ
   pub query : List ℕ
 
+-- the ten in document 01's order
 abbrev pub files : List ℕ → List ℕ → List ℕ → List ℕ → List ℕ → List ℕ → List ℕ → List ℕ → List ℕ → List ℕ → Files
 files run fields leaves postings positions norms live columns values query =
     record { run = run; fields = fields; leaves = leaves; postings = postings; positions = positions; norms = norms; live = live; columns = columns; values = values; query = query }

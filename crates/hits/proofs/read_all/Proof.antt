@@ -2,8 +2,7 @@
 use mathlib.Core.Path.{_≡_}
 use mathlib.Core.List.{List}
 use Prim.Native.Nat.{ℕ, _-_, _≤_}
-use native.Mathlib.Omega.{arith}
-use lib.ListN.{length, take}
+use lib.ListN.{length}
 use borrow.Author.Needs.{needs}
 use borrow.Rule.Slice.PartMut.{putMid}
 use native.Mathlib.Nat.{le-refl}

@@ -1,6 +1,6 @@
 -- `hit::document` meets its contract: the mask is the lower word, and one above every document leaves 0. Assumes nothing.
 use mathlib.Core.Path.{_≡_, sym, ap, subst}
-use Prim.Native.Nat.{_-_, _%_, _^_, _<_}
+use Prim.Native.Nat.{_-_, _^_, _<_}
 use native.Mathlib.Omega.{arith}
 use lib.Dec.{T}
 use lib.IntN.{ℤ, pos, negsuc, natAbs}

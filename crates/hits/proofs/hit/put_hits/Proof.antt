@@ -9,7 +9,7 @@ use mir.Val.{ofZ, toZ}
 use mir.ValLaws.{toZ-ofZ}
 use lib.Seq.{take-all}
 use borrow.Author.Needs.{needs}
-use Rattle.hits.specs.Text.{hitLine, hitLines}
+use Rattle.hits.specs.Text.{hitLines}
 use Rattle.hits.specs.Puts.{Put}
 use Rattle.hits.proofs.Putting.{put-none, put-same}
 use Rattle.hits.proofs.Lines.{lines-next}

@@ -1,5 +1,5 @@
 -- `hit::put_refused` meets its contract: the word, the number and the line's end, one after the other. Assumes nothing.
-use mathlib.Core.List.{List, [], _∷_, _++_}
+use mathlib.Core.List.{[], _∷_, _++_}
 use Prim.Native.Nat.{_≤_}
 use native.Mathlib.Omega.{arith}
 use lib.ListN.{length}

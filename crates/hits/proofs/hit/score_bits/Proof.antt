@@ -1,6 +1,6 @@
 -- `hit::score_bits` meets its contract: the upper word, whose lower bits are turned over again where its sign is set. Assumes nothing.
 use mathlib.Core.Path.{_≡_, sym, ap, _∙_, subst}
-use Prim.Native.Nat.{ℕ, _*_, _%_, _^_}
+use Prim.Native.Nat.{_*_, _%_}
 use native.Mathlib.Omega.{arith}
 use lib.Dec.{T}
 use lib.IntN.{ℤ, pos, natAbs, _-ℤ_}

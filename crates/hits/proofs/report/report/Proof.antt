@@ -1,12 +1,10 @@
 -- `report::report` meets its contract: files that are not taken are refused, and the words of the others are searched. Assumes nothing.
 use mathlib.Core.Path.{_≡_, sym, _∙_}
-use mathlib.Core.Bool.{true, false}
-use mathlib.Core.List.{List}
+use mathlib.Core.Bool.{true}
 use Prim.Native.Nat.{ℕ, _/_, _≤_}
 use native.Mathlib.Omega.{arith}
-use lib.ListN.{length, take}
 use borrow.Author.Tests.{not-true, not-false}
-use Rattle.hits.specs.Text.{Files, files, taken, hitsText}
+use Rattle.hits.specs.Text.{Files, files, taken}
 use Rattle.hits.proofs.Putting.{put-front, put-room}
 use Rattle.hits.proofs.Counting.{counted}
 use Rattle.hits.proofs.Taken.{Sizes, sizes-of, refused-files, taken-files}

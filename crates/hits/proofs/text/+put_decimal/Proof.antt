@@ -1,12 +1,12 @@
 -- `text::put_decimal` meets its contract: the digits before the last, then the last. Its measure is the number. Assumes nothing.
-use mathlib.Core.Path.{_≡_, sym, ap, _∙_}
-use mathlib.Core.List.{List, [], _∷_, _++_}
-use Prim.Native.Nat.{ℕ, _<_, _/_, _%_}
+use mathlib.Core.Path.{sym, ap, _∙_}
+use mathlib.Core.List.{[], _∷_, _++_}
+use Prim.Native.Nat.{ℕ, _<_, _/_}
 use native.Mathlib.Omega.{arith}
 use lib.ListN.{length}
 use borrow.Fn.Kinds.{In}
 use borrow.Fn.PlainCycle.{Measures, is, falls, and}
-use Rattle.hits.specs.Text.{digitOf, decimal}
+use Rattle.hits.specs.Text.{decimal}
 use Rattle.hits.proofs.Putting.{put-same, put-more}
 use Rattle.hits.proofs.Numbers.{decimal-one, decimal-more, length-more}
 use Rattle.hits.proofs.text.put_decimal.Reads as put-decimal

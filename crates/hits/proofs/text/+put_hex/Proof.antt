@@ -1,12 +1,12 @@
 -- `text::put_hex` meets its contract: the digits before the last, then the last. Its measure is the number of digits. Assumes nothing.
-use mathlib.Core.Path.{_≡_, sym, ap, _∙_}
-use mathlib.Core.List.{List, [], _∷_, _++_}
-use Prim.Native.Nat.{ℕ, _-_, _<_, _/_, _%_}
+use mathlib.Core.Path.{sym, ap, _∙_}
+use mathlib.Core.List.{[], _∷_, _++_}
+use Prim.Native.Nat.{ℕ, _-_, _<_, _/_}
 use native.Mathlib.Omega.{arith}
 use borrow.Author.Needs.{needs}
 use borrow.Fn.Kinds.{In}
 use borrow.Fn.PlainCycle.{Measures, is, falls, and}
-use Rattle.hits.specs.Text.{digitOf, hexDigits}
+use Rattle.hits.specs.Text.{hexDigits}
 use Rattle.hits.proofs.Putting.{put-none, put-same, put-more}
 use Rattle.hits.proofs.Numbers.{hex-none, hex-more, length-hex}
 use Rattle.hits.proofs.text.put_hex.Reads as put-hex
