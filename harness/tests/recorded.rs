@@ -15,7 +15,7 @@ fn stored_answers_are_those_of_the_rust() {
             assert!(text.len() < 100_000, "{name}");
         }
         for (path, bytes) in harness::record::data() {
-            let stored = std::fs::read(crates.join(path)).unwrap();
+            let stored = std::fs::read(crates.join(&path)).unwrap();
             assert!(stored == bytes, "{path}: run `record` and see what differs");
         }
     });

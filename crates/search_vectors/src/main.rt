@@ -1,6 +1,6 @@
 // What Search and Page answer for recorded cases; crates/search_vectors/stdout has the answers of the unchanged Rust (harness,
 // `record`), and data/README says how the cases were made.
-// data/cases.rec: the number of cases; for each N, k, t, a target, the length of the first page, and for each list where it
+// data/cases1.rec to cases4.rec, each: the number of cases; for each N, k, t, a target, the length of the first page, and for each list where it
 // stands; then the lists' words. Norm bytes stand four to a word, live words as two, the low half first.
 use score::walk::Listed;
 use score::walk::NO_MORE_DOCS;
@@ -24,38 +24,46 @@ fn print_searched(searched: Searched, hits: &[i64]) {
     }
 }
 
-// The case at `at`, searched.
+// The hits, in buffers that hold rubbish before.
 fn search(
-    file: &[u32],
-    bytes: &[u8],
+    max_doc: u32,
+    fields: &[u32],
+    leaves: &[u32],
+    postings: &[u32],
+    positions: &[u32],
+    norms: &[u8],
     live: &[u64],
-    at: usize,
-    states: &mut [u32],
-    a: &mut [i32],
-    b: &mut [i32],
-    ranges: &mut [u32],
-    hits: &mut [i64],
+    columns: &[u32],
+    values: &[u32],
+    q: &[u32],
+    k: u32,
+    t: u32,
 ) {
+    let mut states = [0xdead_beefu32; 6144];
+    let mut a = [7i32; 16_384];
+    let mut b = [-7i32; 16_384];
+    let mut ranges = [0xdead_beefu32; 16_384];
+    let mut hits = [-1i64; 1024];
     let searched = searcher::search::search(
-        word(file, at, 0),
-        list_at(file, at, 5),
-        list_at(file, at, 6),
-        list_at(file, at, 7),
-        list_at(file, at, 8),
-        bytes_at(bytes, word(file, at, 9)),
+        max_doc,
+        fields,
+        leaves,
+        postings,
+        positions,
+        norms,
         live,
-        list_at(file, at, 11),
-        list_at(file, at, 12),
-        list_at(file, at, 13),
-        word(file, at, 1),
-        word(file, at, 2),
-        states,
-        a,
-        b,
-        ranges,
-        hits,
+        columns,
+        values,
+        q,
+        k,
+        t,
+        &mut states,
+        &mut a,
+        &mut b,
+        &mut ranges,
+        &mut hits,
     );
-    print_searched(searched, hits);
+    print_searched(searched, &hits);
 }
 
 // Each document with its score's bits.
@@ -95,108 +103,167 @@ fn print_paged(paged: Paged, documents: &[u32], scores: &[u32]) -> u32 {
     }
 }
 
-// The case at `at`, a page of it; the next match.
+// The next match after a page, for which the work buffers hold rubbish before.
 fn page(
-    file: &[u32],
-    bytes: &[u8],
+    max_doc: u32,
+    fields: &[u32],
+    leaves: &[u32],
+    postings: &[u32],
+    positions: &[u32],
+    norms: &[u8],
     live: &[u64],
-    at: usize,
+    columns: &[u32],
+    values: &[u32],
+    q: &[u32],
     target: u32,
-    states: &mut [u32],
-    a: &mut [i32],
-    b: &mut [i32],
-    ranges: &mut [u32],
     documents: &mut [u32],
     scores: &mut [u32],
 ) -> u32 {
+    let mut states = [0xdead_beefu32; 6144];
+    let mut a = [-7i32; 16_384];
+    let mut b = [7i32; 16_384];
+    let mut ranges = [0xdead_beefu32; 16_384];
     let paged = searcher::page::page(
-        word(file, at, 0),
-        list_at(file, at, 5),
-        list_at(file, at, 6),
-        list_at(file, at, 7),
-        list_at(file, at, 8),
-        bytes_at(bytes, word(file, at, 9)),
+        max_doc,
+        fields,
+        leaves,
+        postings,
+        positions,
+        norms,
         live,
-        list_at(file, at, 11),
-        list_at(file, at, 12),
-        list_at(file, at, 13),
+        columns,
+        values,
+        q,
         target,
-        states,
-        a,
-        b,
-        ranges,
+        &mut states,
+        &mut a,
+        &mut b,
+        &mut ranges,
         documents,
         scores,
     );
     print_paged(paged, documents, scores)
 }
 
-// A page of so many places, the end where the outputs have fewer; the buffers hold rubbish before.
-fn page_of(file: &[u32], bytes: &[u8], live: &[u64], at: usize, target: u32, places: usize) -> u32 {
-    let mut states = [0xdead_beefu32; 6144];
-    let mut a = [-7i32; 16_384];
-    let mut b = [7i32; 16_384];
-    let mut ranges = [0xdead_beefu32; 16_384];
+// A page of so many places, the end where the outputs have fewer.
+fn page_of(
+    max_doc: u32,
+    fields: &[u32],
+    leaves: &[u32],
+    postings: &[u32],
+    positions: &[u32],
+    norms: &[u8],
+    live: &[u64],
+    columns: &[u32],
+    values: &[u32],
+    q: &[u32],
+    target: u32,
+    places: usize,
+) -> u32 {
     let mut documents = [0u32; 128];
     let mut scores = [0u32; 128];
     if 128 < places {
         return NO_MORE_DOCS;
     }
     page(
-        file,
-        bytes,
+        max_doc,
+        fields,
+        leaves,
+        postings,
+        positions,
+        norms,
         live,
-        at,
+        columns,
+        values,
+        q,
         target,
-        &mut states,
-        &mut a,
-        &mut b,
-        &mut ranges,
         &mut documents[..places],
         &mut scores[..places],
     )
 }
 
 // Four pages at most, each a place longer than the one before.
-fn pages(file: &[u32], bytes: &[u8], live: &[u64], at: usize) {
-    let first = size(word(file, at, 4));
-    let mut target = word(file, at, 3);
+fn pages(
+    max_doc: u32,
+    fields: &[u32],
+    leaves: &[u32],
+    postings: &[u32],
+    positions: &[u32],
+    norms: &[u8],
+    live: &[u64],
+    columns: &[u32],
+    values: &[u32],
+    q: &[u32],
+    target: u32,
+    places: u32,
+) {
+    let first = size(places);
+    let mut next = target;
     let mut i = 0;
     while i < 4 {
-        target = page_of(file, bytes, live, at, target, first + i);
-        if target == NO_MORE_DOCS {
+        next = page_of(
+            max_doc,
+            fields,
+            leaves,
+            postings,
+            positions,
+            norms,
+            live,
+            columns,
+            values,
+            q,
+            next,
+            first + i,
+        );
+        if next == NO_MORE_DOCS {
             return;
         }
         i += 1;
     }
 }
 
-// The hits, in buffers that hold rubbish before.
-fn hits(file: &[u32], bytes: &[u8], live: &[u64], at: usize) {
-    let mut states = [0xdead_beefu32; 6144];
-    let mut a = [7i32; 16_384];
-    let mut b = [-7i32; 16_384];
-    let mut ranges = [0xdead_beefu32; 16_384];
-    let mut hits = [-1i64; 1024];
-    search(
-        file,
-        bytes,
-        live,
-        at,
-        &mut states,
-        &mut a,
-        &mut b,
-        &mut ranges,
-        &mut hits,
-    );
-}
-
+// The case at `at`.
 fn print_case(file: &[u32], bytes: &[u8], at: usize) {
+    let max_doc = word(file, at, 0);
+    let fields = list_at(file, at, 5);
+    let leaves = list_at(file, at, 6);
+    let postings = list_at(file, at, 7);
+    let positions = list_at(file, at, 8);
+    let norms = bytes_at(bytes, word(file, at, 9));
     let mut longs = [0u64; 16];
     let number = vectors::file::read_long_words(list_at(file, at, 10), &mut longs);
     let live = &longs[..number];
-    hits(file, bytes, live, at);
-    pages(file, bytes, live, at);
+    let columns = list_at(file, at, 11);
+    let values = list_at(file, at, 12);
+    let q = list_at(file, at, 13);
+    search(
+        max_doc,
+        fields,
+        leaves,
+        postings,
+        positions,
+        norms,
+        live,
+        columns,
+        values,
+        q,
+        word(file, at, 1),
+        word(file, at, 2),
+    );
+    pages(
+        max_doc,
+        fields,
+        leaves,
+        postings,
+        positions,
+        norms,
+        live,
+        columns,
+        values,
+        q,
+        word(file, at, 3),
+        word(file, at, 4),
+    );
 }
 
 fn print_cases(file: &[u32], bytes: &[u8]) {
@@ -208,20 +275,31 @@ fn print_cases(file: &[u32], bytes: &[u8]) {
     }
 }
 
-fn print_all(fd: i32) {
-    let mut bytes = [0u8; 262_144];
-    let mut file = [0u32; 65_536];
-    let n = io::read_full(fd, &mut bytes);
-    vectors::file::read_words(&bytes[..n], &mut file);
-    print_cases(&file, &bytes);
+fn print_words(bytes: &[u8]) {
+    let mut file = [0u32; 16_384];
+    vectors::file::read_words(bytes, &mut file);
+    print_cases(&file, bytes);
 }
 
-fn main() {
-    let fd = os::open_read(b"cases.rec");
+fn print_all(fd: i32) {
+    let mut bytes = [0u8; 65_536];
+    io::read_full(fd, &mut bytes);
+    print_words(&bytes);
+}
+
+fn print_file(path: &[u8]) {
+    let fd = os::open_read(path);
     if fd < 0 {
-        os::fail(b"cases.rec");
+        os::fail(path);
         return;
     }
     print_all(fd);
     libc::close(fd);
+}
+
+fn main() {
+    print_file(b"cases1.rec");
+    print_file(b"cases2.rec");
+    print_file(b"cases3.rec");
+    print_file(b"cases4.rec");
 }

@@ -29,11 +29,12 @@ pub fn all() -> Vec<Recorded> {
 }
 
 /// The files that programs read, by their paths below the folder of crates.
-pub fn data() -> Vec<(&'static str, Vec<u8>)> {
-    vec![
-        ("refusal_vectors/data/cases.rec", refusal::data()),
-        ("search_vectors/data/cases.rec", search::data()),
-    ]
+pub fn data() -> Vec<(String, Vec<u8>)> {
+    let mut files = vec![("refusal_vectors/data/cases.rec".into(), refusal::data())];
+    for (i, bytes) in (1..).zip(search::data()) {
+        files.push((format!("search_vectors/data/cases{i}.rec"), bytes));
+    }
+    files
 }
 
 /// Writes each stdout, and each file that a program reads, into its crate's folder.

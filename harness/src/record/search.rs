@@ -1,5 +1,5 @@
 //! What Search and Page answer is the unchanged Rust's, for small trees in which one slip shows and for a
-//! sample of generated cases. Both the cases' file and the answers are made here.
+//! sample of generated cases. Both the cases' files and the answers are made here.
 use super::collector::line;
 use super::{place, trees};
 use crate::answer::{NO_MORE_DOCS, Paged};
@@ -14,10 +14,11 @@ use crate::refusal::refusal;
 /// word + 65,536 × length.
 const HEAD: usize = 14;
 
-/// What the program has room for: the file's words, and live words. Its work buffers are those of the
-/// program `hits`.
-const ROOM: usize = 65_536;
+/// What the program has room for: a file's words, live words, and files. Its work buffers are those of
+/// the program `hits`.
+const ROOM: usize = 16_384;
 const LIVE: usize = 16;
+const FILES: usize = 4;
 
 /// The generated indexes, the queries on each, and the most words of an index and of a query.
 const INDEXES: usize = 38;
@@ -153,26 +154,56 @@ fn lists(case: &Case) -> [(Vec<u32>, usize); 9] {
     ]
 }
 
-/// The number of cases, their heads, then the words of all lists.
-pub fn data() -> Vec<u8> {
-    let asked = asked();
-    let start = 1 + HEAD * asked.len();
-    let mut heads = vec![asked.len() as u32];
-    let mut pool: Vec<u32> = Vec::new();
-    for Asked {
-        case,
-        target,
-        length,
-    } in &asked
-    {
+/// A file: of each case its head, and the words of all lists, which stand after the heads.
+#[derive(Clone, Default)]
+struct File {
+    heads: Vec<[u32; HEAD]>,
+    pool: Vec<u32>,
+}
+
+impl File {
+    fn words(&self) -> usize {
+        1 + HEAD * self.heads.len() + self.pool.len()
+    }
+
+    /// Places are counted from the first list on until the file is written.
+    fn add(&mut self, asked: &Asked) {
+        let case = &asked.case;
         assert!(case.live.len() <= LIVE);
-        heads.extend([case.n, case.k, case.t, *target, *length as u32]);
+        let mut head = vec![case.n, case.k, case.t, asked.target, asked.length as u32];
         for (list, length) in lists(case) {
-            let first = start + place(&mut pool, &list);
-            heads.push((first + 65_536 * length) as u32);
+            head.push((place(&mut self.pool, &list) + 65_536 * length) as u32);
+        }
+        self.heads.push(head.try_into().unwrap());
+    }
+
+    /// The number of cases, their heads, then the words of all lists.
+    fn bytes(&self) -> Vec<u8> {
+        let start = (1 + HEAD * self.heads.len()) as u32;
+        let mut words = vec![self.heads.len() as u32];
+        for head in &self.heads {
+            words.extend(&head[..5]);
+            words.extend(head[5..].iter().map(|place| start + place));
+        }
+        words.extend(&self.pool);
+        words.iter().flat_map(|word| word.to_le_bytes()).collect()
+    }
+}
+
+/// The cases in turn, as many in each file as it has room for.
+pub fn data() -> Vec<Vec<u8>> {
+    let mut files = vec![File::default()];
+    for asked in asked() {
+        let last = files.last_mut().unwrap();
+        let before = last.clone();
+        last.add(&asked);
+        if last.words() > ROOM {
+            *last = before;
+            let mut next = File::default();
+            next.add(&asked);
+            files.push(next);
         }
     }
-    heads.extend(pool);
-    assert!(heads.len() <= ROOM, "{} words", heads.len());
-    heads.iter().flat_map(|word| word.to_le_bytes()).collect()
+    assert_eq!(files.len(), FILES);
+    files.iter().map(File::bytes).collect()
 }
