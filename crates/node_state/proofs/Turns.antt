@@ -75,12 +75,22 @@ unfolding recordWords
 words-length [] = refl
 words-length (x ∷ xs) = let e = words-length xs in let a = length-append (wordsOf (stateOf x)) (recordWords xs) in omega (arith, a, e)
 
--- the first n records of words that hold as many
-words-take : (ns : List NodeState) (n : ℕ) → n ≤ length ns → length (recordWords (take n ns)) ≡ 24 * n
+pub words-take : (ns : List NodeState) (n : ℕ) → n ≤ length ns → length (recordWords (take n ns)) ≡ 24 * n
 words-take ns n h = words-length (take n ns) ∙ ap (λ (m : ℕ). 24 * m) (length-take-le n ns h)
 
 words-more : (ns : List NodeState) (n : ℕ) → n < length ns → recordWords (take (suc n) ns) ≡ recordWords (take n ns) ++ wordsOf (stateOf (getD ns n none))
 words-more ns n h = ap recordWords (take-suc ns n none h) ∙ words-append (take n ns) (getD ns n none ∷ []) ∙ ap (λ (l : List ℕ). recordWords (take n ns) ++ l) (words-one (getD ns n none))
+
+-- the words tell the records
+pub same-records : (xs ys : List NodeState) → length xs ≡ length ys → recordWords xs ≡ recordWords ys → xs ≡ ys
+unfolding recordWords
+same-records [] [] l e = refl
+same-records [] (y ∷ ys) l e = absurd (omega (arith, l))
+same-records (x ∷ xs) [] l e = absurd (omega (arith, l))
+same-records (x ∷ xs) (y ∷ ys) l e =
+    let first : x ≡ y = ap nodeFrom e in
+    let others = same-records xs ys (omega (arith, l)) (ap (λ (w : List ℕ). drop 24 w) e) in
+    ap (λ (z : NodeState). z ∷ xs) first ∙ ap (λ (zs : List NodeState). y ∷ zs) others
 
 -- all turns of `unpack`
 pub all-put : (ns : List NodeState) (n : ℕ) (w : List ℕ) → n ≤ length ns → 24 * n ≤ length w → putAll ns n w ≡ recordWords (take n ns) ++ drop (24 * n) w

@@ -1,0 +1,2 @@
+-- The plain mathematics of this crate's proofs.
+pub mod Words
