@@ -3,7 +3,7 @@ ghost use Prim.Native.Nat.{min};
 ghost use lib.ListN.{length};
 ghost use Rattle.scorer.specs.Contracts.{lent};
 ghost use Rattle.score.specs.Walks.{NextPre, NextPost, ListPre, ListPost};
-use scorer::advance;
+use scorer::advance_any;
 
 // Above every document.
 pub const NO_MORE_DOCS: u32 = 2147483647;
@@ -32,7 +32,7 @@ pub fn next_match(
 {
     let mut target = from;
     loop {
-        let d = advance(
+        let d = advance_any(
             st,
             max_doc,
             postings,

@@ -6,7 +6,7 @@ use Prim.Native.Nat.{ℕ, _+_, _-_, _≤_, _<_}
 use native.Mathlib.Nat.{le-refl, le-trans}
 use native.Mathlib.Omega.{arith}
 use lib.ListN.{getD, length, take, drop, length-append, length-take, length-drop, List·getD-append}
-use lib.Seq.{take-at, drop-at, getD-append-add}
+use lib.Seq.{take-at, drop-at, getD-append-add, getD-take, getD-drop}
 use Rattle.meaning.specs.Lent.{Index}
 use Rattle.meaning.specs.First.{First}
 use Rattle.weight.specs.ScorerTree.{Scorer, Scorers, end, more, matches}
@@ -149,3 +149,7 @@ module _ {E : Lent} {ix : Index} {p k : ℕ} {fs : Scorers} {kids : List ℕ} {a
 
 pub back-length : (kids ys : List ℕ) (at e : ℕ) → length ys ≡ length (take (e - at) (drop at kids)) → length (take at kids ++ (ys ++ drop (e - at) (drop at kids))) ≡ length kids
 back-length kids ys at e h = simp (length-append, length-take, length-drop, h) (omega arith)
+
+-- the first word of a child's part is its kind
+pub child-kind : (kids : List ℕ) (at e : ℕ) → ChildAt kids at → e ≡ at + getD kids (at + 1) 0 → getD (take (e - at) (drop at kids)) 0 0 ≡ getD kids at 0
+child-kind kids at e c h = let z : at + 0 ≡ at = omega arith in getD-take (e - at) (drop at kids) 0 0 (omega (arith, c .long, h)) ∙ getD-drop at kids 0 0 ∙ ap (λ (i : ℕ). getD kids i 0) z

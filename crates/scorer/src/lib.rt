@@ -38,6 +38,14 @@ pub fn child_at(kids: &[u32], at: usize) -> Child
     }
 }
 
+// Its kind.
+fn kind_at(kids: &[u32], at: usize) -> u32
+    requires { ⌜ ChildAt (now kids) at ⌝ }
+    ensures { λ r. ⌜ r ≡ getD (now (kids .entry)) at 0 ⌝ }
+{
+    kids[at]
+}
+
 pub struct Head {
     pub kind: u32,
     pub cached: u32,
@@ -90,6 +98,32 @@ fn tally(best: u32, count: usize, d: u32) -> Standing
         };
     }
     Standing { doc: best, count }
+}
+
+// A node that is no Boolean: outside the cycle, so that moving one costs no more than its own search.
+pub fn advance_leaf(
+    st: &mut [u32],
+    max_doc: u32,
+    postings: &[u32],
+    positions: &[u32],
+    ranges: &[u32],
+    a: &mut [i32],
+    b: &mut [i32],
+    target: u32,
+    depth: u32,
+) -> u32
+    requires { ⌜ (getD (now st) 0 0 ≡ 3 → ⊥) × AdvancePre (lent «max_doc» (now postings) (now positions) (now ranges)) (length (now a)) (length (now b)) (now st) target depth ⌝ }
+    ensures { λ r. ⌜ AdvancePost (lent «max_doc» (now (postings .entry)) (now (positions .entry)) (now (ranges .entry))) (now (st .entry)) target depth r (now (st .exit)) ⌝ }
+    ensures { λ r. ⌜ getD (now (st .exit)) 2 0 ≡ r + 1 ⌝ }
+{
+    let h = head_at(st);
+    let cached = h.cached;
+    if target < cached {
+        return cached - 1;
+    }
+    let d = leaves::seek(st, max_doc, postings, positions, ranges, a, b, target);
+    st[2] = d + 1;
+    d
 }
 
 // The first document at or after the target that the node matches, or NO_MORE_DOCS.
@@ -354,8 +388,21 @@ fn pass(
         if d < cached {
             d = cached - 1;
             at = end;
-        } else {
+        } else if kind_at(kids, at) == BOOLEAN {
             d = advance(
+                &mut kids[at..end],
+                max_doc,
+                postings,
+                positions,
+                ranges,
+                a,
+                b,
+                d,
+                depth,
+            );
+            at = end;
+        } else {
+            d = advance_leaf(
                 &mut kids[at..end],
                 max_doc,
                 postings,
@@ -431,8 +478,24 @@ fn least(
             best = x.doc;
             count = x.count;
             at = end;
-        } else {
+        } else if kind_at(kids, at) == BOOLEAN {
             let d = advance(
+                &mut kids[at..end],
+                max_doc,
+                postings,
+                positions,
+                ranges,
+                a,
+                b,
+                target,
+                depth,
+            );
+            let x = tally(best, count, d);
+            best = x.doc;
+            count = x.count;
+            at = end;
+        } else {
+            let d = advance_leaf(
                 &mut kids[at..end],
                 max_doc,
                 postings,
@@ -450,4 +513,47 @@ fn least(
         }
     }
     Standing { doc: best, count }
+}
+
+// A root of any kind: a leaf is moved without the cycle.
+pub fn advance_any(
+    st: &mut [u32],
+    max_doc: u32,
+    postings: &[u32],
+    positions: &[u32],
+    ranges: &[u32],
+    a: &mut [i32],
+    b: &mut [i32],
+    target: u32,
+    depth: u32,
+) -> u32
+    requires { ⌜ AdvancePre (lent «max_doc» (now postings) (now positions) (now ranges)) (length (now a)) (length (now b)) (now st) target depth ⌝ }
+    ensures { λ r. ⌜ AdvancePost (lent «max_doc» (now (postings .entry)) (now (positions .entry)) (now (ranges .entry))) (now (st .entry)) target depth r (now (st .exit)) ⌝ }
+    ensures { λ r. ⌜ getD (now (st .exit)) 2 0 ≡ r + 1 ⌝ }
+{
+    let h = head_at(st);
+    if h.kind == BOOLEAN {
+        return advance(
+            st,
+            max_doc,
+            postings,
+            positions,
+            ranges,
+            a,
+            b,
+            target,
+            depth,
+        );
+    }
+    advance_leaf(
+        st,
+        max_doc,
+        postings,
+        positions,
+        ranges,
+        a,
+        b,
+        target,
+        depth,
+    )
 }

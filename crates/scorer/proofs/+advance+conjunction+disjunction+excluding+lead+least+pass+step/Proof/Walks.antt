@@ -1,7 +1,7 @@
 -- The loops over children. Assumes nothing.
-use mathlib.Core.Path.{refl, _∙_}
+use mathlib.Core.Path.{refl, sym, _∙_}
 use native.Mathlib.Omega.{arith}
-use Rattle.scorer.proofs.Children.{child-facts, child-held, back-length}
+use Rattle.scorer.proofs.Children.{child-facts, child-held, child-kind, back-length}
 use Rattle.scorer.proofs.Loops.{least-start, least-end, least-skip, least-took, pass-start, pass-end, pass-skip, pass-took}
 use Prim.Native.Nat.{ℕ}
 use Rattle.scorer.proofs.least.Reads as least
@@ -28,29 +28,56 @@ least-loop-less t c = let s = (c .before .before .before .before .before .before
 pub least-loop-again : (t : ℕ) → least-lts.Need-loop-again (least-calls t) (least-at t) least.Post least-Inv-loop least-μ-loop
 least-loop-again t c = let a = (c .before .before .before .before .before) .loop in let k = (c .before .before) .child-at in let l = (c .before .before .before .before) .loop-test .taken in let y = c .tally in (a .inv .0, λ ix p ss h. least-skip (a .inv .1 ix p ss h) l (k .result .end) (k .ensures .end) (k .result .cached) (y .result .doc) (y .result .count) (k .ensures .cached) ((c .before) .if1 .taken) (y .ensures))
 
+pub least-kind-at-requires : (t : ℕ) → least-lts.Need-kind-at-requires (least-calls t) (least-at t) least.Post least-Inv-loop least-μ-loop
+least-kind-at-requires t c κs = let s = (c .before .before .before .before .before .before .before .before .before .before) in let P = s .pre .1 .1 in let a = (c .before .before .before .before .before) .loop in let i = a .inv .1 (P .0) (P .1) (P .2) (P .4) in child-facts (i .left) (i .zip) ((c .before .before .before .before) .loop-test .taken)
+
 pub least-mul-advance : (t : ℕ) → least-lts.Need-mul-advance (least-calls t) (least-at t) least.Post least-Inv-loop least-μ-loop
-least-mul-advance t c = let s = (c .before .before .before .before .before .before .before .before .before) in let P = s .pre .1 .1 in let a = (c .before .before .before .before) .loop in let i = a .inv .1 (P .0) (P .1) (P .2) (P .4) in let k = (c .before) .child-at in let l = (c .before .before .before) .loop-test .taken in let f = child-facts (i .left) (i .zip) l in omega (arith, f, a .inv .0, s .good, k .ensures)
+least-mul-advance t c = let s = (c .before .before .before .before .before .before .before .before .before .before .before .before) in let P = s .pre .1 .1 in let a = (c .before .before .before .before .before .before .before) .loop in let i = a .inv .1 (P .0) (P .1) (P .2) (P .4) in let k = (c .before .before .before .before) .child-at in let l = (c .before .before .before .before .before .before) .loop-test .taken in let f = child-facts (i .left) (i .zip) l in omega (arith, f, a .inv .0, s .good, k .ensures)
 
 pub least-sub-advance : (t : ℕ) → least-lts.Need-sub-advance (least-calls t) (least-at t) least.Post least-Inv-loop least-μ-loop
-least-sub-advance t c = let s = (c .before .before .before .before .before .before .before .before .before) in let P = s .pre .1 .1 in let a = (c .before .before .before .before) .loop in let i = a .inv .1 (P .0) (P .1) (P .2) (P .4) in let k = (c .before) .child-at in let l = (c .before .before .before) .loop-test .taken in let f = child-facts (i .left) (i .zip) l in omega (arith, f, k .ensures)
+least-sub-advance t c = let s = (c .before .before .before .before .before .before .before .before .before .before .before .before) in let P = s .pre .1 .1 in let a = (c .before .before .before .before .before .before .before) .loop in let i = a .inv .1 (P .0) (P .1) (P .2) (P .4) in let k = (c .before .before .before .before) .child-at in let l = (c .before .before .before .before .before .before) .loop-test .taken in let f = child-facts (i .left) (i .zip) l in omega (arith, f, k .ensures)
 
 pub least-part-advance-start : (t : ℕ) → least-lts.Need-part-advance-start (least-calls t) (least-at t) least.Post least-Inv-loop least-μ-loop
-least-part-advance-start t c = let s = (c .before .before .before .before .before .before .before .before .before) in let P = s .pre .1 .1 in let a = (c .before .before .before .before) .loop in let i = a .inv .1 (P .0) (P .1) (P .2) (P .4) in let k = (c .before) .child-at in let l = (c .before .before .before) .loop-test .taken in let f = child-facts (i .left) (i .zip) l in omega (arith, f, a .inv .0, s .good, k .ensures)
+least-part-advance-start t c = let s = (c .before .before .before .before .before .before .before .before .before .before .before .before) in let P = s .pre .1 .1 in let a = (c .before .before .before .before .before .before .before) .loop in let i = a .inv .1 (P .0) (P .1) (P .2) (P .4) in let k = (c .before .before .before .before) .child-at in let l = (c .before .before .before .before .before .before) .loop-test .taken in let f = child-facts (i .left) (i .zip) l in omega (arith, f, a .inv .0, s .good, k .ensures)
 
 pub least-part-advance-end : (t : ℕ) → least-lts.Need-part-advance-end (least-calls t) (least-at t) least.Post least-Inv-loop least-μ-loop
-least-part-advance-end t c = let s = (c .before .before .before .before .before .before .before .before .before) in let P = s .pre .1 .1 in let a = (c .before .before .before .before) .loop in let i = a .inv .1 (P .0) (P .1) (P .2) (P .4) in let k = (c .before) .child-at in let l = (c .before .before .before) .loop-test .taken in let f = child-facts (i .left) (i .zip) l in omega (arith, f, a .inv .0, s .good, k .ensures)
+least-part-advance-end t c = let s = (c .before .before .before .before .before .before .before .before .before .before .before .before) in let P = s .pre .1 .1 in let a = (c .before .before .before .before .before .before .before) .loop in let i = a .inv .1 (P .0) (P .1) (P .2) (P .4) in let k = (c .before .before .before .before) .child-at in let l = (c .before .before .before .before .before .before) .loop-test .taken in let f = child-facts (i .left) (i .zip) l in omega (arith, f, a .inv .0, s .good, k .ensures)
 
 pub least-advance-requires : (t : ℕ) → least-lts.Need-advance-requires (least-calls t) (least-at t) least.Post least-Inv-loop least-μ-loop
-least-advance-requires t c κs = let s = (c .before .before .before .before .before .before .before .before .before .before .before .before) in let P = s .pre .1 .1 in let a = (c .before .before .before .before .before .before .before) .loop in let i = a .inv .1 (P .0) (P .1) (P .2) (P .4) in let k = (c .before .before .before .before) .child-at in let l = (c .before .before .before .before .before .before) .loop-test .taken in let f = child-facts (i .left) (i .zip) l in let h = child-held (i .left) (i .zip) l (k .result .end) (k .ensures .end) in (omega (arith, s .pre .0), (s .pre .1 .0, (P .0, P .1, h .0, h .1, record { in-a = omega (arith, a .inv .0, P .3); in-b = omega (arith, a .inv .0, P .3) }, h .2)))
+least-advance-requires t c κs = let s = (c .before .before .before .before .before .before .before .before .before .before .before .before .before .before .before) in let P = s .pre .1 .1 in let a = (c .before .before .before .before .before .before .before .before .before .before) .loop in let i = a .inv .1 (P .0) (P .1) (P .2) (P .4) in let k = (c .before .before .before .before .before .before .before) .child-at in let l = (c .before .before .before .before .before .before .before .before .before) .loop-test .taken in let f = child-facts (i .left) (i .zip) l in let h = child-held (i .left) (i .zip) l (k .result .end) (k .ensures .end) in (omega (arith, s .pre .0), (s .pre .1 .0, (P .0, P .1, h .0, h .1, record { in-a = omega (arith, a .inv .0, P .3); in-b = omega (arith, a .inv .0, P .3) }, h .2)))
 
 pub least-tally-requires-2 : (t : ℕ) → least-lts.Need-tally-requires-2 (least-calls t) (least-at t) least.Post least-Inv-loop least-μ-loop
-least-tally-requires-2 t c κs = let s = (c .before .before .before .before .before .before .before .before .before .before .before .before .before .before .before .before .before) in let P = s .pre .1 .1 in let a = (c .before .before .before .before .before .before .before .before .before .before .before .before) .loop in let i = a .inv .1 (P .0) (P .1) (P .2) (P .4) in omega (arith, i .few, (c .before .before .before .before .before .before .before .before .before .before .before) .loop-test .taken, a .inv .0, s .good)
+least-tally-requires-2 t c κs = let s = (c .before .before .before .before .before .before .before .before .before .before .before .before .before .before .before .before .before .before .before .before) in let P = s .pre .1 .1 in let a = (c .before .before .before .before .before .before .before .before .before .before .before .before .before .before .before) .loop in let i = a .inv .1 (P .0) (P .1) (P .2) (P .4) in omega (arith, i .few, (c .before .before .before .before .before .before .before .before .before .before .before .before .before .before) .loop-test .taken, a .inv .0, s .good)
 
 pub least-loop-less-2 : (t : ℕ) → least-lts.Need-loop-less-2 (least-calls t) (least-at t) least.Post least-Inv-loop least-μ-loop
-least-loop-less-2 t c = let s = (c .before .before .before .before .before .before .before .before .before .before .before .before .before .before .before .before .before .before) in let P = s .pre .1 .1 in let a = (c .before .before .before .before .before .before .before .before .before .before .before .before .before) .loop in let i = a .inv .1 (P .0) (P .1) (P .2) (P .4) in let k = (c .before .before .before .before .before .before .before .before .before .before) .child-at in let l = (c .before .before .before .before .before .before .before .before .before .before .before .before) .loop-test .taken in let f = child-facts (i .left) (i .zip) l in let d = (c .before .before .before .before .before) .advance in omega (arith, f, k .ensures, l, back-length (a .kids) (d .last .0) (a .at) (k .result .end) (d .kept .0))
+least-loop-less-2 t c = let s = (c .before .before .before .before .before .before .before .before .before .before .before .before .before .before .before .before .before .before .before .before .before) in let P = s .pre .1 .1 in let a = (c .before .before .before .before .before .before .before .before .before .before .before .before .before .before .before .before) .loop in let i = a .inv .1 (P .0) (P .1) (P .2) (P .4) in let k = (c .before .before .before .before .before .before .before .before .before .before .before .before .before) .child-at in let l = (c .before .before .before .before .before .before .before .before .before .before .before .before .before .before .before) .loop-test .taken in let f = child-facts (i .left) (i .zip) l in let d = (c .before .before .before .before .before) .advance in omega (arith, f, k .ensures, l, back-length (a .kids) (d .last .0) (a .at) (k .result .end) (d .kept .0))
 
 pub least-loop-again-2 : (t : ℕ) → least-lts.Need-loop-again-2 (least-calls t) (least-at t) least.Post least-Inv-loop least-μ-loop
-least-loop-again-2 t c = let a = (c .before .before .before .before .before .before .before .before .before .before .before .before .before) .loop in let k = (c .before .before .before .before .before .before .before .before .before .before) .child-at in let l = (c .before .before .before .before .before .before .before .before .before .before .before .before) .loop-test .taken in let d = (c .before .before .before .before .before) .advance in let y = c .tally2 in (record { kids-same = back-length (a .kids) (d .last .0) (a .at) (k .result .end) (d .kept .0) ∙ a .inv .0 .kids-same; a-same = d .kept .1 .1 .1 .1 .1 .0 ∙ a .inv .0 .a-same; b-same = d .kept .1 .1 .1 .1 .1 .1 .0 ∙ a .inv .0 .b-same }, λ ix p ss h. least-took (a .inv .1 ix p ss h) l (k .result .end) (k .ensures .end) (d .result) (y .result .doc) (y .result .count) (d .last .0) (d .kept .0) (d .ensures .0) (y .ensures))
+least-loop-again-2 t c = let a = (c .before .before .before .before .before .before .before .before .before .before .before .before .before .before .before .before) .loop in let k = (c .before .before .before .before .before .before .before .before .before .before .before .before .before) .child-at in let l = (c .before .before .before .before .before .before .before .before .before .before .before .before .before .before .before) .loop-test .taken in let d = (c .before .before .before .before .before) .advance in let y = c .tally2 in (record { kids-same = back-length (a .kids) (d .last .0) (a .at) (k .result .end) (d .kept .0) ∙ a .inv .0 .kids-same; a-same = d .kept .1 .1 .1 .1 .1 .0 ∙ a .inv .0 .a-same; b-same = d .kept .1 .1 .1 .1 .1 .1 .0 ∙ a .inv .0 .b-same }, λ ix p ss h. least-took (a .inv .1 ix p ss h) l (k .result .end) (k .ensures .end) (d .result) (y .result .doc) (y .result .count) (d .last .0) (d .kept .0) (d .ensures .0) (y .ensures))
+
+pub least-mul-advance-leaf : (t : ℕ) → least-lts.Need-mul-advance-leaf (least-calls t) (least-at t) least.Post least-Inv-loop least-μ-loop
+least-mul-advance-leaf t c = let s = (c .before .before .before .before .before .before .before .before .before .before .before .before) in let P = s .pre .1 .1 in let a = (c .before .before .before .before .before .before .before) .loop in let i = a .inv .1 (P .0) (P .1) (P .2) (P .4) in let k = (c .before .before .before .before) .child-at in let l = (c .before .before .before .before .before .before) .loop-test .taken in let f = child-facts (i .left) (i .zip) l in omega (arith, f, a .inv .0, s .good, k .ensures)
+
+pub least-sub-advance-leaf : (t : ℕ) → least-lts.Need-sub-advance-leaf (least-calls t) (least-at t) least.Post least-Inv-loop least-μ-loop
+least-sub-advance-leaf t c = let s = (c .before .before .before .before .before .before .before .before .before .before .before .before) in let P = s .pre .1 .1 in let a = (c .before .before .before .before .before .before .before) .loop in let i = a .inv .1 (P .0) (P .1) (P .2) (P .4) in let k = (c .before .before .before .before) .child-at in let l = (c .before .before .before .before .before .before) .loop-test .taken in let f = child-facts (i .left) (i .zip) l in omega (arith, f, k .ensures)
+
+pub least-part-advance-leaf-start : (t : ℕ) → least-lts.Need-part-advance-leaf-start (least-calls t) (least-at t) least.Post least-Inv-loop least-μ-loop
+least-part-advance-leaf-start t c = let s = (c .before .before .before .before .before .before .before .before .before .before .before .before) in let P = s .pre .1 .1 in let a = (c .before .before .before .before .before .before .before) .loop in let i = a .inv .1 (P .0) (P .1) (P .2) (P .4) in let k = (c .before .before .before .before) .child-at in let l = (c .before .before .before .before .before .before) .loop-test .taken in let f = child-facts (i .left) (i .zip) l in omega (arith, f, a .inv .0, s .good, k .ensures)
+
+pub least-part-advance-leaf-end : (t : ℕ) → least-lts.Need-part-advance-leaf-end (least-calls t) (least-at t) least.Post least-Inv-loop least-μ-loop
+least-part-advance-leaf-end t c = let s = (c .before .before .before .before .before .before .before .before .before .before .before .before) in let P = s .pre .1 .1 in let a = (c .before .before .before .before .before .before .before) .loop in let i = a .inv .1 (P .0) (P .1) (P .2) (P .4) in let k = (c .before .before .before .before) .child-at in let l = (c .before .before .before .before .before .before) .loop-test .taken in let f = child-facts (i .left) (i .zip) l in omega (arith, f, a .inv .0, s .good, k .ensures)
+
+pub least-advance-leaf-requires : (t : ℕ) → least-lts.Need-advance-leaf-requires (least-calls t) (least-at t) least.Post least-Inv-loop least-μ-loop
+least-advance-leaf-requires t c κs = let s = (c .before .before .before .before .before .before .before .before .before .before .before .before .before .before .before) in let P = s .pre .1 .1 in let a = (c .before .before .before .before .before .before .before .before .before .before) .loop in let i = a .inv .1 (P .0) (P .1) (P .2) (P .4) in let k = (c .before .before .before .before .before .before .before) .child-at in let l = (c .before .before .before .before .before .before .before .before .before) .loop-test .taken in let f = child-facts (i .left) (i .zip) l in let h = child-held (i .left) (i .zip) l (k .result .end) (k .ensures .end) in (λ e. (c .before .before .before) .if2 .left ((c .before .before .before .before) .kind-at .ensures ∙ sym (child-kind (a .kids) (a .at) (k .result .end) f (k .ensures .end)) ∙ e), (s .pre .1 .0, (P .0, P .1, h .0, h .1, record { in-a = omega (arith, a .inv .0, P .3); in-b = omega (arith, a .inv .0, P .3) }, h .2)))
+
+pub least-tally-requires-3 : (t : ℕ) → least-lts.Need-tally-requires-3 (least-calls t) (least-at t) least.Post least-Inv-loop least-μ-loop
+least-tally-requires-3 t c κs = let s = (c .before .before .before .before .before .before .before .before .before .before .before .before .before .before .before .before .before .before .before .before) in let P = s .pre .1 .1 in let a = (c .before .before .before .before .before .before .before .before .before .before .before .before .before .before .before) .loop in let i = a .inv .1 (P .0) (P .1) (P .2) (P .4) in omega (arith, i .few, (c .before .before .before .before .before .before .before .before .before .before .before .before .before .before) .loop-test .taken, a .inv .0, s .good)
+
+pub least-loop-less-3 : (t : ℕ) → least-lts.Need-loop-less-3 (least-calls t) (least-at t) least.Post least-Inv-loop least-μ-loop
+least-loop-less-3 t c = let s = (c .before .before .before .before .before .before .before .before .before .before .before .before .before .before .before .before .before .before .before .before .before) in let P = s .pre .1 .1 in let a = (c .before .before .before .before .before .before .before .before .before .before .before .before .before .before .before .before) .loop in let i = a .inv .1 (P .0) (P .1) (P .2) (P .4) in let k = (c .before .before .before .before .before .before .before .before .before .before .before .before .before) .child-at in let l = (c .before .before .before .before .before .before .before .before .before .before .before .before .before .before .before) .loop-test .taken in let f = child-facts (i .left) (i .zip) l in let d = (c .before .before .before .before .before) .advance-leaf in omega (arith, f, k .ensures, l, back-length (a .kids) (d .last .0) (a .at) (k .result .end) (d .kept .0))
+
+pub least-loop-again-3 : (t : ℕ) → least-lts.Need-loop-again-3 (least-calls t) (least-at t) least.Post least-Inv-loop least-μ-loop
+least-loop-again-3 t c = let a = (c .before .before .before .before .before .before .before .before .before .before .before .before .before .before .before .before) .loop in let k = (c .before .before .before .before .before .before .before .before .before .before .before .before .before) .child-at in let l = (c .before .before .before .before .before .before .before .before .before .before .before .before .before .before .before) .loop-test .taken in let d = (c .before .before .before .before .before) .advance-leaf in let y = c .tally3 in (record { kids-same = back-length (a .kids) (d .last .0) (a .at) (k .result .end) (d .kept .0) ∙ a .inv .0 .kids-same; a-same = d .kept .1 .1 .1 .1 .1 .0 ∙ a .inv .0 .a-same; b-same = d .kept .1 .1 .1 .1 .1 .1 .0 ∙ a .inv .0 .b-same }, λ ix p ss h. least-took (a .inv .1 ix p ss h) l (k .result .end) (k .ensures .end) (d .result) (y .result .doc) (y .result .count) (d .last .0) (d .kept .0) (d .ensures .0) (y .ensures))
 
 pub least-same-length : (t : ℕ) → least-lts.Need-same-length (least-calls t) (least-at t) least.Post least-Inv-loop least-μ-loop
 least-same-length t c = (c .before) .loop .inv .0 .kids-same
@@ -79,26 +106,50 @@ pass-loop-less t c = let s = (c .before .before .before .before .before .before 
 pub pass-loop-again : (t : ℕ) → pass-lts.Need-loop-again (pass-calls t) (pass-at t) pass.Post pass-Inv-loop pass-μ-loop
 pass-loop-again t c = let a = (c .before .before .before .before) .loop in let k = (c .before) .child-at in let l = (c .before .before .before) .loop-test .taken in (a .inv .0, λ ix p ss h. pass-skip (a .inv .1 ix p ss h) l (k .result .end) (k .ensures .end) (k .result .cached) (k .ensures .cached) (c .if1 .taken))
 
+pub pass-kind-at-requires : (t : ℕ) → pass-lts.Need-kind-at-requires (pass-calls t) (pass-at t) pass.Post pass-Inv-loop pass-μ-loop
+pass-kind-at-requires t c κs = let s = (c .before .before .before .before .before .before .before .before .before .before) in let P = s .pre .1 .1 in let a = (c .before .before .before .before .before) .loop in let i = a .inv .1 (P .0) (P .1) (P .2) (P .4) in child-facts (i .left) (i .zip) ((c .before .before .before .before) .loop-test .taken)
+
 pub pass-mul-advance : (t : ℕ) → pass-lts.Need-mul-advance (pass-calls t) (pass-at t) pass.Post pass-Inv-loop pass-μ-loop
-pass-mul-advance t c = let s = (c .before .before .before .before .before .before .before .before .before) in let P = s .pre .1 .1 in let a = (c .before .before .before .before) .loop in let i = a .inv .1 (P .0) (P .1) (P .2) (P .4) in let k = (c .before) .child-at in let l = (c .before .before .before) .loop-test .taken in let f = child-facts (i .left) (i .zip) l in omega (arith, f, a .inv .0, s .good, k .ensures)
+pass-mul-advance t c = let s = (c .before .before .before .before .before .before .before .before .before .before .before .before) in let P = s .pre .1 .1 in let a = (c .before .before .before .before .before .before .before) .loop in let i = a .inv .1 (P .0) (P .1) (P .2) (P .4) in let k = (c .before .before .before .before) .child-at in let l = (c .before .before .before .before .before .before) .loop-test .taken in let f = child-facts (i .left) (i .zip) l in omega (arith, f, a .inv .0, s .good, k .ensures)
 
 pub pass-sub-advance : (t : ℕ) → pass-lts.Need-sub-advance (pass-calls t) (pass-at t) pass.Post pass-Inv-loop pass-μ-loop
-pass-sub-advance t c = let s = (c .before .before .before .before .before .before .before .before .before) in let P = s .pre .1 .1 in let a = (c .before .before .before .before) .loop in let i = a .inv .1 (P .0) (P .1) (P .2) (P .4) in let k = (c .before) .child-at in let l = (c .before .before .before) .loop-test .taken in let f = child-facts (i .left) (i .zip) l in omega (arith, f, k .ensures)
+pass-sub-advance t c = let s = (c .before .before .before .before .before .before .before .before .before .before .before .before) in let P = s .pre .1 .1 in let a = (c .before .before .before .before .before .before .before) .loop in let i = a .inv .1 (P .0) (P .1) (P .2) (P .4) in let k = (c .before .before .before .before) .child-at in let l = (c .before .before .before .before .before .before) .loop-test .taken in let f = child-facts (i .left) (i .zip) l in omega (arith, f, k .ensures)
 
 pub pass-part-advance-start : (t : ℕ) → pass-lts.Need-part-advance-start (pass-calls t) (pass-at t) pass.Post pass-Inv-loop pass-μ-loop
-pass-part-advance-start t c = let s = (c .before .before .before .before .before .before .before .before .before) in let P = s .pre .1 .1 in let a = (c .before .before .before .before) .loop in let i = a .inv .1 (P .0) (P .1) (P .2) (P .4) in let k = (c .before) .child-at in let l = (c .before .before .before) .loop-test .taken in let f = child-facts (i .left) (i .zip) l in omega (arith, f, a .inv .0, s .good, k .ensures)
+pass-part-advance-start t c = let s = (c .before .before .before .before .before .before .before .before .before .before .before .before) in let P = s .pre .1 .1 in let a = (c .before .before .before .before .before .before .before) .loop in let i = a .inv .1 (P .0) (P .1) (P .2) (P .4) in let k = (c .before .before .before .before) .child-at in let l = (c .before .before .before .before .before .before) .loop-test .taken in let f = child-facts (i .left) (i .zip) l in omega (arith, f, a .inv .0, s .good, k .ensures)
 
 pub pass-part-advance-end : (t : ℕ) → pass-lts.Need-part-advance-end (pass-calls t) (pass-at t) pass.Post pass-Inv-loop pass-μ-loop
-pass-part-advance-end t c = let s = (c .before .before .before .before .before .before .before .before .before) in let P = s .pre .1 .1 in let a = (c .before .before .before .before) .loop in let i = a .inv .1 (P .0) (P .1) (P .2) (P .4) in let k = (c .before) .child-at in let l = (c .before .before .before) .loop-test .taken in let f = child-facts (i .left) (i .zip) l in omega (arith, f, a .inv .0, s .good, k .ensures)
+pass-part-advance-end t c = let s = (c .before .before .before .before .before .before .before .before .before .before .before .before) in let P = s .pre .1 .1 in let a = (c .before .before .before .before .before .before .before) .loop in let i = a .inv .1 (P .0) (P .1) (P .2) (P .4) in let k = (c .before .before .before .before) .child-at in let l = (c .before .before .before .before .before .before) .loop-test .taken in let f = child-facts (i .left) (i .zip) l in omega (arith, f, a .inv .0, s .good, k .ensures)
 
 pub pass-advance-requires : (t : ℕ) → pass-lts.Need-advance-requires (pass-calls t) (pass-at t) pass.Post pass-Inv-loop pass-μ-loop
-pass-advance-requires t c κs = let s = (c .before .before .before .before .before .before .before .before .before .before .before .before) in let P = s .pre .1 .1 in let a = (c .before .before .before .before .before .before .before) .loop in let i = a .inv .1 (P .0) (P .1) (P .2) (P .4) in let k = (c .before .before .before .before) .child-at in let l = (c .before .before .before .before .before .before) .loop-test .taken in let f = child-facts (i .left) (i .zip) l in let h = child-held (i .left) (i .zip) l (k .result .end) (k .ensures .end) in (omega (arith, s .pre .0), (i .top, (P .0, P .1, h .0, h .1, record { in-a = omega (arith, a .inv .0, P .3); in-b = omega (arith, a .inv .0, P .3) }, h .2)))
+pass-advance-requires t c κs = let s = (c .before .before .before .before .before .before .before .before .before .before .before .before .before .before .before) in let P = s .pre .1 .1 in let a = (c .before .before .before .before .before .before .before .before .before .before) .loop in let i = a .inv .1 (P .0) (P .1) (P .2) (P .4) in let k = (c .before .before .before .before .before .before .before) .child-at in let l = (c .before .before .before .before .before .before .before .before .before) .loop-test .taken in let f = child-facts (i .left) (i .zip) l in let h = child-held (i .left) (i .zip) l (k .result .end) (k .ensures .end) in (omega (arith, s .pre .0), (i .top, (P .0, P .1, h .0, h .1, record { in-a = omega (arith, a .inv .0, P .3); in-b = omega (arith, a .inv .0, P .3) }, h .2)))
 
 pub pass-loop-less-2 : (t : ℕ) → pass-lts.Need-loop-less-2 (pass-calls t) (pass-at t) pass.Post pass-Inv-loop pass-μ-loop
-pass-loop-less-2 t c = let s = (c .before .before .before .before .before .before .before .before .before .before .before .before .before .before .before .before .before) in let P = s .pre .1 .1 in let a = (c .before .before .before .before .before .before .before .before .before .before .before .before) .loop in let i = a .inv .1 (P .0) (P .1) (P .2) (P .4) in let k = (c .before .before .before .before .before .before .before .before .before) .child-at in let l = (c .before .before .before .before .before .before .before .before .before .before .before) .loop-test .taken in let f = child-facts (i .left) (i .zip) l in let d = (c .before .before .before .before) .advance in omega (arith, f, k .ensures, l, back-length (a .kids) (d .last .0) (a .at) (k .result .end) (d .kept .0))
+pass-loop-less-2 t c = let s = (c .before .before .before .before .before .before .before .before .before .before .before .before .before .before .before .before .before .before .before .before) in let P = s .pre .1 .1 in let a = (c .before .before .before .before .before .before .before .before .before .before .before .before .before .before .before) .loop in let i = a .inv .1 (P .0) (P .1) (P .2) (P .4) in let k = (c .before .before .before .before .before .before .before .before .before .before .before .before) .child-at in let l = (c .before .before .before .before .before .before .before .before .before .before .before .before .before .before) .loop-test .taken in let f = child-facts (i .left) (i .zip) l in let d = (c .before .before .before .before) .advance in omega (arith, f, k .ensures, l, back-length (a .kids) (d .last .0) (a .at) (k .result .end) (d .kept .0))
 
 pub pass-loop-again-2 : (t : ℕ) → pass-lts.Need-loop-again-2 (pass-calls t) (pass-at t) pass.Post pass-Inv-loop pass-μ-loop
-pass-loop-again-2 t c = let a = (c .before .before .before .before .before .before .before .before .before .before .before .before) .loop in let k = (c .before .before .before .before .before .before .before .before .before) .child-at in let l = (c .before .before .before .before .before .before .before .before .before .before .before) .loop-test .taken in let d = (c .before .before .before .before) .advance in (record { kids-same = back-length (a .kids) (d .last .0) (a .at) (k .result .end) (d .kept .0) ∙ a .inv .0 .kids-same; a-same = d .kept .1 .1 .1 .1 .1 .0 ∙ a .inv .0 .a-same; b-same = d .kept .1 .1 .1 .1 .1 .1 .0 ∙ a .inv .0 .b-same }, λ ix p ss h. pass-took (a .inv .1 ix p ss h) l (k .result .end) (k .ensures .end) (d .result) (d .last .0) (d .kept .0) (d .ensures .0))
+pass-loop-again-2 t c = let a = (c .before .before .before .before .before .before .before .before .before .before .before .before .before .before .before) .loop in let k = (c .before .before .before .before .before .before .before .before .before .before .before .before) .child-at in let l = (c .before .before .before .before .before .before .before .before .before .before .before .before .before .before) .loop-test .taken in let d = (c .before .before .before .before) .advance in (record { kids-same = back-length (a .kids) (d .last .0) (a .at) (k .result .end) (d .kept .0) ∙ a .inv .0 .kids-same; a-same = d .kept .1 .1 .1 .1 .1 .0 ∙ a .inv .0 .a-same; b-same = d .kept .1 .1 .1 .1 .1 .1 .0 ∙ a .inv .0 .b-same }, λ ix p ss h. pass-took (a .inv .1 ix p ss h) l (k .result .end) (k .ensures .end) (d .result) (d .last .0) (d .kept .0) (d .ensures .0))
+
+pub pass-mul-advance-leaf : (t : ℕ) → pass-lts.Need-mul-advance-leaf (pass-calls t) (pass-at t) pass.Post pass-Inv-loop pass-μ-loop
+pass-mul-advance-leaf t c = let s = (c .before .before .before .before .before .before .before .before .before .before .before .before) in let P = s .pre .1 .1 in let a = (c .before .before .before .before .before .before .before) .loop in let i = a .inv .1 (P .0) (P .1) (P .2) (P .4) in let k = (c .before .before .before .before) .child-at in let l = (c .before .before .before .before .before .before) .loop-test .taken in let f = child-facts (i .left) (i .zip) l in omega (arith, f, a .inv .0, s .good, k .ensures)
+
+pub pass-sub-advance-leaf : (t : ℕ) → pass-lts.Need-sub-advance-leaf (pass-calls t) (pass-at t) pass.Post pass-Inv-loop pass-μ-loop
+pass-sub-advance-leaf t c = let s = (c .before .before .before .before .before .before .before .before .before .before .before .before) in let P = s .pre .1 .1 in let a = (c .before .before .before .before .before .before .before) .loop in let i = a .inv .1 (P .0) (P .1) (P .2) (P .4) in let k = (c .before .before .before .before) .child-at in let l = (c .before .before .before .before .before .before) .loop-test .taken in let f = child-facts (i .left) (i .zip) l in omega (arith, f, k .ensures)
+
+pub pass-part-advance-leaf-start : (t : ℕ) → pass-lts.Need-part-advance-leaf-start (pass-calls t) (pass-at t) pass.Post pass-Inv-loop pass-μ-loop
+pass-part-advance-leaf-start t c = let s = (c .before .before .before .before .before .before .before .before .before .before .before .before) in let P = s .pre .1 .1 in let a = (c .before .before .before .before .before .before .before) .loop in let i = a .inv .1 (P .0) (P .1) (P .2) (P .4) in let k = (c .before .before .before .before) .child-at in let l = (c .before .before .before .before .before .before) .loop-test .taken in let f = child-facts (i .left) (i .zip) l in omega (arith, f, a .inv .0, s .good, k .ensures)
+
+pub pass-part-advance-leaf-end : (t : ℕ) → pass-lts.Need-part-advance-leaf-end (pass-calls t) (pass-at t) pass.Post pass-Inv-loop pass-μ-loop
+pass-part-advance-leaf-end t c = let s = (c .before .before .before .before .before .before .before .before .before .before .before .before) in let P = s .pre .1 .1 in let a = (c .before .before .before .before .before .before .before) .loop in let i = a .inv .1 (P .0) (P .1) (P .2) (P .4) in let k = (c .before .before .before .before) .child-at in let l = (c .before .before .before .before .before .before) .loop-test .taken in let f = child-facts (i .left) (i .zip) l in omega (arith, f, a .inv .0, s .good, k .ensures)
+
+pub pass-advance-leaf-requires : (t : ℕ) → pass-lts.Need-advance-leaf-requires (pass-calls t) (pass-at t) pass.Post pass-Inv-loop pass-μ-loop
+pass-advance-leaf-requires t c κs = let s = (c .before .before .before .before .before .before .before .before .before .before .before .before .before .before .before) in let P = s .pre .1 .1 in let a = (c .before .before .before .before .before .before .before .before .before .before) .loop in let i = a .inv .1 (P .0) (P .1) (P .2) (P .4) in let k = (c .before .before .before .before .before .before .before) .child-at in let l = (c .before .before .before .before .before .before .before .before .before) .loop-test .taken in let f = child-facts (i .left) (i .zip) l in let h = child-held (i .left) (i .zip) l (k .result .end) (k .ensures .end) in (λ e. (c .before .before .before) .if2 .left ((c .before .before .before .before) .kind-at .ensures ∙ sym (child-kind (a .kids) (a .at) (k .result .end) f (k .ensures .end)) ∙ e), (i .top, (P .0, P .1, h .0, h .1, record { in-a = omega (arith, a .inv .0, P .3); in-b = omega (arith, a .inv .0, P .3) }, h .2)))
+
+pub pass-loop-less-3 : (t : ℕ) → pass-lts.Need-loop-less-3 (pass-calls t) (pass-at t) pass.Post pass-Inv-loop pass-μ-loop
+pass-loop-less-3 t c = let s = (c .before .before .before .before .before .before .before .before .before .before .before .before .before .before .before .before .before .before .before .before) in let P = s .pre .1 .1 in let a = (c .before .before .before .before .before .before .before .before .before .before .before .before .before .before .before) .loop in let i = a .inv .1 (P .0) (P .1) (P .2) (P .4) in let k = (c .before .before .before .before .before .before .before .before .before .before .before .before) .child-at in let l = (c .before .before .before .before .before .before .before .before .before .before .before .before .before .before) .loop-test .taken in let f = child-facts (i .left) (i .zip) l in let d = (c .before .before .before .before) .advance-leaf in omega (arith, f, k .ensures, l, back-length (a .kids) (d .last .0) (a .at) (k .result .end) (d .kept .0))
+
+pub pass-loop-again-3 : (t : ℕ) → pass-lts.Need-loop-again-3 (pass-calls t) (pass-at t) pass.Post pass-Inv-loop pass-μ-loop
+pass-loop-again-3 t c = let a = (c .before .before .before .before .before .before .before .before .before .before .before .before .before .before .before) .loop in let k = (c .before .before .before .before .before .before .before .before .before .before .before .before) .child-at in let l = (c .before .before .before .before .before .before .before .before .before .before .before .before .before .before) .loop-test .taken in let d = (c .before .before .before .before) .advance-leaf in (record { kids-same = back-length (a .kids) (d .last .0) (a .at) (k .result .end) (d .kept .0) ∙ a .inv .0 .kids-same; a-same = d .kept .1 .1 .1 .1 .1 .0 ∙ a .inv .0 .a-same; b-same = d .kept .1 .1 .1 .1 .1 .1 .0 ∙ a .inv .0 .b-same }, λ ix p ss h. pass-took (a .inv .1 ix p ss h) l (k .result .end) (k .ensures .end) (d .result) (d .last .0) (d .kept .0) (d .ensures .0))
 
 pub pass-same-length : (t : ℕ) → pass-lts.Need-same-length (pass-calls t) (pass-at t) pass.Post pass-Inv-loop pass-μ-loop
 pass-same-length t c = (c .before) .loop .inv .0 .kids-same
