@@ -35,13 +35,8 @@ fn nearest(n: u64, u: u64) -> u64
     let q = n / u;
     let below = n % u;
     let above = u - below;
-    if below < above {
-        q
-    } else if above < below {
-        q + 1
-    } else {
-        q + q % 2
-    }
+    // one test of both, so that there is no branch for the processor to guess
+    if above < below + q % 2 { q + 1 } else { q }
 }
 
 // `narrow` of a pattern whose sign is clear and that is no NaN's.

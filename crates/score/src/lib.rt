@@ -208,7 +208,7 @@ fn stands(
     if doc < cached {
         return cached - 1;
     }
-    scorer::advance(st, max_doc, postings, positions, ranges, a, b, doc, depth)
+    scorer::advance_any(st, max_doc, postings, positions, ranges, a, b, doc, depth)
 }
 
 // The score of the document where the node matches it. The children were left at it or before it.

@@ -19,20 +19,20 @@ returns c =
     let s₀ = c .before .before .before .before .before .before in
     λ ix places s scores H. (ok-cached ix (s₀ .args .ranges .now) s (s₀ .args .depth) scores (s₀ .args .st .now) (s₀ .args .doc) (H .ok) (s₀ .args .doc) (le-refl _) (c .if1 .taken), H .ok)
 
-advance-requires : tie.Need-advance-requires
-advance-requires c κs = c .before .before .before .before .before .before .before .before .before .pre
+advance-any-requires : tie.Need-advance-any-requires
+advance-any-requires c κs = c .before .before .before .before .before .before .before .before .before .pre
 
 same-length : tie.Need-same-length
-same-length c = c .before .before .before .before .advance .kept .0
+same-length c = c .before .before .before .before .advance-any .kept .0
 
 same-length-2 : tie.Need-same-length-2
-same-length-2 c = c .before .before .before .before .advance .kept .1 .1 .1 .1 .1 .0
+same-length-2 c = c .before .before .before .before .advance-any .kept .1 .1 .1 .1 .1 .0
 
 same-length-3 : tie.Need-same-length-3
-same-length-3 c = c .before .before .before .before .advance .kept .1 .1 .1 .1 .1 .1 .0
+same-length-3 c = c .before .before .before .before .advance-any .kept .1 .1 .1 .1 .1 .1 .0
 
 returns-2 : tie.Need-returns-2
-returns-2 c = c .before .before .before .before .advance .ensures .0
+returns-2 c = c .before .before .before .before .advance-any .ensures .0
 
 pub stands-spec : {M : Type 1} → statement M
 stands-spec =
@@ -41,7 +41,7 @@ stands-spec =
     slice-read-cached
     sub-result
     returns
-    advance-requires
+    advance-any-requires
     same-length
     same-length-2
     same-length-3
