@@ -1,7 +1,7 @@
 -- Keys lie in the order of the values, the ends of a range become an interval of keys, and a value is tested against it. Assumes nothing.
 use mathlib.Core.Path.{_≡_, sym, ap, _∙_}
 use mathlib.Core.Logic.{⊎-elim}
-use mathlib.Core.Bool.{Bool, true, false, cond, _&&_, and-true, and-false}
+use mathlib.Core.Bool.{Bool, true, false, cond, _&&_, and-true}
 use mathlib.Core.List.{List}
 use Prim.Native.Nat.{ℕ, _+_, _-_, _*_, _^_, _≤_, _<_, max, min}
 use native.Mathlib.Omega.{arith}
@@ -163,15 +163,6 @@ pub between-both : (a b c d k : ℕ) → between (max a c) (min b d) k ≡ (betw
 between-both a b c d k = rw (leb-max a c k, leb-min b d k) (and-middle (leb a k) (leb c k) (leb k b) (leb k d))
 
 -- ---- what is read of a value
-module _ (values : List ℕ) (at type from to key : ℕ) (is : key ≡ valueKey type (joined (getD values (at + 1) 0) (getD values (at + 2) 0))) where
-  pub value-absent : (getD values at 0 ≡ 1 → ⊥) → false ≡ valueIn values at type from to
-  unfolding valueIn
-  value-absent e = rw (ne-eqb (getD values at 0) 1 e)
-
-  pub value-below : key < from → false ≡ valueIn values at type from to
-  unfolding valueIn
-  value-below h = rw (← is, lt-leb from key h) (sym (and-false (eqb (getD values at 0) 1)))
-
-  pub value-present : getD values at 0 ≡ 1 → from ≤ key → leb key to ≡ valueIn values at type from to
-  unfolding valueIn
-  value-present e h = rw (← is, eq-eqb (getD values at 0) 1 e, le-leb from key h)
+pub value-tested : (values : List ℕ) (at type from to key : ℕ) → key ≡ valueKey type (joined (getD values (at + 1) 0) (getD values (at + 2) 0)) → (eqb (getD values at 0) 1 && between from to key) ≡ valueIn values at type from to
+unfolding valueIn
+value-tested values at type from to key is = ap (λ (k : ℕ). eqb (getD values at 0) 1 && between from to k) is

@@ -1,8 +1,8 @@
 // Numeric columns: the documents whose value lies in a range, by one scan of the column.
 ghost use Prim.Native.Nat.{ℕ, _+_, _*_, _/_, _%_, _^_, _≤_, _<_, max, min};
 ghost use mathlib.Core.Path.{_≡_};
-ghost use mathlib.Core.Bool.{false, _&&_};
-ghost use lib.ListN.{length};
+ghost use mathlib.Core.Bool.{false, cond, _&&_};
+ghost use lib.ListN.{length, take};
 ghost use Rattle.meaning.specs.Below.{listBelow};
 ghost use Rattle.meaning.specs.Lent.{joined};
 ghost use Rattle.meaning.specs.Range.{rangeDocuments};
@@ -113,19 +113,13 @@ fn range_keys(column_type: u32, kinds: u32, lower: u64, upper: u64) -> Keys
     }
 }
 
-// Whether the value at this word is there and its key lies between the two.
+// Whether the value at this word is there and its key lies between the two: three tests and no branch.
 fn value_in(values: &[u32], at: usize, column_type: u32, from: u64, to: u64) -> bool
     requires { ⌜ at + 3 ≤ length (now values) ⌝ }
     ensures { λ r. ⌜ r ≡ valueIn (now (values .entry)) at «column_type» from to ⌝ }
 {
     let key = value_key(column_type, joined(values[at + 1], values[at + 2]));
-    if values[at] != 1 {
-        return false;
-    }
-    if key < from {
-        return false;
-    }
-    key <= to
+    (values[at] == 1) & ((from <= key) & (key <= to))
 }
 
 // The documents whose value lies between the keys, to the front of the output; the column begins at word `start`.
@@ -157,6 +151,40 @@ fn scan(
     held as u32
 }
 
+// 1 where it holds.
+fn number(b: bool) -> usize
+    ensures { λ r. ⌜ r ≡ cond b 1 0 ⌝ }
+{
+    if b { 1 } else { 0 }
+}
+
+// The same list without a branch on the values: each document is stored, and kept where its value lies between the keys.
+fn sift(
+    max_doc: u32,
+    values: &[u32],
+    start: usize,
+    column_type: u32,
+    from: u64,
+    to: u64,
+    output: &mut [u32],
+) -> u32
+    requires { ⌜ start + 3 * «max_doc» ≤ length (now values) ⌝ }
+    requires { ⌜ «max_doc» ≤ length (now output) ⌝ }
+    ensures { λ r. ⌜ r ≡ length (listBelow «max_doc» (λ d. valueIn (now (values .entry)) (start + 3 * d) «column_type» from to)) ⌝ }
+    ensures { λ r. ⌜ take r (now (output .exit)) ≡ listBelow «max_doc» (λ d. valueIn (now (values .entry)) (start + 3 * d) «column_type» from to) ⌝ }
+    ensures { λ r. ⌜ length (now (output .exit)) ≡ length (now (output .entry)) ⌝ }
+{
+    let n = max_doc as usize;
+    let mut held: usize = 0;
+    let mut d: usize = 0;
+    while d < n {
+        output[held] = d as u32;
+        held += number(value_in(values, start + 3 * d, column_type, from, to));
+        d += 1;
+    }
+    held as u32
+}
+
 // The documents of a column whose value lies in a range, ascending, to the front of the output, and how many there are.
 pub fn range(
     max_doc: u32,
@@ -182,4 +210,32 @@ pub fn range(
     let from = keys.from;
     let to = keys.to;
     scan(max_doc, values, start, column_type, from, to, output)
+}
+
+// The same documents to the front of a work buffer, of which the places beyond them may hold anything.
+pub fn range_list(
+    max_doc: u32,
+    columns: &[u32],
+    values: &[u32],
+    column: u32,
+    kinds: u32,
+    lower: u64,
+    upper: u64,
+    output: &mut [u32],
+) -> u32
+    requires { ⌜ wrong1 (columnsOnly «max_doc» (now columns) (now values)) ≡ false ⌝ }
+    requires { ⌜ wrong6 (columnsOnly «max_doc» (now columns) (now values)) ≡ false ⌝ }
+    requires { ⌜ wrongRange (columnsOnly «max_doc» (now columns) (now values)) (record { column = column; kinds = kinds; lower = lower; upper = upper }) ≡ false ⌝ }
+    requires { ⌜ «max_doc» ≤ length (now output) ⌝ }
+    ensures { λ r. ⌜ r ≡ length (rangeDocuments (columnsOnly «max_doc» (now (columns .entry)) (now (values .entry))) (record { column = column; kinds = kinds; lower = lower; upper = upper })) ⌝ }
+    ensures { λ r. ⌜ take r (now (output .exit)) ≡ rangeDocuments (columnsOnly «max_doc» (now (columns .entry)) (now (values .entry))) (record { column = column; kinds = kinds; lower = lower; upper = upper }) ⌝ }
+    ensures { λ r. ⌜ length (now (output .exit)) ≡ length (now (output .entry)) ⌝ }
+{
+    let at = column as usize;
+    let column_type = columns[at];
+    let start = 3 * (at * max_doc as usize);
+    let keys = range_keys(column_type, kinds, lower, upper);
+    let from = keys.from;
+    let to = keys.to;
+    sift(max_doc, values, start, column_type, from, to, output)
 }

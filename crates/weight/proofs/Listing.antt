@@ -1,27 +1,27 @@
 -- The documents of a query's ranges, one record's after the other's. Assumes nothing.
 use mathlib.Core.Path.{_≡_, refl, sym, _∙_, ap, subst}
 use mathlib.Core.Bool.{Bool, true, false, cond, not, _||_}
-use mathlib.Core.List.{List, [], _∷_, _++_, append-assoc}
+use mathlib.Core.List.{List, [], _∷_, _++_}
 use mathlib.Core.Logic.{_⊎_, inl, inr}
 use Prim.Native.Nat.{ℕ, zero, suc, _+_, _-_, _*_, _/_, _≤_, _<_, min}
 use native.Mathlib.Omega.{arith}
 use native.Mathlib.Nat.{mul-le-mul, mul-add, mul-one}
 use lib.Dec.{eqb, leb, ltb}
-use lib.ListN.{length, getD, set, take, drop, length-append, length-take, length-drop, length-set, List·getD-append}
+use lib.ListN.{length, getD, set, take, length-append, length-take, length-drop, length-set, List·getD-append}
 use lib.Seq.{getD-set-same, getD-set-other, getD-take, getD-append-add}
 use borrow.Author.Tests.{lt-ltb, le-ltb, eq-eqb, ne-eqb, eqb-true, eqb-false}
 use Rattle.meaning.specs.Below.{anyBelow, countBelow}
 use Rattle.meaning.specs.Limits.{maxDocuments}
 use Rattle.meaning.specs.Lent.{Index, joined, columnCount, columnType, valuePresent}
 use Rattle.meaning.specs.Range.{NumericRange, rangeDocuments}
-use Rattle.meaning.specs.Entries.{written, columnsOnly}
+use Rattle.meaning.specs.Entries.{columnsOnly}
 use Rattle.meaning.specs.IndexRefusals.{wrong1, wrong6, wrongColumn}
 use Rattle.meaning.specs.QueryRefusals.{wrongRange}
 use Rattle.meaning.specs.CallRefusals.{rangeRecords, rangesNeeded}
 use Rattle.meaning.specs.Query.{recordCount, recordKind, recordValue, rangeOf}
 use Rattle.index.specs.Accepted.{Accepted}
 use Rattle.index.proofs.Below.{count-more, count-lt, count-none, count-le}
-use Rattle.doc_values.proofs.Lists.{any-none, written-length}
+use Rattle.doc_values.proofs.Lists.{any-none}
 use Rattle.doc_values.proofs.Ranges.{columnsOf, range-of-columns, wrong1-of-columns, wrong6-of-columns, wrongRange-of-columns, range-length}
 use Rattle.query.proofs.Accepted.{range-right}
 use Rattle.weight.proofs.Measures.{from-or}
@@ -165,14 +165,14 @@ below-or r n h = elim (from-or r n (omega (arith, h))) [
 ]
 
 -- one record more
-module _ (ix : Index) (q columns values places counts ranges out part rest : List ℕ) (n used at k step : ℕ) (cs : Columns ix n columns values) (l : Listing ix q places counts ranges used at) where
+module _ (ix : Index) (q columns values places counts ranges out rest : List ℕ) (n used at k step : ℕ) (cs : Columns ix n columns values) (l : Listing ix q places counts ranges used at) where
   abbrev docs : List ℕ
   docs = rangeDocuments ix (rangeOf q at)
 
   abbrev after : List ℕ
   after = take used ranges ++ (out ++ rest)
 
-  pub listing-more : at < length places → at < length counts → used ≤ length ranges → (recordKind q at ≡ 4 → n ≤ length ranges - used) → length after ≡ length ranges → (recordKind q at ≡ 4 → (k ≡ length docs) × (out ≡ written docs part)) → step ≡ cond (isRange q at) n 0 → Listing ix q (set places at used) (set counts at k) after (used + step) (at + 1)
+  pub listing-more : at < length places → at < length counts → used ≤ length ranges → (recordKind q at ≡ 4 → n ≤ length ranges - used) → length after ≡ length ranges → (recordKind q at ≡ 4 → (k ≡ length docs) × (take k out ≡ docs)) → step ≡ cond (isRange q at) n 0 → Listing ix q (set places at used) (set counts at k) after (used + step) (at + 1)
   listing-more hp hc within enough long gave stepped =
       record { lists = λ r g kind. one r g kind .0; below = λ r g kind. one r g kind .1 }
     where
@@ -192,11 +192,12 @@ module _ (ix : Index) (q columns values places counts ranges out part rest : Lis
           let is = cs .documents in
           let room = enough kind in
           let fit : step ≡ n = stepped ∙ rw (eq-eqb (recordKind q at) 4 kind) in
-          let count = g .0 in (
+          let count = g .0 in
+          let size : k ≤ length out = omega (arith, count, ap length (g .1), length-take k out) in (
             record {
               count-is = g .0;
               there = omega (arith, long, within, room, few, is, count);
-              listed = λ i h. rw (g .1) (ap (λ (z : List ℕ). getD (take used ranges ++ z) (used + i) 0) (append-assoc docs (drop (length docs) part) rest) ∙ back ranges docs (drop (length docs) part ++ rest) used i within (omega (arith, h, count)));
+              listed = λ i h. back ranges out rest used i within (omega (arith, h, size)) ∙ sym (getD-take k out i 0 h) ∙ ap (λ (z : List ℕ). getD z i 0) (g .1);
             },
             omega (arith, few, is, count, fit),
           )
@@ -210,6 +211,3 @@ module _ (ix : Index) (q columns values places counts ranges out part rest : Lis
 pub step-small : (b : Bool) (n step : ℕ) → step ≡ cond b n 0 → step ≤ n
 step-small true n step e = omega (arith, e)
 step-small false n step e = omega (arith, e)
-
-pub output-long : (ix : Index) (r : NumericRange) (n : ℕ) (before after : List ℕ) → ix .maxDoc ≡ n → n ≤ length before → after ≡ written (rangeDocuments ix r) before → length after ≡ length before
-output-long ix r n before after e h f = let few = range-length ix r in ap length f ∙ written-length (rangeDocuments ix r) before (omega (arith, few, e, h))

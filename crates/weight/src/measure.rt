@@ -5,11 +5,10 @@ ghost use mathlib.Core.List.{List};
 ghost use mathlib.Core.Option.{some};
 ghost use Prim.Native.Nat.{ℕ, _+_, _*_, _/_, _≤_, _<_, max, min};
 ghost use lib.Dec.{eqb, leb, ltb};
-ghost use lib.ListN.{length, getD};
+ghost use lib.ListN.{length, getD, take};
 ghost use Rattle.meaning.specs.Lent.{Index, leafNumber};
 ghost use Rattle.meaning.specs.Query.{recordCount, recordKind, recordChildren, recordValue, rangeOf, Occur, must, should, occurOf, Decoded, decode};
 ghost use Rattle.meaning.specs.Range.{rangeDocuments};
-ghost use Rattle.meaning.specs.Entries.{written};
 ghost use Rattle.meaning.specs.CallRefusals.{rangesNeeded};
 ghost use Rattle.meaning.specs.Cost.{least};
 ghost use Rattle.weight.specs.Measured.{Asks, Held, Columns, RangesListed, Known, MeasureIs, Measured, tallied, termNumbers, tallyPresent, tallyCost};
@@ -320,6 +319,7 @@ fn range_words(q: &[u32], max_doc: u32, at: usize) -> usize
 }
 
 // The documents of the Range record at `at` to the front of the output, and how many there are; another record has none.
+// The places beyond them may hold anything.
 fn list_range(
     q: &[u32],
     max_doc: u32,
@@ -330,7 +330,7 @@ fn list_range(
 ) -> u32
     requires { ⌜ (at < recordCount (now q)) × (recordKind (now q) at ≡ 4 → «max_doc» ≤ length (now output)) ⌝ }
     requires { ⌜ ((ix : Index) × Asks ix (now q) × Columns ix «max_doc» (now columns) (now values)) ⌝ }
-    ensures { λ r. ⌜ ((ix : Index) → Asks ix (now (q .entry)) → Columns ix «max_doc» (now (columns .entry)) (now (values .entry)) → recordKind (now (q .entry)) at ≡ 4 → (r ≡ length (rangeDocuments ix (rangeOf (now (q .entry)) at))) × (now (output .exit) ≡ written (rangeDocuments ix (rangeOf (now (q .entry)) at)) (now (output .entry)))) ⌝ }
+    ensures { λ r. ⌜ ((ix : Index) → Asks ix (now (q .entry)) → Columns ix «max_doc» (now (columns .entry)) (now (values .entry)) → recordKind (now (q .entry)) at ≡ 4 → (r ≡ length (rangeDocuments ix (rangeOf (now (q .entry)) at))) × (take r (now (output .exit)) ≡ rangeDocuments ix (rangeOf (now (q .entry)) at))) ⌝ }
     ensures { λ r. ⌜ length (now (output .exit)) ≡ length (now (output .entry)) ⌝ }
 {
     if query::kind(q, at) != 4 {
@@ -338,7 +338,7 @@ fn list_range(
     }
     let lower = doc_values::joined(query::value(q, at, 2), query::value(q, at, 3));
     let upper = doc_values::joined(query::value(q, at, 4), query::value(q, at, 5));
-    doc_values::range(
+    doc_values::range_list(
         max_doc,
         columns,
         values,

@@ -1,17 +1,11 @@
--- `doc_values::value_in` meets its contract, one law for each way out. Assumes nothing.
-use Prim.Native.Nat.{ℕ, _+_}
-use mathlib.Core.Path.{_≡_, ap, _∙_}
-use lib.ListN.{getD}
-use Rattle.meaning.specs.Lent.{joined}
+-- `doc_values::value_in` meets its contract: its three tests are the definition's. Assumes nothing.
+use Prim.Native.Nat.{ℕ}
+use mathlib.Core.Path.{ap, _∙_}
 use Rattle.doc_values.specs.Keys.{valueKey}
 use native.Mathlib.Omega.{arith}
-use Rattle.doc_values.proofs.KeyOrder.{value-absent, value-below, value-present}
+use Rattle.doc_values.proofs.KeyOrder.{value-tested}
 use Rattle.doc_values.proofs.value_in.Statement.{statement}
 use Rattle.doc_values.proofs.value_in.Tie as tie
-
--- the key is that of the value's two halves
-key : (c : tie.After-value-key) → c .value-key .result ≡ valueKey (c .before .before .before .before .before .args .column-type) (joined (getD (c .before .before .before .before .before .args .values .now) (c .before .before .before .before .before .args .at + 1) 0) (getD (c .before .before .before .before .before .args .values .now) (c .before .before .before .before .before .args .at + 2) 0))
-key c = c .value-key .ensures ∙ ap (λ (b : ℕ). valueKey (c .before .before .before .before .before .args .column-type) b) (c .before .joined .ensures)
 
 add-joined : tie.Need-add-joined
 add-joined c = omega arith
@@ -37,20 +31,17 @@ joined-requires c κs = tt
 value-key-requires : tie.Need-value-key-requires
 value-key-requires c κs = tt
 
-mul-if1 : tie.Need-mul-if1
-mul-if1 c = omega arith
+mul-result : tie.Need-mul-result
+mul-result c = omega arith
 
-shared-slice-read-if1 : tie.Need-shared-slice-read-if1
-shared-slice-read-if1 c = omega arith
+shared-slice-read-result : tie.Need-shared-slice-read-result
+shared-slice-read-result c = omega arith
 
 returns : tie.Need-returns
-returns c = let a = c .before .before .before .before .before .before .before .args in value-absent (a .values .now) (a .at) (a .column-type) (a .from) (a .to) (c .before .before .value-key .result) (key (c .before .before)) (c .if1 .taken)
-
-returns-2 : tie.Need-returns-2
-returns-2 c = let a = c .before .before .before .before .before .before .before .before .args in value-below (a .values .now) (a .at) (a .column-type) (a .from) (a .to) (c .before .before .before .value-key .result) (key (c .before .before .before)) (c .if2 .taken)
-
-returns-3 : tie.Need-returns-3
-returns-3 c = let a = c .before .before .before .before .before .before .before .before .args in value-present (a .values .now) (a .at) (a .column-type) (a .from) (a .to) (c .before .before .before .value-key .result) (key (c .before .before .before)) (c .before .if1 .left) (c .if2 .left)
+returns c =
+    let a = c .before .before .before .before .before .before .args in
+    value-tested (a .values .now) (a .at) (a .column-type) (a .from) (a .to) (c .before .value-key .result)
+    (c .before .value-key .ensures ∙ ap (λ (b : ℕ). valueKey (a .column-type) b) (c .before .before .joined .ensures))
 
 pub value-in-spec : {M : Type 1} → statement M
 value-in-spec =
@@ -64,8 +55,6 @@ value-in-spec =
     shared-slice-read-joined-2
     joined-requires
     value-key-requires
-    mul-if1
-    shared-slice-read-if1
-    returns
-    returns-2
-    returns-3)
+    mul-result
+    shared-slice-read-result
+    returns)

@@ -1,12 +1,6 @@
 -- `measure::list_range` meets its contract. Assumes nothing.
-use Rattle.meaning.specs.Query.{rangeOf}
-use Rattle.doc_values.proofs.Ranges.{range-length}
-use Rattle.doc_values.proofs.Lists.{written-length}
-use Rattle.meaning.specs.Entries.{written}
 use lib.ListN.{length}
-use Prim.Native.Nat.{ℕ}
-use mathlib.Core.List.{List}
-use Rattle.weight.proofs.Listing.{range-asks, range-gives, output-long}
+use Rattle.weight.proofs.Listing.{range-asks, range-gives}
 use mathlib.Core.Path.{_≡_, refl, sym, _∙_, ap}
 use native.Mathlib.Omega.{arith}
 use borrow.Author.Needs.{needs}
@@ -43,14 +37,14 @@ value-requires-5 c κs = search needs
 value-requires-6 : tie.Need-value-requires-6
 value-requires-6 c κs = search needs
 
-range-requires : tie.Need-range-requires
-range-requires c κs = let s = c .before .before .before .before .before .before .before .before .before .before .before .before .before .before .before in let a = s .pre .1 in let x = range-asks (a .0) (s .args .q .now) (s .args .columns .now) (s .args .values .now) (s .args .max-doc) (s .args .at) (a .1) (a .2) (s .pre .0 .0) (sym (c .before .before .before .before .before .before .before .before .before .before .kind .ensures) ∙ c .before .before .before .before .before .before .before .before .before .if1 .left) (c .before .before .value5 .result) (c .before .value6 .result) (c .before .before .before .before .before .before .before .before .value .result) (c .before .before .before .before .before .before .before .value2 .result) (c .before .before .before .before .before .value3 .result) (c .before .before .before .before .value4 .result) (c .before .before .before .before .before .before .joined .result) (c .before .before .before .joined2 .result) (c .before .before .value5 .ensures) (c .before .value6 .ensures) (c .before .before .before .before .before .before .before .before .value .ensures) (c .before .before .before .before .before .before .before .value2 .ensures) (c .before .before .before .before .before .value3 .ensures) (c .before .before .before .before .value4 .ensures) (c .before .before .before .before .before .before .joined .ensures) (c .before .before .before .joined2 .ensures) in (x .0, (x .1, (x .2, s .pre .0 .1 (sym (c .before .before .before .before .before .before .before .before .before .before .kind .ensures) ∙ c .before .before .before .before .before .before .before .before .before .if1 .left))))
+range-list-requires : tie.Need-range-list-requires
+range-list-requires c κs = let s = c .before .before .before .before .before .before .before .before .before .before .before .before .before .before .before in let a = s .pre .1 in let x = range-asks (a .0) (s .args .q .now) (s .args .columns .now) (s .args .values .now) (s .args .max-doc) (s .args .at) (a .1) (a .2) (s .pre .0 .0) (sym (c .before .before .before .before .before .before .before .before .before .before .kind .ensures) ∙ c .before .before .before .before .before .before .before .before .before .if1 .left) (c .before .before .value5 .result) (c .before .value6 .result) (c .before .before .before .before .before .before .before .before .value .result) (c .before .before .before .before .before .before .before .value2 .result) (c .before .before .before .before .before .value3 .result) (c .before .before .before .before .value4 .result) (c .before .before .before .before .before .before .joined .result) (c .before .before .before .joined2 .result) (c .before .before .value5 .ensures) (c .before .value6 .ensures) (c .before .before .before .before .before .before .before .before .value .ensures) (c .before .before .before .before .before .before .before .value2 .ensures) (c .before .before .before .before .before .value3 .ensures) (c .before .before .before .before .value4 .ensures) (c .before .before .before .before .before .before .joined .ensures) (c .before .before .before .joined2 .ensures) in (x .0, (x .1, (x .2, s .pre .0 .1 (sym (c .before .before .before .before .before .before .before .before .before .before .kind .ensures) ∙ c .before .before .before .before .before .before .before .before .before .if1 .left))))
 
 same-length : tie.Need-same-length
 same-length c = search needs
 
 returns-2 : tie.Need-returns-2
-returns-2 c = let s = c .before .before .before .before .before .before .before .before .before .before .before .before .before .before .before .before .before .before in let out = s .args .output .now in (λ ix a cs kind. let e = range-gives ix (s .args .q .now) (s .args .columns .now) (s .args .values .now) (s .args .max-doc) (s .args .at) a cs (s .pre .0 .0) kind (c .before .before .before .before .before .value5 .result) (c .before .before .before .before .value6 .result) (c .before .before .before .before .before .before .before .before .before .before .before .value .result) (c .before .before .before .before .before .before .before .before .before .before .value2 .result) (c .before .before .before .before .before .before .before .before .value3 .result) (c .before .before .before .before .before .before .before .value4 .result) (c .before .before .before .before .before .before .before .before .before .joined .result) (c .before .before .before .before .before .before .joined2 .result) (c .before .before .before .before .before .value5 .ensures) (c .before .before .before .before .value6 .ensures) (c .before .before .before .before .before .before .before .before .before .before .before .value .ensures) (c .before .before .before .before .before .before .before .before .before .before .value2 .ensures) (c .before .before .before .before .before .before .before .before .value3 .ensures) (c .before .before .before .before .before .before .before .value4 .ensures) (c .before .before .before .before .before .before .before .before .before .joined .ensures) (c .before .before .before .before .before .before .joined2 .ensures) in (c .before .before .range .ensures .0 ∙ ap length e, c .before .before .range .ensures .1 ∙ ap (λ (z : List ℕ). written z out) e), let a = s .pre .1 in let e = range-gives (a .0) (s .args .q .now) (s .args .columns .now) (s .args .values .now) (s .args .max-doc) (s .args .at) (a .1) (a .2) (s .pre .0 .0) (sym (c .before .before .before .before .before .before .before .before .before .before .before .before .before .kind .ensures) ∙ c .before .before .before .before .before .before .before .before .before .before .before .before .if1 .left) (c .before .before .before .before .before .value5 .result) (c .before .before .before .before .value6 .result) (c .before .before .before .before .before .before .before .before .before .before .before .value .result) (c .before .before .before .before .before .before .before .before .before .before .value2 .result) (c .before .before .before .before .before .before .before .before .value3 .result) (c .before .before .before .before .before .before .before .value4 .result) (c .before .before .before .before .before .before .before .before .before .joined .result) (c .before .before .before .before .before .before .joined2 .result) (c .before .before .before .before .before .value5 .ensures) (c .before .before .before .before .value6 .ensures) (c .before .before .before .before .before .before .before .before .before .before .before .value .ensures) (c .before .before .before .before .before .before .before .before .before .before .value2 .ensures) (c .before .before .before .before .before .before .before .before .value3 .ensures) (c .before .before .before .before .before .before .before .value4 .ensures) (c .before .before .before .before .before .before .before .before .before .joined .ensures) (c .before .before .before .before .before .before .joined2 .ensures) in output-long (a .0) (rangeOf (s .args .q .now) (s .args .at)) (s .args .max-doc) out _ (a .2 .documents) (s .pre .0 .1 (sym (c .before .before .before .before .before .before .before .before .before .before .before .before .before .kind .ensures) ∙ c .before .before .before .before .before .before .before .before .before .before .before .before .if1 .left)) (c .before .before .range .ensures .1 ∙ ap (λ (z : List ℕ). written z out) e))
+returns-2 c = let s = c .before .before .before .before .before .before .before .before .before .before .before .before .before .before .before .before .before .before in (λ ix a cs kind. let e = range-gives ix (s .args .q .now) (s .args .columns .now) (s .args .values .now) (s .args .max-doc) (s .args .at) a cs (s .pre .0 .0) kind (c .before .before .before .before .before .value5 .result) (c .before .before .before .before .value6 .result) (c .before .before .before .before .before .before .before .before .before .before .before .value .result) (c .before .before .before .before .before .before .before .before .before .before .value2 .result) (c .before .before .before .before .before .before .before .before .value3 .result) (c .before .before .before .before .before .before .before .value4 .result) (c .before .before .before .before .before .before .before .before .before .joined .result) (c .before .before .before .before .before .before .joined2 .result) (c .before .before .before .before .before .value5 .ensures) (c .before .before .before .before .value6 .ensures) (c .before .before .before .before .before .before .before .before .before .before .before .value .ensures) (c .before .before .before .before .before .before .before .before .before .before .value2 .ensures) (c .before .before .before .before .before .before .before .before .value3 .ensures) (c .before .before .before .before .before .before .before .value4 .ensures) (c .before .before .before .before .before .before .before .before .before .joined .ensures) (c .before .before .before .before .before .before .joined2 .ensures) in (c .before .before .range-list .ensures .0 ∙ ap length e, c .before .before .range-list .ensures .1 .0 ∙ e), c .before .before .range-list .ensures .1 .1)
 
 pub list-range-spec : {M : Type 1} → statement M
 list-range-spec =
@@ -66,6 +60,6 @@ list-range-spec =
     joined-requires-2
     value-requires-5
     value-requires-6
-    range-requires
+    range-list-requires
     same-length
     returns-2)

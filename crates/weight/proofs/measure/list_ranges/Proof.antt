@@ -1,6 +1,5 @@
 -- `measure::list_ranges` meets its contract. Assumes nothing.
 use borrow.Rule.Slice.PartMut.{same-len-mid, postOf}
-use lib.ListN.{take, drop}
 use lib.ListN.{length-take, length-drop}
 use Rattle.query.proofs.Whole.{whole}
 use borrow.Author.Needs.{needs}
@@ -70,7 +69,7 @@ loop-less : tie.Need-loop-less Inv-loop μ-loop
 loop-less c = omega (arith, c .before .before .before .before .before .loop-test .taken)
 
 loop-again : tie.Need-loop-again Inv-loop μ-loop
-loop-again c = let s = c .before .before .before .before .before .before .before .before .before .before .before .before .before .before in let l = c .before .before .before .before .before .before .loop in let t = c .before .before .before .before .before .loop-test .taken in let a = s .pre .1 in let h = l .inv .2 in let w = l .inv .6 in let few = whole (s .args .q .now) (a .1 .records-right) .few-records in let o = room (a .0) (s .args .q .now) (s .args .columns .now) (s .args .values .now) (l .ranges) (s .args .max-doc) (l .at) (l .used) (a .1) (a .2) (omega (arith, a .3, w)) few (omega (arith, t, h)) (l .inv .3) in let lr = c .before .before .before .list-range in let out = lr .last .1 .1 .1 .1 .1 .0 in let part = take (length (l .ranges) - l .used) (drop (l .used) (l .ranges)) in let long = same-len-mid (l .used) (length (l .ranges) - l .used) (l .ranges) out (lr .ensures .1) in (λ ix asks cs. listing-more ix (s .args .q .now) (s .args .columns .now) (s .args .values .now) (l .places) (l .counts) (l .ranges) out part (postOf (l .used) (length (l .ranges) - l .used) (l .ranges)) (s .args .max-doc) (l .used) (l .at) (lr .result) (c .range-words .result) cs (l .inv .0 ix asks cs) (omega (arith, t, h, l .inv .4, s .pre .0 .0)) (omega (arith, t, h, l .inv .5, s .pre .0 .1)) (o .within) (o .enough) long (λ kind. lr .ensures .0 ix asks cs kind) (c .range-words .ensures), omega (arith, t), h, words-more (s .args .q .now) (s .args .max-doc) (l .at) (l .used) (c .range-words .result) (l .inv .3) (c .range-words .ensures), simp length-set (l .inv .4), simp length-set (l .inv .5), long ∙ w)
+loop-again c = let s = c .before .before .before .before .before .before .before .before .before .before .before .before .before .before in let l = c .before .before .before .before .before .before .loop in let t = c .before .before .before .before .before .loop-test .taken in let a = s .pre .1 in let h = l .inv .2 in let w = l .inv .6 in let few = whole (s .args .q .now) (a .1 .records-right) .few-records in let o = room (a .0) (s .args .q .now) (s .args .columns .now) (s .args .values .now) (l .ranges) (s .args .max-doc) (l .at) (l .used) (a .1) (a .2) (omega (arith, a .3, w)) few (omega (arith, t, h)) (l .inv .3) in let lr = c .before .before .before .list-range in let out = lr .last .1 .1 .1 .1 .1 .0 in let long = same-len-mid (l .used) (length (l .ranges) - l .used) (l .ranges) out (lr .ensures .1) in (λ ix asks cs. listing-more ix (s .args .q .now) (s .args .columns .now) (s .args .values .now) (l .places) (l .counts) (l .ranges) out (postOf (l .used) (length (l .ranges) - l .used) (l .ranges)) (s .args .max-doc) (l .used) (l .at) (lr .result) (c .range-words .result) cs (l .inv .0 ix asks cs) (omega (arith, t, h, l .inv .4, s .pre .0 .0)) (omega (arith, t, h, l .inv .5, s .pre .0 .1)) (o .within) (o .enough) long (λ kind. lr .ensures .0 ix asks cs kind) (c .range-words .ensures), omega (arith, t), h, words-more (s .args .q .now) (s .args .max-doc) (l .at) (l .used) (c .range-words .result) (l .inv .3) (c .range-words .ensures), simp length-set (l .inv .4), simp length-set (l .inv .5), long ∙ w)
 
 same-length : tie.Need-same-length Inv-loop μ-loop
 same-length c = c .before .loop .inv .4
