@@ -40,9 +40,9 @@ fn search(
     t: u32,
 ) {
     let mut states = [0xdead_beefu32; 6144];
-    let mut a = [7i32; 16_384];
-    let mut b = [-7i32; 16_384];
-    let mut ranges = [0xdead_beefu32; 16_384];
+    let mut a = [7i32; 64];
+    let mut b = [-7i32; 64];
+    let mut ranges = [0xdead_beefu32; 1024];
     let mut hits = [-1i64; 1024];
     let searched = searcher::search::search(
         max_doc,
@@ -120,9 +120,9 @@ fn page(
     scores: &mut [u32],
 ) -> u32 {
     let mut states = [0xdead_beefu32; 6144];
-    let mut a = [-7i32; 16_384];
-    let mut b = [7i32; 16_384];
-    let mut ranges = [0xdead_beefu32; 16_384];
+    let mut a = [-7i32; 64];
+    let mut b = [7i32; 64];
+    let mut ranges = [0xdead_beefu32; 1024];
     let paged = searcher::page::page(
         max_doc,
         fields,

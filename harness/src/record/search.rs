@@ -14,8 +14,8 @@ use crate::refusal::refusal;
 /// word + 65,536 × length.
 const HEAD: usize = 14;
 
-/// What the program has room for: a file's words, live words, and files. Its work buffers are those of
-/// the program `hits`.
+/// What the program has room for: a file's words, live words, and files. A case that needs more than
+/// its work buffers would be refused there.
 const ROOM: usize = 16_384;
 const LIVE: usize = 16;
 const FILES: usize = 4;

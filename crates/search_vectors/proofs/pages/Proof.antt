@@ -5,21 +5,15 @@ use Rattle.search_vectors.proofs.pages.Statement.{statement}
 use Rattle.search_vectors.proofs.pages.Tie as tie
 
 abbrev Inv-loop : tie.InvT-loop
-Inv-loop file bytes live at first target₀ i₀ target i =
+Inv-loop max-doc fields leaves postings positions norms live columns values q target places first next₀ i₀ next i =
     (i ≤ 4) × (first < 4294967296)
 
 abbrev μ-loop : tie.MeasureT-loop
-μ-loop file bytes live at first target₀ i₀ target i =
+μ-loop max-doc fields leaves postings positions norms live columns values q target places first next₀ i₀ next i =
     4 - i
-
-word-requires : tie.Need-word-requires Inv-loop μ-loop
-word-requires c κs = search needs
 
 size-requires : tie.Need-size-requires Inv-loop μ-loop
 size-requires c κs = search needs
-
-word-requires-2 : tie.Need-word-requires-2 Inv-loop μ-loop
-word-requires-2 c κs = search needs
 
 loop-holds : tie.Need-loop-holds Inv-loop μ-loop
 loop-holds c = search needs
@@ -51,9 +45,7 @@ pages-spec =
     (tie.spec
     Inv-loop
     μ-loop
-    word-requires
     size-requires
-    word-requires-2
     loop-holds
     add-page-of
     page-of-requires
