@@ -1,9 +1,7 @@
 // What Search and Page answer for recorded cases; crates/search_vectors/stdout has the answers of the unchanged Rust (harness,
 // `record`), and data/README says how the cases were made.
-// data/cases1.rec to cases4.rec, each: the number of cases; for each N, k, t, a target, the length of the first page, and for each list where it
+// data/cases1.rec to cases4.rec, each: the number of cases; for each N, k, t, a page's target and length, and for each list where it
 // stands; then the lists' words. Norm bytes stand four to a word, live words as two, the low half first.
-use score::walk::Listed;
-use score::walk::NO_MORE_DOCS;
 use searcher::page::Paged;
 use searcher::search::Searched;
 use vectors::file::bytes_at;
@@ -40,9 +38,9 @@ fn search(
     t: u32,
 ) {
     let mut states = [0xdead_beefu32; 6144];
-    let mut a = [7i32; 16_384];
-    let mut b = [-7i32; 16_384];
-    let mut ranges = [0xdead_beefu32; 16_384];
+    let mut a = [7i32; 64];
+    let mut b = [-7i32; 64];
+    let mut ranges = [0xdead_beefu32; 1024];
     let mut hits = [-1i64; 1024];
     let searched = searcher::search::search(
         max_doc,
@@ -66,44 +64,14 @@ fn search(
     print_searched(searched, &hits);
 }
 
-// Each document with its score's bits.
-fn print_pairs(documents: &[u32], scores: &[u32], given: usize) {
-    let mut i = 0;
-    while i < given {
-        if documents.len() <= i {
-            return;
-        }
-        if scores.len() <= i {
-            return;
-        }
-        vectors::print_number(documents[i]);
-        io::print_hex(1, vectors::wide(scores[i]), 8);
-        io::write_all(1, b" ");
-        i += 1;
-    }
-}
-
-fn print_listed(listed: Listed, documents: &[u32], scores: &[u32]) -> u32 {
-    io::write_all(1, b"page ");
-    print_pairs(documents, scores, listed.given);
-    io::write_all(1, b"next ");
-    vectors::print_number(listed.next);
-    vectors::end_line();
-    listed.next
-}
-
-// The next match, or the end after a refusal.
-fn print_paged(paged: Paged, documents: &[u32], scores: &[u32]) -> u32 {
+fn print_paged(paged: Paged, documents: &[u32], scores: &[u32]) {
     match paged {
-        Paged::Refused(number) => {
-            print_refused(number);
-            NO_MORE_DOCS
-        }
-        Paged::Given(listed) => print_listed(listed, documents, scores),
+        Paged::Refused(number) => print_refused(number),
+        Paged::Given(page) => vectors::print_page(documents, scores, page.given, page.next),
     }
 }
 
-// The next match after a page, for which the work buffers hold rubbish before.
+// A page, for which the work buffers hold rubbish before.
 fn page(
     max_doc: u32,
     fields: &[u32],
@@ -118,11 +86,11 @@ fn page(
     target: u32,
     documents: &mut [u32],
     scores: &mut [u32],
-) -> u32 {
+) {
     let mut states = [0xdead_beefu32; 6144];
-    let mut a = [-7i32; 16_384];
-    let mut b = [7i32; 16_384];
-    let mut ranges = [0xdead_beefu32; 16_384];
+    let mut a = [-7i32; 64];
+    let mut b = [7i32; 64];
+    let mut ranges = [0xdead_beefu32; 1024];
     let paged = searcher::page::page(
         max_doc,
         fields,
@@ -142,10 +110,10 @@ fn page(
         documents,
         scores,
     );
-    print_paged(paged, documents, scores)
+    print_paged(paged, documents, scores);
 }
 
-// A page of so many places, the end where the outputs have fewer.
+// A page of so many places, at most 128.
 fn page_of(
     max_doc: u32,
     fields: &[u32],
@@ -159,11 +127,11 @@ fn page_of(
     q: &[u32],
     target: u32,
     places: usize,
-) -> u32 {
+) {
     let mut documents = [0u32; 128];
     let mut scores = [0u32; 128];
     if 128 < places {
-        return NO_MORE_DOCS;
+        return;
     }
     page(
         max_doc,
@@ -179,47 +147,7 @@ fn page_of(
         target,
         &mut documents[..places],
         &mut scores[..places],
-    )
-}
-
-// Four pages at most, each a place longer than the one before.
-fn pages(
-    max_doc: u32,
-    fields: &[u32],
-    leaves: &[u32],
-    postings: &[u32],
-    positions: &[u32],
-    norms: &[u8],
-    live: &[u64],
-    columns: &[u32],
-    values: &[u32],
-    q: &[u32],
-    target: u32,
-    places: u32,
-) {
-    let first = size(places);
-    let mut next = target;
-    let mut i = 0;
-    while i < 4 {
-        next = page_of(
-            max_doc,
-            fields,
-            leaves,
-            postings,
-            positions,
-            norms,
-            live,
-            columns,
-            values,
-            q,
-            next,
-            first + i,
-        );
-        if next == NO_MORE_DOCS {
-            return;
-        }
-        i += 1;
-    }
+    );
 }
 
 // The case at `at`.
@@ -250,7 +178,7 @@ fn print_case(file: &[u32], bytes: &[u8], at: usize) {
         word(file, at, 1),
         word(file, at, 2),
     );
-    pages(
+    page_of(
         max_doc,
         fields,
         leaves,
@@ -262,7 +190,7 @@ fn print_case(file: &[u32], bytes: &[u8], at: usize) {
         values,
         q,
         word(file, at, 3),
-        word(file, at, 4),
+        size(word(file, at, 4)),
     );
 }
 

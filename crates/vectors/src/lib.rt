@@ -86,6 +86,32 @@ pub fn print_hits(count: u64, mark: bool, codes: &[i64], held: u32) {
     print_codes(codes, held);
 }
 
+// Each document with its score's bits.
+fn print_pairs(documents: &[u32], scores: &[u32], given: usize) {
+    let mut i = 0;
+    while i < given {
+        if documents.len() <= i {
+            return;
+        }
+        if scores.len() <= i {
+            return;
+        }
+        print_number(documents[i]);
+        io::print_hex(1, wide(scores[i]), 8);
+        io::write_all(1, b" ");
+        i += 1;
+    }
+}
+
+// A page: each document with its score's bits, and the next match.
+pub fn print_page(documents: &[u32], scores: &[u32], given: usize, next: u32) {
+    io::write_all(1, b"page ");
+    print_pairs(documents, scores, given);
+    io::write_all(1, b"next ");
+    io::print_decimal(1, wide(next));
+    end_line();
+}
+
 // A signed number.
 pub fn print_signed(n: i32) {
     let x = n as i64;

@@ -10,12 +10,12 @@ use crate::oracle::Oracle;
 use crate::query::match_all;
 use crate::refusal::refusal;
 
-/// Words of a case in the file: N, k, t, the first page's target and length, nine lists by first
-/// word + 65,536 × length.
+/// Words of a case in the file: N, k, t, a page's target and length, nine lists by first word +
+/// 65,536 × length.
 const HEAD: usize = 14;
 
-/// What the program has room for: a file's words, live words, and files. Its work buffers are those of
-/// the program `hits`.
+/// What the program has room for: a file's words, live words, and files. A case that needs more than
+/// its work buffers would be refused there.
 const ROOM: usize = 16_384;
 const LIVE: usize = 16;
 const FILES: usize = 4;
@@ -23,10 +23,10 @@ const FILES: usize = 4;
 /// The generated indexes, the queries on each, and the most words of an index and of a query.
 const INDEXES: usize = 38;
 const QUERIES: usize = 8;
-const INDEX_WORDS: usize = 600;
+const INDEX_WORDS: usize = 500;
 const QUERY_WORDS: usize = 200;
 
-/// A case, and where and how long its first page is.
+/// A case, and where a page of it begins and how long it is.
 #[derive(Clone)]
 struct Asked {
     case: Case,
@@ -49,22 +49,45 @@ fn generated() -> Vec<Case> {
         .collect()
 }
 
-fn asked() -> Vec<Asked> {
-    let whole = |case| Asked {
+/// The whole list of a case.
+fn whole(case: Case) -> Asked {
+    Asked {
         case,
         target: 0,
         length: 100,
-    };
-    let in_pages = |(i, case): (usize, Case)| match i % 3 {
-        0 => whole(case),
-        _ => Asked {
-            target: case.n * (i as u32 % 7) / 7,
-            length: i % 4,
+    }
+}
+
+/// Three pages at most from a target on, each a place longer than the one before.
+fn pages(case: Case, first: u32, length: usize) -> Vec<Asked> {
+    let oracle = Oracle::new(&case);
+    let mut pages = Vec::new();
+    let mut target = first;
+    for length in length..length + 3 {
+        if target == NO_MORE_DOCS {
+            break;
+        }
+        let case = case.clone();
+        pages.push(Asked {
             case,
-        },
+            target,
+            length,
+        });
+        target = oracle.page(target, length).next;
+    }
+    pages
+}
+
+fn asked() -> Vec<Asked> {
+    let in_pages = |(i, case): (usize, Case)| match i % 3 {
+        0 => vec![whole(case)],
+        _ => {
+            let target = case.n * (i as u32 % 7) / 7;
+            pages(case, target, i % 4)
+        }
     };
     let small = trees::cases().into_iter().map(whole);
-    let generated = generated().into_iter().enumerate().map(in_pages);
+    let generated = generated().into_iter().enumerate().flat_map(in_pages);
     small.chain(called()).chain(generated).collect()
 }
 
@@ -93,29 +116,21 @@ fn refused(number: u32) -> String {
     format!("refused {number}\n")
 }
 
-/// Search's line, and four pages' at most, each a place longer than the one before.
+/// Search's line, and Page's.
 fn answers(asked: &Asked) -> String {
     let oracle = Oracle::new(&asked.case);
-    let mut text = match refusal(&asked.case) {
+    let searched = match refusal(&asked.case) {
         0 => line(&oracle.search()),
         number => {
             assert_eq!(number, 11);
             refused(number)
         }
     };
-    let mut target = asked.target;
-    for length in asked.length..asked.length + 4 {
-        if target > asked.case.n {
-            return text + &refused(13);
-        }
-        let page = oracle.page(target, length);
-        text += &paged(&page);
-        target = page.next;
-        if target == NO_MORE_DOCS {
-            break;
-        }
-    }
-    text
+    let page = match asked.target > asked.case.n {
+        true => refused(13),
+        false => paged(&oracle.page(asked.target, asked.length)),
+    };
+    searched + &page
 }
 
 fn paged(page: &Paged) -> String {
@@ -123,7 +138,7 @@ fn paged(page: &Paged) -> String {
     let hits: String = hits
         .map(|hit| format!("{} {:08x} ", hit.document, hit.bits))
         .collect();
-    format!("page {hits}next {} \n", page.next)
+    format!("page {hits}next {}\n", page.next)
 }
 
 /// Four bytes to a word, or the halves of 64-bit words.

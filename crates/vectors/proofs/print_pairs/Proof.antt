@@ -1,8 +1,8 @@
--- `search_vectors::print_pairs` is safe and ends: its loop counts up to the number of pairs. Assumes nothing.
+-- `vectors::print_pairs` is safe and ends: its loop counts up to the number of pairs. Assumes nothing.
 use Prim.Native.Nat.{_≤_, _-_}
 use borrow.Author.Needs.{needs}
-use Rattle.search_vectors.proofs.print_pairs.Statement.{statement}
-use Rattle.search_vectors.proofs.print_pairs.Tie as tie
+use Rattle.vectors.proofs.print_pairs.Statement.{statement}
+use Rattle.vectors.proofs.print_pairs.Tie as tie
 
 abbrev Inv-loop : tie.InvT-loop
 Inv-loop documents scores given i₀ t5 i = i ≤ given
