@@ -2,16 +2,44 @@
 //! the Rust source, so that they are compiled as they stand. The source's folder is ORACLE_SRC
 //! (relative to this package), by default `shared/docs/src` beside the repository. Without it
 //! there is no `cfg(oracle)`, and what needs the Rust is left out.
+//! Links the proved library where `rt staticlib lot_search` has written it, and sets `cfg(linked)`.
 use std::path::{Path, PathBuf};
 use std::{env, fs};
 
 const DEFAULT: &str = "../../shared/docs/src";
+const LIBRARY: &str = "../target/staticlib";
 
 fn main() {
-    println!("cargo::rustc-check-cfg=cfg(oracle)");
-    println!("cargo::rerun-if-env-changed=ORACLE_SRC");
     println!("cargo::rerun-if-changed=build.rs");
     let package = PathBuf::from(env::var("CARGO_MANIFEST_DIR").unwrap());
+    link(&package);
+    oracle(&package);
+}
+
+/// LOT_SEARCH_REQUIRED=1 makes the library's absence an error.
+fn link(package: &Path) {
+    println!("cargo::rustc-check-cfg=cfg(linked)");
+    println!("cargo::rerun-if-env-changed=LOT_SEARCH_REQUIRED");
+    let folder = package.join(LIBRARY);
+    let library = folder.join("liblot_search.a");
+    println!("cargo::rerun-if-changed={}", library.display());
+    if library.exists() {
+        println!("cargo::rustc-link-search=native={}", folder.display());
+        println!("cargo::rustc-link-lib=static=lot_search");
+        println!("cargo::rustc-cfg=linked");
+    } else if env::var("LOT_SEARCH_REQUIRED").is_ok_and(|required| required == "1") {
+        println!(
+            "cargo::error=no {}: run `rt staticlib lot_search`",
+            library.display()
+        );
+    } else {
+        println!("cargo::warning=no library lot_search: what needs it is skipped");
+    }
+}
+
+fn oracle(package: &Path) {
+    println!("cargo::rustc-check-cfg=cfg(oracle)");
+    println!("cargo::rerun-if-env-changed=ORACLE_SRC");
     let source = package.join(env::var("ORACLE_SRC").unwrap_or_else(|_| DEFAULT.into()));
     if !source.is_dir() {
         // named although it is absent: cargo then looks for it again at the next build

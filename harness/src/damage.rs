@@ -31,7 +31,14 @@ pub fn damaged(random: &mut Random, case: &Case) -> Case {
     let mut case = case.clone();
     for _ in 0..random.within(1, 2) {
         match random.below(12) {
-            0 => case.n = random.pick(&[case.n + 1, case.n.saturating_sub(1), 1_048_577, u32::MAX]),
+            0 => {
+                case.n = random.pick(&[
+                    case.n.saturating_add(1),
+                    case.n.saturating_sub(1),
+                    1_048_577,
+                    u32::MAX,
+                ])
+            }
             1 => case.k = random.pick(&[0, 1025, u32::MAX]),
             2 => length(random, &mut case.norms, 0),
             3 => length(random, &mut case.live, u64::MAX),

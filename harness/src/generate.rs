@@ -2,23 +2,35 @@
 //! weights and costs are chosen so that the order of additions shows in the last bit.
 mod index;
 mod order;
+pub mod short;
 mod shown;
 mod sums;
 
 use crate::case::Case;
 use crate::random::Random;
+use index::Index;
 
 /// x, y and z: in f64 their sum narrows to 3f800001, but with y added last to 3f800000.
-const BY_ORDER: [u32; 3] = [X, Y, Z];
-const X: u32 = 0x3f7f_ffff;
-const Y: u32 = 0x3400_0000;
-const Z: u32 = 0x253f_ffff;
+pub const BY_ORDER: [u32; 3] = [X, Y, Z];
+pub const X: u32 = 0x3f7f_ffff;
+pub const Y: u32 = 0x3400_0000;
+pub const Z: u32 = 0x253f_ffff;
 
 /// The case of a seed.
 pub fn case(seed: u64) -> Case {
+    cases(seed, 1).remove(0)
+}
+
+/// Some cases of one index, the case of the seed first.
+pub fn cases(seed: u64, number: usize) -> Vec<Case> {
     let mut random = Random::new(seed);
     let index = index::index(&mut random);
-    let query = order::query(&mut random, &index).words();
+    (0..number).map(|_| asked(&mut random, &index)).collect()
+}
+
+/// The index with a query, k and t.
+fn asked(random: &mut Random, index: &Index) -> Case {
+    let query = order::query(random, index).words();
     let n = index.case.n;
     let k = match random.below(8) {
         0 => 1024,
@@ -35,7 +47,7 @@ pub fn case(seed: u64) -> Case {
         k,
         t,
         query,
-        ..index.case
+        ..index.case.clone()
     }
 }
 

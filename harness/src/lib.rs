@@ -1,12 +1,20 @@
 //! The harness: cases in the form in which document 01 lends them, and the unchanged Rust source
 //! as the judge of what is right for them.
 pub mod answer;
+pub mod border;
 pub mod boundary;
+pub mod buffer;
 pub mod case;
 pub mod catalogue;
+#[cfg(oracle)]
+pub mod compare;
 pub mod damage;
 pub mod definitions;
+#[cfg(oracle)]
+pub mod double;
+pub mod expect;
 pub mod generate;
+pub mod lots;
 #[cfg(oracle)]
 pub mod oracle;
 pub mod query;

@@ -1,7 +1,10 @@
-//! Document 01's refusals 1 to 12 of a case, written from its text: the generator's cases are
-//! checked against them, and a refused folder is told by its number. The Rust has none of them.
+//! Document 01's refusals of a case, written from its text: the generator's cases are checked
+//! against them, and a refused folder is told by its number. The Rust has none of them.
+pub mod calls;
+
 use crate::case::Case;
 use crate::query::*;
+use calls::{needed, wrong_k};
 
 const ONE: u32 = 0x3f80_0000;
 const MOST_AVERAGE: u32 = 0x4b80_0000;
@@ -11,12 +14,21 @@ const MOST_FREQUENCY: u32 = 16_777_216;
 const MOST_POSITION: u32 = 2_147_483_647;
 
 /// Words of the range buffer of the program `hits`.
-const RANGE_BUFFER: u64 = 16_384;
+const RANGE_BUFFER: usize = 16_384;
 
 /// The number with which the program `hits` refuses a case: the lowest that holds, 0 for none.
-/// No condition has to make sense where a lower one holds.
 pub fn refusal(case: &Case) -> u32 {
-    let conditions: [fn(&Case) -> bool; 12] = [
+    match order(case) {
+        0 if wrong_k(case.k) => 11,
+        0 if needed(case).ranges > RANGE_BUFFER => 12,
+        number => number,
+    }
+}
+
+/// The lowest of 1 to 10, those of an index and a query, or 0. No condition has to make sense
+/// where a lower one holds.
+pub fn order(case: &Case) -> u32 {
+    let conditions: [fn(&Case) -> bool; 10] = [
         too_many_documents,
         wrong_fields,
         wrong_norms_or_live,
@@ -27,8 +39,6 @@ pub fn refusal(case: &Case) -> u32 {
         |case| any_node(case, wrong_values),
         |case| boost_above(&root(case), 1.0),
         |case| any_node(case, phrase_without_positions),
-        |case| !(1..=1024).contains(&case.k),
-        range_buffer_too_short,
     ];
     let lowest = conditions.iter().position(|holds| holds(case));
     lowest.map_or(0, |index| index as u32 + 1)
@@ -171,11 +181,4 @@ fn boost_above(node: &Node, reaching: f32) -> bool {
 
 fn phrase_without_positions(case: &Case, node: &Node) -> bool {
     node.kind == PHRASE && case.fields[3 * node.values[0] as usize + 2] == 0
-}
-
-/// 12, as the program `hits` has its buffers: only ranges can need more.
-fn range_buffer_too_short(case: &Case) -> bool {
-    let nodes = root(case);
-    let ranges = nodes.all().iter().filter(|node| node.kind == RANGE).count() as u64;
-    ranges > 0 && u64::from(case.n) * (ranges + 1) > RANGE_BUFFER
 }

@@ -28,6 +28,7 @@ fn panic_after_end(case: &Case) -> String {
 }
 
 #[test]
+#[cfg_attr(not(debug_assertions), ignore = "built without overflow checks")]
 fn a_disjunction_overflows() {
     with_oracle!({
         let two = case(|leaf| boolean(0, [leaf.clone().should(), leaf.should()]));
@@ -36,6 +37,7 @@ fn a_disjunction_overflows() {
 }
 
 #[test]
+#[cfg_attr(not(debug_assertions), ignore = "built without overflow checks")]
 fn match_all_overflows() {
     with_oracle!({
         assert_eq!(
@@ -46,6 +48,7 @@ fn match_all_overflows() {
 }
 
 #[test]
+#[cfg_attr(not(debug_assertions), ignore = "built without overflow checks")]
 fn the_list_cursor_sees_it() {
     with_oracle!({
         assert_eq!(panic_after_end(&case(|leaf| leaf)), "next_doc at the end");

@@ -57,3 +57,20 @@ fn document_01_by_its_words_and_the_slips_that_show() {
         }
     });
 }
+
+/// So that the programs that are held to them would show each slip without the Rust.
+#[test]
+fn every_slip_shows_in_the_recorded_cases() {
+    with_oracle!({
+        let mut shows = [0; SLIPS.len()];
+        for case in harness::record::search::cases() {
+            for (count, show) in shows.iter_mut().zip(shown(&case)) {
+                *count += u64::from(show);
+            }
+        }
+        for ((slip, _), count) in SLIPS.iter().zip(shows) {
+            println!("{count:5} recorded cases show {slip:?}");
+            assert!(count > 0, "{slip:?}");
+        }
+    });
+}

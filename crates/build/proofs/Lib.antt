@@ -3,12 +3,8 @@ pub mod Placing
 pub mod Norms
 pub mod PhraseParts
 pub mod Idf
-pub mod Sorting
 pub mod Weighing
 pub mod AtRecord
-pub mod ClauseLaws
-pub mod Inserting
-pub mod ClauseWalk
 pub mod BooleanParts
 pub mod PlacingLists
 pub mod PlacingParts

@@ -27,10 +27,11 @@ use Rattle.weight.proofs.Standing.{deep}
 use Rattle.weight.proofs.Sizes.{weigh-size}
 use Rattle.weight.proofs.Queries.{tree-shape}
 use Rattle.build.specs.Placed.{Placed, keptOf, booleanState}
-use Rattle.build.specs.Prepared.{Records, Prepared, TreeAsked, ClausesAsked, ClausesKnown, SomeClauses, PlacedAll, PartAsked, requiredOf, othersOf, TreePre, TreePost, RequiredPre, RequiredPost, OthersPre, OthersPost}
+use Rattle.build.specs.Prepared.{Records, Prepared, TreeAsked, PlacedAll, PartAsked, TreePre, TreePost, RequiredPre, RequiredPost, OthersPre, OthersPost}
+use Rattle.clauses.specs.Clauses.{ClausesAsked, ClausesKnown, SomeClauses, requiredOf, othersOf}
 use Rattle.build.proofs.AtRecord.{at-here, record-room, present-word}
 use Rattle.build.proofs.BooleanParts.{sizes-first, boolean-whole}
-use Rattle.build.proofs.ClauseLaws.{others-should, others-not}
+use Rattle.clauses.proofs.ClauseLaws.{others-should, others-not}
 use Rattle.build.proofs.PlacingParts.{part-known, sizes-split}
 
 weigh-boolean-none : (ix : Index) (msm : ℕ) (cs : Clauses) (b : Float) (f : Bool) (x : Float) → hasScorer ix (Query.boolean msm cs) ≡ false → weigh ix (Query.boolean msm cs) b (keptOf f x) ≡ noScorer

@@ -20,9 +20,10 @@ use Rattle.weight.specs.Weigh.{Ready, scorersOf, weigh}
 use Rattle.weight.specs.State.{sizeOf, sizesOf}
 use Rattle.weight.specs.Held.{Ok, Oks}
 use Rattle.build.specs.Placed.{Placed}
-use Rattle.build.specs.Prepared.{Records, Prepared, ReadyAt, ReadiesAt, PlacedAll, TreeAsked, ListPre, ListPost, TreePre, TreePost}
+use Rattle.build.specs.Prepared.{Records, Prepared, PlacedAll, TreeAsked, ListPre, ListPost, TreePre, TreePost}
+use Rattle.clauses.specs.Clauses.{ReadyAt, ReadiesAt}
 use Rattle.build.proofs.BooleanParts.{oks-append, sizes-append}
-use Rattle.build.proofs.ClauseLaws.{readies-length, readies-here}
+use Rattle.clauses.proofs.ClauseLaws.{readies-length, readies-here}
 
 -- ---- parts one after the other
 module _ (ix : Index) (ranges : List ℕ) (d : ℕ) where

@@ -1,5 +1,4 @@
 // The node states of a query: its scorer tree in the lent words.
-pub mod clauses;
 pub mod inverses;
 pub mod leaf;
 pub mod place;

@@ -13,16 +13,16 @@ ghost use Rattle.ieee754.specs.Nonneg.{AtMost};
 ghost use Rattle.weight.specs.State.{wordsOf};
 ghost use Rattle.build.specs.Placed.{booleanState};
 ghost use Rattle.build.specs.Prepared.{records, TreePre, TreePost, ListPre, ListPost, RequiredPre, RequiredPost, OthersPre, OthersPost};
-use crate::clauses::clauses_of;
-use crate::clauses::group_cost;
-use crate::clauses::has_required;
-use crate::clauses::no_dearer;
-use crate::clauses::required_clauses;
 use crate::leaf::kept_or;
 use crate::leaf::place_leaf;
 use crate::place::place_nothing;
 use crate::place::put;
 use crate::place::word;
+use clauses::clauses_of;
+use clauses::group_cost;
+use clauses::has_required;
+use clauses::no_dearer;
+use clauses::required_clauses;
 
 // Must and Should pass the boost on, Filter and MustNot pass 0.
 fn passed_on(occurrence: u32, boost: f32) -> f32

@@ -44,34 +44,13 @@ fn is_good(documents: &[u32], scores: &[u32]) -> bool
     true
 }
 
-fn print_codes(codes: &[i64], n: u32) {
-    let mut i = 0;
-    while i < codes.len() {
-        if i < n as usize {
-            vectors::print_code(codes[i]);
-        }
-        i += 1;
-    }
-    vectors::end_line();
-}
-
-fn print_mark(mark: bool) {
-    if mark {
-        io::write_all(1, b"+ ");
-    } else {
-        io::write_all(1, b"= ");
-    }
-}
-
 // The count, its mark, and the codes of the best hits.
 fn print_picked(documents: &[u32], scores: &[u32], t: u32, heap: &mut [i64])
     requires { ⌜ wrong14 (now documents) (now scores) ≡ false ⌝ }
     requires { ⌜ (0 < length (now heap)) × (length (now heap) ≤ 1024) ⌝ }
 {
     let top = collector::pick(documents, scores, t, heap);
-    io::print_decimal(1, top.count);
-    print_mark(top.mark);
-    print_codes(heap, top.held);
+    vectors::print_hits(top.count, top.mark, heap, top.held);
 }
 
 fn pick(documents: &[u32], scores: &[u32], k: usize, t: u32)

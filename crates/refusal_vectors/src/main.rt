@@ -4,45 +4,8 @@
 // it stands; then the lists' words. What norm bytes and live words hold is refused by nothing, so they are made here.
 ghost use Prim.Native.Nat.{_+_, _≤_};
 ghost use lib.ListN.{length};
-
-fn wide(x: u32) -> usize {
-    x as usize
-}
-
-fn word_of(a: u8, b: u8, c: u8, d: u8) -> u32 {
-    a as u32 | ((b as u32) << 8) | ((c as u32) << 16) | ((d as u32) << 24)
-}
-
-// Little-endian words, as many as both slices have room for.
-fn read_words(bytes: &[u8], words: &mut [u32]) {
-    let mut i = 0;
-    while i < words.len() {
-        if bytes.len() / 4 <= i {
-            return;
-        }
-        words[i] = word_of(
-            bytes[4 * i],
-            bytes[4 * i + 1],
-            bytes[4 * i + 2],
-            bytes[4 * i + 3],
-        );
-        i += 1;
-    }
-}
-
-// The list that stands at `place`, its first word + 65,536 × its length; none where it isn't within the file.
-fn list(file: &[u32], place: u32) -> &[u32] {
-    let first = wide(place % 65536);
-    let number = wide(place / 65536);
-    if file.len() < first {
-        return &file[..0];
-    }
-    if file.len() - first < number {
-        return &file[..0];
-    }
-    let end = first + number;
-    &file[first..end]
-}
+use vectors::file::list;
+use vectors::file::size;
 
 // So many bytes, or all.
 fn first_bytes(bytes: &[u8], number: usize) -> &[u8] {
@@ -78,8 +41,8 @@ fn print_refusal(file: &[u32], norms: &[u8], live: &[u64], at: usize)
         leaves,
         list(file, file[at + 5]),
         list(file, file[at + 6]),
-        first_bytes(norms, wide(file[at + 1])),
-        first_words(live, wide(file[at + 2])),
+        first_bytes(norms, size(file[at + 1])),
+        first_words(live, size(file[at + 2])),
         columns,
         list(file, file[at + 8]),
     );
@@ -94,7 +57,7 @@ fn print_refusals(file: &[u32], norms: &[u8], live: &[u64]) {
     if file.len() == 0 {
         return;
     }
-    let cases = wide(file[0]);
+    let cases = size(file[0]);
     let mut i = 0;
     while i < cases {
         if file.len() / 10 <= i + 1 {
@@ -111,7 +74,7 @@ fn print_all(fd: i32) {
     let mut bytes = [0u8; 131_072];
     let mut file = [0u32; 32_768];
     let n = io::read_full(fd, &mut bytes);
-    read_words(&bytes[..n], &mut file);
+    vectors::file::read_words(&bytes[..n], &mut file);
     print_refusals(&file, &norms, &live);
 }
 

@@ -80,10 +80,10 @@ module _ (documents scores : List ℕ) where
       pub room : k ≤ places
       pub lists : wrong14 documents scores ≡ false
 
-    pub pick-right : pickRefusal documents scores k places ≡ 0 → PickRight
+    pub pick-right : (n : ℕ) → n ≡ pickRefusal documents scores k places → n ≡ 0 → PickRight
     unfolding pickRefusal wrong11 wrong12Pick
-    pick-right z =
-        let a = lowest-zero 11 _ _ (lit< tt) z in
+    pick-right n is z =
+        let a = lowest-zero 11 _ _ (lit< tt) (sym is ∙ z) in
         let b = lowest-zero 12 _ _ (lit< tt) (a .1) in
         let e = lowest-zero 14 _ _ (lit< tt) (b .1) in
         record {

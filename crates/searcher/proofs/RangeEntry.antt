@@ -1,5 +1,5 @@
 -- The Range entry: its lowest number, and its answer. Assumes nothing.
-use mathlib.Core.Path.{_≡_, refl, ap, _∙_}
+use mathlib.Core.Path.{_≡_, refl, sym, ap, _∙_}
 use mathlib.Core.Bool.{true, false}
 use mathlib.Core.List.{List, []}
 use Prim.Native.Nat.{ℕ, _≤_, _<_}
@@ -69,10 +69,10 @@ module _ (ix : Index) (r : NumericRange) (work output : ℕ) where
     pub range : wrongRange ix r ≡ false
     pub room : ix .maxDoc ≤ output
 
-  pub range-right : rangeRefusal ix r work output ≡ 0 → RangeRight
+  pub range-right : (n : ℕ) → n ≡ rangeRefusal ix r work output → n ≡ 0 → RangeRight
   unfolding rangeRefusal wrong12Range
-  range-right z =
-      let a = lowest-zero 1 _ _ (lit< tt) z in
+  range-right n is z =
+      let a = lowest-zero 1 _ _ (lit< tt) (sym is ∙ z) in
       let b = lowest-zero 6 _ _ (lit< tt) (a .1) in
       let e = lowest-zero 8 _ _ (lit< tt) (b .1) in
       let h = lowest-zero 12 _ _ (lit< tt) (e .1) in

@@ -18,7 +18,7 @@ pub enum Paged {
 }
 
 // The lowest number of 1 to 10, 12 and 13 whose condition holds, and 0 where none does.
-fn page_refusal(
+pub fn page_refusal(
     max_doc: u32,
     fields: &[u32],
     leaves: &[u32],
@@ -113,7 +113,7 @@ fn list_page(
         live,
         a,
         b,
-        target,
+        target, // where the walk begins
         16,
         documents,
         scores,

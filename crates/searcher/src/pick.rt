@@ -47,7 +47,7 @@ fn wrong_lists(documents: &[u32], scores: &[u32]) -> bool
 }
 
 // The lowest number of 11, 12 and 14 whose condition holds, and 0 where none does.
-fn pick_refusal(documents: &[u32], scores: &[u32], k: u32, places: usize) -> u32
+pub fn pick_refusal(documents: &[u32], scores: &[u32], k: u32, places: usize) -> u32
     ensures { λ r. ⌜ r ≡ pickRefusal (now (documents .entry)) (now (scores .entry)) k places ⌝ }
 {
     if k < 1 {

@@ -22,7 +22,7 @@ pub enum Searched {
 }
 
 // The lowest number of 1 to 12 whose condition holds, and 0 where none does.
-fn search_refusal(
+pub fn search_refusal(
     max_doc: u32,
     fields: &[u32],
     leaves: &[u32],

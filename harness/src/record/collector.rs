@@ -37,7 +37,7 @@ fn asked(base: u32, order: u32, times: usize) -> String {
 }
 
 /// The count, its mark, and the codes of the best hits.
-fn line(picked: &Searched) -> String {
+pub fn line(picked: &Searched) -> String {
     let mark = if picked.mark { "+" } else { "=" };
     let codes = picked.hits.iter().map(|hit| hit.code());
     let codes: String = codes.map(|code| format!("{code:016x} ")).collect();

@@ -6,7 +6,9 @@ mod doc_values;
 mod ieee754;
 mod phrase;
 mod refusal;
+pub mod search;
 mod sim;
+mod trees;
 
 use std::io;
 use std::path::Path;
@@ -22,12 +24,16 @@ pub fn all() -> Vec<Recorded> {
         ("phrase_vectors", phrase::text()),
         ("collector_vectors", collector::text()),
         ("refusal_vectors", refusal::text()),
+        ("search_vectors", search::text()),
     ]
 }
 
 /// The files that programs read, by their paths below the folder of crates.
 pub fn data() -> Vec<(&'static str, Vec<u8>)> {
-    vec![("refusal_vectors/data/cases.rec", refusal::data())]
+    vec![
+        ("refusal_vectors/data/cases.rec", refusal::data()),
+        ("search_vectors/data/cases.rec", search::data()),
+    ]
 }
 
 /// Writes each stdout, and each file that a program reads, into its crate's folder.
@@ -66,4 +72,16 @@ fn double(x: f64) -> String {
         true => "nan\n".into(),
         false => format!("{:016x}\n", x.to_bits()),
     }
+}
+
+/// Where a list stands among the words, to which it is added where it doesn't.
+fn place(pool: &mut Vec<u32>, list: &[u32]) -> usize {
+    if list.is_empty() {
+        return 0;
+    }
+    let found = pool.windows(list.len()).position(|part| part == list);
+    found.unwrap_or_else(|| {
+        pool.extend(list);
+        pool.len() - list.len()
+    })
 }

@@ -1,5 +1,6 @@
 //! The numbers are `refusal`'s, which is written from document 01's text: of every boundary, and of
 //! damaged copies of generated cases. Both the cases' file and the numbers are made here.
+use super::place;
 use crate::boundary;
 use crate::case::Case;
 use crate::damage::damaged;
@@ -90,16 +91,4 @@ pub fn data() -> Vec<u8> {
 
     assert!(heads.len() <= ROOM, "{} words", heads.len());
     heads.iter().flat_map(|word| word.to_le_bytes()).collect()
-}
-
-/// Where a list stands among the words, to which it is added where it doesn't.
-fn place(pool: &mut Vec<u32>, list: &[u32]) -> usize {
-    if list.is_empty() {
-        return 0;
-    }
-    let found = pool.windows(list.len()).position(|part| part == list);
-    found.unwrap_or_else(|| {
-        pool.extend(list);
-        pool.len() - list.len()
-    })
 }

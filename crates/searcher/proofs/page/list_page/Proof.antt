@@ -73,15 +73,14 @@ list-requires c κs =
     let a = s .args in
     let ix : Index = record { maxDoc = a .max-doc; fields = a .fields .now; leaves = a .leaves .now; postings = a .postings .now; positions = a .positions .now; norms = a .norms .now; live = a .live .now; columns = a .columns .now; values = a .values .now } in
     let q = a .q .now in
-    let asks = s .pre .1 .0 in
     let w : Work = work (length (a .states .now)) (length (a .a .now)) (length (a .b .now)) (length (a .ranges .now)) in
     let i = c .before .before .before .before .before .before .before .before .before .before .before .before .before .before .before .fill-inverses in
     let p = c .before .before .before .before .before .before .before .before .before .before .before .build in
+    let asks = s .pre .1 .0 in
     let lent = leaf-lent (a .max-doc) (a .fields .now) (a .leaves .now) (a .postings .now) (a .positions .now) (a .norms .now) (a .live .now) (a .columns .now) (a .values .now) q asks in
     let cols = columns-lent (a .max-doc) (a .fields .now) (a .leaves .now) (a .postings .now) (a .positions .now) (a .norms .now) (a .live .now) (a .columns .now) (a .values .now) q in
     let placed = p .ensures .0 ix asks lent cols in
-    let held = walk-held (a .max-doc) (a .fields .now) (a .leaves .now) (a .postings .now) (a .positions .now) (a .norms .now) (a .live .now) (a .columns .now) (a .values .now) q w asks (s .pre .1 .1) (i .last .1 .1 .1 .1 .0) (i .ensures .0 ix asks lent) (p .last .1 .1 .1 .1 .1 .1 .1 .0) (p .last .1 .1 .1 .1 .1 .1 .0) (p .result) placed (a .target) in
-    (omega (arith, s .pre .0 .0, asks .accepted .documents), s .pre .0 .1, (ix, treeOf ix q, 0, held))
+    (omega (arith, s .pre .0 .0, asks .accepted .documents), s .pre .0 .1, (ix, treeOf ix q, 0, walk-held (a .max-doc) (a .fields .now) (a .leaves .now) (a .postings .now) (a .positions .now) (a .norms .now) (a .live .now) (a .columns .now) (a .values .now) q w asks (s .pre .1 .1) (i .last .1 .1 .1 .1 .0) (i .ensures .0 ix asks lent) (p .last .1 .1 .1 .1 .1 .1 .1 .0) (p .last .1 .1 .1 .1 .1 .1 .0) (p .result) placed _))
 
 same-length : tie.Need-same-length
 same-length c =
@@ -120,9 +119,8 @@ returns c =
     let lent = leaf-lent (a .max-doc) (a .fields .now) (a .leaves .now) (a .postings .now) (a .positions .now) (a .norms .now) (a .live .now) (a .columns .now) (a .values .now) q asks in
     let cols = columns-lent (a .max-doc) (a .fields .now) (a .leaves .now) (a .postings .now) (a .positions .now) (a .norms .now) (a .live .now) (a .columns .now) (a .values .now) q in
     let placed = p .ensures .0 ix asks lent cols in
-    let held = walk-held (a .max-doc) (a .fields .now) (a .leaves .now) (a .postings .now) (a .positions .now) (a .norms .now) (a .live .now) (a .columns .now) (a .values .now) q w asks (s .pre .1 .1) (i .last .1 .1 .1 .1 .0) (i .ensures .0 ix asks lent) (p .last .1 .1 .1 .1 .1 .1 .1 .0) (p .last .1 .1 .1 .1 .1 .1 .0) (p .result) placed (a .target) in
     let k = c .before .before .before .before .before .before .before .before .list in
-    page-full ix q (a .target) (a .documents .now) (a .scores .now) (k .last .1 .1 .1 .1 .1 .1 .1 .1 .1 .1 .1 .1 .0) (k .last .1 .1 .1 .1 .1 .1 .1 .1 .1 .1 .1 .1 .1 .0) (k .result) (k .ensures ix (treeOf ix q) 0 held .0)
+    page-full ix q (a .target) (a .documents .now) (a .scores .now) (k .last .1 .1 .1 .1 .1 .1 .1 .1 .1 .1 .1 .1 .0) (k .last .1 .1 .1 .1 .1 .1 .1 .1 .1 .1 .1 .1 .1 .0) (k .result) (k .ensures ix (treeOf ix q) 0 (walk-held (a .max-doc) (a .fields .now) (a .leaves .now) (a .postings .now) (a .positions .now) (a .norms .now) (a .live .now) (a .columns .now) (a .values .now) q w asks (s .pre .1 .1) (i .last .1 .1 .1 .1 .0) (i .ensures .0 ix asks lent) (p .last .1 .1 .1 .1 .1 .1 .1 .0) (p .last .1 .1 .1 .1 .1 .1 .0) (p .result) placed _) .0)
 
 pub list-page-spec : {M : Type 1} → statement M
 list-page-spec =

@@ -1,5 +1,5 @@
 -- `searcher::pick::pick` meets its contract. Assumes nothing.
-use mathlib.Core.Path.{_≡_, sym, _∙_}
+use mathlib.Core.Path.{_≡_, sym}
 use native.Mathlib.Omega.{arith}
 use lib.ListN.{length, take}
 use lib.Seq.{length-take-le}
@@ -10,7 +10,7 @@ use Rattle.searcher.proofs.pick.pick.Tie as tie
 
 -- what a call that is not refused knows
 right : (c : tie.Else1) → let s = c .before .before .before .before in PickRight (s .args .documents .now) (s .args .scores .now) (s .args .k) (length (s .args .hits .now))
-right c = pick-right _ _ _ _ (sym (c .before .pick-refusal .ensures) ∙ c .if1 .left)
+right c = pick-right _ _ _ _ _ (c .before .pick-refusal .ensures) (c .if1 .left)
 
 places : (c : tie.Else1) → let s = c .before .before .before .before in length (take (s .args .k) (s .args .hits .now)) ≡ s .args .k
 places c = length-take-le _ _ (right c .room)

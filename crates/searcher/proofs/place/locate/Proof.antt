@@ -41,7 +41,7 @@ words-are : (c : tie.After-terms2) → let s = start (c .before .before .before)
 words-are c =
     let w = c .before in
     let s = start (w .before .before) in
-    so-many _ _ (w .before .before .children .ensures) (w .write-terms .last .1 .1 .1 .1 .1 .1 .0) _ (w .write-terms .ensures .0 (index s) (lends s))
+    so-many _ _ (w .before .before .children .ensures) (w .write-terms .last .1 .1 .1 .1 .1 .1 .0) (phraseWords (index s) (s .args .document) (phraseTermsOf (s .args .q .now) (s .args .record-number))) (w .write-terms .ensures .0 (index s) (lends s))
 
 children-requires : tie.Need-children-requires
 children-requires c κs = within (c .before .before .before .before .before .before .before .before .before) .1

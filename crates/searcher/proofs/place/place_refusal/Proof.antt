@@ -1,5 +1,6 @@
 -- `searcher::place::place_refusal` meets its contract. Assumes nothing.
 use mathlib.Core.Path.{refl, sym, _∙_}
+use native.Mathlib.Omega.{arith}
 use borrow.Author.Needs.{needs}
 use Rattle.meaning.specs.Lent.{Index}
 use Rattle.meaning.specs.CallRefusals.{Work}
@@ -46,7 +47,7 @@ returns-3 c =
     let f = c .before in
     let e = f .before .before in
     let s = start (e .before) in
-    place-document (index s) (s .args .q .now) (s .args .record-number) (s .args .document) (room s) _ (e .before .check-order .ensures) (e .if1 .left) _ (f .before .starts-short .ensures (index s) (lends e)) (f .if2 .left) (c .if3 .taken)
+    place-document (index s) (s .args .q .now) (s .args .record-number) (s .args .document) (room s) _ (e .before .check-order .ensures) (e .if1 .left) _ (f .before .starts-short .ensures (index s) (lends e)) (f .if2 .left) (omega (arith, c .if3 .taken))
 
 record-count-requires : tie.Need-record-count-requires
 record-count-requires c κs = search needs

@@ -1,5 +1,5 @@
 -- `searcher::range::range` meets its contract. Assumes nothing.
-use mathlib.Core.Path.{_≡_, sym, _∙_}
+use mathlib.Core.Path.{_≡_}
 use borrow.Author.Needs.{needs}
 use Rattle.meaning.specs.Lent.{Index, joined}
 use Rattle.meaning.specs.Range.{NumericRange}
@@ -41,7 +41,7 @@ returns c = range-refused (index (c .before)) (asked (c .before)) (lent (c .befo
 range-requires : tie.Need-range-requires
 range-requires c κs =
     let a = c .before .before in
-    let r = range-right (index a) (asked a) _ _ (sym (a .range-refusal .ensures) ∙ c .before .if1 .left) in
+    let r = range-right (index a) (asked a) _ _ _ (a .range-refusal .ensures) (c .before .if1 .left) in
     (r .documents, (r .columns, (r .range, r .room)))
 
 same-length : tie.Need-same-length

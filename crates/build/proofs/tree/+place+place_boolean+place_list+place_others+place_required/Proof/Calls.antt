@@ -21,11 +21,11 @@ use Rattle.build.proofs.tree.+place+place_boolean+place_list+place_othe
 use Rattle.build.proofs.tree.place_required.Reads as place-required
 use Rattle.build.proofs.tree.place_required.Kinds as place-required-kinds
 use Rattle.build.proofs.tree.+place+place_boolean+place_list+place_others+place_required.Lts-place_required as place-required-lts
-use Rattle.build.proofs.clauses.clauses_of.Reads as clauses-of-reads
-use Rattle.build.proofs.clauses.group_cost.Reads as group-cost-reads
-use Rattle.build.proofs.clauses.has_required.Reads as has-required-reads
-use Rattle.build.proofs.clauses.no_dearer.Reads as no-dearer-reads
-use Rattle.build.proofs.clauses.required_clauses.Reads as required-clauses-reads
+use Rattle.clauses.proofs.clauses_of.Reads as clauses-of-reads
+use Rattle.clauses.proofs.group_cost.Reads as group-cost-reads
+use Rattle.clauses.proofs.has_required.Reads as has-required-reads
+use Rattle.clauses.proofs.no_dearer.Reads as no-dearer-reads
+use Rattle.clauses.proofs.required_clauses.Reads as required-clauses-reads
 use Rattle.build.proofs.leaf.kept_or.Reads as kept-or-reads
 use Rattle.build.proofs.leaf.place_leaf.Reads as place-leaf-reads
 use Rattle.build.proofs.place.place_nothing.Reads as place-nothing-reads

@@ -1,0 +1,10 @@
+-- Laws of the text that the program prints.
+pub mod Putting
+pub mod Filling
+pub mod Counting
+pub mod Numbers
+pub mod Lines
+pub mod Scores
+pub mod Answering
+pub mod Taken
+pub mod Example

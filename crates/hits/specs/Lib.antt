@@ -1,0 +1,3 @@
+-- What the program `hits` prints, and text in an output.
+pub mod Text
+pub mod Puts

@@ -1,0 +1,3 @@
+-- What the proofs of the border's entries use.
+pub mod Short
+pub mod Told

@@ -1,0 +1,2 @@
+-- How the entries answer at the border.
+pub mod Border

@@ -1,0 +1,195 @@
+//! The mappings of everything that a call lends.
+use crate::mapping::Mapping;
+use harness::border::{Index, Page, Pick, Search, Work};
+use harness::buffer::{Buffer, Buffers, Element};
+use harness::case::Case;
+use harness::random::Random;
+
+/// Elements that a slice may have.
+pub const ROOM: usize = 200_000;
+
+/// The lists of an index, which a call may only read.
+struct Lists {
+    n: u32,
+    fields: Mapping<u32>,
+    leaves: Mapping<u32>,
+    postings: Mapping<u32>,
+    positions: Mapping<u32>,
+    norms: Mapping<u8>,
+    live: Mapping<u64>,
+    columns: Mapping<u32>,
+    values: Mapping<u32>,
+}
+
+/// The work buffers.
+struct Desk {
+    states: Mapping<u32>,
+    starts: Mapping<i32>,
+    other_starts: Mapping<i32>,
+    ranges: Mapping<u32>,
+}
+
+pub struct Memory {
+    lists: Lists,
+    query: Mapping<u32>,
+    picked: Mapping<u32>,
+    picked_scores: Mapping<u32>,
+    desk: Desk,
+    hits: Mapping<i64>,
+    documents: Mapping<u32>,
+    scores: Mapping<u32>,
+    answer: Mapping<u64>,
+}
+
+impl Lists {
+    fn new() -> Lists {
+        Lists {
+            n: 0,
+            fields: Mapping::new(ROOM),
+            leaves: Mapping::new(ROOM),
+            postings: Mapping::new(ROOM),
+            positions: Mapping::new(ROOM),
+            norms: Mapping::new(ROOM),
+            live: Mapping::new(ROOM),
+            columns: Mapping::new(ROOM),
+            values: Mapping::new(ROOM),
+        }
+    }
+
+    fn lend(&mut self, case: &Case, random: &mut Random) {
+        self.n = case.n;
+        self.fields.lend(&case.fields, random);
+        self.leaves.lend(&case.leaves, random);
+        self.postings.lend(&case.postings, random);
+        self.positions.lend(&case.positions, random);
+        self.norms.lend(&case.norms, random);
+        self.live.lend(&case.live, random);
+        self.columns.lend(&case.columns, random);
+        self.values.lend(&case.values, random);
+    }
+
+    fn index(&self) -> Index<'_> {
+        Index {
+            n: self.n,
+            fields: self.fields.slice(),
+            leaves: self.leaves.slice(),
+            postings: self.postings.slice(),
+            positions: self.positions.slice(),
+            norms: self.norms.slice(),
+            live: self.live.slice(),
+            columns: self.columns.slice(),
+            values: self.values.slice(),
+        }
+    }
+}
+
+impl Desk {
+    fn new() -> Desk {
+        Desk {
+            states: Mapping::new(ROOM),
+            starts: Mapping::new(ROOM),
+            other_starts: Mapping::new(ROOM),
+            ranges: Mapping::new(ROOM),
+        }
+    }
+
+    fn work(&mut self) -> Work<'_> {
+        Work {
+            states: self.states.slice_mut(),
+            starts: self.starts.slice_mut(),
+            other_starts: self.other_starts.slice_mut(),
+            ranges: self.ranges.slice_mut(),
+        }
+    }
+}
+
+impl Memory {
+    pub fn new() -> Memory {
+        Memory {
+            lists: Lists::new(),
+            query: Mapping::new(ROOM),
+            picked: Mapping::new(ROOM),
+            picked_scores: Mapping::new(ROOM),
+            desk: Desk::new(),
+            hits: Mapping::new(ROOM),
+            documents: Mapping::new(ROOM),
+            scores: Mapping::new(ROOM),
+            answer: Mapping::new(ROOM),
+        }
+    }
+
+    pub fn lend(&mut self, case: &Case, random: &mut Random) {
+        self.lists.lend(case, random);
+        self.query.lend(&case.query, random);
+    }
+
+    pub fn lend_lists(&mut self, documents: &[u32], scores: &[u32], random: &mut Random) {
+        self.picked.lend(documents, random);
+        self.picked_scores.lend(scores, random);
+    }
+
+    /// The buffers as they are before a call.
+    pub fn put(&mut self, buffers: &Buffers, random: &mut Random) {
+        self.desk.states.put(buffers.states.held(), random);
+        self.desk.starts.put(buffers.starts.held(), random);
+        let other_starts = buffers.other_starts.held();
+        self.desk.other_starts.put(other_starts, random);
+        self.desk.ranges.put(buffers.ranges.held(), random);
+        self.hits.put(buffers.hits.held(), random);
+        self.documents.put(buffers.documents.held(), random);
+        self.scores.put(buffers.scores.held(), random);
+        self.answer.put(buffers.answer.held(), random);
+    }
+
+    /// What stands in the buffers after a call.
+    pub fn take(&self, buffers: &mut Buffers) {
+        take(&self.desk.states, &mut buffers.states);
+        take(&self.desk.starts, &mut buffers.starts);
+        take(&self.desk.other_starts, &mut buffers.other_starts);
+        take(&self.desk.ranges, &mut buffers.ranges);
+        take(&self.hits, &mut buffers.hits);
+        take(&self.documents, &mut buffers.documents);
+        take(&self.scores, &mut buffers.scores);
+        take(&self.answer, &mut buffers.answer);
+    }
+
+    pub fn search(&mut self, k: u32, t: u32) -> Search<'_> {
+        Search {
+            index: self.lists.index(),
+            query: self.query.slice(),
+            k,
+            t,
+            work: self.desk.work(),
+            hits: self.hits.slice_mut(),
+            answer: self.answer.slice_mut(),
+        }
+    }
+
+    pub fn page(&mut self, target: u32) -> Page<'_> {
+        Page {
+            index: self.lists.index(),
+            query: self.query.slice(),
+            target,
+            work: self.desk.work(),
+            documents: self.documents.slice_mut(),
+            scores: self.scores.slice_mut(),
+            answer: self.answer.slice_mut(),
+        }
+    }
+
+    pub fn pick(&mut self, k: u32, t: u32) -> Pick<'_> {
+        Pick {
+            documents: self.picked.slice(),
+            scores: self.picked_scores.slice(),
+            k,
+            t,
+            hits: self.hits.slice_mut(),
+            answer: self.answer.slice_mut(),
+        }
+    }
+}
+
+fn take<T: Element>(mapping: &Mapping<T>, buffer: &mut Buffer<T>) {
+    mapping.is_kept_around();
+    buffer.lent().copy_from_slice(mapping.slice());
+}
