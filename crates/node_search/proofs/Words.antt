@@ -1,19 +1,27 @@
 -- The word form on the front of the words, and the records before and after it. Assumes nothing.
-use mathlib.Core.Path.{_≡_, refl, sym, _∙_, ap, subst}
+use mathlib.Core.Path.{_≡_, sym, _∙_, ap, subst}
 use mathlib.Core.List.{List, _++_}
-use Prim.Native.Nat.{ℕ, _*_, _≤_, _<_}
+use Prim.Native.Nat.{ℕ, _*_, _≤_}
 use lib.ListN.{length, take, drop, take-append-drop}
 use lib.Seq.{length-take-le, take-at}
 use lib.IntN.{ℤ}
+use native.Mathlib.Omega.{arith}
 use Rattle.meaning.specs.Lent.{Index}
 use Rattle.meaning.specs.Entries.{Kept, searchRefusal, searchAnswer, searchHits}
 use Rattle.searcher.specs.declared.search.Searched.{Searched}
 use Rattle.searcher.specs.Lends.{work}
 use Rattle.searcher.specs.Answers.{searchedNumbers}
 use Rattle.node_state.specs.declared.NodeState.{NodeState}
-use Rattle.node_state.specs.Records.{recordWords}
+use Rattle.node_state.specs.Records.{recordWords, held}
 use Rattle.node_state.proofs.Turns.{words-take, same-records}
 use Rattle.node_search.specs.Searches.{Searches, Copied, refusalOf}
+
+-- as many records as there are, and no more words than there are
+pub held-there : (nodes words : ℕ) → held nodes words ≤ nodes
+held-there nodes words = omega arith
+
+pub held-enough : (nodes words : ℕ) → 24 * held nodes words ≤ words
+held-enough nodes words = omega arith
 
 module _ (ix : Index) (q : List ℕ) (k t n : ℕ) (words st′ : List ℕ) (a a′ b b′ : List ℤ) (ranges ranges′ : List ℕ) (hits hits′ : List ℤ) (r : Searched) where
   abbrev refused : ℕ → ℕ
@@ -46,7 +54,7 @@ module _ (ix : Index) (q : List ℕ) (k t n : ℕ) (nodes nodes′ : List NodeSt
   through h l u s p =
       let front : words₂ ≡ words₁ → take n nodes′ ≡ take n nodes =
       λ e. same-records (take n nodes′) (take n nodes) (length-take-le n nodes′ (subst (λ (m : ℕ). n ≤ m) (sym l) h) ∙ sym (length-take-le n nodes h))
-          (p .0 ∙ ap (take (24 * n)) (e ∙ u) ∙ take-at (recordWords (take n nodes)) (drop (24 * n) words) (24 * n) (words-take nodes n h)) in (
+      (p .0 ∙ ap (take (24 * n)) (e ∙ u) ∙ take-at (recordWords (take n nodes)) (drop (24 * n) words) (24 * n) (words-take nodes n h)) in (
         record {
           numbers = s .numbers;
           found = s .found;
