@@ -160,7 +160,7 @@ fn print_case(file: &[u32], bytes: &[u8], at: usize) {
     let norms = bytes_at(bytes, word(file, at, 9));
     let mut longs = [0u64; 16];
     let number = vectors::file::read_long_words(list_at(file, at, 10), &mut longs);
-    let live = &longs[..number];
+    let live = vectors::file::first_long_words(&longs, number);
     let columns = list_at(file, at, 11);
     let values = list_at(file, at, 12);
     let q = list_at(file, at, 13);

@@ -1,7 +1,5 @@
 // A file of little-endian words: the words, and the lists that a place in it names.
 ghost use mathlib.Core.Path.{_≡_};
-ghost use Prim.Native.Nat.{_≤_};
-ghost use lib.ListN.{length};
 
 // A word's number as a length, with no proof at the caller.
 pub fn size(x: u32) -> usize
@@ -76,9 +74,7 @@ pub fn bytes_at(bytes: &[u8], place: u32) -> &[u8] {
 }
 
 // Words of 64 bits from pairs of words, the low half first, as many as both slices have room for: how many.
-pub fn read_long_words(words: &[u32], longs: &mut [u64]) -> usize
-    ensures { λ r. ⌜ r ≤ length (now (longs .entry)) ⌝ }
-{
+pub fn read_long_words(words: &[u32], longs: &mut [u64]) -> usize {
     let mut i = 0;
     while i < longs.len() {
         if words.len() / 2 <= i {
@@ -88,4 +84,12 @@ pub fn read_long_words(words: &[u32], longs: &mut [u64]) -> usize
         i += 1;
     }
     i
+}
+
+// So many words, or all.
+pub fn first_long_words(words: &[u64], number: usize) -> &[u64] {
+    if number <= words.len() {
+        return &words[..number];
+    }
+    words
 }
