@@ -7,7 +7,7 @@ use mathlib.Core.Option.{Option, none, some}
 use Prim.Native.Nat.{ℕ, zero, suc, _<_}
 use lib.Dec.{eqb}
 use lib.ListN.{length, drop, getD}
-use lib.IntN.{ℤ}
+use lib.IntN.{ℤ, pos}
 use lib.Ieee.{binary32, ofBits, toBits}
 use Rattle.meaning.specs.Below.{listTo}
 use Rattle.meaning.specs.Lent.{Index}
@@ -117,10 +117,22 @@ pickHits documents scores k buffer =
 unfoldable pub placeRefusal : Index → List ℕ → ℕ → ℕ → Work → ℕ
 placeRefusal ix q r d w = lowest (orderConditions ix q ++ ((12 when startsShort ix q w) ∷ (13 when wrong13Place ix q r d) ∷ []))
 
--- "a start at which the phrase stands, any one, or none": right answers of an accepted call, "none exactly where the phrase stands nowhere"
+-- "a start at which the phrase stands, any one, or none": what an accepted call may give, "none exactly where the phrase stands nowhere"
 unfoldable pub placeRight : Index → List ℕ → ℕ → ℕ → Option ℤ → Bool
 placeRight ix q r d none = eqb (phraseFrequency ix (phraseTermsOf q r) d) 0
 placeRight ix q r d (some s) = standsAt ix (phraseTermsOf q r) d s
+
+-- 0, how many starts are given, and the start, which may lie below 0
+abbrev pub startNumbers : Option ℤ → List ℤ
+startNumbers none = pos 0 ∷ pos 0 ∷ []
+startNumbers (some s) = pos 0 ∷ pos 1 ∷ s ∷ []
+
+-- an accepted call's answer, open in nothing but which start it gives
+abbrev pub PlaceFound : Index → List ℕ → ℕ → ℕ → List ℤ → Type 0
+PlaceFound ix q r d answer = (start : Option ℤ) × (placeRight ix q r d start ≡ true) × (answer ≡ startNumbers start)
+
+unfoldable pub PlaceAnswer : Index → List ℕ → ℕ → ℕ → Work → List ℤ → Type 0
+PlaceAnswer ix q r d w answer = answered (placeRefusal ix q r d w) (PlaceFound ix q r d answer) (λ n. answer ≡ (pos n ∷ []))
 
 -- ---- "Length decodes a norm byte"; it refuses nothing
 unfoldable pub lengthAnswer : ℕ → ℕ

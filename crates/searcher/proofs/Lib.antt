@@ -9,4 +9,5 @@ pub mod Lowest
 pub mod RangeEntry
 pub mod PickEntry
 pub mod TermWords
+pub mod PlaceApart
 pub mod PlaceEntry

@@ -3,11 +3,11 @@ use mathlib.Core.Path.{_≡_, refl, sym, ap, _∙_}
 use mathlib.Core.Bool.{Bool, true, false, not, _&&_, _||_}
 use mathlib.Core.List.{List, [], _∷_}
 use mathlib.Core.Option.{Option, none, some}
-use Prim.Native.Nat.{ℕ, suc, _-_, _≤_, _<_}
+use Prim.Native.Nat.{ℕ, zero, suc, _-_, _≤_, _<_}
 use native.Mathlib.Nat.{le-refl, not-suc-le-zero}
 use native.Mathlib.Omega.{arith}
 use lib.Dec.{eqb, leb, ltb, lit<}
-use lib.IntN.{ℤ}
+use lib.IntN.{ℤ, pos}
 use lib.ListN.{length}
 use borrow.Author.Tests.{lt-ltb, le-ltb, ltb-false, le-leb, lt-leb, leb-false, eq-eqb, ne-eqb, eqb-true, not-false}
 use Rattle.meaning.specs.Limits.{noMoreDocs}
@@ -18,7 +18,7 @@ use Rattle.meaning.specs.Query.{recordCount, recordKind, recordValue, phraseTer
 use Rattle.meaning.specs.Refusals.{Condition, _when_, lowest}
 use Rattle.meaning.specs.IndexRefusals.{wrongPosition, wrongPositions}
 use Rattle.meaning.specs.CallRefusals.{Work, largestIn, startsNeeded, startsShort, wrong13Place}
-use Rattle.meaning.specs.Entries.{orderConditions, Kept, placeRefusal, placeRight}
+use Rattle.meaning.specs.Entries.{orderConditions, Kept, answered, placeRefusal, placeRight, PlaceFound, PlaceAnswer}
 use Rattle.meaning.proofs.Tests.{true-left, true-right, or-left, or-right, or-3}
 use Rattle.meaning.proofs.Below.{any-none}
 use Rattle.index.specs.Accepted.{Accepted, PostingOk}
@@ -40,7 +40,7 @@ use Rattle.scorer.proofs.PhraseLaws.{largest-at}
 use Rattle.searcher.specs.declared.place.Placed.{Placed}
 use Rattle.searcher.specs.declared.place.Placed.the-variants as Placed
 use Rattle.searcher.specs.Lends.{work}
-use Rattle.searcher.specs.Answers.{placedNumber, placedStart}
+use Rattle.searcher.specs.Answers.{placedNumbers}
 use Rattle.searcher.proofs.Refusing.{first-holds, second-holds, neither-holds, neither-held, order-asks, order-refused, order-passed, order-accepted}
 use Rattle.searcher.proofs.Lowest.{kept-same, kept-accepted}
 
@@ -161,15 +161,15 @@ module _ (ix : Index) (q : List ℕ) (asks : Asks ix q) (r d : ℕ) (here : r < 
         rw are (words-good ix d ts (s .2) (each-fine ix (asks .accepted) d f (startsNeeded ix q) (s .1) ts (s .4)), (room n h, room m g))
 
     -- none exactly where the phrase stands nowhere
-    pub found-nothing : (p : Found.Placed) → p ≡ Variant.Nothing → PlacedIn (startLists (ix .positions) words) p → (placedNumber Placed.Nothing ≡ 0) × (placeRight ix q r d (placedStart Placed.Nothing) ≡ true)
-    unfolding PlacedIn placedNumber placedStart placeRight
+    pub found-nothing : (p : Found.Placed) → p ≡ Variant.Nothing → PlacedIn (startLists (ix .positions) words) p → PlaceFound ix q r d (pos 0 ∷ pos 0 ∷ [])
+    unfolding PlacedIn placeRight
     found-nothing p e h =
         let z : commonSize (startLists (ix .positions) words) ≡ 0 = rw e at h in
-        (refl, eq-eqb _ 0 (sym (words-frequency ix d (phraseTermsOf q r)) ∙ ap (λ (z : List ℕ). commonSize (startLists (ix .positions) z)) (sym are) ∙ z))
+        (none, eq-eqb _ 0 (sym (words-frequency ix d (phraseTermsOf q r)) ∙ ap (λ (z : List ℕ). commonSize (startLists (ix .positions) z)) (sym are) ∙ z), refl)
 
-    pub found-at : (p : Found.Placed) (x s : ℤ) → p ≡ Variant.At s → x ≡ s → PlacedIn (startLists (ix .positions) words) p → (placedNumber (Placed.At x) ≡ 0) × (placeRight ix q r d (placedStart (Placed.At x)) ≡ true)
-    unfolding PlacedIn placedNumber placedStart placeRight standsAt
-    found-at p x s e f h = rw f (refl, lt-ltb 0 _ (rw (e, are, words-starts ix d (phraseTermsOf q r)) at h))
+    pub found-at : (p : Found.Placed) (x s : ℤ) → p ≡ Variant.At s → x ≡ s → PlacedIn (startLists (ix .positions) words) p → PlaceFound ix q r d (pos 0 ∷ pos 1 ∷ x ∷ [])
+    unfolding PlacedIn placeRight standsAt
+    found-at p x s e f h = rw f (some s, lt-ltb 0 _ (rw (e, are, words-starts ix d (phraseTermsOf q r)) at h), refl)
 
 -- ---- the answer
 module _ (ix : Index) (q : List ℕ) (r d n : ℕ) (a b : List ℤ) where
@@ -177,12 +177,17 @@ module _ (ix : Index) (q : List ℕ) (r d n : ℕ) (a b : List ℤ) where
   room = work 0 (length a) (length b) 0
 
   abbrev Answer : Placed → List ℤ → List ℤ → Type 0
-  Answer x a′ b′ = (placedNumber x ≡ placeRefusal ix q r d room) × ((placedNumber x ≡ 0 → placeRight ix q r d (placedStart x) ≡ true) × (Kept (placeRefusal ix q r d room) a a′ × Kept (placeRefusal ix q r d room) b b′))
+  Answer x a′ b′ = PlaceAnswer ix q r d room (placedNumbers x) × (Kept (placeRefusal ix q r d room) a a′ × Kept (placeRefusal ix q r d room) b b′)
 
   module _ (is : n ≡ placeRefusal ix q r d room) where
     pub place-refused : (n ≡ 0 → ⊥) → Answer (Placed.Refused n) a b
-    unfolding placedNumber
-    place-refused h = (is, ((λ e. absurd (h e)), (kept-same _ a, kept-same _ b)))
+    unfolding placedNumbers PlaceAnswer
+    place-refused h = (rw (← is) (refused n h), (kept-same _ a, kept-same _ b))
+      where
+        refused : (m : ℕ) → (m ≡ 0 → ⊥) → answered m (PlaceFound ix q r d (pos m ∷ [])) (λ k. (pos m ∷ []) ≡ (pos k ∷ []))
+        refused zero h = absurd (h refl)
+        refused (suc m) h = refl
 
-    pub place-done : n ≡ 0 → (x : Placed) (a′ b′ : List ℤ) → (placedNumber x ≡ 0) × (placeRight ix q r d (placedStart x) ≡ true) → Answer x a′ b′
-    place-done z x a′ b′ h = (h .0 ∙ sym z ∙ is, ((λ e. h .1), (kept-accepted _ a a′ (sym is ∙ z), kept-accepted _ b b′ (sym is ∙ z))))
+    pub place-done : n ≡ 0 → (x : Placed) (a′ b′ : List ℤ) → PlaceFound ix q r d (placedNumbers x) → Answer x a′ b′
+    unfolding PlaceAnswer
+    place-done z x a′ b′ h = (rw (← is, z) h, (kept-accepted _ a a′ (sym is ∙ z), kept-accepted _ b b′ (sym is ∙ z)))

@@ -1,8 +1,7 @@
 -- What each answer of an entry says in document 01's numbers: a refusal's number alone, or 0 and the entry's values. Assumes nothing: these are definitions.
 use mathlib.Core.List.{List, [], _∷_}
-use mathlib.Core.Option.{Option, none, some}
 use Prim.Native.Nat.{ℕ}
-use lib.IntN.{ℤ}
+use lib.IntN.{ℤ, pos}
 use Rattle.collector.specs.Collected.{numbers}
 use Rattle.searcher.specs.declared.search.Searched.{Searched}
 use Rattle.searcher.specs.declared.search.Searched.the-variants as Searched
@@ -31,13 +30,8 @@ unfoldable pub rangedNumbers : Ranged → List ℕ
 rangedNumbers (Ranged.Refused n) = n ∷ []
 rangedNumbers (Ranged.Listed n) = 0 ∷ n ∷ []
 
--- Place: the refusal's number, 0 where it is not refused; the start, or none
-unfoldable pub placedNumber : Placed → ℕ
-placedNumber (Placed.Refused n) = n
-placedNumber Placed.Nothing = 0
-placedNumber (Placed.At s) = 0
-
-unfoldable pub placedStart : Placed → Option ℤ
-placedStart (Placed.Refused n) = none
-placedStart Placed.Nothing = none
-placedStart (Placed.At s) = some s
+-- Place: how many starts are given, and the start, which may lie below 0; so Nothing has two numbers, and is told apart from a refusal with number 0
+unfoldable pub placedNumbers : Placed → List ℤ
+placedNumbers (Placed.Refused n) = pos n ∷ []
+placedNumbers Placed.Nothing = pos 0 ∷ pos 0 ∷ []
+placedNumbers (Placed.At s) = pos 0 ∷ pos 1 ∷ s ∷ []

@@ -8,13 +8,13 @@ ghost use lib.ListN.{length, take};
 ghost use Rattle.meaning.specs.Lent.{Index};
 ghost use Rattle.meaning.specs.Query.{recordCount, recordKind, recordChildren, phraseTermsOf};
 ghost use Rattle.meaning.specs.CallRefusals.{startsShort, wrong13Place};
-ghost use Rattle.meaning.specs.Entries.{Kept, placeRefusal, placeRight};
+ghost use Rattle.meaning.specs.Entries.{Kept, placeRefusal, PlaceFound, PlaceAnswer};
 ghost use Rattle.meaning.specs.Postings.{postingAt, frequencyOf};
 ghost use Rattle.index.specs.Slices.{lent, leavesOnly};
 ghost use Rattle.weight.specs.Measured.{Asks};
 ghost use Rattle.searcher.specs.Lends.{work, QueryLent};
 ghost use Rattle.phrase.specs.Words.{firstOf, phraseWords};
-ghost use Rattle.searcher.specs.Answers.{placedNumber, placedStart};
+ghost use Rattle.searcher.specs.Answers.{placedNumbers};
 ghost use Rattle.searcher.specs.Runs.{RunOk};
 use index::leaves::leaf_at;
 use index::postings::posting_document;
@@ -96,7 +96,7 @@ fn locate(
     b: &mut [i32],
 ) -> Placed
     requires { ⌜ Asks (lent «max_doc» (now fields) (now leaves) (now postings) (now positions) (now norms) (now live) (now columns) (now values)) (now q) × (startsShort (lent «max_doc» (now fields) (now leaves) (now postings) (now positions) (now norms) (now live) (now columns) (now values)) (now q) (work 0 (length (now a)) (length (now b)) 0) ≡ false) × (wrong13Place (lent «max_doc» (now fields) (now leaves) (now postings) (now positions) (now norms) (now live) (now columns) (now values)) (now q) «record_number» document ≡ false) ⌝ }
-    ensures { λ r. ⌜ (placedNumber r ≡ 0) × (placeRight (lent «max_doc» (now (fields .entry)) (now (leaves .entry)) (now (postings .entry)) (now (positions .entry)) (now (norms .entry)) (now (live .entry)) (now (columns .entry)) (now (values .entry))) (now (q .entry)) «record_number» document (placedStart r) ≡ true) ⌝ }
+    ensures { λ r. ⌜ PlaceFound (lent «max_doc» (now (fields .entry)) (now (leaves .entry)) (now (postings .entry)) (now (positions .entry)) (now (norms .entry)) (now (live .entry)) (now (columns .entry)) (now (values .entry))) (now (q .entry)) «record_number» document (placedNumbers r) ⌝ }
 {
     let at = record_number as usize;
     let count = query::children(q, at) as usize;
@@ -181,8 +181,7 @@ pub fn place(
     a: &mut [i32],
     b: &mut [i32],
 ) -> Placed
-    ensures { λ r. ⌜ placedNumber r ≡ placeRefusal (lent «max_doc» (now (fields .entry)) (now (leaves .entry)) (now (postings .entry)) (now (positions .entry)) (now (norms .entry)) (now (live .entry)) (now (columns .entry)) (now (values .entry))) (now (q .entry)) «record_number» document (work 0 (length (now (a .entry))) (length (now (b .entry))) 0) ⌝ }
-    ensures { λ r. ⌜ (placedNumber r ≡ 0 → placeRight (lent «max_doc» (now (fields .entry)) (now (leaves .entry)) (now (postings .entry)) (now (positions .entry)) (now (norms .entry)) (now (live .entry)) (now (columns .entry)) (now (values .entry))) (now (q .entry)) «record_number» document (placedStart r) ≡ true) ⌝ }
+    ensures { λ r. ⌜ PlaceAnswer (lent «max_doc» (now (fields .entry)) (now (leaves .entry)) (now (postings .entry)) (now (positions .entry)) (now (norms .entry)) (now (live .entry)) (now (columns .entry)) (now (values .entry))) (now (q .entry)) «record_number» document (work 0 (length (now (a .entry))) (length (now (b .entry))) 0) (placedNumbers r) ⌝ }
     ensures { λ r. ⌜ Kept (placeRefusal (lent «max_doc» (now (fields .entry)) (now (leaves .entry)) (now (postings .entry)) (now (positions .entry)) (now (norms .entry)) (now (live .entry)) (now (columns .entry)) (now (values .entry))) (now (q .entry)) «record_number» document (work 0 (length (now (a .entry))) (length (now (b .entry))) 0)) (now (a .entry)) (now (a .exit)) ⌝ }
     ensures { λ r. ⌜ Kept (placeRefusal (lent «max_doc» (now (fields .entry)) (now (leaves .entry)) (now (postings .entry)) (now (positions .entry)) (now (norms .entry)) (now (live .entry)) (now (columns .entry)) (now (values .entry))) (now (q .entry)) «record_number» document (work 0 (length (now (a .entry))) (length (now (b .entry))) 0)) (now (b .entry)) (now (b .exit)) ⌝ }
 {

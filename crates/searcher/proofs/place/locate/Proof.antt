@@ -12,6 +12,7 @@ use Rattle.meaning.specs.Query.{recordCount, recordKind, phraseTermsOf}
 use Rattle.index.specs.Slices.{lent}
 use Rattle.phrase.specs.Words.{phraseWords}
 use Rattle.searcher.specs.Lends.{work, QueryLent}
+use Rattle.searcher.specs.Answers.{placedNumbers}
 use Rattle.searcher.proofs.TermWords.{phrase-here}
 use Rattle.searcher.proofs.PlaceEntry.{place-within, starts-long, words-asked, found-nothing, found-at}
 use Rattle.searcher.proofs.place.locate.Statement.{statement}
@@ -84,6 +85,7 @@ same-length-2 : tie.Need-same-length-2
 same-length-2 c = search needs
 
 returns : tie.Need-returns
+unfolding placedNumbers
 returns c =
     let p = c .before .before .before .before in
     let t = p .before .before .before .before in
@@ -97,6 +99,7 @@ same-length-4 : tie.Need-same-length-4
 same-length-4 c = search needs
 
 returns-2 : tie.Need-returns-2
+unfolding placedNumbers
 returns-2 c =
     let p = c .before .before .before .before .before in
     let t = p .before .before .before .before in
