@@ -21,22 +21,12 @@ use Rattle.query.proofs.Accepted.{phrase-term-right}
 use Rattle.query.proofs.Whole.{whole}
 use Rattle.weight.specs.Measured.{Asks}
 use Rattle.searcher.specs.Lends.{QueryLent}
+use Rattle.searcher.proofs.Lowest.{lowest-zero}
 
 above-zero : (n : ℕ) → (n ≡ 0 → ⊥) → 0 < n
 above-zero n h = ⊎-elim (λ e. absurd (h (sym e))) (λ l. l) (eq-or-lt-of-le {n = 0} {m = n} (omega arith))
 
--- ---- one condition, and two
-module _ (n : ℕ) (above : 0 < n) (cs : List Condition) where
-  first-not : (b : Bool) → lowest ((n when b) ∷ cs) ≡ 0 → b ≡ false
-  unfolding lowest
-  first-not true e = absurd (omega (arith, e))
-  first-not false e = refl
-
-  rest-none : (b : Bool) → lowest ((n when b) ∷ cs) ≡ 0 → lowest cs ≡ 0
-  unfolding lowest
-  rest-none true e = absurd (omega (arith, e))
-  rest-none false e = e
-
+-- ---- two conditions
 module _ (n m : ℕ) (a b : Bool) where
   abbrev lowest2 : ℕ
   lowest2 = lowest ((n when a) ∷ (m when b) ∷ [])
@@ -54,7 +44,7 @@ module _ (n m : ℕ) (a b : Bool) where
   neither-holds e f = rw (e, f)
 
   pub neither-held : 0 < n → 0 < m → lowest2 ≡ 0 → (a ≡ false) × (b ≡ false)
-  neither-held h g e = (first-not n h ((m when b) ∷ []) a e, first-not m g [] b (rest-none n h ((m when b) ∷ []) a e))
+  neither-held h g e = let l = lowest-zero n a ((m when b) ∷ []) h e in (l .0, lowest-zero m b [] g (l .1) .0)
 
 -- ---- the numbers 1 to 10
 module _ (ix : Index) (q : List ℕ) where
@@ -84,14 +74,15 @@ module _ (ix : Index) (q : List ℕ) where
       go : indexRefusal ix ≡ 0 → Asks ix q
       go z =
           let e7 : lowest from7 ≡ 0 = sym (index-accepted ix from7 z) ∙ e in
-          let e8 = rest-none 7 (lit< tt) from8 (wrong7 q) e7 in
-          let e9 = rest-none 8 (lit< tt) from9 (wrong8 ix q) e8 in
+          let l7 = lowest-zero 7 (wrong7 q) from8 (lit< tt) e7 in
+          let l8 = lowest-zero 8 (wrong8 ix q) from9 (lit< tt) (l7 .1) in
+          let l9 = lowest-zero 9 (wrong9 q) from10 (lit< tt) (l8 .1) in
           record {
             accepted = accepted-checked ix z;
-            records-right = first-not 7 (lit< tt) from8 (wrong7 q) e7;
-            values-right = first-not 8 (lit< tt) from9 (wrong8 ix q) e8;
-            boosts-right = first-not 9 (lit< tt) from10 (wrong9 q) e9;
-            positions-right = first-not 10 (lit< tt) [] (wrong10 ix q) (rest-none 9 (lit< tt) from10 (wrong9 q) e9);
+            records-right = l7 .0;
+            values-right = l8 .0;
+            boosts-right = l9 .0;
+            positions-right = lowest-zero 10 (wrong10 ix q) [] (lit< tt) (l9 .1) .0;
           }
 
   pub order-checked : (r : ℕ) → r ≡ lowest (orderConditions ix q) → r ≡ 0 → Asks ix q
