@@ -10,6 +10,7 @@ pub mod Lists
 pub mod Steps
 pub mod Collecting
 pub mod Passing
+pub mod Entering
 pub mod Popping
 pub mod Beginning
 pub mod Picked
