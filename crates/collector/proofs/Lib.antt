@@ -9,6 +9,8 @@ pub mod Marks
 pub mod Lists
 pub mod Steps
 pub mod Collecting
+pub mod Passing
+pub mod Entering
 pub mod Popping
 pub mod Beginning
 pub mod Picked

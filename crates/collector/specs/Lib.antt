@@ -2,3 +2,4 @@
 pub mod Heap
 pub mod State
 pub mod Collected
+pub mod Entering

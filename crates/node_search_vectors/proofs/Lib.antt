@@ -1,0 +1,2 @@
+-- A local array that is lent as a slice.
+pub mod Arrays

@@ -1,0 +1,297 @@
+// Search with node states as words and as records, side by side, on document 01's whole case: both answers and whether they agree.
+// crates/node_search_vectors/stdout is written from the document's text: a hit is its code.
+ghost use mathlib.Core.Path.{_≡_};
+ghost use Prim.Native.Nat.{_*_};
+ghost use lib.ListN.{length};
+ghost use Rattle.meaning.specs.Entries.{searchAnswer, searchHits};
+ghost use Rattle.index.specs.Slices.{lent};
+ghost use Rattle.searcher.specs.Lends.{work};
+ghost use Rattle.searcher.specs.Answers.{searchedNumbers};
+ghost use Rattle.node_state.specs.Records.{held};
+use node_state::NodeState;
+use searcher::search::Searched;
+
+// One field; leaf 0 in the documents 0, 2 and 3, leaf 1 in 2.
+const FIELDS: [u32; 3] = [0x3f80_0000, 0, 0];
+
+const LEAVES: [u32; 8] = [0, 0, 3, 0x3f80_0000, 0, 3, 1, 0x3f80_0000];
+
+const POSTINGS: [u32; 12] = [0, 1, 0, 2, 1, 0, 3, 1, 0, 2, 1, 0];
+
+// Boolean of Must ConstantScore(leaf 0) and Should Boost 2 of ConstantScore(leaf 1).
+const QUERY: [u32; 54] = [
+    3,
+    0,
+    2,
+    0,
+    0,
+    0,
+    0,
+    0,
+    0,
+    6,
+    1,
+    1,
+    0,
+    0,
+    0,
+    0,
+    0,
+    0,
+    1,
+    0,
+    0,
+    0,
+    0,
+    0,
+    0,
+    0,
+    0,
+    7,
+    2,
+    1,
+    0x4000_0000,
+    0,
+    0,
+    0,
+    0,
+    0,
+    6,
+    0,
+    1,
+    0,
+    0,
+    0,
+    0,
+    0,
+    0,
+    1,
+    0,
+    0,
+    1,
+    0,
+    0,
+    0,
+    0,
+    0,
+];
+
+// Records that hold rubbish.
+fn rubbish() -> NodeState {
+    NodeState {
+        kind: 0xdead_beef,
+        size: 0xdead_beef,
+        cached: 0xdead_beef,
+        need: 0xdead_beef,
+        required_end: 0xdead_beef,
+        optional_end: 0xdead_beef,
+        first: 0xdead_beef,
+        number: 0xdead_beef,
+        cursor: 0xdead_beef,
+        offset: 0xdead_beef,
+        field: 0xdead_beef,
+        constant: 0xdead_beef,
+        weight: 0xdead_beef,
+        afterwards: 0xdead_beef,
+        group_at: 0xdead_beef,
+        scores: 0xdead_beef,
+        frequency_of: 0xdead_beef,
+        frequency: 0xdead_beef,
+        norms: 0xdead_beef,
+        spare1: 0xdead_beef,
+        spare2: 0xdead_beef,
+        spare3: 0xdead_beef,
+        spare4: 0xdead_beef,
+        spare5: 0xdead_beef,
+    }
+}
+
+// Whoever lends records by reference is proved by hand: this function does nothing else.
+fn search_lent(
+    max_doc: u32,
+    fields: &[u32],
+    leaves: &[u32],
+    postings: &[u32],
+    positions: &[u32],
+    norms: &[u8],
+    live: &[u64],
+    columns: &[u32],
+    values: &[u32],
+    q: &[u32],
+    k: u32,
+    t: u32,
+    records: [NodeState; 8],
+    words: &mut [u32],
+    a: &mut [i32],
+    b: &mut [i32],
+    ranges: &mut [u32],
+    hits: &mut [i64],
+) -> Searched
+    ensures { λ r. ⌜ (searchedNumbers r ≡ searchAnswer (lent «max_doc» (now (fields .entry)) (now (leaves .entry)) (now (postings .entry)) (now (positions .entry)) (now (norms .entry)) (now (live .entry)) (now (columns .entry)) (now (values .entry))) (now (q .entry)) k t (work (24 * held 8 (length (now (words .entry)))) (length (now (a .entry))) (length (now (b .entry))) (length (now (ranges .entry)))) (length (now (hits .entry))))
+        × (now (hits .exit) ≡ searchHits (lent «max_doc» (now (fields .entry)) (now (leaves .entry)) (now (postings .entry)) (now (positions .entry)) (now (norms .entry)) (now (live .entry)) (now (columns .entry)) (now (values .entry))) (now (q .entry)) k (work (24 * held 8 (length (now (words .entry)))) (length (now (a .entry))) (length (now (b .entry))) (length (now (ranges .entry)))) (now (hits .entry))) ⌝ }
+{
+    let mut nodes = records;
+    node_search::search_nodes(
+        max_doc,
+        fields,
+        leaves,
+        postings,
+        positions,
+        norms,
+        live,
+        columns,
+        values,
+        q,
+        k,
+        t,
+        &mut nodes,
+        words,
+        a,
+        b,
+        ranges,
+        hits,
+    )
+}
+
+// The answer's numbers: the refusal's, or 0, the hits held, the count and the mark.
+fn numbers(s: Searched) -> [u64; 4] {
+    match s {
+        Searched::Refused(number) => [vectors::wide(number), 0, 0, 0],
+        Searched::Found(top) => [0, vectors::wide(top.held), top.count, top.mark as u64],
+    }
+}
+
+fn same_numbers(x: [u64; 4], y: [u64; 4]) -> bool {
+    if x[0] != y[0] {
+        return false;
+    }
+    if x[1] != y[1] {
+        return false;
+    }
+    if x[2] != y[2] {
+        return false;
+    }
+    x[3] == y[3]
+}
+
+fn same_codes(x: [i64; 3], y: [i64; 3]) -> bool {
+    if x[0] != y[0] {
+        return false;
+    }
+    if x[1] != y[1] {
+        return false;
+    }
+    x[2] == y[2]
+}
+
+fn print_answer(s: Searched, hits: &[i64]) {
+    match s {
+        Searched::Refused(number) => {
+            io::write_all(1, b"refused ");
+            vectors::print_number(number);
+            vectors::end_line();
+        }
+        Searched::Found(top) => vectors::print_hits(top.count, top.mark, hits, top.held),
+    }
+}
+
+fn print_same(numbers: bool, codes: bool) {
+    if numbers {
+        if codes {
+            io::write_all(1, b"same\n");
+            return;
+        }
+    }
+    io::write_all(1, b"different\n");
+}
+
+// The whole case with k hits wanted and threshold t.
+fn with_words(k: u32, t: u32, states: &mut [u32], hits: &mut [i64]) -> Searched {
+    let no_words = [0u32; 0];
+    let no_bytes = [0u8; 0];
+    let no_live = [0u64; 0];
+    let mut starts = [0i32; 0];
+    let mut other_starts = [0i32; 0];
+    let mut ranges = [0u32; 0];
+    searcher::search::search(
+        4,
+        &FIELDS,
+        &LEAVES,
+        &POSTINGS,
+        &no_words,
+        &no_bytes,
+        &no_live,
+        &no_words,
+        &no_words,
+        &QUERY,
+        k,
+        t,
+        states,
+        &mut starts,
+        &mut other_starts,
+        &mut ranges,
+        hits,
+    )
+}
+
+fn with_records(k: u32, t: u32, words: &mut [u32], hits: &mut [i64]) -> Searched {
+    let no_words = [0u32; 0];
+    let no_bytes = [0u8; 0];
+    let no_live = [0u64; 0];
+    let mut starts = [0i32; 0];
+    let mut other_starts = [0i32; 0];
+    let mut ranges = [0u32; 0];
+    search_lent(
+        4,
+        &FIELDS,
+        &LEAVES,
+        &POSTINGS,
+        &no_words,
+        &no_bytes,
+        &no_live,
+        &no_words,
+        &no_words,
+        &QUERY,
+        k,
+        t,
+        [rubbish(); 8],
+        words,
+        &mut starts,
+        &mut other_starts,
+        &mut ranges,
+        hits,
+    )
+}
+
+// Words for eight states, where six are needed.
+fn compare(k: u32, t: u32) {
+    let mut states = [0xdead_beefu32; 192];
+    let mut words = [0xdead_beefu32; 192];
+    let mut hits = [-1i64; 3];
+    let mut more = [-1i64; 3];
+    let x = with_words(k, t, &mut states, &mut hits);
+    let y = with_records(k, t, &mut words, &mut more);
+    print_answer(x, &hits);
+    print_answer(y, &more);
+    print_same(same_numbers(numbers(x), numbers(y)), same_codes(hits, more));
+}
+
+// Words for five.
+fn compare_short(k: u32, t: u32) {
+    let mut states = [0xdead_beefu32; 120];
+    let mut words = [0xdead_beefu32; 120];
+    let mut hits = [-1i64; 3];
+    let mut more = [-1i64; 3];
+    let x = with_words(k, t, &mut states, &mut hits);
+    let y = with_records(k, t, &mut words, &mut more);
+    print_answer(x, &hits);
+    print_answer(y, &more);
+    print_same(same_numbers(numbers(x), numbers(y)), same_codes(hits, more));
+}
+
+fn main() {
+    compare(2, 10);
+    compare(2, 1);
+    compare(0, 10);
+    compare_short(2, 10);
+}
