@@ -9,7 +9,7 @@ use lib.Bits.{bitOr, or-lt, or-comm, or-add-and, and-le-r}
 use borrow.Author.Tests.{le-leb, lt-leb, lt-ltb, le-ltb, eq-eqb, ne-eqb}
 use Rattle.meaning.proofs.Tests.{cmp}
 
-or-ge : (a b : ℕ) → a ≤ bitOr a b
+pub or-ge : (a b : ℕ) → a ≤ bitOr a b
 or-ge a b = omega (arith, or-add-and a b, and-le-r a b)
 
 -- an or reaches 2 ^ k where one of the two does

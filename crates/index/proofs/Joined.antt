@@ -1,31 +1,32 @@
 -- A run whose postings' positions follow one another: one pass over all of them. Assumes nothing.
-use mathlib.Core.Path.{_≡_, refl, sym, ap, _∙_}
+use mathlib.Core.Path.{_≡_, refl, sym, ap, subst, _∙_}
 use mathlib.Core.Bool.{Bool, true, false, not, _&&_, _||_}
 use mathlib.Core.List.{List}
 use Prim.Native.Nat.{ℕ, zero, suc, _+_, _-_, _*_, _≤_, _<_}
-use native.Mathlib.Nat.{add-sub-cancel}
 use native.Mathlib.Omega.{arith}
-use lib.Bits.{bitOr}
 use lib.Dec.{eqb, leb, ltb}
 use lib.ListN.{length, getD, take, drop, length-take, length-drop}
 use lib.Seq.{getD-take, getD-drop}
-use borrow.Author.Tests.{lt-ltb, le-ltb, eqb-true, eqb-false, not-false}
+use borrow.Author.Tests.{lt-ltb, le-ltb, eq-eqb, eqb-true, eqb-false, not-false}
 use Rattle.meaning.specs.Below.{anyBelow, countBelow}
 use Rattle.meaning.specs.Limits.{noMoreDocs}
 use Rattle.index.specs.Runs.{wrongRecord, wrongPlace, wrongPlaces, apartAt, fallAt, seamAt}
 use Rattle.meaning.proofs.Tests.{or-left, or-right, and-second}
-use Rattle.meaning.proofs.Below.{any-more, none-below, any-some, any-like, any-or}
-use Rattle.index.specs.declared.positions.Seen.{Seen}
-use Rattle.index.specs.Records.{seenOf}
-use Rattle.index.proofs.High.{high-or}
-use Rattle.index.proofs.Gathered.{previousOf, pred-suc}
-use Rattle.index.proofs.Prefix.{before, before-zero, before-next, before-le, any-parts, more-than-firsts}
+use Rattle.meaning.proofs.Below.{none-below, any-none, any-some, any-like, any-or}
+use Rattle.index.specs.Gaps.{dropAt}
+use Rattle.index.proofs.Gaps.{gap-small}
+use Rattle.index.proofs.Gathered.{pred-suc}
+use Rattle.index.proofs.Prefix.{before, before-zero, before-next, before-le, any-parts, count-like, more-than-firsts}
 
 -- a record that is right has a frequency above 0
 pub records-some : (n : ℕ) (positions : Bool) (run : List ℕ) (k : ℕ) → anyBelow k (wrongRecord n positions run) ≡ false → (i : ℕ) → i < k → 0 < getD run (3 * i + 1) 0
 unfolding wrongRecord
 records-some n positions run k e i l =
     let z : getD run (3 * i + 1) 0 ≡ 0 → ⊥ = eqb-false _ _ (or-left (eqb (getD run (3 * i + 1) 0) 0) (ltb 16777216 (getD run (3 * i + 1) 0)) (or-right (leb n (getD run (3 * i) 0) || (ltb 0 i && leb (getD run (3 * i) 0) (getD run (3 * (i - 1)) 0))) (eqb (getD run (3 * i + 1) 0) 0 || ltb 16777216 (getD run (3 * i + 1) 0)) (or-left ((leb n (getD run (3 * i) 0) || (ltb 0 i && leb (getD run (3 * i) 0) (getD run (3 * (i - 1)) 0))) || (eqb (getD run (3 * i + 1) 0) 0 || ltb 16777216 (getD run (3 * i + 1) 0))) (ltb 0 (getD run (3 * i + 2) 0) && not positions) (none-below k (wrongRecord n positions run) e i l)))) in omega arith
+
+drop-fall : (part : List ℕ) (k : ℕ) → getD part k 0 < 2147483648 → getD part (k - 1) 0 < 2147483648 → dropAt part k ≡ fallAt part k
+unfolding dropAt fallAt
+drop-fall part k l m = rw (gap-small _ _ l m)
 
 abbrev indexAt : List ℕ → ℕ → ℕ
 indexAt run i = getD run (3 * i + 2) 0
@@ -109,9 +110,32 @@ module _ (run : List ℕ) (n : ℕ) (joined : anyBelow n (apartAt run) ≡ false
       joined-all =
           ap (λ (b : Bool). b || not (eqb (countBelow (length part) (fallAt part)) (countBelow n (seamAt run positions)))) high-all ∙ ap (λ (b : Bool). anyBelow n (λ i. anyBelow (frequencyAt run i) (λ j. ltb noMoreDocs (getD (drop (indexAt run i) positions) j 0))) || b) falls-all ∙ sym (any-or n _ _) ∙ any-like n _ _ (λ i l. sym (places-are i l))
 
-      -- the same where the code holds what it saw in locals
-      pub joined-flag : (from : ℕ) → from ≡ indexAt run 0 → (s : Seen) → s ≡ seenOf (take (end - from) (drop from positions)) → (w z : ℕ) → w ≡ s .falls → z ≡ countBelow n (seamAt run positions) → (s .high || not (eqb w z)) ≡ anyBelow n (wrongPlaces run positions)
-      joined-flag from f s k w z g h = rw (g, h, k, f) joined-all
+      -- where the or of all shows that none is high: as many falls as at the postings' firsts are right
+      module _ (most : ℕ) (small : most ≤ 2147483647) (bound : (k : ℕ) → k < length part → getD part k 0 ≤ most) where
+        none-high : anyBelow (length part) (λ k. ltb noMoreDocs (getD part k 0)) ≡ false
+        none-high = any-none (length part) _ (λ k l. let h : getD part k 0 ≤ 2147483647 = omega (arith, bound k l) in le-ltb _ _ h)
+
+        drops : countBelow (length part) (dropAt part) ≡ countBelow (length part) (fallAt part)
+        drops = count-like (length part) _ _ (λ k l. drop-fall part k (omega (arith, bound k l)) (omega (arith, bound (k - 1) (omega arith))))
+
+        right-falls : countBelow (length part) (dropAt part) ≡ countBelow n (seamAt run positions) → anyBelow n (wrongPlaces run positions) ≡ false
+        right-falls e = sym joined-all ∙ rw (none-high, eq-eqb _ _ (sym drops ∙ e))
+
+        -- where no frequency is above 1 there is no other fall
+        right-ones : ((i : ℕ) → i < n → frequencyAt run i ≤ 1) → anyBelow n (wrongPlaces run positions) ≡ false
+        right-ones h = any-none n (wrongPlaces run positions) (λ i l. places-are i l ∙ rw (none-below n _ (sym high-all ∙ none-high) i l) (any-none (frequencyAt run i) _ (λ j g. let z : j ≡ 0 = omega (arith, h i l) in ap (fallAt (drop (indexAt run i) positions)) z ∙ no-fall i)))
+
+      -- the same where the code holds the part's ends in locals
+      module _ (from : ℕ) (f : from ≡ indexAt run 0) (most : ℕ) (small : most ≤ 2147483647) (bound : (k : ℕ) → k < length (take (end - from) (drop from positions)) → getD (take (end - from) (drop from positions)) k 0 ≤ most) where
+        same-bound : (k : ℕ) → k < length part → getD part k 0 ≤ most
+        same-bound = subst (λ (z : ℕ). (k : ℕ) → k < length (take (end - z) (drop z positions)) → getD (take (end - z) (drop z positions)) k 0 ≤ most) f bound
+
+        pub falls-right : (w z : ℕ) → w ≡ countBelow (length (take (end - from) (drop from positions))) (dropAt (take (end - from) (drop from positions))) → z ≡ countBelow n (seamAt run positions) → w ≡ z → anyBelow n (wrongPlaces run positions) ≡ false
+        falls-right w z g h e =
+            right-falls most small same-bound (sym (subst (λ (y : ℕ). w ≡ countBelow (length (take (end - y) (drop y positions))) (dropAt (take (end - y) (drop y positions)))) f g) ∙ e ∙ h)
+
+        pub ones-right : ((i : ℕ) → i < n → frequencyAt run i ≤ 1) → anyBelow n (wrongPlaces run positions) ≡ false
+        ones-right = right-ones most small same-bound
 
       -- what `seams` reads lies within the slice
       pub seam-within : (i : ℕ) → 0 < i → i < n → (0 < indexAt run i) × (indexAt run i < length positions)
@@ -119,17 +143,6 @@ module _ (run : List ℕ) (n : ℕ) (joined : anyBelow n (apartAt run) ≡ false
       seam-within (suc i) h l = (omega (arith, index-is (suc i) l, before-next (frequencyAt run) i, above i (omega arith)), omega (arith, ends-within (suc i) l, above (suc i) l))
 
 -- ---- the loops
-pub apart-first : (run : List ℕ) → false ≡ anyBelow 1 (apartAt run)
-unfolding anyBelow apartAt
-apart-first run = refl
-
-pub apart-turn : (run : List ℕ) (i w next : ℕ) → 0 < i → w ≡ indexAt run i → next ≡ indexAt run (i - 1) + frequencyAt run (i - 1) → not (eqb w next) ≡ apartAt run i
-unfolding apartAt
-apart-turn run i w next h e g = rw (lt-ltb _ _ h, e, g)
-
-pub apart-next : (run : List ℕ) (i x : ℕ) → x ≡ indexAt run i + frequencyAt run i → x ≡ indexAt run (i + 1 - 1) + frequencyAt run (i + 1 - 1)
-apart-next run i x e = e ∙ rw (add-sub-cancel i 1)
-
 pub seam-first : (run positions : List ℕ) → _≡_ {A = ℕ} 0 (countBelow 1 (seamAt run positions))
 unfolding countBelow seamAt
 seam-first run positions = refl
@@ -137,22 +150,3 @@ seam-first run positions = refl
 pub seam-turn : (run positions : List ℕ) (i w : ℕ) → 0 < i → w ≡ indexAt run i → ltb (getD positions w 0) (getD positions (w - 1) 0) ≡ seamAt run positions i
 unfolding seamAt
 seam-turn run positions i w h e = rw (lt-ltb _ _ h, e)
-
--- the pass over positions
-fall-flag : (part : List ℕ) (k : ℕ) → ltb (getD part k 0) (previousOf part k) ≡ fallAt part k
-unfolding fallAt
-fall-flag part zero = le-ltb (getD part 0 0) 0 (omega arith)
-fall-flag part (suc k) = let h : 0 < suc k = omega arith in rw (pred-suc, lt-ltb _ _ h)
-
-abbrev seen : Bool → ℕ → Seen
-seen b f = record { high = b; falls = f }
-
-pub fall-turn : (part : List ℕ) (k p : ℕ) → p ≡ previousOf part k → ltb (getD part k 0) p ≡ fallAt part k
-fall-turn part k p e = ap (λ (x : ℕ). ltb (getD part k 0) x) e ∙ fall-flag part k
-
-pub seen-turn : (part : List ℕ) (k a : ℕ) → leb 2147483648 a ≡ anyBelow k (λ j. ltb noMoreDocs (getD part j 0)) → leb 2147483648 (bitOr a (getD part k 0)) ≡ anyBelow (k + 1) (λ j. ltb noMoreDocs (getD part j 0))
-seen-turn part k a e = high-or 31 a (getD part k 0) ∙ any-more k (λ j. ltb noMoreDocs (getD part j 0)) (leb 2147483648 a) _ e refl
-
-pub seen-all : (part : List ℕ) (k a f : ℕ) → leb 2147483648 a ≡ anyBelow k (λ j. ltb noMoreDocs (getD part j 0)) → f ≡ countBelow k (fallAt part) → k ≤ length part → length part ≤ k → seen (leb 2147483648 a) f ≡ seenOf part
-seen-all part k a f e g l m =
-    let s : k ≡ length part = omega arith in ap (λ (b : Bool). seen b f) (e ∙ ap (λ (x : ℕ). anyBelow x (λ j. ltb noMoreDocs (getD part j 0))) s) ∙ ap (λ (x : ℕ). seen (anyBelow (length part) (λ j. ltb noMoreDocs (getD part j 0))) x) (g ∙ ap (λ (x : ℕ). countBelow x (fallAt part)) s)

@@ -13,3 +13,10 @@ pub mod Accepted
 pub mod PostingAt
 pub mod Prefix
 pub mod Joined
+pub mod From
+pub mod Gaps
+pub mod Over
+pub mod Rows
+pub mod Plain
+pub mod Adjoined
+pub mod Stretches

@@ -26,7 +26,7 @@ unfolding anyBelow countBelow
 count-any zero p = refl
 count-any (suc n) p = above-add (countBelow n p) (cond (p n) 1 0) ∙ ap (λ (b : Bool). b || ltb 0 (cond (p n) 1 0)) (count-any n p) ∙ ap (λ (b : Bool). anyBelow n p || b) (above-cond (p n))
 
-count-like : (n : ℕ) (p q : ℕ → Bool) → ((i : ℕ) → i < n → p i ≡ q i) → countBelow n p ≡ countBelow n q
+pub count-like : (n : ℕ) (p q : ℕ → Bool) → ((i : ℕ) → i < n → p i ≡ q i) → countBelow n p ≡ countBelow n q
 unfolding countBelow
 count-like zero p q h = refl
 count-like (suc n) p q h = rw (count-like n p q (λ i l. h i (omega arith)), h n (le-refl _))
@@ -34,7 +34,7 @@ count-like (suc n) p q h = rw (count-like n p q (λ i l. h i (omega arith)), h n
 add-shift : (a b c : ℕ) → a + b + c ≡ a + (b + c)
 add-shift a b c = omega arith
 
-count-add : (a b : ℕ) (p : ℕ → Bool) → countBelow (a + b) p ≡ countBelow a p + countBelow b (λ i. p (a + i))
+pub count-add : (a b : ℕ) (p : ℕ → Bool) → countBelow (a + b) p ≡ countBelow a p + countBelow b (λ i. p (a + i))
 unfolding countBelow
 count-add a zero p = rw add-zero (sym (add-zero (countBelow a p)))
 count-add a (suc b) p = rw (add-suc, count-add a b p) (add-shift (countBelow a p) (countBelow b (λ i. p (a + i))) (cond (p (a + b)) 1 0))

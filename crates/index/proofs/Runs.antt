@@ -38,7 +38,7 @@ module _ (run positions : List ℕ) (i from end : ℕ) (e : from ≡ getD run (3
   places-past h = let k : length positions < getD run (3 * i + 2) 0 + getD run (3 * i + 1) 0 = omega arith in rw (lt-ltb _ _ k)
 
 -- the positions of a posting of the leaf, asked of the slice from its index on
-places-are : (ix : Index) (l i j : ℕ) → wrongPlace (drop (leafPositionsIndex ix l i) (ix .positions)) j ≡ wrongPosition ix l i j
+pub places-are : (ix : Index) (l i j : ℕ) → wrongPlace (drop (leafPositionsIndex ix l i) (ix .positions)) j ≡ wrongPosition ix l i j
 unfolding wrongPlace wrongPosition
 places-are ix l i j = rw (getD-drop, getD-drop)
 

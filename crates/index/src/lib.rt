@@ -1,6 +1,8 @@
 // The lent records of an index: readers equal to the definitions' accessors, and the loader's refusals 1 to 6.
+pub mod adjacent;
 pub mod columns;
 pub mod fields;
+pub mod laid;
 pub mod leaves;
 pub mod live;
 pub mod norms;

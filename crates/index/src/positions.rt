@@ -1,10 +1,11 @@
 // The positions of a run's postings.
 ghost use mathlib.Core.Path.{_≡_};
+ghost use mathlib.Core.Bool.{true, false};
 ghost use Prim.Native.Nat.{ℕ, _<_, _≤_, _+_, _*_, _/_};
 ghost use lib.ListN.{length, getD};
 ghost use Rattle.meaning.specs.Below.{anyBelow, countBelow};
 ghost use Rattle.index.specs.Runs.{wrongPlace, wrongPlaces, apartAt, seamAt};
-ghost use Rattle.index.specs.Records.{seenOf};
+ghost use Rattle.index.specs.Gaps.{dropAt};
 use super::postings::NO_MORE_DOCS;
 use super::sum;
 use super::wide;
@@ -27,7 +28,7 @@ fn wrong_places(part: &[u32]) -> bool
 }
 
 // The positions of a run's postings, where they lie within the slice.
-fn wrong_run_places(run: &[u32], positions: &[u32]) -> bool
+pub fn wrong_run_places(run: &[u32], positions: &[u32]) -> bool
     ensures { λ r. ⌜ r ≡ anyBelow (length (now (run .entry)) / 3) (wrongPlaces (now (run .entry)) (now (positions .entry))) ⌝ }
 {
     let count = run.len() / 3;
@@ -46,52 +47,41 @@ fn wrong_run_places(run: &[u32], positions: &[u32]) -> bool
     bad
 }
 
-// Whether some record's positions do not begin where those of the record before end.
-fn apart(run: &[u32]) -> bool
-    requires { ⌜ 0 < length (now run) / 3 ⌝ }
-    ensures { λ r. ⌜ r ≡ anyBelow (length (now (run .entry)) / 3) (apartAt (now (run .entry))) ⌝ }
+// The or of positions.
+fn or_all(part: &[u32]) -> u32
+    ensures { λ r. ⌜ ((k : ℕ) → k < length (now (part .entry)) → getD (now (part .entry)) k 0 ≤ r) ⌝ }
 {
-    let count = run.len() / 3;
-    let mut bad = false;
-    let mut next = sum(run[2], run[1]);
-    let mut i = 1;
-    while i < count {
-        let index = run[3 * i + 2];
-        bad = bad | (wide(index) != next);
-        next = sum(index, run[3 * i + 1]);
-        i += 1;
+    let mut all: u32 = 0;
+    let mut k = 0;
+    while k < part.len() {
+        all = all | part[k];
+        k += 1;
     }
-    bad
+    all
 }
 
 // What one pass over positions sees.
 pub struct Seen {
-    pub high: bool,
+    pub all: u32,
     pub falls: u32,
 }
 
-// Whether a position is too large, and how often one falls.
+// The or of positions, and how often one falls, by the high bit of the difference.
 fn seen_in(part: &[u32]) -> Seen
-    requires { ⌜ length (now part) ≤ 4294967295 ⌝ }
-    ensures { λ r. ⌜ r ≡ seenOf (now (part .entry)) ⌝ }
+    requires { ⌜ (0 < length (now part)) × (length (now part) ≤ 4294967295) ⌝ }
+    ensures { λ r. ⌜ ((k : ℕ) → k < length (now (part .entry)) → getD (now (part .entry)) k 0 ≤ r .all) ⌝ }
+    ensures { λ r. ⌜ r .falls ≡ countBelow (length (now (part .entry))) (dropAt (now (part .entry))) ⌝ }
 {
-    let mut all: u32 = 0;
+    let mut all = part[0];
     let mut falls: u32 = 0;
-    let mut previous: u32 = 0;
-    let mut k = 0;
+    let mut k = 1;
     while k < part.len() {
         let place = part[k];
         all = all | place;
-        if place < previous {
-            falls += 1;
-        }
-        previous = place;
+        falls = falls + (wrapping_sub_u32(place, part[k - 1]) >> 31);
         k += 1;
     }
-    Seen {
-        high: all > NO_MORE_DOCS,
-        falls,
-    }
+    Seen { all, falls }
 }
 
 // How often a position falls where a record's positions begin.
@@ -113,28 +103,27 @@ fn seams(run: &[u32], positions: &[u32]) -> usize
     falls
 }
 
-// The positions of a run in which every frequency is above 0. Where the postings' positions follow one another, as a writer
-// lays them, they are read as one part: falls are then as many as those from one posting to the next, or one is wrong.
-pub fn wrong_run_positions(run: &[u32], positions: &[u32]) -> bool
-    requires { ⌜ ((i : ℕ) → i < length (now run) / 3 → 0 < getD (now run) (3 * i + 1) 0) ⌝ }
-    ensures { λ r. ⌜ r ≡ anyBelow (length (now (run .entry)) / 3) (wrongPlaces (now (run .entry)) (now (positions .entry))) ⌝ }
+// Whether positions that follow one another, as a writer lays them, are plainly right: read as one part they fall as often as
+// from one posting to the next. Where no frequency is above 1 there is no other fall.
+pub fn plain_positions(run: &[u32], positions: &[u32], frequencies: u32) -> bool
+    requires { ⌜ 0 < length (now run) / 3 ⌝ }
+    requires { ⌜ anyBelow (length (now run) / 3) (apartAt (now run)) ≡ false ⌝ }
+    requires { ⌜ ((i : ℕ) → i < length (now run) / 3 → (0 < getD (now run) (3 * i + 1) 0) × (getD (now run) (3 * i + 1) 0 ≤ frequencies)) ⌝ }
+    ensures { λ r. ⌜ (r ≡ true → anyBelow (length (now (run .entry)) / 3) (wrongPlaces (now (run .entry)) (now (positions .entry))) ≡ false) ⌝ }
 {
     let count = run.len() / 3;
-    if count == 0 {
-        return false;
-    }
-    if apart(run) {
-        return wrong_run_places(run, positions);
-    }
     let last = 3 * (count - 1);
     let from = wide(run[2]);
     let end = sum(run[last + 2], run[last + 1]);
     if end > positions.len() {
-        return true;
+        return false;
     }
     if end - from > 4294967295 {
-        return wrong_run_places(run, positions);
+        return false;
+    }
+    if frequencies <= 1 {
+        return or_all(&positions[from..end]) <= NO_MORE_DOCS;
     }
     let seen = seen_in(&positions[from..end]);
-    seen.high | (wide(seen.falls) != seams(run, positions))
+    (seen.all <= NO_MORE_DOCS) & (wide(seen.falls) == seams(run, positions))
 }

@@ -2,16 +2,17 @@
 ghost use mathlib.Core.Path.{_≡_};
 ghost use mathlib.Core.List.{[]};
 ghost use mathlib.Core.Bool.{false};
-ghost use Prim.Native.Nat.{_<_, _≤_, _+_, _/_};
+ghost use Prim.Native.Nat.{_<_, _≤_, _+_, _-_, _/_};
 ghost use lib.ListN.{length};
 ghost use Rattle.meaning.specs.Below.{anyBelow};
 ghost use Rattle.meaning.specs.Lent.{leafNumber};
 ghost use Rattle.meaning.specs.IndexRefusals.{wrong4, wrong5, wrongPosting};
 ghost use Rattle.index.specs.Slices.{leavesOnly, runsOnly};
 ghost use Rattle.index.specs.Runs.{postingDocument, postingFrequency, postingIndex, wrongRecord};
+use super::adjacent::plain_leaves;
 use super::fields::field_at;
 use super::leaves::leaf_at;
-use super::positions::wrong_run_positions;
+use super::positions::wrong_run_places;
 use super::wide;
 use std::num::wrapping_add_u32;
 use std::num::wrapping_sub_u32;
@@ -19,7 +20,7 @@ use std::num::wrapping_sub_u32;
 // The limits of document 01: NO_MORE_DOCS is also the largest position; a frequency of 1 to 16,777,216.
 pub const NO_MORE_DOCS: u32 = 2147483647;
 
-const LARGEST_FREQUENCY: u32 = 16777216;
+pub const LARGEST_FREQUENCY: u32 = 16777216;
 
 // The document of the i-th posting at or after posting first.
 pub fn posting_document(postings: &[u32], first: usize, i: usize) -> u32
@@ -93,14 +94,38 @@ fn wrong_run(
         if wrong_records(run, max_doc, true) {
             true
         } else {
-            wrong_run_positions(run, positions)
+            wrong_run_places(run, positions)
         }
     } else {
         wrong_records(run, max_doc, false)
     }
 }
 
-// 5, the posting words: not whole, or something wrong in a leaf's run.
+// The runs of the leaves from l on, below `end`, one by one.
+fn wrong_runs(
+    max_doc: u32,
+    fields: &[u32],
+    leaves: &[u32],
+    postings: &[u32],
+    positions: &[u32],
+    l: usize,
+    end: usize,
+) -> bool
+    requires { ⌜ «max_doc» ≤ 1048576 ⌝ }
+    requires { ⌜ wrong4 (leavesOnly (now fields) (now leaves) (now postings)) ≡ false ⌝ }
+    requires { ⌜ (l ≤ end) × (end ≤ length (now leaves) / 4) ⌝ }
+    ensures { λ r. ⌜ r ≡ anyBelow (end - l) (λ i. anyBelow (leafNumber (leavesOnly [] (now (leaves .entry)) []) (l + i)) (wrongPosting (runsOnly «max_doc» (now (fields .entry)) (now (leaves .entry)) (now (postings .entry)) (now (positions .entry))) (l + i))) ⌝ }
+{
+    let mut bad = false;
+    let mut k = l;
+    while k < end {
+        bad = bad | wrong_run(max_doc, fields, leaves, postings, positions, k);
+        k += 1;
+    }
+    bad
+}
+
+// 5, the posting words: not whole, or something wrong in a leaf's run. Leaves that are not plainly right are read one by one.
 pub fn wrong_postings(
     max_doc: u32,
     fields: &[u32],
@@ -119,8 +144,12 @@ pub fn wrong_postings(
     let mut bad = false;
     let mut l = 0;
     while l < count {
-        bad = bad | wrong_run(max_doc, fields, leaves, postings, positions, l);
-        l += 1;
+        let turn = plain_leaves(max_doc, fields, leaves, postings, positions, l, count);
+        let end = turn.end;
+        if !turn.fine {
+            bad = bad | wrong_runs(max_doc, fields, leaves, postings, positions, l, end);
+        }
+        l = end;
     }
     bad
 }

@@ -1,6 +1,5 @@
 -- `index::postings::wrong_run` meets its contract. Assumes nothing.
 use mathlib.Core.Bool.{true, false}
-use Rattle.index.proofs.Joined.{records-some}
 use mathlib.Core.Path.{_≡_, sym, ap, _∙_, refl}
 use Prim.Native.Nat.{ℕ}
 use native.Mathlib.Omega.{arith}
@@ -78,8 +77,8 @@ part-run-end c = omega (arith, first-is c, number-is c, ok (start c) .words)
 wrong-records-requires : tie.Need-wrong-records-requires
 wrong-records-requires c κs = search needs
 
-wrong-run-positions-requires : tie.Need-wrong-run-positions-requires
-wrong-run-positions-requires c κs = records-some _ _ _ _ (sym (c .before .wrong-records .ensures) ∙ c .if2 .left)
+wrong-run-places-requires : tie.Need-wrong-run-places-requires
+wrong-run-places-requires c κs = search needs
 
 wrong-records-requires-2 : tie.Need-wrong-records-requires-2
 wrong-records-requires-2 c κs = search needs
@@ -88,7 +87,7 @@ returns : tie.Need-returns
 returns c = let a = c .before .before .before .before .before in let s = start a in run-flag-with (ix s) (s .args .l) (ok s .run) _ _ (first-is a) (number-is a) true _ (sym (c .if2 .taken) ∙ c .before .wrong-records .ensures) refl (eq-eqb _ _ (sym (flag-is a) ∙ c .before .before .if1 .taken))
 
 returns-2 : tie.Need-returns-2
-returns-2 c = let a = c .before .before .before .before .before .before in let s = start a in run-flag-with (ix s) (s .args .l) (ok s .run) _ _ (first-is a) (number-is a) false _ (sym (c .before .if2 .left) ∙ c .before .before .wrong-records .ensures) (c .wrong-run-positions .ensures) (eq-eqb _ _ (sym (flag-is a) ∙ c .before .before .before .if1 .taken))
+returns-2 c = let a = c .before .before .before .before .before .before in let s = start a in run-flag-with (ix s) (s .args .l) (ok s .run) _ _ (first-is a) (number-is a) false _ (sym (c .before .if2 .left) ∙ c .before .before .wrong-records .ensures) (c .wrong-run-places .ensures) (eq-eqb _ _ (sym (flag-is a) ∙ c .before .before .before .if1 .taken))
 
 returns-3 : tie.Need-returns-3
 returns-3 c = let a = c .before .before .before .before in let s = start a in run-flag-without (ix s) (s .args .l) (ok s .run) _ _ (first-is a) (number-is a) _ (c .wrong-records2 .ensures) (ne-eqb _ _ (λ e. c .before .if1 .left (flag-is a ∙ e)))
@@ -110,7 +109,7 @@ wrong-run-spec =
     part-run-start
     part-run-end
     wrong-records-requires
-    wrong-run-positions-requires
+    wrong-run-places-requires
     wrong-records-requires-2
     returns
     returns-2
