@@ -39,20 +39,28 @@ fn nearest(n: u64, u: u64) -> u64
     if above < below + q % 2 { q + 1 } else { q }
 }
 
-// `narrow` of a pattern whose sign is clear and that is no NaN's.
-fn magnitude(bits: u64) -> f32
-    requires { ⌜ bits ≤ 2047 * 2 ^ 52 ⌝ }
+// `narrow` of a pattern below 2^-126: zero, or subnormal.
+fn small(bits: u64) -> f32
+    requires { ⌜ bits < 0x3810_0000_0000_0000 ⌝ }
     ensures { λ r. ⌜ r ≡ narrow (ofBits binary64 bits) ⌝ }
 {
     if bits < 0x3690_0000_0000_0000 {
         // below 2^-150, half of the smallest f32
         return 0.0;
     }
+    // a multiple of 2^-149
+    let digits = bits % 0x10_0000_0000_0000 + 0x10_0000_0000_0000;
+    let unit = 1u64 << (926 - bits / 0x10_0000_0000_0000);
+    f32::from_bits(nearest(digits, unit) as u32)
+}
+
+// `narrow` of a pattern whose sign is clear and that is no NaN's.
+fn magnitude(bits: u64) -> f32
+    requires { ⌜ bits ≤ 2047 * 2 ^ 52 ⌝ }
+    ensures { λ r. ⌜ r ≡ narrow (ofBits binary64 bits) ⌝ }
+{
     if bits < 0x3810_0000_0000_0000 {
-        // below 2^-126: the result is subnormal, a multiple of 2^-149
-        let digits = bits % 0x10_0000_0000_0000 + 0x10_0000_0000_0000;
-        let unit = 1u64 << (926 - bits / 0x10_0000_0000_0000);
-        return f32::from_bits(nearest(digits, unit) as u32);
+        return small(bits);
     }
     // 29 digits go. A carry out of the digits is one more in the exponent's field.
     let short = nearest(bits, 0x2000_0000) - 0x1_c000_0000;
@@ -78,10 +86,13 @@ pub fn narrow(x: f64) -> f32
     }
 }
 
-// A length as the nearest f32: binary64 holds it, so it is rounded once.
+// A length as the nearest f32: most lengths are exact; binary64 holds the others, so that they are rounded once.
 pub fn length_to_f32(n: u32) -> f32
     ensures { λ r. ⌜ r ≡ ofInt binary32 (pos n) ⌝ }
 {
+    if n <= 0x100_0000 {
+        return n as f32;
+    }
     narrow(n as f64)
 }
 

@@ -1,5 +1,4 @@
 -- What the proofs of this crate share.
-pub mod Collecting
 pub mod Rooms
 pub mod Preparing
 pub mod Refusing

@@ -1,5 +1,4 @@
 -- What the entries are lent, and what their answers say in document 01's numbers.
 pub mod Lends
 pub mod Answers
-pub mod Collects
 pub mod Runs

@@ -1,5 +1,4 @@
 // The entries that the sale office calls.
-pub mod collect;
 pub mod length;
 pub mod order;
 pub mod page;

@@ -4,7 +4,7 @@ ghost use Prim.Native.Nat.{ℕ, _≤_, _<_, min};
 ghost use lib.ListN.{length};
 ghost use Rattle.meaning.specs.Limits.{maxHits};
 ghost use Rattle.scorer.specs.Contracts.{lent};
-ghost use Rattle.searcher.specs.Collects.{CollectPre, CollectPost};
+ghost use Rattle.bulk.specs.Collects.{CollectPre, CollectPost};
 use collector::TopDocs;
 use collector::TopScoreDocCollector;
 use score::walk::NO_MORE_DOCS;

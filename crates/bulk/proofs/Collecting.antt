@@ -31,7 +31,7 @@ use Rattle.score.specs.Asked.{LentAt, ScoreIs, ScorePre, ScorePost}
 use Rattle.score.specs.Walks.{liveMatch, scored, liveScored, NextPre, NextPost, PageHeld}
 use Rattle.score.proofs.Loops.{scorable-at}
 use Rattle.score.proofs.Pages.{match-is, walk-end, walk-next}
-use Rattle.searcher.specs.Collects.{CollectPre, CollectPost}
+use Rattle.bulk.specs.Collects.{CollectPre, CollectPost}
 
 -- every document is at or after 0
 pub from-zero : (list : List ScoreDoc) → fromTarget 0 list ≡ list

@@ -6,9 +6,9 @@ use native.Mathlib.Omega.{arith}
 use lib.ListN.{length}
 use Rattle.meaning.specs.Limits.{noMoreDocs}
 use Rattle.score.proofs.Loops.{places-same}
-use Rattle.searcher.proofs.Collecting.{Call, GatheredAt, gather-start, gather-asks, gather-ready, gather-from, gather-done, gather-below, gather-score-asks, gather-clear, gather-more}
-use Rattle.searcher.proofs.collect.collect_matches.Statement.{statement}
-use Rattle.searcher.proofs.collect.collect_matches.Tie as tie
+use Rattle.bulk.proofs.Collecting.{Call, GatheredAt, gather-start, gather-asks, gather-ready, gather-from, gather-done, gather-below, gather-score-asks, gather-clear, gather-more}
+use Rattle.bulk.proofs.default.collect_matches.Statement.{statement}
+use Rattle.bulk.proofs.default.collect_matches.Tie as tie
 
 abbrev Inv-loop : tie.InvT-loop
 Inv-loop st₀ max-doc postings positions norms ranges inverses live a₀ b₀ t depth heap₀ c₀ from₀ st a b heap c from =
