@@ -265,7 +265,7 @@ fn place_boolean(
         return place_nothing(st, scores);
     }
     let msm = query::value(q, at, 0);
-    let required = has_required(q, nexts, presents, costs, at);
+    let required = has_required(q, nexts, at);
     let first = place_required(
         &mut st[24..],
         q,
