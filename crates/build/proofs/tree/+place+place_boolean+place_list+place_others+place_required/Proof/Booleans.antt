@@ -6,7 +6,7 @@ use lib.Dec.{T}
 use lib.ListN.{length}
 use Prim.Native.Nat.{ℕ, _+_, _-_, _≤_, _<_}
 use Rattle.meaning.specs.Query.{recordCount}
-use Rattle.build.specs.Prepared.{records}
+use Rattle.node_words.specs.Prepared.{records}
 use Rattle.build.proofs.PlacingBooleans.{tree-here, tree-room, tree-deep, tree-kept, tree-present, nothing-placed, boolean-known, boolean-required, first-fits, boolean-optional, second-fits, boolean-prohibited, whole-fits, whole-small, group-within, whole-placed}
 use Rattle.build.proofs.tree.place_boolean.Reads as place-boolean
 use Rattle.build.proofs.tree.+place+place_boolean+place_list+place_others+place_required.Lts-place_boolean as place-boolean-lts
