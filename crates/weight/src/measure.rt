@@ -336,8 +336,8 @@ fn list_range(
     if query::kind(q, at) != 4 {
         return 0;
     }
-    let lower = doc_values::joined(query::value(q, at, 2), query::value(q, at, 3));
-    let upper = doc_values::joined(query::value(q, at, 4), query::value(q, at, 5));
+    let lower = column_keys::joined(query::value(q, at, 2), query::value(q, at, 3));
+    let upper = column_keys::joined(query::value(q, at, 4), query::value(q, at, 5));
     doc_values::range_list(
         max_doc,
         columns,
