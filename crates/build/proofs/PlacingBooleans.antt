@@ -22,7 +22,7 @@ use Rattle.query.proofs.Spans.{tree-span}
 use Rattle.query.proofs.Whole.{whole}
 use Rattle.weight.specs.Weigh.{Ready, chosen, scorersOf, upToCost, booleanOf, noScorer, weigh, readied}
 use Rattle.weight.specs.State.{wordsOf, sizeOf, sizesOf}
-use Rattle.weight.proofs.Clauses.{absent, present}
+use Rattle.weight.proofs.Presence.{absent, present}
 use Rattle.weight.proofs.Standing.{deep}
 use Rattle.weight.proofs.Sizes.{weigh-size}
 use Rattle.weight.proofs.Queries.{tree-shape}

@@ -30,7 +30,7 @@ pub fn build(
 {
     let mut places: [u32; 256] = [0; 256];
     let mut counts: [u32; 256] = [0; 256];
-    weight::measure::list_ranges(
+    measure::list_ranges(
         q,
         max_doc,
         columns,
@@ -42,7 +42,7 @@ pub fn build(
     let mut nexts: [usize; 256] = [0; 256];
     let mut presents: [u32; 256] = [0; 256];
     let mut costs: [u64; 256] = [0; 256];
-    weight::measure::measure_all(
+    measure::measure_all(
         q,
         max_doc,
         leaves,

@@ -316,7 +316,7 @@ fn place_boolean(
         depth - 1,
     );
     let size = 24 + optional_end + nots;
-    let need = weight::measure::shoulds_needed(required, msm);
+    let need = measure::shoulds_needed(required, msm);
     put_boolean(
         st,
         size,

@@ -24,7 +24,7 @@ use Rattle.ieee754.specs.Nonneg.{AtMost}
 use Rattle.ieee754.proofs.Bounds.{atmost-more}
 use Rattle.sim.proofs.ScoreBounds.{weight-atmost, phrase-weight-atmost}
 use Rattle.weight.proofs.Standing.{deep}
-use Rattle.weight.proofs.Clauses.{absent, present}
+use Rattle.weight.proofs.Presence.{absent, present}
 use Rattle.weight.specs.ScorerTree.{Leaf, nothing, term, phrase, range, everything, constant, Scorer, leaf, boolean}
 use Rattle.weight.specs.State.{leafSize, sizeOf}
 use Rattle.weight.specs.Weigh.{weigh, noScorer}

@@ -36,7 +36,7 @@ use Rattle.build.proofs.tree.put_boolean.Reads as put-boolean-reads
 use Rattle.query.proofs.kind.Reads as kind-reads
 use Rattle.query.proofs.occurrence.Reads as occurrence-reads
 use Rattle.query.proofs.value.Reads as value-reads
-use Rattle.weight.proofs.measure.shoulds_needed.Reads as shoulds-needed-reads
+use Rattle.measure.proofs.shoulds_needed.Reads as shoulds-needed-reads
 
 abbrev pub μ-place : Measures 9 place-kinds.ps ℕ
 μ-place κs a = a .1 .1 .1 .1 .1 .1 .1 .1 .1 .1 .1 .1 .1 .1 .1 .0 * 4 + 1
