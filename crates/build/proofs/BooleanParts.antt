@@ -17,9 +17,9 @@ use Rattle.weight.specs.ScorerTree.{afterwards, matches}
 use Rattle.weight.specs.State.{State, wordsOf, sizeOf, sizesOf, sizesOfFirst}
 use Rattle.weight.specs.Weigh.{Ready, cheapestFirst, chosen, scorersOf, upToCost, joiningOf, booleanOf, readied}
 use Rattle.weight.specs.Held.{Ok, Oks, FloatIs, KeptIs, JoiningIs}
-use Rattle.build.specs.Placed.{Placed, keptOf, booleanState}
-use Rattle.build.specs.Prepared.{PlacedAll}
-use Rattle.build.proofs.Placing.{no-cache, score-is}
+use Rattle.node_words.specs.Placed.{Placed, keptOf, booleanState}
+use Rattle.build.specs.Parts.{PlacedAll}
+use Rattle.node_words.proofs.Placing.{no-cache, score-is}
 
 -- ---- one list after another
 pub oks-append : (ix : Index) (ranges : List ℕ) (xs ys : List Ready) (d : ℕ) (x y : List ℕ) (b : ℕ) → Oks ix ranges (scorersOf xs) d x b → Oks ix ranges (scorersOf ys) d y b → Oks ix ranges (scorersOf (xs ++ ys)) d (x ++ y) b

@@ -24,10 +24,10 @@ use Rattle.weight.proofs.Standing.{deep}
 use Rattle.weight.specs.ScorerTree.{Scorer}
 use Rattle.weight.specs.State.{sizeOf}
 use Rattle.weight.specs.Weigh.{weigh}
-use Rattle.build.specs.Placed.{Placed, keptOf}
-use Rattle.build.specs.Prepared.{Records, Prepared, TreeAsked, TreePre, TreePost}
-use Rattle.build.proofs.AtRecord.{at-here, boost-small, score-small}
-use Rattle.build.proofs.Weighing.{weigh-constant, weigh-boost}
+use Rattle.node_words.specs.Placed.{Placed, keptOf}
+use Rattle.node_words.specs.Prepared.{Records, Prepared, TreeAsked, TreePre, TreePost}
+use Rattle.node_words.proofs.AtRecord.{at-here, boost-small, score-small}
+use Rattle.node_words.proofs.Weighing.{weigh-constant, weigh-boost}
 
 -- the code's 0.0
 zero-bits : ofBits binary32 0 ≡ zeroFloat

@@ -22,14 +22,15 @@ use Rattle.query.proofs.Spans.{tree-span}
 use Rattle.query.proofs.Whole.{whole}
 use Rattle.weight.specs.Weigh.{Ready, chosen, scorersOf, upToCost, booleanOf, noScorer, weigh, readied}
 use Rattle.weight.specs.State.{wordsOf, sizeOf, sizesOf}
-use Rattle.weight.proofs.Clauses.{absent, present}
+use Rattle.weight.proofs.Presence.{absent, present}
 use Rattle.weight.proofs.Standing.{deep}
 use Rattle.weight.proofs.Sizes.{weigh-size}
 use Rattle.weight.proofs.Queries.{tree-shape}
-use Rattle.build.specs.Placed.{Placed, keptOf, booleanState}
-use Rattle.build.specs.Prepared.{Records, Prepared, TreeAsked, PlacedAll, PartAsked, TreePre, TreePost, RequiredPre, RequiredPost, OthersPre, OthersPost}
+use Rattle.node_words.specs.Placed.{Placed, keptOf, booleanState}
+use Rattle.node_words.specs.Prepared.{Records, Prepared, TreeAsked, TreePre, TreePost}
+use Rattle.build.specs.Parts.{PlacedAll, PartAsked, RequiredPre, RequiredPost, OthersPre, OthersPost}
 use Rattle.clauses.specs.Clauses.{ClausesAsked, ClausesKnown, SomeClauses, requiredOf, othersOf}
-use Rattle.build.proofs.AtRecord.{at-here, record-room, present-word}
+use Rattle.node_words.proofs.AtRecord.{at-here, record-room, present-word}
 use Rattle.build.proofs.BooleanParts.{sizes-first, boolean-whole}
 use Rattle.clauses.proofs.ClauseLaws.{others-should, others-not}
 use Rattle.build.proofs.PlacingParts.{part-known, sizes-split}

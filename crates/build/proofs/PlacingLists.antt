@@ -19,8 +19,9 @@ use Rattle.query.proofs.Inverse.{occur-number, occurNumber}
 use Rattle.weight.specs.Weigh.{Ready, scorersOf, weigh}
 use Rattle.weight.specs.State.{sizeOf, sizesOf}
 use Rattle.weight.specs.Held.{Ok, Oks}
-use Rattle.build.specs.Placed.{Placed}
-use Rattle.build.specs.Prepared.{Records, Prepared, PlacedAll, TreeAsked, ListPre, ListPost, TreePre, TreePost}
+use Rattle.node_words.specs.Placed.{Placed}
+use Rattle.node_words.specs.Prepared.{Records, Prepared, TreeAsked, TreePre, TreePost}
+use Rattle.build.specs.Parts.{PlacedAll, ListPre, ListPost}
 use Rattle.clauses.specs.Clauses.{ReadyAt, ReadiesAt}
 use Rattle.build.proofs.BooleanParts.{oks-append, sizes-append}
 use Rattle.clauses.proofs.ClauseLaws.{readies-length, readies-here}

@@ -11,7 +11,8 @@ use Rattle.meaning.specs.Query.{DecodedClauses}
 use Rattle.meaning.specs.Cost.{costs, disjunctionCost}
 use Rattle.weight.specs.Weigh.{Ready, scorersOf, upToCost}
 use Rattle.weight.specs.State.{sizesOf, sizesOfFirst}
-use Rattle.build.specs.Prepared.{Records, PartAsked, PlacedAll, ListPre, ListPost, RequiredPre, RequiredPost, OthersPre, OthersPost}
+use Rattle.node_words.specs.Prepared.{Records}
+use Rattle.build.specs.Parts.{PartAsked, PlacedAll, ListPre, ListPost, RequiredPre, RequiredPost, OthersPre, OthersPost}
 use Rattle.clauses.specs.Clauses.{ClausesKnown, SomeClauses, ReadiesAt, noDearer, requiredOf, othersOf}
 use Rattle.build.proofs.BooleanParts.{sizes-append, sizes-first}
 use Rattle.clauses.proofs.ClauseLaws.{readies-take, readies-drop, readies-here, no-dearer-is}

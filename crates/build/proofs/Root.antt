@@ -21,8 +21,8 @@ use Rattle.weight.specs.Weigh.{weigh}
 use Rattle.weight.specs.Measured.{Asks, Known, Measured, RangesListed}
 use Rattle.weight.proofs.Weights.{carried-one}
 use Rattle.weight.proofs.Queries.{query-size}
-use Rattle.build.specs.Placed.{LeafLent, Placed}
-use Rattle.build.specs.Prepared.{records, Prepared, TreeAsked, TreePre, TreePost}
+use Rattle.node_words.specs.Placed.{LeafLent, Placed}
+use Rattle.node_words.specs.Prepared.{records, Prepared, TreeAsked, TreePre, TreePost}
 
 -- 0.0, of a score that is not kept
 abbrev pub noScore : Float

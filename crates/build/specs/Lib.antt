@@ -1,4 +1,2 @@
 -- What the words of a query's scorer tree are when they are written.
-pub mod Placed
-pub mod Prepared
-pub mod Inverses
+pub mod Parts

@@ -1,7 +1,4 @@
 // The node states of a query: its scorer tree in the lent words.
-pub mod inverses;
-pub mod leaf;
-pub mod place;
 pub mod tree;
 
 ghost use mathlib.Core.Path.{_≡_};
@@ -14,7 +11,7 @@ ghost use Rattle.meaning.specs.Query.{queryTree};
 ghost use Rattle.meaning.specs.CallRefusals.{statesNeeded, rangesNeeded};
 ghost use Rattle.weight.specs.Measured.{Asks, Columns};
 ghost use Rattle.weight.specs.Weigh.{weigh};
-ghost use Rattle.build.specs.Placed.{Placed, LeafLent};
+ghost use Rattle.node_words.specs.Placed.{Placed, LeafLent};
 
 // The whole query: its scorer tree in the node states, the documents of its Range records in the range buffer; how many words of the states it takes.
 pub fn build(
@@ -33,7 +30,7 @@ pub fn build(
 {
     let mut places: [u32; 256] = [0; 256];
     let mut counts: [u32; 256] = [0; 256];
-    weight::measure::list_ranges(
+    measure::list_ranges(
         q,
         max_doc,
         columns,
@@ -45,7 +42,7 @@ pub fn build(
     let mut nexts: [usize; 256] = [0; 256];
     let mut presents: [u32; 256] = [0; 256];
     let mut costs: [u64; 256] = [0; 256];
-    weight::measure::measure_all(
+    measure::measure_all(
         q,
         max_doc,
         leaves,

@@ -11,18 +11,19 @@ ghost use Rattle.meaning.specs.Query.{Occur, occurOf, recordKind};
 ghost use Rattle.meaning.specs.Score.{passed};
 ghost use Rattle.ieee754.specs.Nonneg.{AtMost};
 ghost use Rattle.weight.specs.State.{wordsOf};
-ghost use Rattle.build.specs.Placed.{booleanState};
-ghost use Rattle.build.specs.Prepared.{records, TreePre, TreePost, ListPre, ListPost, RequiredPre, RequiredPost, OthersPre, OthersPost};
-use crate::leaf::kept_or;
-use crate::leaf::place_leaf;
-use crate::place::place_nothing;
-use crate::place::put;
-use crate::place::word;
+ghost use Rattle.node_words.specs.Placed.{booleanState};
+ghost use Rattle.node_words.specs.Prepared.{records, TreePre, TreePost};
+ghost use Rattle.build.specs.Parts.{ListPre, ListPost, RequiredPre, RequiredPost, OthersPre, OthersPost};
 use clauses::clauses_of;
 use clauses::group_cost;
 use clauses::has_required;
 use clauses::no_dearer;
 use clauses::required_clauses;
+use node_words::leaf::kept_or;
+use node_words::leaf::place_leaf;
+use node_words::place::place_nothing;
+use node_words::place::put;
+use node_words::place::word;
 
 // Must and Should pass the boost on, Filter and MustNot pass 0.
 fn passed_on(occurrence: u32, boost: f32) -> f32
@@ -265,7 +266,7 @@ fn place_boolean(
         return place_nothing(st, scores);
     }
     let msm = query::value(q, at, 0);
-    let required = has_required(q, nexts, presents, costs, at);
+    let required = has_required(q, nexts, at);
     let first = place_required(
         &mut st[24..],
         q,
@@ -315,7 +316,7 @@ fn place_boolean(
         depth - 1,
     );
     let size = 24 + optional_end + nots;
-    let need = weight::measure::shoulds_needed(required, msm);
+    let need = measure::shoulds_needed(required, msm);
     put_boolean(
         st,
         size,

@@ -1,6 +1,4 @@
 -- The laws that the proofs of this crate and of those above it cite.
-pub mod Tests
 pub mod Lists
-pub mod KeyOrder
 pub mod Ranges
 pub mod Example

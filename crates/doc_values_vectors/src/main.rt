@@ -67,7 +67,7 @@ const VALUES: [u32; 54] = [
 fn end_at(i: usize) -> u64
     requires { ⌜ i < 18 ⌝ }
 {
-    doc_values::joined(VALUES[3 * i + 1], VALUES[3 * i + 2])
+    column_keys::joined(VALUES[3 * i + 1], VALUES[3 * i + 2])
 }
 
 // An unbounded end is lent as 0.

@@ -17,7 +17,8 @@ use Rattle.collector.specs.declared.TopDocs.{TopDocs}
 use Rattle.searcher.specs.declared.search.Searched.{Searched}
 use Rattle.searcher.specs.declared.search.Searched.the-variants as Searched
 use Rattle.searcher.specs.Answers.{searchedNumbers}
-use Rattle.hits.specs.Text.{foundText, refusedText, listText, ownWork, ownPlaces, searchText}
+use Rattle.hits_text.specs.Text.{foundText, refusedText}
+use Rattle.hits.specs.Text.{listText, ownWork, ownPlaces, searchText}
 
 same-mark : (a b : Bool) → _≡_ {A = ℕ} (cond a 1 0) (cond b 1 0) → a ≡ b
 same-mark true true e = refl

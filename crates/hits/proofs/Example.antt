@@ -18,7 +18,8 @@ use Rattle.meaning.specs.IndexRefusals.{wrong1, wrongField, wrong2, wrong3, wro
 use Rattle.meaning.specs.QueryRefusals.{wrongRecords, wrong7, unusedFrom, wrongRange, otherField, wrongKind, wrongValues, wrong8, aboveLimit, carriesAbove, wrong9, wrong10}
 use Rattle.meaning.specs.CallRefusals.{wrong11, statesNeeded, largestIn, startsNeeded, rangeRecords, rangesNeeded, startsShort, workShort, wrong12Search}
 use Rattle.meaning.specs.Entries.{searchRefusal}
-use Rattle.hits.specs.Text.{Files, files, wordsOf, longsOf, digitsTo, decimal, hexDigits, hitLine, hitLines, foundText, refusedText, searchText, taken, indexOf, hitsText}
+use Rattle.hits_text.specs.Text.{Files, files, wordsOf, longsOf, digitsTo, decimal, hexDigits, hitLine, hitLines, foundText, refusedText, taken}
+use Rattle.hits.specs.Text.{searchText, indexOf, hitsText}
 
 -- the bytes of words, the lowest first
 abbrev bytesOf : List ℕ → List ℕ

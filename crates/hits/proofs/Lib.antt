@@ -1,10 +1,5 @@
--- Laws of the text that the program prints.
-pub mod Putting
-pub mod Filling
+-- Laws of what the program prints.
 pub mod Counting
-pub mod Numbers
-pub mod Lines
-pub mod Scores
 pub mod Answering
 pub mod Taken
 pub mod Example

@@ -7,7 +7,8 @@ use lib.Dec.{eqb, leb}
 use lib.ListN.{length}
 use borrow.Author.Tests.{eqb-true, leb-true}
 use Rattle.index.specs.Slices.{lent}
-use Rattle.hits.specs.Text.{Files, files, whole, taken, indexOf, wordAt, wordsOf, longsOf, searchText, refusedText, hitsText}
+use Rattle.hits_text.specs.Text.{Files, files, whole, taken, wordAt, wordsOf, longsOf, refusedText}
+use Rattle.hits.specs.Text.{indexOf, searchText, hitsText}
 
 -- both of two, and each of ten
 both : (a b : Bool) → (a && b) ≡ true → (a ≡ true) × (b ≡ true)

@@ -1,3 +1,2 @@
--- What the program `hits` prints, and text in an output.
+-- What the program prints.
 pub mod Text
-pub mod Puts

@@ -1,9 +1,6 @@
 // The program of document 01: it reads the ten files in the folder where it is started, and prints the hits or the refusal.
 // What it prints for the bytes that it reads is proved of `report::report`; reading and writing are not.
-mod hit;
 mod report;
-mod text;
-mod words;
 
 ghost use Rattle.io.specs.Counts.{Counts};
 

@@ -1,47 +1,13 @@
 // The text of the ten files.
 ghost use mathlib.Core.Path.{_≡_};
-ghost use Prim.Native.Nat.{_≤_, _<_};
+ghost use Prim.Native.Nat.{_≤_};
 ghost use lib.ListN.{length, take};
 ghost use Rattle.io.specs.Counts.{Counts};
 ghost use Rattle.index.specs.Slices.{lent};
-ghost use Rattle.hits.specs.Text.{searchText, files, whole as wholeFile, taken as takenFiles, hitsText};
-ghost use Rattle.hits.specs.Puts.{Put};
+ghost use Rattle.hits.specs.Text.{searchText, hitsText};
+ghost use Rattle.hits_text.specs.Puts.{Put};
+ghost use Rattle.hits_text.specs.Text.{files};
 use searcher::search::Searched;
-
-// Whether a file is not too long and of whole words of so many bytes.
-fn whole(bytes: &[u8], size: usize) -> bool
-    requires { ⌜ 0 < size ⌝ }
-    ensures { λ r. ⌜ r ≡ wholeFile size (now (bytes .entry)) ⌝ }
-{
-    (bytes.len() <= 65536) & (bytes.len() % size == 0)
-}
-
-// Whether each file is one that the program takes.
-fn taken(
-    run: &[u8],
-    fields: &[u8],
-    leaves: &[u8],
-    postings: &[u8],
-    positions: &[u8],
-    norms: &[u8],
-    live: &[u8],
-    columns: &[u8],
-    values: &[u8],
-    query: &[u8],
-) -> bool
-    ensures { λ r. ⌜ r ≡ takenFiles (files (now (run .entry)) (now (fields .entry)) (now (leaves .entry)) (now (postings .entry)) (now (positions .entry)) (now (norms .entry)) (now (live .entry)) (now (columns .entry)) (now (values .entry)) (now (query .entry))) ⌝ }
-{
-    (run.len() == 12)
-        & whole(fields, 4)
-        & whole(leaves, 4)
-        & whole(postings, 4)
-        & whole(positions, 4)
-        & whole(norms, 1)
-        & whole(live, 8)
-        & whole(columns, 4)
-        & whole(values, 4)
-        & whole(query, 4)
-}
 
 // Searches with the program's own buffers.
 fn answer(
@@ -87,10 +53,10 @@ fn answer(
         &mut hits,
     );
     match found {
-        Searched::Refused(n) => crate::hit::put_refused(n, out),
+        Searched::Refused(n) => hits_text::hit::put_refused(n, out),
         Searched::Found(top) => {
             let held = top.held as usize;
-            crate::hit::put_found(top.count, top.mark, &hits[..held], out)
+            hits_text::hit::put_found(top.count, top.mark, &hits[..held], out)
         }
     }
 }
@@ -112,7 +78,7 @@ pub fn report(
     ensures { λ r. ⌜ Counts r (now (out .exit)) ⌝ }
     ensures { λ r. ⌜ take r (now (out .exit)) ≡ hitsText (files (now (run .entry)) (now (fields .entry)) (now (leaves .entry)) (now (postings .entry)) (now (positions .entry)) (now (norms .entry)) (now (live .entry)) (now (columns .entry)) (now (values .entry)) (now (query .entry))) ⌝ }
 {
-    if !taken(
+    if !hits_text::files::taken(
         run,
         fields,
         leaves,
@@ -124,7 +90,7 @@ pub fn report(
         values,
         query,
     ) {
-        return crate::hit::put_refused(0, out);
+        return hits_text::hit::put_refused(0, out);
     }
     let mut fs = [0u32; 16384];
     let mut ls = [0u32; 16384];
@@ -134,16 +100,16 @@ pub fn report(
     let mut cs = [0u32; 16384];
     let mut xs = [0u32; 16384];
     let mut os = [0u32; 16384];
-    let b = crate::words::read_words(fields, &mut fs);
-    let c = crate::words::read_words(leaves, &mut ls);
-    let d = crate::words::read_words(postings, &mut ps);
-    let e = crate::words::read_words(positions, &mut qs);
-    let g = crate::words::read_longs(live, &mut vs);
-    let h = crate::words::read_words(columns, &mut cs);
-    let i = crate::words::read_words(values, &mut xs);
-    let j = crate::words::read_words(query, &mut os);
+    let b = hits_text::words::read_words(fields, &mut fs);
+    let c = hits_text::words::read_words(leaves, &mut ls);
+    let d = hits_text::words::read_words(postings, &mut ps);
+    let e = hits_text::words::read_words(positions, &mut qs);
+    let g = hits_text::words::read_longs(live, &mut vs);
+    let h = hits_text::words::read_words(columns, &mut cs);
+    let i = hits_text::words::read_words(values, &mut xs);
+    let j = hits_text::words::read_words(query, &mut os);
     answer(
-        crate::words::word_at(run, 0),
+        hits_text::words::word_at(run, 0),
         &fs[..b],
         &ls[..c],
         &ps[..d],
@@ -153,8 +119,8 @@ pub fn report(
         &cs[..h],
         &xs[..i],
         &os[..j],
-        crate::words::word_at(run, 1),
-        crate::words::word_at(run, 2),
+        hits_text::words::word_at(run, 1),
+        hits_text::words::word_at(run, 2),
         out,
     )
 }

@@ -51,7 +51,7 @@ fn put_node(words: &mut [u32], i: usize, s: NodeState)
     ensures { λ _. ⌜ now (words .exit) ≡ take (24 * i) (now (words .entry)) ++ (wordsOf (stateOf s) ++ drop (24 * i + 24) (now (words .entry))) ⌝ }
 {
     let at = 24 * i;
-    build::place::put(
+    node_words::place::put(
         &mut words[at..],
         [
             s.kind,

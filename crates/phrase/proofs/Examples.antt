@@ -10,7 +10,7 @@ use Rattle.meaning.specs.Below.{listTo, anyBelow, lastBelow}
 use Rattle.meaning.specs.Lent.{Index}
 use Rattle.meaning.specs.IndexRefusals.{wrongPosition, wrongPositions}
 use Rattle.meaning.specs.Phrase.{PhraseTerm, starts, multiplicity, smallest, distinct, sumSmallest, commonSize}
-use Rattle.phrase.specs.Terms.{startsOf, startLists, Good, Room}
+use Rattle.phrase_starts.specs.Terms.{startsOf, startLists, Good, Room}
 use Rattle.phrase.specs.Words.{phraseWords, AllFine}
 use Rattle.phrase.proofs.Words.{words-good, words-room}
 

@@ -1,8 +1,5 @@
--- The laws of starts: order, merge, size of a common part, records, the phrase step, Place, the words for an index; and examples that meet what is asked.
-pub mod Order
-pub mod Merge
+-- The laws of phrases: size of a common part, the phrase step, Place, the words for an index; and examples that meet what is asked.
 pub mod Size
-pub mod Records
 pub mod Steps
 pub mod Places
 pub mod Words

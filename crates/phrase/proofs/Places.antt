@@ -11,7 +11,7 @@ use Rattle.meaning.specs.Phrase.{eqℤ, multiplicity, smallest, commonSize}
 use Rattle.meaning.proofs.Phrases.{eqℤ-refl, start-common}
 use Rattle.phrase.specs.declared.Placed.{Placed}
 use Rattle.phrase.specs.declared.Placed.the-variants.{At, Nothing}
-use Rattle.phrase.specs.Common.{Common}
+use Rattle.phrase_starts.specs.Common.{Common}
 use Rattle.phrase.specs.Place.{PlacedIn}
 
 first-there : (zs : List ℤ) → (length zs ≡ 0 → ⊥) → 0 < multiplicity (getD zs 0 (pos 0)) zs

@@ -9,9 +9,10 @@ use lib.Dec.{T, eqb, eqb→eq}
 use lib.IntN.{ℤ}
 use lib.ListN.{length, drop}
 use Rattle.meaning.specs.Phrase.{multiplicity, smallest}
-use Rattle.phrase.specs.Terms.{termAt, startsOf, startLists, Good}
-use Rattle.phrase.specs.Common.{Ascending, Common, Held, unmetFrom, Candidates, Left, Meets}
-use Rattle.phrase.proofs.Records.{lists-at, lists-end, lists-some, smallest-at}
+use Rattle.phrase_starts.specs.Terms.{termAt, startsOf, startLists, Good}
+use Rattle.phrase_starts.specs.Common.{Ascending, Common}
+use Rattle.phrase.specs.Step.{Held, unmetFrom, Candidates, Left, Meets}
+use Rattle.phrase_starts.proofs.Records.{lists-at, lists-end, lists-some, smallest-at}
 
 -- ---- the common part of lists
 -- a list that has all of the candidates takes none away

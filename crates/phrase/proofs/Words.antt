@@ -17,10 +17,10 @@ use Rattle.meaning.specs.Postings.{postingAt, frequencyOf, positionsOf}
 use Rattle.meaning.specs.Phrase.{PhraseTerm, starts, termStarts, commonSize, phraseFrequency}
 use Rattle.meaning.proofs.Tests.{or-left, or-right}
 use Rattle.meaning.proofs.Below.{none-below}
-use Rattle.phrase.specs.declared.Term.{Term}
-use Rattle.phrase.specs.Terms.{termAt, startsOf, startLists, GoodTerm, Good, Room}
+use Rattle.phrase_starts.specs.declared.Term.{Term}
+use Rattle.phrase_starts.specs.Terms.{termAt, startsOf, startLists, GoodTerm, Good, Room}
 use Rattle.phrase.specs.Words.{firstOf, phraseWords, Fine, AllFine}
-use Rattle.phrase.proofs.Records.{term-past}
+use Rattle.phrase_starts.proofs.Records.{term-past}
 
 -- ---- what they say
 abbrev term-of : Index → ℕ → ℕ → Option ℕ → Term

@@ -5,9 +5,7 @@ pub mod Spans
 pub mod Steps
 pub mod Clauses
 pub mod Whole
-pub mod Values
 pub mod Above
 pub mod Accepted
-pub mod Needs
 pub mod Deeper
 pub mod Right

@@ -49,7 +49,7 @@ fn print_refusal(file: &[u32], norms: &[u8], live: &[u64], at: usize)
     if index != 0 {
         print_line(index);
     } else {
-        print_line(query::check_query(query, fields, leaves, columns));
+        print_line(query_check::check_query(query, fields, leaves, columns));
     }
 }
 

@@ -25,14 +25,14 @@ use Rattle.weight.specs.Weigh.{weigh}
 use Rattle.weight.specs.Sound.{FieldTable}
 use Rattle.weight.proofs.Queries.{query-sound, query-nodes}
 use Rattle.weight.proofs.FullList.{scorer-list}
-use Rattle.build.specs.Placed.{Placed, LeafLent}
-use Rattle.build.specs.Inverses.{fieldAt, hasField}
+use Rattle.node_words.specs.Placed.{Placed, LeafLent}
+use Rattle.inverses.specs.Inverses.{fieldAt, hasField}
 use Rattle.scorer.specs.Contracts.{lent}
 use Rattle.scorer.proofs.Bounds.{ok-mono}
 use Rattle.score.specs.declared.walk.Listed.{Listed}
 use Rattle.score.specs.Walks.{liveScored, PageHeld, PageIs}
 use Rattle.searcher.proofs.Rooms.{starts-room}
-use Rattle.build.proofs.QueryTables.{query-tables}
+use Rattle.inverses.proofs.QueryTables.{query-tables}
 
 -- ---- the tree in the node states
 -- the scorer tree of a query

@@ -37,7 +37,7 @@ pub fn check_order(
     if refusal != 0 {
         return refusal;
     }
-    query::check_query(q, fields, leaves, columns)
+    query_check::check_query(q, fields, leaves, columns)
 }
 
 // Whether a phrase buffer is too short for the query.
@@ -54,7 +54,7 @@ pub fn starts_short(
     requires { ⌜ ((ix : Index) × QueryLent ix «max_doc» (now leaves) (now postings) (now q)) ⌝ }
     ensures { λ r. ⌜ ((ix : Index) → QueryLent ix «max_doc» (now (leaves .entry)) (now (postings .entry)) (now (q .entry)) → r ≡ startsShort ix (now (q .entry)) (work states starts «other_starts» ranges)) ⌝ }
 {
-    let needed = query::starts_needed(q, leaves, postings) as usize;
+    let needed = query_check::buffers::starts_needed(q, leaves, postings) as usize;
     if starts < needed {
         return true;
     }
@@ -75,7 +75,7 @@ pub fn work_short(
     requires { ⌜ ((ix : Index) × QueryLent ix «max_doc» (now leaves) (now postings) (now q)) ⌝ }
     ensures { λ r. ⌜ ((ix : Index) → QueryLent ix «max_doc» (now (leaves .entry)) (now (postings .entry)) (now (q .entry)) → r ≡ workShort ix (now (q .entry)) (work states starts «other_starts» ranges)) ⌝ }
 {
-    if (states as u64) < query::states_needed(q) {
+    if (states as u64) < query_check::buffers::states_needed(q) {
         return true;
     }
     if starts_short(
@@ -90,5 +90,5 @@ pub fn work_short(
     ) {
         return true;
     }
-    (ranges as u64) < query::ranges_needed(max_doc, q)
+    (ranges as u64) < query_check::buffers::ranges_needed(max_doc, q)
 }

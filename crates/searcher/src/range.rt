@@ -61,8 +61,8 @@ pub fn range(
     ensures { λ r. ⌜ now (output .exit) ≡ rangeOutput (columnsOnly «max_doc» (now (columns .entry)) (now (values .entry))) (record { column = column; kinds = kinds; lower = joined «lower_low» «lower_high»; upper = joined «upper_low» «upper_high» }) (length (now (work .entry))) (now (output .entry)) ⌝ }
     ensures { λ r. ⌜ Kept (rangeRefusal (columnsOnly «max_doc» (now (columns .entry)) (now (values .entry))) (record { column = column; kinds = kinds; lower = joined «lower_low» «lower_high»; upper = joined «upper_low» «upper_high» }) (length (now (work .entry))) (length (now (output .entry)))) (now (work .entry)) (now (work .exit)) ⌝ }
 {
-    let lower = doc_values::joined(lower_low, lower_high);
-    let upper = doc_values::joined(upper_low, upper_high);
+    let lower = column_keys::joined(lower_low, lower_high);
+    let upper = column_keys::joined(upper_low, upper_high);
     let refusal = range_refusal(
         max_doc,
         columns,

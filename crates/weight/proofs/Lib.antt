@@ -12,8 +12,6 @@ pub mod Tables
 pub mod Queries
 pub mod Deeper
 pub mod Standing
-pub mod Tallies
 pub mod Phrases
-pub mod Clauses
 pub mod Measures
-pub mod Listing
+pub mod Presence

@@ -23,7 +23,6 @@ use Rattle.meaning.proofs.Below.{last-or-below, none-below, length-listTo, getD
 use Rattle.query.proofs.Inverse.{both-true, one-clause, some-same, record-here, term-at, phrase-at, boolean-at, range-at, all-at, constant-at, boost-at, none-at, kind-is, KindIs, is-term, is-phrase, is-boolean, is-range, is-all, is-constant, is-boost, is-none}
 use Rattle.query.proofs.Spans.{nothing, no-depth}
 use Rattle.query.proofs.Whole.{whole}
-use Rattle.query.proofs.Needs.{startsAt}
 use Rattle.query.proofs.Accepted.{term-leaf, boost-within}
 use Rattle.query.proofs.Right.{RightPhrase, Right, tree-right}
 use Rattle.weight.specs.ScorerTree.{phrase}
@@ -140,11 +139,15 @@ module _ (ix : Index) (q : List ℕ) (places : ℕ) (values-right : wrong8 ix q 
       step true false e f = sym f
       step false b e f = absurd (false≢true e)
 
+  -- the places that a record needs
+  abbrev starts : ℕ → ℕ
+  starts r = cond (eqb (recordKind q r) 9) (largestIn ix (recordValue q r 0)) 0
+
   term-room : (r : ℕ) → r < recordCount q → recordKind q r ≡ 9 → largestIn ix (recordValue q r 0) ≤ places
   unfolding startsNeeded
   term-room r h k =
-      let a = largest-at (recordCount q) (startsAt ix q) r h in
-      let e : startsAt ix q r ≡ largestIn ix (recordValue q r 0) = ap (λ (z : Bool). cond z (largestIn ix (recordValue q r 0)) 0) (eq-eqb (recordKind q r) 9 k) in
+      let a = largest-at (recordCount q) starts r h in
+      let e : starts r ≡ largestIn ix (recordValue q r 0) = ap (λ (z : Bool). cond z (largestIn ix (recordValue q r 0)) 0) (eq-eqb (recordKind q r) 9 k) in
       omega (arith, a, e, room)
 
   phrase-sound : (k r : ℕ) (D : Decoded) → decode q (suc k) r ≡ some D → recordKind q r ≡ 2 → LeafSound ix places (phrase (recordValue q r 0) (phraseTermsOf q r))

@@ -1,20 +1,18 @@
 -- What the first pass over a query's records finds of each tree. Assumes nothing: these are definitions.
 use mathlib.Core.Path.{_≡_}
-use mathlib.Core.Bool.{Bool, true, false, not, cond, _&&_}
+use mathlib.Core.Bool.{false, cond}
 use mathlib.Core.List.{List}
 use mathlib.Core.Option.{some}
-use Prim.Native.Nat.{ℕ, _+_, _*_, _≤_, _<_, min, max}
-use lib.Dec.{eqb, leb}
+use Prim.Native.Nat.{ℕ, _+_, _*_, _≤_, _<_}
 use lib.ListN.{length, getD}
 use Rattle.meaning.specs.Below.{listTo}
 use Rattle.meaning.specs.Lent.{Index}
 use Rattle.meaning.specs.Range.{rangeDocuments}
-use Rattle.meaning.specs.Query.{recordCount, recordKind, recordValue, rangeOf, Occur, must, should, mustNot, filter, Decoded, decode}
+use Rattle.meaning.specs.Query.{recordCount, recordKind, recordValue, rangeOf, Decoded, decode}
 use Rattle.meaning.specs.Scorer.{hasScorer}
 use Rattle.meaning.specs.Cost.{cost}
 use Rattle.meaning.specs.QueryRefusals.{wrong7, wrong8, wrong9, wrong10}
 use Rattle.index.specs.Accepted.{Accepted}
-use Rattle.weight.specs.declared.measure.Tally.{Tally}
 
 -- an accepted index and a query that none of 7 to 10 refuses
 pub record Asks (ix : Index) (q : List ℕ) : Type 0 where
@@ -42,32 +40,6 @@ pub record MeasureIs (ix : Index) (r : ℕ) (D : Decoded) (next present size : �
 abbrev pub Measured : Index → List ℕ → List ℕ → List ℕ → List ℕ → ℕ → Type 0
 Measured ix q nexts presents costs from =
     (k r : ℕ) (D : Decoded) → from ≤ r → decode q k r ≡ some D → MeasureIs ix r D (getD nexts r 0) (getD presents r 0) (getD costs r 0)
-
--- a tally of a Boolean's clauses with one clause more: its occurrence, whether it has a scorer, its cost
-abbrev pub tallied : Tally → Occur → Bool → ℕ → Tally
-tallied t must true c =
-    record { required = true; missing = t .missing; found = true; least = cond (t .found) (min (t .least) c) c; shoulds = t .shoulds; group = t .group }
-tallied t must false c = record { required = true; missing = true; found = t .found; least = t .least; shoulds = t .shoulds; group = t .group }
-tallied t filter true c =
-    record { required = true; missing = t .missing; found = true; least = cond (t .found) (min (t .least) c) c; shoulds = t .shoulds; group = t .group }
-tallied t filter false c = record { required = true; missing = true; found = t .found; least = t .least; shoulds = t .shoulds; group = t .group }
-tallied t should true c =
-    record { required = t .required; missing = t .missing; found = t .found; least = t .least; shoulds = t .shoulds + 1; group = t .group + c }
-tallied t should false c = t
-tallied t mustNot p c = t
-
--- no clause yet
-abbrev pub untallied : Tally
-untallied = record { required = false; missing = false; found = false; least = 0; shoulds = 0; group = 0 }
-
--- whether a Boolean has a scorer, from the tally of its clauses
-abbrev pub tallyPresent : Tally → ℕ → ℕ
-tallyPresent t msm = cond (not (t .missing) && leb (cond (t .required) msm (max 1 msm)) (t .shoulds)) 1 0
-
--- and its cost
-abbrev pub tallyCost : Tally → ℕ → ℕ
-tallyCost t msm =
-    cond (t .required) (cond (eqb msm 0) (cond (t .found) (t .least) 0) (cond (t .found) (min (t .least) (t .group)) (t .group))) (t .group)
 
 -- the numbers of postings of the first n terms of the phrase at record r
 abbrev pub termNumbers : List ℕ → List ℕ → ℕ → ℕ → List ℕ

@@ -1,2 +1,1 @@
-// A query made ready for an index.
-pub mod measure;
+// A query made ready for an index: definitions and laws only.

@@ -9,7 +9,7 @@ use native.Mathlib.Omega.{arith}
 use lib.ListN.{length}
 use Rattle.meaning.specs.Below.{listBelow}
 use Rattle.meaning.specs.Entries.{written}
-use Rattle.doc_values.specs.Keys.{valueIn}
+use Rattle.column_keys.specs.Keys.{valueIn}
 use Rattle.meaning.proofs.Below.{list-length}
 use Rattle.doc_values.proofs.Lists.{written-length, turn-taken, turn-left}
 use Rattle.doc_values.proofs.scan.Statement.{statement}

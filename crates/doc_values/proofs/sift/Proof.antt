@@ -7,7 +7,7 @@ use mathlib.Core.List.{List}
 use native.Mathlib.Omega.{arith}
 use lib.ListN.{length, take, length-set}
 use Rattle.meaning.specs.Below.{listBelow}
-use Rattle.doc_values.specs.Keys.{valueIn}
+use Rattle.column_keys.specs.Keys.{valueIn}
 use Rattle.meaning.proofs.Below.{list-length}
 use Rattle.doc_values.proofs.Lists.{turn-sifted}
 use Rattle.doc_values.proofs.sift.Statement.{statement}

@@ -9,9 +9,10 @@ use lib.ListN.{length, take, getD}
 use lib.Seq.{length-take-le}
 use borrow.Author.Needs.{needs}
 use Rattle.meaning.specs.Phrase.{multiplicity}
-use Rattle.phrase.specs.Terms.{termAt, startsOf, startLists, GoodTerm, Good, Room, Rarest}
-use Rattle.phrase.specs.Common.{Ascending, Common, Held, unmetFrom, Candidates, Left}
-use Rattle.phrase.proofs.Records.{starts-length, starts-ascending}
+use Rattle.phrase_starts.specs.Terms.{termAt, startsOf, startLists, GoodTerm, Good, Room, Rarest}
+use Rattle.phrase_starts.specs.Common.{Ascending, Common}
+use Rattle.phrase.specs.Step.{Held, unmetFrom, Candidates, Left}
+use Rattle.phrase_starts.proofs.Records.{starts-length, starts-ascending}
 use Rattle.phrase.proofs.Steps.{left-end, left-at-end, unmet-start, unmet-not-past, left-unmet, left-of-all}
 use Rattle.phrase.proofs.common.Statement.{statement}
 use Rattle.phrase.proofs.common.Tie as tie

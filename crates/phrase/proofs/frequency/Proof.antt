@@ -1,7 +1,7 @@
 -- `phrase::frequency` meets its contract: the common part is as long as the paper says. Assumes nothing.
 use borrow.Author.Needs.{needs}
-use Rattle.phrase.specs.Terms.{startLists}
-use Rattle.phrase.proofs.Records.{lists-some}
+use Rattle.phrase_starts.specs.Terms.{startLists}
+use Rattle.phrase_starts.proofs.Records.{lists-some}
 use Rattle.phrase.proofs.Size.{common-length}
 use Rattle.phrase.proofs.frequency.Statement.{statement}
 use Rattle.phrase.proofs.frequency.Tie as tie

@@ -6,9 +6,10 @@ use native.Mathlib.Omega.{arith}
 use lib.IntN.{ℤ}
 use lib.ListN.{length, take, length-take}
 use borrow.Author.Needs.{needs}
-use Rattle.phrase.specs.declared.Term.{Term}
-use Rattle.phrase.specs.Terms.{termAt, startsOf, GoodTerm}
-use Rattle.phrase.specs.Common.{Common, Meets}
+use Rattle.phrase_starts.specs.declared.Term.{Term}
+use Rattle.phrase_starts.specs.Terms.{termAt, startsOf, GoodTerm}
+use Rattle.phrase_starts.specs.Common.{Common}
+use Rattle.phrase.specs.Step.{Meets}
 use Rattle.phrase.proofs.Steps.{meets, meets-none}
 use Rattle.phrase.proofs.meet.Statement.{statement}
 use Rattle.phrase.proofs.meet.Tie as tie

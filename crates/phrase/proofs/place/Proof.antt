@@ -8,8 +8,8 @@ use mir.ValLaws.{toZ-ofZ}
 use borrow.Author.Needs.{needs}
 use Rattle.meaning.specs.Phrase.{smallest}
 use Rattle.phrase.specs.Place.{PlacedIn}
-use Rattle.phrase.specs.Terms.{startLists}
-use Rattle.phrase.proofs.Records.{lists-some}
+use Rattle.phrase_starts.specs.Terms.{startLists}
+use Rattle.phrase_starts.proofs.Records.{lists-some}
 use Rattle.phrase.proofs.Size.{common-length}
 use Rattle.phrase.proofs.Places.{first-common}
 use Rattle.phrase.proofs.place.Statement.{statement}

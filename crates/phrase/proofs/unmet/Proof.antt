@@ -1,7 +1,7 @@
 -- `phrase::unmet` meets its contract. Assumes nothing.
 use borrow.Author.Needs.{needs}
 use borrow.Author.Tests.{eq-eqb, ne-eqb}
-use Rattle.phrase.specs.Common.{unmetFrom}
+use Rattle.phrase.specs.Step.{unmetFrom}
 use Rattle.phrase.proofs.unmet.Statement.{statement}
 use Rattle.phrase.proofs.unmet.Tie as tie
 

@@ -8,7 +8,7 @@ use lib.IntN.{ℤ}
 use lib.Seq.{length-take-le}
 use Rattle.meaning.specs.Lent.{Index}
 use Rattle.index.specs.Slices.{lent}
-use Rattle.hits.proofs.Putting.{put-same}
+use Rattle.hits_text.proofs.Putting.{put-same}
 use Rattle.hits.proofs.Answering.{Shown, refused-text, found-text}
 use borrow.Author.Needs.{needs}
 use Rattle.hits.proofs.report.answer.Statement.{statement}

@@ -4,8 +4,8 @@ use mathlib.Core.Bool.{true}
 use Prim.Native.Nat.{ℕ, _/_, _≤_}
 use native.Mathlib.Omega.{arith}
 use borrow.Author.Tests.{not-true, not-false}
-use Rattle.hits.specs.Text.{Files, files, taken}
-use Rattle.hits.proofs.Putting.{put-front, put-room}
+use Rattle.hits_text.specs.Text.{Files, files, taken}
+use Rattle.hits_text.proofs.Putting.{put-front, put-room}
 use Rattle.hits.proofs.Counting.{counted}
 use Rattle.hits.proofs.Taken.{Sizes, sizes-of, refused-files, taken-files}
 use borrow.Author.Needs.{needs}

@@ -6,7 +6,7 @@ use lib.Dec.{T}
 use lib.ListN.{length}
 use Prim.Native.Nat.{ℕ, _+_, _-_, _≤_, _<_}
 use Rattle.meaning.specs.Query.{recordCount}
-use Rattle.build.specs.Prepared.{records}
+use Rattle.node_words.specs.Prepared.{records}
 use Rattle.build.proofs.PlacingBooleans.{tree-here, tree-room, tree-deep, tree-kept, tree-present, nothing-placed, boolean-known, boolean-required, first-fits, boolean-optional, second-fits, boolean-prohibited, whole-fits, whole-small, group-within, whole-placed}
 use Rattle.build.proofs.tree.place_boolean.Reads as place-boolean
 use Rattle.build.proofs.tree.+place+place_boolean+place_list+place_others+place_required.Lts-place_boolean as place-boolean-lts
@@ -180,7 +180,7 @@ place-boolean-has-required-requires t c κs =
     let kind = s .pre .1 .0 in
     let pre = s .pre .1 .1 in
     let there = c .before .if1 .left in
-    boolean-known E at fixed kept boost words depth kind there pre
+    (s .args .presents .now, s .args .costs .now, boolean-known E at fixed kept boost words depth kind there pre)
 
 pub place-boolean-sub-place-required : (t : ℕ) → place-boolean-lts.Need-sub-place-required (place-boolean-calls t) (place-boolean-at t) place-boolean.Post
 place-boolean-sub-place-required t c =
@@ -398,4 +398,4 @@ place-boolean-returns-2 t c =
     let part₃ = prohibited-part t (c .before .before .before .before .before .before .before .before .before .before .before .before .before) in
     let d = c .before .before .before .before .before .before .before .before .place-others2 in
     let e₃ = d .result in
-    (whole-placed E at fixed kept boost words depth kind there _ part₁ (a .result .«group_at») e₁ (a .last .0) (a .ensures .0) _ part₂ e₂ (b .last .0) (b .ensures .0) _ part₃ e₃ (d .last .0) (d .ensures .0) st₀ (postOf 24 (words - 24) st₀) (postOf (24 + e₁) (length st₁ - (24 + e₁)) st₁) (postOf (24 + (e₁ + e₂)) (length st₂ - (24 + (e₁ + e₂))) st₂) (c .before .before .put-boolean .last .0) (s .args .scores) (c .before .before .before .before .before .shoulds-needed .result) (c .before .before .before .before .before .before .before .before .before .before .before .before .before .before .before .before .before .before .before .before .before .value .result) (c .before .before .before .before .before .before .before .before .before .before .before .before .before .before .before .before .before .before .before .before .has-required .result) (c .before .before .before .joins-afterwards .result) refl pre (subst T (sym (s .good .1 .1 .1 .1 .1 .1 .1 .1 .1 .1 .1 .1 .0 .1)) tt) (c .before .before .before .before .before .before .before .before .before .before .before .before .before .before .before .before .before .before .before .before .before .value .ensures) (c .before .before .before .before .before .before .before .before .before .before .before .before .before .before .before .before .before .before .before .before .has-required .ensures) (c .before .before .before .before .before .shoulds-needed .ensures) (c .before .before .before .joins-afterwards .ensures) (c .before .before .put-boolean .ensures), c .before .before .put-boolean .kept .0 ∙ prohibited-long t (c .before .before .before .before .before .before .before .before))
+    (whole-placed E at fixed kept boost words depth kind there _ part₁ (a .result .«group_at») e₁ (a .last .0) (a .ensures .0) _ part₂ e₂ (b .last .0) (b .ensures .0) _ part₃ e₃ (d .last .0) (d .ensures .0) st₀ (postOf 24 (words - 24) st₀) (postOf (24 + e₁) (length st₁ - (24 + e₁)) st₁) (postOf (24 + (e₁ + e₂)) (length st₂ - (24 + (e₁ + e₂))) st₂) (c .before .before .put-boolean .last .0) (s .args .scores) (c .before .before .before .before .before .shoulds-needed .result) (c .before .before .before .before .before .before .before .before .before .before .before .before .before .before .before .before .before .before .before .before .before .value .result) (c .before .before .before .before .before .before .before .before .before .before .before .before .before .before .before .before .before .before .before .before .has-required .result) (c .before .before .before .joins-afterwards .result) refl pre (subst T (sym (s .good .1 .1 .1 .1 .1 .1 .1 .1 .1 .1 .1 .1 .0 .1)) tt) (c .before .before .before .before .before .before .before .before .before .before .before .before .before .before .before .before .before .before .before .before .before .value .ensures) (c .before .before .before .before .before .before .before .before .before .before .before .before .before .before .before .before .before .before .before .before .has-required .ensures (s .args .presents .now) (s .args .costs .now)) (c .before .before .before .before .before .shoulds-needed .ensures) (c .before .before .before .joins-afterwards .ensures) (c .before .before .put-boolean .ensures), c .before .before .put-boolean .kept .0 ∙ prohibited-long t (c .before .before .before .before .before .before .before .before))

@@ -1,7 +1,7 @@
 -- The cycle of calls: each measure, what its calls claim, and what its loop keeps. Assumes nothing.
 use mathlib.Core.Path.{_≡_}
 use lib.ListN.{length}
-use Rattle.build.specs.Prepared.{records}
+use Rattle.node_words.specs.Prepared.{records}
 use Rattle.build.proofs.PlacingLists.{ListAt}
 use Prim.Native.Nat.{ℕ, _<_, _+_, _-_, _*_}
 use borrow.Fn.Kinds.{In}
@@ -26,17 +26,17 @@ use Rattle.clauses.proofs.group_cost.Reads as group-cost-reads
 use Rattle.clauses.proofs.has_required.Reads as has-required-reads
 use Rattle.clauses.proofs.no_dearer.Reads as no-dearer-reads
 use Rattle.clauses.proofs.required_clauses.Reads as required-clauses-reads
-use Rattle.build.proofs.leaf.kept_or.Reads as kept-or-reads
-use Rattle.build.proofs.leaf.place_leaf.Reads as place-leaf-reads
-use Rattle.build.proofs.place.place_nothing.Reads as place-nothing-reads
-use Rattle.build.proofs.place.word.Reads as word-reads
+use Rattle.node_words.proofs.leaf.kept_or.Reads as kept-or-reads
+use Rattle.node_words.proofs.leaf.place_leaf.Reads as place-leaf-reads
+use Rattle.node_words.proofs.place.place_nothing.Reads as place-nothing-reads
+use Rattle.node_words.proofs.place.word.Reads as word-reads
 use Rattle.build.proofs.tree.joins_afterwards.Reads as joins-afterwards-reads
 use Rattle.build.proofs.tree.passed_on.Reads as passed-on-reads
 use Rattle.build.proofs.tree.put_boolean.Reads as put-boolean-reads
 use Rattle.query.proofs.kind.Reads as kind-reads
 use Rattle.query.proofs.occurrence.Reads as occurrence-reads
 use Rattle.query.proofs.value.Reads as value-reads
-use Rattle.weight.proofs.measure.shoulds_needed.Reads as shoulds-needed-reads
+use Rattle.measure.proofs.shoulds_needed.Reads as shoulds-needed-reads
 
 abbrev pub μ-place : Measures 9 place-kinds.ps ℕ
 μ-place κs a = a .1 .1 .1 .1 .1 .1 .1 .1 .1 .1 .1 .1 .1 .1 .1 .0 * 4 + 1

@@ -5,7 +5,7 @@ use mathlib.Core.Path.{refl, _∙_}
 use native.Mathlib.Omega.{arith}
 use lib.ListN.{length}
 use Prim.Native.Nat.{ℕ, _-_}
-use Rattle.build.specs.Prepared.{records}
+use Rattle.node_words.specs.Prepared.{records}
 use Rattle.build.proofs.PlacingLists.{kept-nothing, list-starts, list-here, list-within, list-ends, list-tree, list-fits, list-more}
 use Rattle.build.proofs.tree.place_list.Reads as place-list
 use Rattle.build.proofs.tree.+place+place_boolean+place_list+place_others+place_required.Lts-place_list as place-list-lts

@@ -4,7 +4,7 @@ use native.Mathlib.Omega.{arith}
 use lib.ListN.{length}
 use Prim.Native.Nat.{ℕ, _≤_, _<_}
 use Rattle.meaning.specs.Query.{recordCount}
-use Rattle.build.specs.Prepared.{records}
+use Rattle.node_words.specs.Prepared.{records}
 use Rattle.build.proofs.PlacingBooleans.{tree-here, tree-deep, tree-present}
 use Rattle.build.proofs.PlacingBelow.{constant-asked, constant-placed, boost-asked, boost-placed, boost-number-here}
 use Rattle.build.proofs.tree.place.Reads as place

@@ -5,7 +5,7 @@ use native.Mathlib.Omega.{arith}
 use lib.ListN.{length, take, drop, length-take}
 use lib.Seq.{take-take, length-take-le}
 use Prim.Native.Nat.{ℕ, _-_, _≤_}
-use Rattle.build.specs.Prepared.{records}
+use Rattle.node_words.specs.Prepared.{records}
 use Rattle.build.proofs.PlacingParts.{between, others-known, others-listed, others-placed, required-known, required-here, required-first, required-within, required-second, required-fits, required-placed}
 use Rattle.build.proofs.tree.place_others.Reads as place-others
 use Rattle.build.proofs.tree.+place+place_boolean+place_list+place_others+place_required.Lts-place_others as place-others-lts

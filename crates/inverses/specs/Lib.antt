@@ -1,0 +1,2 @@
+-- The fields of a query's records.
+pub mod Inverses
