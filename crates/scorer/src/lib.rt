@@ -12,6 +12,8 @@ pub const NO_MORE_DOCS: u32 = 2147483647;
 // The words of a record, where children begin.
 const RECORD: usize = 24;
 
+const TERM: u32 = 1;
+
 const BOOLEAN: u32 = 3;
 
 // A word as a place in a slice.
@@ -189,7 +191,7 @@ pub fn advance(
     }
 }
 
-// The lead's documents that no prohibited child matches.
+// The lead's documents that no prohibited child matches; where there is none, the lead's.
 fn excluding(
     kids: &mut [u32],
     max_doc: u32,
@@ -223,6 +225,9 @@ fn excluding(
             depth,
         );
         if d == NO_MORE_DOCS {
+            return d;
+        }
+        if optional_end == kids.len() {
             return d;
         }
         let x = least(
@@ -380,7 +385,7 @@ fn step(
     }
 }
 
-// Each child in turn, cheapest first, advanced to where the one before it got.
+// Each child in turn, cheapest first, advanced to where the one before it got. A term's part is one record: its end is known without its size word.
 fn pass(
     kids: &mut [u32],
     max_doc: u32,
@@ -398,38 +403,31 @@ fn pass(
     let mut d = target;
     let mut at = 0;
     while at < kids.len() {
-        let k = child_at(kids, at);
-        let end = k.end;
-        let cached = k.cached;
-        if d < cached {
-            d = cached - 1;
-            at = end;
-        } else if kind_at(kids, at) == BOOLEAN {
-            d = advance(
-                &mut kids[at..end],
-                max_doc,
-                postings,
-                positions,
-                ranges,
-                a,
-                b,
-                d,
-                depth,
-            );
+        if kind_at(kids, at) == TERM {
+            let end = at + RECORD;
+            d = advance_term(&mut kids[at..end], postings, d);
             at = end;
         } else {
-            d = advance_leaf(
-                &mut kids[at..end],
-                max_doc,
-                postings,
-                positions,
-                ranges,
-                a,
-                b,
-                d,
-                depth,
-            );
-            at = end;
+            let k = child_at(kids, at);
+            let end = k.end;
+            let cached = k.cached;
+            if d < cached {
+                d = cached - 1;
+                at = end;
+            } else {
+                d = advance(
+                    &mut kids[at..end],
+                    max_doc,
+                    postings,
+                    positions,
+                    ranges,
+                    a,
+                    b,
+                    d,
+                    depth,
+                );
+                at = end;
+            }
         }
     }
     d
@@ -486,46 +484,39 @@ fn least(
     let mut count = 0;
     let mut at = 0;
     while at < kids.len() {
-        let k = child_at(kids, at);
-        let end = k.end;
-        let cached = k.cached;
-        if target < cached {
-            let x = tally(best, count, cached - 1);
-            best = x.doc;
-            count = x.count;
-            at = end;
-        } else if kind_at(kids, at) == BOOLEAN {
-            let d = advance(
-                &mut kids[at..end],
-                max_doc,
-                postings,
-                positions,
-                ranges,
-                a,
-                b,
-                target,
-                depth,
-            );
+        if kind_at(kids, at) == TERM {
+            let end = at + RECORD;
+            let d = advance_term(&mut kids[at..end], postings, target);
             let x = tally(best, count, d);
             best = x.doc;
             count = x.count;
             at = end;
         } else {
-            let d = advance_leaf(
-                &mut kids[at..end],
-                max_doc,
-                postings,
-                positions,
-                ranges,
-                a,
-                b,
-                target,
-                depth,
-            );
-            let x = tally(best, count, d);
-            best = x.doc;
-            count = x.count;
-            at = end;
+            let k = child_at(kids, at);
+            let end = k.end;
+            let cached = k.cached;
+            if target < cached {
+                let x = tally(best, count, cached - 1);
+                best = x.doc;
+                count = x.count;
+                at = end;
+            } else {
+                let d = advance(
+                    &mut kids[at..end],
+                    max_doc,
+                    postings,
+                    positions,
+                    ranges,
+                    a,
+                    b,
+                    target,
+                    depth,
+                );
+                let x = tally(best, count, d);
+                best = x.doc;
+                count = x.count;
+                at = end;
+            }
         }
     }
     Standing { doc: best, count }
