@@ -118,32 +118,6 @@ pub fn advance_term(st: &mut [u32], postings: &[u32], target: u32) -> u32
     d
 }
 
-// A node that is no Boolean: outside the cycle, so that moving one costs no more than its own search.
-pub fn advance_leaf(
-    st: &mut [u32],
-    max_doc: u32,
-    postings: &[u32],
-    positions: &[u32],
-    ranges: &[u32],
-    a: &mut [i32],
-    b: &mut [i32],
-    target: u32,
-    depth: u32,
-) -> u32
-    requires { ⌜ (getD (now st) 0 0 ≡ 3 → ⊥) × AdvancePre (lent «max_doc» (now postings) (now positions) (now ranges)) (length (now a)) (length (now b)) (now st) target depth ⌝ }
-    ensures { λ r. ⌜ AdvancePost (lent «max_doc» (now (postings .entry)) (now (positions .entry)) (now (ranges .entry))) (now (st .entry)) target depth r (now (st .exit)) ⌝ }
-    ensures { λ r. ⌜ getD (now (st .exit)) 2 0 ≡ r + 1 ⌝ }
-{
-    let h = head_at(st);
-    let cached = h.cached;
-    if target < cached {
-        return cached - 1;
-    }
-    let d = leaves::seek(st, max_doc, postings, positions, ranges, a, b, target);
-    st[2] = d + 1;
-    d
-}
-
 // The first document at or after the target that the node matches, or NO_MORE_DOCS.
 pub fn advance(
     st: &mut [u32],
@@ -520,47 +494,4 @@ fn least(
         }
     }
     Standing { doc: best, count }
-}
-
-// A root of any kind: a leaf is moved without the cycle.
-pub fn advance_any(
-    st: &mut [u32],
-    max_doc: u32,
-    postings: &[u32],
-    positions: &[u32],
-    ranges: &[u32],
-    a: &mut [i32],
-    b: &mut [i32],
-    target: u32,
-    depth: u32,
-) -> u32
-    requires { ⌜ AdvancePre (lent «max_doc» (now postings) (now positions) (now ranges)) (length (now a)) (length (now b)) (now st) target depth ⌝ }
-    ensures { λ r. ⌜ AdvancePost (lent «max_doc» (now (postings .entry)) (now (positions .entry)) (now (ranges .entry))) (now (st .entry)) target depth r (now (st .exit)) ⌝ }
-    ensures { λ r. ⌜ getD (now (st .exit)) 2 0 ≡ r + 1 ⌝ }
-{
-    let h = head_at(st);
-    if h.kind == BOOLEAN {
-        return advance(
-            st,
-            max_doc,
-            postings,
-            positions,
-            ranges,
-            a,
-            b,
-            target,
-            depth,
-        );
-    }
-    advance_leaf(
-        st,
-        max_doc,
-        postings,
-        positions,
-        ranges,
-        a,
-        b,
-        target,
-        depth,
-    )
 }
