@@ -10,7 +10,7 @@ ghost use Rattle.meaning.specs.Bm25.{bm25};
 ghost use Rattle.index.specs.Runs.{postingDocument, postingFrequency};
 ghost use Rattle.scorer.specs.Contracts.{lent, AdvancePre, AdvancePost};
 ghost use Rattle.score.specs.Words.{NodeIs, ChildIs, ChildThere, byteAt};
-ghost use Rattle.score.specs.Asked.{ScorePre, ScorePost, RequiredPre, RequiredPost, OptionalPre, OptionalPost, JoinPre, JoinPost, LeafPre, LeafPost, FrequencyPre, FrequencyPost};
+ghost use Rattle.score.specs.Asked.{ScorePre, ScorePost, RequiredPre, RequiredPost, OptionalPre, OptionalPost, JoinPre, JoinPost, LeafPre, LeafPost, FrequencyPre, FrequencyPost, TermPre, TermPost};
 
 pub mod walk;
 
@@ -40,7 +40,7 @@ pub struct Child {
     pub scores: u32,
 }
 
-fn node_at(st: &[u32]) -> Node
+pub fn node_at(st: &[u32]) -> Node
     requires { ⌜ 24 ≤ length (now st) ⌝ }
     ensures { λ r. ⌜ NodeIs (now (st .entry)) r ⌝ }
 {
@@ -108,7 +108,7 @@ fn wide_byte(x: u8) -> usize
 }
 
 // BM25 at a weight, with the inverse of the document's length.
-fn weighted(norms: &[u8], inverses: &[f32], n: Node, frequency: u32, doc: u32) -> f32
+pub fn weighted(norms: &[u8], inverses: &[f32], n: Node, frequency: u32, doc: u32) -> f32
     requires { ⌜ (frequency ≤ 16777216) × (T (not (nanBits binary32 (n .weight))) × ((n .field) ≤ 16)) ⌝ }
     requires { ⌜ (0 < (n .norms) → (n .norms) - 1 + doc < length (now norms)) ⌝ }
     requires { ⌜ 256 * (n .field) + byteAt (now norms) (n .norms) doc < length (now inverses) ⌝ }
@@ -163,6 +163,19 @@ fn leaf_score(
         return weighted(norms, inverses, n, frequency, doc);
     }
     0.0
+}
+
+// The score of a term, which is most of them: it is lent little and changes nothing, so that it costs little to call.
+pub fn term_score(st: &[u32], postings: &[u32], norms: &[u8], inverses: &[f32], doc: u32) -> f32
+    requires { ⌜ TermPre (now st) (now postings) (now norms) (now inverses) doc ⌝ }
+    ensures { λ r. ⌜ TermPost (now (st .entry)) (now (postings .entry)) (now (norms .entry)) (now (inverses .entry)) doc r ⌝ }
+{
+    let n = node_at(st);
+    if n.constant == 1 {
+        return f32::from_bits(n.weight);
+    }
+    let frequency = term_frequency(postings, n.first, n.number, n.cursor, doc);
+    weighted(norms, inverses, n, frequency, doc)
 }
 
 // The score of a node that is no Boolean. It stands outside the cycle below, so that a leaf does not pay for a Boolean.
