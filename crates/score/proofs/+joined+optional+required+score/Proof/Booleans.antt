@@ -13,8 +13,8 @@ use Rattle.score.proofs.Loops.{places-same, put}
 use Rattle.score.proofs.Booleans.{lies, group-asks, grouped, group-number, after-asks, after-number, after-done, cut-lies, front-asks, rest-asks, rest-done}
 use Prim.Native.Nat.{ℕ, _≤_, min}
 use Rattle.score.proofs.joined.Reads as joined
-use Rattle.score.proofs.+child_score+joined+optional+required+score.Lts-joined as joined-lts
-use Rattle.score.proofs.+child_score+joined+optional+required+score.Proof.Calls.{joined-at, joined-calls}
+use Rattle.score.proofs.+joined+optional+required+score.Lts-joined as joined-lts
+use Rattle.score.proofs.+joined+optional+required+score.Proof.Calls.{joined-at, joined-calls}
 
 pub joined-mul-optional : (t : ℕ) → joined-lts.Need-mul-optional (joined-calls t) (joined-at t) joined.Post
 joined-mul-optional t c =
