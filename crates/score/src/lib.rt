@@ -40,7 +40,7 @@ pub struct Child {
     pub scores: u32,
 }
 
-fn node_at(st: &[u32]) -> Node
+pub fn node_at(st: &[u32]) -> Node
     requires { ⌜ 24 ≤ length (now st) ⌝ }
     ensures { λ r. ⌜ NodeIs (now (st .entry)) r ⌝ }
 {
@@ -108,7 +108,7 @@ fn wide_byte(x: u8) -> usize
 }
 
 // BM25 at a weight, with the inverse of the document's length.
-fn weighted(norms: &[u8], inverses: &[f32], n: Node, frequency: u32, doc: u32) -> f32
+pub fn weighted(norms: &[u8], inverses: &[f32], n: Node, frequency: u32, doc: u32) -> f32
     requires { ⌜ (frequency ≤ 16777216) × (T (not (nanBits binary32 (n .weight))) × ((n .field) ≤ 16)) ⌝ }
     requires { ⌜ (0 < (n .norms) → (n .norms) - 1 + doc < length (now norms)) ⌝ }
     requires { ⌜ 256 * (n .field) + byteAt (now norms) (n .norms) doc < length (now inverses) ⌝ }
