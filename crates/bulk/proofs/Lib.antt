@@ -2,3 +2,5 @@
 pub mod Collecting
 pub mod Sofar
 pub mod PostingScores
+pub mod LiveMatches
+pub mod TermRoot
