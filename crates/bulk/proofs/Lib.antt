@@ -3,4 +3,6 @@ pub mod Collecting
 pub mod Sofar
 pub mod PostingScores
 pub mod LiveMatches
+pub mod Roots
 pub mod TermRoot
+pub mod AnyRoot

@@ -23,31 +23,20 @@ use Rattle.index.specs.Accepted.{Accepted}
 use Rattle.index.specs.Slices.{liveOnly}
 use Rattle.index.proofs.PostingAt.{posting-at, posting-none}
 use Rattle.weight.specs.ScorerTree.{Leaf, nothing, term, phrase, range, everything, Scoring, constant, weighted, Scorer, leaf, boolean, matches, leafMatches, leafScore, scorerScore}
-use Rattle.weight.specs.State.{State}
-use Rattle.weight.specs.Held.{normsWord, LeafIs, ScoringIs, Ok}
+use Rattle.weight.specs.Held.{normsWord, LeafIs, Ok}
 use Rattle.weight.specs.Sound.{LeafSound, Sound, LeafTable, Tables}
 use Rattle.scorer.specs.Contracts.{Lent}
 use Rattle.scorer.proofs.Runs.{cmp}
 use Rattle.score.specs.declared.Node.{Node}
 use Rattle.score.specs.Words.{NodeIs}
 use Rattle.score.specs.Walks.{liveMatch, PageHeld}
-use Rattle.score.proofs.Leaves.{read, words-long}
+use Rattle.score.proofs.Leaves.{read}
 use Rattle.bulk.specs.Collects.{CollectPre, CollectPost}
 use Rattle.bulk.specs.Postings.{NodeScores, PostingAsks}
 use Rattle.bulk.proofs.Collecting.{nonneg-clear}
 use Rattle.bulk.proofs.LiveMatches.{live-of, live-there, not-match, not-live, is-match}
+use Rattle.bulk.proofs.Roots.{node-scores}
 use Rattle.bulk.proofs.Sofar.{Sofar, sofar-start, sofar-skip, sofar-ready, sofar-take, sofar-done}
-
-pub node-scores : (sc : Scoring) (s : State) (n : Node) → n .constant ≡ s .constant → n .weight ≡ s .weight → ScoringIs sc s → NodeScores sc n
-unfolding ScoringIs NodeScores
-node-scores (constant c) s n e f p = (e ∙ p .0, subst (λ (i : ℕ). Rattle.weight.specs.Held.FloatIs c i) (sym f) (p .1))
-node-scores (weighted w) s n e f p = (e ∙ p .0, subst (λ (i : ℕ). Rattle.weight.specs.Held.FloatIs w i) (sym f) (p .1))
-
--- a node's record is there
-pub term-long : (E : Lent) (places depth : ℕ) (norms live : List ℕ) (table : List Float) (st : List ℕ) (ix : Index) (s : Scorer) (scores : ℕ) → PageHeld E norms live table ix places s depth scores st 0 → 24 ≤ length st
-unfolding Ok
-term-long E places depth norms live table st ix (leaf l sc) m H = words-long st (H .ok .1) (H .ok .0) (H .ok .2)
-term-long E places depth norms live table st ix (boolean c j need rs os ps) m H = words-long st (H .ok .1 ++ (H .ok .2 ++ H .ok .3)) (H .ok .0) (H .ok .4)
 
 module _ (postings norms live : List ℕ) (table : List Float) (n : Node) where
   -- n is what is read of the words of leaf l of an accepted index that is lent

@@ -1,6 +1,6 @@
 -- `collect_term` meets its contract: the postings before the loop's place are passed. Assumes nothing.
 use borrow.Author.Needs.{needs}
-use mathlib.Core.Path.{_≡_, refl, sym, subst, _∙_}
+use mathlib.Core.Path.{_≡_, refl, sym, _∙_}
 use mathlib.Core.Logic.{⊎-elim}
 use mathlib.Core.List.{List}
 use Prim.Native.Nat.{ℕ, _+_, _-_, _*_, _≤_, _<_}
@@ -8,7 +8,8 @@ use native.Mathlib.Omega.{arith}
 use lib.IntN.{ℤ}
 use lib.ListN.{length, getD}
 use Rattle.collector.specs.declared.TopScoreDocCollector.{TopScoreDocCollector}
-use Rattle.bulk.proofs.TermRoot.{TermsAt, term-root, term-long, term-start, term-end, term-top, term-done, term-small, term-bit, term-ready, term-asks, term-pass, term-clear, term-take}
+use Rattle.bulk.proofs.Roots.{root-long, joined}
+use Rattle.bulk.proofs.TermRoot.{TermsAt, term-root, term-start, term-end, term-top, term-done, term-small, term-bit, term-ready, term-asks, term-pass, term-clear, term-take}
 use Rattle.bulk.proofs.term.collect_term.Statement.{statement}
 use Rattle.bulk.proofs.term.collect_term.Tie as tie
 
@@ -18,12 +19,8 @@ Inv-loop st postings norms inverses live t heap₀ n c₀ at₀ end heap c at = 
 abbrev μ-loop : tie.MeasureT-loop
 μ-loop st postings norms inverses live t heap₀ n c₀ at₀ end heap c at = end - at
 
--- where the two ways of the branch meet
-joined : (P : TopScoreDocCollector → List ℤ → Type 0) (c c′ : TopScoreDocCollector) (heap heap′ : List ℤ) → heap ≡ heap′ → c ≡ c′ → P c′ heap′ → P c heap
-joined P c c′ heap heap′ e f p = subst (λ (h : List ℤ). P c h) (sym e) (subst (λ (k : TopScoreDocCollector). P k heap′) (sym f) p)
-
 node-at-requires : tie.Need-node-at-requires Inv-loop μ-loop
-node-at-requires c κs = let s = c .before .before .before .before .before in let q = s .pre .1 in term-long (q .0) (q .1) (q .2) (s .args .norms .now) (s .args .live .now) (s .args .inverses .now) (s .args .st .now) (q .5 .0) (q .5 .1) (q .5 .2) (q .5 .3)
+node-at-requires c κs = let s = c .before .before .before .before .before in let q = s .pre .1 in root-long (q .0) (q .1) (q .2) (s .args .norms .now) (s .args .live .now) (s .args .inverses .now) (s .args .st .now) (q .5 .0) (q .5 .1) (q .5 .2) (q .5 .3)
 
 new-requires : tie.Need-new-requires Inv-loop μ-loop
 new-requires c κs = search needs
