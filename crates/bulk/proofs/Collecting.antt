@@ -39,7 +39,7 @@ unfolding fromTarget
 from-zero [] = refl
 from-zero (h ∷ hs) = let e : leb 0 (h .doc) ≡ true = le-leb 0 (h .doc) (omega arith) in ap (λ (b : Bool). cond b (h ∷ []) [] ++ fromTarget 0 hs) e ∙ ap (λ (l : List ScoreDoc). h ∷ l) (from-zero hs)
 
-nonneg-clear : (x : Float) → T (nonneg x) → T (signClear x)
+pub nonneg-clear : (x : Float) → T (nonneg x) → T (signClear x)
 nonneg-clear nan p = p
 nonneg-clear (inf s) p = absurd p
 nonneg-clear (fin s m e) p = p

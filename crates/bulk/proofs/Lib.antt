@@ -1,2 +1,8 @@
 -- What the proofs of this crate share.
 pub mod Collecting
+pub mod Sofar
+pub mod PostingScores
+pub mod LiveMatches
+pub mod Roots
+pub mod TermRoot
+pub mod AnyRoot

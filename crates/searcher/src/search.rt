@@ -108,7 +108,7 @@ fn find(
     let mut inverses: [f32; 4096] = [0.0; 4096];
     inverses::fill_inverses(max_doc, fields, leaves, q, &mut inverses);
     let size = build::build(max_doc, fields, leaves, columns, values, q, states, ranges);
-    bulk::default::collect_matches(
+    bulk::collect_matches(
         &mut states[..size],
         max_doc,
         postings,

@@ -1,0 +1,75 @@
+-- `collect_matches` meets its contract: each loop has it for its kind of root. Assumes nothing.
+use borrow.Author.Needs.{needs}
+use mathlib.Core.Path.{_≡_, refl}
+use Prim.Native.Nat.{ℕ, _≤_, min}
+use native.Mathlib.Omega.{arith}
+use lib.ListN.{length}
+use Rattle.scorer.specs.Contracts.{lent}
+use Rattle.bulk.proofs.Roots.{root-long}
+use Rattle.bulk.proofs.collect_matches.Statement.{statement}
+use Rattle.bulk.proofs.collect_matches.Tie as tie
+
+slice-read-kind : tie.Need-slice-read-kind
+slice-read-kind c = let s = c .before .before .before .before .before .before .before .before in let p = s .pre .1 in omega (arith, root-long (lent (s .args .max-doc) (s .args .postings .now) (s .args .positions .now) (s .args .ranges .now)) (min (length (s .args .a .now)) (length (s .args .b .now))) (s .args .depth) (s .args .norms .now) (s .args .live .now) (s .args .inverses .now) (s .args .st .now) (p .0) (p .1) (p .2) (p .3))
+
+collect-term-requires : tie.Need-collect-term-requires
+collect-term-requires c κs = let s = c .before .before .before .before .before .before .before .before .before .before .before in let p = s .pre .1 in (s .pre .0, ((lent (s .args .max-doc) (s .args .postings .now) (s .args .positions .now) (s .args .ranges .now)), (min (length (s .args .a .now)) (length (s .args .b .now))), s .args .depth, refl, c .before .before .if1 .taken, p))
+
+same-length : tie.Need-same-length
+same-length c = search needs
+
+same-length-2 : tie.Need-same-length-2
+same-length-2 c = search needs
+
+returns : tie.Need-returns
+returns c = let s = c .before .before .before .before .before .before .before .before .before .before .before .before .before in let p = s .pre .1 in c .before .collect-term .ensures (lent (s .args .max-doc) (s .args .postings .now) (s .args .positions .now) (s .args .ranges .now)) (min (length (s .args .a .now)) (length (s .args .b .now))) (s .args .depth) refl
+
+collect-everything-requires : tie.Need-collect-everything-requires
+collect-everything-requires c κs = let s = c .before .before .before .before .before .before .before .before .before .before .before .before in let p = s .pre .1 in (s .pre .0, ((lent (s .args .max-doc) (s .args .postings .now) (s .args .positions .now) (s .args .ranges .now)), s .args .norms .now, s .args .inverses .now, (min (length (s .args .a .now)) (length (s .args .b .now))), s .args .depth, refl, c .before .before .if2 .taken, p))
+
+same-length-3 : tie.Need-same-length-3
+same-length-3 c = search needs
+
+same-length-4 : tie.Need-same-length-4
+same-length-4 c = search needs
+
+returns-2 : tie.Need-returns-2
+returns-2 c = let s = c .before .before .before .before .before .before .before .before .before .before .before .before .before .before in let p = s .pre .1 in c .before .collect-everything .ensures (lent (s .args .max-doc) (s .args .postings .now) (s .args .positions .now) (s .args .ranges .now)) (s .args .norms .now) (s .args .inverses .now) (min (length (s .args .a .now)) (length (s .args .b .now))) (s .args .depth) refl
+
+collect-matches-requires : tie.Need-collect-matches-requires
+collect-matches-requires c κs = let s = c .before .before .before .before .before .before .before .before .before .before .before .before .before .before in let p = s .pre .1 in (s .pre .0, p)
+
+same-length-5 : tie.Need-same-length-5
+same-length-5 c = search needs
+
+same-length-6 : tie.Need-same-length-6
+same-length-6 c = search needs
+
+same-length-7 : tie.Need-same-length-7
+same-length-7 c = search needs
+
+same-length-8 : tie.Need-same-length-8
+same-length-8 c = search needs
+
+returns-3 : tie.Need-returns-3
+returns-3 c = c .before .before .before .before .before .collect-matches .ensures
+
+pub collect-matches-spec : {M : Type 1} → statement M
+collect-matches-spec =
+    tie.close
+    (tie.spec
+    slice-read-kind
+    collect-term-requires
+    same-length
+    same-length-2
+    returns
+    collect-everything-requires
+    same-length-3
+    same-length-4
+    returns-2
+    collect-matches-requires
+    same-length-5
+    same-length-6
+    same-length-7
+    same-length-8
+    returns-3)
