@@ -166,3 +166,13 @@ ok-long ix R T k o y b p = front-long (ok-front ix R T k o y b p)
 -- the document of the cached word
 pub ok-cached : (ix : Index) (R : List ℕ) (T : Scorer) (k o : ℕ) (y : List ℕ) (b : ℕ) → Ok ix R T k o y b → Cache (matches ix T) b (getD y 2 0)
 ok-cached ix R T k o y b p = let f = ok-front ix R T k o y b p in rw (f .is) (f .cache)
+
+-- a node whose first word is 1 is a term: its part is one record
+pub ok-term : (ix : Index) (R : List ℕ) (T : Scorer) (k o : ℕ) (y : List ℕ) (b : ℕ) → Ok ix R T k o y b → getD y 0 0 ≡ 1 → length y ≡ 24
+unfolding Ok LeafIs
+ok-term ix R (leaf nothing sc) k o y b p e = absurd (omega (arith, ap (λ (l : List ℕ). getD l 0 0) (p .2), p .4 .0))
+ok-term ix R (leaf (term l) sc) k o y b p e = omega (arith, ap length (p .2), ap length (p .4 .1))
+ok-term ix R (leaf (phrase f ts) sc) k o y b p e = absurd (omega (arith, ap (λ (l : List ℕ). getD l 0 0) (p .2), p .4 .kind-is))
+ok-term ix R (leaf (range r) sc) k o y b p e = absurd (omega (arith, ap (λ (l : List ℕ). getD l 0 0) (p .2), p .4 .0 .kind-is))
+ok-term ix R (leaf everything sc) k o y b p e = absurd (omega (arith, ap (λ (l : List ℕ). getD l 0 0) (p .2), p .4 .0))
+ok-term ix R (boolean c j need rs os ps) k o y b p e = absurd (omega (arith, ap (λ (l : List ℕ). getD l 0 0) (p .4), p .7 .kind-is))

@@ -14,7 +14,7 @@ use Rattle.weight.specs.State.{State, wordsOf}
 use Rattle.weight.specs.Held.{Cache, Ok, Oks}
 use Rattle.weight.specs.Sound.{Lends, Sound, Sounds}
 use Rattle.scorer.specs.Contracts.{Lent, NodeHeld, AdvancePost, PartsHeld, ChildAt, ChildRead}
-use Rattle.scorer.proofs.Bounds.{Front, front-long, front-size, ok-mono, oks-mono, ok-front, ok-cached}
+use Rattle.scorer.proofs.Bounds.{Front, front-long, front-size, ok-mono, oks-mono, ok-front, ok-cached, ok-term}
 
 -- g are the children that are left, whose words are z; the words before them are x. Nothing is said of those passed but how to put them back.
 pub record Zip (E : Lent) (ix : Index) (p k : ℕ) (fs g : Scorers) (kids : List ℕ) (at t : ℕ) : Type 0 where
@@ -153,3 +153,16 @@ back-length kids ys at e h = simp (length-append, length-take, length-drop, h) (
 -- the first word of a child's part is its kind
 pub child-kind : (kids : List ℕ) (at e : ℕ) → ChildAt kids at → e ≡ at + getD kids (at + 1) 0 → getD (take (e - at) (drop at kids)) 0 0 ≡ getD kids at 0
 child-kind kids at e c h = let z : at + 0 ≡ at = omega arith in getD-take (e - at) (drop at kids) 0 0 (omega (arith, c .long, h)) ∙ getD-drop at kids 0 0 ∙ ap (λ (i : ℕ). getD kids i 0) z
+
+-- a child whose first word is 1 is a term: its part is one record
+module _ {E : Lent} {ix : Index} {p k : ℕ} {fs : Scorers} {kids : List ℕ} {at t : ℕ} where
+  pub child-term : (g : Scorers) → Zip E ix p k fs g kids at t → at < length kids → getD kids at 0 ≡ 1 → getD kids (at + 1) 0 ≡ 24
+  child-term end q l e = absurd (omega (arith, zip-none q))
+  child-term (more f T g) q l e =
+      let v = view q in
+      let n : ℕ = at + getD kids (at + 1) 0 in
+      let first : getD (v .y) 0 0 ≡ 1 = ap (λ (y : List ℕ). getD y 0 0) (sym (part v n refl)) ∙ child-kind kids at n (child-facts (more f T g) q l) refl ∙ e in
+      v .size ∙ ok-term ix (E .ranges) T k (cond f 1 0) (v .y) t (v .ok) first
+
+  pub term-end : (g : Scorers) → Zip E ix p k fs g kids at t → at < length kids → getD kids at 0 ≡ 1 → at + 24 ≡ at + getD kids (at + 1) 0
+  term-end g q l e = ap (λ (n : ℕ). at + n) (sym (child-term g q l e))

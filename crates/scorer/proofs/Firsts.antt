@@ -141,6 +141,16 @@ module _ (ix : Index) (rs os ps : Scorers) (need : ℕ) {target t d : ℕ} (lo :
   pub kept-top : d ≡ noMoreDocs → First (takes ix rs os ps need) target d
   kept-top e = record { from = le-trans lo (f .from); top = f .top; before = kept-before; hit = λ h. absurd (omega arith) }
 
+  -- where nothing is prohibited
+  pub kept-alone : ((x : ℕ) → matching ix ps x ≡ 0) → First (takes ix rs os ps need) target d
+  kept-alone none =
+      record {
+        from = le-trans lo (f .from);
+        top = f .top;
+        before = kept-before;
+        hit = λ h. ap (λ (i : Bool). i && not (ltb 0 (matching ix ps d))) (f .hit h) ∙ ap (λ (n : ℕ). not (ltb 0 n)) (none d);
+      }
+
   pub kept-hit : (x n : ℕ) → LeastIs ix ps d x n → (x ≡ d → ⊥) → First (takes ix rs os ps need) target d
   kept-hit x n g ne =
       record {

@@ -17,7 +17,7 @@ use Rattle.weight.specs.State.{sizesOf}
 use Rattle.weight.specs.Held.{Oks}
 use Rattle.scorer.specs.Contracts.{Lent, PartsHeld, LeadHeld, BooleanHeld, leads}
 use Rattle.scorer.proofs.Bounds.{oks-mono, oks-length, ok-long}
-use Rattle.scorer.proofs.Firsts.{first-like, all-end}
+use Rattle.scorer.proofs.Firsts.{first-like, all-end, matching-end}
 
 -- a list in two: the part up to the seam, the part from it on, and each put back
 module _ (kids x v : List ℕ) (n : ℕ) (is : kids ≡ x ++ v) (seam : length x ≡ n) where
@@ -76,6 +76,14 @@ no-parts {E} {ix} {p} {k} {t} (more f T ss) x q e d =
     let o = q .oks in
     absurd (omega (arith, ap length (o .2), length-append (o .0) (o .1), ok-long ix (E .ranges) T k (cond f 1 0) (o .0) t (o .3)))
 
+-- without prohibited children
+none-match : {E : Lent} {ix : Index} {p k : ℕ} {t : ℕ} (ps : Scorers) (x : List ℕ) → PartsHeld E ix p ps k x t → length x ≡ 0 → (d : ℕ) → matching ix ps d ≡ 0
+unfolding Oks
+none-match {E} {ix} {p} {k} {t} end x q e d = matching-end ix d
+none-match {E} {ix} {p} {k} {t} (more f T ss) x q e d =
+    let o = q .oks in
+    absurd (omega (arith, ap length (o .2), length-append (o .0) (o .1), ok-long ix (E .ranges) T k (cond f 1 0) (o .0) t (o .3)))
+
 nil-of : (x : List ℕ) → length x ≡ 0 → x ≡ []
 nil-of [] e = refl
 nil-of (a ∷ x) e = absurd (omega (arith, e))
@@ -127,3 +135,6 @@ module _ {E : Lent} {ix : Index} {p k : ℕ} {rs os ps : Scorers} {n m : ℕ} {k
 
   pub boolean-later : (e : ℕ) → t ≤ e → BooleanHeld E ix p rs os ps k n m kids e
   boolean-later e l = record { w = h .w; z = h .z; is = h .is; optional-end = h .optional-end; lead = lead-later (h .lead) e l; prohibited = parts-later e l (h .prohibited) }
+
+  pub boolean-none : m ≡ length kids → (d : ℕ) → matching ix ps d ≡ 0
+  boolean-none e = none-match ps (h .z) (h .prohibited) (omega (arith, h .optional-end, ap length (h .is), length-append (h .w) (h .z)))

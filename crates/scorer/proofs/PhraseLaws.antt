@@ -34,8 +34,8 @@ use Rattle.scorer.proofs.Runs.{cmp}
 use Rattle.scorer.proofs.Bounds.{term-mono, terms-mono, terms-length}
 use Rattle.scorer.proofs.LeafLaws.{term-run, term-moved, term-stands, term-first}
 
--- ---- one pass over the terms
-pub record TermsZip (postings : List ℕ) (ix : Index) (ts : List PhraseTerm) (from : ℕ) (terms : List ℕ) (d at : ℕ) : Type 0 where
+-- ---- one pass over the terms, the last that moved it at a place
+pub record TermsZip (postings : List ℕ) (ix : Index) (ts : List PhraseTerm) (from : ℕ) (terms : List ℕ) (d last at : ℕ) : Type 0 where
   pub left : List PhraseTerm
   pub x : List ℕ
   pub z : List ℕ
@@ -50,10 +50,12 @@ pub record TermsZip (postings : List ℕ) (ix : Index) (ts : List PhraseTerm) (f
   pub before : (y : ℕ) → from ≤ y → y < d → allFound ix ts y ≡ false
   pub fails : (y : ℕ) → allFound ix left y ≡ false → allFound ix ts y ≡ false
   pub back : (e : ℕ) → d ≤ e → (z′ : List ℕ) → TermsAre ix left z′ e → TermsAre ix ts (x ++ z′) e
-  pub stand : d ≡ from → d < noMoreDocs → (z′ : List ℕ) → TermsAt ix left z′ d → TermsAt ix ts (x ++ z′) d
+  pub stand : last ≡ 0 → d < noMoreDocs → (z′ : List ℕ) → TermsAt ix left z′ d → TermsAt ix ts (x ++ z′) d
+  pub fresh : at ≡ 0 → (y : ℕ) (z′ : List ℕ) → TermsAt ix left z′ y → TermsAt ix ts (x ++ z′) y
+  pub rise : 0 < last → from < d
 
 module _ {postings : List ℕ} {ix : Index} {ts : List PhraseTerm} {from : ℕ} where
-  pub terms-start : {terms : List ℕ} → from ≤ noMoreDocs → TermsHeld postings ix ts terms from → TermsZip postings ix ts from terms from 0
+  pub terms-start : {terms : List ℕ} → from ≤ noMoreDocs → TermsHeld postings ix ts terms from → TermsZip postings ix ts from terms from 0 0
   terms-start {terms} top h =
       record {
         left = ts;
@@ -71,6 +73,8 @@ module _ {postings : List ℕ} {ix : Index} {ts : List PhraseTerm} {from : ℕ} 
         fails = λ y e. e;
         back = λ e l z′ r. r;
         stand = λ a b z′ r. r;
+        fresh = λ a y z′ r. r;
+        rise = λ a. absurd (omega arith);
       }
 
 -- the words of a record in a list, where it begins at a place
@@ -99,13 +103,13 @@ found-rest ix t ts d e = rw e (and-false (found (postingAt ix (t .leaf) d)))
     and-false true = refl
     and-false false = refl
 
-module _ {postings : List ℕ} {ix : Index} {ts : List PhraseTerm} {from : ℕ} {terms : List ℕ} {d at : ℕ} (q : TermsZip postings ix ts from terms d at) where
-  pub terms-end : length terms ≤ at → TermsPassed ix ts from d terms
+module _ {postings : List ℕ} {ix : Index} {ts : List PhraseTerm} {from : ℕ} {terms : List ℕ} {d last at : ℕ} (q : TermsZip postings ix ts from terms d last at) where
+  pub terms-end : length terms ≤ at → (hit : Bool) → (hit ≡ true → last ≡ 0) → (hit ≡ false → 0 < last) → TermsPassed ix ts from d hit terms
   unfolding TermsAre TermsAt
-  terms-end l = go (q .left) (q .rest) (q .back) (q .stand)
+  terms-end l hit stood went = go (q .left) (q .rest) (q .back) (q .stand)
     where
-      go : (g : List PhraseTerm) → TermsAre ix g (q .z) d → ((e : ℕ) → d ≤ e → (z′ : List ℕ) → TermsAre ix g z′ e → TermsAre ix ts (q .x ++ z′) e) → (d ≡ from → d < noMoreDocs → (z′ : List ℕ) → TermsAt ix g z′ d → TermsAt ix ts (q .x ++ z′) d) → TermsPassed ix ts from d terms
-      go [] r b s = record { from = q .lo; top = q .top; before = q .before; are = rw (q .is) (b d (le-refl _) (q .z) r); stand = λ e h. rw (q .is) (s e h (q .z) r) }
+      go : (g : List PhraseTerm) → TermsAre ix g (q .z) d → ((e : ℕ) → d ≤ e → (z′ : List ℕ) → TermsAre ix g z′ e → TermsAre ix ts (q .x ++ z′) e) → (last ≡ 0 → d < noMoreDocs → (z′ : List ℕ) → TermsAt ix g z′ d → TermsAt ix ts (q .x ++ z′) d) → TermsPassed ix ts from d hit terms
+      go [] r b s = record { from = q .lo; top = q .top; before = q .before; are = rw (q .is) (b d (le-refl _) (q .z) r); stand = λ e h. rw (q .is) (s (stood e) h (q .z) r); moved = λ e. q .rise (went e) }
       go (t ∷ g) r b s = absurd (omega (arith, ap length (q .is), length-append (q .x) (q .z), ap length (r .2), q .place))
 
   module _ (l : at < length terms) (e : ℕ) (stop : e ≡ at + 24) (size : length postings < 9223372036854775808) where
@@ -121,13 +125,14 @@ module _ {postings : List ℕ} {ix : Index} {ts : List PhraseTerm} {from : ℕ} 
               (r .0, [], subst (λ (y : List ℕ). SearchHeld y 3 (r .0) [] (take (e - at) (drop at terms)) d) (q .postings-are) (term-run ix (q .accepted) 9 (t .leaf) (h .0) (r .0) d (r .3) (omega (arith, ap length (q .postings-are))) [] (take (e - at) (drop at terms)) (record-part terms (q .x) (r .1) (r .0) at e is (q .place) stop))),
             )
 
-    pub terms-took : (r : ℕ) (ys : List ℕ) → length ys ≡ length (take (e - at) (drop at terms)) → SearchPost postings 3 (take (e - at) (drop at terms)) d r ys → TermsZip postings ix ts from (take at terms ++ (ys ++ drop (e - at) (drop at terms))) r e
+    -- the term stands at r, which is d, or moved it there
+    pub terms-took : (r last′ : ℕ) → (((last′ ≡ last) × (r ≡ d)) ⊎ ((last′ ≡ at) × (r ≡ d → ⊥))) → (ys : List ℕ) → length ys ≡ length (take (e - at) (drop at terms)) → SearchPost postings 3 (take (e - at) (drop at terms)) d r ys → TermsZip postings ix ts from (take at terms ++ (ys ++ drop (e - at) (drop at terms))) r last′ e
     unfolding TermsAre TermsAt LeavesThere
-    terms-took r ys len post = go (q .left) (q .rest) (q .there) (q .fails) (q .back) (q .stand)
+    terms-took r last′ how ys len post = go (q .left) (q .rest) (q .there) (q .fails) (q .back) (q .stand) (q .fresh)
       where
-        go : (g : List PhraseTerm) → TermsAre ix g (q .z) d → LeavesThere ix g → ((y : ℕ) → allFound ix g y ≡ false → allFound ix ts y ≡ false) → ((e : ℕ) → d ≤ e → (z′ : List ℕ) → TermsAre ix g z′ e → TermsAre ix ts (q .x ++ z′) e) → (d ≡ from → d < noMoreDocs → (z′ : List ℕ) → TermsAt ix g z′ d → TermsAt ix ts (q .x ++ z′) d) → TermsZip postings ix ts from (take at terms ++ (ys ++ drop (e - at) (drop at terms))) r e
-        go [] h k f b s = absurd (omega (arith, ap length (q .is), length-append (q .x) (q .z), ap length h, q .place))
-        go (t ∷ g) h k f b s =
+        go : (g : List PhraseTerm) → TermsAre ix g (q .z) d → LeavesThere ix g → ((y : ℕ) → allFound ix g y ≡ false → allFound ix ts y ≡ false) → ((e : ℕ) → d ≤ e → (z′ : List ℕ) → TermsAre ix g z′ e → TermsAre ix ts (q .x ++ z′) e) → (last ≡ 0 → d < noMoreDocs → (z′ : List ℕ) → TermsAt ix g z′ d → TermsAt ix ts (q .x ++ z′) d) → (at ≡ 0 → (y : ℕ) (z′ : List ℕ) → TermsAt ix g z′ y → TermsAt ix ts (q .x ++ z′) y) → TermsZip postings ix ts from (take at terms ++ (ys ++ drop (e - at) (drop at terms))) r last′ e
+        go [] h k f b s n = absurd (omega (arith, ap length (q .is), length-append (q .x) (q .z), ap length h, q .place))
+        go (t ∷ g) h k f b s n =
             let is = q .is ∙ ap (λ (y : List ℕ). q .x ++ y) (h .2) in
             let st = take (e - at) (drop at terms) in
             let part : st ≡ wordsOf (h .0) = record-part terms (q .x) (h .1) (h .0) at e is (q .place) stop in
@@ -136,6 +141,12 @@ module _ {postings : List ℕ} {ix : Index} {ts : List PhraseTerm} {from : ℕ} 
             let first = term-first ix (q .accepted) 9 (t .leaf) (k .0) (h .0) d (h .3) [] ys r m (q .top) in
             let moved = term-moved ix (q .accepted) 9 (t .leaf) (k .0) (h .0) d (h .3) [] ys r m in
             let here : ys ≡ wordsOf (cursorAt (h .0) (m .cursor)) = m .words-are in
+            let stands : r < noMoreDocs → (z′ : List ℕ) → TermsAt ix g z′ r → TermsAt ix (t ∷ g) (ys ++ z′) r =
+            λ j z′ v.
+            let in-run : m .cursor < h .0 .number = ⊎-elim (λ c. c) (λ c. absurd (omega (arith, m .ended c))) (cmp (m .cursor) (h .0 .number)) in
+            let doc = term-stands ix (q .accepted) 9 (t .leaf) (k .0) (h .0) d (h .3) [] ys r m in-run in
+            (cursorAt (h .0) (m .cursor), z′, ap (λ (y : List ℕ). y ++ z′) here, term-mono ix 9 (t .leaf) (cursorAt (h .0) (m .cursor)) d r (first .from) moved, h .4, doc .0, doc .1, v)
+            in
             record {
               left = g;
               x = q .x ++ ys;
@@ -151,33 +162,24 @@ module _ {postings : List ℕ} {ix : Index} {ts : List PhraseTerm} {from : ℕ} 
               before = λ y i j. ⊎-elim (λ c. q .before y i c) (λ c. f y (found-miss ix t g y (first .before y c j))) (cmp y d);
               fails = λ y c. f y (found-rest ix t g y c);
               back = λ e′ i z′ j. rw append-assoc (b e′ (le-trans (first .from) i) (ys ++ z′) (cursorAt (h .0) (m .cursor), z′, ap (λ (y : List ℕ). y ++ z′) here, term-mono ix 9 (t .leaf) (cursorAt (h .0) (m .cursor)) d e′ (le-trans (first .from) i) moved, h .4, j));
-              stand = λ i j z′ n.
-                  let up : d ≤ r = first .from in
-                  let lo : from ≤ d = q .lo in
-                  let same : r ≡ d = omega arith in
-                  let in-run : m .cursor < h .0 .number = ⊎-elim (λ c. c) (λ c. absurd (omega (arith, m .ended c))) (cmp (m .cursor) (h .0 .number)) in
-                  let doc = term-stands ix (q .accepted) 9 (t .leaf) (k .0) (h .0) d (h .3) [] ys r m in-run in
-                  let n′ : TermsAt ix g z′ d = subst (λ (y : ℕ). TermsAt ix g z′ y) same n in
-                  subst (λ (y : ℕ). TermsAt ix ts ((q .x ++ ys) ++ z′) y) (sym same) (rw append-assoc (s (omega arith) (omega arith) (ys ++ z′) (cursorAt (h .0) (m .cursor), z′, ap (λ (y : List ℕ). y ++ z′) here, moved, h .4, doc .0, doc .1 ∙ same, n′)));
+              stand = λ i j z′ v. rw append-assoc (⊎-elim
+                  (λ (w : (last′ ≡ last) × (r ≡ d)). let same : r ≡ d = w .1 in subst (λ (y : ℕ). TermsAt ix ts (q .x ++ (ys ++ z′)) y) (sym same) (s (sym (w .0) ∙ i) (omega arith) (ys ++ z′) (subst (λ (y : ℕ). TermsAt ix (t ∷ g) (ys ++ z′) y) same (stands j z′ v))))
+                  (λ (w : (last′ ≡ at) × (r ≡ d → ⊥)). n (sym (w .0) ∙ i) r (ys ++ z′) (stands j z′ v))
+                  how);
+              fresh = λ i. absurd (omega (arith, stop));
+              rise = λ i. ⊎-elim (λ (w : (last′ ≡ last) × (r ≡ d)). omega (arith, w .1, q .rise (omega (arith, w .0)))) (λ (w : (last′ ≡ at) × (r ≡ d → ⊥)). omega (arith, w .1, first .from, q .lo)) how;
             }
 
--- ---- passes until one moves nothing
+-- ---- passes until all stand where one got
 pub leap-held : {postings : List ℕ} {ix : Index} {ts : List PhraseTerm} {terms terms′ : List ℕ} {b e : ℕ} → TermsHeld postings ix ts terms b → TermsAre ix ts terms′ e → TermsHeld postings ix ts terms′ e
 leap-held h r = record { accepted = h .accepted; postings-are = h .postings-are; there = h .there; are = r }
 
-module _ {ix : Index} {ts : List PhraseTerm} {terms : List ℕ} {target d e : ℕ} (lo : target ≤ d) (before : (x : ℕ) → target ≤ x → x < d → allFound ix ts x ≡ false) (p : TermsPassed ix ts d e terms) where
+module _ {ix : Index} {ts : List PhraseTerm} {terms : List ℕ} {target d e : ℕ} {hit : Bool} (lo : target ≤ d) (before : (x : ℕ) → target ≤ x → x < d → allFound ix ts x ≡ false) (p : TermsPassed ix ts d e hit terms) where
   pub leap-more : (x : ℕ) → target ≤ x → x < e → allFound ix ts x ≡ false
   leap-more x a b = ⊎-elim (λ h. before x a h) (λ h. p .before x h b) (cmp x d)
 
-  pub leap-done : e ≡ d → Leapt ix ts target d terms
-  leap-done s =
-      record {
-        from = lo;
-        top = omega (arith, p .top);
-        before = before;
-        are = subst (λ (y : ℕ). TermsAre ix ts terms y) s (p .are);
-        stand = λ h. subst (λ (y : ℕ). TermsAt ix ts terms y) s (p .stand s (omega arith));
-      }
+  pub leap-done : hit ≡ true → Leapt ix ts target e terms
+  leap-done s = record { from = le-trans lo (p .from); top = p .top; before = leap-more; are = p .are; stand = p .stand s }
 
 -- ---- what is gathered
 pub record GatherAt (postings : List ℕ) (ix : Index) (ts : List PhraseTerm) (d : ℕ) (terms out : List ℕ) (n at : ℕ) : Type 0 where
@@ -388,6 +390,9 @@ module _ {postings positions : List ℕ} {ix : Index} {places f : ℕ} {ts : Lis
   pub frequency-few : 3 * length ts ≤ 96
   unfolding LeafSound
   frequency-few = omega (arith, h .sound .3)
+
+  pub frequency-four : length terms ≤ 96 → 3 * length ts ≤ 12
+  frequency-four l = omega (arith, terms-at-length ix ts terms d (h .stand))
 
   pub frequency-good : (l : List ℕ) → Gathered ix ts d l → Good positions l
   frequency-good l g = subst (λ (y : List ℕ). Good y l) (h .positions-are) (gathered-good ix (h .accepted) f places ts (h .sound) d l g)

@@ -42,16 +42,17 @@ pub record TermsHeld (postings : List ℕ) (ix : Index) (ts : List PhraseTerm) (
 abbrev pub TermsPre : List ℕ → List ℕ → ℕ → Type 0
 TermsPre postings terms target = (target ≤ noMoreDocs) × ((ix : Index) × (ts : List PhraseTerm) × TermsHeld postings ix ts terms target)
 
--- one pass: nothing from t up to r is a document of all, and where r is t they stand there
-pub record TermsPassed (ix : Index) (ts : List PhraseTerm) (t r : ℕ) (terms : List ℕ) : Type 0 where
+-- one pass: nothing from t up to r is a document of all; they stand there, or it moved
+pub record TermsPassed (ix : Index) (ts : List PhraseTerm) (t r : ℕ) (hit : Bool) (terms : List ℕ) : Type 0 where
   pub from : t ≤ r
   pub top : r ≤ noMoreDocs
   pub before : (d : ℕ) → t ≤ d → d < r → allFound ix ts d ≡ false
   pub are : TermsAre ix ts terms r
-  pub stand : r ≡ t → r < noMoreDocs → TermsAt ix ts terms r
+  pub stand : hit ≡ true → r < noMoreDocs → TermsAt ix ts terms r
+  pub moved : hit ≡ false → t < r
 
-abbrev pub PassTermsPost : List ℕ → List ℕ → ℕ → ℕ → List ℕ → Type 0
-PassTermsPost postings terms target r terms′ = (ix : Index) (ts : List PhraseTerm) → TermsHeld postings ix ts terms target → TermsPassed ix ts target r terms′
+abbrev pub PassTermsPost : List ℕ → List ℕ → ℕ → ℕ → Bool → List ℕ → Type 0
+PassTermsPost postings terms target r hit terms′ = (ix : Index) (ts : List PhraseTerm) → TermsHeld postings ix ts terms target → TermsPassed ix ts target r hit terms′
 
 -- r is the first document of all, or the end, and they stand there
 pub record Leapt (ix : Index) (ts : List PhraseTerm) (t r : ℕ) (terms : List ℕ) : Type 0 where

@@ -24,6 +24,9 @@ const ENTRY: usize = 1;
 // The words of a record.
 const RECORD: usize = 24;
 
+// The words of four terms of a phrase.
+const FOUR_TERMS: usize = 96;
+
 // A record's run: its first place, how many documents it has, and how many are passed.
 pub struct Cursor {
     pub first: usize,
@@ -90,33 +93,50 @@ fn everything(max_doc: u32, target: u32) -> u32
     }
 }
 
-// One pass over the terms of a phrase, each moved to where the one before it got.
-fn pass_terms(terms: &mut [u32], postings: &[u32], target: u32) -> u32
+// Where a pass over the terms of a phrase got, and whether all of them stand there.
+pub struct Pass {
+    pub doc: u32,
+    pub hit: bool,
+}
+
+// Each term moved to where the one before it got. They stand there where none after the first moved it: no second pass is needed.
+fn pass_terms(terms: &mut [u32], postings: &[u32], target: u32) -> Pass
     requires { ⌜ TermsPre (now postings) (now terms) target ⌝ }
-    ensures { λ r. ⌜ PassTermsPost (now (postings .entry)) (now (terms .entry)) target r (now (terms .exit)) ⌝ }
+    ensures { λ r. ⌜ PassTermsPost (now (postings .entry)) (now (terms .entry)) target (r .doc) (r .hit) (now (terms .exit)) ⌝ }
 {
     let mut d = target;
+    let mut last = 0;
     let mut at = 0;
     while at < terms.len() {
         let end = at + RECORD;
-        d = search(&mut terms[at..end], postings, POSTING, d);
-        at = end;
+        let e = search(&mut terms[at..end], postings, POSTING, d);
+        if e == d {
+            at = end;
+        } else {
+            d = e;
+            last = at;
+            at = end;
+        }
     }
-    d
+    if last == 0 {
+        Pass { doc: d, hit: true }
+    } else {
+        Pass { doc: d, hit: false }
+    }
 }
 
-// The first document that all terms of a phrase have: passes until one moves nothing.
+// The first document that all terms of a phrase have: passes until they stand at one.
 fn leapfrog(terms: &mut [u32], postings: &[u32], target: u32) -> u32
     requires { ⌜ TermsPre (now postings) (now terms) target ⌝ }
     ensures { λ r. ⌜ LeapfrogPost (now (postings .entry)) (now (terms .entry)) target r (now (terms .exit)) ⌝ }
 {
     let mut d = target;
     loop {
-        let e = pass_terms(terms, postings, d);
-        if e == d {
-            return d;
+        let p = pass_terms(terms, postings, d);
+        if p.hit {
+            return p.doc;
         }
-        d = e;
+        d = p.doc;
     }
 }
 
@@ -155,7 +175,7 @@ fn gather(terms: &[u32], postings: &[u32], out: &mut [u32]) -> usize
     n
 }
 
-// The frequency of a phrase in the document where its terms stand: at most 32 terms of three words.
+// The frequency of a phrase in the document where its terms stand: at most 32 terms of three words. Most have up to four, and zeroing few words is cheaper.
 fn frequency(
     terms: &[u32],
     postings: &[u32],
@@ -166,6 +186,11 @@ fn frequency(
     requires { ⌜ FrequencyPre (now postings) (now positions) (now terms) (length (now a)) (length (now b)) ⌝ }
     ensures { λ r. ⌜ FrequencyPost (now (postings .entry)) (now (positions .entry)) (now (terms .entry)) r ⌝ }
 {
+    if terms.len() <= FOUR_TERMS {
+        let mut few = [0u32; 12];
+        let m = gather(terms, postings, &mut few);
+        return phrase::frequency(positions, &few[..m], a, b);
+    }
     let mut out = [0u32; 96];
     let n = gather(terms, postings, &mut out);
     phrase::frequency(positions, &out[..n], a, b)

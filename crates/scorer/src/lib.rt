@@ -12,6 +12,8 @@ pub const NO_MORE_DOCS: u32 = 2147483647;
 // The words of a record, where children begin.
 const RECORD: usize = 24;
 
+const TERM: u32 = 1;
+
 const BOOLEAN: u32 = 3;
 
 // A word as a place in a slice.
@@ -116,32 +118,6 @@ pub fn advance_term(st: &mut [u32], postings: &[u32], target: u32) -> u32
     d
 }
 
-// A node that is no Boolean: outside the cycle, so that moving one costs no more than its own search.
-pub fn advance_leaf(
-    st: &mut [u32],
-    max_doc: u32,
-    postings: &[u32],
-    positions: &[u32],
-    ranges: &[u32],
-    a: &mut [i32],
-    b: &mut [i32],
-    target: u32,
-    depth: u32,
-) -> u32
-    requires { ⌜ (getD (now st) 0 0 ≡ 3 → ⊥) × AdvancePre (lent «max_doc» (now postings) (now positions) (now ranges)) (length (now a)) (length (now b)) (now st) target depth ⌝ }
-    ensures { λ r. ⌜ AdvancePost (lent «max_doc» (now (postings .entry)) (now (positions .entry)) (now (ranges .entry))) (now (st .entry)) target depth r (now (st .exit)) ⌝ }
-    ensures { λ r. ⌜ getD (now (st .exit)) 2 0 ≡ r + 1 ⌝ }
-{
-    let h = head_at(st);
-    let cached = h.cached;
-    if target < cached {
-        return cached - 1;
-    }
-    let d = leaves::seek(st, max_doc, postings, positions, ranges, a, b, target);
-    st[2] = d + 1;
-    d
-}
-
 // The first document at or after the target that the node matches, or NO_MORE_DOCS.
 pub fn advance(
     st: &mut [u32],
@@ -189,7 +165,7 @@ pub fn advance(
     }
 }
 
-// The lead's documents that no prohibited child matches.
+// The lead's documents that no prohibited child matches; where there is none, the lead's.
 fn excluding(
     kids: &mut [u32],
     max_doc: u32,
@@ -223,6 +199,9 @@ fn excluding(
             depth,
         );
         if d == NO_MORE_DOCS {
+            return d;
+        }
+        if optional_end == kids.len() {
             return d;
         }
         let x = least(
@@ -380,7 +359,7 @@ fn step(
     }
 }
 
-// Each child in turn, cheapest first, advanced to where the one before it got.
+// Each child in turn, cheapest first, advanced to where the one before it got. A term's part is one record: its end is known without its size word.
 fn pass(
     kids: &mut [u32],
     max_doc: u32,
@@ -398,38 +377,31 @@ fn pass(
     let mut d = target;
     let mut at = 0;
     while at < kids.len() {
-        let k = child_at(kids, at);
-        let end = k.end;
-        let cached = k.cached;
-        if d < cached {
-            d = cached - 1;
-            at = end;
-        } else if kind_at(kids, at) == BOOLEAN {
-            d = advance(
-                &mut kids[at..end],
-                max_doc,
-                postings,
-                positions,
-                ranges,
-                a,
-                b,
-                d,
-                depth,
-            );
+        if kind_at(kids, at) == TERM {
+            let end = at + RECORD;
+            d = advance_term(&mut kids[at..end], postings, d);
             at = end;
         } else {
-            d = advance_leaf(
-                &mut kids[at..end],
-                max_doc,
-                postings,
-                positions,
-                ranges,
-                a,
-                b,
-                d,
-                depth,
-            );
-            at = end;
+            let k = child_at(kids, at);
+            let end = k.end;
+            let cached = k.cached;
+            if d < cached {
+                d = cached - 1;
+                at = end;
+            } else {
+                d = advance(
+                    &mut kids[at..end],
+                    max_doc,
+                    postings,
+                    positions,
+                    ranges,
+                    a,
+                    b,
+                    d,
+                    depth,
+                );
+                at = end;
+            }
         }
     }
     d
@@ -486,90 +458,40 @@ fn least(
     let mut count = 0;
     let mut at = 0;
     while at < kids.len() {
-        let k = child_at(kids, at);
-        let end = k.end;
-        let cached = k.cached;
-        if target < cached {
-            let x = tally(best, count, cached - 1);
-            best = x.doc;
-            count = x.count;
-            at = end;
-        } else if kind_at(kids, at) == BOOLEAN {
-            let d = advance(
-                &mut kids[at..end],
-                max_doc,
-                postings,
-                positions,
-                ranges,
-                a,
-                b,
-                target,
-                depth,
-            );
+        if kind_at(kids, at) == TERM {
+            let end = at + RECORD;
+            let d = advance_term(&mut kids[at..end], postings, target);
             let x = tally(best, count, d);
             best = x.doc;
             count = x.count;
             at = end;
         } else {
-            let d = advance_leaf(
-                &mut kids[at..end],
-                max_doc,
-                postings,
-                positions,
-                ranges,
-                a,
-                b,
-                target,
-                depth,
-            );
-            let x = tally(best, count, d);
-            best = x.doc;
-            count = x.count;
-            at = end;
+            let k = child_at(kids, at);
+            let end = k.end;
+            let cached = k.cached;
+            if target < cached {
+                let x = tally(best, count, cached - 1);
+                best = x.doc;
+                count = x.count;
+                at = end;
+            } else {
+                let d = advance(
+                    &mut kids[at..end],
+                    max_doc,
+                    postings,
+                    positions,
+                    ranges,
+                    a,
+                    b,
+                    target,
+                    depth,
+                );
+                let x = tally(best, count, d);
+                best = x.doc;
+                count = x.count;
+                at = end;
+            }
         }
     }
     Standing { doc: best, count }
-}
-
-// A root of any kind: a leaf is moved without the cycle.
-pub fn advance_any(
-    st: &mut [u32],
-    max_doc: u32,
-    postings: &[u32],
-    positions: &[u32],
-    ranges: &[u32],
-    a: &mut [i32],
-    b: &mut [i32],
-    target: u32,
-    depth: u32,
-) -> u32
-    requires { ⌜ AdvancePre (lent «max_doc» (now postings) (now positions) (now ranges)) (length (now a)) (length (now b)) (now st) target depth ⌝ }
-    ensures { λ r. ⌜ AdvancePost (lent «max_doc» (now (postings .entry)) (now (positions .entry)) (now (ranges .entry))) (now (st .entry)) target depth r (now (st .exit)) ⌝ }
-    ensures { λ r. ⌜ getD (now (st .exit)) 2 0 ≡ r + 1 ⌝ }
-{
-    let h = head_at(st);
-    if h.kind == BOOLEAN {
-        return advance(
-            st,
-            max_doc,
-            postings,
-            positions,
-            ranges,
-            a,
-            b,
-            target,
-            depth,
-        );
-    }
-    advance_leaf(
-        st,
-        max_doc,
-        postings,
-        positions,
-        ranges,
-        a,
-        b,
-        target,
-        depth,
-    )
 }

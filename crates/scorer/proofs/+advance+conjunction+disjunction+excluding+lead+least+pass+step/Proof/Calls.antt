@@ -39,7 +39,7 @@ use Rattle.scorer.proofs.boolean_at.Reads as boolean-at-reads
 use Rattle.scorer.proofs.child_at.Reads as child-at-reads
 use Rattle.scorer.proofs.head_at.Reads as head-at-reads
 use Rattle.scorer.proofs.kind_at.Reads as kind-at-reads
-use Rattle.scorer.proofs.advance_leaf.Reads as advance-leaf-reads
+use Rattle.scorer.proofs.advance_term.Reads as advance-term-reads
 use Rattle.scorer.proofs.leaves.seek.Reads as seek-reads
 use Rattle.scorer.proofs.tally.Reads as tally-reads
 use Rattle.scorer.proofs.wide.Reads as wide-reads
@@ -137,10 +137,10 @@ abbrev pub lead-calls : ℕ → lead-lts.Claims
 lead-calls t = (disjunction-below t, disjunction.Post, conjunction-below t, conjunction.Post)
 
 abbrev pub least-calls : ℕ → least-lts.Claims
-least-calls t = (child-at-reads.Asked, child-at-reads.Learnt, tally-reads.Asked, tally-reads.Learnt, kind-at-reads.Asked, kind-at-reads.Learnt, advance-below t, advance.Post, advance-leaf-reads.Asked, advance-leaf-reads.Learnt)
+least-calls t = (kind-at-reads.Asked, kind-at-reads.Learnt, advance-term-reads.Asked, advance-term-reads.Learnt, tally-reads.Asked, tally-reads.Learnt, child-at-reads.Asked, child-at-reads.Learnt, advance-below t, advance.Post)
 
 abbrev pub pass-calls : ℕ → pass-lts.Claims
-pass-calls t = (child-at-reads.Asked, child-at-reads.Learnt, kind-at-reads.Asked, kind-at-reads.Learnt, advance-below t, advance.Post, advance-leaf-reads.Asked, advance-leaf-reads.Learnt)
+pass-calls t = (kind-at-reads.Asked, kind-at-reads.Learnt, advance-term-reads.Asked, advance-term-reads.Learnt, child-at-reads.Asked, child-at-reads.Learnt, advance-below t, advance.Post)
 
 abbrev pub step-calls : ℕ → step-lts.Claims
 step-calls t = (pass-below t, pass.Post, disjunction-below t, disjunction.Post)

@@ -8,10 +8,10 @@ use lib.Seq.{length-take-le, getD-set-same}
 use Rattle.meaning.specs.Limits.{noMoreDocs}
 use Rattle.scorer.specs.Contracts.{lent}
 use Rattle.scorer.proofs.Bounds.{ok-long}
-use Rattle.scorer.proofs.Firsts.{kept-top, kept-hit, kept-more}
+use Rattle.scorer.proofs.Firsts.{kept-top, kept-alone, kept-hit, kept-more}
 use Rattle.scorer.proofs.Children.{back-length}
 use Rattle.scorer.proofs.Loops.{going-start}
-use Rattle.scorer.proofs.Leads.{front-length, boolean-fits, boolean-lead, boolean-led, boolean-prohibited, boolean-joined, boolean-later}
+use Rattle.scorer.proofs.Leads.{front-length, boolean-fits, boolean-lead, boolean-led, boolean-prohibited, boolean-joined, boolean-later, boolean-none}
 use Rattle.scorer.proofs.Nodes.{node-cached, node-leaf, node-sought, node-boolean, node-joined}
 use Prim.Native.Nat.{ℕ, _<_}
 use Rattle.scorer.proofs.advance.Reads as advance
@@ -113,38 +113,50 @@ excluding-same-length-3 t c = let s = (c .before .before .before .before .before
 pub excluding-returns : (t : ℕ) → excluding-lts.Need-returns (excluding-calls t) (excluding-at t) excluding.Post excluding-Inv-loop excluding-μ-loop
 excluding-returns t c = let s = (c .before .before .before .before .before .before .before .before .before .before .before .before .before .before) in let a = (c .before .before .before .before .before .before .before .before .before) .loop in let m = s .args .optional-end in let g = (c .before .before .before .before .before) .lead in λ ix p rs os ps h. let i = a .inv .2 ix p rs os ps h in let q = g .ensures ix p rs os (boolean-lead (i .held)) in (kept-top ix rs os ps (s .args .need) (i .lo) (i .before) (q .0) (c .if1 .taken), boolean-led (i .held) (g .last .0) (g .result) (q .0 .from) (g .kept .0) (q .1))
 
-pub excluding-mul-least : (t : ℕ) → excluding-lts.Need-mul-least (excluding-calls t) (excluding-at t) excluding.Post excluding-Inv-loop excluding-μ-loop
-excluding-mul-least t c = let s = (c .before .before .before .before .before .before .before .before .before .before .before .before .before .before) in let P = s .pre .1 .1 in let a = (c .before .before .before .before .before .before .before .before .before) .loop in let i = a .inv .2 (P .0) (P .1) (P .2) (P .3) (P .4) (P .6) in let m = s .args .optional-end in let f = boolean-fits (i .held) in omega (arith, f, a .inv .0, s .good)
-
-pub excluding-sub-least : (t : ℕ) → excluding-lts.Need-sub-least (excluding-calls t) (excluding-at t) excluding.Post excluding-Inv-loop excluding-μ-loop
-excluding-sub-least t c = let s = (c .before .before .before .before .before .before .before .before .before .before .before .before .before .before) in let P = s .pre .1 .1 in let a = (c .before .before .before .before .before .before .before .before .before) .loop in let i = a .inv .2 (P .0) (P .1) (P .2) (P .3) (P .4) (P .6) in let m = s .args .optional-end in let g = (c .before .before .before .before .before) .lead in let f = boolean-fits (i .held) in let e = front-length (a .kids) (g .last .0) m (g .kept .0) in omega (arith, f, e)
-
-pub excluding-part-least-start : (t : ℕ) → excluding-lts.Need-part-least-start (excluding-calls t) (excluding-at t) excluding.Post excluding-Inv-loop excluding-μ-loop
-excluding-part-least-start t c = let s = (c .before .before .before .before .before .before .before .before .before .before .before .before .before .before) in let P = s .pre .1 .1 in let a = (c .before .before .before .before .before .before .before .before .before) .loop in let i = a .inv .2 (P .0) (P .1) (P .2) (P .3) (P .4) (P .6) in let m = s .args .optional-end in let g = (c .before .before .before .before .before) .lead in let f = boolean-fits (i .held) in let e = front-length (a .kids) (g .last .0) m (g .kept .0) in omega (arith, f, e, a .inv .0, s .good)
-
-pub excluding-part-least-end : (t : ℕ) → excluding-lts.Need-part-least-end (excluding-calls t) (excluding-at t) excluding.Post excluding-Inv-loop excluding-μ-loop
-excluding-part-least-end t c = let s = (c .before .before .before .before .before .before .before .before .before .before .before .before .before .before) in let P = s .pre .1 .1 in let a = (c .before .before .before .before .before .before .before .before .before) .loop in let i = a .inv .2 (P .0) (P .1) (P .2) (P .3) (P .4) (P .6) in let m = s .args .optional-end in let g = (c .before .before .before .before .before) .lead in let f = boolean-fits (i .held) in let e = front-length (a .kids) (g .last .0) m (g .kept .0) in omega (arith, f, e, a .inv .0, s .good)
-
-pub excluding-least-requires : (t : ℕ) → excluding-lts.Need-least-requires (excluding-calls t) (excluding-at t) excluding.Post excluding-Inv-loop excluding-μ-loop
-excluding-least-requires t c κs = let s = (c .before .before .before .before .before .before .before .before .before .before .before .before .before .before .before .before .before) in let P = s .pre .1 .1 in let a = (c .before .before .before .before .before .before .before .before .before .before .before .before) .loop in let i = a .inv .2 (P .0) (P .1) (P .2) (P .3) (P .4) (P .6) in let m = s .args .optional-end in let g = (c .before .before .before .before .before .before .before .before) .lead in let q = g .ensures (P .0) (P .1) (P .2) (P .3) (boolean-lead (i .held)) in (omega (arith, s .pre .0), (q .0 .top, (P .0, P .1, P .4, record { in-a = omega (arith, a .inv .0, P .5, g .kept .1 .1 .1 .1 .1 .0); in-b = omega (arith, a .inv .0, P .5, g .kept .1 .1 .1 .1 .1 .1 .0) }, boolean-prohibited (boolean-led (i .held) (g .last .0) (g .result) (q .0 .from) (g .kept .0) (q .1)))))
-
-pub excluding-add-t : (t : ℕ) → excluding-lts.Need-add-t (excluding-calls t) (excluding-at t) excluding.Post excluding-Inv-loop excluding-μ-loop
-excluding-add-t t c = let s = (c .before .before .before .before .before .before .before .before .before .before .before .before .before .before .before .before .before .before .before .before .before .before .before .before) in let P = s .pre .1 .1 in let a = (c .before .before .before .before .before .before .before .before .before .before .before .before .before .before .before .before .before .before .before) .loop in let i = a .inv .2 (P .0) (P .1) (P .2) (P .3) (P .4) (P .6) in let m = s .args .optional-end in let g = (c .before .before .before .before .before .before .before .before .before .before .before .before .before .before .before) .lead in let q = g .ensures (P .0) (P .1) (P .2) (P .3) (boolean-lead (i .held)) in omega (arith, q .0 .top)
-
-pub excluding-loop-less : (t : ℕ) → excluding-lts.Need-loop-less (excluding-calls t) (excluding-at t) excluding.Post excluding-Inv-loop excluding-μ-loop
-excluding-loop-less t c = let s = (c .before .before .before .before .before .before .before .before .before .before .before .before .before .before .before .before .before .before .before .before .before .before .before .before) in let P = s .pre .1 .1 in let a = (c .before .before .before .before .before .before .before .before .before .before .before .before .before .before .before .before .before .before .before) .loop in let i = a .inv .2 (P .0) (P .1) (P .2) (P .3) (P .4) (P .6) in let m = s .args .optional-end in let g = (c .before .before .before .before .before .before .before .before .before .before .before .before .before .before .before) .lead in let q = g .ensures (P .0) (P .1) (P .2) (P .3) (boolean-lead (i .held)) in let d : g .result < noMoreDocs = omega (arith, q .0 .top, (c .before .before .before .before .before .before .before .before .before .before) .if1 .left) in omega (arith, q .0 .from)
-
-pub excluding-loop-again : (t : ℕ) → excluding-lts.Need-loop-again (excluding-calls t) (excluding-at t) excluding.Post excluding-Inv-loop excluding-μ-loop
-excluding-loop-again t c = let s = (c .before .before .before .before .before .before .before .before .before .before .before .before .before .before .before .before .before .before .before .before .before .before .before .before) in let P = s .pre .1 .1 in let a = (c .before .before .before .before .before .before .before .before .before .before .before .before .before .before .before .before .before .before .before) .loop in let i = a .inv .2 (P .0) (P .1) (P .2) (P .3) (P .4) (P .6) in let m = s .args .optional-end in let g = (c .before .before .before .before .before .before .before .before .before .before .before .before .before .before .before) .lead in let x = (c .before .before .before .before .before .before) .least in let w = g .last .0 ++ drop m (a .kids) in let q = g .ensures (P .0) (P .1) (P .2) (P .3) (boolean-lead (i .held)) in let d : g .result < noMoreDocs = omega (arith, q .0 .top, (c .before .before .before .before .before .before .before .before .before .before) .if1 .left) in (record { kids-same = back-length w (x .last .0) m (length w) (x .kept .0) ∙ front-length (a .kids) (g .last .0) m (g .kept .0) ∙ a .inv .0 .kids-same; a-same = x .kept .1 .1 .1 .1 .1 .0 ∙ g .kept .1 .1 .1 .1 .1 .0 ∙ a .inv .0 .a-same; b-same = x .kept .1 .1 .1 .1 .1 .1 .0 ∙ g .kept .1 .1 .1 .1 .1 .1 .0 ∙ a .inv .0 .b-same }, omega arith, λ ix p rs os ps h. let i = a .inv .2 ix p rs os ps h in let q = g .ensures ix p rs os (boolean-lead (i .held)) in let j = boolean-led (i .held) (g .last .0) (g .result) (q .0 .from) (g .kept .0) (q .1) in let y = x .ensures ix p ps (boolean-prohibited j) in record { lo = omega (arith, i .lo, q .0 .from); before = kept-more ix rs os ps (s .args .need) (i .lo) (i .before) (q .0) (x .result .doc) (x .result .count) d (y .0) (c .if2 .taken); held = boolean-later (boolean-joined j (x .last .0) (y .1)) (g .result + 1) (omega arith) })
-
 pub excluding-same-length-4 : (t : ℕ) → excluding-lts.Need-same-length-4 (excluding-calls t) (excluding-at t) excluding.Post excluding-Inv-loop excluding-μ-loop
-excluding-same-length-4 t c = let s = (c .before .before .before .before .before .before .before .before .before .before .before .before .before .before .before .before .before .before .before .before .before .before .before .before) in let a = (c .before .before .before .before .before .before .before .before .before .before .before .before .before .before .before .before .before .before .before) .loop in let m = s .args .optional-end in let g = (c .before .before .before .before .before .before .before .before .before .before .before .before .before .before .before) .lead in let x = (c .before .before .before .before .before .before) .least in let w = g .last .0 ++ drop m (a .kids) in back-length w (x .last .0) m (length w) (x .kept .0) ∙ front-length (a .kids) (g .last .0) m (g .kept .0) ∙ a .inv .0 .kids-same
+excluding-same-length-4 t c = let s = (c .before .before .before .before .before .before .before .before .before .before .before .before .before .before .before) in let a = (c .before .before .before .before .before .before .before .before .before .before) .loop in let m = s .args .optional-end in let g = (c .before .before .before .before .before .before) .lead in front-length (a .kids) (g .last .0) m (g .kept .0) ∙ a .inv .0 .kids-same
 
 pub excluding-same-length-5 : (t : ℕ) → excluding-lts.Need-same-length-5 (excluding-calls t) (excluding-at t) excluding.Post excluding-Inv-loop excluding-μ-loop
-excluding-same-length-5 t c = let s = (c .before .before .before .before .before .before .before .before .before .before .before .before .before .before .before .before .before .before .before .before .before .before .before .before) in let a = (c .before .before .before .before .before .before .before .before .before .before .before .before .before .before .before .before .before .before .before) .loop in let m = s .args .optional-end in let g = (c .before .before .before .before .before .before .before .before .before .before .before .before .before .before .before) .lead in let x = (c .before .before .before .before .before .before) .least in x .kept .1 .1 .1 .1 .1 .0 ∙ g .kept .1 .1 .1 .1 .1 .0 ∙ a .inv .0 .a-same
+excluding-same-length-5 t c = let s = (c .before .before .before .before .before .before .before .before .before .before .before .before .before .before .before) in let a = (c .before .before .before .before .before .before .before .before .before .before) .loop in let m = s .args .optional-end in let g = (c .before .before .before .before .before .before) .lead in g .kept .1 .1 .1 .1 .1 .0 ∙ a .inv .0 .a-same
 
 pub excluding-same-length-6 : (t : ℕ) → excluding-lts.Need-same-length-6 (excluding-calls t) (excluding-at t) excluding.Post excluding-Inv-loop excluding-μ-loop
-excluding-same-length-6 t c = let s = (c .before .before .before .before .before .before .before .before .before .before .before .before .before .before .before .before .before .before .before .before .before .before .before .before) in let a = (c .before .before .before .before .before .before .before .before .before .before .before .before .before .before .before .before .before .before .before) .loop in let m = s .args .optional-end in let g = (c .before .before .before .before .before .before .before .before .before .before .before .before .before .before .before) .lead in let x = (c .before .before .before .before .before .before) .least in x .kept .1 .1 .1 .1 .1 .1 .0 ∙ g .kept .1 .1 .1 .1 .1 .1 .0 ∙ a .inv .0 .b-same
+excluding-same-length-6 t c = let s = (c .before .before .before .before .before .before .before .before .before .before .before .before .before .before .before) in let a = (c .before .before .before .before .before .before .before .before .before .before) .loop in let m = s .args .optional-end in let g = (c .before .before .before .before .before .before) .lead in g .kept .1 .1 .1 .1 .1 .1 .0 ∙ a .inv .0 .b-same
 
 pub excluding-returns-2 : (t : ℕ) → excluding-lts.Need-returns-2 (excluding-calls t) (excluding-at t) excluding.Post excluding-Inv-loop excluding-μ-loop
-excluding-returns-2 t c = let s = (c .before .before .before .before .before .before .before .before .before .before .before .before .before .before .before .before .before .before .before .before .before .before .before .before) in let a = (c .before .before .before .before .before .before .before .before .before .before .before .before .before .before .before .before .before .before .before) .loop in let m = s .args .optional-end in let g = (c .before .before .before .before .before .before .before .before .before .before .before .before .before .before .before) .lead in let x = (c .before .before .before .before .before .before) .least in λ ix p rs os ps h. let i = a .inv .2 ix p rs os ps h in let q = g .ensures ix p rs os (boolean-lead (i .held)) in let j = boolean-led (i .held) (g .last .0) (g .result) (q .0 .from) (g .kept .0) (q .1) in let y = x .ensures ix p ps (boolean-prohibited j) in (kept-hit ix rs os ps (s .args .need) (i .lo) (i .before) (q .0) (x .result .doc) (x .result .count) (y .0) (c .if2 .left), boolean-joined j (x .last .0) (y .1))
+excluding-returns-2 t c = let s = (c .before .before .before .before .before .before .before .before .before .before .before .before .before .before .before) in let a = (c .before .before .before .before .before .before .before .before .before .before) .loop in let m = s .args .optional-end in let g = (c .before .before .before .before .before .before) .lead in λ ix p rs os ps h. let i = a .inv .2 ix p rs os ps h in let q = g .ensures ix p rs os (boolean-lead (i .held)) in let j = boolean-led (i .held) (g .last .0) (g .result) (q .0 .from) (g .kept .0) (q .1) in (kept-alone ix rs os ps (s .args .need) (i .lo) (i .before) (q .0) (boolean-none j (c .if2 .taken)), j)
+
+pub excluding-mul-least : (t : ℕ) → excluding-lts.Need-mul-least (excluding-calls t) (excluding-at t) excluding.Post excluding-Inv-loop excluding-μ-loop
+excluding-mul-least t c = let s = (c .before .before .before .before .before .before .before .before .before .before .before .before .before .before .before) in let P = s .pre .1 .1 in let a = (c .before .before .before .before .before .before .before .before .before .before) .loop in let i = a .inv .2 (P .0) (P .1) (P .2) (P .3) (P .4) (P .6) in let m = s .args .optional-end in let f = boolean-fits (i .held) in omega (arith, f, a .inv .0, s .good)
+
+pub excluding-sub-least : (t : ℕ) → excluding-lts.Need-sub-least (excluding-calls t) (excluding-at t) excluding.Post excluding-Inv-loop excluding-μ-loop
+excluding-sub-least t c = let s = (c .before .before .before .before .before .before .before .before .before .before .before .before .before .before .before) in let P = s .pre .1 .1 in let a = (c .before .before .before .before .before .before .before .before .before .before) .loop in let i = a .inv .2 (P .0) (P .1) (P .2) (P .3) (P .4) (P .6) in let m = s .args .optional-end in let g = (c .before .before .before .before .before .before) .lead in let f = boolean-fits (i .held) in let e = front-length (a .kids) (g .last .0) m (g .kept .0) in omega (arith, f, e)
+
+pub excluding-part-least-start : (t : ℕ) → excluding-lts.Need-part-least-start (excluding-calls t) (excluding-at t) excluding.Post excluding-Inv-loop excluding-μ-loop
+excluding-part-least-start t c = let s = (c .before .before .before .before .before .before .before .before .before .before .before .before .before .before .before) in let P = s .pre .1 .1 in let a = (c .before .before .before .before .before .before .before .before .before .before) .loop in let i = a .inv .2 (P .0) (P .1) (P .2) (P .3) (P .4) (P .6) in let m = s .args .optional-end in let g = (c .before .before .before .before .before .before) .lead in let f = boolean-fits (i .held) in let e = front-length (a .kids) (g .last .0) m (g .kept .0) in omega (arith, f, e, a .inv .0, s .good)
+
+pub excluding-part-least-end : (t : ℕ) → excluding-lts.Need-part-least-end (excluding-calls t) (excluding-at t) excluding.Post excluding-Inv-loop excluding-μ-loop
+excluding-part-least-end t c = let s = (c .before .before .before .before .before .before .before .before .before .before .before .before .before .before .before) in let P = s .pre .1 .1 in let a = (c .before .before .before .before .before .before .before .before .before .before) .loop in let i = a .inv .2 (P .0) (P .1) (P .2) (P .3) (P .4) (P .6) in let m = s .args .optional-end in let g = (c .before .before .before .before .before .before) .lead in let f = boolean-fits (i .held) in let e = front-length (a .kids) (g .last .0) m (g .kept .0) in omega (arith, f, e, a .inv .0, s .good)
+
+pub excluding-least-requires : (t : ℕ) → excluding-lts.Need-least-requires (excluding-calls t) (excluding-at t) excluding.Post excluding-Inv-loop excluding-μ-loop
+excluding-least-requires t c κs = let s = (c .before .before .before .before .before .before .before .before .before .before .before .before .before .before .before .before .before .before) in let P = s .pre .1 .1 in let a = (c .before .before .before .before .before .before .before .before .before .before .before .before .before) .loop in let i = a .inv .2 (P .0) (P .1) (P .2) (P .3) (P .4) (P .6) in let m = s .args .optional-end in let g = (c .before .before .before .before .before .before .before .before .before) .lead in let q = g .ensures (P .0) (P .1) (P .2) (P .3) (boolean-lead (i .held)) in (omega (arith, s .pre .0), (q .0 .top, (P .0, P .1, P .4, record { in-a = omega (arith, a .inv .0, P .5, g .kept .1 .1 .1 .1 .1 .0); in-b = omega (arith, a .inv .0, P .5, g .kept .1 .1 .1 .1 .1 .1 .0) }, boolean-prohibited (boolean-led (i .held) (g .last .0) (g .result) (q .0 .from) (g .kept .0) (q .1)))))
+
+pub excluding-add-t : (t : ℕ) → excluding-lts.Need-add-t (excluding-calls t) (excluding-at t) excluding.Post excluding-Inv-loop excluding-μ-loop
+excluding-add-t t c = let s = (c .before .before .before .before .before .before .before .before .before .before .before .before .before .before .before .before .before .before .before .before .before .before .before .before .before) in let P = s .pre .1 .1 in let a = (c .before .before .before .before .before .before .before .before .before .before .before .before .before .before .before .before .before .before .before .before) .loop in let i = a .inv .2 (P .0) (P .1) (P .2) (P .3) (P .4) (P .6) in let m = s .args .optional-end in let g = (c .before .before .before .before .before .before .before .before .before .before .before .before .before .before .before .before) .lead in let q = g .ensures (P .0) (P .1) (P .2) (P .3) (boolean-lead (i .held)) in omega (arith, q .0 .top)
+
+pub excluding-loop-less : (t : ℕ) → excluding-lts.Need-loop-less (excluding-calls t) (excluding-at t) excluding.Post excluding-Inv-loop excluding-μ-loop
+excluding-loop-less t c = let s = (c .before .before .before .before .before .before .before .before .before .before .before .before .before .before .before .before .before .before .before .before .before .before .before .before .before) in let P = s .pre .1 .1 in let a = (c .before .before .before .before .before .before .before .before .before .before .before .before .before .before .before .before .before .before .before .before) .loop in let i = a .inv .2 (P .0) (P .1) (P .2) (P .3) (P .4) (P .6) in let m = s .args .optional-end in let g = (c .before .before .before .before .before .before .before .before .before .before .before .before .before .before .before .before) .lead in let q = g .ensures (P .0) (P .1) (P .2) (P .3) (boolean-lead (i .held)) in let d : g .result < noMoreDocs = omega (arith, q .0 .top, (c .before .before .before .before .before .before .before .before .before .before .before) .if1 .left) in omega (arith, q .0 .from)
+
+pub excluding-loop-again : (t : ℕ) → excluding-lts.Need-loop-again (excluding-calls t) (excluding-at t) excluding.Post excluding-Inv-loop excluding-μ-loop
+excluding-loop-again t c = let s = (c .before .before .before .before .before .before .before .before .before .before .before .before .before .before .before .before .before .before .before .before .before .before .before .before .before) in let P = s .pre .1 .1 in let a = (c .before .before .before .before .before .before .before .before .before .before .before .before .before .before .before .before .before .before .before .before) .loop in let i = a .inv .2 (P .0) (P .1) (P .2) (P .3) (P .4) (P .6) in let m = s .args .optional-end in let g = (c .before .before .before .before .before .before .before .before .before .before .before .before .before .before .before .before) .lead in let x = (c .before .before .before .before .before .before) .least in let w = g .last .0 ++ drop m (a .kids) in let q = g .ensures (P .0) (P .1) (P .2) (P .3) (boolean-lead (i .held)) in let d : g .result < noMoreDocs = omega (arith, q .0 .top, (c .before .before .before .before .before .before .before .before .before .before .before) .if1 .left) in (record { kids-same = back-length w (x .last .0) m (length w) (x .kept .0) ∙ front-length (a .kids) (g .last .0) m (g .kept .0) ∙ a .inv .0 .kids-same; a-same = x .kept .1 .1 .1 .1 .1 .0 ∙ g .kept .1 .1 .1 .1 .1 .0 ∙ a .inv .0 .a-same; b-same = x .kept .1 .1 .1 .1 .1 .1 .0 ∙ g .kept .1 .1 .1 .1 .1 .1 .0 ∙ a .inv .0 .b-same }, omega arith, λ ix p rs os ps h. let i = a .inv .2 ix p rs os ps h in let q = g .ensures ix p rs os (boolean-lead (i .held)) in let j = boolean-led (i .held) (g .last .0) (g .result) (q .0 .from) (g .kept .0) (q .1) in let y = x .ensures ix p ps (boolean-prohibited j) in record { lo = omega (arith, i .lo, q .0 .from); before = kept-more ix rs os ps (s .args .need) (i .lo) (i .before) (q .0) (x .result .doc) (x .result .count) d (y .0) (c .if3 .taken); held = boolean-later (boolean-joined j (x .last .0) (y .1)) (g .result + 1) (omega arith) })
+
+pub excluding-same-length-7 : (t : ℕ) → excluding-lts.Need-same-length-7 (excluding-calls t) (excluding-at t) excluding.Post excluding-Inv-loop excluding-μ-loop
+excluding-same-length-7 t c = let s = (c .before .before .before .before .before .before .before .before .before .before .before .before .before .before .before .before .before .before .before .before .before .before .before .before .before) in let a = (c .before .before .before .before .before .before .before .before .before .before .before .before .before .before .before .before .before .before .before .before) .loop in let m = s .args .optional-end in let g = (c .before .before .before .before .before .before .before .before .before .before .before .before .before .before .before .before) .lead in let x = (c .before .before .before .before .before .before) .least in let w = g .last .0 ++ drop m (a .kids) in back-length w (x .last .0) m (length w) (x .kept .0) ∙ front-length (a .kids) (g .last .0) m (g .kept .0) ∙ a .inv .0 .kids-same
+
+pub excluding-same-length-8 : (t : ℕ) → excluding-lts.Need-same-length-8 (excluding-calls t) (excluding-at t) excluding.Post excluding-Inv-loop excluding-μ-loop
+excluding-same-length-8 t c = let s = (c .before .before .before .before .before .before .before .before .before .before .before .before .before .before .before .before .before .before .before .before .before .before .before .before .before) in let a = (c .before .before .before .before .before .before .before .before .before .before .before .before .before .before .before .before .before .before .before .before) .loop in let m = s .args .optional-end in let g = (c .before .before .before .before .before .before .before .before .before .before .before .before .before .before .before .before) .lead in let x = (c .before .before .before .before .before .before) .least in x .kept .1 .1 .1 .1 .1 .0 ∙ g .kept .1 .1 .1 .1 .1 .0 ∙ a .inv .0 .a-same
+
+pub excluding-same-length-9 : (t : ℕ) → excluding-lts.Need-same-length-9 (excluding-calls t) (excluding-at t) excluding.Post excluding-Inv-loop excluding-μ-loop
+excluding-same-length-9 t c = let s = (c .before .before .before .before .before .before .before .before .before .before .before .before .before .before .before .before .before .before .before .before .before .before .before .before .before) in let a = (c .before .before .before .before .before .before .before .before .before .before .before .before .before .before .before .before .before .before .before .before) .loop in let m = s .args .optional-end in let g = (c .before .before .before .before .before .before .before .before .before .before .before .before .before .before .before .before) .lead in let x = (c .before .before .before .before .before .before) .least in x .kept .1 .1 .1 .1 .1 .1 .0 ∙ g .kept .1 .1 .1 .1 .1 .1 .0 ∙ a .inv .0 .b-same
+
+pub excluding-returns-3 : (t : ℕ) → excluding-lts.Need-returns-3 (excluding-calls t) (excluding-at t) excluding.Post excluding-Inv-loop excluding-μ-loop
+excluding-returns-3 t c = let s = (c .before .before .before .before .before .before .before .before .before .before .before .before .before .before .before .before .before .before .before .before .before .before .before .before .before) in let a = (c .before .before .before .before .before .before .before .before .before .before .before .before .before .before .before .before .before .before .before .before) .loop in let m = s .args .optional-end in let g = (c .before .before .before .before .before .before .before .before .before .before .before .before .before .before .before .before) .lead in let x = (c .before .before .before .before .before .before) .least in λ ix p rs os ps h. let i = a .inv .2 ix p rs os ps h in let q = g .ensures ix p rs os (boolean-lead (i .held)) in let j = boolean-led (i .held) (g .last .0) (g .result) (q .0 .from) (g .kept .0) (q .1) in let y = x .ensures ix p ps (boolean-prohibited j) in (kept-hit ix rs os ps (s .args .need) (i .lo) (i .before) (q .0) (x .result .doc) (x .result .count) (y .0) (c .if3 .left), boolean-joined j (x .last .0) (y .1))

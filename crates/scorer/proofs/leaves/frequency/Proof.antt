@@ -1,4 +1,5 @@
-use Rattle.scorer.proofs.PhraseLaws.{frequency-gather, frequency-few, frequency-good, frequency-room, frequency-is}
+-- `scorer::leaves::frequency` meets its contract: the words of the terms in an array that has room for them. Assumes nothing.
+use Rattle.scorer.proofs.PhraseLaws.{frequency-gather, frequency-few, frequency-four, frequency-good, frequency-room, frequency-is}
 use Rattle.meaning.specs.Phrase.{PhraseTerm, phraseFrequency}
 use Rattle.meaning.specs.Lent.{Index}
 use Rattle.meaning.specs.Limits.{noMoreDocs}
@@ -17,37 +18,53 @@ use Rattle.scorer.proofs.leaves.frequency.Lts as lts
 use Rattle.phrase.proofs.frequency.Reads as frequency-reads
 use Rattle.scorer.proofs.leaves.gather.Reads as gather-reads
 
--- src/leaves.rt:136:37
 slice-aggregate-gather : tie.Need-slice-aggregate-gather
 slice-aggregate-gather c = search needs
 
--- src/leaves.rt:136:9
 gather-requires : tie.Need-gather-requires
-gather-requires c κs = let s = (c .before .before .before .before) in let P = s .pre in (P .0, P .3, P .4, frequency-few (P .7), frequency-gather (P .7))
+gather-requires c κs = let s = (c .before .before .before .before .before) in let P = s .pre in (P .0, P .3, P .4, frequency-four (P .7) ((c .before) .if1 .taken), frequency-gather (P .7))
 
--- src/leaves.rt:137:34
-array-share-prefix-out : tie.Need-array-share-prefix-out
-array-share-prefix-out c = let s = (c .before .before .before .before .before .before) in let P = s .pre in let g = (c .before) .gather in let q = g .ensures (P .0) (P .3) (P .4) (frequency-gather (P .7)) in omega (arith, q .number, frequency-few (P .7))
+array-share-prefix-few : tie.Need-array-share-prefix-few
+array-share-prefix-few c = let s = (c .before .before .before .before .before .before .before) in let P = s .pre in let g = (c .before) .gather in let q = g .ensures (P .0) (P .3) (P .4) (frequency-gather (P .7)) in omega (arith, q .number, frequency-four (P .7) ((c .before .before .before) .if1 .taken))
 
--- src/leaves.rt:137:34
 slice-aggregate-frequency : tie.Need-slice-aggregate-frequency
-slice-aggregate-frequency c = let s = (c .before .before .before .before .before .before .before) in let P = s .pre in let g = (c .before .before) .gather in let q = g .ensures (P .0) (P .3) (P .4) (frequency-gather (P .7)) in sym (length-take-le (g .result) (g .last .1 .1 .0) (omega (arith, q .number, frequency-few (P .7), g .kept .1 .1 .0)))
+slice-aggregate-frequency c = let s = (c .before .before .before .before .before .before .before .before) in let P = s .pre in let g = (c .before .before) .gather in let q = g .ensures (P .0) (P .3) (P .4) (frequency-gather (P .7)) in sym (length-take-le (g .result) (g .last .1 .1 .0) (omega (arith, q .number, frequency-four (P .7) ((c .before .before .before .before) .if1 .taken), g .kept .1 .1 .0)))
 
--- src/leaves.rt:137:5
 frequency-requires : tie.Need-frequency-requires
-frequency-requires c κs = let s = (c .before .before .before .before .before .before .before .before .before) in let P = s .pre in let g = (c .before .before .before .before) .gather in let q = g .ensures (P .0) (P .3) (P .4) (frequency-gather (P .7)) in let l = take (g .result) (g .last .1 .1 .0) in (frequency-good (P .7) l (q .gathered), (frequency-room (P .7) l (q .gathered) _ (P .5), frequency-room (P .7) l (q .gathered) _ (P .6)))
+frequency-requires c κs = let s = (c .before .before .before .before .before .before .before .before .before .before) in let P = s .pre in let g = (c .before .before .before .before) .gather in let q = g .ensures (P .0) (P .3) (P .4) (frequency-gather (P .7)) in let l = take (g .result) (g .last .1 .1 .0) in (frequency-good (P .7) l (q .gathered), (frequency-room (P .7) l (q .gathered) _ (P .5), frequency-room (P .7) l (q .gathered) _ (P .6)))
 
--- src/leaves.rt:131:1
 same-length : tie.Need-same-length
 same-length c = search needs
 
--- src/leaves.rt:131:1
 same-length-2 : tie.Need-same-length-2
 same-length-2 c = search needs
 
--- src/leaves.rt:131:1
 returns : tie.Need-returns
-returns c = let s = (c .before .before .before .before .before .before .before .before .before .before .before .before) in let g = (c .before .before .before .before .before .before .before) .gather in let l = take (g .result) (g .last .1 .1 .0) in λ ix p f ts d h. (c .before .before) .frequency .ensures ∙ frequency-is h l (g .ensures ix ts d (frequency-gather h) .gathered)
+returns c = let g = (c .before .before .before .before .before .before .before) .gather in let l = take (g .result) (g .last .1 .1 .0) in λ ix p f ts d h. (c .before .before) .frequency .ensures ∙ frequency-is h l (g .ensures ix ts d (frequency-gather h) .gathered)
+
+slice-aggregate-gather-2 : tie.Need-slice-aggregate-gather-2
+slice-aggregate-gather-2 c = search needs
+
+gather-requires-2 : tie.Need-gather-requires-2
+gather-requires-2 c κs = let s = (c .before .before .before .before .before) in let P = s .pre in (P .0, P .3, P .4, frequency-few (P .7), frequency-gather (P .7))
+
+array-share-prefix-out : tie.Need-array-share-prefix-out
+array-share-prefix-out c = let s = (c .before .before .before .before .before .before .before) in let P = s .pre in let g = (c .before) .gather2 in let q = g .ensures (P .0) (P .3) (P .4) (frequency-gather (P .7)) in omega (arith, q .number, frequency-few (P .7))
+
+slice-aggregate-frequency-2 : tie.Need-slice-aggregate-frequency-2
+slice-aggregate-frequency-2 c = let s = (c .before .before .before .before .before .before .before .before) in let P = s .pre in let g = (c .before .before) .gather2 in let q = g .ensures (P .0) (P .3) (P .4) (frequency-gather (P .7)) in sym (length-take-le (g .result) (g .last .1 .1 .0) (omega (arith, q .number, frequency-few (P .7), g .kept .1 .1 .0)))
+
+frequency-requires-2 : tie.Need-frequency-requires-2
+frequency-requires-2 c κs = let s = (c .before .before .before .before .before .before .before .before .before .before) in let P = s .pre in let g = (c .before .before .before .before) .gather2 in let q = g .ensures (P .0) (P .3) (P .4) (frequency-gather (P .7)) in let l = take (g .result) (g .last .1 .1 .0) in (frequency-good (P .7) l (q .gathered), (frequency-room (P .7) l (q .gathered) _ (P .5), frequency-room (P .7) l (q .gathered) _ (P .6)))
+
+same-length-3 : tie.Need-same-length-3
+same-length-3 c = search needs
+
+same-length-4 : tie.Need-same-length-4
+same-length-4 c = search needs
+
+returns-2 : tie.Need-returns-2
+returns-2 c = let g = (c .before .before .before .before .before .before .before) .gather2 in let l = take (g .result) (g .last .1 .1 .0) in λ ix p f ts d h. (c .before .before) .frequency2 .ensures ∙ frequency-is h l (g .ensures ix ts d (frequency-gather h) .gathered)
 
 pub frequency-spec : {M : Type 1} → statement M
 frequency-spec =
@@ -55,9 +72,17 @@ frequency-spec =
     (tie.spec
     slice-aggregate-gather
     gather-requires
-    array-share-prefix-out
+    array-share-prefix-few
     slice-aggregate-frequency
     frequency-requires
     same-length
     same-length-2
-    returns)
+    returns
+    slice-aggregate-gather-2
+    gather-requires-2
+    array-share-prefix-out
+    slice-aggregate-frequency-2
+    frequency-requires-2
+    same-length-3
+    same-length-4
+    returns-2)

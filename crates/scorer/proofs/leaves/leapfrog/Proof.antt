@@ -1,3 +1,4 @@
+-- `scorer::leaves::leapfrog` meets its contract: passes until the terms stand at one document. Assumes nothing.
 use Rattle.scorer.proofs.PhraseLaws.{leap-held, leap-more, leap-done}
 use Rattle.scorer.proofs.Loops.{Going, going-start}
 use Rattle.scorer.specs.Phrases.{TermsHeld, allFound}
@@ -23,27 +24,21 @@ Inv-loop terms₀ postings target d₀ terms d = (length terms ≡ length terms�
 abbrev μ-loop : tie.MeasureT-loop
 μ-loop terms₀ postings target d₀ terms d = noMoreDocs - d
 
--- src/leaves.rt:86:5
 loop-holds : tie.Need-loop-holds Inv-loop μ-loop
 loop-holds c = let s = (c .before .before) in (refl, s .pre .0, λ ix ts h. going-start h)
 
--- src/leaves.rt:87:13
 pass-terms-requires : tie.Need-pass-terms-requires Inv-loop μ-loop
 pass-terms-requires c κs = let s = (c .before .before .before .before) in let P = s .pre .1 in let a = (c .before) .loop in let i = a .inv .2 (P .0) (P .1) (P .2) in (a .inv .1, (P .0, P .1, i .held))
 
--- src/leaves.rt:89:13
 same-length : tie.Need-same-length Inv-loop μ-loop
 same-length c = let a = (c .before .before .before .before .before) .loop in let g = (c .before .before .before) .pass-terms in g .kept .0 ∙ a .inv .0
 
--- src/leaves.rt:89:13
 returns : tie.Need-returns Inv-loop μ-loop
 returns c = let a = (c .before .before .before .before .before) .loop in let g = (c .before .before .before) .pass-terms in λ ix ts h. let i = a .inv .2 ix ts h in leap-done (i .lo) (i .before) (g .ensures ix ts (i .held)) (c .if1 .taken)
 
--- src/leaves.rt:86:5
 loop-less : tie.Need-loop-less Inv-loop μ-loop
-loop-less c = let s = (c .before .before .before .before .before .before .before .before) in let P = s .pre .1 in let a = (c .before .before .before .before .before) .loop in let i = a .inv .2 (P .0) (P .1) (P .2) in let g = (c .before .before .before) .pass-terms in let q = g .ensures (P .0) (P .1) (i .held) in omega (arith, q .from, q .top, c .if1 .left)
+loop-less c = let s = (c .before .before .before .before .before .before .before .before) in let P = s .pre .1 in let a = (c .before .before .before .before .before) .loop in let i = a .inv .2 (P .0) (P .1) (P .2) in let g = (c .before .before .before) .pass-terms in let q = g .ensures (P .0) (P .1) (i .held) in omega (arith, q .top, q .moved (c .if1 .left))
 
--- src/leaves.rt:86:5
 loop-again : tie.Need-loop-again Inv-loop μ-loop
 loop-again c = let s = (c .before .before .before .before .before .before .before .before) in let P = s .pre .1 in let a = (c .before .before .before .before .before) .loop in let i = a .inv .2 (P .0) (P .1) (P .2) in let g = (c .before .before .before) .pass-terms in let q = g .ensures (P .0) (P .1) (i .held) in (g .kept .0 ∙ a .inv .0, q .top, λ ix ts h. let i = a .inv .2 ix ts h in let q = g .ensures ix ts (i .held) in record { lo = le-trans (i .lo) (q .from); before = leap-more (i .lo) (i .before) q; held = leap-held (i .held) (q .are) })
 
