@@ -228,7 +228,7 @@ pub fn score(
     }
 }
 
-// A Boolean's score: its group joins the required sum as one more, or after that is narrowed.
+// A Boolean's score: its group joins the required sum as one more, or after that is narrowed. One that is alone has nothing to join.
 fn joined(
     kids: &mut [u32],
     n: Node,
@@ -248,6 +248,22 @@ fn joined(
 {
     let end = n.required_end;
     let optional_end = n.optional_end;
+    if end == optional_end {
+        return ieee754::narrow(required(
+            &mut kids[..end],
+            0.0,
+            max_doc,
+            postings,
+            positions,
+            norms,
+            ranges,
+            inverses,
+            a,
+            b,
+            doc,
+            depth,
+        ));
+    }
     let group = ieee754::narrow(optional(
         &mut kids[end..optional_end],
         max_doc,
@@ -261,6 +277,9 @@ fn joined(
         doc,
         depth,
     ));
+    if end == 0 {
+        return group;
+    }
     if n.afterwards == 1 {
         let sum = required(
             &mut kids[..end],

@@ -65,7 +65,7 @@ abbrev pub score-below : ℕ → In 8 score-kinds.ps
 score-below t = and 8 score-kinds.ps (falls 8 score-kinds.ps _<_ μ-score t) score.Pre
 
 abbrev pub joined-calls : ℕ → joined-lts.Claims
-joined-calls t = (optional-below t, optional.Post, narrow-reads.Asked, narrow-reads.Learnt, required-below t, required.Post, add-score-reads.Asked, add-score-reads.Learnt)
+joined-calls t = (required-below t, required.Post, narrow-reads.Asked, narrow-reads.Learnt, optional-below t, optional.Post, add-score-reads.Asked, add-score-reads.Learnt)
 
 abbrev pub optional-calls : ℕ → optional-lts.Claims
 optional-calls t = (child-at-reads.Asked, child-at-reads.Learnt, advance-term-reads.Asked, advance-term-reads.Learnt, term-score-reads.Asked, term-score-reads.Learnt, add-score-reads.Asked, add-score-reads.Learnt, advance-reads.Asked, advance-reads.Learnt, score-below t, score.Post)
