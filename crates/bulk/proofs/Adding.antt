@@ -1,8 +1,8 @@
 -- The postings of a term in a window, one after the other: which sums and counts have grown. Assumes nothing.
 use mathlib.Core.Path.{_≡_, refl, sym, ap, subst, _∙_}
-use mathlib.Core.Logic.{_⊎_, inl, inr, ⊎-elim}
-use mathlib.Core.Bool.{Bool, true, false, false≢true}
-use mathlib.Core.List.{List, [], _++_}
+use mathlib.Core.Logic.{⊎-elim}
+use mathlib.Core.Bool.{true, false, false≢true}
+use mathlib.Core.List.{List, []}
 use mathlib.Core.Option.{Option, none, some}
 use Prim.Native.Nat.{ℕ, _+_, _-_, _*_, _^_, _≤_, _<_}
 use native.Mathlib.Nat.{eq-or-lt-of-le}
@@ -17,7 +17,7 @@ use Rattle.ieee754.specs.Nonneg.{AtMost}
 use Rattle.index.specs.Accepted.{Accepted}
 use Rattle.index.proofs.PostingAt.{posting-at, posting-is, posting-absent}
 use Rattle.weight.specs.ScorerTree.{term, Scoring, constant, weighted, leafScore}
-use Rattle.weight.specs.State.{State, wordsOf}
+use Rattle.weight.specs.State.{State}
 use Rattle.weight.specs.Held.{ScoringIs}
 use Rattle.scorer.specs.Search.{cursorAt}
 use Rattle.scorer.proofs.Runs.{cmp}
@@ -25,7 +25,7 @@ use Rattle.score.specs.declared.Node.{Node}
 use Rattle.score.specs.Words.{NodeIs}
 use Rattle.score.proofs.Leaves.{Read, read}
 use Rattle.bulk.specs.Postings.{PostingAsks}
-use Rattle.bulk.specs.Windows.{Lending, TermHeld, AddedAt, AddedTo, NextIs, AddPre, AddPost}
+use Rattle.bulk.specs.Windows.{Lending, TermHeld, AddedAt, AddedTo, NextIs}
 use Rattle.bulk.proofs.Roots.{node-scores}
 
 found-some : (o : Option ℕ) → found o ≡ true → (k : ℕ) × (o ≡ some k)

@@ -1,8 +1,8 @@
 -- The terms of a window one after the other: what is summed, and what is left. Assumes nothing.
 use mathlib.Core.Path.{_≡_, refl, sym, ap, subst, _∙_}
-use mathlib.Core.Bool.{Bool, true, false, cond}
+use mathlib.Core.Bool.{Bool, true, false}
 use mathlib.Core.Logic.{⊎-elim}
-use mathlib.Core.List.{List, [], _∷_, _++_, append-assoc, append-nil}
+use mathlib.Core.List.{List, [], _∷_, _++_, append-assoc}
 use Prim.Native.Nat.{ℕ, _+_, _-_, _*_, _^_, _≤_, _<_, min}
 use native.Mathlib.Nat.{le-refl}
 use native.Mathlib.Omega.{arith}
@@ -16,11 +16,10 @@ use Rattle.meaning.specs.Ieee754.{zeroFloat, sumFrom}
 use Rattle.ieee754.specs.Nonneg.{AtMost}
 use Rattle.ieee754.proofs.Bounds.{zero-atmost}
 use Rattle.weight.specs.ScorerTree.{term, Scoring, Scorer, leaf, Scorers, end, more, matches, leafMatches, matching, leafScore, scorerScore, optionalScores}
-use Rattle.weight.specs.State.{wordsOf}
 use Rattle.weight.specs.Sound.{nodes, nodesOf}
 use Rattle.scorer.proofs.Runs.{cmp}
 use Rattle.score.proofs.Bounds.{scores-add, scores-more, zero-64}
-use Rattle.bulk.specs.Windows.{Lending, TermHeld, TermsHeld, Room, AddedAt, AddedTo, NextIs, AddPre, AddPost, SumsAt, Empty, TermsAsk, TermsAdded, TermsPre, TermsPost}
+use Rattle.bulk.specs.Windows.{TermHeld, TermsHeld, AddedAt, AddedTo, NextIs, SumsAt, Empty, TermsAdded}
 
 -- a later bound, an earlier document ahead
 pub term-mono : (ix : Index) (table : List Float) (l : ℕ) (sc : Scoring) (y : List ℕ) (b a b′ a′ : ℕ) → b ≤ b′ → a′ ≤ a → TermHeld ix table l sc y b a → TermHeld ix table l sc y b′ a′

@@ -2,9 +2,9 @@
 use mathlib.Core.Path.{_≡_, refl, sym, ap, subst, _∙_}
 use mathlib.Core.Logic.{⊎-elim}
 use mathlib.Core.Bool.{Bool, true, false}
-use mathlib.Core.List.{List, [], _∷_, _++_}
+use mathlib.Core.List.{List, []}
 use mathlib.Core.Option.{Option, none, some}
-use Prim.Native.Nat.{ℕ, _+_, _-_, _*_, _^_, _≤_, _<_}
+use Prim.Native.Nat.{ℕ, _+_, _*_, _^_, _≤_, _<_}
 use native.Mathlib.Nat.{le-refl, eq-or-lt-of-le}
 use native.Mathlib.Omega.{arith}
 use borrow.Author.Tests.{le-leb, lt-leb}
@@ -27,14 +27,14 @@ use Rattle.index.proofs.PostingAt.{posting-is, posting-none}
 use Rattle.collector.specs.declared.TopScoreDocCollector.{TopScoreDocCollector}
 use Rattle.collector.specs.declared.TopDocs.{TopDocs}
 use Rattle.collector.specs.Collected.{Collected, Ready, Extended, Drawn, answer}
-use Rattle.weight.specs.ScorerTree.{term, Scoring, Scorer, leaf, Scorers, end, more, matches, matching, scorerScore, optionalScores}
+use Rattle.weight.specs.ScorerTree.{term, Scoring, Scorer, leaf, Scorers, end, more, matches, matching, optionalScores}
 use Rattle.scorer.proofs.Runs.{cmp}
 use Rattle.scorer.proofs.Firsts.{matching-end}
 use Rattle.score.specs.Walks.{liveMatch, liveScored}
-use Rattle.bulk.specs.Windows.{Lending, TermHeld, TermsHeld, NextIs, SumsAt, TermsAsk, TermsAdded, TermsPre, TermsPost, Reached, PlaceIs, PlacePre, PlacePost, WindowIs, WindowPre, WindowPost, ByTerms}
+use Rattle.bulk.specs.Windows.{TermsHeld, TermsAdded, Reached, PlaceIs, PlacePre, PlacePost, WindowIs, ByTerms}
 use Rattle.bulk.proofs.LiveMatches.{live-of, live-there, not-match, not-live, not-below, is-match}
 use Rattle.bulk.proofs.Sofar.{Sofar, sofar-start, sofar-skip, sofar-ready, sofar-take, sofar-done}
-use Rattle.bulk.proofs.AddingTerms.{terms-mono, count-hit, count-miss}
+use Rattle.bulk.proofs.AddingTerms.{terms-mono, count-miss}
 
 module _ (ix : Index) (s : Scorer) (t : ℕ) (start : List ℤ) (c : TopScoreDocCollector) (heap : List ℤ) (from : ℕ) where
   to-sofar : Reached ix s t start c heap from → Sofar ix s t start c heap from

@@ -1,14 +1,14 @@
 -- A Boolean of terms in words: its matches and scores are those of its terms' sums. Assumes nothing.
 use mathlib.Core.Path.{_≡_, refl, sym, ap, subst, _∙_}
-use mathlib.Core.Bool.{Bool, true, false, cond}
-use mathlib.Core.List.{List, [], _∷_, _++_, append-nil}
+use mathlib.Core.Bool.{Bool, false, cond}
+use mathlib.Core.List.{List, [], _++_, append-nil}
 use mathlib.Core.Option.{Option, none, some}
 use Prim.Native.Nat.{ℕ, zero, suc, _+_, _-_, _*_, _^_, _≤_, _<_, max}
 use native.Mathlib.Omega.{arith}
 use lib.Dec.{T, leb, lit≤}
 use lib.ListN.{length, getD, drop, length-append}
 use lib.Seq.{getD-append-add}
-use lib.Ieee.{Float, binary32, binary64, add, round, fits}
+use lib.Ieee.{Float, binary64, add, round, fits}
 use lib.Ieee.Fits.{fits-widens}
 use lib.Ieee.Positive.{num, den}
 use Rattle.meaning.specs.Lent.{Index}
@@ -18,8 +18,8 @@ use Rattle.ieee754.proofs.Nonneg.{round-self}
 use Rattle.ieee754.proofs.Ranges.{add-is}
 use Rattle.ieee754.proofs.Narrowing.{narrow-fits, narrow-exact}
 use Rattle.ieee754.proofs.Successor.{zero-fits}
-use Rattle.weight.specs.ScorerTree.{Leaf, nothing, term, phrase, range, everything, Scoring, Joining, oneMore, afterwards, Scorer, leaf, boolean, Scorers, end, more, matches, allMatch, anyMatches, matching, scoring, withGroup, joinedScore, scorerScore, requiredScores, optionalScores}
-use Rattle.weight.specs.State.{State, wordsOf, sizeOf, sizesOf}
+use Rattle.weight.specs.ScorerTree.{Leaf, nothing, term, phrase, range, everything, Scoring, Joining, oneMore, afterwards, Scorer, leaf, boolean, Scorers, end, more, matches, allMatch, anyMatches, matching, scoring, withGroup, joinedScore, scorerScore, requiredScores}
+use Rattle.weight.specs.State.{State, wordsOf, sizesOf}
 use Rattle.weight.specs.Held.{LeafIs, KeptIs, Ok, Oks}
 use Rattle.weight.specs.Sound.{LeafSound, Sound, Sounds, LeafTable, Tables, TablesOf, nodes, nodesOf}
 use Rattle.scorer.specs.Contracts.{Lent}

@@ -2,7 +2,7 @@
 ghost use mathlib.Core.Path.{_≡_};
 ghost use mathlib.Core.Bool.{true};
 ghost use Prim.Native.Nat.{ℕ, _+_, _*_, _≤_, _<_, min};
-ghost use lib.ListN.{length, drop};
+ghost use lib.ListN.{length};
 ghost use Rattle.meaning.specs.Limits.{noMoreDocs, maxHits};
 ghost use Rattle.meaning.specs.Lent.{Index};
 ghost use Rattle.meaning.specs.Hits.{hits};

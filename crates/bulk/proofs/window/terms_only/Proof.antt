@@ -1,8 +1,7 @@
 -- `terms_only` meets its contract: the records before `at` are of terms that have passed no posting. Assumes nothing.
 use borrow.Author.Needs.{needs}
-use mathlib.Core.Path.{_≡_}
 use mathlib.Core.Bool.{false≢true}
-use Prim.Native.Nat.{ℕ, _+_, _-_, _≤_, _<_}
+use Prim.Native.Nat.{_+_, _-_}
 use native.Mathlib.Omega.{arith}
 use lib.ListN.{length}
 use Rattle.bulk.proofs.Fresh.{FreshTo, fresh-start, fresh-more, fresh-all}
