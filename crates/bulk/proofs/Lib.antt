@@ -6,3 +6,8 @@ pub mod LiveMatches
 pub mod Roots
 pub mod TermRoot
 pub mod AnyRoot
+pub mod Fresh
+pub mod Adding
+pub mod AddingTerms
+pub mod Placing
+pub mod WindowRoots

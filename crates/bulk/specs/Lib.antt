@@ -1,3 +1,4 @@
 -- What the loops from a scorer tree to the collector ask and give.
 pub mod Collects
 pub mod Postings
+pub mod Windows

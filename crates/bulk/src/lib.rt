@@ -10,6 +10,7 @@ pub mod default;
 pub mod everything;
 pub mod posting;
 pub mod term;
+pub mod window;
 
 // The kinds of a root that has a loop of its own.
 const TERM: u32 = 1;
@@ -42,6 +43,9 @@ pub fn collect_matches(
     }
     if kind == EVERYTHING {
         return everything::collect_everything(st, max_doc, live, t, heap);
+    }
+    if window::suits_windows(st, max_doc) {
+        return window::collect_windows(st, postings, norms, inverses, live, t, heap);
     }
     default::collect_matches(
         st,

@@ -22,7 +22,7 @@ same-length-2 : tie.Need-same-length-2
 same-length-2 c = search needs
 
 returns : tie.Need-returns
-returns c = let s = c .before .before .before .before .before .before .before .before .before .before .before .before .before in let p = s .pre .1 in c .before .collect-term .ensures (lent (s .args .max-doc) (s .args .postings .now) (s .args .positions .now) (s .args .ranges .now)) (min (length (s .args .a .now)) (length (s .args .b .now))) (s .args .depth) refl
+returns c = let s = c .before .before .before .before .before .before .before .before .before .before .before .before .before in c .before .collect-term .ensures (lent (s .args .max-doc) (s .args .postings .now) (s .args .positions .now) (s .args .ranges .now)) (min (length (s .args .a .now)) (length (s .args .b .now))) (s .args .depth) refl
 
 collect-everything-requires : tie.Need-collect-everything-requires
 collect-everything-requires c κs = let s = c .before .before .before .before .before .before .before .before .before .before .before .before in let p = s .pre .1 in (s .pre .0, ((lent (s .args .max-doc) (s .args .postings .now) (s .args .positions .now) (s .args .ranges .now)), s .args .norms .now, s .args .inverses .now, (min (length (s .args .a .now)) (length (s .args .b .now))), s .args .depth, refl, c .before .before .if2 .taken, p))
@@ -34,10 +34,13 @@ same-length-4 : tie.Need-same-length-4
 same-length-4 c = search needs
 
 returns-2 : tie.Need-returns-2
-returns-2 c = let s = c .before .before .before .before .before .before .before .before .before .before .before .before .before .before in let p = s .pre .1 in c .before .collect-everything .ensures (lent (s .args .max-doc) (s .args .postings .now) (s .args .positions .now) (s .args .ranges .now)) (s .args .norms .now) (s .args .inverses .now) (min (length (s .args .a .now)) (length (s .args .b .now))) (s .args .depth) refl
+returns-2 c = let s = c .before .before .before .before .before .before .before .before .before .before .before .before .before .before in c .before .collect-everything .ensures (lent (s .args .max-doc) (s .args .postings .now) (s .args .positions .now) (s .args .ranges .now)) (s .args .norms .now) (s .args .inverses .now) (min (length (s .args .a .now)) (length (s .args .b .now))) (s .args .depth) refl
 
-collect-matches-requires : tie.Need-collect-matches-requires
-collect-matches-requires c κs = let s = c .before .before .before .before .before .before .before .before .before .before .before .before .before .before in let p = s .pre .1 in (s .pre .0, p)
+suits-windows-requires : tie.Need-suits-windows-requires
+suits-windows-requires c κs = let s = c .before .before .before .before .before .before .before .before .before .before .before in let p = s .pre .1 in root-long (lent (s .args .max-doc) (s .args .postings .now) (s .args .positions .now) (s .args .ranges .now)) (min (length (s .args .a .now)) (length (s .args .b .now))) (s .args .depth) (s .args .norms .now) (s .args .live .now) (s .args .inverses .now) (s .args .st .now) (p .0) (p .1) (p .2) (p .3)
+
+collect-windows-requires : tie.Need-collect-windows-requires
+collect-windows-requires c κs = let s = c .before .before .before .before .before .before .before .before .before .before .before .before .before .before .before in let p = s .pre .1 in (s .pre .0, ((lent (s .args .max-doc) (s .args .postings .now) (s .args .positions .now) (s .args .ranges .now)), (min (length (s .args .a .now)) (length (s .args .b .now))), s .args .depth, refl, c .before .before .before .suits-windows .ensures (c .before .before .if3 .taken), p))
 
 same-length-5 : tie.Need-same-length-5
 same-length-5 c = search needs
@@ -45,14 +48,26 @@ same-length-5 c = search needs
 same-length-6 : tie.Need-same-length-6
 same-length-6 c = search needs
 
+returns-3 : tie.Need-returns-3
+returns-3 c = let s = c .before .before .before .before .before .before .before .before .before .before .before .before .before .before .before .before .before .before .before in c .before .before .before .collect-windows .ensures (lent (s .args .max-doc) (s .args .postings .now) (s .args .positions .now) (s .args .ranges .now)) (min (length (s .args .a .now)) (length (s .args .b .now))) (s .args .depth) refl
+
+collect-matches-requires : tie.Need-collect-matches-requires
+collect-matches-requires c κs = search needs
+
 same-length-7 : tie.Need-same-length-7
 same-length-7 c = search needs
 
 same-length-8 : tie.Need-same-length-8
 same-length-8 c = search needs
 
-returns-3 : tie.Need-returns-3
-returns-3 c = c .before .before .before .before .before .collect-matches .ensures
+same-length-9 : tie.Need-same-length-9
+same-length-9 c = search needs
+
+same-length-10 : tie.Need-same-length-10
+same-length-10 c = search needs
+
+returns-4 : tie.Need-returns-4
+returns-4 c = search needs
 
 pub collect-matches-spec : {M : Type 1} → statement M
 collect-matches-spec =
@@ -67,9 +82,14 @@ collect-matches-spec =
     same-length-3
     same-length-4
     returns-2
-    collect-matches-requires
+    suits-windows-requires
+    collect-windows-requires
     same-length-5
     same-length-6
+    returns-3
+    collect-matches-requires
     same-length-7
     same-length-8
-    returns-3)
+    same-length-9
+    same-length-10
+    returns-4)
