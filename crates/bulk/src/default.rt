@@ -48,7 +48,7 @@ pub fn collect_matches(
         if next == NO_MORE_DOCS {
             return c.top_docs(heap);
         }
-        let s = score::score_any(
+        let s = score::score(
             st,
             max_doc,
             postings,

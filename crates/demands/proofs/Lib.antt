@@ -4,7 +4,6 @@ pub mod Rising
 pub mod Pages
 pub mod Ranked
 pub mod Accepting
-pub mod Small
 pub mod Rankable
 pub mod Search
 pub mod Hits

@@ -42,7 +42,7 @@ use Rattle.demands.proofs.Rising.{Rises, rises-below, rises-last, full-
 use Rattle.demands.proofs.Pages.{accepted-few}
 use Rattle.demands.proofs.Ranked.{Rankable}
 use Rattle.demands.proofs.Accepting.{accepts-asks}
-use Rattle.demands.proofs.Small.{score-small, score-fits}
+use Rattle.score.proofs.Small.{score-small, score-fits}
 
 -- ---- picked lists that 14 does not refuse
 module _ (documents scores : List ℕ) (w : wrong14 documents scores ≡ false) where

@@ -9,8 +9,8 @@ use lib.ListN.{getD, length, take, drop, length-append}
 use lib.Seq.{take-at, drop-at}
 use lib.Ieee.{Float, binary64, isNan, add}
 use Rattle.meaning.specs.Lent.{Index}
-use Rattle.meaning.specs.Ieee754.{zeroFloat, narrow, narrowedSum}
-use Rattle.ieee754.specs.Nonneg.{AtMost}
+use Rattle.meaning.specs.Ieee754.{zeroFloat, narrow, sumFrom, narrowedSum}
+use Rattle.ieee754.specs.Nonneg.{nonneg, AtMost}
 use Rattle.ieee754.proofs.Bounds.{atmost-number, zero-atmost}
 use Rattle.weight.specs.ScorerTree.{Scorers, end, more, Joining, oneMore, afterwards, scoring, requiredScores, optionalScores, allMatch}
 use Rattle.weight.specs.State.{sizesOf, sizesOfFirst}
@@ -21,6 +21,8 @@ use Rattle.score.specs.Asked.{LentAt, Scorables, SumIs, RequiredPre, Req
 use Rattle.score.proofs.Bounds.{scores-narrow}
 use Rattle.scorer.proofs.Bounds.{oks-length}
 use Rattle.score.proofs.Loops.{put}
+use Rattle.score.proofs.Small.{first-small, oks-weighted}
+use Rattle.score.proofs.Alone.{none-left, none-summed, joined-alone, joined-only}
 use Rattle.score.proofs.Join.{firstOf, restOf, first-sounds, first-tables, first-nodes, first-matches, oks-split, oks-join, group-is, joined-more, joined-sum, joined-after}
 
 -- ---- a list in three parts
@@ -109,12 +111,25 @@ module _ (kids : List ℕ) (node : Node) (n : ℕ) (postings positions norms ran
       let q = post ix os L (K .optional) (group-ok ix j rs os rest K Q) in
       (q .0, record { required = Q .required; optional = ys; is = mid-back (Q .required) (Q .optional) rest kids re oe (Q .is) (required-long ix j rs os rest K (Q .required) (Q .required-ok)) (optional-long ix j rs os rest K (Q .optional) (Q .optional-ok)) ys; required-ok = Q .required-ok; optional-ok = q .1 })
 
+  -- no optional children: a group of 0, and the words as they were
+  no-optional : re ≡ oe → (ix : Index) (j : Joining) (rs os : Scorers) → JoinAsks ix table places j rs os node doc → os ≡ end
+  no-optional none ix j rs os K = none-left os (omega (arith, none, K .required-end, K .optional-end))
+
+  pub ungrouped : re ≡ oe → Grouped zeroFloat kids
+  ungrouped none ix j rs os rest L K Q = (subst (λ (o : Scorers). SumIs zeroFloat (optionalScores ix o doc) (nodesOf o) zeroFloat) (sym (no-optional none ix j rs os K)) (none-summed ix doc), Q)
+
   module _ (osum : Float) (kids₁ : List ℕ) (G : Grouped osum kids₁) (g : Float) (g-is : g ≡ narrow osum) where
     group-of : (ix : Index) (j : Joining) (rs os : Scorers) (rest : List ℕ) → LentAt ix n postings positions norms doc → JoinAsks ix table places j rs os node doc → PartsAre ix ranges rs os depth doc rest kids → (g ≡ narrowedSum (optionalScores ix os doc)) × AtMost (nodesOf os * 2 ^ 29) g
     group-of ix j rs os rest L K Q = let h : nodesOf os ≤ 256 = omega (arith, K .few) in group-is (optionalScores ix os doc) (nodesOf os) osum g h (G ix j rs os rest L K Q .0) g-is
 
     pub group-number : Pre → T (not (isNan g))
     group-number P = atmost-number (group-of (P .0) (P .1) (P .2) (P .3) (P .4) (P .5) (P .6) (P .7) .1)
+
+    -- no required children: the group is the score
+    pub only-done : re ≡ 0 → JoinPost kids node n postings positions norms ranges table places doc depth g kids₁
+    only-done none ix j rs os rest L K Q =
+        let o = group-of ix j rs os rest L K Q in
+        (subst (λ (s : Scorers). JoinIs ix j s os doc g) (sym (none-left rs (sym (K .required-end) ∙ none))) (joined-only ix doc os j g (o .0) (o .1)), G ix j rs os rest L K Q .1)
 
     -- ---- the group joins afterwards
     module _ (places′ : ℕ) (same : places′ ≡ places) (z : Float) (z-is : z ≡ zeroFloat) where
@@ -142,6 +157,17 @@ module _ (kids : List ℕ) (node : Node) (n : ℕ) (postings positions norms ran
             let q = after-sum (P .0) (P .1) (P .2) (P .3) (P .4) (P .5) (P .6) (P .7) in
             let h : nodesOf (P .2) ≤ 256 = omega (arith, P .6 .few) in
             subst (λ (y : Float). T (not (isNan y))) (sym e) (atmost-number (scores-narrow (nodesOf (P .2)) sum h (q .0 .small)))
+
+        -- no optional children: the required sum is the score
+        pub alone-done : re ≡ oe → (r : Float) → r ≡ narrow sum → JoinPost kids node n postings positions norms ranges table places doc depth r (ys ++ drop re kids₁)
+        alone-done none r h ix j rs os rest L K Q =
+            let q = after-sum ix j rs os rest L K Q in
+            let R = G ix j rs os rest L K Q .1 in
+            let few : nodesOf rs ≤ 256 = omega (arith, K .few) in
+            let front : (m : ℕ) → T (nonneg (sumFrom zeroFloat (scoring (requiredScores ix (firstOf m rs) doc)))) = λ m. first-small ix (L .lends .accepted) places doc m rs (oks-weighted ix ranges rs depth (Q .required) doc (Q .required-ok)) (K .required .sound) few .sign in (
+              subst (λ (o : Scorers). JoinIs ix j rs o doc r) (sym (no-optional none ix j rs os K)) (joined-alone ix doc rs j few front sum r (q .0) h),
+              record { required = ys; optional = R .optional; is = front-back (R .required) (R .optional ++ rest) kids₁ re (R .is) (required-long ix j rs os rest K (R .required) (R .required-ok)) ys; required-ok = q .1; optional-ok = R .optional-ok },
+            )
 
         pub after-done : node .afterwards ≡ 1 → (w two r : Float) → w ≡ narrow sum → two ≡ add binary64 w g → r ≡ narrow two → JoinPost kids node n postings positions norms ranges table places doc depth r (ys ++ drop re kids₁)
         after-done a w two r e f h ix j rs os rest L K Q =

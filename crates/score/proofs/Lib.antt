@@ -4,6 +4,8 @@ pub mod Parts
 pub mod Sums
 pub mod Join
 pub mod Frequencies
+pub mod Small
+pub mod Alone
 pub mod Weights
 pub mod Leaves
 pub mod Nodes

@@ -20,9 +20,11 @@ use Rattle.weight.specs.State.{sizeOf}
 use Rattle.weight.specs.Held.{Ok, Oks}
 use Rattle.weight.specs.Sound.{nodesOf}
 use Rattle.score.specs.Words.{ChildThere}
+use Rattle.scorer.specs.Contracts as scorer
 use Rattle.scorer.specs.Contracts.{lent, RoomIn, NodeHeld, AdvancePre, AdvancePost}
-use Rattle.score.specs.Asked.{LentAt, Scorable, Scorables, ScoreIs, SumIs, ScorePre, ScorePost, RequiredPre, RequiredPost, OptionalPre, OptionalPost}
-use Rattle.score.proofs.Sums.{counted, scores-word, matches-at, required-counted, optional-counted, required-matched, optional-matched, SumAt, sum-start, sum-end, sum-open, sum-there, sum-scores, sum-size, sum-scorable, sum-matched, sum-part, sum-renewed, sum-skipped, sum-took}
+use Rattle.score.specs.Asked.{LentAt, Scorable, Scorables, ScoreIs, SumIs, ScorePre, ScorePost, RequiredPre, RequiredPost, OptionalPre, OptionalPost, TermPre, TermPost}
+use Rattle.score.proofs.Parts.{part-same}
+use Rattle.score.proofs.Sums.{counted, scores-word, matches-at, required-counted, optional-counted, required-matched, optional-matched, SumAt, sum-start, sum-end, sum-open, sum-there, sum-scores, sum-size, sum-kind, sum-stop, sum-scorable, sum-matched, sum-part, sum-part-kind, sum-renewed, sum-skipped, sum-took}
 
 -- the phrase buffers keep their lengths
 pub places-same : (x y x′ y′ : ℕ) → x ≡ x′ → y ≡ y′ → min x y ≡ min x′ y′
@@ -68,6 +70,12 @@ module _ (kids₀ : List ℕ) (start : Float) (n : ℕ) (postings positions norm
           let o = open-at (P .0) (P .1) (P .2) (P .3) (P .4) (P .5) (P .6) (P .7) in
           sum-there scores-word (P .0) ranges table places depth doc (P .1) (sumFrom start (counted scores-word (P .0) (P .1) doc)) (P .2 + nodesOf (P .1)) kids at sum (o .0) (o .1) (o .2) (o .3)
 
+      -- where a term's part ends
+      pub required-stop : RequiredPre kids₀ start n postings positions norms ranges table places doc depth → getD kids at 0 ≡ 1 → (e : ℕ) → e ≡ at + 24 → e ≡ at + getD kids (at + 1) 0
+      required-stop P t =
+          let o = open-at (P .0) (P .1) (P .2) (P .3) (P .4) (P .5) (P .6) (P .7) in
+          sum-stop scores-word (P .0) ranges table places depth doc (P .1) (sumFrom start (counted scores-word (P .0) (P .1) doc)) (P .2 + nodesOf (P .1)) kids at sum (o .0) (o .1) (o .2) (o .3) t
+
       module _ (e : ℕ) (stop : e ≡ at + getD kids (at + 1) 0) where
         pub required-skip : (getD kids (at + 15) 0 ≡ 1 → ⊥) → RequiredAt kids e sum
         required-skip w ix ss p L S m o a =
@@ -87,6 +95,15 @@ module _ (kids₀ : List ℕ) (start : Float) (n : ℕ) (postings positions norm
               let f : o .0 ≡ true = must-score (o .0) (getD kids (at + 15) 0) (sum-scores scores-word ix ranges table places depth doc ss total most kids at sum (o .0) (o .1) (o .2) (o .3)) w in
               (ix, o .1, cond (o .0) 1 0, P .3, scorable-at same (sum-scorable scores-word ix ranges table places depth doc ss total most kids at sum (o .0) (o .1) (o .2) (o .3) (P .4 .few)), sum-matched scores-word ix ranges table places depth doc ss total most kids at sum (o .0) (o .1) (o .2) (o .3) f, sum-part scores-word ix ranges table places depth doc ss total most kids at sum (o .0) (o .1) (o .2) (o .3) e stop)
 
+          pub required-term : getD kids at 0 ≡ 1 → RequiredPre kids₀ start n postings positions norms ranges table places doc depth → TermPre (take (e - at) (drop at kids)) postings norms table doc
+          required-term t P =
+              let ix = P .0 in
+              let ss = P .1 in
+              let o = open-at ix ss (P .2) (P .3) (P .4) (P .5) (P .6) (P .7) in
+              let total = sumFrom start (counted scores-word ix ss doc) in
+              let most = P .2 + nodesOf ss in
+              (sum-part-kind scores-word ix ranges table places depth doc ss total most kids at sum (o .0) (o .1) (o .2) (o .3) e stop ∙ sym (sum-kind scores-word ix ranges table places depth doc ss total most kids at sum (o .0) (o .1) (o .2) (o .3)) ∙ t, (n, positions, ranges, places′, depth, required-child P))
+
           module _ (r : Float) (ys : List ℕ) (post : ScorePost (take (e - at) (drop at kids)) n postings positions norms ranges table places′ doc depth r ys) where
             pub required-number : RequiredPre kids₀ start n postings positions norms ranges table places doc depth → T (not (isNan r))
             required-number P = let q = required-child P in atmost-number (post (q .0) (q .1) (q .2) (q .3) (q .4) (q .5) (q .6) .0 .small)
@@ -101,6 +118,10 @@ module _ (kids₀ : List ℕ) (start : Float) (n : ℕ) (postings positions norm
                 let z = sum-renewed scores-word ix ranges table places depth doc ss total most kids at sum (i .0) (i .1) (i .2) (i .3) e stop ys (q .1) in
                 let h : e ≡ at + getD (put kids at e ys) (at + 1) 0 = stop ∙ ap (λ (x : ℕ). at + x) (sum-size scores-word ix ranges table places depth doc ss total most kids at sum (i .0) (i .1) (i .2) (i .3) ∙ sym (sum-size scores-word ix ranges table places depth doc ss total most (put kids at e ys) at sum (i .0) (i .1) (i .2) z)) in
                 (i .2, subst (λ (x : Float). SumAt scores-word ix ranges table places depth doc ss total most (i .2) (put kids at e ys) e x) (sym s) (sum-took scores-word ix ranges table places depth doc ss total most (put kids at e ys) at sum (i .0) (i .1) (i .2) z (S .few) f e h r (q .0)))
+
+          -- a term's part stays as it is
+          pub required-term-took : (r : Float) → TermPost (take (e - at) (drop at kids)) postings norms table doc r → (sum′ : Float) → sum′ ≡ add binary64 sum r → RequiredAt kids e sum′
+          required-term-took r post sum′ s = subst (λ (l : List ℕ). RequiredAt l e sum′) (part-same kids at e) (required-took r (take (e - at) (drop at kids)) (post n positions ranges places′ depth) sum′ s)
 
 module _ (kids₀ : List ℕ) (n : ℕ) (postings positions norms ranges : List ℕ) (table : List Float) (places doc depth : ℕ) where
   abbrev pub OptionalAt : List ℕ → ℕ → Float → Type 0
@@ -144,6 +165,11 @@ module _ (kids₀ : List ℕ) (n : ℕ) (postings positions norms ranges : List 
           let o = opened (P .0) (P .1) (P .2) (P .3) (P .4) in
           sum-there (matches-at (P .0) doc) (P .0) ranges table places depth doc (P .1) (sumFrom zeroFloat (counted (matches-at (P .0) doc) (P .0) (P .1) doc)) (nodesOf (P .1)) kids at sum (o .0) (o .1) (o .2) (o .3)
 
+      pub optional-stop : OptionalPre kids₀ n postings positions norms ranges table places doc depth → getD kids at 0 ≡ 1 → (e : ℕ) → e ≡ at + 24 → e ≡ at + getD kids (at + 1) 0
+      optional-stop P t =
+          let o = opened (P .0) (P .1) (P .2) (P .3) (P .4) in
+          sum-stop (matches-at (P .0) doc) (P .0) ranges table places depth doc (P .1) (sumFrom zeroFloat (counted (matches-at (P .0) doc) (P .0) (P .1) doc)) (nodesOf (P .1)) kids at sum (o .0) (o .1) (o .2) (o .3) t
+
       module _ (e : ℕ) (stop : e ≡ at + getD kids (at + 1) 0) (a b : ℕ) (same : min a b ≡ places) where
         pub optional-ask : OptionalPre kids₀ n postings positions norms ranges table places doc depth → AdvancePre (lent n postings positions ranges) a b (take (e - at) (drop at kids)) doc depth
         optional-ask P =
@@ -152,6 +178,15 @@ module _ (kids₀ : List ℕ) (n : ℕ) (postings positions norms ranges : List 
             let o = opened ix ss (P .2) (P .3) (P .4) in
             let total = sumFrom zeroFloat (counted (matches-at ix doc) ix ss doc) in
             (omega (arith, P .2 .document, P .2 .lends .documents, P .2 .lends .accepted .documents), (ix, places, o .1, cond (o .0) 1 0, record { in-a = omega arith; in-b = omega arith }, record { lends = P .2 .lends; sound = sum-scorable (matches-at ix doc) ix ranges table places depth doc ss total (nodesOf ss) kids at sum (o .0) (o .1) (o .2) (o .3) (few-0 (P .3)) .sound; ok = sum-part (matches-at ix doc) ix ranges table places depth doc ss total (nodesOf ss) kids at sum (o .0) (o .1) (o .2) (o .3) e stop }))
+
+        pub optional-term-ask : getD kids at 0 ≡ 1 → OptionalPre kids₀ n postings positions norms ranges table places doc depth → scorer.TermPre postings (take (e - at) (drop at kids)) doc
+        optional-term-ask t P =
+            let ix = P .0 in
+            let ss = P .1 in
+            let o = opened ix ss (P .2) (P .3) (P .4) in
+            let total = sumFrom zeroFloat (counted (matches-at ix doc) ix ss doc) in
+            let q = optional-ask P in
+            (q .0, sum-part-kind (matches-at ix doc) ix ranges table places depth doc ss total (nodesOf ss) kids at sum (o .0) (o .1) (o .2) (o .3) e stop ∙ sym (sum-kind (matches-at ix doc) ix ranges table places depth doc ss total (nodesOf ss) kids at sum (o .0) (o .1) (o .2) (o .3)) ∙ t, (lent n postings positions ranges, refl, q .1 .0, q .1 .1, q .1 .2, depth, q .1 .3, q .1 .5))
 
         module _ (r : ℕ) (ys : List ℕ) (post : AdvancePost (lent n postings positions ranges) (take (e - at) (drop at kids)) doc depth r ys) where
           -- what is known of the child after advance
@@ -177,6 +212,16 @@ module _ (kids₀ : List ℕ) (n : ℕ) (postings positions norms ranges : List 
                 first = q .0;
                 stop-is = stop ∙ ap (λ (x : ℕ). at + x) (sum-size (matches-at ix doc) ix ranges table places depth doc ss total (nodesOf ss) kids at sum (i .0) (i .1) (i .2) (i .3) ∙ sym (sum-size (matches-at ix doc) ix ranges table places depth doc ss total (nodesOf ss) (put kids at e ys) at sum (i .0) (i .1) (i .2) z));
               }
+
+          pub optional-kind : getD kids at 0 ≡ 1 → OptionalPre kids₀ n postings positions norms ranges table places doc depth → getD (take (e - at) (drop at (put kids at e ys))) 0 0 ≡ 1
+          unfolding moved
+          optional-kind t P =
+              let ix = P .0 in
+              let ss = P .1 in
+              let o = opened ix ss (P .2) (P .3) (P .4) in
+              let m = moved ix ss (P .2) (P .3) (P .4) in
+              let total = sumFrom zeroFloat (counted (matches-at ix doc) ix ss doc) in
+              sum-part-kind (matches-at ix doc) ix ranges table places depth doc ss total (nodesOf ss) (put kids at e ys) at sum (m .f) (m .S) (m .g) (m .at-child) e (m .stop-is) ∙ sym (sum-kind (matches-at ix doc) ix ranges table places depth doc ss total (nodesOf ss) kids at sum (o .0) (o .1) (o .2) (o .3)) ∙ t
 
           pub optional-mid : r ≡ doc → OptionalMid (put kids at e ys) at e sum
           optional-mid h ix ss L S o =
@@ -214,3 +259,7 @@ module _ (kids₀ : List ℕ) (n : ℕ) (postings positions norms ranges : List 
           let z = sum-renewed (matches-at ix doc) ix ranges table places depth doc ss total (nodesOf ss) kids at sum (m .f) (m .S) (m .g) (m .at-child) e (m .stop) ys (q .1) in
           let h : e ≡ at + getD (put kids at e ys) (at + 1) 0 = m .stop ∙ ap (λ (x : ℕ). at + x) (sum-size (matches-at ix doc) ix ranges table places depth doc ss total (nodesOf ss) kids at sum (m .f) (m .S) (m .g) (m .at-child) ∙ sym (sum-size (matches-at ix doc) ix ranges table places depth doc ss total (nodesOf ss) (put kids at e ys) at sum (m .f) (m .S) (m .g) z)) in
           (m .g, subst (λ (x : Float). SumAt (matches-at ix doc) ix ranges table places depth doc ss total (nodesOf ss) (m .g) (put kids at e ys) e x) (sym s) (sum-took (matches-at ix doc) ix ranges table places depth doc ss total (nodesOf ss) (put kids at e ys) at sum (m .f) (m .S) (m .g) z (few-0 S) (m .match) e h r (q .0)))
+
+    -- a term's part stays as it is
+    pub optional-term-took : (r : Float) → TermPost (take (e - at) (drop at kids)) postings norms table doc r → (sum′ : Float) → sum′ ≡ add binary64 sum r → OptionalAt kids e sum′
+    optional-term-took r post sum′ s = subst (λ (l : List ℕ). OptionalAt l e sum′) (part-same kids at e) (optional-took r (take (e - at) (drop at kids)) (post n positions ranges places′ depth) sum′ s)

@@ -8,30 +8,64 @@ use Prim.Native.Nat.{ℕ, zero, suc, _+_, _-_, _*_, _≤_, _<_, max}
 use native.Mathlib.Nat.{le-refl}
 use native.Mathlib.Decide.{decLt}
 use native.Mathlib.Omega.{arith}
-use lib.ListN.{getD, length, take, drop, length-append, length-take, length-drop}
+use lib.ListN.{getD, length, take, drop, length-append, length-take, length-drop, take-append-drop}
 use lib.Seq.{take-at, drop-at, getD-append-add}
 use Rattle.meaning.specs.Lent.{Index}
-use Rattle.weight.specs.ScorerTree.{Scorer, leaf, boolean, Scorers, end, more}
-use Rattle.weight.specs.State.{State, wordsOf, sizeOf}
-use Rattle.weight.specs.Held.{Cache, Ok, Oks}
+use Rattle.weight.specs.ScorerTree.{Leaf, nothing, term, phrase, range, everything, Scorer, leaf, boolean, Scorers, end, more}
+use Rattle.weight.specs.State.{State, wordsOf, leafSize, sizeOf}
+use Rattle.weight.specs.Held.{Cache, LeafIs, Ok, Oks}
 use Rattle.scorer.proofs.Bounds.{leaf-sizes, ok-length, ok-long}
 use Rattle.score.specs.Words.{ChildThere}
 
 pub cmp : (a b : ℕ) → (a < b) ⊎ (b ≤ a)
 cmp a b = elim (decLt a b) as (λ _. (a < b) ⊎ (b ≤ a)) [ yes p ↦ inl p | no p ↦ inr (omega arith) ]
 
+-- ---- the kind in the first word of a scorer's part
+unfoldable pub leafKind : Leaf → ℕ
+leafKind nothing = 0
+leafKind (term l) = 1
+leafKind (phrase f ts) = 2
+leafKind (range r) = 4
+leafKind everything = 5
+
+unfoldable pub kindWord : Scorer → ℕ
+kindWord (leaf l c) = leafKind l
+kindWord (boolean c j need rs os ps) = 3
+
+leaf-kind : (ix : Index) (ranges : List ℕ) (l : Leaf) (s : State) (w : List ℕ) (b : ℕ) → LeafIs ix ranges l s w b → s .kind ≡ leafKind l
+unfolding LeafIs leafKind
+leaf-kind ix ranges nothing s w b p = p .0
+leaf-kind ix ranges (term l) s w b p = p .0 .kind-is
+leaf-kind ix ranges (phrase f ts) s w b p = p .kind-is
+leaf-kind ix ranges (range r) s w b p = p .0 .kind-is
+leaf-kind ix ranges everything s w b p = p .0
+
+-- a term's part is its record
+pub term-size : (T : Scorer) → kindWord T ≡ 1 → sizeOf T ≡ 24
+unfolding kindWord leafKind sizeOf leafSize
+term-size (leaf nothing c) e = refl
+term-size (leaf (term l) c) e = refl
+term-size (leaf (phrase f ts) c) e = absurd (omega (arith, e))
+term-size (leaf (range r) c) e = refl
+term-size (leaf everything c) e = refl
+term-size (boolean c j need rs os ps) e = absurd (omega (arith, e))
+
 -- ---- the record at the head of a part
 pub record Head (T : Scorer) (sc : ℕ) (y : List ℕ) : Type 0 where
   pub s : State
   pub w : List ℕ
   pub is : y ≡ wordsOf s ++ w
+  pub kind-is : s .kind ≡ kindWord T
   pub size-is : s .size ≡ sizeOf T
   pub scores-is : s .scores ≡ sc
 
 pub head : (ix : Index) (ranges : List ℕ) (T : Scorer) (k sc : ℕ) (y : List ℕ) (b : ℕ) → Ok ix ranges T k sc y b → Head T sc y
-unfolding Ok sizeOf
-head ix ranges (leaf l c) k sc y b p = record { s = p .0; w = p .1; is = p .2; size-is = leaf-sizes ix ranges l (p .0) (p .1) (max b (p .0 .cached - 1)) (p .4) .size; scores-is = p .3 }
-head ix ranges (boolean c j need rs os ps) k sc y b p = record { s = p .0; w = p .1 ++ (p .2 ++ p .3); is = p .4; size-is = p .7 .size-is; scores-is = p .5 }
+unfolding Ok sizeOf kindWord
+head ix ranges (leaf l c) k sc y b p = record { s = p .0; w = p .1; is = p .2; kind-is = leaf-kind ix ranges l (p .0) (p .1) (max b (p .0 .cached - 1)) (p .4); size-is = leaf-sizes ix ranges l (p .0) (p .1) (max b (p .0 .cached - 1)) (p .4) .size; scores-is = p .3 }
+head ix ranges (boolean c j need rs os ps) k sc y b p = record { s = p .0; w = p .1 ++ (p .2 ++ p .3); is = p .4; kind-is = p .7 .kind-is; size-is = p .7 .size-is; scores-is = p .5 }
+
+pub ok-kind : (ix : Index) (ranges : List ℕ) (T : Scorer) (k sc : ℕ) (y : List ℕ) (b : ℕ) → Ok ix ranges T k sc y b → getD y 0 0 ≡ kindWord T
+ok-kind ix ranges T k sc y b p = let h = head ix ranges T k sc y b p in ap (λ (l : List ℕ). getD l 0 0) (h .is) ∙ h .kind-is
 
 -- ---- a node that matches the document and was asked for none beyond stands at most there
 pub at-most-there : (P : ℕ → Bool) (doc cached : ℕ) → P doc ≡ true → Cache P doc cached → max doc (cached - 1) ≡ doc
@@ -69,6 +103,7 @@ pub record View (ix : Index) (ranges : List ℕ) (k doc : ℕ) (fs : Scorers) (f
   pub place : at ≡ length x
   pub ok : Ok ix ranges T k (cond f 1 0) y doc
   pub rest : Oks ix ranges g k z doc
+  pub kind : getD kids at 0 ≡ kindWord T
   pub size : getD kids (at + 1) 0 ≡ length y
   pub size-of : getD kids (at + 1) 0 ≡ sizeOf T
   pub scores : getD kids (at + 15) 0 ≡ cond f 1 0
@@ -78,6 +113,9 @@ pub record View (ix : Index) (ranges : List ℕ) (k doc : ℕ) (fs : Scorers) (f
 
 word-at : (x y kids : List ℕ) (at i : ℕ) → kids ≡ x ++ y → at ≡ length x → getD kids (at + i) 0 ≡ getD y i 0
 word-at x y kids at i e a = rw (e, a, getD-append-add)
+
+head-kind : {T : Scorer} {sc : ℕ} {y : List ℕ} (h : Head T sc y) (z : List ℕ) → getD (y ++ z) 0 0 ≡ h .s .kind
+head-kind {y = y} h z = ap (λ (l : List ℕ). getD (l ++ z) 0 0) (h .is)
 
 head-size : {T : Scorer} {sc : ℕ} {y : List ℕ} (h : Head T sc y) (z : List ℕ) → getD (y ++ z) 1 0 ≡ h .s .size
 head-size {y = y} h z = ap (λ (l : List ℕ). getD (l ++ z) 1 0) (h .is)
@@ -96,6 +134,8 @@ view {ix} {ranges} {k} {doc} {fs} {f} {T} {g} {kids} {at} q =
     let n : length y ≡ sizeOf T = ok-length ix ranges T k (cond f 1 0) y doc p in
     let a : at ≡ length (q .x) = q .place in
     let w : getD kids (at + 1) 0 ≡ h .s .size = word-at (q .x) (y ++ z) kids at 1 e a ∙ head-size h z in
+    let o : at ≡ at + 0 = omega arith in
+    let m : getD kids (at + 0) 0 ≡ h .s .kind = word-at (q .x) (y ++ z) kids at 0 e a ∙ head-kind h z in
     let v : getD kids (at + 15) 0 ≡ h .s .scores = word-at (q .x) (y ++ z) kids at 15 e a ∙ head-scores h z in
     record {
       x = q .x;
@@ -105,6 +145,7 @@ view {ix} {ranges} {k} {doc} {fs} {f} {T} {g} {kids} {at} q =
       place = a;
       ok = p;
       rest = q .rest .4;
+      kind = ap (λ (i : ℕ). getD kids i 0) o ∙ m ∙ h .kind-is;
       size = w ∙ h .size-is ∙ sym n;
       size-of = w ∙ h .size-is;
       scores = v ∙ h .scores-is;
@@ -156,3 +197,7 @@ module _ {ix : Index} {ranges : List ℕ} {k doc : ℕ} {fs : Scorers} {f : Bool
 
 pub back-length : (kids ys : List ℕ) (at e : ℕ) → length ys ≡ length (take (e - at) (drop at kids)) → length (take at kids ++ (ys ++ drop (e - at) (drop at kids))) ≡ length kids
 back-length kids ys at e h = simp (length-append, length-take, length-drop, h) (omega arith)
+
+-- a part put back as it was
+pub part-same : (kids : List ℕ) (at e : ℕ) → take at kids ++ (take (e - at) (drop at kids) ++ drop (e - at) (drop at kids)) ≡ kids
+part-same kids at e = ap (λ (l : List ℕ). take at kids ++ l) (take-append-drop (e - at) (drop at kids)) ∙ take-append-drop at kids

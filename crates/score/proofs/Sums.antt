@@ -17,7 +17,7 @@ use Rattle.weight.specs.Sound.{Sound, Sounds, Tables, TablesOf, nodes, nodesOf}
 use Rattle.score.specs.Words.{ChildThere}
 use Rattle.score.specs.Asked.{Scorable, ScoreIs}
 use Rattle.score.proofs.Bounds.{scores-add, scores-more}
-use Rattle.score.proofs.Parts.{Zip, zip-start, zip-end, zip-none, zip-next, zip-renewed, view, child-there, part-ok}
+use Rattle.score.proofs.Parts.{Zip, zip-start, zip-end, zip-none, zip-next, zip-renewed, kindWord, term-size, ok-kind, view, child-there, part-ok}
 
 -- the scores of the children that count
 unfoldable pub counted : (Bool → Scorer → Bool) → Index → Scorers → ℕ → List Float
@@ -99,6 +99,13 @@ module _ (c : Bool → Scorer → Bool) (ix : Index) (ranges : List ℕ) (table 
       pub sum-size : getD kids (at + 1) 0 ≡ sizeOf T
       sum-size = view (p .zip) .size-of
 
+      pub sum-kind : getD kids at 0 ≡ kindWord T
+      sum-kind = view (p .zip) .kind
+
+      -- where a term's part ends
+      pub sum-stop : getD kids at 0 ≡ 1 → (e : ℕ) → e ≡ at + 24 → e ≡ at + getD kids (at + 1) 0
+      sum-stop t e stop = omega (arith, stop, sum-size, term-size T (sym sum-kind ∙ t))
+
       pub sum-scorable : most ≤ 256 → Scorable ix table places T
       unfolding Sounds TablesOf nodesOf
       sum-scorable h = record { sound = p .sound .0; tables = p .tables .0; few = omega (arith, p .few) }
@@ -109,6 +116,9 @@ module _ (c : Bool → Scorer → Bool) (ix : Index) (ranges : List ℕ) (table 
 
       pub sum-part : (e : ℕ) → e ≡ at + getD kids (at + 1) 0 → Ok ix ranges T k (cond f 1 0) (take (e - at) (drop at kids)) doc
       sum-part e stop = part-ok (view (p .zip)) e stop
+
+      pub sum-part-kind : (e : ℕ) → e ≡ at + getD kids (at + 1) 0 → getD (take (e - at) (drop at kids)) 0 0 ≡ kindWord T
+      sum-part-kind e stop = ok-kind ix ranges T k (cond f 1 0) (take (e - at) (drop at kids)) doc (sum-part e stop)
 
       -- the child's part after a call
       pub sum-renewed : (e : ℕ) → e ≡ at + getD kids (at + 1) 0 → (ys : List ℕ) → Ok ix ranges T k (cond f 1 0) ys doc → SumAt c ix ranges table places k doc fs total most (more f T g) (take at kids ++ (ys ++ drop (e - at) (drop at kids))) at sum

@@ -3,6 +3,7 @@ use mathlib.Core.Path.{_≡_}
 use mathlib.Core.Bool.{Bool, true}
 use mathlib.Core.List.{List, _++_}
 use Prim.Native.Nat.{ℕ, _+_, _-_, _*_, _^_, _≤_, _<_}
+use lib.ListN.{getD}
 use lib.Ieee.{Float}
 use Rattle.meaning.specs.Limits.{noMoreDocs}
 use Rattle.meaning.specs.Lent.{Index}
@@ -148,3 +149,13 @@ LeafPre st n postings positions norms table places doc =
 abbrev pub LeafPost : List ℕ → ℕ → List ℕ → List ℕ → List ℕ → List Float → ℕ → ℕ → Float → List ℕ → Type 0
 LeafPost st n postings positions norms table places doc r st′ =
     (ix : Index) (ranges : List ℕ) (l : Leaf) (w : Float) (s : State) (v : List ℕ) → LentAt ix n postings positions norms doc → LeafAsks ix ranges table places l w s v doc → st ≡ wordsOf s ++ v → (r ≡ leafScore ix l (weighted w) doc) × AtMost (2 ^ 29) r × LeafKept ix ranges l s doc st′
+
+-- a term's words, whatever else is lent and however deep it stands
+abbrev pub TermPre : List ℕ → List ℕ → List ℕ → List Float → ℕ → Type 0
+TermPre st postings norms table doc =
+    (getD st 0 0 ≡ 1) × ((n : ℕ) × (positions : List ℕ) × (ranges : List ℕ) × (places : ℕ) × (depth : ℕ) × ScorePre st n postings positions norms ranges table places doc depth)
+
+-- its score; the words stay
+abbrev pub TermPost : List ℕ → List ℕ → List ℕ → List Float → ℕ → Float → Type 0
+TermPost st postings norms table doc r =
+    (n : ℕ) (positions ranges : List ℕ) (places depth : ℕ) → ScorePost st n postings positions norms ranges table places doc depth r st

@@ -23,8 +23,9 @@ pub record NodeIs (st : List ℕ) (n : Node) : Type 0 where
   pub group-at : n .«group_at» ≡ getD st 14 0
   pub norms-is : n .norms ≡ getD st 18 0
 
--- the child whose part begins at a word: where the part ends, and its scores word
+-- the child whose part begins at a word: its kind, where the part ends, and its scores word
 pub record ChildIs (kids : List ℕ) (at : ℕ) (c : Child) : Type 0 where
+  pub kind-is : c .kind ≡ getD kids at 0
   pub end-is : c .end ≡ at + getD kids (at + 1) 0
   pub scores-is : c .scores ≡ getD kids (at + 15) 0
 

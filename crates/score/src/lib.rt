@@ -8,15 +8,22 @@ ghost use lib.ListN.{length, getD};
 ghost use lib.Ieee.{nan, binary32, isNan, nanBits, ofBits, ofInt};
 ghost use Rattle.meaning.specs.Bm25.{bm25};
 ghost use Rattle.index.specs.Runs.{postingDocument, postingFrequency};
-ghost use Rattle.scorer.specs.Contracts.{lent, AdvancePre, AdvancePost};
 ghost use Rattle.score.specs.Words.{NodeIs, ChildIs, ChildThere, byteAt};
-ghost use Rattle.score.specs.Asked.{ScorePre, ScorePost, RequiredPre, RequiredPost, OptionalPre, OptionalPost, JoinPre, JoinPost, LeafPre, LeafPost, FrequencyPre, FrequencyPost};
+ghost use Rattle.score.specs.Asked.{ScorePre, ScorePost, RequiredPre, RequiredPost, OptionalPre, OptionalPost, JoinPre, JoinPost, LeafPre, LeafPost, FrequencyPre, FrequencyPost, TermPre, TermPost};
 
 pub mod walk;
 
 use index::wide;
 
+const TERM: u32 = 1;
+
 const BOOLEAN: u32 = 3;
+
+// The scores word of a Must; a Filter's is 0.
+const MUST: u32 = 1;
+
+// The words of a record: a term's part is one.
+const RECORD: usize = 24;
 
 // What the score reads of a node's record.
 pub struct Node {
@@ -34,8 +41,9 @@ pub struct Node {
     pub norms: usize,
 }
 
-// What the loops read of a child's record: where its part ends, and whether it is a Must.
+// What the loops read of a child's record: its kind, where its part ends, and whether it is a Must.
 pub struct Child {
+    pub kind: u32,
     pub end: usize,
     pub scores: u32,
 }
@@ -66,6 +74,7 @@ fn child_at(kids: &[u32], at: usize) -> Child
 {
     let end = at + wide(kids[at + 1]);
     Child {
+        kind: kids[at],
         end,
         scores: kids[at + 15],
     }
@@ -165,50 +174,17 @@ fn leaf_score(
     0.0
 }
 
-// The score of a node that is no Boolean. It stands outside the cycle below, so that a leaf does not pay for a Boolean.
-pub fn leaf(
-    st: &mut [u32],
-    max_doc: u32,
-    postings: &[u32],
-    positions: &[u32],
-    norms: &[u8],
-    ranges: &[u32],
-    inverses: &[f32],
-    a: &mut [i32],
-    b: &mut [i32],
-    doc: u32,
-    depth: u32,
-) -> f32
-    requires { ⌜ (getD (now st) 0 0 ≡ 3 → ⊥) × ScorePre (now st) «max_doc» (now postings) (now positions) (now norms) (now ranges) (now inverses) (min (length (now a)) (length (now b))) doc depth ⌝ }
-    ensures { λ r. ⌜ ScorePost (now (st .entry)) «max_doc» (now (postings .entry)) (now (positions .entry)) (now (norms .entry)) (now (ranges .entry)) (now (inverses .entry)) (min (length (now (a .entry))) (length (now (b .entry)))) doc depth r (now (st .exit)) ⌝ }
+// The score of a term, which is most of them: it is lent little and changes nothing, so that it costs little to call.
+pub fn term_score(st: &[u32], postings: &[u32], norms: &[u8], inverses: &[f32], doc: u32) -> f32
+    requires { ⌜ TermPre (now st) (now postings) (now norms) (now inverses) doc ⌝ }
+    ensures { λ r. ⌜ TermPost (now (st .entry)) (now (postings .entry)) (now (norms .entry)) (now (inverses .entry)) doc r ⌝ }
 {
     let n = node_at(st);
     if n.constant == 1 {
         return f32::from_bits(n.weight);
     }
-    leaf_score(st, max_doc, postings, positions, norms, inverses, a, b, doc)
-}
-
-// Where the node stands at or after the document: its cached document where it is there already.
-fn stands(
-    st: &mut [u32],
-    max_doc: u32,
-    postings: &[u32],
-    positions: &[u32],
-    ranges: &[u32],
-    a: &mut [i32],
-    b: &mut [i32],
-    doc: u32,
-    depth: u32,
-) -> u32
-    requires { ⌜ AdvancePre (lent «max_doc» (now postings) (now positions) (now ranges)) (length (now a)) (length (now b)) (now st) doc depth ⌝ }
-    ensures { λ r. ⌜ AdvancePost (lent «max_doc» (now (postings .entry)) (now (positions .entry)) (now (ranges .entry))) (now (st .entry)) doc depth r (now (st .exit)) ⌝ }
-{
-    let cached = st[2];
-    if doc < cached {
-        return cached - 1;
-    }
-    scorer::advance_any(st, max_doc, postings, positions, ranges, a, b, doc, depth)
+    let frequency = term_frequency(postings, n.first, n.number, n.cursor, doc);
+    weighted(norms, inverses, n, frequency, doc)
 }
 
 // The score of the document where the node matches it. The children were left at it or before it.
@@ -252,55 +228,7 @@ pub fn score(
     }
 }
 
-// A child's score; only a Boolean goes round the cycle.
-fn child_score(
-    st: &mut [u32],
-    max_doc: u32,
-    postings: &[u32],
-    positions: &[u32],
-    norms: &[u8],
-    ranges: &[u32],
-    inverses: &[f32],
-    a: &mut [i32],
-    b: &mut [i32],
-    doc: u32,
-    depth: u32,
-) -> f32
-    requires { ⌜ ScorePre (now st) «max_doc» (now postings) (now positions) (now norms) (now ranges) (now inverses) (min (length (now a)) (length (now b))) doc depth ⌝ }
-    ensures { λ r. ⌜ ScorePost (now (st .entry)) «max_doc» (now (postings .entry)) (now (positions .entry)) (now (norms .entry)) (now (ranges .entry)) (now (inverses .entry)) (min (length (now (a .entry))) (length (now (b .entry)))) doc depth r (now (st .exit)) ⌝ }
-{
-    if st[0] == BOOLEAN {
-        score(
-            st,
-            max_doc,
-            postings,
-            positions,
-            norms,
-            ranges,
-            inverses,
-            a,
-            b,
-            doc,
-            depth,
-        )
-    } else {
-        leaf(
-            st,
-            max_doc,
-            postings,
-            positions,
-            norms,
-            ranges,
-            inverses,
-            a,
-            b,
-            doc,
-            depth,
-        )
-    }
-}
-
-// A Boolean's score: its group joins the required sum as one more, or after that is narrowed.
+// A Boolean's score: its group joins the required sum as one more, or after that is narrowed. One that is alone has nothing to join.
 fn joined(
     kids: &mut [u32],
     n: Node,
@@ -320,6 +248,22 @@ fn joined(
 {
     let end = n.required_end;
     let optional_end = n.optional_end;
+    if end == optional_end {
+        return ieee754::narrow(required(
+            &mut kids[..end],
+            0.0,
+            max_doc,
+            postings,
+            positions,
+            norms,
+            ranges,
+            inverses,
+            a,
+            b,
+            doc,
+            depth,
+        ));
+    }
     let group = ieee754::narrow(optional(
         &mut kids[end..optional_end],
         max_doc,
@@ -333,6 +277,9 @@ fn joined(
         doc,
         depth,
     ));
+    if end == 0 {
+        return group;
+    }
     if n.afterwards == 1 {
         let sum = required(
             &mut kids[..end],
@@ -405,24 +352,33 @@ fn required(
     let mut at = 0;
     while at < kids.len() {
         let k = child_at(kids, at);
-        let end = k.end;
-        if k.scores == 1 {
-            let s = child_score(
-                &mut kids[at..end],
-                max_doc,
-                postings,
-                positions,
-                norms,
-                ranges,
-                inverses,
-                a,
-                b,
-                doc,
-                depth,
-            );
-            sum = ieee754::add_score(sum, s);
+        if k.kind == TERM {
+            let end = at + RECORD;
+            if k.scores == MUST {
+                let s = term_score(&kids[at..end], postings, norms, inverses, doc);
+                sum = ieee754::add_score(sum, s);
+            }
+            at = end;
+        } else {
+            let end = k.end;
+            if k.scores == MUST {
+                let s = score(
+                    &mut kids[at..end],
+                    max_doc,
+                    postings,
+                    positions,
+                    norms,
+                    ranges,
+                    inverses,
+                    a,
+                    b,
+                    doc,
+                    depth,
+                );
+                sum = ieee754::add_score(sum, s);
+            }
+            at = end;
         }
-        at = end;
     }
     sum
 }
@@ -448,84 +404,45 @@ fn optional(
     let mut at = 0;
     while at < kids.len() {
         let k = child_at(kids, at);
-        let end = k.end;
-        if stands(
-            &mut kids[at..end],
-            max_doc,
-            postings,
-            positions,
-            ranges,
-            a,
-            b,
-            doc,
-            depth,
-        )
-            == doc
-        {
-            let s = child_score(
+        if k.kind == TERM {
+            let end = at + RECORD;
+            if scorer::advance_term(&mut kids[at..end], postings, doc) == doc {
+                let s = term_score(&kids[at..end], postings, norms, inverses, doc);
+                sum = ieee754::add_score(sum, s);
+            }
+            at = end;
+        } else {
+            let end = k.end;
+            if scorer::advance(
                 &mut kids[at..end],
                 max_doc,
                 postings,
                 positions,
-                norms,
                 ranges,
-                inverses,
                 a,
                 b,
                 doc,
                 depth,
-            );
-            sum = ieee754::add_score(sum, s);
+            )
+                == doc
+            {
+                let s = score(
+                    &mut kids[at..end],
+                    max_doc,
+                    postings,
+                    positions,
+                    norms,
+                    ranges,
+                    inverses,
+                    a,
+                    b,
+                    doc,
+                    depth,
+                );
+                sum = ieee754::add_score(sum, s);
+            }
+            at = end;
         }
-        at = end;
     }
     sum
-}
-
-// As `score`, from outside the cycle: a leaf at the root does not pay for a Boolean.
-pub fn score_any(
-    st: &mut [u32],
-    max_doc: u32,
-    postings: &[u32],
-    positions: &[u32],
-    norms: &[u8],
-    ranges: &[u32],
-    inverses: &[f32],
-    a: &mut [i32],
-    b: &mut [i32],
-    doc: u32,
-    depth: u32,
-) -> f32
-    requires { ⌜ ScorePre (now st) «max_doc» (now postings) (now positions) (now norms) (now ranges) (now inverses) (min (length (now a)) (length (now b))) doc depth ⌝ }
-    ensures { λ r. ⌜ ScorePost (now (st .entry)) «max_doc» (now (postings .entry)) (now (positions .entry)) (now (norms .entry)) (now (ranges .entry)) (now (inverses .entry)) (min (length (now (a .entry))) (length (now (b .entry)))) doc depth r (now (st .exit)) ⌝ }
-{
-    if st[0] == BOOLEAN {
-        score(
-            st,
-            max_doc,
-            postings,
-            positions,
-            norms,
-            ranges,
-            inverses,
-            a,
-            b,
-            doc,
-            depth,
-        )
-    } else {
-        leaf(
-            st,
-            max_doc,
-            postings,
-            positions,
-            norms,
-            ranges,
-            inverses,
-            a,
-            b,
-            doc,
-            depth,
-        )
-    }
 }

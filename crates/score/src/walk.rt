@@ -3,7 +3,6 @@ ghost use Prim.Native.Nat.{min};
 ghost use lib.ListN.{length};
 ghost use Rattle.scorer.specs.Contracts.{lent};
 ghost use Rattle.score.specs.Walks.{NextPre, NextPost, ListPre, ListPost};
-use scorer::advance_any;
 
 // Above every document.
 pub const NO_MORE_DOCS: u32 = 2147483647;
@@ -32,7 +31,7 @@ pub fn next_match(
 {
     let mut target = from;
     loop {
-        let d = advance_any(
+        let d = scorer::advance(
             st,
             max_doc,
             postings,
@@ -90,7 +89,7 @@ pub fn list(
         if next == NO_MORE_DOCS {
             return Listed { given, next };
         }
-        let s = crate::score_any(
+        let s = crate::score(
             st,
             max_doc,
             postings,

@@ -67,6 +67,17 @@ module _ (words : List ℕ) (stride : ℕ) (st : List ℕ) (t f n u : ℕ) (ef :
         ended = λ _. e;
       }
 
+  -- the posting after the cursor
+  pub search-next : (d e : ℕ) → u + 1 < n → d ≡ documentAt words stride f u → d < t → e ≡ documentAt words stride f (u + 1) → t ≤ e → SearchPost words stride st t e (set st 8 (u + 1))
+  search-next d e l p q r g =
+      search-hit (u + 1) e (record {
+        within = omega arith;
+        passed = λ i a b.
+            let z : u ≡ i = omega arith in
+            subst (λ (j : ℕ). documentAt words stride f j < t) z (subst (λ (x : ℕ). x < t) p q);
+        stops = λ _. subst (λ (x : ℕ). t ≤ x) r g;
+      }) l r
+
 -- ---- the first document of a run
 module _ (P : ℕ → Bool) (doc : ℕ → ℕ) (n t u r : ℕ) (top : t ≤ noMoreDocs) (small : (i : ℕ) → i < n → doc i < noMoreDocs) (ascending : (i j : ℕ) → i < j → j < n → doc i < doc j)
     (hits : (i : ℕ) → i < n → P (doc i) ≡ true) (misses : (d : ℕ) → ((i : ℕ) → i < n → doc i ≡ d → ⊥) → P d ≡ false)

@@ -9,5 +9,6 @@ pub mod Nodes
 pub mod LeafLaws
 pub mod PhraseLaws
 pub mod Seeks
+pub mod Terms
 pub mod Stands
 pub mod Example

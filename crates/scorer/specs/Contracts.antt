@@ -41,6 +41,13 @@ AdvancePre E a b st target depth = (target ≤ noMoreDocs) × ((ix : Index) × (
 abbrev pub AdvancePost : Lent → List ℕ → ℕ → ℕ → ℕ → List ℕ → Type 0
 AdvancePost E st target depth r st′ = (ix : Index) (places : ℕ) (s : Scorer) (scores : ℕ) → NodeHeld E ix places s depth scores st target → First (matches ix s) target r × Ok ix (E .ranges) s depth scores st′ target
 
+-- a node that is a term: it asks nothing of what is lent but the postings
+abbrev pub TermPre : List ℕ → List ℕ → ℕ → Type 0
+TermPre postings st target = (target ≤ noMoreDocs) × (getD st 0 0 ≡ 1) × ((E : Lent) × (E .postings ≡ postings) × (ix : Index) × (places : ℕ) × (s : Scorer) × (depth : ℕ) × (scores : ℕ) × NodeHeld E ix places s depth scores st target)
+
+abbrev pub TermPost : List ℕ → List ℕ → ℕ → ℕ → List ℕ → Type 0
+TermPost postings st target r st′ = (E : Lent) (depth : ℕ) → E .postings ≡ postings → AdvancePost E st target depth r st′
+
 -- ---- leaves
 -- a leaf that must be moved, s its record and w the words behind it
 pub record LeafHeld (E : Lent) (ix : Index) (places : ℕ) (l : Leaf) (s : State) (w st : List ℕ) (target : ℕ) : Type 0 where

@@ -59,6 +59,27 @@ fn search(st: &mut [u32], words: &[u32], stride: usize, target: u32) -> u32
     }
 }
 
+// The same for postings: mostly the next one is wanted, which needs no search.
+pub fn search_postings(st: &mut [u32], postings: &[u32], target: u32) -> u32
+    requires { ⌜ SearchPre (now postings) 3 (now st) target ⌝ }
+    ensures { λ r. ⌜ SearchPost (now (postings .entry)) 3 (now (st .entry)) target r (now (st .exit)) ⌝ }
+{
+    let c = cursor_at(st);
+    let first = c.first;
+    let cursor = c.cursor;
+    let next = cursor + 1;
+    if next < c.number {
+        if document(postings, POSTING, first, cursor) < target {
+            let d = document(postings, POSTING, first, next);
+            if target <= d {
+                st[8] = next as u32;
+                return d;
+            }
+        }
+    }
+    search(st, postings, POSTING, target)
+}
+
 fn everything(max_doc: u32, target: u32) -> u32
     ensures { λ r. ⌜ AnyDocument «max_doc» target r ⌝ }
 {
@@ -195,7 +216,7 @@ pub fn seek(
 {
     let kind = st[0];
     if kind == TERM {
-        return search(st, postings, POSTING, target);
+        return search_postings(st, postings, target);
     }
     if kind == PHRASE {
         return seek_phrase(st, postings, positions, a, b, target);

@@ -5,7 +5,7 @@ pub mod run;
 ghost use Prim.Native.Nat.{ℕ, _+_, _≤_, _<_};
 ghost use mathlib.Core.Path.{_≡_};
 ghost use lib.ListN.{length, getD};
-ghost use Rattle.scorer.specs.Contracts.{lent, AdvancePre, AdvancePost, PartsPre, ChildAt, ChildRead, Tally, LeastPost, DisjunctionPost, PassPost, LeadPre, StepPost, LeadPost, BooleanPre, BooleanPost, HeadRead, BooleanRead};
+ghost use Rattle.scorer.specs.Contracts.{lent, AdvancePre, AdvancePost, TermPre, TermPost, PartsPre, ChildAt, ChildRead, Tally, LeastPost, DisjunctionPost, PassPost, LeadPre, StepPost, LeadPost, BooleanPre, BooleanPost, HeadRead, BooleanRead};
 
 pub const NO_MORE_DOCS: u32 = 2147483647;
 
@@ -98,6 +98,22 @@ fn tally(best: u32, count: usize, d: u32) -> Standing
         };
     }
     Standing { doc: best, count }
+}
+
+// A node that is a term: two slices and no call that is not inlined, for loops over children.
+pub fn advance_term(st: &mut [u32], postings: &[u32], target: u32) -> u32
+    requires { ⌜ TermPre (now postings) (now st) target ⌝ }
+    ensures { λ r. ⌜ TermPost (now (postings .entry)) (now (st .entry)) target r (now (st .exit)) ⌝ }
+    ensures { λ r. ⌜ getD (now (st .exit)) 2 0 ≡ r + 1 ⌝ }
+{
+    let h = head_at(st);
+    let cached = h.cached;
+    if target < cached {
+        return cached - 1;
+    }
+    let d = leaves::search_postings(st, postings, target);
+    st[2] = d + 1;
+    d
 }
 
 // A node that is no Boolean: outside the cycle, so that moving one costs no more than its own search.

@@ -72,8 +72,8 @@ returns c =
     let f = c .before .before .before .before .before .before .before .before .next-match in
     gather-done K (s .pre .1) (l .st) (l .c) (l .heap) (l .from) (l .inv .5) (f .result) (f .last .0) (f .ensures) (c .before .before .before .if1 .taken) (c .before .top-docs .result) (c .before .top-docs .last .1 .0) (c .before .top-docs .ensures)
 
-score-any-requires : tie.Need-score-any-requires Inv-loop μ-loop
-score-any-requires c κs =
+score-requires : tie.Need-score-requires Inv-loop μ-loop
+score-requires c κs =
     let s = c .before .before .before .before .before .before .before .before .before .before .before .before .before .before .before .before .before .before .before .before .before in
     let K : Call = record { n = s .args .max-doc; postings = s .args .postings .now; positions = s .args .positions .now; norms = s .args .norms .now; ranges = s .args .ranges .now; live = s .args .live .now; table = s .args .inverses .now; places = min (length (s .args .a .now)) (length (s .args .b .now)); st = s .args .st .now; depth = s .args .depth; t = s .args .t; start = s .args .heap .now } in
     let l = c .before .before .before .before .before .before .before .before .before .before .before .before .loop in
@@ -87,7 +87,7 @@ stepped-requires c κs =
     let K : Call = record { n = s .args .max-doc; postings = s .args .postings .now; positions = s .args .positions .now; norms = s .args .norms .now; ranges = s .args .ranges .now; live = s .args .live .now; table = s .args .inverses .now; places = min (length (s .args .a .now)) (length (s .args .b .now)); st = s .args .st .now; depth = s .args .depth; t = s .args .t; start = s .args .heap .now } in
     let l = c .before .before .before .before .before .before .before .before .before .before .before .before .before .before .before .before .before .before .loop in
     let f = c .before .before .before .before .before .before .before .before .before .before .before .before .before .before .next-match in
-    let w = c .before .before .before .before .before .score-any in
+    let w = c .before .before .before .before .before .score in
     let m = c .before .before .before .before .before .before .before .before .before .if1 .left in
     (gather-ready K (s .pre .1) (l .st) (l .c) (l .heap) (l .from) (l .inv .5) (f .result) (gather-from K (s .pre .1) (l .st) (l .c) (l .heap) (l .from) (l .inv .5) (f .result) (f .last .0) (f .ensures)), (gather-below K (s .pre .1) (l .st) (l .c) (l .heap) (l .from) (l .inv .5) (f .result) (f .last .0) (f .ensures) m, gather-clear K (s .pre .1) (l .st) (l .c) (l .heap) (l .from) (l .inv .5) (f .result) (f .last .0) (f .ensures) m (min (length (f .last .1 .1 .1 .1 .1 .1 .0)) (length (f .last .1 .1 .1 .1 .1 .1 .1 .0))) (places-same _ _ _ _ (f .kept .1 .1 .1 .1 .1 .1 .0 ∙ l .inv .1) (f .kept .1 .1 .1 .1 .1 .1 .1 .0 ∙ l .inv .2)) (w .result) (w .last .0) (w .ensures)))
 
@@ -115,7 +115,7 @@ loop-again c =
     let K : Call = record { n = s .args .max-doc; postings = s .args .postings .now; positions = s .args .positions .now; norms = s .args .norms .now; ranges = s .args .ranges .now; live = s .args .live .now; table = s .args .inverses .now; places = min (length (s .args .a .now)) (length (s .args .b .now)); st = s .args .st .now; depth = s .args .depth; t = s .args .t; start = s .args .heap .now } in
     let l = c .before .before .before .before .before .before .before .before .before .before .before .before .before .before .before .before .before .before .before .before .loop in
     let f = c .before .before .before .before .before .before .before .before .before .before .before .before .before .before .before .before .next-match in
-    let w = c .before .before .before .before .before .before .before .score-any in
+    let w = c .before .before .before .before .before .before .before .score in
     let k = c .before .stepped in
     let m = c .before .before .before .before .before .before .before .before .before .before .before .if1 .left in
     (w .kept .0 ∙ f .kept .0 ∙ l .inv .0, w .kept .1 .1 .1 .1 .1 .1 .1 .0 ∙ f .kept .1 .1 .1 .1 .1 .1 .0 ∙ l .inv .1, w .kept .1 .1 .1 .1 .1 .1 .1 .1 .0 ∙ f .kept .1 .1 .1 .1 .1 .1 .1 .0 ∙ l .inv .2, k .kept .1 .0 ∙ l .inv .3, omega (arith, gather-below K (s .pre .1) (l .st) (l .c) (l .heap) (l .from) (l .inv .5) (f .result) (f .last .0) (f .ensures) m), gather-more K (s .pre .1) (l .st) (l .c) (l .heap) (l .from) (l .inv .5) (f .result) (f .last .0) (f .ensures) m (min (length (f .last .1 .1 .1 .1 .1 .1 .0)) (length (f .last .1 .1 .1 .1 .1 .1 .1 .0))) (places-same _ _ _ _ (f .kept .1 .1 .1 .1 .1 .1 .0 ∙ l .inv .1) (f .kept .1 .1 .1 .1 .1 .1 .1 .0 ∙ l .inv .2)) (w .result) (w .last .0) (w .ensures) (k .result) (k .last .1 .0) (k .ensures))
@@ -135,7 +135,7 @@ collect-matches-spec =
     same-length-3
     same-length-4
     returns
-    score-any-requires
+    score-requires
     stepped-requires
     add-from
     loop-less

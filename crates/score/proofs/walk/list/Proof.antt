@@ -72,8 +72,8 @@ returns c =
     let l = c .before .before .loop in
     page-done (s₀ .args .max-doc) (s₀ .args .postings .now) (s₀ .args .positions .now) (s₀ .args .norms .now) (s₀ .args .ranges .now) (s₀ .args .live .now) (s₀ .args .inverses .now) (min (length (s₀ .args .a .now)) (length (s₀ .args .b .now))) (s₀ .args .st .now) (s₀ .args .from) (s₀ .args .depth) (s₀ .args .docs .now) (s₀ .args .bits .now) (f .result) (f .last .0) (f .ensures) (min (length (f .last .1 .1 .1 .1 .1 .1 .0)) (length (f .last .1 .1 .1 .1 .1 .1 .1 .0))) (places-same _ _ _ _ (f .kept .1 .1 .1 .1 .1 .1 .0) (f .kept .1 .1 .1 .1 .1 .1 .1 .0)) (l .given) (l .next) (l .st) (l .docs) (l .bits) (page-none (s₀ .args .max-doc) (s₀ .args .postings .now) (s₀ .args .positions .now) (s₀ .args .norms .now) (s₀ .args .ranges .now) (s₀ .args .live .now) (s₀ .args .inverses .now) (min (length (f .last .1 .1 .1 .1 .1 .1 .0)) (length (f .last .1 .1 .1 .1 .1 .1 .1 .0))) (f .last .0) (f .result) (s₀ .args .from) (s₀ .args .depth) (s₀ .args .docs .now) (s₀ .args .bits .now) (l .st) (l .docs) (l .bits) (l .given) (l .next) (l .inv .6) (c .if1 .taken) (l .inv .5))
 
-score-any-requires : tie.Need-score-any-requires Inv-loop μ-loop
-score-any-requires c κs =
+score-requires : tie.Need-score-requires Inv-loop μ-loop
+score-requires c κs =
     let s₀ = c .before .before .before .before .before .before .before .before .before .before .before .before .before .before .before .before .before .before .before .before .before .before .before in
     let f = c .before .before .before .before .before .before .before .before .before .before .next-match in
     let l = c .before .before .before .before .before .loop in
@@ -98,7 +98,7 @@ float-to-bits-bits c =
     let s₀ = c .before .before .before .before .before .before .before .before .before .before .before .before .before .before .before .before .before .before .before .before .before .before .before .before .before .before .before .before in
     let f = c .before .before .before .before .before .before .before .before .before .before .before .before .before .before .before .next-match in
     let l = c .before .before .before .before .before .before .before .before .before .before .loop in
-    page-number (s₀ .args .max-doc) (s₀ .args .postings .now) (s₀ .args .positions .now) (s₀ .args .norms .now) (s₀ .args .ranges .now) (s₀ .args .live .now) (s₀ .args .inverses .now) (min (length (f .last .1 .1 .1 .1 .1 .1 .0)) (length (f .last .1 .1 .1 .1 .1 .1 .1 .0))) (f .last .0) (f .result) (s₀ .args .from) (s₀ .args .depth) (s₀ .args .docs .now) (s₀ .args .bits .now) (l .st) (l .docs) (l .bits) (l .given) (l .next) (l .inv .6) (c .before .before .before .before .before .before .before .before .if1 .left) (min (length (l .a)) (length (l .b))) (places-same _ _ _ _ (l .inv .1) (l .inv .2)) (c .before .before .before .before .score-any .result) (c .before .before .before .before .score-any .last .0) (c .before .before .before .before .score-any .ensures) (let W = s₀ .pre .2 in (W .0, W .1, W .2, begun (s₀ .args .max-doc) (s₀ .args .postings .now) (s₀ .args .positions .now) (s₀ .args .norms .now) (s₀ .args .ranges .now) (s₀ .args .live .now) (s₀ .args .inverses .now) (min (length (s₀ .args .a .now)) (length (s₀ .args .b .now))) (s₀ .args .st .now) (s₀ .args .from) (s₀ .args .depth) (s₀ .args .docs .now) (s₀ .args .bits .now) (f .result) (f .last .0) (f .ensures) (min (length (f .last .1 .1 .1 .1 .1 .1 .0)) (length (f .last .1 .1 .1 .1 .1 .1 .1 .0))) (places-same _ _ _ _ (f .kept .1 .1 .1 .1 .1 .1 .0) (f .kept .1 .1 .1 .1 .1 .1 .1 .0)) (W .0) (W .1) (W .2) (W .3)))
+    page-number (s₀ .args .max-doc) (s₀ .args .postings .now) (s₀ .args .positions .now) (s₀ .args .norms .now) (s₀ .args .ranges .now) (s₀ .args .live .now) (s₀ .args .inverses .now) (min (length (f .last .1 .1 .1 .1 .1 .1 .0)) (length (f .last .1 .1 .1 .1 .1 .1 .1 .0))) (f .last .0) (f .result) (s₀ .args .from) (s₀ .args .depth) (s₀ .args .docs .now) (s₀ .args .bits .now) (l .st) (l .docs) (l .bits) (l .given) (l .next) (l .inv .6) (c .before .before .before .before .before .before .before .before .if1 .left) (min (length (l .a)) (length (l .b))) (places-same _ _ _ _ (l .inv .1) (l .inv .2)) (c .before .before .before .before .score .result) (c .before .before .before .before .score .last .0) (c .before .before .before .before .score .ensures) (let W = s₀ .pre .2 in (W .0, W .1, W .2, begun (s₀ .args .max-doc) (s₀ .args .postings .now) (s₀ .args .positions .now) (s₀ .args .norms .now) (s₀ .args .ranges .now) (s₀ .args .live .now) (s₀ .args .inverses .now) (min (length (s₀ .args .a .now)) (length (s₀ .args .b .now))) (s₀ .args .st .now) (s₀ .args .from) (s₀ .args .depth) (s₀ .args .docs .now) (s₀ .args .bits .now) (f .result) (f .last .0) (f .ensures) (min (length (f .last .1 .1 .1 .1 .1 .1 .0)) (length (f .last .1 .1 .1 .1 .1 .1 .1 .0))) (places-same _ _ _ _ (f .kept .1 .1 .1 .1 .1 .1 .0) (f .kept .1 .1 .1 .1 .1 .1 .1 .0)) (W .0) (W .1) (W .2) (W .3)))
 
 mul-bits : tie.Need-mul-bits Inv-loop μ-loop
 mul-bits c =
@@ -133,7 +133,7 @@ next-match-requires-2 c κs =
     let s₀ = c .before .before .before .before .before .before .before .before .before .before .before .before .before .before .before .before .before .before .before .before .before .before .before .before .before .before .before .before .before .before .before in
     let f = c .before .before .before .before .before .before .before .before .before .before .before .before .before .before .before .before .before .before .next-match in
     let l = c .before .before .before .before .before .before .before .before .before .before .before .before .before .loop in
-    page-next-asks (s₀ .args .max-doc) (s₀ .args .postings .now) (s₀ .args .positions .now) (s₀ .args .norms .now) (s₀ .args .ranges .now) (s₀ .args .live .now) (s₀ .args .inverses .now) (min (length (f .last .1 .1 .1 .1 .1 .1 .0)) (length (f .last .1 .1 .1 .1 .1 .1 .1 .0))) (f .last .0) (f .result) (s₀ .args .from) (s₀ .args .depth) (s₀ .args .docs .now) (s₀ .args .bits .now) (l .st) (l .docs) (l .bits) (l .given) (l .next) (l .inv .6) (c .before .before .before .before .before .before .before .before .before .before .before .if1 .left) (min (length (l .a)) (length (l .b))) (places-same _ _ _ _ (l .inv .1) (l .inv .2)) (c .before .before .before .before .before .before .before .score-any .result) (c .before .before .before .before .before .before .before .score-any .last .0) (c .before .before .before .before .before .before .before .score-any .ensures) (length (c .before .before .before .before .before .before .before .score-any .last .1 .1 .1 .1 .1 .1 .1 .0)) (length (c .before .before .before .before .before .before .before .score-any .last .1 .1 .1 .1 .1 .1 .1 .1 .0)) (places-same _ _ _ _ (c .before .before .before .before .before .before .before .score-any .kept .1 .1 .1 .1 .1 .1 .1 .0 ∙ l .inv .1) (c .before .before .before .before .before .before .before .score-any .kept .1 .1 .1 .1 .1 .1 .1 .1 .0 ∙ l .inv .2)) (let W = s₀ .pre .2 in (W .0, W .1, W .2, begun (s₀ .args .max-doc) (s₀ .args .postings .now) (s₀ .args .positions .now) (s₀ .args .norms .now) (s₀ .args .ranges .now) (s₀ .args .live .now) (s₀ .args .inverses .now) (min (length (s₀ .args .a .now)) (length (s₀ .args .b .now))) (s₀ .args .st .now) (s₀ .args .from) (s₀ .args .depth) (s₀ .args .docs .now) (s₀ .args .bits .now) (f .result) (f .last .0) (f .ensures) (min (length (f .last .1 .1 .1 .1 .1 .1 .0)) (length (f .last .1 .1 .1 .1 .1 .1 .1 .0))) (places-same _ _ _ _ (f .kept .1 .1 .1 .1 .1 .1 .0) (f .kept .1 .1 .1 .1 .1 .1 .1 .0)) (W .0) (W .1) (W .2) (W .3)))
+    page-next-asks (s₀ .args .max-doc) (s₀ .args .postings .now) (s₀ .args .positions .now) (s₀ .args .norms .now) (s₀ .args .ranges .now) (s₀ .args .live .now) (s₀ .args .inverses .now) (min (length (f .last .1 .1 .1 .1 .1 .1 .0)) (length (f .last .1 .1 .1 .1 .1 .1 .1 .0))) (f .last .0) (f .result) (s₀ .args .from) (s₀ .args .depth) (s₀ .args .docs .now) (s₀ .args .bits .now) (l .st) (l .docs) (l .bits) (l .given) (l .next) (l .inv .6) (c .before .before .before .before .before .before .before .before .before .before .before .if1 .left) (min (length (l .a)) (length (l .b))) (places-same _ _ _ _ (l .inv .1) (l .inv .2)) (c .before .before .before .before .before .before .before .score .result) (c .before .before .before .before .before .before .before .score .last .0) (c .before .before .before .before .before .before .before .score .ensures) (length (c .before .before .before .before .before .before .before .score .last .1 .1 .1 .1 .1 .1 .1 .0)) (length (c .before .before .before .before .before .before .before .score .last .1 .1 .1 .1 .1 .1 .1 .1 .0)) (places-same _ _ _ _ (c .before .before .before .before .before .before .before .score .kept .1 .1 .1 .1 .1 .1 .1 .0 ∙ l .inv .1) (c .before .before .before .before .before .before .before .score .kept .1 .1 .1 .1 .1 .1 .1 .1 .0 ∙ l .inv .2)) (let W = s₀ .pre .2 in (W .0, W .1, W .2, begun (s₀ .args .max-doc) (s₀ .args .postings .now) (s₀ .args .positions .now) (s₀ .args .norms .now) (s₀ .args .ranges .now) (s₀ .args .live .now) (s₀ .args .inverses .now) (min (length (s₀ .args .a .now)) (length (s₀ .args .b .now))) (s₀ .args .st .now) (s₀ .args .from) (s₀ .args .depth) (s₀ .args .docs .now) (s₀ .args .bits .now) (f .result) (f .last .0) (f .ensures) (min (length (f .last .1 .1 .1 .1 .1 .1 .0)) (length (f .last .1 .1 .1 .1 .1 .1 .1 .0))) (places-same _ _ _ _ (f .kept .1 .1 .1 .1 .1 .1 .0) (f .kept .1 .1 .1 .1 .1 .1 .1 .0)) (W .0) (W .1) (W .2) (W .3)))
 
 loop-less : tie.Need-loop-less Inv-loop μ-loop
 loop-less c =
@@ -147,7 +147,7 @@ loop-again c =
     let s₀ = c .before .before .before .before .before .before .before .before .before .before .before .before .before .before .before .before .before .before .before .before .before .before .before .before .before .before .before .before .before .before .before .before .before .before .before .before in
     let f = c .before .before .before .before .before .before .before .before .before .before .before .before .before .before .before .before .before .before .before .before .before .before .before .next-match in
     let l = c .before .before .before .before .before .before .before .before .before .before .before .before .before .before .before .before .before .before .loop in
-    (c .before .before .before .before .next-match2 .kept .0 ∙ c .before .before .before .before .before .before .before .before .before .before .before .before .score-any .kept .0 ∙ l .inv .0, c .before .before .before .before .next-match2 .kept .1 .1 .1 .1 .1 .1 .0 ∙ (c .before .before .before .before .before .before .before .before .before .before .before .before .score-any .kept .1 .1 .1 .1 .1 .1 .1 .0 ∙ l .inv .1), c .before .before .before .before .next-match2 .kept .1 .1 .1 .1 .1 .1 .1 .0 ∙ (c .before .before .before .before .before .before .before .before .before .before .before .before .score-any .kept .1 .1 .1 .1 .1 .1 .1 .1 .0 ∙ l .inv .2), length-set (l .docs) (l .given) (l .next) ∙ l .inv .3, length-set (l .bits) (l .given) _ ∙ l .inv .4, omega (arith, l .inv .3, c .before .before .before .before .before .before .before .before .before .before .before .before .before .before .before .before .before .loop-test .taken), page-more (s₀ .args .max-doc) (s₀ .args .postings .now) (s₀ .args .positions .now) (s₀ .args .norms .now) (s₀ .args .ranges .now) (s₀ .args .live .now) (s₀ .args .inverses .now) (min (length (f .last .1 .1 .1 .1 .1 .1 .0)) (length (f .last .1 .1 .1 .1 .1 .1 .1 .0))) (f .last .0) (f .result) (s₀ .args .from) (s₀ .args .depth) (s₀ .args .docs .now) (s₀ .args .bits .now) (l .st) (l .docs) (l .bits) (l .given) (l .next) (l .inv .6) (c .before .before .before .before .before .before .before .before .before .before .before .before .before .before .before .before .if1 .left) (min (length (l .a)) (length (l .b))) (places-same _ _ _ _ (l .inv .1) (l .inv .2)) (c .before .before .before .before .before .before .before .before .before .before .before .before .score-any .result) (c .before .before .before .before .before .before .before .before .before .before .before .before .score-any .last .0) (c .before .before .before .before .before .before .before .before .before .before .before .before .score-any .ensures) (c .before .before .before .before .next-match2 .result) (c .before .before .before .before .next-match2 .last .0) (c .before .before .before .before .next-match2 .ensures) (omega (arith, l .inv .3, c .before .before .before .before .before .before .before .before .before .before .before .before .before .before .before .before .before .loop-test .taken)) (omega (arith, l .inv .3, c .before .before .before .before .before .before .before .before .before .before .before .before .before .before .before .before .before .loop-test .taken, s₀ .pre .1)))
+    (c .before .before .before .before .next-match2 .kept .0 ∙ c .before .before .before .before .before .before .before .before .before .before .before .before .score .kept .0 ∙ l .inv .0, c .before .before .before .before .next-match2 .kept .1 .1 .1 .1 .1 .1 .0 ∙ (c .before .before .before .before .before .before .before .before .before .before .before .before .score .kept .1 .1 .1 .1 .1 .1 .1 .0 ∙ l .inv .1), c .before .before .before .before .next-match2 .kept .1 .1 .1 .1 .1 .1 .1 .0 ∙ (c .before .before .before .before .before .before .before .before .before .before .before .before .score .kept .1 .1 .1 .1 .1 .1 .1 .1 .0 ∙ l .inv .2), length-set (l .docs) (l .given) (l .next) ∙ l .inv .3, length-set (l .bits) (l .given) _ ∙ l .inv .4, omega (arith, l .inv .3, c .before .before .before .before .before .before .before .before .before .before .before .before .before .before .before .before .before .loop-test .taken), page-more (s₀ .args .max-doc) (s₀ .args .postings .now) (s₀ .args .positions .now) (s₀ .args .norms .now) (s₀ .args .ranges .now) (s₀ .args .live .now) (s₀ .args .inverses .now) (min (length (f .last .1 .1 .1 .1 .1 .1 .0)) (length (f .last .1 .1 .1 .1 .1 .1 .1 .0))) (f .last .0) (f .result) (s₀ .args .from) (s₀ .args .depth) (s₀ .args .docs .now) (s₀ .args .bits .now) (l .st) (l .docs) (l .bits) (l .given) (l .next) (l .inv .6) (c .before .before .before .before .before .before .before .before .before .before .before .before .before .before .before .before .if1 .left) (min (length (l .a)) (length (l .b))) (places-same _ _ _ _ (l .inv .1) (l .inv .2)) (c .before .before .before .before .before .before .before .before .before .before .before .before .score .result) (c .before .before .before .before .before .before .before .before .before .before .before .before .score .last .0) (c .before .before .before .before .before .before .before .before .before .before .before .before .score .ensures) (c .before .before .before .before .next-match2 .result) (c .before .before .before .before .next-match2 .last .0) (c .before .before .before .before .next-match2 .ensures) (omega (arith, l .inv .3, c .before .before .before .before .before .before .before .before .before .before .before .before .before .before .before .before .before .loop-test .taken)) (omega (arith, l .inv .3, c .before .before .before .before .before .before .before .before .before .before .before .before .before .before .before .before .before .loop-test .taken, s₀ .pre .1)))
 
 same-length-6 : tie.Need-same-length-6 Inv-loop μ-loop
 same-length-6 c =
@@ -205,7 +205,7 @@ list-spec =
     same-length-4
     same-length-5
     returns
-    score-any-requires
+    score-requires
     mul-docs
     slice-write-docs
     float-to-bits-bits

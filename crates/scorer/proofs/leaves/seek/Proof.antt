@@ -17,6 +17,7 @@ use Rattle.scorer.proofs.leaves.seek.Reads as reads
 use Rattle.scorer.proofs.leaves.seek.Lts as lts
 use Rattle.scorer.proofs.leaves.everything.Reads as everything-reads
 use Rattle.scorer.proofs.leaves.search.Reads as search-reads
+use Rattle.scorer.proofs.leaves.search_postings.Reads as search-postings-reads
 use Rattle.scorer.proofs.leaves.seek_phrase.Reads as seek-phrase-reads
 
 -- src/leaves.rt:183:16
@@ -24,8 +25,8 @@ slice-read-kind : tie.Need-slice-read-kind
 slice-read-kind c = let s = (c .before .before .before .before .before) in let P = s .pre .1 in omega (arith, seek-long (lent (s .args .max-doc) (s .args .postings .now) (s .args .positions .now) (s .args .ranges .now)) (s .args .st .now) (s .args .target) (P .6))
 
 -- src/leaves.rt:185:9
-search-requires : tie.Need-search-requires
-search-requires c κs = let s = (c .before .before .before .before .before .before .before) in let P = s .pre .1 in let z : length (s .args .postings .now) < 9223372036854775808 = omega (arith, s .good) in seek-term-pre (lent (s .args .max-doc) (s .args .postings .now) (s .args .positions .now) (s .args .ranges .now)) (s .args .st .now) (s .args .target) ((c .before) .if1 .taken) z (P .0) (P .1) (P .2) (P .3) (P .4) (P .6)
+search-postings-requires : tie.Need-search-postings-requires
+search-postings-requires c κs = let s = (c .before .before .before .before .before .before .before) in let P = s .pre .1 in let z : length (s .args .postings .now) < 9223372036854775808 = omega (arith, s .good) in seek-term-pre (lent (s .args .max-doc) (s .args .postings .now) (s .args .positions .now) (s .args .ranges .now)) (s .args .st .now) (s .args .target) ((c .before) .if1 .taken) z (P .0) (P .1) (P .2) (P .3) (P .4) (P .6)
 
 -- src/leaves.rt:185:9
 same-length : tie.Need-same-length
@@ -33,7 +34,7 @@ same-length c = search needs
 
 -- src/leaves.rt:185:9
 returns : tie.Need-returns
-returns c = let s = (c .before .before .before .before .before .before .before .before .before .before) in let z : length (s .args .postings .now) < 9223372036854775808 = omega (arith, s .good) in let g = (c .before .before) .search in seek-term-done (lent (s .args .max-doc) (s .args .postings .now) (s .args .positions .now) (s .args .ranges .now)) (s .args .st .now) (s .args .target) ((c .before .before .before .before) .if1 .taken) z (s .pre .0) (g .result) (g .last .0) (g .ensures)
+returns c = let s = (c .before .before .before .before .before .before .before .before .before .before) in let z : length (s .args .postings .now) < 9223372036854775808 = omega (arith, s .good) in let g = (c .before .before) .search-postings in seek-term-done (lent (s .args .max-doc) (s .args .postings .now) (s .args .positions .now) (s .args .ranges .now)) (s .args .st .now) (s .args .target) ((c .before .before .before .before) .if1 .taken) z (s .pre .0) (g .result) (g .last .0) (g .ensures)
 
 -- src/leaves.rt:188:9
 seek-phrase-requires : tie.Need-seek-phrase-requires
@@ -56,8 +57,8 @@ returns-2 : tie.Need-returns-2
 returns-2 c = let s = (c .before .before .before .before .before .before .before .before .before .before .before .before .before .before .before) in let g = (c .before .before .before .before) .seek-phrase in seek-phrase-done (lent (s .args .max-doc) (s .args .postings .now) (s .args .positions .now) (s .args .ranges .now)) (s .args .st .now) (s .args .target) ((c .before .before .before .before .before .before .before .before) .if2 .taken) (g .result) (g .last .0) (g .ensures)
 
 -- src/leaves.rt:191:9
-search-requires-2 : tie.Need-search-requires-2
-search-requires-2 c κs = let s = (c .before .before .before .before .before .before .before .before .before) in let P = s .pre .1 in let z : length (s .args .ranges .now) < 9223372036854775808 = omega (arith, s .good) in seek-range-pre (lent (s .args .max-doc) (s .args .postings .now) (s .args .positions .now) (s .args .ranges .now)) (s .args .st .now) (s .args .target) ((c .before) .if3 .taken) z (P .0) (P .1) (P .2) (P .3) (P .4) (P .6)
+search-requires : tie.Need-search-requires
+search-requires c κs = let s = (c .before .before .before .before .before .before .before .before .before) in let P = s .pre .1 in let z : length (s .args .ranges .now) < 9223372036854775808 = omega (arith, s .good) in seek-range-pre (lent (s .args .max-doc) (s .args .postings .now) (s .args .positions .now) (s .args .ranges .now)) (s .args .st .now) (s .args .target) ((c .before) .if3 .taken) z (P .0) (P .1) (P .2) (P .3) (P .4) (P .6)
 
 -- src/leaves.rt:191:9
 same-length-5 : tie.Need-same-length-5
@@ -65,7 +66,7 @@ same-length-5 c = search needs
 
 -- src/leaves.rt:191:9
 returns-3 : tie.Need-returns-3
-returns-3 c = let s = (c .before .before .before .before .before .before .before .before .before .before .before .before) in let z : length (s .args .ranges .now) < 9223372036854775808 = omega (arith, s .good) in let g = (c .before .before) .search2 in seek-range-done (lent (s .args .max-doc) (s .args .postings .now) (s .args .positions .now) (s .args .ranges .now)) (s .args .st .now) (s .args .target) ((c .before .before .before .before) .if3 .taken) z (s .pre .0) (g .result) (g .last .0) (g .ensures)
+returns-3 c = let s = (c .before .before .before .before .before .before .before .before .before .before .before .before) in let z : length (s .args .ranges .now) < 9223372036854775808 = omega (arith, s .good) in let g = (c .before .before) .search in seek-range-done (lent (s .args .max-doc) (s .args .postings .now) (s .args .positions .now) (s .args .ranges .now)) (s .args .st .now) (s .args .target) ((c .before .before .before .before) .if3 .taken) z (s .pre .0) (g .result) (g .last .0) (g .ensures)
 
 -- src/leaves.rt:193:5
 everything-requires : tie.Need-everything-requires
@@ -80,7 +81,7 @@ seek-spec =
     tie.close
     (tie.spec
     slice-read-kind
-    search-requires
+    search-postings-requires
     same-length
     returns
     seek-phrase-requires
@@ -88,7 +89,7 @@ seek-spec =
     same-length-3
     same-length-4
     returns-2
-    search-requires-2
+    search-requires
     same-length-5
     returns-3
     everything-requires

@@ -3,7 +3,7 @@ use mathlib.Core.Path.{_≡_, refl, sym, subst}
 use mathlib.Core.Bool.{Bool, true, false, cond}
 use mathlib.Core.List.{List, [], _∷_, _++_}
 use mathlib.Core.Option.{Option, none, some}
-use Prim.Native.Nat.{ℕ, zero, suc, _+_, _*_, _^_, _≤_, _<_}
+use Prim.Native.Nat.{ℕ, zero, suc, _+_, _-_, _*_, _^_, _≤_, _<_, max}
 use native.Mathlib.Omega.{arith}
 use lib.Dec.{T}
 use lib.Ieee.{Float, binary32, binary64, add, fits}
@@ -22,12 +22,13 @@ use Rattle.sim.proofs.ScoreBounds.{any-score-atmost}
 use Rattle.index.specs.Accepted.{Accepted}
 use Rattle.index.proofs.PostingAt.{posting-is}
 use Rattle.weight.specs.ScorerTree.{Leaf, nothing, term, phrase, range, everything, Scoring, constant, weighted, Joining, oneMore, afterwards, Scorer, leaf, boolean, Scorers, end, more, leafScore, scoring, joinedScore, scorerScore, requiredScores, optionalScores}
+use Rattle.weight.specs.Held.{FloatIs, ScoringIs, KeptIs, Ok, Oks}
 use Rattle.weight.specs.Sound.{LeafSound, Sound, Sounds, nodes, nodesOf}
 use Rattle.weight.proofs.Weights.{Fine, ScoringFine, Weighted, WeightedAll}
 use Rattle.score.proofs.Bounds.{scores-add, scores-narrow, scores-more}
 use Rattle.score.proofs.Frequencies.{phrase-frequency-few}
 use Rattle.score.proofs.Sums.{counted, scores-word, matches-at, required-counted, optional-counted}
 use Rattle.score.proofs.Join.{firstOf, restOf, first-nodes, joined-sum, joined-more, joined-after}
 
 module _ (ix : Index) (A : Accepted ix) (places d : ℕ) where
   -- ---- a leaf
@@ -122,6 +123,29 @@ module _ (ix : Index) (A : Accepted ix) (places d : ℕ) where
     children-small : (ss : Scorers) → WeightedAll ss → Sounds ix places ss → nodesOf ss ≤ 256 → Smalls ss
     children-small end w h few = tt
     children-small (more f s ss) w h few = (score-small s (w .0) (h .0) (omega (arith, few)), children-small ss (w .1) (h .1) (omega (arith, few)))
+
+  -- the sum of the first of some required children
+  pub first-small : (n : ℕ) (ss : Scorers) → WeightedAll ss → Sounds ix places ss → nodesOf ss ≤ 256 → AtMost (nodesOf (firstOf n ss) * 2 ^ 29) (sumFrom zeroFloat (scoring (requiredScores ix (firstOf n ss) d)))
+  first-small n ss w h few =
+      from-zero (nodesOf (firstOf n ss)) (sumFrom zeroFloat (scoring (requiredScores ix (firstOf n ss) d)))
+      (required-small (firstOf n ss) (first-smalls n ss (children-small ss w h few) .0) 0 zeroFloat (omega (arith, few, first-nodes n ss)) (zero-atmost _))
+
+-- ---- the weights in the words of a tree are fine
+fine : (x : Float) (bits : ℕ) → FloatIs x bits → Fine x
+fine x bits p = record { held = p .held; small = p .small }
+
+mutual
+  unfolding Ok Oks ScoringIs KeptIs Weighted WeightedAll
+
+  pub ok-weighted : (ix : Index) (ranges : List ℕ) (T : Scorer) (k sc : ℕ) (y : List ℕ) (b : ℕ) → Ok ix ranges T k sc y b → Weighted T
+  ok-weighted ix ranges (leaf l (constant c)) k sc y b p = fine c (p .0 .weight) (p .5 .1)
+  ok-weighted ix ranges (leaf l (weighted w)) k sc y b p = fine w (p .0 .weight) (p .5 .1)
+  ok-weighted ix ranges (boolean none j need rs os ps) k sc y b p = (tt, oks-weighted ix ranges rs (k - 1) (p .1) (max b (p .0 .cached - 1)) (p .9), oks-weighted ix ranges os (k - 1) (p .2) (max b (p .0 .cached - 1)) (p .10), oks-weighted ix ranges ps (k - 1) (p .3) (max b (p .0 .cached - 1)) (p .11))
+  ok-weighted ix ranges (boolean (some c) j need rs os ps) k sc y b p = (fine c (p .0 .weight) (p .7 .kept .1), oks-weighted ix ranges rs (k - 1) (p .1) (max b (p .0 .cached - 1)) (p .9), oks-weighted ix ranges os (k - 1) (p .2) (max b (p .0 .cached - 1)) (p .10), oks-weighted ix ranges ps (k - 1) (p .3) (max b (p .0 .cached - 1)) (p .11))
+
+  pub oks-weighted : (ix : Index) (ranges : List ℕ) (ss : Scorers) (k : ℕ) (w : List ℕ) (b : ℕ) → Oks ix ranges ss k w b → WeightedAll ss
+  oks-weighted ix ranges end k w b p = tt
+  oks-weighted ix ranges (more f T g) k w b p = (ok-weighted ix ranges T k (cond f 1 0) (p .0) b (p .3), oks-weighted ix ranges g k (p .1) b (p .4))
 
 -- ---- the score is an f32
 field-fits : (ix : Index) (f : ℕ) (w : Float) (n d : ℕ) → T (fits binary32 (fieldScore ix f w n d))

@@ -7,8 +7,8 @@ use Rattle.score.proofs.Parts.{back-length}
 use Rattle.score.proofs.Nodes.{constant-is, leaf-at, node-at}
 use Prim.Native.Nat.{ℕ, min}
 use Rattle.score.proofs.score.Reads as score
-use Rattle.score.proofs.+child_score+joined+optional+required+score.Lts-score as score-lts
-use Rattle.score.proofs.+child_score+joined+optional+required+score.Proof.Calls.{score-at, score-calls}
+use Rattle.score.proofs.+joined+optional+required+score.Lts-score as score-lts
+use Rattle.score.proofs.+joined+optional+required+score.Proof.Calls.{score-at, score-calls}
 
 pub score-node-at-requires : (t : ℕ) → score-lts.Need-node-at-requires (score-calls t) (score-at t) score.Post
 score-node-at-requires t c κs =

@@ -5,31 +5,26 @@ use Rattle.score.proofs.Loops.{RequiredAt, OptionalAt}
 use Prim.Native.Nat.{ℕ, _<_, _+_, _-_, _*_, min}
 use borrow.Fn.Kinds.{In}
 use borrow.Fn.PlainCycle.{Measures, is, falls, and}
-use Rattle.score.proofs.child_score.Reads as child-score
-use Rattle.score.proofs.child_score.Kinds as child-score-kinds
-use Rattle.score.proofs.+child_score+joined+optional+required+score.Lts-child_score as child-score-lts
 use Rattle.score.proofs.joined.Reads as joined
 use Rattle.score.proofs.joined.Kinds as joined-kinds
-use Rattle.score.proofs.+child_score+joined+optional+required+score.Lts-joined as joined-lts
+use Rattle.score.proofs.+joined+optional+required+score.Lts-joined as joined-lts
 use Rattle.score.proofs.optional.Reads as optional
 use Rattle.score.proofs.optional.Kinds as optional-kinds
-use Rattle.score.proofs.+child_score+joined+optional+required+score.Lts-optional as optional-lts
+use Rattle.score.proofs.+joined+optional+required+score.Lts-optional as optional-lts
 use Rattle.score.proofs.required.Reads as required
 use Rattle.score.proofs.required.Kinds as required-kinds
-use Rattle.score.proofs.+child_score+joined+optional+required+score.Lts-required as required-lts
+use Rattle.score.proofs.+joined+optional+required+score.Lts-required as required-lts
 use Rattle.score.proofs.score.Reads as score
 use Rattle.score.proofs.score.Kinds as score-kinds
-use Rattle.score.proofs.+child_score+joined+optional+required+score.Lts-score as score-lts
+use Rattle.score.proofs.+joined+optional+required+score.Lts-score as score-lts
 use Rattle.ieee754.proofs.add_score.Reads as add-score-reads
 use Rattle.ieee754.proofs.narrow.Reads as narrow-reads
 use Rattle.score.proofs.child_at.Reads as child-at-reads
-use Rattle.score.proofs.leaf.Reads as leaf-reads
 use Rattle.score.proofs.leaf_score.Reads as leaf-score-reads
 use Rattle.score.proofs.node_at.Reads as node-at-reads
-use Rattle.score.proofs.stands.Reads as stands-reads
-
-abbrev pub μ-child-score : Measures 8 child-score-kinds.ps ℕ
-μ-child-score κs a = a .1 .1 .1 .1 .1 .1 .1 .1 .1 .1 .0 * 8 + 2
+use Rattle.score.proofs.term_score.Reads as term-score-reads
+use Rattle.scorer.proofs.advance.Reads as advance-reads
+use Rattle.scorer.proofs.advance_term.Reads as advance-term-reads
 
 abbrev pub μ-joined : Measures 8 joined-kinds.ps ℕ
 μ-joined κs a = a .1 .1 .1 .1 .1 .1 .1 .1 .1 .1 .1 .0 * 8 + 4
@@ -42,14 +37,6 @@ abbrev pub μ-required : Measures 8 required-kinds.ps ℕ
 
 abbrev pub μ-score : Measures 8 score-kinds.ps ℕ
 μ-score κs a = a .1 .1 .1 .1 .1 .1 .1 .1 .1 .1 .0 * 8 + 1
-
-abbrev pub child-score-at : ℕ → In 8 child-score-kinds.ps
-child-score-at t =
-    and 8 child-score-kinds.ps (is 8 child-score-kinds.ps μ-child-score t) child-score.Pre
-
-abbrev pub child-score-below : ℕ → In 8 child-score-kinds.ps
-child-score-below t =
-    and 8 child-score-kinds.ps (falls 8 child-score-kinds.ps _<_ μ-child-score t) child-score.Pre
 
 abbrev pub joined-at : ℕ → In 8 joined-kinds.ps
 joined-at t = and 8 joined-kinds.ps (is 8 joined-kinds.ps μ-joined t) joined.Pre
@@ -77,17 +64,14 @@ score-at t = and 8 score-kinds.ps (is 8 score-kinds.ps μ-score t) score.Pre
 abbrev pub score-below : ℕ → In 8 score-kinds.ps
 score-below t = and 8 score-kinds.ps (falls 8 score-kinds.ps _<_ μ-score t) score.Pre
 
-abbrev pub child-score-calls : ℕ → child-score-lts.Claims
-child-score-calls t = (score-below t, score.Post, leaf-reads.Asked, leaf-reads.Learnt)
-
 abbrev pub joined-calls : ℕ → joined-lts.Claims
-joined-calls t = (optional-below t, optional.Post, narrow-reads.Asked, narrow-reads.Learnt, required-below t, required.Post, add-score-reads.Asked, add-score-reads.Learnt)
+joined-calls t = (required-below t, required.Post, narrow-reads.Asked, narrow-reads.Learnt, optional-below t, optional.Post, add-score-reads.Asked, add-score-reads.Learnt)
 
 abbrev pub optional-calls : ℕ → optional-lts.Claims
-optional-calls t = (child-at-reads.Asked, child-at-reads.Learnt, stands-reads.Asked, stands-reads.Learnt, child-score-below t, child-score.Post, add-score-reads.Asked, add-score-reads.Learnt)
+optional-calls t = (child-at-reads.Asked, child-at-reads.Learnt, advance-term-reads.Asked, advance-term-reads.Learnt, term-score-reads.Asked, term-score-reads.Learnt, add-score-reads.Asked, add-score-reads.Learnt, advance-reads.Asked, advance-reads.Learnt, score-below t, score.Post)
 
 abbrev pub required-calls : ℕ → required-lts.Claims
-required-calls t = (child-at-reads.Asked, child-at-reads.Learnt, child-score-below t, child-score.Post, add-score-reads.Asked, add-score-reads.Learnt)
+required-calls t = (child-at-reads.Asked, child-at-reads.Learnt, term-score-reads.Asked, term-score-reads.Learnt, add-score-reads.Asked, add-score-reads.Learnt, score-below t, score.Post)
 
 abbrev pub score-calls : ℕ → score-lts.Claims
 score-calls t = (node-at-reads.Asked, node-at-reads.Learnt, joined-below t, joined.Post, leaf-score-reads.Asked, leaf-score-reads.Learnt)
