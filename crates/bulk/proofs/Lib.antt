@@ -6,3 +6,8 @@ pub mod LiveMatches
 pub mod Roots
 pub mod TermRoot
 pub mod AnyRoot
+pub mod TermParts
+pub mod TermSums
+pub mod LedRuns
+pub mod LedShape
+pub mod LedLoop

@@ -1,3 +1,5 @@
 -- What the loops from a scorer tree to the collector ask and give.
 pub mod Collects
 pub mod Postings
+pub mod Terms
+pub mod Led

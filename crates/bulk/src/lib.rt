@@ -8,8 +8,10 @@ use collector::TopDocs;
 
 pub mod default;
 pub mod everything;
+pub mod led;
 pub mod posting;
 pub mod term;
+pub mod terms;
 
 // The kinds of a root that has a loop of its own.
 const TERM: u32 = 1;
@@ -42,6 +44,9 @@ pub fn collect_matches(
     }
     if kind == EVERYTHING {
         return everything::collect_everything(st, max_doc, live, t, heap);
+    }
+    if led::suits_led(st) {
+        return led::collect_led(st, postings, norms, ranges, inverses, live, t, heap);
     }
     default::collect_matches(
         st,
