@@ -1,22 +1,24 @@
 -- The loop over the documents of the run that leads a conjunction: what is collected, and where the others stand. Assumes nothing.
 use mathlib.Core.Path.{_≡_, refl, sym, ap, subst, _∙_}
 use mathlib.Core.Logic.{⊎-elim}
-use mathlib.Core.Bool.{Bool, true, false, not, cond, _&&_, false≢true}
-use mathlib.Core.List.{List, [], _∷_, _++_}
+use mathlib.Core.Bool.{Bool, true, false, not, _&&_, false≢true}
+use mathlib.Core.List.{List, []}
 use mathlib.Core.Option.{none}
 use Prim.Native.Nat.{ℕ, _+_, _-_, _*_, _^_, _≤_, _<_}
 use native.Mathlib.Nat.{eq-or-lt-of-le}
 use native.Mathlib.Omega.{arith}
-use lib.Dec.{T, ltb}
+use lib.Dec.{T}
 use lib.ListN.{getD, length, take, drop}
 use lib.IntN.{ℤ}
-use lib.Ieee.{Float, nan, inf, fin}
+use lib.Ieee.{Float}
 use borrow.Author.Tests.{lt-ltb}
 use Rattle.meaning.specs.Limits.{noMoreDocs, maxHits}
 use Rattle.meaning.specs.Lent.{Index}
 use Rattle.meaning.specs.Live.{isLive}
 use Rattle.meaning.specs.Ieee754.{zeroFloat, narrowedSum, sumFrom}
-use Rattle.ieee754.specs.Nonneg.{nonneg, signClear, AtMost}
+use Rattle.meaning.specs.Hits.{hits}
+use Rattle.meaning.specs.Entries.{written}
+use Rattle.ieee754.specs.Nonneg.{signClear, AtMost}
 use Rattle.ieee754.proofs.Narrowing.{narrow-exact}
 use Rattle.ieee754.proofs.Successor.{zero-fits}
 use Rattle.ieee754.proofs.Patterns.{nonneg-clear}
@@ -25,10 +27,9 @@ use Rattle.index.specs.Slices.{liveOnly}
 use Rattle.collector.specs.declared.TopScoreDocCollector.{TopScoreDocCollector}
 use Rattle.collector.specs.declared.TopDocs.{TopDocs}
 use Rattle.collector.specs.Collected.{Collected, Ready, Extended, Drawn, answer}
-use Rattle.weight.specs.ScorerTree.{Leaf, Scorer, leaf, boolean, Scorers, end, more, leafMatches, matches, allMatch, anyMatches, scorerScore, requiredScores, optionalScores, joinedScore}
-use Rattle.weight.specs.State.{State, wordsOf}
+use Rattle.weight.specs.ScorerTree.{Joining, Scorer, leaf, boolean, Scorers, end, more, leafMatches, matches, allMatch, anyMatches, scorerScore, requiredScores, optionalScores, joinedScore}
 use Rattle.weight.specs.Held.{LeafIs}
-use Rattle.weight.specs.Sound.{Lends}
+use Rattle.weight.specs.Sound.{nodesOf}
 use Rattle.scorer.specs.Contracts.{Lent}
 use Rattle.scorer.proofs.Runs.{cmp}
 use Rattle.score.specs.declared.Node.{Node}
@@ -36,8 +37,9 @@ use Rattle.score.specs.Words.{NodeIs}
 use Rattle.score.specs.Asked.{LentAt}
 use Rattle.score.specs.Walks.{liveMatch, liveScored, PageHeld}
 use Rattle.score.proofs.Leaves.{Read, read}
-use Rattle.bulk.specs.Led.{LedWords, DocumentThere, DocumentIs, LedParts, LedAtPre, LedAtPost, LeadAsks, LedAsks, LedScorePre, LedScorePost, LedPre, LedPost}
+use Rattle.bulk.specs.Led.{LedWords, DocumentThere, DocumentIs, LedParts, LedAtPre, LedAtPost, LedAsks, LedScorePre, LedScorePost}
 use Rattle.bulk.proofs.Sofar.{Sofar, sofar-start, sofar-skip, sofar-ready, sofar-take, sofar-done}
+use Rattle.bulk.proofs.LiveMatches.{live-of, live-there, not-match}
 use Rattle.bulk.proofs.LedRuns.{LeadRun, run-of}
 use Rattle.bulk.proofs.LedShape.{Shape, shape, led-required, led-later, led-fits, led-matches, led-misses}
 
@@ -75,24 +77,12 @@ both : (a b : Bool) → a && b ≡ true → (a ≡ true) × (b ≡ true)
 both true b e = (refl, e)
 both false b e = absurd (false≢true e)
 
-live-of : (ix : Index) (live : List ℕ) (d : ℕ) → ix .live ≡ live → isLive (liveOnly live) d ≡ isLive ix d
-unfolding isLive
-live-of ix live d e = rw (← e)
-
 live-match : (ix : Index) (S : Scorer) (d : ℕ) → d < ix .maxDoc → liveMatch ix S d ≡ (isLive ix d && matches ix S d)
 unfolding liveMatch
 live-match ix S d l = ap (λ (b : Bool). b && (isLive ix d && matches ix S d)) (lt-ltb d (ix .maxDoc) l)
 
-and-false : (b : Bool) → b && false ≡ false
-and-false true = refl
-and-false false = refl
-
-no-match : (ix : Index) (S : Scorer) (d : ℕ) → matches ix S d ≡ false → liveMatch ix S d ≡ false
-unfolding liveMatch
-no-match ix S d e = rw (e, and-false (isLive ix d)) (and-false (ltb d (ix .maxDoc)))
-
 -- the score of a Boolean without optional children
-score-of : (ix : Index) (j : Rattle.weight.specs.ScorerTree.Joining) (rs ps : Scorers) (d : ℕ) → joinedScore j (requiredScores ix rs d) zeroFloat ≡ scorerScore ix (boolean none j 0 rs end ps) d
+score-of : (ix : Index) (j : Joining) (rs ps : Scorers) (d : ℕ) → joinedScore j (requiredScores ix rs d) zeroFloat ≡ scorerScore ix (boolean none j 0 rs end ps) d
 unfolding scorerScore optionalScores narrowedSum sumFrom
 score-of ix j rs ps d = ap (λ (z : Float). joinedScore j (requiredScores ix rs d) z) (sym (narrow-exact zeroFloat zero-fits))
 
@@ -143,11 +133,11 @@ module _ (K : LedCall) (lead : Node) (scores at : ℕ) (F : Fixed K lead scores 
 
   -- a document that is not the lead's
   not-led : (d : ℕ) → ((m : ℕ) → m < lead .number → run .doc m ≡ d → ⊥) → liveMatch (k .ix) (k .S) d ≡ false
-  not-led d h = no-match (k .ix) (k .S) d (led-misses (k .ix) (sh .j) (sh .f) (sh .L) (sh .sc) (sh .rs) (sh .ps) (k .S) (sh .is) d (run .misses d h))
+  not-led d h = not-match (k .ix) (k .S) d (led-misses (k .ix) (sh .j) (sh .f) (sh .L) (sh .sc) (sh .rs) (sh .ps) (k .S) (sh .is) d (run .misses d h))
 
   module _ (st : List ℕ) (c : TopScoreDocCollector) (heap : List ℤ) (i : ℕ) (I : LedAt st c heap i) where
     -- no more documents
-    pub led-done : lead .number ≤ i → (r : TopDocs) (heap′ : List ℤ) → Drawn c heap r heap′ → (r ≡ answer (length (K .start)) (K .t) (liveScored (k .ix) (k .S))) × (heap′ ≡ Rattle.meaning.specs.Entries.written (Rattle.meaning.specs.Hits.hits (length (K .start)) (liveScored (k .ix) (k .S))) (K .start))
+    pub led-done : lead .number ≤ i → (r : TopDocs) (heap′ : List ℤ) → Drawn c heap r heap′ → (r ≡ answer (length (K .start)) (K .t) (liveScored (k .ix) (k .S))) × (heap′ ≡ written (hits (length (K .start)) (liveScored (k .ix) (k .S))) (K .start))
     led-done l r heap′ d = sofar-done (k .ix) (k .S) (K .t) (K .start) c heap (I .from) (I .sofar) (λ x a. not-led x (λ m g e. omega (arith, I .passed m (omega arith) g, e))) r heap′ d
 
     pub led-ready : (d : ℕ) → I .from ≤ d → Ready d c heap
@@ -173,7 +163,7 @@ module _ (K : LedCall) (lead : Node) (scores at : ℕ) (F : Fixed K lead scores 
       here = led-later (I .parts) d low-at
 
       pub led-asks : LedAtPre (K .postings) (K .live) st at d
-      led-asks = (subst (λ (v : List ℕ). 0 < length v → d < 64 * length v) (k .held .live-are) (λ g. accepted .liveBit g d inside), led-few, (k .E, k .postings-are, k .ix, k .places, sh .rs, sh .ps, k .depth - 1, take 48 (K .st), here))
+      led-asks = (live-there (k .ix) (K .live) d accepted (k .held .live-are) inside, led-few, (k .E, k .postings-are, k .ix, k .places, sh .rs, sh .ps, k .depth - 1, take 48 (K .st), here))
 
       module _ (r : Bool) (st′ : List ℕ) (post : LedAtPost (K .postings) (K .live) st at d r st′) where
         after : (r ≡ (isLive (liveOnly (K .live)) d && (allMatch (k .ix) (sh .rs) d && not (anyMatches (k .ix) (sh .ps) d)))) × Parts st′ d
@@ -232,7 +222,7 @@ module _ (K : LedCall) (lead : Node) (scores at : ℕ) (F : Fixed K lead scores 
           led-score-fits = led-fits (after .1)
 
           module _ (s : Float) (scored : LedScorePost (take (at - 48) (drop 48 st′)) lead scores (K .postings) (K .norms) (K .table) i d s) where
-            result : ((j : Rattle.weight.specs.ScorerTree.Joining) → s ≡ joinedScore j (requiredScores (k .ix) (more (sh .f) (leaf (sh .L) (sh .sc)) (sh .rs)) d) zeroFloat) × AtMost ((1 + Rattle.weight.specs.Sound.nodesOf (sh .rs)) * 2 ^ 29) s
+            result : ((j : Joining) → s ≡ joinedScore j (requiredScores (k .ix) (more (sh .f) (leaf (sh .L) (sh .sc)) (sh .rs)) d) zeroFloat) × AtMost ((1 + nodesOf (sh .rs)) * 2 ^ 29) s
             result = scored (k .E .documents) (k .E .positions) (k .E .ranges) (k .places) (k .depth - 1) (k .ix) (sh .f) (sh .L) (sh .sc) (sh .rs) lent-at asks
 
             pub led-clear : T (signClear s)

@@ -1,16 +1,16 @@
 -- The run that leads a conjunction: its documents, and the lead's score. Assumes nothing.
 use mathlib.Core.Path.{_≡_, refl, sym, ap, subst, _∙_}
-use mathlib.Core.Bool.{Bool, true, false, not, cond, _&&_}
+use mathlib.Core.Bool.{Bool, true, false, not, _&&_}
 use mathlib.Core.List.{List, _++_}
-use Prim.Native.Nat.{ℕ, _+_, _-_, _*_, _^_, _≤_, _<_}
+use Prim.Native.Nat.{ℕ, _+_, _*_, _^_, _≤_, _<_}
 use native.Mathlib.Omega.{arith}
 use lib.Dec.{T, ltb}
 use lib.ListN.{getD, length}
 use lib.Ieee.{Float, binary32, binary64, add, fits, nanBits, ofBits}
 use lib.Ieee.Fits.{fits-widens}
 use borrow.Author.Tests.{ltb-true, lt-ltb}
-use Rattle.meaning.specs.Lent.{Index, leafFirst, leafNumber, leafDocument, leafFrequency}
-use Rattle.meaning.specs.Postings.{postingAt, found, frequencyOf}
+use Rattle.meaning.specs.Lent.{Index, leafFirst, leafNumber, leafDocument}
+use Rattle.meaning.specs.Postings.{found, frequencyOf}
 use Rattle.meaning.specs.Range.{NumericRange, inRange, rangeDocuments}
 use Rattle.meaning.specs.Ieee754.{zeroFloat, narrow, sumFrom}
 use Rattle.ieee754.specs.Nonneg.{AtMost}
@@ -20,12 +20,11 @@ use Rattle.index.specs.Accepted.{Accepted}
 use Rattle.index.specs.Runs.{postingDocument, postingFrequency}
 use Rattle.index.proofs.PostingAt.{posting-at, posting-none}
 use Rattle.doc_values.proofs.Lists.{listed-at, listed-ascends, listed-has}
-use Rattle.weight.specs.ScorerTree.{Leaf, nothing, term, phrase, range, everything, Scoring, constant, weighted, Scorer, leaf, Scorers, more, Joining, leafMatches, leafScore, scorerScore, scoring, requiredScores, joinedScore}
+use Rattle.weight.specs.ScorerTree.{Leaf, nothing, term, phrase, range, everything, Scoring, constant, weighted, leaf, Scorers, more, Joining, leafMatches, leafScore, scorerScore, scoring, requiredScores, joinedScore}
 use Rattle.weight.specs.State.{State, wordsOf}
-use Rattle.weight.specs.Held.{LeafIs, ScoringIs, FloatIs}
+use Rattle.weight.specs.Held.{LeafIs}
 use Rattle.weight.specs.Sound.{LeafSound, LeafTable, nodesOf}
 use Rattle.score.specs.declared.Node.{Node}
-use Rattle.score.specs.Words.{NodeIs}
 use Rattle.score.specs.Asked.{LentAt, SumIs}
 use Rattle.score.proofs.Leaves.{Read, read}
 use Rattle.score.proofs.Weights.{float-back, float-number}
@@ -33,6 +32,7 @@ use Rattle.score.proofs.Bounds.{scores-narrow}
 use Rattle.bulk.specs.Postings.{NodeScores, PostingAsks}
 use Rattle.bulk.specs.Terms.{NoGroup}
 use Rattle.bulk.specs.Led.{DocumentThere, DocumentIs, LeadAsks}
+use Rattle.bulk.proofs.Roots.{node-scores}
 use Rattle.bulk.proofs.TermSums.{group-took, group-skip, no-group}
 
 pub record LeadRun (ix : Index) (L : Leaf) (lead : Node) (postings ranges : List ℕ) : Type 0 where
@@ -119,13 +119,8 @@ module _ (n : ℕ) (positions : List ℕ) (ix : Index) (postings norms ranges : 
   inside : doc < ix .maxDoc
   inside = omega (arith, N .document, N .lends .documents)
 
-  node-scores : NodeScores sc lead
-  unfolding ScoringIs NodeScores
-  node-scores = go sc (K .scoring)
-    where
-      go : (sc : Scoring) → ScoringIs sc (K .s) → NodeScores sc lead
-      go (constant c) p = (reads .constant-is ∙ p .0, subst (λ (w : ℕ). FloatIs c w) (sym (reads .weight-is)) (p .1))
-      go (weighted c) p = (reads .constant-is ∙ p .0, subst (λ (w : ℕ). FloatIs c w) (sym (reads .weight-is)) (p .1))
+  scores-are : NodeScores sc lead
+  scores-are = node-scores sc (K .s) lead (reads .constant-is) (reads .weight-is) (K .scoring)
 
   -- a term
   pub record LeadPosting (frequency : ℕ) : Type 0 where
@@ -158,7 +153,7 @@ module _ (n : ℕ) (positions : List ℕ) (ix : Index) (postings norms ranges : 
               tables = q;
               field-is = reads .field-is ∙ p .0 .field-is;
               norms-is = reads .norms-is ∙ p .0 .norms-is;
-              scores = node-scores;
+              scores = scores-are;
               match = ap found at;
               frequency-is = e ∙ frequency-same postings (ix .postings) (lead .first) (leafFirst ix l) i (sym (N .lends .postings-are)) first ∙ ap (frequencyOf ix l) (sym at);
             },
@@ -173,7 +168,7 @@ module _ (n : ℕ) (positions : List ℕ) (ix : Index) (postings norms ranges : 
   -- a range
   pub lead-constant : lead .constant ≡ 1 → T (not (nanBits binary32 (lead .weight))) × (ofBits binary32 (lead .weight) ≡ leafScore ix L sc doc) × AtMost (2 ^ 29) (ofBits binary32 (lead .weight))
   unfolding NodeScores leafScore
-  lead-constant e = go sc node-scores
+  lead-constant e = go sc scores-are
     where
       go : (sc : Scoring) → NodeScores sc lead → T (not (nanBits binary32 (lead .weight))) × (ofBits binary32 (lead .weight) ≡ leafScore ix L sc doc) × AtMost (2 ^ 29) (ofBits binary32 (lead .weight))
       go (constant c) p = (float-number c (lead .weight) (p .1), float-back c (lead .weight) (p .1), subst (λ (z : Float). AtMost (2 ^ 29) z) (sym (float-back c (lead .weight) (p .1))) (p .1 .small))
@@ -181,7 +176,7 @@ module _ (n : ℕ) (positions : List ℕ) (ix : Index) (postings norms ranges : 
 
   pub lead-zero : (lead .kind ≡ 1 → ⊥) → (lead .constant ≡ 1 → ⊥) → (r : Float) → r ≡ zeroFloat → (r ≡ leafScore ix L sc doc) × AtMost (2 ^ 29) r
   unfolding NodeScores leafScore LeafIs
-  lead-zero a b r e = (e ∙ go sc node-scores L (K .words), subst (λ (z : Float). AtMost (2 ^ 29) z) (sym e) (zero-atmost _))
+  lead-zero a b r e = (e ∙ go sc scores-are L (K .words), subst (λ (z : Float). AtMost (2 ^ 29) z) (sym e) (zero-atmost _))
     where
       wrong : (c : ℕ) → K .s .kind ≡ c → (c ≡ 4 → ⊥) → ⊥
       wrong c h z = z (sym (reads .kind-is ∙ h) ∙ K .run a)

@@ -1,24 +1,21 @@
 -- The words of a conjunction that a run leads: the tree that they hold, and the parts behind the lead. Assumes nothing.
 use mathlib.Core.Path.{_≡_, refl, sym, ap, subst, _∙_}
 use mathlib.Core.Bool.{Bool, true, false, not, cond, _&&_}
-use mathlib.Core.List.{List, [], _∷_, _++_, append-assoc}
-use mathlib.Core.Option.{Option, none, some}
-use Prim.Native.Nat.{ℕ, _+_, _-_, _*_, _≤_, _<_, max}
+use mathlib.Core.List.{List, [], _∷_, _++_, append-assoc, append-nil}
+use mathlib.Core.Option.{none, some}
+use Prim.Native.Nat.{ℕ, _+_, _-_, _*_, _≤_, max}
 use native.Mathlib.Omega.{arith}
-use lib.Dec.{leb}
 use lib.ListN.{getD, length, take, drop, length-append}
 use lib.Seq.{take-at, drop-at, getD-append-add}
 use lib.Ieee.{Float}
 use Rattle.meaning.specs.Lent.{Index}
-use Rattle.weight.specs.ScorerTree.{Leaf, nothing, term, phrase, range, everything, Scoring, Joining, Scorer, leaf, boolean, Scorers, end, more, leafMatches, matches, allMatch, anyMatches, matching}
+use Rattle.weight.specs.ScorerTree.{Leaf, nothing, term, phrase, range, everything, Scoring, Joining, Scorer, leaf, boolean, Scorers, end, more, leafMatches, matches, allMatch, anyMatches}
 use Rattle.weight.specs.State.{State, wordsOf, sizesOf}
 use Rattle.weight.specs.Held.{LeafIs, ScoringIs, KeptIs, Ok, Oks}
 use Rattle.weight.specs.Sound.{Lends, LeafSound, Sound, Sounds, LeafTable, Tables, TablesOf, nodes, nodesOf}
 use Rattle.scorer.specs.Contracts.{Lent, PartsHeld}
 use Rattle.scorer.proofs.Bounds.{oks-length, ok-long}
 use Rattle.scorer.proofs.Leads.{rest-part, rest-back, parts-later}
-use Rattle.score.specs.declared.Node.{Node}
-use Rattle.score.specs.Words.{NodeIs}
 use Rattle.score.specs.Asked.{Scorable}
 use Rattle.bulk.specs.Led.{LedWords, LedParts}
 use Rattle.bulk.proofs.TermParts.{Ones, terms-of}
@@ -179,7 +176,7 @@ module _ (E : Lent) (ix : Index) (table : List Float) (places depth : ℕ) (lend
       let size : length front ≡ 48 = omega (arith, long) in
       let taken : take 48 st ≡ front = ap (take 48) two ∙ take-at front (c .w ++ z) 48 size in
       let t = terms-of ix (E .ranges) (c .g) (depth - 1) (c .w) z 0 (c .oks) (ones front (c .w ++ z) two size) in
-      let t′ = terms-of ix (E .ranges) ps (depth - 1) z [] 0 q (subst (λ (i : List ℕ). Ones i) (sym (mathlib.Core.List.append-nil z)) (t .1)) in
+      let t′ = terms-of ix (E .ranges) ps (depth - 1) z [] 0 q (subst (λ (i : List ℕ). Ones i) (sym (append-nil z)) (t .1)) in
       let tree : boolean none j need rs os ps ≡ boolean none j 0 (more (c .f) (leaf (l .L) (l .sc)) (c .g)) end ps =
       ap (λ (i : ℕ). boolean none j i rs os ps) (sym n ∙ sym (ap (λ (i : List ℕ). getD i 3 0) e) ∙ W .need-is) ∙ ap (λ (i : Scorers). boolean none j 0 rs i ps) (without .0) ∙ ap (λ (i : Scorers). boolean none j 0 i end ps) (c .is) ∙ ap (λ (i : Scorer). boolean none j 0 (more (c .f) i (c .g)) end ps) (l .is) in
       let S′ : Scorable ix table places (boolean none j 0 (more (c .f) (leaf (l .L) (l .sc)) (c .g)) end ps) = subst (λ (i : Scorer). Scorable ix table places i) tree S in
@@ -240,10 +237,6 @@ module _ (E : Lent) (ix : Index) (table : List Float) (places depth : ℕ) (lend
       front-word s (a ∷ y) z e l = ap (λ (i : List ℕ). getD i 24 0) e
 
 -- ---- what it matches
-and-false : (b : Bool) → b && false ≡ false
-and-false true = refl
-and-false false = refl
-
 and-true : (b : Bool) → b && true ≡ b
 and-true true = refl
 and-true false = refl

@@ -1,9 +1,9 @@
 -- The parts of some children that are all terms: one place after the other, whether they match a document. Assumes nothing.
 use mathlib.Core.Path.{_≡_, refl, sym, ap, subst, _∙_}
 use mathlib.Core.Logic.{⊎-elim}
-use mathlib.Core.Bool.{Bool, true, false, cond, _&&_, _||_}
+use mathlib.Core.Bool.{Bool, true, false, cond}
 use mathlib.Core.List.{List, [], _∷_, _++_, append-assoc}
-use Prim.Native.Nat.{ℕ, _+_, _-_, _*_, _≤_, _<_, max}
+use Prim.Native.Nat.{ℕ, _+_, _-_, _*_, _≤_, _<_}
 use native.Mathlib.Nat.{eq-or-lt-of-le}
 use native.Mathlib.Omega.{arith}
 use lib.ListN.{getD, length, take, drop, length-append}
@@ -11,13 +11,12 @@ use lib.Seq.{getD-append-add}
 use Rattle.meaning.specs.Limits.{noMoreDocs}
 use Rattle.meaning.specs.Lent.{Index}
 use Rattle.meaning.specs.First.{First}
-use Rattle.weight.specs.ScorerTree.{Leaf, nothing, term, phrase, range, everything, Scoring, Scorer, leaf, boolean, Scorers, end, more, matches, allMatch, anyMatches}
-use Rattle.weight.specs.State.{State, wordsOf}
+use Rattle.weight.specs.ScorerTree.{nothing, term, phrase, range, everything, Scorer, leaf, boolean, Scorers, end, more, matches, anyMatches}
 use Rattle.weight.specs.Held.{LeafIs, Ok, Oks}
 use Rattle.scorer.specs.Contracts.{Lent, NodeHeld, AdvancePost, PartsHeld}
 use Rattle.scorer.proofs.Bounds.{ok-long}
 use Rattle.scorer.proofs.Children.{Zip, View, zip-start, zip-end, zip-none, view, zip-took, held, part, of-advance}
-use Rattle.bulk.specs.Terms.{IsTerm, TermsOnly, TermsPost}
+use Rattle.bulk.specs.Terms.{IsTerm, TermsOnly}
 
 -- a term's words
 pub term-kind : (ix : Index) (R : List ℕ) (T : Scorer) (k o : ℕ) (y : List ℕ) (b : ℕ) → IsTerm T → Ok ix R T k o y b → (getD y 0 0 ≡ 1) × (length y ≡ 24)

@@ -1,13 +1,13 @@
 -- The scores of required terms in one sum, which a group of 0 would not change wherever it joined. Assumes nothing.
 use mathlib.Core.Path.{_≡_, refl, sym, ap, subst, _∙_}
 use mathlib.Core.Bool.{Bool, true, false, not, cond}
-use mathlib.Core.List.{List, [], _∷_, _++_}
+use mathlib.Core.List.{List, [], _∷_}
 use Prim.Native.Nat.{ℕ, zero, suc, _+_, _-_, _*_, _^_, _≤_, _<_}
 use native.Mathlib.Nat.{mul-one}
 use native.Mathlib.Omega.{arith}
 use lib.Dec.{T}
 use lib.ListN.{getD, length, take, drop}
-use lib.Ieee.{Float, binary32, binary64, add, fits, round, isNan}
+use lib.Ieee.{Float, binary64, add, fits, round, isNan}
 use lib.Ieee.Fits.{add-fits, fits-widens}
 use lib.Ieee.Positive.{num, den}
 use Rattle.meaning.specs.Lent.{Index}
@@ -17,11 +17,11 @@ use Rattle.ieee754.proofs.Nonneg.{round-self}
 use Rattle.ieee754.proofs.Narrowing.{narrow-fits, narrow-exact}
 use Rattle.ieee754.proofs.Ranges.{add-is}
 use Rattle.ieee754.proofs.Bounds.{atmost-number}
-use Rattle.weight.specs.ScorerTree.{term, Scorer, leaf, Scorers, end, more, Scored, matches, allMatch, scorerScore, scoring, withGroup, requiredScores, Joining, oneMore, afterwards, joinedScore}
+use Rattle.weight.specs.ScorerTree.{Scorer, Scorers, end, more, allMatch, scorerScore, scoring, withGroup, requiredScores, Joining, oneMore, afterwards, joinedScore}
 use Rattle.weight.specs.State.{sizeOf, leafSize}
 use Rattle.weight.specs.Held.{Ok, Oks}
 use Rattle.weight.specs.Sound.{nodesOf}
-use Rattle.score.specs.Asked.{LentAt, Scorable, Scorables, ScoreIs, SumIs, ScorePre, ScorePost}
+use Rattle.score.specs.Asked.{LentAt, Scorables, ScoreIs, SumIs, ScorePre, ScorePost}
 use Rattle.score.proofs.Parts.{zip-none, view}
 use Rattle.score.proofs.Sums.{counted, scores-word, required-counted, required-matched, SumAt, sum-start, sum-end, sum-there, sum-scores, sum-size, sum-scorable, sum-matched, sum-part, sum-skipped, sum-took}
 use Rattle.bulk.specs.Terms.{IsTerm, TermsOnly, NoGroup}

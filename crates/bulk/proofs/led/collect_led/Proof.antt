@@ -1,16 +1,18 @@
 -- `led::collect_led` meets its contract: the live matches before the lead's next document are collected. Assumes nothing.
 use borrow.Author.Needs.{needs}
-use mathlib.Core.Path.{_≡_, refl, sym, ap, subst, _∙_}
-use mathlib.Core.Bool.{true, false}
+use mathlib.Core.Path.{_≡_, refl, ap, _∙_}
 use mathlib.Core.Logic.{⊎-elim}
-use Prim.Native.Nat.{ℕ, _+_, _-_, _≤_, _<_}
+use mathlib.Core.List.{List}
+use Prim.Native.Nat.{ℕ, _+_, _-_}
 use native.Mathlib.Omega.{arith}
+use lib.IntN.{ℤ}
+use lib.Ieee.{Float}
 use lib.ListN.{length, getD, length-drop, length-take}
 use Rattle.bulk.proofs.LedLoop.{LedCall, Case, Fixed, LedAt, led-start, lead-there, led-done, led-ready, low-at, led-few, led-asks, led-skip, led-score-asks, led-score-fits, led-clear, led-take}
 use Rattle.bulk.proofs.led.collect_led.Statement.{statement}
 use Rattle.bulk.proofs.led.collect_led.Tie as tie
 
-abbrev call : (st postings norms ranges : mathlib.Core.List.List ℕ) (inverses : mathlib.Core.List.List lib.Ieee.Float) (live : mathlib.Core.List.List ℕ) (t : ℕ) (heap : mathlib.Core.List.List lib.IntN.ℤ) → LedCall
+abbrev call : (st postings norms ranges : List ℕ) (inverses : List Float) (live : List ℕ) (t : ℕ) (heap : List ℤ) → LedCall
 call st postings norms ranges inverses live t heap = record { postings = postings; norms = norms; ranges = ranges; live = live; table = inverses; st = st; t = t; start = heap }
 
 abbrev Inv-loop : tie.InvT-loop

@@ -1,7 +1,7 @@
 -- `led::led_score` meets its contract. Assumes nothing.
-use mathlib.Core.Path.{_≡_, refl, sym, ap, subst, _∙_}
+use mathlib.Core.Path.{_≡_, sym, ap, subst, _∙_}
 use mathlib.Core.Bool.{Bool, true, false}
-use Prim.Native.Nat.{ℕ, _+_, _*_, _^_}
+use Prim.Native.Nat.{_+_, _*_, _^_}
 use lib.Ieee.{Float, binary64, add, ofBits}
 use Rattle.meaning.specs.Ieee754.{zeroFloat}
 use Rattle.ieee754.specs.Nonneg.{AtMost}
