@@ -11,3 +11,8 @@ pub mod Adding
 pub mod AddingTerms
 pub mod Placing
 pub mod WindowRoots
+pub mod TermParts
+pub mod TermSums
+pub mod LedRuns
+pub mod LedShape
+pub mod LedLoop

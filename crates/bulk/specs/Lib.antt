@@ -2,3 +2,5 @@
 pub mod Collects
 pub mod Postings
 pub mod Windows
+pub mod Terms
+pub mod Led

@@ -8,8 +8,10 @@ use collector::TopDocs;
 
 pub mod default;
 pub mod everything;
+pub mod led;
 pub mod posting;
 pub mod term;
+pub mod terms;
 pub mod window;
 
 // The kinds of a root that has a loop of its own.
@@ -46,6 +48,9 @@ pub fn collect_matches(
     }
     if window::suits_windows(st, max_doc) {
         return window::collect_windows(st, postings, norms, inverses, live, t, heap);
+    }
+    if led::suits_led(st) {
+        return led::collect_led(st, postings, norms, ranges, inverses, live, t, heap);
     }
     default::collect_matches(
         st,

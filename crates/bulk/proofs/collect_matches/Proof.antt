@@ -51,8 +51,11 @@ same-length-6 c = search needs
 returns-3 : tie.Need-returns-3
 returns-3 c = let s = c .before .before .before .before .before .before .before .before .before .before .before .before .before .before .before .before .before .before .before in c .before .before .before .collect-windows .ensures (lent (s .args .max-doc) (s .args .postings .now) (s .args .positions .now) (s .args .ranges .now)) (min (length (s .args .a .now)) (length (s .args .b .now))) (s .args .depth) refl
 
-collect-matches-requires : tie.Need-collect-matches-requires
-collect-matches-requires c κs = search needs
+suits-led-requires : tie.Need-suits-led-requires
+suits-led-requires c κs = tt
+
+collect-led-requires : tie.Need-collect-led-requires
+collect-led-requires c κs = let s = c .before .before .before .before .before .before .before .before .before .before .before .before .before .before .before .before .before .before in (s .pre .0, (c .before .before .before .suits-led .ensures (c .before .before .if4 .taken), ((lent (s .args .max-doc) (s .args .postings .now) (s .args .positions .now) (s .args .ranges .now)), (min (length (s .args .a .now)) (length (s .args .b .now))), s .args .depth, refl, refl, s .pre .1)))
 
 same-length-7 : tie.Need-same-length-7
 same-length-7 c = search needs
@@ -60,14 +63,26 @@ same-length-7 c = search needs
 same-length-8 : tie.Need-same-length-8
 same-length-8 c = search needs
 
+returns-4 : tie.Need-returns-4
+returns-4 c = let s = c .before .before .before .before .before .before .before .before .before .before .before .before .before .before .before .before .before .before .before .before .before .before in c .before .before .before .collect-led .ensures (lent (s .args .max-doc) (s .args .postings .now) (s .args .positions .now) (s .args .ranges .now)) (min (length (s .args .a .now)) (length (s .args .b .now))) (s .args .depth) refl refl
+
+collect-matches-requires : tie.Need-collect-matches-requires
+collect-matches-requires c κs = let s = c .before .before .before .before .before .before .before .before .before .before .before .before .before .before .before .before .before .before .before .before in (s .pre .0, s .pre .1)
+
 same-length-9 : tie.Need-same-length-9
 same-length-9 c = search needs
 
 same-length-10 : tie.Need-same-length-10
 same-length-10 c = search needs
 
-returns-4 : tie.Need-returns-4
-returns-4 c = search needs
+same-length-11 : tie.Need-same-length-11
+same-length-11 c = search needs
+
+same-length-12 : tie.Need-same-length-12
+same-length-12 c = search needs
+
+returns-5 : tie.Need-returns-5
+returns-5 c = c .before .before .before .before .before .collect-matches .ensures
 
 pub collect-matches-spec : {M : Type 1} → statement M
 collect-matches-spec =
@@ -87,9 +102,14 @@ collect-matches-spec =
     same-length-5
     same-length-6
     returns-3
-    collect-matches-requires
+    suits-led-requires
+    collect-led-requires
     same-length-7
     same-length-8
+    returns-4
+    collect-matches-requires
     same-length-9
     same-length-10
-    returns-4)
+    same-length-11
+    same-length-12
+    returns-5)
