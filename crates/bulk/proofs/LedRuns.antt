@@ -7,7 +7,7 @@ use native.Mathlib.Omega.{arith}
 use lib.Dec.{T, ltb}
 use lib.ListN.{getD, length}
 use lib.Ieee.{Float, binary32, binary64, add, fits, nanBits, ofBits}
-use lib.Ieee.Fits.{fits-widens}
+use lib.Ieee.Fits.{add-fits, fits-widens}
 use borrow.Author.Tests.{ltb-true, lt-ltb}
 use Rattle.meaning.specs.Lent.{Index, leafFirst, leafNumber, leafDocument}
 use Rattle.meaning.specs.Postings.{found, frequencyOf}
@@ -20,7 +20,7 @@ use Rattle.index.specs.Accepted.{Accepted}
 use Rattle.index.specs.Runs.{postingDocument, postingFrequency}
 use Rattle.index.proofs.PostingAt.{posting-at, posting-none}
 use Rattle.doc_values.proofs.Lists.{listed-at, listed-ascends, listed-has}
-use Rattle.weight.specs.ScorerTree.{Leaf, nothing, term, phrase, range, everything, Scoring, constant, weighted, leaf, Scorers, more, Joining, leafMatches, leafScore, scorerScore, scoring, requiredScores, joinedScore}
+use Rattle.weight.specs.ScorerTree.{Leaf, nothing, term, phrase, range, everything, Scoring, constant, weighted, leaf, Scorers, end, more, Joining, leafMatches, leafScore, scorerScore, scoring, requiredScores, joinedScore}
 use Rattle.weight.specs.State.{State, wordsOf}
 use Rattle.weight.specs.Held.{LeafIs}
 use Rattle.weight.specs.Sound.{LeafSound, LeafTable, nodesOf}
@@ -29,11 +29,13 @@ use Rattle.score.specs.Asked.{LentAt, SumIs}
 use Rattle.score.proofs.Leaves.{Read, read}
 use Rattle.score.proofs.Weights.{float-back, float-number}
 use Rattle.score.proofs.Bounds.{scores-narrow}
+use Rattle.score.proofs.Alone.{zero-plus}
+use Rattle.ieee754.proofs.Narrowing.{narrow-exact}
 use Rattle.bulk.specs.Postings.{NodeScores, PostingAsks}
 use Rattle.bulk.specs.Terms.{NoGroup}
 use Rattle.bulk.specs.Led.{DocumentThere, DocumentIs, LeadAsks}
 use Rattle.bulk.proofs.Roots.{node-scores}
-use Rattle.bulk.proofs.TermSums.{group-took, group-skip, no-group}
+use Rattle.bulk.proofs.TermSums.{group-end, group-took, group-skip, no-group}
 
 pub record LeadRun (ix : Index) (L : Leaf) (lead : Node) (postings ranges : List ℕ) : Type 0 where
   pub doc : ℕ → ℕ
@@ -214,3 +216,17 @@ module _ (ix : Index) (doc : ℕ) (L : Leaf) (sc : Scoring) (rs : Scorers) (few 
       let w : r ≡ narrow (sumFrom zeroFloat (scoring (requiredScores ix rs doc))) = narrowed ∙ ap narrow (sums .is ∙ ap (λ (z : Float). sumFrom z (scoring (requiredScores ix rs doc))) e) in
       let g : NoGroup ix (more false (leaf L sc) rs) doc zeroFloat = group-skip ix doc (leaf L sc) rs zeroFloat zero-held tt (subst (λ (z : Float). NoGroup ix rs doc z) e group) in
       ((λ j. no-group j ix (more false (leaf L sc) rs) doc ((1 + nodesOf rs) * 2 ^ 29) r w small g), small)
+
+sum-none : (ix : Index) (doc : ℕ) (x : Float) → AtMost (1 * 2 ^ 29) x → SumIs x (scoring (requiredScores ix end doc)) (1 + nodesOf end) x
+unfolding requiredScores scoring sumFrom nodesOf
+sum-none ix doc x b = record { is = refl; small = b }
+
+-- a lead alone is its own sum
+pub led-alone : (ix : Index) (doc : ℕ) (L : Leaf) (sc : Scoring) (rs : Scorers) → rs ≡ end → 1 + nodesOf rs ≤ 256 → (s : Float) → T (fits binary32 s) → AtMost (2 ^ 29) s → s ≡ leafScore ix L sc doc → ((j : Joining) → s ≡ joinedScore j (requiredScores ix (more true (leaf L sc) rs) doc) zeroFloat) × AtMost ((1 + nodesOf rs) * 2 ^ 29) s
+led-alone ix doc L sc rs e few s h a q =
+    let x = add binary64 zeroFloat s in
+    let z : x ≡ s = zero-plus s (fits-widens s h) (a .sign) in
+    let b : AtMost (1 * 2 ^ 29) x = subst (λ (y : Float). AtMost (2 ^ 29) y) (sym z) a in
+    let sums : SumIs x (scoring (requiredScores ix rs doc)) (1 + nodesOf rs) x = subst (λ (ss : Scorers). SumIs x (scoring (requiredScores ix ss doc)) (1 + nodesOf ss) x) (sym e) (sum-none ix doc x b) in
+    let group : NoGroup ix rs doc x = subst (λ (ss : Scorers). NoGroup ix ss doc x) (sym e) (group-end ix doc x (add-fits binary64 zeroFloat s) (b .sign)) in
+    led-took ix doc L sc rs few x x s sums group (sym (ap narrow z ∙ narrow-exact s h)) s q refl

@@ -3,41 +3,31 @@ use mathlib.Core.Path.{_≡_, refl, sym, ap, subst, _∙_}
 use mathlib.Core.Bool.{Bool, true, false, not, cond}
 use mathlib.Core.List.{List, [], _∷_}
 use Prim.Native.Nat.{ℕ, zero, suc, _+_, _-_, _*_, _^_, _≤_, _<_}
-use native.Mathlib.Nat.{mul-one}
 use native.Mathlib.Omega.{arith}
 use lib.Dec.{T}
 use lib.ListN.{getD, length, take, drop}
-use lib.Ieee.{Float, binary64, add, fits, round, isNan}
+use lib.Ieee.{Float, binary64, add, fits, isNan}
 use lib.Ieee.Fits.{add-fits, fits-widens}
-use lib.Ieee.Positive.{num, den}
 use Rattle.meaning.specs.Lent.{Index}
 use Rattle.meaning.specs.Ieee754.{zeroFloat, narrow, sumFrom, narrowedSum}
 use Rattle.ieee754.specs.Nonneg.{nonneg, AtMost}
-use Rattle.ieee754.proofs.Nonneg.{round-self}
 use Rattle.ieee754.proofs.Narrowing.{narrow-fits, narrow-exact}
-use Rattle.ieee754.proofs.Ranges.{add-is}
 use Rattle.ieee754.proofs.Bounds.{atmost-number}
 use Rattle.weight.specs.ScorerTree.{Scorer, Scorers, end, more, allMatch, scorerScore, scoring, withGroup, requiredScores, Joining, oneMore, afterwards, joinedScore}
 use Rattle.weight.specs.State.{sizeOf, leafSize}
 use Rattle.weight.specs.Held.{Ok, Oks}
 use Rattle.weight.specs.Sound.{nodesOf}
 use Rattle.score.specs.Asked.{LentAt, Scorables, ScoreIs, SumIs, ScorePre, ScorePost}
+use Rattle.score.proofs.Alone.{plus-zero}
 use Rattle.score.proofs.Parts.{zip-none, view}
 use Rattle.score.proofs.Sums.{counted, scores-word, required-counted, required-matched, SumAt, sum-start, sum-end, sum-there, sum-scores, sum-size, sum-scorable, sum-matched, sum-part, sum-skipped, sum-took}
 use Rattle.bulk.specs.Terms.{IsTerm, TermsOnly, NoGroup}
 use Rattle.bulk.proofs.TermParts.{term-kind}
 
--- adding +0 to what is not negative changes nothing
-pub add-zero : (x : Float) → T (fits binary64 x) → T (nonneg x) → add binary64 x zeroFloat ≡ x
-add-zero x a b =
-    let n : num x * 1 + 0 * den x ≡ num x = omega arith in
-    let d : den x * 1 ≡ den x = mul-one (den x) in
-    add-is binary64 x zeroFloat b tt ∙ ap (λ (i : ℕ). round binary64 false i (den x * 1)) n ∙ ap (λ (i : ℕ). round binary64 false (num x) i) d ∙ round-self binary64 x a b
-
 -- a group of 0 in front of some scores
 zero-here : (x : Float) (ys : List Float) → T (fits binary64 x) → T (nonneg x) → sumFrom x (zeroFloat ∷ ys) ≡ sumFrom x ys
 unfolding sumFrom
-zero-here x ys a b = ap (λ (z : Float). sumFrom z ys) (add-zero x a b)
+zero-here x ys a b = ap (λ (z : Float). sumFrom z ys) (plus-zero x a b)
 
 sum-one : (x y : Float) (ys : List Float) → sumFrom x (y ∷ ys) ≡ sumFrom (add binary64 x y) ys
 unfolding sumFrom
@@ -67,7 +57,7 @@ no-group (oneMore m) ix ss doc p r e s h = e ∙ ap narrow (sym (h m))
 no-group afterwards ix ss doc p r e s h =
     let t = sumFrom zeroFloat (scoring (requiredScores ix ss doc)) in
     let w : T (nonneg (narrow t)) = subst (λ (z : Float). T (nonneg z)) e (s .sign) in
-    let q : narrow (add binary64 (narrow t) zeroFloat) ≡ narrow t = ap narrow (add-zero (narrow t) (fits-widens (narrow t) (narrow-fits t)) w) ∙ narrow-exact (narrow t) (narrow-fits t) in
+    let q : narrow (add binary64 (narrow t) zeroFloat) ≡ narrow t = ap narrow (plus-zero (narrow t) (fits-widens (narrow t) (narrow-fits t)) w) ∙ narrow-exact (narrow t) (narrow-fits t) in
     e ∙ sym q
 
 size-of : (S : Scorer) → IsTerm S → sizeOf S ≡ 24

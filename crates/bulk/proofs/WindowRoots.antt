@@ -1,24 +1,19 @@
 -- A Boolean of terms in words: its matches and scores are those of its terms' sums. Assumes nothing.
 use mathlib.Core.Path.{_≡_, refl, sym, ap, subst, _∙_}
-use mathlib.Core.Bool.{Bool, false, cond}
+use mathlib.Core.Bool.{Bool, cond}
 use mathlib.Core.List.{List, [], _++_, append-nil}
 use mathlib.Core.Option.{Option, none, some}
-use Prim.Native.Nat.{ℕ, zero, suc, _+_, _-_, _*_, _^_, _≤_, _<_, max}
+use Prim.Native.Nat.{ℕ, _+_, _-_, _*_, _^_, _≤_, _<_, max}
 use native.Mathlib.Omega.{arith}
 use lib.Dec.{T, leb, lit≤}
 use lib.ListN.{length, getD, drop, length-append}
 use lib.Seq.{getD-append-add}
-use lib.Ieee.{Float, binary64, add, round, fits}
-use lib.Ieee.Fits.{fits-widens}
-use lib.Ieee.Positive.{num, den}
+use lib.Ieee.{Float}
 use Rattle.meaning.specs.Lent.{Index}
-use Rattle.meaning.specs.Ieee754.{zeroFloat, narrow, sumFrom, narrowedSum}
-use Rattle.ieee754.specs.Nonneg.{nonneg, AtMost}
-use Rattle.ieee754.proofs.Nonneg.{round-self}
-use Rattle.ieee754.proofs.Ranges.{add-is}
-use Rattle.ieee754.proofs.Narrowing.{narrow-fits, narrow-exact}
-use Rattle.ieee754.proofs.Successor.{zero-fits}
-use Rattle.weight.specs.ScorerTree.{Leaf, nothing, term, phrase, range, everything, Scoring, Joining, oneMore, afterwards, Scorer, leaf, boolean, Scorers, end, more, matches, allMatch, anyMatches, matching, scoring, withGroup, joinedScore, scorerScore, requiredScores}
+use Rattle.meaning.specs.Ieee754.{narrow, narrowedSum}
+use Rattle.ieee754.specs.Nonneg.{AtMost}
+use Rattle.ieee754.proofs.Narrowing.{narrow-fits}
+use Rattle.weight.specs.ScorerTree.{Leaf, nothing, term, phrase, range, everything, Scoring, Joining, Scorer, leaf, boolean, Scorers, end, more, matches, allMatch, anyMatches, matching, scoring, joinedScore, scorerScore, requiredScores}
 use Rattle.weight.specs.State.{State, wordsOf, sizesOf}
 use Rattle.weight.specs.Held.{LeafIs, KeptIs, Ok, Oks}
 use Rattle.weight.specs.Sound.{LeafSound, Sound, Sounds, LeafTable, Tables, TablesOf, nodes, nodesOf}
@@ -26,29 +21,13 @@ use Rattle.scorer.specs.Contracts.{Lent}
 use Rattle.scorer.proofs.Bounds.{ok-length, ok-long, oks-length}
 use Rattle.scorer.proofs.Nodes.{leaf-kind}
 use Rattle.score.specs.Walks.{PageHeld}
+use Rattle.score.proofs.Alone.{group-alone as alone}
 use Rattle.score.proofs.Bounds.{scores-narrow}
 use Rattle.bulk.specs.Windows.{FreshTerms, SuitsWindows, TermHeld, TermsHeld, ByTerms}
 
--- ---- adding to 0 and narrowing again change nothing
-add-zero : (y : Float) → T (fits binary64 y) → T (nonneg y) → add binary64 zeroFloat y ≡ y
-add-zero y f p = add-is binary64 zeroFloat y tt p ∙ ap (λ (n : ℕ). round binary64 false n (den zeroFloat * den y)) (top (num y) (den y)) ∙ ap (λ (n : ℕ). round binary64 false (num y) n) (bottom (den y)) ∙ round-self binary64 y f p
-  where
-    top : (n d : ℕ) → num zeroFloat * d + n * den zeroFloat ≡ n
-    top n d = let a : num zeroFloat ≡ 0 = refl in let b : den zeroFloat ≡ 1 = refl in rw (a, b) (omega arith)
-
-    bottom : (d : ℕ) → den zeroFloat * d ≡ d
-    bottom d = let b : den zeroFloat ≡ 1 = refl in rw b (omega arith)
-
-narrow-again : (x : Float) → AtMost (256 * 2 ^ 29) x → narrow (add binary64 zeroFloat (narrow x)) ≡ narrow x
-narrow-again x a =
-    ap narrow (add-zero (narrow x) (fits-widens (narrow x) (narrow-fits x)) (scores-narrow 256 x (lit≤ tt) a .sign)) ∙ narrow-exact (narrow x) (narrow-fits x)
-
 -- a group that joins nothing
 group-alone : (j : Joining) (x : Float) → AtMost (256 * 2 ^ 29) x → narrow x ≡ joinedScore j [] (narrow x)
-unfolding joinedScore withGroup scoring narrowedSum sumFrom
-group-alone (oneMore zero) x a = sym (narrow-again x a)
-group-alone (oneMore (suc n)) x a = sym (narrow-again x a)
-group-alone afterwards x a = sym (ap (λ (z : Float). narrow (add binary64 z (narrow x))) (narrow-exact zeroFloat zero-fits) ∙ narrow-again x a)
+group-alone j x a = sym (alone j (narrow x) (narrow-fits x) (scores-narrow 256 x (lit≤ tt) a .sign))
 
 -- ---- the records of terms
 fresh-rest : (y z : List ℕ) → length y ≡ 24 → FreshTerms (y ++ z) → FreshTerms z

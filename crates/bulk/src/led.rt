@@ -127,6 +127,10 @@ fn led_score(
 {
     if scores == 1 {
         let s = lead_score(lead, postings, norms, inverses, i, doc);
+        if kids.len() == 0 {
+            // alone it is its own sum
+            return s;
+        }
         let first = ieee754::add_score(0.0, s);
         return ieee754::narrow(sum_scores(kids, first, postings, norms, inverses, doc));
     }

@@ -25,13 +25,13 @@ use Rattle.score.proofs.Bounds.{scores-narrow, scores-more}
 use Rattle.score.proofs.Join.{firstOf, restOf, sum-append, with-group}
 
 -- ---- +0
-plus-zero : (x : Float) → T (fits binary64 x) → T (nonneg x) → add binary64 x zeroFloat ≡ x
+pub plus-zero : (x : Float) → T (fits binary64 x) → T (nonneg x) → add binary64 x zeroFloat ≡ x
 plus-zero x h p =
     let a : num x * den zeroFloat + num zeroFloat * den x ≡ num x = omega arith in
     let b : den x * den zeroFloat ≡ den x = omega arith in
     add-is binary64 x zeroFloat p tt ∙ ap (λ (i : ℕ). round binary64 false i (den x * den zeroFloat)) a ∙ ap (λ (i : ℕ). round binary64 false (num x) i) b ∙ round-self binary64 x h p
 
-zero-plus : (x : Float) → T (fits binary64 x) → T (nonneg x) → add binary64 zeroFloat x ≡ x
+pub zero-plus : (x : Float) → T (fits binary64 x) → T (nonneg x) → add binary64 zeroFloat x ≡ x
 zero-plus x h p =
     let a : num zeroFloat * den x + num x * den zeroFloat ≡ num x = omega arith in
     let b : den zeroFloat * den x ≡ den x = omega arith in
@@ -67,7 +67,7 @@ no-group ix d rs afterwards front all =
     ap narrow (plus-zero x (fits-widens x h) all) ∙ narrow-exact x h
 
 -- a group that nothing is joined to
-group-alone : (j : Joining) (g : Float) → T (fits binary32 g) → T (nonneg g) → joinedScore j [] g ≡ g
+pub group-alone : (j : Joining) (g : Float) → T (fits binary32 g) → T (nonneg g) → joinedScore j [] g ≡ g
 unfolding joinedScore narrowedSum withGroup scoring sumFrom
 group-alone (oneMore zero) g h p = ap narrow (zero-plus g (fits-widens g h) p) ∙ narrow-exact g h
 group-alone (oneMore (suc n)) g h p = ap narrow (zero-plus g (fits-widens g h) p) ∙ narrow-exact g h

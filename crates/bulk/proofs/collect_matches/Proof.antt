@@ -1,7 +1,7 @@
 -- `collect_matches` meets its contract: each loop has it for its kind of root. Assumes nothing.
 use borrow.Author.Needs.{needs}
-use mathlib.Core.Path.{_≡_, refl}
-use Prim.Native.Nat.{ℕ, _≤_, min}
+use mathlib.Core.Path.{refl}
+use Prim.Native.Nat.{min}
 use native.Mathlib.Omega.{arith}
 use lib.ListN.{length}
 use Rattle.scorer.specs.Contracts.{lent}
