@@ -9,6 +9,7 @@ ghost use Rattle.phrase_starts.specs.Common.{Common};
 ghost use Rattle.phrase.specs.Step.{unmetFrom, Candidates, Left, Meets};
 ghost use Rattle.phrase.specs.Place.{PlacedIn};
 use phrase_starts::intersect;
+use phrase_starts::pair;
 use phrase_starts::term_at;
 use phrase_starts::write_starts;
 
@@ -122,6 +123,10 @@ pub fn frequency(positions: &[u32], terms: &[u32], a: &mut [i32], b: &mut [i32])
     requires { ⌜ Good (now positions) (now terms) × (Room (now terms) (length (now a)) × Room (now terms) (length (now b))) ⌝ }
     ensures { λ r. ⌜ r ≡ commonSize (startLists (now (positions .entry)) (now (terms .entry))) ⌝ }
 {
+    // two terms need no buffers
+    if terms.len() == 6 {
+        return pair(positions, term_at(terms, 0), term_at(terms, 3)) as u32;
+    }
     let left = common(positions, terms, a, b);
     left.len() as u32
 }

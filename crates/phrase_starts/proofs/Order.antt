@@ -9,6 +9,9 @@ use lib.Dec.{T, ltb, le→leb, ltb→lt, nltb→le}
 use lib.IntN.{ℤ, pos, negsuc, subℕ, _-ℤ_}
 use lib.ListN.{length, getD}
 use lib.Signed.{mag, ltZ, leZ, _≤ℤ_, _<ℤ_, ≤ℤ-refl, <ℤ-≤ℤ-trans, <ℤ-irrefl}
+use mir.Val.{SFits, toZ, ofZ}
+use mir.Syntax.{w32}
+use mir.ValLaws.{toZ-ofZ}
 use Rattle.meaning.specs.Phrase.{eqℤ, multiplicity}
 use Rattle.meaning.proofs.Signed.{≤ℤ-trans, ≤ℤ-antisym, lt-no}
 use Rattle.meaning.proofs.Phrases.{eqℤ→eq}
@@ -17,6 +20,10 @@ use Rattle.phrase_starts.specs.Common.{AtLeast, Ascending}
 -- neither of two is below the other
 pub same : (a b : ℤ) → ltZ a b ≡ false → ltZ b a ≡ false → a ≡ b
 same a b h k = ≤ℤ-antisym (lt-no b a k) (lt-no a b h)
+
+-- the code tests the bits of two numbers, and so the numbers
+pub tested : (a b : ℤ) (v : Bool) → SFits w32 a → SFits w32 b → ltZ (toZ w32 (ofZ w32 a)) (toZ w32 (ofZ w32 b)) ≡ v → ltZ a b ≡ v
+tested a b v f g e = rw (toZ-ofZ w32 a f, toZ-ofZ w32 b g) at e
 
 -- ---- a start
 -- the code's difference is the paper's

@@ -5,6 +5,7 @@ ghost use mathlib.Core.List.{[], _∷_};
 ghost use Prim.Native.Nat.{_≤_, _<_, _+_};
 ghost use lib.ListN.{length, take};
 ghost use lib.IntN.{pos, subℕ};
+ghost use Rattle.meaning.specs.Phrase.{commonSize};
 ghost use Rattle.phrase_starts.specs.Terms.{termAt, startsOf, GoodTerm};
 ghost use Rattle.phrase_starts.specs.Common.{Ascending, Common};
 
@@ -92,6 +93,39 @@ pub fn intersect(positions: &[u32], t: Term, cands: &[i32], out: &mut [i32]) -> 
             n += 1;
             c += 1; // used up
             i += 1;
+        }
+    }
+    n
+}
+
+// The number of starts that two terms have in common: a merge that uses up one of each with each match.
+pub fn pair(positions: &[u32], s: Term, t: Term) -> usize
+    requires { ⌜ GoodTerm (now positions) s × GoodTerm (now positions) t ⌝ }
+    ensures { λ r. ⌜ r ≡ commonSize (startsOf (now (positions .entry)) s ∷ startsOf (now (positions .entry)) t ∷ []) ⌝ }
+{
+    let first = s.first;
+    let freq = s.freq;
+    let offset = s.offset;
+    let other_first = t.first;
+    let other_freq = t.freq;
+    let other_offset = t.offset;
+    let mut i = 0;
+    let mut j = 0;
+    let mut n = 0;
+    while i < freq {
+        if j == other_freq {
+            return n;
+        }
+        let x = start(positions[first + i], offset);
+        let y = start(positions[other_first + j], other_offset);
+        if x < y {
+            i += 1;
+        } else if y < x {
+            j += 1;
+        } else {
+            n += 1;
+            i += 1;
+            j += 1;
         }
     }
     n

@@ -1,6 +1,6 @@
 -- `intersect` meets its contract. The loop's invariant is the state of the merge (proofs/Merge.antt). Assumes nothing.
 use mathlib.Core.Path.{_≡_, refl, sym, subst, _∙_}
-use mathlib.Core.Bool.{Bool, true, false}
+use mathlib.Core.Bool.{true, false}
 use mathlib.Core.List.{List, [], _∷_, _++_}
 use Prim.Native.Nat.{ℕ, _+_, _≤_, _<_, _-_}
 use native.Mathlib.Numerals.{add-one}
@@ -17,7 +17,7 @@ use Rattle.phrase_starts.specs.declared.Term.{Term}
 use Rattle.phrase_starts.specs.Terms.{startsOf}
 use Rattle.phrase_starts.specs.Common.{Common}
 use Rattle.meaning.proofs.Signed.{lt-yes}
-use Rattle.phrase_starts.proofs.Order.{same}
+use Rattle.phrase_starts.proofs.Order.{same, tested}
 use Rattle.phrase_starts.proofs.Merge.{Merging, merge-begins, candidate-passed, start-passed, matched, candidates-end, starts-end}
 use Rattle.phrase_starts.proofs.Records.{starts-length, starts-drop, starts-ascending}
 use Rattle.phrase_starts.proofs.intersect.Statement.{statement}
@@ -30,10 +30,6 @@ record Merged (ps : List ℕ) (t : Term) (cs : List ℤ) (places : ℕ) (out : L
   candidates : c ≤ length cs
   positions : i ≤ t .freq
   merging : Merging cs (startsOf ps t) (take n out) (drop c cs) (drop i (startsOf ps t))
-
--- the code tests the bits of two numbers, and so the numbers
-tested : (a b : ℤ) (v : Bool) → SFits w32 a → SFits w32 b → ltZ (toZ w32 (ofZ w32 a)) (toZ w32 (ofZ w32 b)) ≡ v → ltZ a b ≡ v
-tested a b v f g e = rw (toZ-ofZ w32 a f, toZ-ofZ w32 b g) at e
 
 module _ (ps : List ℕ) (t : Term) (cs : List ℤ) (places : ℕ) (out : List ℤ) (i c n : ℕ) (m : Merged ps t cs places out i c n) (room : length cs ≤ places) (hi : i < t .freq) (hc : (c ≡ length cs) → ⊥) (s : ℤ) (e : s ≡ subℕ (getD ps (t .first + i) 0) (t .offset)) (fs : SFits w32 s) (fc : SFits w32 (getD cs c (pos 0))) where
   left : c < length cs
