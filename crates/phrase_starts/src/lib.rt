@@ -125,7 +125,7 @@ pub fn pair(positions: &[u32], s: Term, t: Term) -> usize
         } else {
             n += 1;
             i += 1;
-            j += 1;
+            j += 1; // both used up
         }
     }
     n

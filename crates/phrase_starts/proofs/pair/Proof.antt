@@ -72,8 +72,10 @@ module _ (ps : List ℕ) (s t : Term) (i j n : ℕ) (m : Paired ps s t i j n) (h
             (start-passed (startsOf ps s) (startsOf ps t) (m .matches) x (drop (i + 1) (startsOf ps s)) y (drop (j + 1) (startsOf ps t)) opened (lt-yes y x (tested y x true fy fx h)));
       }
 
-  met : ltZ (toZ w32 (ofZ w32 x)) (toZ w32 (ofZ w32 y)) ≡ false → ltZ (toZ w32 (ofZ w32 y)) (toZ w32 (ofZ w32 x)) ≡ false → Paired ps s t (i + 1) (j + 1) (n + 1)
-  met h k =
+  -- one of each is used up
+  met : (i′ j′ : ℕ) → i′ ≡ i + 1 → j′ ≡ j + 1 → ltZ (toZ w32 (ofZ w32 x)) (toZ w32 (ofZ w32 y)) ≡ false → ltZ (toZ w32 (ofZ w32 y)) (toZ w32 (ofZ w32 x)) ≡ false → Paired ps s t i′ j′ (n + 1)
+  met i′ j′ ei ej h k =
+      rw ei (rw ej
       record {
         few = omega (arith, m .few);
         firsts = omega (arith, hi);
@@ -81,7 +83,7 @@ module _ (ps : List ℕ) (s t : Term) (i j n : ℕ) (m : Paired ps s t i j n) (h
         matches = m .matches ++ (y ∷ []);
         long = (let e = length-append (m .matches) (y ∷ []) in omega (arith, e, m .long));
         merging = matched (startsOf ps s) (startsOf ps t) (m .matches) x (drop (i + 1) (startsOf ps s)) y (drop (j + 1) (startsOf ps t)) opened (same x y (tested x y false fx fy h) (tested y x false fy fx k));
-      }
+      })
 
 -- the merge ends with as many matches as the paper says
 counted : (xs ys zs : List ℤ) (n : ℕ) → length zs ≡ n → Common (xs ∷ ys ∷ []) zs → n ≡ commonSize (xs ∷ ys ∷ [])
@@ -198,7 +200,7 @@ loop-again-3 c =
     let k = c .before .before in
     let l = k .before .before .before .before .before .before in
     let a = l .before .before .args in
-    met (a .positions .now) (a .s) (a .t) (l .loop .i) (l .loop .j) (l .loop .n) (l .loop .inv) (k .before .before .before .before .before .loop-test .taken) (k .before .before .before .before .if1 .left) (k .before .before .start .result) (k .start2 .result) (k .before .before .start .ensures) (k .start2 .ensures) (record { sfits = k .before .before .start .ok }) (record { sfits = k .start2 .ok }) (c .before .if2 .left) (c .if3 .left)
+    met (a .positions .now) (a .s) (a .t) (l .loop .i) (l .loop .j) (l .loop .n) (l .loop .inv) (k .before .before .before .before .before .loop-test .taken) (k .before .before .before .before .if1 .left) (k .before .before .start .result) (k .start2 .result) (k .before .before .start .ensures) (k .start2 .ensures) (record { sfits = k .before .before .start .ok }) (record { sfits = k .start2 .ok }) _ _ (omega arith) (omega arith) (c .before .if2 .left) (c .if3 .left)
 
 returns-2 : tie.Need-returns-2 Inv-loop μ-loop
 returns-2 c =
