@@ -20,14 +20,21 @@ pub fn float_to_sortable_int(f: f32) -> i32
     sign ^ ((bits & 0x7fff_ffff) as i32)
 }
 
-// sortableIntToFloat, the way back.
+// The pattern that has a sortable int: the way back, and of every int.
+pub fn sortable_bits(i: i32) -> u32
+    ensures { λ r. ⌜ r ≡ sortableBits i ⌝ }
+{
+    let sign = i >> 31;
+    let lower = (i ^ sign) as u32;
+    (((0 - sign) as u32) << 31) | lower
+}
+
+// sortableIntToFloat.
 pub fn sortable_int_to_float(i: i32) -> f32
     requires { ⌜ T (not (nanBits binary32 (sortableBits i))) ⌝ }
     ensures { λ r. ⌜ r ≡ ofBits binary32 (sortableBits i) ⌝ }
 {
-    let sign = i >> 31;
-    let lower = (i ^ sign) as u32;
-    f32::from_bits((((0 - sign) as u32) << 31) | lower)
+    f32::from_bits(sortable_bits(i))
 }
 
 // Larger codes rank higher: by score, and at one score by the lower document.

@@ -5,26 +5,24 @@ ghost use lib.ListN.{length};
 ghost use Rattle.meaning.specs.Hits.{toDoc};
 ghost use Rattle.hits_text.specs.Text.{scoreBits, hitLine, hitLines, foundText, refusedText};
 ghost use Rattle.hits_text.specs.Puts.{Put};
+use collector::codes::sortable_bits;
+use collector::codes::to_doc;
 
 // A code's document; 0 where the lower word has no document.
 fn document(code: i64) -> u32
     ensures { λ r. ⌜ r ≡ toDoc code ⌝ }
 {
-    let low = (code & 0xffff_ffff) as u32;
-    if 2147483647 < low {
+    if 2147483647 < code & 0xffff_ffff {
         return 0;
     }
-    2147483647 - low
+    to_doc(code)
 }
 
 // The bits of a code's score, without a float between: `to_score` asks that they are no NaN's.
 fn score_bits(code: i64) -> u32
     ensures { λ r. ⌜ r ≡ scoreBits code ⌝ }
 {
-    let i = (code >> 32) as i32;
-    let sign = i >> 31;
-    let lower = (i ^ sign) as u32;
-    (((0 - sign) as u32) << 31) | lower
+    sortable_bits((code >> 32) as i32)
 }
 
 // A line is at most 30 bytes long.

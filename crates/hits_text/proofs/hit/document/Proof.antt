@@ -1,35 +1,33 @@
--- `hit::document` meets its contract: the mask is the lower word, and one above every document leaves 0. Assumes nothing.
-use mathlib.Core.Path.{_≡_, sym, ap, subst}
-use Prim.Native.Nat.{_-_, _^_, _<_}
+-- `hit::document` meets its contract: a lower word above every document leaves 0. Assumes nothing.
+use mathlib.Core.Path.{_≡_, ap, _∙_}
 use native.Mathlib.Omega.{arith}
-use lib.Dec.{T}
-use lib.IntN.{ℤ, pos, negsuc, natAbs}
-use lib.Signed.{nonNeg}
-use mir.Syntax.{w32, w64}
-use mir.Val.{Fits, ofZ, toZ}
+use lib.IntN.{pos}
 use lib.Bits.{bitAnd}
+use borrow.Author.Tests.{ltb-true, ltb-false}
+use mir.Syntax.{w64}
+use mir.Val.{ofZ, toZ}
+use mir.ValLaws.{toZ-ofZ}
 use Rattle.meaning.specs.Hits.{lowWord, toDoc}
 use Rattle.collector.proofs.Halves.{low-is}
 use Rattle.hits_text.proofs.hit.document.Statement.{statement}
 use Rattle.hits_text.proofs.hit.document.Tie as tie
 
+-- the lower word
 low : (c : tie.Start) → toZ w64 (bitAnd (ofZ w64 (c .args .code)) 4294967295) ≡ pos (lowWord (c .args .code))
 low c = low-is (c .args .code) (c .fits .code)
 
-low-few : (z : ℤ) → lowWord z < 2 ^ 32
-low-few (pos n) = omega arith
-low-few (negsuc n) = omega arith
-
-cast-low : tie.Need-cast-low
-cast-low c = subst (λ (z : ℤ). T (nonNeg z) × Fits w32 (natAbs z)) (sym (low c)) (tt, record { fits = low-few (c .args .code) })
+same : (c : tie.Start) → toZ w64 (ofZ w64 (c .args .code)) ≡ c .args .code
+same c = toZ-ofZ w64 (c .args .code) (c .fits .code)
 
 returns : tie.Need-returns
 unfolding toDoc
-returns c = omega (arith, c .if1 .taken, ap natAbs (low (c .before)))
+returns c = let h = rw (low (c .before)) at (c .if1 .taken) in omega (arith, ltb-true 2147483647 (lowWord (c .before .args .code)) h)
+
+to-doc-requires : tie.Need-to-doc-requires
+to-doc-requires c κs = let h = rw (low (c .before)) at (c .if1 .left) in omega (arith, ap lowWord (same (c .before)), ltb-false 2147483647 (lowWord (c .before .args .code)) h)
 
 returns-2 : tie.Need-returns-2
-unfolding toDoc
-returns-2 c = ap (λ (z : ℤ). 2147483647 - natAbs z) (low (c .before))
+returns-2 c = c .to-doc .ensures ∙ ap toDoc (same (c .before .before))
 
 pub document-spec : {M : Type 1} → statement M
-document-spec = tie.close (tie.spec cast-low returns returns-2)
+document-spec = tie.close (tie.spec returns to-doc-requires returns-2)
