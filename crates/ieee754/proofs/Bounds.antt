@@ -13,11 +13,16 @@ use lib.Ieee.Exact.{HasValue, round-exact}
 use lib.Ieee.Back.{round-whole}
 use lib.Ieee.Positive.{num, den, den-pos, value→cross, through}
 use Rattle.meaning.specs.Ieee754.{zeroFloat, narrow}
-use Rattle.ieee754.specs.Nonneg.{nonneg, signClear, AtMost, UpTo, Within}
+use Rattle.ieee754.specs.Nonneg.{nonneg, signClear, AtMost}
 use Rattle.ieee754.proofs.Nonneg.{nonneg-of-value, no-nan}
 use Rattle.ieee754.proofs.Patterns.{lt-is, pattern-nonneg, pattern-back, pattern-clear, clear-le}
-use Rattle.ieee754.proofs.Ranges.{add-is, mul-is, round-nonneg, round-cross, cross→le, le→cross}
+use Rattle.ieee754.proofs.Ranges.{Within, add-is, mul-is, round-nonneg, round-cross, cross→le, le→cross}
 use Rattle.ieee754.proofs.Narrowing.{narrow-is}
+
+-- finite, not negative, and at most w
+pub record UpTo (w x : Float) : Type 0 where
+  pub sign : T (nonneg x)
+  pub most : num x * den w ≤ num w * den x
 
 -- the format holds the whole number p
 abbrev pub Held : Format → ℕ → Type 0

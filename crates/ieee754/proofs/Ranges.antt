@@ -13,9 +13,15 @@ use lib.Ieee.Fits.{and-l, round-is}
 use lib.Ieee.Exact.{odd-sign}
 use lib.Ieee.Order.{le-of-values, round-mono, kept, drop}
 use lib.Ieee.Positive.{num, den, den-pos, first-pos}
-use Rattle.ieee754.specs.Nonneg.{nonneg, signClear, Within}
+use Rattle.ieee754.specs.Nonneg.{nonneg, signClear}
 use Rattle.ieee754.proofs.Nonneg.{own-value, nonneg-of-value}
 use Rattle.ieee754.proofs.Patterns.{le-is, nonneg-clear}
+
+-- finite, not negative, and from lo to hi
+pub record Within (lo x hi : Float) : Type 0 where
+  pub sign : T (nonneg x)
+  pub least : num lo * den x ≤ num x * den lo
+  pub most : num x * den hi ≤ num hi * den x
 
 -- ---- the order, as one of fractions
 or-split : (a b : Bool) → T (a || b) → T a ⊎ T b

@@ -21,14 +21,3 @@ signClear (fin s m e) = not s
 pub record AtMost (p : ℕ) (x : Float) : Type 0 where
   pub sign : T (nonneg x)
   pub most : num x ≤ p * den x
-
--- finite, not negative, and at most w
-pub record UpTo (w x : Float) : Type 0 where
-  pub sign : T (nonneg x)
-  pub most : num x * den w ≤ num w * den x
-
--- finite, not negative, and from lo to hi
-pub record Within (lo x hi : Float) : Type 0 where
-  pub sign : T (nonneg x)
-  pub least : num lo * den x ≤ num x * den lo
-  pub most : num x * den hi ≤ num hi * den x

@@ -10,7 +10,7 @@ use lib.Seq.{getD-take, getD-drop}
 use borrow.Author.Tests.{lt-ltb, le-ltb, eq-eqb, eqb-true, eqb-false, not-false}
 use Rattle.meaning.specs.Below.{anyBelow, countBelow}
 use Rattle.meaning.specs.Limits.{noMoreDocs}
-use Rattle.index.specs.Runs.{wrongRecord, wrongPlace, wrongPlaces, apartAt, fallAt, seamAt}
+use Rattle.index.specs.Runs.{wrongRecord, wrongPlace, wrongPlaces, apartAt, seamAt}
 use Rattle.meaning.proofs.Tests.{or-left, or-right, and-second}
 use Rattle.meaning.proofs.Below.{none-below, any-none, any-some, any-like, any-or}
 use Rattle.index.specs.Gaps.{dropAt}
@@ -23,6 +23,10 @@ pub records-some : (n : ℕ) (positions : Bool) (run : List ℕ) (k : ℕ) → a
 unfolding wrongRecord
 records-some n positions run k e i l =
     let z : getD run (3 * i + 1) 0 ≡ 0 → ⊥ = eqb-false _ _ (or-left (eqb (getD run (3 * i + 1) 0) 0) (ltb 16777216 (getD run (3 * i + 1) 0)) (or-right (leb n (getD run (3 * i) 0) || (ltb 0 i && leb (getD run (3 * i) 0) (getD run (3 * (i - 1)) 0))) (eqb (getD run (3 * i + 1) 0) 0 || ltb 16777216 (getD run (3 * i + 1) 0)) (or-left ((leb n (getD run (3 * i) 0) || (ltb 0 i && leb (getD run (3 * i) 0) (getD run (3 * (i - 1)) 0))) || (eqb (getD run (3 * i + 1) 0) 0 || ltb 16777216 (getD run (3 * i + 1) 0))) (ltb 0 (getD run (3 * i + 2) 0) && not positions) (none-below k (wrongRecord n positions run) e i l)))) in omega arith
+
+-- a fall from the word before
+unfoldable pub fallAt : List ℕ → ℕ → Bool
+fallAt part k = ltb 0 k && ltb (getD part k 0) (getD part (k - 1) 0)
 
 drop-fall : (part : List ℕ) (k : ℕ) → getD part k 0 < 2147483648 → getD part (k - 1) 0 < 2147483648 → dropAt part k ≡ fallAt part k
 unfolding dropAt fallAt

@@ -36,10 +36,6 @@ wrongPlaces run positions i =
 unfoldable pub apartAt : List ℕ → ℕ → Bool
 apartAt run i = ltb 0 i && not (eqb (getD run (3 * i + 2) 0) (getD run (3 * (i - 1) + 2) 0 + getD run (3 * (i - 1) + 1) 0))
 
--- a fall from the word before
-unfoldable pub fallAt : List ℕ → ℕ → Bool
-fallAt part k = ltb 0 k && ltb (getD part k 0) (getD part (k - 1) 0)
-
 -- a fall where the positions of the i-th record begin
 unfoldable pub seamAt : List ℕ → List ℕ → ℕ → Bool
 seamAt run positions i =

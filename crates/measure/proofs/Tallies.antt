@@ -19,7 +19,11 @@ use Rattle.query.proofs.Spans.{tree-span}
 use Rattle.weight.proofs.Standing.{deep}
 use Rattle.measure.specs.declared.Tally.{Tally}
 use Rattle.weight.specs.Measured.{MeasureIs, Measured}
-use Rattle.measure.specs.Tallied.{tallied, untallied, tallyPresent, tallyCost}
+use Rattle.measure.specs.Tallied.{tallied, tallyPresent, tallyCost}
+
+-- no clause yet
+abbrev pub untallied : Tally
+untallied = record { required = false; missing = false; found = false; least = 0; shoulds = 0; group = 0 }
 
 -- the tally after some clauses more
 unfoldable pub after : Index → Tally → Clauses → Tally

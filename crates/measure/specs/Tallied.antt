@@ -18,10 +18,6 @@ tallied t should true c =
 tallied t should false c = t
 tallied t mustNot p c = t
 
--- no clause yet
-abbrev pub untallied : Tally
-untallied = record { required = false; missing = false; found = false; least = 0; shoulds = 0; group = 0 }
-
 -- whether a Boolean has a scorer, from the tally of its clauses
 abbrev pub tallyPresent : Tally → ℕ → ℕ
 tallyPresent t msm = cond (not (t .missing) && leb (cond (t .required) msm (max 1 msm)) (t .shoulds)) 1 0

@@ -11,8 +11,8 @@ use Rattle.meaning.specs.Lent.{Index}
 use Rattle.meaning.specs.IndexRefusals.{wrongPosition, wrongPositions}
 use Rattle.meaning.specs.Phrase.{PhraseTerm, starts, multiplicity, smallest, distinct, sumSmallest, commonSize}
 use Rattle.phrase_starts.specs.Terms.{startsOf, startLists, Good, Room}
-use Rattle.phrase.specs.Words.{phraseWords, AllFine}
-use Rattle.phrase.proofs.Words.{words-good, words-room}
+use Rattle.phrase.specs.Words.{phraseWords}
+use Rattle.phrase.proofs.Words.{AllFine, words-good, words-room}
 
 abbrev words : Index
 words =

@@ -19,7 +19,7 @@ use Rattle.meaning.proofs.Tests.{or-left, or-right}
 use Rattle.meaning.proofs.Below.{none-below}
 use Rattle.phrase_starts.specs.declared.Term.{Term}
 use Rattle.phrase_starts.specs.Terms.{termAt, startsOf, startLists, GoodTerm, Good, Room}
-use Rattle.phrase.specs.Words.{firstOf, phraseWords, Fine, AllFine}
+use Rattle.phrase.specs.Words.{firstOf, phraseWords}
 use Rattle.phrase_starts.proofs.Records.{term-past}
 
 -- ---- what they say
@@ -64,6 +64,16 @@ good-posting ix l offset i p w o =
         let q : ltb 0 (suc j) ≡ true = lt-ltb 0 (suc j) (omega arith) in
         let k : suc j - 1 ≡ j = omega arith in
         ltb-false (leafPosition ix l i (suc j)) (leafPosition ix l i j) (rw (q, k) at e)
+
+-- what an accepted index and query say of a term: a small offset, and positions that are not wrong
+pub record Fine (ix : Index) (d : ℕ) (t : PhraseTerm) : Type 0 where
+  pub offset-small : t .offset ≤ noMoreDocs
+  pub positions : (i : ℕ) → postingAt ix (t .leaf) d ≡ some i → (hasPositions ix (leafField ix (t .leaf)) ≡ true) × (wrongPositions ix (t .leaf) i ≡ false)
+
+-- each term is fine
+unfoldable pub AllFine : Index → ℕ → List PhraseTerm → Type 0
+AllFine ix d [] = Unit
+AllFine ix d (t ∷ ts) = Fine ix d t × AllFine ix d ts
 
 good-term : (ix : Index) (d : ℕ) (t : PhraseTerm) → Fine ix d t → GoodTerm (ix .positions) (term-of ix (t .leaf) (t .offset) (postingAt ix (t .leaf) d))
 good-term ix d t f = go (postingAt ix (t .leaf) d) (f .positions)

@@ -5,13 +5,7 @@ use Prim.Native.Nat.{ℕ, _+_, _*_, _/_, _≤_, _<_}
 use lib.ListN.{length, getD}
 use Rattle.meaning.specs.Limits.{largestBoost}
 use Rattle.meaning.specs.Lent.{Index}
-use Rattle.meaning.specs.Query.{recordCount, recordKind, recordOccurrence, recordChildren, recordValue}
-use Rattle.query.specs.declared.Record.{Record}
-
--- the record at r, by value
-abbrev pub recordOf : List ℕ → ℕ → Record
-recordOf q r =
-    record { kind = recordKind q r; occurrence = recordOccurrence q r; children = recordChildren q r; v0 = recordValue q r 0; v1 = recordValue q r 1; v2 = recordValue q r 2; v3 = recordValue q r 3; v4 = recordValue q r 4; v5 = recordValue q r 5 }
+use Rattle.meaning.specs.Query.{recordCount, recordKind, recordValue}
 
 -- an index whose fields, leaves and columns are these slices
 pub record Lends (ix : Index) (fields leaves columns : List ℕ) : Type 0 where

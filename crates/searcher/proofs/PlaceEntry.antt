@@ -26,11 +26,11 @@ use Rattle.index.proofs.PostingAt.{posting-is}
 use Rattle.query.proofs.Inverse.{phrase-at}
 use Rattle.query.proofs.Whole.{phrase-stands}
 use Rattle.phrase.specs.Terms.{startLists, Good, Room}
-use Rattle.phrase.specs.Words.{phraseWords, AllFine}
+use Rattle.phrase.specs.Words.{phraseWords}
 use Rattle.phrase.specs.Place.{PlacedIn}
 use Rattle.phrase.specs.declared.Placed as Found
 use Rattle.phrase.specs.declared.Placed.the-variants as Variant
-use Rattle.phrase.proofs.Words.{words-starts, words-frequency, words-good, words-room}
+use Rattle.phrase.proofs.Words.{AllFine, words-starts, words-frequency, words-good, words-room}
 use Rattle.weight.specs.Measured.{Asks}
 use Rattle.weight.specs.ScorerTree.{phrase}
 use Rattle.weight.specs.Sound.{EachTerm, LeafSound}

@@ -15,9 +15,9 @@ use Rattle.meaning.specs.Ieee754.{zeroFloat}
 use Rattle.meaning.specs.Limits.{leastAverage, largestAverage}
 use Rattle.meaning.specs.SmallFloat.{byte4ToInt}
 use Rattle.meaning.specs.Bm25.{one, k1, b, lengthOf, inverse}
-use Rattle.ieee754.specs.Nonneg.{nonneg, signClear, Within}
+use Rattle.ieee754.specs.Nonneg.{nonneg, signClear}
 use Rattle.ieee754.proofs.Patterns.{bits-finite}
-use Rattle.ieee754.proofs.Ranges.{round-within, round-clear, add-within, mul-within, div-within, within-self}
+use Rattle.ieee754.proofs.Ranges.{Within, round-within, round-clear, add-within, mul-within, div-within, within-self}
 use Rattle.ieee754.proofs.Bounds.{pattern-within}
 use Rattle.sim.proofs.Codes.{byte4ToInt-le}
 

@@ -15,10 +15,10 @@ use Rattle.meaning.specs.Ieee754.{zeroFloat, narrowedSum}
 use Rattle.meaning.specs.Limits.{leastAverage, largestAverage, largestIdf, largestBoost, largestFrequency, maxPhraseTerms}
 use Rattle.meaning.specs.Bm25.{one, lengthOf, inverse, weight, bm25}
 use Rattle.meaning.specs.QueryRefusals.{aboveLimit}
-use Rattle.ieee754.specs.Nonneg.{nonneg, signClear, AtMost, UpTo, Within}
+use Rattle.ieee754.specs.Nonneg.{nonneg, signClear, AtMost}
 use Rattle.ieee754.proofs.Nonneg.{round-self}
-use Rattle.ieee754.proofs.Ranges.{round-within, add-within, mul-within, within-self, mul-is, div-is, sub-is, round-nonneg, round-cross}
-use Rattle.ieee754.proofs.Bounds.{held-power, mul-atmost, upto-atmost, upto-le, limit-upto, pattern-atmost}
+use Rattle.ieee754.proofs.Ranges.{Within, round-within, add-within, mul-within, within-self, mul-is, div-is, sub-is, round-nonneg, round-cross}
+use Rattle.ieee754.proofs.Bounds.{UpTo, held-power, mul-atmost, upto-atmost, upto-le, limit-upto, pattern-atmost}
 use Rattle.ieee754.proofs.Sums.{Each, narrowed-sum-atmost}
 use Rattle.sim.proofs.Inverses.{two-to, most-inverse, fine-one, fine-inverse, any-inverse-within}
 
