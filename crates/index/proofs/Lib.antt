@@ -1,9 +1,6 @@
 -- What the proofs of several functions use, and the laws that the crates above cite.
 pub mod Below
-pub mod High
-pub mod Gathered
 pub mod Whole
-pub mod Runs
 pub mod Known
 pub mod Values
 pub mod Parts
@@ -11,12 +8,3 @@ pub mod Words
 pub mod Refused
 pub mod Accepted
 pub mod PostingAt
-pub mod Prefix
-pub mod Joined
-pub mod From
-pub mod Gaps
-pub mod Over
-pub mod Rows
-pub mod Plain
-pub mod Adjoined
-pub mod Stretches

@@ -35,7 +35,7 @@ fn print_refusal(file: &[u32], norms: &[u8], live: &[u64], at: usize)
     let leaves = list(file, file[at + 4]);
     let columns = list(file, file[at + 7]);
     let query = list(file, file[at + 9]);
-    let index = index::check_index(
+    let index = index_check::check_index(
         file[at],
         fields,
         leaves,

@@ -23,7 +23,7 @@ pub fn check_order(
 ) -> u32
     ensures { λ r. ⌜ r ≡ lowest (orderConditions (lent «max_doc» (now (fields .entry)) (now (leaves .entry)) (now (postings .entry)) (now (positions .entry)) (now (norms .entry)) (now (live .entry)) (now (columns .entry)) (now (values .entry))) (now (q .entry))) ⌝ }
 {
-    let refusal = index::check_index(
+    let refusal = index_check::check_index(
         max_doc,
         fields,
         leaves,
