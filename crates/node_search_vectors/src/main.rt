@@ -205,6 +205,32 @@ fn print_same(numbers: bool, codes: bool) {
     io::write_all(1, b"different\n");
 }
 
+// Whether all words still hold the rubbish that they were lent with.
+fn untouched(words: &[u32]) -> bool {
+    let mut i = 0;
+    while i < words.len() {
+        if words[i] != 0xdead_beef {
+            return false;
+        }
+        i += 1;
+    }
+    true
+}
+
+// A refused call leaves the lent words as they were.
+fn print_room(s: Searched, words: &[u32]) {
+    match s {
+        Searched::Refused(_) => {
+            if untouched(words) {
+                io::write_all(1, b"room as it was\n");
+            } else {
+                io::write_all(1, b"room changed\n");
+            }
+        }
+        Searched::Found(_) => {}
+    }
+}
+
 // The whole case with k hits wanted and threshold t.
 fn with_words(k: u32, t: u32, states: &mut [u32], hits: &mut [i64]) -> Searched {
     let no_words = [0u32; 0];
@@ -274,6 +300,7 @@ fn compare(k: u32, t: u32) {
     print_answer(x, &hits);
     print_answer(y, &more);
     print_same(same_numbers(numbers(x), numbers(y)), same_codes(hits, more));
+    print_room(y, &words);
 }
 
 // Words for five.
@@ -287,6 +314,7 @@ fn compare_short(k: u32, t: u32) {
     print_answer(x, &hits);
     print_answer(y, &more);
     print_same(same_numbers(numbers(x), numbers(y)), same_codes(hits, more));
+    print_room(y, &words);
 }
 
 fn main() {
