@@ -20,7 +20,7 @@ use Rattle.weight.specs.ScorerTree.{term, Scoring, constant, weighted, leafScor
 use Rattle.weight.specs.State.{State}
 use Rattle.weight.specs.Held.{ScoringIs}
 use Rattle.scorer.specs.Search.{cursorAt}
-use Rattle.scorer.proofs.Runs.{cmp}
+use Rattle.meaning.proofs.Tests.{cmp}
 use Rattle.score.specs.declared.Node.{Node}
 use Rattle.score.specs.Words.{NodeIs}
 use Rattle.score.proofs.Leaves.{Read, read}

@@ -31,7 +31,7 @@ use Rattle.weight.specs.ScorerTree.{Joining, Scorer, leaf, boolean, Scorers, en
 use Rattle.weight.specs.Held.{LeafIs}
 use Rattle.weight.specs.Sound.{nodesOf}
 use Rattle.scorer.specs.Contracts.{Lent}
-use Rattle.scorer.proofs.Runs.{cmp}
+use Rattle.meaning.proofs.Tests.{cmp}
 use Rattle.score.specs.declared.Node.{Node}
 use Rattle.score.specs.Words.{NodeIs}
 use Rattle.score.specs.Asked.{LentAt}

@@ -28,7 +28,7 @@ use Rattle.collector.specs.declared.TopScoreDocCollector.{TopScoreDocCollector}
 use Rattle.collector.specs.declared.TopDocs.{TopDocs}
 use Rattle.collector.specs.Collected.{Collected, Ready, Extended, Drawn, answer}
 use Rattle.weight.specs.ScorerTree.{term, Scoring, Scorer, leaf, Scorers, end, more, matches, matching, optionalScores}
-use Rattle.scorer.proofs.Runs.{cmp}
+use Rattle.meaning.proofs.Tests.{cmp}
 use Rattle.scorer.proofs.Firsts.{matching-end}
 use Rattle.score.specs.Walks.{liveMatch, liveScored}
 use Rattle.bulk.specs.Windows.{TermsHeld, TermsAdded, Reached, PlaceIs, PlacePre, PlacePost, WindowIs, ByTerms}

@@ -24,7 +24,7 @@ use Rattle.collector.specs.declared.TopScoreDocCollector.{TopScoreDocCollector}
 use Rattle.collector.specs.declared.TopDocs.{TopDocs}
 use Rattle.collector.specs.Collected.{Collected, Ready, Extended, Drawn, answer}
 use Rattle.collector.proofs.Beginning.{ready-at, collected-later}
-use Rattle.scorer.proofs.Runs.{cmp}
+use Rattle.meaning.proofs.Tests.{cmp}
 use Rattle.weight.specs.ScorerTree.{Scorer, matches, scorerScore}
 use Rattle.score.specs.Walks.{liveMatch, scored, liveScored}
 use Rattle.score.proofs.Pages.{match-is, walk-next}

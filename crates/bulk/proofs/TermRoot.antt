@@ -26,7 +26,7 @@ use Rattle.weight.specs.ScorerTree.{Leaf, nothing, term, phrase, range, everyth
 use Rattle.weight.specs.Held.{normsWord, LeafIs, Ok}
 use Rattle.weight.specs.Sound.{LeafSound, Sound, LeafTable, Tables}
 use Rattle.scorer.specs.Contracts.{Lent}
-use Rattle.scorer.proofs.Runs.{cmp}
+use Rattle.meaning.proofs.Tests.{cmp}
 use Rattle.score.specs.declared.Node.{Node}
 use Rattle.score.specs.Words.{NodeIs}
 use Rattle.score.specs.Walks.{liveMatch, PageHeld}

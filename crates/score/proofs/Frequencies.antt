@@ -20,7 +20,7 @@ use Rattle.index.specs.Runs.{postingDocument, postingFrequency}
 use Rattle.index.proofs.PostingAt.{posting-is}
 use Rattle.weight.specs.Held.{RunAt}
 use Rattle.weight.specs.Sound.{LeafSound, EachTerm}
-use Rattle.score.proofs.Parts.{cmp}
+use Rattle.meaning.proofs.Tests.{cmp}
 
 -- what a scan from the cursor answers
 abbrev pub Scanned : List ℕ → ℕ → ℕ → ℕ → ℕ → ℕ → Type 0

@@ -6,19 +6,16 @@ use mathlib.Core.Bool.{false≢true}
 use mathlib.Core.List.{List, [], _∷_, _++_, append-assoc, append-nil}
 use Prim.Native.Nat.{ℕ, zero, suc, _+_, _-_, _*_, _≤_, _<_, max}
 use native.Mathlib.Nat.{le-refl}
-use native.Mathlib.Decide.{decLt}
 use native.Mathlib.Omega.{arith}
 use lib.ListN.{getD, length, take, drop, length-append, length-take, length-drop, take-append-drop}
 use lib.Seq.{take-at, drop-at, getD-append-add}
 use Rattle.meaning.specs.Lent.{Index}
+use Rattle.meaning.proofs.Tests.{cmp}
 use Rattle.weight.specs.ScorerTree.{Leaf, nothing, term, phrase, range, everything, Scorer, leaf, boolean, Scorers, end, more}
 use Rattle.weight.specs.State.{State, wordsOf, leafSize, sizeOf}
 use Rattle.weight.specs.Held.{Cache, LeafIs, Ok, Oks}
 use Rattle.scorer.proofs.Bounds.{leaf-sizes, ok-length, ok-long}
 use Rattle.score.specs.Words.{ChildThere}
-
-pub cmp : (a b : ℕ) → (a < b) ⊎ (b ≤ a)
-cmp a b = elim (decLt a b) as (λ _. (a < b) ⊎ (b ≤ a)) [ yes p ↦ inl p | no p ↦ inr (omega arith) ]
 
 -- ---- the kind in the first word of a scorer's part
 unfoldable pub leafKind : Leaf → ℕ

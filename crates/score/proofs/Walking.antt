@@ -25,7 +25,7 @@ use Rattle.score.specs.declared.walk.Listed.{Listed}
 use Rattle.scorer.specs.Contracts.{Lent, lent, RoomIn, NodeHeld, AdvancePre, AdvancePost}
 use Rattle.score.specs.Asked.{LentAt, ScoreIs, ScorePre, ScorePost}
 use Rattle.score.specs.Walks.{liveMatch, scored, liveScored, NextPre, NextPost, PageHeld, ListPre, PageIs, ListPost}
-use Rattle.score.proofs.Parts.{cmp}
+use Rattle.meaning.proofs.Tests.{cmp}
 use Rattle.score.proofs.Loops.{scorable-at}
 use Rattle.scorer.proofs.Bounds.{ok-mono}
 use Rattle.score.proofs.Pages.{match-is, walk-end, walk-next, page-given, page-all, write-next}

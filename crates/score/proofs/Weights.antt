@@ -24,7 +24,7 @@ use Rattle.index.specs.Accepted.{Accepted}
 use Rattle.weight.specs.Held.{normsWord, FloatIs}
 use Rattle.weight.specs.Sound.{FieldTable}
 use Rattle.score.specs.Words.{byteAt}
-use Rattle.score.proofs.Parts.{cmp}
+use Rattle.meaning.proofs.Tests.{cmp}
 
 -- a score in words
 pub float-back : (x : Float) (bits : ℕ) → FloatIs x bits → ofBits binary32 bits ≡ x

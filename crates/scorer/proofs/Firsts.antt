@@ -15,7 +15,7 @@ use Rattle.meaning.specs.First.{First}
 use Rattle.weight.specs.ScorerTree.{Joining, Scorer, Scorers, end, more, boolean, matches, allMatch, anyMatches, matching}
 use Rattle.weight.specs.Held.{Cache}
 use Rattle.scorer.specs.Contracts.{Passes, leads, takes, LeastIs}
-use Rattle.scorer.proofs.Runs.{cmp}
+use Rattle.meaning.proofs.Tests.{cmp}
 
 pub first-to : {P : ℕ → Bool} {t r : ℕ} → First P t r → (s : ℕ) → r ≡ s → First P t s
 first-to {P} {t} p s e = subst (λ (j : ℕ). First P t j) e p

@@ -22,10 +22,10 @@ use Rattle.weight.specs.ScorerTree.{Leaf, nothing, term, phrase, range, everyth
 use Rattle.weight.specs.State.{State, wordsOf}
 use Rattle.weight.specs.Held.{RunAt, TermIs, RangeIs, LeafIs}
 use Rattle.weight.specs.Sound.{LeafSound}
-use Rattle.scorer.specs.Run.{documentAt, Run, Lower}
+use Rattle.run.specs.Run.{documentAt, Run, Lower}
 use Rattle.scorer.specs.Search.{cursorAt, SearchHeld, SearchMoved, SearchPost, AnyDocument}
 use Rattle.scorer.specs.Contracts.{Lent, LeafHeld, LeafMoved, LeafPost}
-use Rattle.scorer.proofs.Runs.{cmp}
+use Rattle.meaning.proofs.Tests.{cmp}
 
 -- ---- `search`
 module _ (words : List ℕ) (stride : ℕ) (st : List ℕ) (t f n u : ℕ) (ef : f ≡ getD st 6 0) (en : n ≡ getD st 7 0) (eu : u ≡ getD st 8 0) where

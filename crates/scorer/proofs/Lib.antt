@@ -1,5 +1,4 @@
 -- The laws of the scorer tree that the proofs of this crate and of those above it cite.
-pub mod Runs
 pub mod Bounds
 pub mod Firsts
 pub mod Children

@@ -14,7 +14,7 @@ use Rattle.meaning.specs.Lent.{Index}
 use Rattle.meaning.specs.First.{First}
 use Rattle.weight.specs.ScorerTree.{Scorer, Scorers, end, more, matches, allMatch, matching}
 use Rattle.scorer.specs.Contracts.{Lent, AdvancePost, PartsHeld, Tally, LeastIs, Passes}
-use Rattle.scorer.proofs.Runs.{cmp}
+use Rattle.meaning.proofs.Tests.{cmp}
 use Rattle.scorer.proofs.Firsts.{matching-hit, matching-miss, matching-end, all-hit, all-miss, all-rest, all-end}
 use Rattle.scorer.proofs.Children.{Zip, View, zip-start, zip-later, zip-end, zip-none, view, zip-took, zip-skip, of-advance, of-cached}
 

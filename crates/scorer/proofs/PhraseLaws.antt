@@ -13,13 +13,15 @@ use lib.IntN.{ℤ}
 use lib.ListN.{getD, length, take, drop, set, length-append, length-take, length-drop, length-set}
 use lib.Seq.{take-at, drop-at, take-length, drop-length, getD-append-add, getD-set-same, getD-set-other, take-suc-set}
 use borrow.Author.Tests.{ltb-false, ltb-true, lt-ltb, le-ltb}
-use Rattle.meaning.specs.Below.{largestBelow, listTo}
+use Rattle.meaning.specs.Below.{listTo}
 use Rattle.meaning.specs.CallRefusals.{largestIn}
 use Rattle.meaning.specs.Limits.{noMoreDocs}
 use Rattle.meaning.specs.Lent.{Index, leafNumber, leafFirst, leafDocument, leafFrequency, leafPositionsIndex, leafPosition, leafField, leafCount, hasPositions}
 use Rattle.meaning.specs.Postings.{postingAt, found, positionsOf}
 use Rattle.meaning.specs.Phrase.{PhraseTerm, starts, termStarts, multiplicity, smallest, commonSize, phraseFrequency}
 use Rattle.meaning.specs.First.{First}
+use Rattle.meaning.proofs.Tests.{cmp}
+use Rattle.meaning.proofs.Below.{largest-at}
 use Rattle.meaning.proofs.Phrases.{common-start, smallest-head}
 use Rattle.index.specs.Accepted.{Accepted}
 use Rattle.index.proofs.PostingAt.{posting-at}
@@ -30,7 +32,6 @@ use Rattle.weight.specs.Held.{TermIs, TermsAre}
 use Rattle.weight.specs.Sound.{PhraseTermIs, EachTerm, LeafSound}
 use Rattle.scorer.specs.Search.{cursorAt, SearchHeld, SearchMoved, SearchPost}
 use Rattle.scorer.specs.Phrases.{allFound, LeavesThere, TermsAt, TermsHeld, TermsPassed, Leapt, Gathered, GatherHeld, GatheredTo, PlaceAt, PlaceRead, FrequencyHeld, PhraseHeld, PhraseMoved, workedAt}
-use Rattle.scorer.proofs.Runs.{cmp}
 use Rattle.scorer.proofs.Bounds.{term-mono, terms-mono, terms-length}
 use Rattle.scorer.proofs.LeafLaws.{term-run, term-moved, term-stands, term-first}
 
@@ -284,11 +285,6 @@ module _ {postings : List ℕ} {ix : Index} {ts : List PhraseTerm} {d : ℕ} {te
               }
 
 -- ---- the frequency
-pub largest-at : (n : ℕ) (f : ℕ → ℕ) (i : ℕ) → i < n → f i ≤ largestBelow n f
-unfolding largestBelow
-largest-at zero f i h = absurd (omega arith)
-largest-at (suc n) f i h = ⊎-elim (λ g. omega (arith, largest-at n f i g)) (λ g. let e : i ≡ n = omega arith in omega (arith, ap f e)) (cmp i n)
-
 pub gathered-length : (ix : Index) (ts : List PhraseTerm) (d : ℕ) (l : List ℕ) → Gathered ix ts d l → length l ≡ 3 * length ts
 unfolding Gathered
 gathered-length ix [] d l p = ap length p

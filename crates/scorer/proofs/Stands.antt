@@ -15,8 +15,8 @@ use Rattle.index.specs.Accepted.{Accepted}
 use Rattle.index.proofs.PostingAt.{posting-is, posting-at}
 use Rattle.weight.specs.State.{State}
 use Rattle.weight.specs.Held.{TermIs}
-use Rattle.scorer.specs.Run.{Lower}
-use Rattle.scorer.proofs.Runs.{cmp}
+use Rattle.run.specs.Run.{Lower}
+use Rattle.meaning.proofs.Tests.{cmp}
 
 -- the first document from one that is taken is that one, and the other way round
 pub first-here : {P : ℕ → Bool} {d r : ℕ} → First P d r → P d ≡ true → r ≡ d

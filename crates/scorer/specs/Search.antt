@@ -5,7 +5,7 @@ use Prim.Native.Nat.{ℕ, _≤_, _<_}
 use lib.ListN.{getD}
 use Rattle.meaning.specs.Limits.{noMoreDocs}
 use Rattle.weight.specs.State.{State, wordsOf}
-use Rattle.scorer.specs.Run.{documentAt, Run}
+use Rattle.run.specs.Run.{documentAt, Run}
 
 -- a record with another cursor
 abbrev pub cursorAt : State → ℕ → State

@@ -6,9 +6,9 @@ ghost use Rattle.scorer.specs.Search.{CursorRead, SearchPre, SearchPost,
 ghost use Rattle.scorer.specs.Phrases.{TermsPre, PassTermsPost, LeapfrogPost, PlaceAt, PlaceRead, GatherPre, GatherPost, FrequencyPre, FrequencyPost, PhrasePre, PhrasePost};
 ghost use Rattle.scorer.specs.Contracts.{lent, LeafPre, LeafPost};
 use super::NO_MORE_DOCS;
-use super::run::document;
-use super::run::lower;
 use super::wide;
+use run::document;
+use run::lower;
 
 const TERM: u32 = 1;
 

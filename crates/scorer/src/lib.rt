@@ -1,6 +1,5 @@
 // Scorers over a lent state: the words of a node are its record of 24 and then its children's parts, one after the other.
 pub mod leaves;
-pub mod run;
 
 ghost use Prim.Native.Nat.{ℕ, _+_, _≤_, _<_};
 ghost use mathlib.Core.Path.{_≡_};

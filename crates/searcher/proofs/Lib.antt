@@ -4,7 +4,6 @@ pub mod Preparing
 pub mod Refusing
 pub mod CallConditions
 pub mod Answering
-pub mod Lowest
 pub mod RangeEntry
 pub mod PickEntry
 pub mod TermWords

@@ -21,7 +21,7 @@ use Rattle.collector.proofs.Best.{written-part}
 use Rattle.searcher.specs.declared.pick.Picked.{Picked}
 use Rattle.searcher.specs.declared.pick.Picked.the-variants as Picked
 use Rattle.searcher.specs.Answers.{pickedNumbers}
-use Rattle.searcher.proofs.Lowest.{lowest-here, lowest-past, lowest-zero, answered-refused, answered-accepted}
+use Rattle.meaning.proofs.Lowest.{lowest-here, lowest-past, lowest-zero, answered-refused, answered-accepted}
 
 -- ---- the lists
 module _ (documents scores : List ℕ) where

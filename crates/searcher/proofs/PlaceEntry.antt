@@ -20,7 +20,7 @@ use Rattle.meaning.specs.IndexRefusals.{wrongPosition, wrongPositions}
 use Rattle.meaning.specs.CallRefusals.{Work, largestIn, startsNeeded, startsShort, wrong13Place}
 use Rattle.meaning.specs.Entries.{orderConditions, Kept, answered, placeRefusal, placeRight, PlaceFound, PlaceAnswer}
 use Rattle.meaning.proofs.Tests.{true-left, true-right, or-left, or-right, or-3}
-use Rattle.meaning.proofs.Below.{any-none}
+use Rattle.meaning.proofs.Below.{any-none, largest-at}
 use Rattle.index.specs.Accepted.{Accepted, PostingOk}
 use Rattle.index.proofs.PostingAt.{posting-is}
 use Rattle.query.proofs.Inverse.{phrase-at}
@@ -36,13 +36,12 @@ use Rattle.weight.specs.ScorerTree.{phrase}
 use Rattle.weight.specs.Sound.{EachTerm, LeafSound}
 use Rattle.weight.proofs.Sounds.{TreeSound}
 use Rattle.weight.proofs.Queries.{tree-sound}
-use Rattle.scorer.proofs.PhraseLaws.{largest-at}
 use Rattle.searcher.specs.declared.place.Placed.{Placed}
 use Rattle.searcher.specs.declared.place.Placed.the-variants as Placed
 use Rattle.searcher.specs.Lends.{work}
 use Rattle.searcher.specs.Answers.{placedNumbers}
 use Rattle.searcher.proofs.Refusing.{first-holds, second-holds, neither-holds, neither-held, order-asks, order-refused, order-passed, order-accepted}
-use Rattle.searcher.proofs.Lowest.{kept-same, kept-accepted}
+use Rattle.meaning.proofs.Lowest.{kept-same, kept-accepted}
 
 -- ---- each way out
 module _ (ix : Index) (q : List ℕ) (r d : ℕ) (w : Work) where

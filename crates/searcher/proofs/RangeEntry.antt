@@ -17,7 +17,7 @@ use Rattle.index.specs.Slices.{lent}
 use Rattle.meaning.proofs.Tests.{true-left, true-right, or-right}
 use Rattle.searcher.specs.declared.range.Ranged.the-variants as Ranged
 use Rattle.searcher.specs.Answers.{rangedNumbers}
-use Rattle.searcher.proofs.Lowest.{lowest-here, lowest-past, lowest-zero, answered-refused, answered-accepted, kept-same, kept-accepted}
+use Rattle.meaning.proofs.Lowest.{lowest-here, lowest-past, lowest-zero, answered-refused, answered-accepted, kept-same, kept-accepted}
 
 -- a range is wrong by the columns alone
 pub wrong-by-columns : (n : ℕ) (columns values : List ℕ) (r : NumericRange) → wrongRange (columnsOnly 0 columns []) r ≡ wrongRange (columnsOnly n columns values) r

@@ -21,7 +21,7 @@ use Rattle.query.proofs.Accepted.{phrase-term-right}
 use Rattle.query.proofs.Whole.{whole}
 use Rattle.weight.specs.Measured.{Asks}
 use Rattle.searcher.specs.Lends.{QueryLent}
-use Rattle.searcher.proofs.Lowest.{lowest-zero}
+use Rattle.meaning.proofs.Lowest.{lowest-zero}
 
 above-zero : (n : ℕ) → (n ≡ 0 → ⊥) → 0 < n
 above-zero n h = ⊎-elim (λ e. absurd (h (sym e))) (λ l. l) (eq-or-lt-of-le {n = 0} {m = n} (omega arith))

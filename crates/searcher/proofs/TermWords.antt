@@ -17,7 +17,7 @@ use Rattle.meaning.proofs.Tests.{cmp}
 use Rattle.meaning.proofs.Below.{listTo-next}
 use Rattle.index.specs.Slices.{leavesOnly}
 use Rattle.index.proofs.PostingAt.{posting-at, posting-none}
-use Rattle.scorer.specs.Run.{documentAt, Run, Lower}
+use Rattle.run.specs.Run.{documentAt, Run, Lower}
 use Rattle.phrase.specs.Words.{firstOf, phraseWords}
 use Rattle.weight.proofs.Measures.{TermsHere, terms-here}
 use Rattle.searcher.specs.Lends.{QueryLent}

@@ -21,7 +21,7 @@ use index::postings::posting_document;
 use index::postings::posting_frequency;
 use index::postings::posting_index;
 use index::wide;
-use scorer::run::lower;
+use run::lower;
 
 pub enum Placed {
     Refused(u32),

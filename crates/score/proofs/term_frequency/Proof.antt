@@ -6,7 +6,7 @@ use native.Mathlib.Omega.{arith}
 use native.Mathlib.Nat.{eq-or-lt-of-le}
 use borrow.Author.Count.{below-more}
 use Rattle.index.specs.Runs.{postingDocument, postingFrequency}
-use Rattle.score.proofs.Parts.{cmp}
+use Rattle.meaning.proofs.Tests.{cmp}
 use Rattle.score.proofs.term_frequency.Statement.{statement}
 use Rattle.score.proofs.term_frequency.Tie as tie
 

@@ -6,7 +6,7 @@ use mathlib.Core.Logic.{⊎-elim}
 use Prim.Native.Nat.{ℕ, _+_, _-_, _*_, _<_}
 use native.Mathlib.Omega.{arith}
 use lib.ListN.{length, getD}
-use Rattle.scorer.proofs.Runs.{cmp}
+use Rattle.meaning.proofs.Tests.{cmp}
 use Rattle.bulk.proofs.terms.terms_from.Statement.{statement}
 use Rattle.bulk.proofs.terms.terms_from.Tie as tie
 

@@ -15,8 +15,8 @@ use Rattle.scorer.proofs.leaves.search.Tie as tie
 use Rattle.scorer.proofs.leaves.search.Reads as reads
 use Rattle.scorer.proofs.leaves.search.Lts as lts
 use Rattle.scorer.proofs.leaves.cursor_at.Reads as cursor-at-reads
-use Rattle.scorer.proofs.run.document.Reads as document-reads
-use Rattle.scorer.proofs.run.lower.Reads as lower-reads
+use Rattle.run.proofs.document.Reads as document-reads
+use Rattle.run.proofs.lower.Reads as lower-reads
 
 -- src/leaves.rt:47:9
 cursor-at-requires : tie.Need-cursor-at-requires

@@ -11,7 +11,7 @@ use Rattle.scorer.proofs.leaves.search_postings.Reads as reads
 use Rattle.scorer.proofs.leaves.search_postings.Lts as lts
 use Rattle.scorer.proofs.leaves.cursor_at.Reads as cursor-at-reads
 use Rattle.scorer.proofs.leaves.search.Reads as search-reads
-use Rattle.scorer.proofs.run.document.Reads as document-reads
+use Rattle.run.proofs.document.Reads as document-reads
 
 cursor-at-requires : tie.Need-cursor-at-requires
 cursor-at-requires c κs = let s = (c .before .before .before) in omega (arith, ap length (s .pre .2 .words-are))

@@ -1,11 +1,11 @@
 use borrow.Author.Needs.{needs}
 use native.Mathlib.Omega.{arith}
 use Prim.Native.Nat.{_+_}
-use Rattle.scorer.proofs.Runs.{factor-le}
-use Rattle.scorer.proofs.run.document.Statement.{statement}
-use Rattle.scorer.proofs.run.document.Tie as tie
-use Rattle.scorer.proofs.run.document.Reads as reads
-use Rattle.scorer.proofs.run.document.Lts as lts
+use Rattle.run.proofs.Runs.{factor-le}
+use Rattle.run.proofs.document.Statement.{statement}
+use Rattle.run.proofs.document.Tie as tie
+use Rattle.run.proofs.document.Reads as reads
+use Rattle.run.proofs.document.Lts as lts
 
 -- src/run.rt:14:21
 add-result : tie.Need-add-result

@@ -1,11 +1,11 @@
 use Prim.Native.Nat.{_+_, _-_, _/_}
 use native.Mathlib.Omega.{arith}
-use Rattle.scorer.proofs.Runs.{Ends, front-start, ends-low, ends-high, ends-meet}
-use Rattle.scorer.proofs.run.halve.Statement.{statement}
-use Rattle.scorer.proofs.run.halve.Tie as tie
-use Rattle.scorer.proofs.run.halve.Reads as reads
-use Rattle.scorer.proofs.run.halve.Lts as lts
-use Rattle.scorer.proofs.run.document.Reads as document-reads
+use Rattle.run.proofs.Runs.{Ends, front-start, ends-low, ends-high, ends-meet}
+use Rattle.run.proofs.halve.Statement.{statement}
+use Rattle.run.proofs.halve.Tie as tie
+use Rattle.run.proofs.halve.Reads as reads
+use Rattle.run.proofs.halve.Lts as lts
+use Rattle.run.proofs.document.Reads as document-reads
 
 abbrev Inv-loop : tie.InvT-loop
 Inv-loop words stride first count from to target low₀ high₀ low high = Ends words stride first count from target low high

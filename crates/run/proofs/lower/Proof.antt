@@ -1,12 +1,12 @@
-use Rattle.scorer.proofs.Runs.{Front, front-start, front-past, front-lower, front-here}
+use Rattle.run.proofs.Runs.{Front, front-start, front-past, front-lower, front-here}
 use native.Mathlib.Omega.{arith}
 use Prim.Native.Nat.{_+_, _-_, _*_}
-use Rattle.scorer.proofs.run.lower.Statement.{statement}
-use Rattle.scorer.proofs.run.lower.Tie as tie
-use Rattle.scorer.proofs.run.lower.Reads as reads
-use Rattle.scorer.proofs.run.lower.Lts as lts
-use Rattle.scorer.proofs.run.document.Reads as document-reads
-use Rattle.scorer.proofs.run.gallop.Reads as gallop-reads
+use Rattle.run.proofs.lower.Statement.{statement}
+use Rattle.run.proofs.lower.Tie as tie
+use Rattle.run.proofs.lower.Reads as reads
+use Rattle.run.proofs.lower.Lts as lts
+use Rattle.run.proofs.document.Reads as document-reads
+use Rattle.run.proofs.gallop.Reads as gallop-reads
 
 abbrev Inv-loop : tie.InvT-loop
 Inv-loop words stride first count from target at₀ at = Front words stride first count from target at

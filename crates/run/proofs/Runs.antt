@@ -1,16 +1,13 @@
 -- The search in a run of documents that ascend. Assumes nothing.
 use mathlib.Core.Path.{_≡_, refl, ap, subst}
-use mathlib.Core.Logic.{_⊎_, inl, inr, ⊎-elim}
+use mathlib.Core.Logic.{⊎-elim}
 use mathlib.Core.List.{List}
 use Prim.Native.Nat.{ℕ, zero, suc, _+_, _*_, _≤_, _<_}
 use native.Mathlib.Nat.{eq-or-lt-of-le, mul-comm, mul-suc}
-use native.Mathlib.Decide.{decLt}
 use native.Mathlib.Omega.{arith}
 use lib.ListN.{length}
-use Rattle.scorer.specs.Run.{documentAt, Run, Lower, Between}
-
-pub cmp : (a b : ℕ) → (a < b) ⊎ (b ≤ a)
-cmp a b = elim (decLt a b) as (λ _. (a < b) ⊎ (b ≤ a)) [ yes p ↦ inl p | no p ↦ inr (omega arith) ]
+use Rattle.meaning.proofs.Tests.{cmp}
+use Rattle.run.specs.Run.{documentAt, Run, Lower, Between}
 
 -- a factor above 0 makes no product smaller
 pub factor-le : (k n : ℕ) → 0 < k → n ≤ k * n

@@ -1,13 +1,13 @@
-use Rattle.scorer.proofs.Runs.{Front, front-start, front-past, front-lower}
+use Rattle.run.proofs.Runs.{Front, front-start, front-past, front-lower}
 use native.Mathlib.Nat.{le-refl}
 use native.Mathlib.Omega.{arith}
 use Prim.Native.Nat.{_+_, _-_, _*_}
-use Rattle.scorer.proofs.run.gallop.Statement.{statement}
-use Rattle.scorer.proofs.run.gallop.Tie as tie
-use Rattle.scorer.proofs.run.gallop.Reads as reads
-use Rattle.scorer.proofs.run.gallop.Lts as lts
-use Rattle.scorer.proofs.run.document.Reads as document-reads
-use Rattle.scorer.proofs.run.halve.Reads as halve-reads
+use Rattle.run.proofs.gallop.Statement.{statement}
+use Rattle.run.proofs.gallop.Tie as tie
+use Rattle.run.proofs.gallop.Reads as reads
+use Rattle.run.proofs.gallop.Lts as lts
+use Rattle.run.proofs.document.Reads as document-reads
+use Rattle.run.proofs.halve.Reads as halve-reads
 
 abbrev Inv-loop : tie.InvT-loop
 Inv-loop words stride first count from target low₀ step₀ low step = Front words stride first count from target low

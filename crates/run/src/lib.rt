@@ -2,7 +2,7 @@
 ghost use mathlib.Core.Path.{_≡_};
 ghost use Prim.Native.Nat.{ℕ, _+_, _*_, _≤_, _<_};
 ghost use lib.ListN.{length};
-ghost use Rattle.scorer.specs.Run.{documentAt, Run, Lower, Between};
+ghost use Rattle.run.specs.Run.{documentAt, Run, Lower, Between};
 
 // So many postings are looked at one after the other before the search takes longer steps.
 const NEAR: usize = 4;
