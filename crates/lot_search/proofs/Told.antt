@@ -19,9 +19,10 @@ use Rattle.searcher.specs.declared.search.Searched.{Searched}
 use Rattle.searcher.specs.declared.search.Searched.the-variants as Searched
 use Rattle.searcher.specs.declared.page.Paged.{Paged}
 use Rattle.searcher.specs.declared.page.Paged.the-variants as Paged
-use Rattle.searcher.specs.declared.pick.Picked.{Picked}
-use Rattle.searcher.specs.declared.pick.Picked.the-variants as Picked
-use Rattle.searcher.specs.Answers.{searchedNumbers, pagedNumbers, pickedNumbers}
+use Rattle.pick_entry.specs.declared.Picked.{Picked}
+use Rattle.pick_entry.specs.declared.Picked.the-variants as Picked
+use Rattle.searcher.specs.Answers.{searchedNumbers, pagedNumbers}
+use Rattle.pick_entry.specs.Answers.{pickedNumbers}
 use Rattle.lot_search.specs.Border.{shortAnswer, borderSearch, borderPage, borderPick, topNumbers, pageNumbers}
 use Rattle.lot_search.proofs.Short.{short-refuses, search-short, search-long, page-short, page-long, pick-short, pick-long}
 

@@ -31,7 +31,7 @@ use Rattle.scorer.specs.Contracts.{lent}
 use Rattle.scorer.proofs.Bounds.{ok-mono}
 use Rattle.score.specs.declared.walk.Listed.{Listed}
 use Rattle.score.specs.Walks.{liveScored, PageHeld, PageIs}
-use Rattle.searcher.proofs.Rooms.{starts-room}
+use Rattle.order_check.proofs.Rooms.{starts-room}
 use Rattle.inverses.proofs.QueryTables.{query-tables}
 
 -- ---- the tree in the node states

@@ -8,7 +8,7 @@ ghost use Rattle.meaning.specs.Entries.{Kept, pageOf, pageRefusal, pageAnswer, 
 ghost use Rattle.index.specs.Slices.{lent};
 ghost use Rattle.weight.specs.Measured.{Asks};
 ghost use Rattle.score.specs.Walks.{PageIs};
-ghost use Rattle.searcher.specs.Lends.{work};
+ghost use Rattle.order_check.specs.Lends.{work};
 ghost use Rattle.searcher.specs.Answers.{pagedNumbers};
 use score::walk::Listed;
 
@@ -39,7 +39,7 @@ pub fn page_refusal(
 ) -> u32
     ensures { λ r. ⌜ r ≡ pageRefusal (lent «max_doc» (now (fields .entry)) (now (leaves .entry)) (now (postings .entry)) (now (positions .entry)) (now (norms .entry)) (now (live .entry)) (now (columns .entry)) (now (values .entry))) (now (q .entry)) target (work states starts «other_starts» ranges) documents scores ⌝ }
 {
-    let refusal = crate::order::check_order(
+    let refusal = order_check::check_order(
         max_doc,
         fields,
         leaves,
@@ -54,7 +54,7 @@ pub fn page_refusal(
     if refusal != 0 {
         return refusal;
     }
-    if crate::order::work_short(
+    if order_check::work_short(
         max_doc,
         leaves,
         postings,
