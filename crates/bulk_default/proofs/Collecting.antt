@@ -26,7 +26,7 @@ use Rattle.collector.proofs.Beginning.{ready-at}
 use Rattle.weight.specs.ScorerTree.{Scorer, matches}
 use Rattle.weight.specs.Held.{Ok}
 use Rattle.scorer.specs.Contracts.{Lent, lent, NodeHeld}
-use Rattle.scorer.proofs.Bounds.{ok-mono}
+use Rattle.leaf_scorer.proofs.Bounds.{ok-mono}
 use Rattle.score.specs.Asked.{LentAt, ScoreIs, ScorePre, ScorePost}
 use Rattle.score.specs.Walks.{liveMatch, scored, liveScored, NextPre, NextPost, PageHeld}
 use Rattle.score.proofs.Loops.{scorable-at}

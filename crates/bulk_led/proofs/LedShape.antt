@@ -14,7 +14,7 @@ use Rattle.weight.specs.State.{State, wordsOf, sizesOf}
 use Rattle.weight.specs.Held.{LeafIs, ScoringIs, KeptIs, Ok, Oks}
 use Rattle.weight.specs.Sound.{Lends, LeafSound, Sound, Sounds, LeafTable, Tables, TablesOf, nodes, nodesOf}
 use Rattle.scorer.specs.Contracts.{Lent, PartsHeld}
-use Rattle.scorer.proofs.Bounds.{oks-length, ok-long}
+use Rattle.leaf_scorer.proofs.Bounds.{oks-length, ok-long}
 use Rattle.scorer.proofs.Leads.{rest-part, rest-back, parts-later}
 use Rattle.score.specs.Asked.{Scorable}
 use Rattle.bulk_led.specs.Led.{LedWords, LedParts}

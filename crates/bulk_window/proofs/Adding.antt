@@ -19,7 +19,7 @@ use Rattle.index.proofs.PostingAt.{posting-at, posting-is, posting-absent}
 use Rattle.weight.specs.ScorerTree.{term, Scoring, constant, weighted, leafScore}
 use Rattle.weight.specs.State.{State}
 use Rattle.weight.specs.Held.{ScoringIs}
-use Rattle.scorer.specs.Search.{cursorAt}
+use Rattle.leaf_scorer.specs.Search.{cursorAt}
 use Rattle.meaning.proofs.Tests.{cmp}
 use Rattle.score.specs.declared.Node.{Node}
 use Rattle.score.specs.Words.{NodeIs}

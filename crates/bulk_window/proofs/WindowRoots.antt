@@ -18,7 +18,7 @@ use Rattle.weight.specs.State.{State, wordsOf, sizesOf}
 use Rattle.weight.specs.Held.{LeafIs, KeptIs, Ok, Oks}
 use Rattle.weight.specs.Sound.{LeafSound, Sound, Sounds, LeafTable, Tables, TablesOf, nodes, nodesOf}
 use Rattle.scorer.specs.Contracts.{Lent}
-use Rattle.scorer.proofs.Bounds.{ok-length, ok-long, oks-length}
+use Rattle.leaf_scorer.proofs.Bounds.{ok-length, ok-long, oks-length}
 use Rattle.scorer.proofs.Nodes.{leaf-kind}
 use Rattle.score.specs.Walks.{PageHeld}
 use Rattle.score.proofs.Alone.{group-alone as alone}

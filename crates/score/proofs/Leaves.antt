@@ -25,7 +25,7 @@ use Rattle.weight.specs.Held.{normsWord, TermIs, PhraseIs, LeafIs, FloatIs}
 use Rattle.weight.specs.Sound.{Lends, LeafSound, EachTerm, FieldTable, LeafTable}
 use Rattle.score.specs.declared.Node.{Node}
 use Rattle.score.specs.Words.{NodeIs, byteAt}
-use Rattle.scorer.specs.Phrases.{PhraseHeld}
+use Rattle.leaf_scorer.specs.Phrases.{PhraseHeld}
 use Rattle.score.specs.Asked.{LentAt, LeafAsks, LeafKept, Same, FrequencyPost}
 use Rattle.score.proofs.Frequencies.{Scanned, scanned, phrase-frequency-few}
 use Rattle.score.proofs.Weights.{float-back, float-number, norm-there, norm-is, inverse-there, weighted-is, weighted-small}

@@ -14,7 +14,7 @@ use Rattle.meaning.proofs.Tests.{cmp}
 use Rattle.weight.specs.ScorerTree.{Leaf, nothing, term, phrase, range, everything, Scorer, leaf, boolean, Scorers, end, more}
 use Rattle.weight.specs.State.{State, wordsOf, leafSize, sizeOf}
 use Rattle.weight.specs.Held.{Cache, LeafIs, Ok, Oks}
-use Rattle.scorer.proofs.Bounds.{leaf-sizes, ok-length, ok-long}
+use Rattle.leaf_scorer.proofs.Bounds.{leaf-sizes, ok-length, ok-long}
 use Rattle.score.specs.Words.{ChildThere}
 
 -- ---- the kind in the first word of a scorer's part

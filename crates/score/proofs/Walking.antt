@@ -27,7 +27,7 @@ use Rattle.score.specs.Asked.{LentAt, ScoreIs, ScorePre, ScorePost}
 use Rattle.score.specs.Walks.{liveMatch, scored, liveScored, NextPre, NextPost, PageHeld, ListPre, PageIs, ListPost}
 use Rattle.meaning.proofs.Tests.{cmp}
 use Rattle.score.proofs.Loops.{scorable-at}
-use Rattle.scorer.proofs.Bounds.{ok-mono}
+use Rattle.leaf_scorer.proofs.Bounds.{ok-mono}
 use Rattle.score.proofs.Pages.{match-is, walk-end, walk-next, page-given, page-all, write-next}
 
 -- ---- what is a live match

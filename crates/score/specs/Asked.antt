@@ -14,7 +14,7 @@ use Rattle.weight.specs.ScorerTree.{Leaf, weighted, Scorer, Scorers, Joining, o
 use Rattle.weight.specs.State.{State, wordsOf, sizesOf, sizesOfFirst}
 use Rattle.weight.specs.Held.{PhraseIs, LeafIs, FloatIs, Ok, Oks}
 use Rattle.weight.specs.Sound.{Lends, LeafSound, Sound, Sounds, LeafTable, Tables, TablesOf, nodes, nodesOf}
-use Rattle.scorer.specs.Phrases.{PhraseHeld}
+use Rattle.leaf_scorer.specs.Phrases.{PhraseHeld}
 use Rattle.score.specs.declared.Node.{Node}
 
 -- an accepted index whose N, postings, positions and norms are those that are lent, and a document of it

@@ -143,7 +143,7 @@ fn phrase_frequency(
     if wide(st[16]) == wide(doc) + 1 {
         return st[17];
     }
-    let _d = scorer::leaves::seek_phrase(st, postings, positions, a, b, doc);
+    let _d = leaf_scorer::seek_phrase(st, postings, positions, a, b, doc);
     st[17]
 }
 

@@ -13,8 +13,9 @@ use Rattle.weight.specs.ScorerTree.{Scorer, Scorers, end, more, matches}
 use Rattle.weight.specs.State.{State, wordsOf}
 use Rattle.weight.specs.Held.{Cache, Ok, Oks}
 use Rattle.weight.specs.Sound.{Lends, Sound, Sounds}
-use Rattle.scorer.specs.Contracts.{Lent, NodeHeld, AdvancePost, PartsHeld, ChildAt, ChildRead}
-use Rattle.scorer.proofs.Bounds.{Front, front-long, front-size, ok-mono, oks-mono, ok-front, ok-cached, ok-term}
+use Rattle.scorer.specs.Contracts.{NodeHeld, AdvancePost, PartsHeld, ChildAt, ChildRead}
+use Rattle.leaf_scorer.specs.Contracts.{Lent}
+use Rattle.leaf_scorer.proofs.Bounds.{Front, front-long, front-size, ok-mono, oks-mono, ok-front, ok-cached, ok-term}
 
 -- g are the children that are left, whose words are z; the words before them are x. Nothing is said of those passed but how to put them back.
 pub record Zip (E : Lent) (ix : Index) (p k : ℕ) (fs g : Scorers) (kids : List ℕ) (at t : ℕ) : Type 0 where
@@ -146,9 +147,6 @@ module _ {E : Lent} {ix : Index} {p k : ℕ} {fs : Scorers} {kids : List ℕ} {a
   pub child-held : (g : Scorers) → Zip E ix p k fs g kids at t → at < length kids → (e : ℕ) → e ≡ at + getD kids (at + 1) 0 → (T : Scorer) × (o : ℕ) × NodeHeld E ix p T k o (take (e - at) (drop at kids)) t
   child-held end q l e h = absurd (omega (arith, zip-none q))
   child-held (more f T g) q l e h = (T, cond f 1 0, held (view q) e h)
-
-pub back-length : (kids ys : List ℕ) (at e : ℕ) → length ys ≡ length (take (e - at) (drop at kids)) → length (take at kids ++ (ys ++ drop (e - at) (drop at kids))) ≡ length kids
-back-length kids ys at e h = simp (length-append, length-take, length-drop, h) (omega arith)
 
 -- the first word of a child's part is its kind
 pub child-kind : (kids : List ℕ) (at e : ℕ) → ChildAt kids at → e ≡ at + getD kids (at + 1) 0 → getD (take (e - at) (drop at kids)) 0 0 ≡ getD kids at 0

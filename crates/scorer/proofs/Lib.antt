@@ -1,13 +1,8 @@
 -- The laws of the scorer tree that the proofs of this crate and of those above it cite.
-pub mod Bounds
 pub mod Firsts
 pub mod Children
 pub mod Loops
 pub mod Leads
 pub mod Nodes
-pub mod LeafLaws
-pub mod PhraseLaws
-pub mod Seeks
 pub mod Terms
-pub mod Stands
 pub mod Example

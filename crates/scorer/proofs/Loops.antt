@@ -13,25 +13,11 @@ use Rattle.meaning.specs.Limits.{noMoreDocs}
 use Rattle.meaning.specs.Lent.{Index}
 use Rattle.meaning.specs.First.{First}
 use Rattle.weight.specs.ScorerTree.{Scorer, Scorers, end, more, matches, allMatch, matching}
-use Rattle.scorer.specs.Contracts.{Lent, AdvancePost, PartsHeld, Tally, LeastIs, Passes}
+use Rattle.scorer.specs.Contracts.{AdvancePost, PartsHeld, Tally, LeastIs, Passes}
+use Rattle.leaf_scorer.specs.Contracts.{Lent}
 use Rattle.meaning.proofs.Tests.{cmp}
 use Rattle.scorer.proofs.Firsts.{matching-hit, matching-miss, matching-end, all-hit, all-miss, all-rest, all-end}
 use Rattle.scorer.proofs.Children.{Zip, View, zip-start, zip-later, zip-end, zip-none, view, zip-took, zip-skip, of-advance, of-cached}
-
--- the lists that a loop changes keep their lengths
-pub record Lengths (kids kids₀ a a₀ b b₀ : ℕ) : Type 0 where
-  pub kids-same : kids ≡ kids₀
-  pub a-same : a ≡ a₀
-  pub b-same : b ≡ b₀
-
--- a loop that has come to t: the property takes nothing from the target up to it
-pub record Going (P : ℕ → Bool) (target t : ℕ) (H : Type 0) : Type 0 where
-  pub lo : target ≤ t
-  pub before : (x : ℕ) → target ≤ x → x < t → P x ≡ false
-  pub held : H
-
-pub going-start : {P : ℕ → Bool} {t : ℕ} {H : Type 0} → H → Going P t t H
-going-start h = record { lo = le-refl _; before = λ x a b. absurd (omega arith); held = h }
 
 -- ---- the least document
 pub record LeastAt (E : Lent) (ix : Index) (p k : ℕ) (fs : Scorers) (kids : List ℕ) (t best n at : ℕ) : Type 0 where

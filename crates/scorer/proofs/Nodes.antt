@@ -16,9 +16,11 @@ use Rattle.weight.specs.ScorerTree.{Leaf, nothing, term, phrase, range, everyth
 use Rattle.weight.specs.State.{State, wordsOf, sizesOf}
 use Rattle.weight.specs.Held.{LeafIs, ScoringIs, KeptIs, JoiningIs, BooleanIs, Ok, Oks}
 use Rattle.weight.specs.Sound.{Sound}
-use Rattle.scorer.specs.Contracts.{Lent, NodeHeld, LeafHeld, LeafMoved, LeafPost, PartsHeld, LeadHeld, BooleanHeld, BooleanPost, takes}
-use Rattle.scorer.proofs.Bounds.{leaf-mono, oks-mono, oks-length, ok-front, ok-cached}
-use Rattle.scorer.proofs.Firsts.{first-like, cache-new, boolean-takes}
+use Rattle.scorer.specs.Contracts.{NodeHeld, PartsHeld, LeadHeld, BooleanHeld, BooleanPost, takes}
+use Rattle.leaf_scorer.specs.Contracts.{Lent, LeafHeld, LeafMoved, LeafPost}
+use Rattle.leaf_scorer.proofs.Bounds.{leaf-mono, oks-mono, oks-length, ok-front, ok-cached}
+use Rattle.scorer.proofs.Firsts.{cache-new, boolean-takes}
+use Rattle.leaf_scorer.proofs.Loops.{first-like}
 
 -- a record with another cached document
 abbrev pub cachedAt : State → ℕ → State

@@ -9,10 +9,11 @@ use Rattle.meaning.specs.Lent.{Index}
 use Rattle.meaning.specs.First.{First}
 use Rattle.weight.specs.ScorerTree.{Scorer, matches}
 use Rattle.weight.specs.Held.{Ok}
-use Rattle.scorer.specs.Search.{SearchPre, SearchPost}
-use Rattle.scorer.specs.Contracts.{Lent, NodeHeld}
+use Rattle.leaf_scorer.specs.Search.{SearchPre, SearchPost}
+use Rattle.scorer.specs.Contracts.{NodeHeld}
+use Rattle.leaf_scorer.specs.Contracts.{Lent}
 use Rattle.scorer.proofs.Nodes.{node-leaf, node-sought}
-use Rattle.scorer.proofs.Seeks.{seek-term-pre, seek-term-done}
+use Rattle.leaf_scorer.proofs.Seeks.{seek-term-pre, seek-term-done}
 
 module _ (ps st : List ℕ) (t : ℕ) (is : getD st 0 0 ≡ 1) (size : length ps < 9223372036854775808) (c : ℕ) (ec : c ≡ getD st 2 0) (due : c ≤ t) where
   no-boolean : getD st 0 0 ≡ 3 → ⊥

@@ -1,12 +1,11 @@
 // Scorers over a lent state: the words of a node are its record of 24 and then its children's parts, one after the other.
-pub mod leaves;
-
 ghost use Prim.Native.Nat.{ℕ, _+_, _≤_, _<_};
 ghost use mathlib.Core.Path.{_≡_};
 ghost use lib.ListN.{length, getD};
-ghost use Rattle.scorer.specs.Contracts.{lent, AdvancePre, AdvancePost, TermPre, TermPost, PartsPre, ChildAt, ChildRead, Tally, LeastPost, DisjunctionPost, PassPost, LeadPre, StepPost, LeadPost, BooleanPre, BooleanPost, HeadRead, BooleanRead};
-
-pub const NO_MORE_DOCS: u32 = 2147483647;
+ghost use Rattle.scorer.specs.Contracts.{AdvancePre, AdvancePost, TermPre, TermPost, PartsPre, ChildAt, ChildRead, Tally, LeastPost, DisjunctionPost, PassPost, LeadPre, StepPost, LeadPost, BooleanPre, BooleanPost, HeadRead, BooleanRead};
+ghost use Rattle.leaf_scorer.specs.Contracts.{lent};
+use index::wide;
+use leaf_scorer::NO_MORE_DOCS;
 
 // The words of a record, where children begin.
 const RECORD: usize = 24;
@@ -14,13 +13,6 @@ const RECORD: usize = 24;
 const TERM: u32 = 1;
 
 const BOOLEAN: u32 = 3;
-
-// A word as a place in a slice.
-pub fn wide(x: u32) -> usize
-    ensures { λ r. ⌜ r ≡ x ⌝ }
-{
-    x as usize
-}
 
 // What a loop over parts reads of a child: where its part ends, and the document where it stands, + 1.
 pub struct Child {
@@ -112,7 +104,7 @@ pub fn advance_term(st: &mut [u32], postings: &[u32], target: u32) -> u32
     if target < cached {
         return cached - 1;
     }
-    let d = leaves::search_postings(st, postings, target);
+    let d = leaf_scorer::search_postings(st, postings, target);
     st[2] = d + 1;
     d
 }
@@ -158,7 +150,7 @@ pub fn advance(
         st[2] = d + 1;
         d
     } else {
-        let d = leaves::seek(st, max_doc, postings, positions, ranges, a, b, target);
+        let d = leaf_scorer::seek(st, max_doc, postings, positions, ranges, a, b, target);
         st[2] = d + 1;
         d
     }

@@ -8,7 +8,7 @@ use lib.ListN.{length, take, drop}
 use Rattle.meaning.specs.Live.{isLive}
 use Rattle.index.specs.Slices.{liveOnly}
 use Rattle.weight.specs.ScorerTree.{allMatch, anyMatches}
-use Rattle.scorer.proofs.Children.{back-length}
+use Rattle.leaf_scorer.proofs.Loops.{back-length}
 use Rattle.bulk_led.proofs.LedShape.{led-fits, led-required, led-passed, led-prohibited, led-joined}
 use Rattle.bulk_led.proofs.led_at.Statement.{statement}
 use Rattle.bulk_led.proofs.led_at.Tie as tie

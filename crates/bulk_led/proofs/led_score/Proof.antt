@@ -9,7 +9,7 @@ use Rattle.ieee754.specs.Nonneg.{AtMost}
 use Rattle.ieee754.proofs.Bounds.{atmost-number, zero-atmost}
 use Rattle.weight.specs.ScorerTree.{Joining, leaf, end, more, requiredScores, joinedScore}
 use Rattle.weight.specs.Sound.{nodesOf}
-use Rattle.scorer.proofs.Bounds.{oks-length}
+use Rattle.leaf_scorer.proofs.Bounds.{oks-length}
 use Rattle.score.proofs.Alone.{none-left}
 use Rattle.score.proofs.Bounds.{scores-add, zero-64}
 use native.Mathlib.Omega.{arith}

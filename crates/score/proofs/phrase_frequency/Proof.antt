@@ -14,7 +14,7 @@ use Rattle.meaning.specs.Limits.{noMoreDocs}
 use Rattle.meaning.specs.First.{First}
 use Rattle.meaning.specs.Phrase.{phraseFrequency}
 use Rattle.weight.specs.Held.{PhraseIs}
-use Rattle.scorer.specs.Phrases.{PhrasePost}
+use Rattle.leaf_scorer.specs.Phrases.{PhrasePost}
 use Rattle.score.specs.Asked.{FrequencyPost}
 use Rattle.score.proofs.Leaves.{words-long}
 use Rattle.score.proofs.phrase_frequency.Statement.{statement}

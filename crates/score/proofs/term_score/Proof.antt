@@ -2,7 +2,7 @@
 use native.Mathlib.Omega.{arith}
 use mathlib.Core.Path.{_≡_, sym, _∙_}
 use Prim.Native.Nat.{ℕ}
-use Rattle.scorer.proofs.Bounds.{ok-long}
+use Rattle.leaf_scorer.proofs.Bounds.{ok-long}
 use Rattle.score.proofs.Nodes.{constant-is, leaf-at}
 use Rattle.score.proofs.Leaves.{read, term-run, term-weighs, term-done}
 use Rattle.score.proofs.term_score.Statement.{statement}

@@ -7,7 +7,7 @@ use lib.ListN.{length}
 use Rattle.meaning.specs.Lent.{Index}
 use Rattle.weight.specs.ScorerTree.{Scorers, allMatch}
 use Rattle.scorer.specs.Contracts.{Lent, PartsHeld}
-use Rattle.scorer.proofs.Children.{back-length}
+use Rattle.leaf_scorer.proofs.Loops.{back-length}
 use Rattle.scorer.proofs.Firsts.{all-hit, all-miss, all-end}
 use Rattle.bulk_led.specs.Terms.{TermsOnly}
 use Rattle.bulk_led.proofs.TermParts.{TermsAt, terms-start, terms-here, term-there, term-held, term-hits, term-misses, terms-next, terms-decided, terms-end}

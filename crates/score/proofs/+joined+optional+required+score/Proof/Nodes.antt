@@ -2,7 +2,7 @@
 use mathlib.Core.Path.{refl}
 use native.Mathlib.Omega.{arith}
 use lib.ListN.{length}
-use Rattle.scorer.proofs.Bounds.{ok-long}
+use Rattle.leaf_scorer.proofs.Bounds.{ok-long}
 use Rattle.score.proofs.Parts.{back-length}
 use Rattle.score.proofs.Nodes.{constant-is, leaf-at, node-at}
 use Prim.Native.Nat.{ℕ, min}

@@ -1,10 +1,11 @@
 -- The loops over children. Assumes nothing.
 use mathlib.Core.Path.{refl, sym, _∙_}
 use native.Mathlib.Omega.{arith}
-use Rattle.scorer.proofs.Children.{child-facts, child-held, child-kind, child-term, term-end, back-length}
+use Rattle.scorer.proofs.Children.{child-facts, child-held, child-kind, child-term, term-end}
+use Rattle.leaf_scorer.proofs.Loops.{back-length}
 use Rattle.scorer.proofs.Loops.{least-start, least-end, least-skip, least-took, pass-start, pass-end, pass-skip, pass-took}
 use Prim.Native.Nat.{ℕ, _+_}
-use Rattle.scorer.specs.Contracts.{lent}
+use Rattle.leaf_scorer.specs.Contracts.{lent}
 use Rattle.scorer.proofs.least.Reads as least
 use Rattle.scorer.proofs.+advance+conjunction+disjunction+excluding+lead+least+pass+step.Lts-least as least-lts
 use Rattle.scorer.proofs.pass.Reads as pass

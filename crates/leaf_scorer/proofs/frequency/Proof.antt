@@ -1,5 +1,5 @@
--- `scorer::leaves::frequency` meets its contract: the words of the terms in an array that has room for them. Assumes nothing.
-use Rattle.scorer.proofs.PhraseLaws.{frequency-gather, frequency-few, frequency-four, frequency-good, frequency-room, frequency-is}
+-- `leaf_scorer::frequency` meets its contract: the words of the terms in an array that has room for them. Assumes nothing.
+use Rattle.leaf_scorer.proofs.PhraseLaws.{frequency-gather, frequency-few, frequency-four, frequency-good, frequency-room, frequency-is}
 use Rattle.meaning.specs.Phrase.{PhraseTerm, phraseFrequency}
 use Rattle.meaning.specs.Lent.{Index}
 use Rattle.meaning.specs.Limits.{noMoreDocs}
@@ -11,12 +11,12 @@ use mathlib.Core.List.{List, _++_}
 use mathlib.Core.Path.{_≡_, refl, sym, ap, subst, _∙_}
 use Prim.Native.Nat.{ℕ, _+_, _-_, _*_, _≤_, _<_}
 use borrow.Author.Needs.{needs}
-use Rattle.scorer.proofs.leaves.frequency.Statement.{statement}
-use Rattle.scorer.proofs.leaves.frequency.Tie as tie
-use Rattle.scorer.proofs.leaves.frequency.Reads as reads
-use Rattle.scorer.proofs.leaves.frequency.Lts as lts
+use Rattle.leaf_scorer.proofs.frequency.Statement.{statement}
+use Rattle.leaf_scorer.proofs.frequency.Tie as tie
+use Rattle.leaf_scorer.proofs.frequency.Reads as reads
+use Rattle.leaf_scorer.proofs.frequency.Lts as lts
 use Rattle.phrase.proofs.frequency.Reads as frequency-reads
-use Rattle.scorer.proofs.leaves.gather.Reads as gather-reads
+use Rattle.leaf_scorer.proofs.gather.Reads as gather-reads
 
 slice-aggregate-gather : tie.Need-slice-aggregate-gather
 slice-aggregate-gather c = search needs

@@ -1,16 +1,16 @@
--- `scorer::leaves::search_postings` meets its contract: the posting after the cursor, or a search. Assumes nothing.
+-- `leaf_scorer::search_postings` meets its contract: the posting after the cursor, or a search. Assumes nothing.
 use Prim.Native.Nat.{_+_}
 use mathlib.Core.Path.{ap}
 use native.Mathlib.Omega.{arith}
 use lib.ListN.{length}
-use Rattle.scorer.proofs.LeafLaws.{search-run, search-next}
+use Rattle.leaf_scorer.proofs.LeafLaws.{search-run, search-next}
 use borrow.Author.Needs.{needs}
-use Rattle.scorer.proofs.leaves.search_postings.Statement.{statement}
-use Rattle.scorer.proofs.leaves.search_postings.Tie as tie
-use Rattle.scorer.proofs.leaves.search_postings.Reads as reads
-use Rattle.scorer.proofs.leaves.search_postings.Lts as lts
-use Rattle.scorer.proofs.leaves.cursor_at.Reads as cursor-at-reads
-use Rattle.scorer.proofs.leaves.search.Reads as search-reads
+use Rattle.leaf_scorer.proofs.search_postings.Statement.{statement}
+use Rattle.leaf_scorer.proofs.search_postings.Tie as tie
+use Rattle.leaf_scorer.proofs.search_postings.Reads as reads
+use Rattle.leaf_scorer.proofs.search_postings.Lts as lts
+use Rattle.leaf_scorer.proofs.cursor_at.Reads as cursor-at-reads
+use Rattle.leaf_scorer.proofs.search.Reads as search-reads
 use Rattle.run.proofs.document.Reads as document-reads
 
 cursor-at-requires : tie.Need-cursor-at-requires

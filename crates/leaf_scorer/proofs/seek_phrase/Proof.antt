@@ -1,8 +1,8 @@
-use Rattle.scorer.proofs.PhraseLaws.{moved-start, moved-long, leapt-behind, moved-terms, moved-leapt, moved-later, moved-worked, stored-at, held-there, held-frequency, phrase-top, phrase-hit, phrase-more}
-use Rattle.scorer.proofs.Loops.{Lengths, Going, going-start}
-use Rattle.scorer.proofs.Children.{back-length}
+use Rattle.leaf_scorer.proofs.PhraseLaws.{moved-start, moved-long, leapt-behind, moved-terms, moved-leapt, moved-later, moved-worked, stored-at, held-there, held-frequency, phrase-top, phrase-hit, phrase-more}
+use Rattle.leaf_scorer.proofs.Loops.{Lengths, Going, going-start}
+use Rattle.leaf_scorer.proofs.Loops.{back-length}
 use Rattle.weight.specs.State.{State}
-use Rattle.scorer.specs.Phrases.{PhraseHeld, PhraseMoved}
+use Rattle.leaf_scorer.specs.Phrases.{PhraseHeld, PhraseMoved}
 use lib.Dec.{ltb}
 use Rattle.meaning.specs.Phrase.{PhraseTerm, phraseFrequency}
 use Rattle.meaning.specs.Lent.{Index}
@@ -14,12 +14,12 @@ use native.Mathlib.Omega.{arith}
 use mathlib.Core.List.{List, _++_}
 use mathlib.Core.Path.{_≡_, refl, sym, ap, subst, _∙_}
 use Prim.Native.Nat.{ℕ, _+_, _-_, _*_, _≤_, _<_}
-use Rattle.scorer.proofs.leaves.seek_phrase.Statement.{statement}
-use Rattle.scorer.proofs.leaves.seek_phrase.Tie as tie
-use Rattle.scorer.proofs.leaves.seek_phrase.Reads as reads
-use Rattle.scorer.proofs.leaves.seek_phrase.Lts as lts
-use Rattle.scorer.proofs.leaves.frequency.Reads as frequency-reads
-use Rattle.scorer.proofs.leaves.leapfrog.Reads as leapfrog-reads
+use Rattle.leaf_scorer.proofs.seek_phrase.Statement.{statement}
+use Rattle.leaf_scorer.proofs.seek_phrase.Tie as tie
+use Rattle.leaf_scorer.proofs.seek_phrase.Reads as reads
+use Rattle.leaf_scorer.proofs.seek_phrase.Lts as lts
+use Rattle.leaf_scorer.proofs.frequency.Reads as frequency-reads
+use Rattle.leaf_scorer.proofs.leapfrog.Reads as leapfrog-reads
 
 abbrev Inv-loop : tie.InvT-loop
 Inv-loop st₀ postings positions a₀ b₀ target t₀ st a b t = Lengths (length st) (length st₀) (length a) (length a₀) (length b) (length b₀) × (t ≤ noMoreDocs) × ((ix : Index) (p f : ℕ) (ts : List PhraseTerm) (s : State) (w : List ℕ) → PhraseHeld postings positions ix p f ts s w st₀ target → Going (λ d. ltb 0 (phraseFrequency ix ts d)) target t (PhraseMoved ix f ts s st t))

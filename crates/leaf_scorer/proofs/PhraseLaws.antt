@@ -30,10 +30,10 @@ use Rattle.weight.specs.ScorerTree.{phrase}
 use Rattle.weight.specs.State.{State, wordsOf}
 use Rattle.weight.specs.Held.{TermIs, TermsAre}
 use Rattle.weight.specs.Sound.{PhraseTermIs, EachTerm, LeafSound}
-use Rattle.scorer.specs.Search.{cursorAt, SearchHeld, SearchMoved, SearchPost}
-use Rattle.scorer.specs.Phrases.{allFound, LeavesThere, TermsAt, TermsHeld, TermsPassed, Leapt, Gathered, GatherHeld, GatheredTo, PlaceAt, PlaceRead, FrequencyHeld, PhraseHeld, PhraseMoved, workedAt}
-use Rattle.scorer.proofs.Bounds.{term-mono, terms-mono, terms-length}
-use Rattle.scorer.proofs.LeafLaws.{term-run, term-moved, term-stands, term-first}
+use Rattle.leaf_scorer.specs.Search.{cursorAt, SearchHeld, SearchMoved, SearchPost}
+use Rattle.leaf_scorer.specs.Phrases.{allFound, LeavesThere, TermsAt, TermsHeld, TermsPassed, Leapt, Gathered, GatherHeld, GatheredTo, PlaceAt, PlaceRead, FrequencyHeld, PhraseHeld, PhraseMoved, workedAt}
+use Rattle.leaf_scorer.proofs.Bounds.{term-mono, terms-mono, terms-length}
+use Rattle.leaf_scorer.proofs.LeafLaws.{term-run, term-moved, term-stands, term-first}
 
 -- ---- one pass over the terms, the last that moved it at a place
 pub record TermsZip (postings : List ℕ) (ix : Index) (ts : List PhraseTerm) (from : ℕ) (terms : List ℕ) (d last at : ℕ) : Type 0 where

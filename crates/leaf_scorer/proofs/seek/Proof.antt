@@ -1,5 +1,5 @@
-use Rattle.scorer.proofs.Seeks.{seek-long, seek-term-pre, seek-term-done, seek-range-pre, seek-range-done, seek-phrase-pre, seek-phrase-done, seek-any-done}
-use Rattle.scorer.specs.Contracts.{lent}
+use Rattle.leaf_scorer.proofs.Seeks.{seek-long, seek-term-pre, seek-term-done, seek-range-pre, seek-range-done, seek-phrase-pre, seek-phrase-done, seek-any-done}
+use Rattle.leaf_scorer.specs.Contracts.{lent}
 use Rattle.meaning.specs.Phrase.{PhraseTerm, phraseFrequency}
 use Rattle.meaning.specs.Lent.{Index}
 use Rattle.meaning.specs.Limits.{noMoreDocs}
@@ -11,14 +11,14 @@ use mathlib.Core.List.{List, _++_}
 use mathlib.Core.Path.{_≡_, refl, sym, ap, subst, _∙_}
 use Prim.Native.Nat.{ℕ, _+_, _-_, _*_, _≤_, _<_}
 use borrow.Author.Needs.{needs}
-use Rattle.scorer.proofs.leaves.seek.Statement.{statement}
-use Rattle.scorer.proofs.leaves.seek.Tie as tie
-use Rattle.scorer.proofs.leaves.seek.Reads as reads
-use Rattle.scorer.proofs.leaves.seek.Lts as lts
-use Rattle.scorer.proofs.leaves.everything.Reads as everything-reads
-use Rattle.scorer.proofs.leaves.search.Reads as search-reads
-use Rattle.scorer.proofs.leaves.search_postings.Reads as search-postings-reads
-use Rattle.scorer.proofs.leaves.seek_phrase.Reads as seek-phrase-reads
+use Rattle.leaf_scorer.proofs.seek.Statement.{statement}
+use Rattle.leaf_scorer.proofs.seek.Tie as tie
+use Rattle.leaf_scorer.proofs.seek.Reads as reads
+use Rattle.leaf_scorer.proofs.seek.Lts as lts
+use Rattle.leaf_scorer.proofs.everything.Reads as everything-reads
+use Rattle.leaf_scorer.proofs.search.Reads as search-reads
+use Rattle.leaf_scorer.proofs.search_postings.Reads as search-postings-reads
+use Rattle.leaf_scorer.proofs.seek_phrase.Reads as seek-phrase-reads
 
 -- src/leaves.rt:183:16
 slice-read-kind : tie.Need-slice-read-kind

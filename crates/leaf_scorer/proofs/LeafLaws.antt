@@ -23,8 +23,8 @@ use Rattle.weight.specs.State.{State, wordsOf}
 use Rattle.weight.specs.Held.{RunAt, TermIs, RangeIs, LeafIs}
 use Rattle.weight.specs.Sound.{LeafSound}
 use Rattle.run.specs.Run.{documentAt, Run, Lower}
-use Rattle.scorer.specs.Search.{cursorAt, SearchHeld, SearchMoved, SearchPost, AnyDocument}
-use Rattle.scorer.specs.Contracts.{Lent, LeafHeld, LeafMoved, LeafPost}
+use Rattle.leaf_scorer.specs.Search.{cursorAt, SearchHeld, SearchMoved, SearchPost, AnyDocument}
+use Rattle.leaf_scorer.specs.Contracts.{Lent, LeafHeld, LeafMoved, LeafPost}
 use Rattle.meaning.proofs.Tests.{cmp}
 
 -- ---- `search`

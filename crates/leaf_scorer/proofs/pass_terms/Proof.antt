@@ -1,7 +1,7 @@
--- `scorer::leaves::pass_terms` meets its contract: each term moved in turn, and which was the last to move them on. Assumes nothing.
-use Rattle.scorer.proofs.PhraseLaws.{TermsZip, terms-start, terms-end, terms-next, terms-took}
-use Rattle.scorer.proofs.Children.{back-length}
-use Rattle.scorer.specs.Phrases.{TermsHeld}
+-- `leaf_scorer::pass_terms` meets its contract: each term moved in turn, and which was the last to move them on. Assumes nothing.
+use Rattle.leaf_scorer.proofs.PhraseLaws.{TermsZip, terms-start, terms-end, terms-next, terms-took}
+use Rattle.leaf_scorer.proofs.Loops.{back-length}
+use Rattle.leaf_scorer.specs.Phrases.{TermsHeld}
 use Rattle.meaning.specs.Phrase.{PhraseTerm, phraseFrequency}
 use Rattle.meaning.specs.Lent.{Index}
 use Rattle.meaning.specs.Limits.{noMoreDocs}
@@ -14,11 +14,11 @@ use mathlib.Core.Bool.{true, false, false≢true}
 use mathlib.Core.Logic.{inl, inr}
 use mathlib.Core.Path.{_≡_, refl, sym, ap, subst, _∙_}
 use Prim.Native.Nat.{ℕ, _+_, _-_, _*_, _≤_, _<_}
-use Rattle.scorer.proofs.leaves.pass_terms.Statement.{statement}
-use Rattle.scorer.proofs.leaves.pass_terms.Tie as tie
-use Rattle.scorer.proofs.leaves.pass_terms.Reads as reads
-use Rattle.scorer.proofs.leaves.pass_terms.Lts as lts
-use Rattle.scorer.proofs.leaves.search.Reads as search-reads
+use Rattle.leaf_scorer.proofs.pass_terms.Statement.{statement}
+use Rattle.leaf_scorer.proofs.pass_terms.Tie as tie
+use Rattle.leaf_scorer.proofs.pass_terms.Reads as reads
+use Rattle.leaf_scorer.proofs.pass_terms.Lts as lts
+use Rattle.leaf_scorer.proofs.search.Reads as search-reads
 
 abbrev Inv-loop : tie.InvT-loop
 Inv-loop terms₀ postings target d₀ last₀ at₀ terms d last at = (length terms ≡ length terms₀) × ((ix : Index) (ts : List PhraseTerm) → TermsHeld postings ix ts terms₀ target → TermsZip postings ix ts target terms d last at)

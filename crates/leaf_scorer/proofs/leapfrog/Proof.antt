@@ -1,7 +1,7 @@
--- `scorer::leaves::leapfrog` meets its contract: passes until the terms stand at one document. Assumes nothing.
-use Rattle.scorer.proofs.PhraseLaws.{leap-held, leap-more, leap-done}
-use Rattle.scorer.proofs.Loops.{Going, going-start}
-use Rattle.scorer.specs.Phrases.{TermsHeld, allFound}
+-- `leaf_scorer::leapfrog` meets its contract: passes until the terms stand at one document. Assumes nothing.
+use Rattle.leaf_scorer.proofs.PhraseLaws.{leap-held, leap-more, leap-done}
+use Rattle.leaf_scorer.proofs.Loops.{Going, going-start}
+use Rattle.leaf_scorer.specs.Phrases.{TermsHeld, allFound}
 use Rattle.meaning.specs.Phrase.{PhraseTerm, phraseFrequency}
 use Rattle.meaning.specs.Lent.{Index}
 use Rattle.meaning.specs.Limits.{noMoreDocs}
@@ -12,11 +12,11 @@ use native.Mathlib.Omega.{arith}
 use mathlib.Core.List.{List, _++_}
 use mathlib.Core.Path.{_≡_, refl, sym, ap, subst, _∙_}
 use Prim.Native.Nat.{ℕ, _+_, _-_, _*_, _≤_, _<_}
-use Rattle.scorer.proofs.leaves.leapfrog.Statement.{statement}
-use Rattle.scorer.proofs.leaves.leapfrog.Tie as tie
-use Rattle.scorer.proofs.leaves.leapfrog.Reads as reads
-use Rattle.scorer.proofs.leaves.leapfrog.Lts as lts
-use Rattle.scorer.proofs.leaves.pass_terms.Reads as pass-terms-reads
+use Rattle.leaf_scorer.proofs.leapfrog.Statement.{statement}
+use Rattle.leaf_scorer.proofs.leapfrog.Tie as tie
+use Rattle.leaf_scorer.proofs.leapfrog.Reads as reads
+use Rattle.leaf_scorer.proofs.leapfrog.Lts as lts
+use Rattle.leaf_scorer.proofs.pass_terms.Reads as pass-terms-reads
 
 abbrev Inv-loop : tie.InvT-loop
 Inv-loop terms₀ postings target d₀ terms d = (length terms ≡ length terms₀) × (d ≤ noMoreDocs) × ((ix : Index) (ts : List PhraseTerm) → TermsHeld postings ix ts terms₀ target → Going (allFound ix ts) target d (TermsHeld postings ix ts terms d))

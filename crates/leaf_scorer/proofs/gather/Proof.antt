@@ -1,5 +1,5 @@
-use Rattle.scorer.proofs.PhraseLaws.{GatherAt, gather-start, gather-end, gather-next, gather-took, terms-at-length}
-use Rattle.scorer.specs.Phrases.{GatherHeld}
+use Rattle.leaf_scorer.proofs.PhraseLaws.{GatherAt, gather-start, gather-end, gather-next, gather-took, terms-at-length}
+use Rattle.leaf_scorer.specs.Phrases.{GatherHeld}
 use Rattle.meaning.specs.Phrase.{PhraseTerm, phraseFrequency}
 use Rattle.meaning.specs.Lent.{Index}
 use Rattle.meaning.specs.Limits.{noMoreDocs}
@@ -10,11 +10,11 @@ use native.Mathlib.Omega.{arith}
 use mathlib.Core.List.{List, _++_}
 use mathlib.Core.Path.{_≡_, refl, sym, ap, subst, _∙_}
 use Prim.Native.Nat.{ℕ, _+_, _-_, _*_, _≤_, _<_}
-use Rattle.scorer.proofs.leaves.gather.Statement.{statement}
-use Rattle.scorer.proofs.leaves.gather.Tie as tie
-use Rattle.scorer.proofs.leaves.gather.Reads as reads
-use Rattle.scorer.proofs.leaves.gather.Lts as lts
-use Rattle.scorer.proofs.leaves.place_at.Reads as place-at-reads
+use Rattle.leaf_scorer.proofs.gather.Statement.{statement}
+use Rattle.leaf_scorer.proofs.gather.Tie as tie
+use Rattle.leaf_scorer.proofs.gather.Reads as reads
+use Rattle.leaf_scorer.proofs.gather.Lts as lts
+use Rattle.leaf_scorer.proofs.place_at.Reads as place-at-reads
 
 abbrev Inv-loop : tie.InvT-loop
 Inv-loop terms postings out₀ n₀ at₀ out n at = (length out ≡ length out₀) × ((ix : Index) (ts : List PhraseTerm) (d : ℕ) → GatherHeld postings ix ts d terms → GatherAt postings ix ts d terms out n at)

@@ -1,4 +1,4 @@
-use Rattle.scorer.proofs.LeafLaws.{search-run, search-hit, search-end}
+use Rattle.leaf_scorer.proofs.LeafLaws.{search-run, search-hit, search-end}
 use Rattle.meaning.specs.Phrase.{PhraseTerm, phraseFrequency}
 use Rattle.meaning.specs.Lent.{Index}
 use Rattle.meaning.specs.Limits.{noMoreDocs}
@@ -10,11 +10,11 @@ use mathlib.Core.List.{List, _++_}
 use mathlib.Core.Path.{_≡_, refl, sym, ap, subst, _∙_}
 use Prim.Native.Nat.{ℕ, _+_, _-_, _*_, _≤_, _<_}
 use borrow.Author.Needs.{needs}
-use Rattle.scorer.proofs.leaves.search.Statement.{statement}
-use Rattle.scorer.proofs.leaves.search.Tie as tie
-use Rattle.scorer.proofs.leaves.search.Reads as reads
-use Rattle.scorer.proofs.leaves.search.Lts as lts
-use Rattle.scorer.proofs.leaves.cursor_at.Reads as cursor-at-reads
+use Rattle.leaf_scorer.proofs.search.Statement.{statement}
+use Rattle.leaf_scorer.proofs.search.Tie as tie
+use Rattle.leaf_scorer.proofs.search.Reads as reads
+use Rattle.leaf_scorer.proofs.search.Lts as lts
+use Rattle.leaf_scorer.proofs.cursor_at.Reads as cursor-at-reads
 use Rattle.run.proofs.document.Reads as document-reads
 use Rattle.run.proofs.lower.Reads as lower-reads
 

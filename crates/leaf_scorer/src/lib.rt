@@ -2,13 +2,14 @@
 ghost use mathlib.Core.Path.{_≡_};
 ghost use Prim.Native.Nat.{ℕ, _+_, _*_, _≤_, _<_};
 ghost use lib.ListN.{length};
-ghost use Rattle.scorer.specs.Search.{CursorRead, SearchPre, SearchPost, AnyDocument};
-ghost use Rattle.scorer.specs.Phrases.{TermsPre, PassTermsPost, LeapfrogPost, PlaceAt, PlaceRead, GatherPre, GatherPost, FrequencyPre, FrequencyPost, PhrasePre, PhrasePost};
-ghost use Rattle.scorer.specs.Contracts.{lent, LeafPre, LeafPost};
-use super::NO_MORE_DOCS;
-use super::wide;
+ghost use Rattle.leaf_scorer.specs.Search.{CursorRead, SearchPre, SearchPost, AnyDocument};
+ghost use Rattle.leaf_scorer.specs.Phrases.{TermsPre, PassTermsPost, LeapfrogPost, PlaceAt, PlaceRead, GatherPre, GatherPost, FrequencyPre, FrequencyPost, PhrasePre, PhrasePost};
+ghost use Rattle.leaf_scorer.specs.Contracts.{lent, LeafPre, LeafPost};
+use index::wide;
 use run::document;
 use run::lower;
+
+pub const NO_MORE_DOCS: u32 = 2147483647;
 
 const TERM: u32 = 1;
 

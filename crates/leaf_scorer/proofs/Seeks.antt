@@ -13,12 +13,12 @@ use Rattle.weight.specs.ScorerTree.{Leaf, nothing, term, phrase, range, everyth
 use Rattle.weight.specs.State.{State, wordsOf}
 use Rattle.weight.specs.Held.{LeafIs}
 use Rattle.weight.specs.Sound.{LeafSound}
-use Rattle.scorer.specs.Search.{cursorAt, SearchPre, SearchPost, AnyDocument}
-use Rattle.scorer.specs.Phrases.{PhraseHeld, PhrasePost}
-use Rattle.scorer.specs.Contracts.{Lent, LeafHeld, LeafMoved, LeafPost}
-use Rattle.scorer.proofs.Firsts.{first-like}
-use Rattle.scorer.proofs.Bounds.{leaf-mono}
-use Rattle.scorer.proofs.LeafLaws.{term-run, term-moved, term-first, range-run, range-moved, range-first, any-first}
+use Rattle.leaf_scorer.specs.Search.{cursorAt, SearchPre, SearchPost, AnyDocument}
+use Rattle.leaf_scorer.specs.Phrases.{PhraseHeld, PhrasePost}
+use Rattle.leaf_scorer.specs.Contracts.{Lent, LeafHeld, LeafMoved, LeafPost}
+use Rattle.leaf_scorer.proofs.Loops.{first-like}
+use Rattle.leaf_scorer.proofs.Bounds.{leaf-mono}
+use Rattle.leaf_scorer.proofs.LeafLaws.{term-run, term-moved, term-first, range-run, range-moved, range-first, any-first}
 
 module _ (E : Lent) (st : List ℕ) (t : ℕ) where
   pub seek-long : {ix : Index} {p : ℕ} {l : Leaf} {s : State} {w : List ℕ} → LeafHeld E ix p l s w st t → 24 ≤ length st
@@ -32,7 +32,7 @@ module _ (E : Lent) (st : List ℕ) (t : ℕ) where
     pub seek-term-pre : (ix : Index) (p : ℕ) (l : Leaf) (s : State) (w : List ℕ) → LeafHeld E ix p l s w st t → SearchPre (E .postings) 3 st t
     unfolding LeafIs LeafSound
     seek-term-pre ix p nothing s w h = absurd (omega (arith, kind-of h, h .is .0))
-    seek-term-pre ix p (term l) s w h = (s, w, subst (λ (y : List ℕ). Rattle.scorer.specs.Search.SearchHeld y 3 s w st t) (h .lends .postings-are) (term-run ix (h .lends .accepted) 1 l (h .sound) s t (h .is .0) (omega (arith, ap length (h .lends .postings-are))) w st (h .words)))
+    seek-term-pre ix p (term l) s w h = (s, w, subst (λ (y : List ℕ). Rattle.leaf_scorer.specs.Search.SearchHeld y 3 s w st t) (h .lends .postings-are) (term-run ix (h .lends .accepted) 1 l (h .sound) s t (h .is .0) (omega (arith, ap length (h .lends .postings-are))) w st (h .words)))
     seek-term-pre ix p (phrase f ts) s w h = absurd (omega (arith, kind-of h, h .is .kind-is))
     seek-term-pre ix p (range r) s w h = absurd (omega (arith, kind-of h, h .is .0 .kind-is))
     seek-term-pre ix p everything s w h = absurd (omega (arith, kind-of h, h .is .0))
