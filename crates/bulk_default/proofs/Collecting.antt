@@ -27,10 +27,10 @@ use Rattle.weight.specs.ScorerTree.{Scorer, matches}
 use Rattle.weight.specs.Held.{Ok}
 use Rattle.scorer.specs.Contracts.{Lent, lent, NodeHeld}
 use Rattle.leaf_scorer.proofs.Bounds.{ok-mono}
-use Rattle.score.specs.Asked.{LentAt, ScoreIs, ScorePre, ScorePost}
-use Rattle.score.specs.Walks.{liveMatch, scored, liveScored, NextPre, NextPost, PageHeld}
+use Rattle.leaf_score.specs.Asked.{LentAt, ScoreIs, ScorePre, ScorePost}
+use Rattle.walk.specs.Walks.{liveMatch, scored, liveScored, NextPre, NextPost, PageHeld}
 use Rattle.score.proofs.Loops.{scorable-at}
-use Rattle.score.proofs.Pages.{match-is, walk-end, walk-next}
+use Rattle.walk.proofs.Pages.{match-is, walk-end, walk-next}
 use Rattle.bulk_default.specs.Collects.{CollectPre, CollectPost}
 
 -- every document is at or after 0

@@ -12,7 +12,7 @@ use Rattle.collector.specs.declared.TopDocs.{TopDocs}
 use Rattle.collector.specs.Collected.{answer}
 use Rattle.weight.specs.ScorerTree.{Scorer}
 use Rattle.scorer.specs.Contracts.{Lent}
-use Rattle.score.specs.Walks.{PageHeld, liveScored}
+use Rattle.walk.specs.Walks.{PageHeld, liveScored}
 
 -- some index and tree that the words hold, not asked yet
 abbrev pub CollectPre : Lent → List ℕ → List ℕ → List Float → ℕ → List ℕ → ℕ → Type 0

@@ -7,8 +7,8 @@ ghost use Rattle.scorer.specs.Contracts.{lent};
 ghost use Rattle.bulk_default.specs.Collects.{CollectPre, CollectPost};
 use collector::TopDocs;
 use collector::TopScoreDocCollector;
-use score::walk::NO_MORE_DOCS;
-use score::walk::next_match;
+use walk::NO_MORE_DOCS;
+use walk::next_match;
 
 // The hits of the tree at the front of the lent heap, whose length is k.
 pub fn collect_matches(

@@ -32,11 +32,11 @@ use Rattle.weight.specs.Held.{LeafIs}
 use Rattle.weight.specs.Sound.{nodesOf}
 use Rattle.scorer.specs.Contracts.{Lent}
 use Rattle.meaning.proofs.Tests.{cmp}
-use Rattle.score.specs.declared.Node.{Node}
-use Rattle.score.specs.Words.{NodeIs}
-use Rattle.score.specs.Asked.{LentAt}
-use Rattle.score.specs.Walks.{liveMatch, liveScored, PageHeld}
-use Rattle.score.proofs.Leaves.{Read, read}
+use Rattle.leaf_score.specs.declared.Node.{Node}
+use Rattle.leaf_score.specs.Words.{NodeIs}
+use Rattle.leaf_score.specs.Asked.{LentAt}
+use Rattle.walk.specs.Walks.{liveMatch, liveScored, PageHeld}
+use Rattle.leaf_score.proofs.Leaves.{Read, read}
 use Rattle.bulk_led.specs.Led.{LedWords, DocumentThere, DocumentIs, LedParts, LedAtPre, LedAtPost, LedAsks, LedScorePre, LedScorePost}
 use Rattle.bulk_term.proofs.Sofar.{Sofar, sofar-start, sofar-skip, sofar-ready, sofar-take, sofar-done}
 use Rattle.bulk_term.proofs.LiveMatches.{live-of, live-there, not-match}

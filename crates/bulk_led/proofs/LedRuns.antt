@@ -24,11 +24,12 @@ use Rattle.weight.specs.ScorerTree.{Leaf, nothing, term, phrase, range, everyth
 use Rattle.weight.specs.State.{State, wordsOf}
 use Rattle.weight.specs.Held.{LeafIs}
 use Rattle.weight.specs.Sound.{LeafSound, LeafTable, nodesOf}
-use Rattle.score.specs.declared.Node.{Node}
-use Rattle.score.specs.Asked.{LentAt, SumIs}
-use Rattle.score.proofs.Leaves.{Read, read}
-use Rattle.score.proofs.Weights.{float-back, float-number}
-use Rattle.score.proofs.Bounds.{scores-narrow}
+use Rattle.leaf_score.specs.declared.Node.{Node}
+use Rattle.score.specs.Asked.{SumIs}
+use Rattle.leaf_score.specs.Asked.{LentAt}
+use Rattle.leaf_score.proofs.Leaves.{Read, read}
+use Rattle.leaf_score.proofs.Weights.{float-back, float-number}
+use Rattle.leaf_score.proofs.Bounds.{scores-narrow}
 use Rattle.score.proofs.Alone.{zero-plus}
 use Rattle.ieee754.proofs.Narrowing.{narrow-exact}
 use Rattle.bulk_term.specs.Postings.{NodeScores, PostingAsks}

@@ -16,7 +16,7 @@ use Rattle.weight.specs.Sound.{Lends, LeafSound, Sound, Sounds, LeafTable, Tabl
 use Rattle.scorer.specs.Contracts.{Lent, PartsHeld}
 use Rattle.leaf_scorer.proofs.Bounds.{oks-length, ok-long}
 use Rattle.scorer.proofs.Leads.{rest-part, rest-back, parts-later}
-use Rattle.score.specs.Asked.{Scorable}
+use Rattle.leaf_score.specs.Asked.{Scorable}
 use Rattle.bulk_led.specs.Led.{LedWords, LedParts}
 use Rattle.bulk_led.proofs.TermParts.{Ones, terms-of}
 

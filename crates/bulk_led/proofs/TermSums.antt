@@ -17,7 +17,8 @@ use Rattle.weight.specs.ScorerTree.{Scorer, Scorers, end, more, allMatch, score
 use Rattle.weight.specs.State.{sizeOf, leafSize}
 use Rattle.weight.specs.Held.{Ok, Oks}
 use Rattle.weight.specs.Sound.{nodesOf}
-use Rattle.score.specs.Asked.{LentAt, Scorables, ScoreIs, SumIs, ScorePre, ScorePost}
+use Rattle.score.specs.Asked.{Scorables, SumIs}
+use Rattle.leaf_score.specs.Asked.{LentAt, ScoreIs, ScorePre, ScorePost}
 use Rattle.score.proofs.Alone.{plus-zero}
 use Rattle.score.proofs.Parts.{zip-none, view}
 use Rattle.score.proofs.Sums.{counted, scores-word, required-counted, required-matched, SumAt, sum-start, sum-end, sum-there, sum-scores, sum-size, sum-scorable, sum-matched, sum-part, sum-skipped, sum-took}

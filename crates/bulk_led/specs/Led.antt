@@ -19,9 +19,10 @@ use Rattle.weight.specs.State.{State, wordsOf}
 use Rattle.weight.specs.Held.{LeafIs, ScoringIs, Oks}
 use Rattle.weight.specs.Sound.{LeafSound, LeafTable, nodesOf}
 use Rattle.scorer.specs.Contracts.{Lent, PartsHeld}
-use Rattle.score.specs.declared.Node.{Node}
-use Rattle.score.specs.Words.{NodeIs}
-use Rattle.score.specs.Asked.{LentAt, Scorables}
+use Rattle.leaf_score.specs.declared.Node.{Node}
+use Rattle.leaf_score.specs.Words.{NodeIs}
+use Rattle.score.specs.Asked.{Scorables}
+use Rattle.leaf_score.specs.Asked.{LentAt}
 use Rattle.bulk_default.specs.Collects.{CollectPre, CollectPost}
 use Rattle.bulk_led.specs.Terms.{TermsOnly}
 

@@ -12,7 +12,8 @@ use Rattle.weight.specs.ScorerTree.{term, Scoring, Scorer, leaf, Scorers, end, 
 use Rattle.weight.specs.Held.{Oks}
 use Rattle.weight.specs.Sound.{nodesOf}
 use Rattle.scorer.specs.Contracts.{Lent, PartsHeld}
-use Rattle.score.specs.Asked.{LentAt, Scorables, SumIs, RequiredPre}
+use Rattle.score.specs.Asked.{Scorables, SumIs, RequiredPre}
+use Rattle.leaf_score.specs.Asked.{LentAt}
 
 abbrev pub IsTerm : Scorer → Type 0
 IsTerm T = (l : ℕ) × (sc : Scoring) × (T ≡ leaf (term l) sc)

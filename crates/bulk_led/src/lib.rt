@@ -8,7 +8,7 @@ ghost use Rattle.bulk_led.specs.Led.{LedWords, DocumentThere, DocumentIs
 use collector::TopDocs;
 use collector::TopScoreDocCollector;
 use index::wide;
-use score::Node;
+use leaf_score::Node;
 use terms::all_at;
 use terms::any_at;
 use terms::sum_scores;
@@ -154,7 +154,7 @@ pub fn collect_led(
     requires { ⌜ LedPre (now postings) (now norms) (now ranges) (now live) (now inverses) (now st) ⌝ }
     ensures { λ r. ⌜ LedPost (now (postings .entry)) (now (norms .entry)) (now (ranges .entry)) (now (live .entry)) (now (inverses .entry)) (now (st .entry)) t (now (heap .entry)) r (now (heap .exit)) ⌝ }
 {
-    let lead = score::node_at(&st[24..]);
+    let lead = leaf_score::node_at(&st[24..]);
     let scores = st[39];
     let at = 24 + wide(st[4]);
     let mut c = TopScoreDocCollector::new(t as u64);

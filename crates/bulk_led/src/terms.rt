@@ -74,7 +74,7 @@ pub fn sum_scores(
     while at < kids.len() {
         let end = at + PART;
         if kids[at + 15] == 1 {
-            let s = score::term_score(&kids[at..end], postings, norms, inverses, doc);
+            let s = leaf_score::term_score(&kids[at..end], postings, norms, inverses, doc);
             sum = ieee754::add_score(sum, s);
         }
         at = end;

@@ -12,7 +12,7 @@ use Rattle.meaning.specs.Live.{isLive}
 use Rattle.index.specs.Accepted.{Accepted}
 use Rattle.index.specs.Slices.{liveOnly}
 use Rattle.weight.specs.ScorerTree.{Scorer, matches}
-use Rattle.score.specs.Walks.{liveMatch}
+use Rattle.walk.specs.Walks.{liveMatch}
 
 and-false : (a : Bool) → a && false ≡ false
 and-false true = refl

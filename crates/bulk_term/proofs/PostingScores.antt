@@ -17,10 +17,10 @@ use Rattle.index.specs.Accepted.{Accepted}
 use Rattle.index.proofs.PostingAt.{posting-is}
 use Rattle.weight.specs.ScorerTree.{term, Scoring, constant, weighted, leafScore}
 use Rattle.weight.specs.Sound.{LeafTable}
-use Rattle.score.specs.declared.Node.{Node}
-use Rattle.score.specs.Asked.{LentAt}
-use Rattle.score.proofs.Leaves.{Weighs, answer, field-weighs, field-answer}
-use Rattle.score.proofs.Weights.{float-back, float-number}
+use Rattle.leaf_score.specs.declared.Node.{Node}
+use Rattle.leaf_score.specs.Asked.{LentAt}
+use Rattle.leaf_score.proofs.Leaves.{Weighs, answer, field-weighs, field-answer}
+use Rattle.leaf_score.proofs.Weights.{float-back, float-number}
 use Rattle.bulk_term.specs.Postings.{NodeScores, PostingAsks}
 
 frequency-few : (ix : Index) → Accepted ix → (l doc : ℕ) → l < leafCount ix → (o : Option ℕ) → postingAt ix l doc ≡ o → found o ≡ true → frequencyOf ix l o ≤ largestFrequency

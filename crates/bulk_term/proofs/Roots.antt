@@ -11,9 +11,9 @@ use Rattle.weight.specs.ScorerTree.{Scoring, constant, weighted, Scorer, leaf, 
 use Rattle.weight.specs.State.{State}
 use Rattle.weight.specs.Held.{ScoringIs, FloatIs, Ok}
 use Rattle.scorer.specs.Contracts.{Lent}
-use Rattle.score.specs.declared.Node.{Node}
-use Rattle.score.specs.Walks.{PageHeld}
-use Rattle.score.proofs.Leaves.{words-long}
+use Rattle.leaf_score.specs.declared.Node.{Node}
+use Rattle.walk.specs.Walks.{PageHeld}
+use Rattle.leaf_score.proofs.Leaves.{words-long}
 use Rattle.bulk_term.specs.Postings.{NodeScores}
 
 -- its scoring, as it is read

@@ -26,8 +26,8 @@ use Rattle.collector.specs.Collected.{Collected, Ready, Extended, Drawn, answer
 use Rattle.collector.proofs.Beginning.{ready-at, collected-later}
 use Rattle.meaning.proofs.Tests.{cmp}
 use Rattle.weight.specs.ScorerTree.{Scorer, matches, scorerScore}
-use Rattle.score.specs.Walks.{liveMatch, scored, liveScored}
-use Rattle.score.proofs.Pages.{match-is, walk-next}
+use Rattle.walk.specs.Walks.{liveMatch, scored, liveScored}
+use Rattle.walk.proofs.Pages.{match-is, walk-next}
 use Rattle.bulk_default.proofs.Collecting.{from-zero}
 
 from-append : (t : ℕ) (xs ys : List ScoreDoc) → fromTarget t (xs ++ ys) ≡ fromTarget t xs ++ fromTarget t ys

@@ -27,10 +27,10 @@ use Rattle.weight.specs.Held.{normsWord, LeafIs, Ok}
 use Rattle.weight.specs.Sound.{LeafSound, Sound, LeafTable, Tables}
 use Rattle.scorer.specs.Contracts.{Lent}
 use Rattle.meaning.proofs.Tests.{cmp}
-use Rattle.score.specs.declared.Node.{Node}
-use Rattle.score.specs.Words.{NodeIs}
-use Rattle.score.specs.Walks.{liveMatch, PageHeld}
-use Rattle.score.proofs.Leaves.{read}
+use Rattle.leaf_score.specs.declared.Node.{Node}
+use Rattle.leaf_score.specs.Words.{NodeIs}
+use Rattle.walk.specs.Walks.{liveMatch, PageHeld}
+use Rattle.leaf_score.proofs.Leaves.{read}
 use Rattle.bulk_default.specs.Collects.{CollectPre, CollectPost}
 use Rattle.bulk_term.specs.Postings.{NodeScores, PostingAsks}
 use Rattle.bulk_default.proofs.Collecting.{nonneg-clear}

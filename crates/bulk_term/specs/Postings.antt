@@ -10,7 +10,7 @@ use Rattle.index.specs.Accepted.{Accepted}
 use Rattle.weight.specs.ScorerTree.{term, Scoring, constant, weighted}
 use Rattle.weight.specs.Held.{normsWord, FloatIs}
 use Rattle.weight.specs.Sound.{LeafTable}
-use Rattle.score.specs.declared.Node.{Node}
+use Rattle.leaf_score.specs.declared.Node.{Node}
 
 -- how the node scores, in the two words that say it
 unfoldable pub NodeScores : Scoring → Node → Type 0

@@ -25,7 +25,7 @@ pub fn collect_term(
     requires { ⌜ ((E : Lent) × (places : ℕ) × (depth : ℕ) × (E .postings ≡ now postings) × (getD (now st) 0 0 ≡ 1) × CollectPre E (now norms) (now live) (now inverses) places (now st) depth) ⌝ }
     ensures { λ r. ⌜ ((E : Lent) (places depth : ℕ) → E .postings ≡ now (postings .entry) → CollectPost E (now (norms .entry)) (now (live .entry)) (now (inverses .entry)) places (now (st .entry)) depth t (now (heap .entry)) r (now (heap .exit))) ⌝ }
 {
-    let n = score::node_at(st);
+    let n = leaf_score::node_at(st);
     let mut c = TopScoreDocCollector::new(t as u64);
     let mut at = 3 * n.first;
     let end = at + 3 * n.number;

@@ -5,7 +5,7 @@ ghost use Rattle.meaning.specs.Lent.{Index};
 ghost use Rattle.ieee754.specs.Nonneg.{AtMost};
 ghost use Rattle.weight.specs.ScorerTree.{term, Scoring, leafScore};
 ghost use Rattle.bulk_term.specs.Postings.{PostingAsks};
-use score::Node;
+use leaf_score::Node;
 
 // The term's node and the posting's frequency are read by the caller, once for a run and once for a posting.
 pub fn posting_score(n: Node, norms: &[u8], inverses: &[f32], frequency: u32, doc: u32) -> f32
@@ -15,5 +15,5 @@ pub fn posting_score(n: Node, norms: &[u8], inverses: &[f32], frequency: u32, do
     if n.constant == 1 {
         return f32::from_bits(n.weight);
     }
-    score::weighted(norms, inverses, n, frequency, doc)
+    leaf_score::weighted(norms, inverses, n, frequency, doc)
 }

@@ -21,9 +21,9 @@ use Rattle.weight.specs.State.{State}
 use Rattle.weight.specs.Held.{ScoringIs}
 use Rattle.leaf_scorer.specs.Search.{cursorAt}
 use Rattle.meaning.proofs.Tests.{cmp}
-use Rattle.score.specs.declared.Node.{Node}
-use Rattle.score.specs.Words.{NodeIs}
-use Rattle.score.proofs.Leaves.{Read, read}
+use Rattle.leaf_score.specs.declared.Node.{Node}
+use Rattle.leaf_score.specs.Words.{NodeIs}
+use Rattle.leaf_score.proofs.Leaves.{Read, read}
 use Rattle.bulk_term.specs.Postings.{PostingAsks}
 use Rattle.bulk_window.specs.Windows.{Lending, TermHeld, AddedAt, AddedTo, NextIs}
 use Rattle.bulk_term.proofs.Roots.{node-scores}

@@ -18,7 +18,7 @@ use Rattle.ieee754.proofs.Bounds.{zero-atmost}
 use Rattle.weight.specs.ScorerTree.{term, Scoring, Scorer, leaf, Scorers, end, more, matches, leafMatches, matching, leafScore, scorerScore, optionalScores}
 use Rattle.weight.specs.Sound.{nodes, nodesOf}
 use Rattle.meaning.proofs.Tests.{cmp}
-use Rattle.score.proofs.Bounds.{scores-add, scores-more, zero-64}
+use Rattle.leaf_score.proofs.Bounds.{scores-add, scores-more, zero-64}
 use Rattle.bulk_window.specs.Windows.{TermHeld, TermsHeld, AddedAt, AddedTo, NextIs, SumsAt, Empty, TermsAdded}
 
 -- a later bound, an earlier document ahead

@@ -30,7 +30,7 @@ use Rattle.collector.specs.Collected.{Collected, Ready, Extended, Drawn, answer
 use Rattle.weight.specs.ScorerTree.{term, Scoring, Scorer, leaf, Scorers, end, more, matches, matching, optionalScores}
 use Rattle.meaning.proofs.Tests.{cmp}
 use Rattle.scorer.proofs.Firsts.{matching-end}
-use Rattle.score.specs.Walks.{liveMatch, liveScored}
+use Rattle.walk.specs.Walks.{liveMatch, liveScored}
 use Rattle.bulk_window.specs.Windows.{TermsHeld, TermsAdded, Reached, PlaceIs, PlacePre, PlacePost, WindowIs, ByTerms}
 use Rattle.bulk_term.proofs.LiveMatches.{live-of, live-there, not-match, not-live, not-below, is-match}
 use Rattle.bulk_term.proofs.Sofar.{Sofar, sofar-start, sofar-skip, sofar-ready, sofar-take, sofar-done}

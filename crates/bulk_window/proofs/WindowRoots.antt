@@ -20,9 +20,9 @@ use Rattle.weight.specs.Sound.{LeafSound, Sound, Sounds, LeafTable, Tables, Tab
 use Rattle.scorer.specs.Contracts.{Lent}
 use Rattle.leaf_scorer.proofs.Bounds.{ok-length, ok-long, oks-length}
 use Rattle.scorer.proofs.Nodes.{leaf-kind}
-use Rattle.score.specs.Walks.{PageHeld}
+use Rattle.walk.specs.Walks.{PageHeld}
 use Rattle.score.proofs.Alone.{group-alone as alone}
-use Rattle.score.proofs.Bounds.{scores-narrow}
+use Rattle.leaf_score.proofs.Bounds.{scores-narrow}
 use Rattle.bulk_window.specs.Windows.{FreshTerms, SuitsWindows, TermHeld, TermsHeld, ByTerms}
 
 -- a group that joins nothing

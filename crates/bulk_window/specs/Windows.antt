@@ -21,7 +21,7 @@ use Rattle.weight.specs.ScorerTree.{term, Scoring, Scorer, leaf, Scorers, end, 
 use Rattle.weight.specs.State.{State, wordsOf}
 use Rattle.weight.specs.Held.{normsWord, ScoringIs}
 use Rattle.weight.specs.Sound.{LeafTable, nodesOf}
-use Rattle.score.specs.Walks.{liveScored}
+use Rattle.walk.specs.Walks.{liveScored}
 
 -- ---- which trees
 -- records of terms, one after the other, none of which has passed a posting

@@ -10,14 +10,14 @@ ghost use Rattle.meaning.specs.Entries.{written};
 ghost use Rattle.collector.specs.Collected.{answer};
 ghost use Rattle.weight.specs.ScorerTree.{Scorer, Scorers};
 ghost use Rattle.scorer.specs.Contracts.{Lent};
-ghost use Rattle.score.specs.Walks.{liveScored};
+ghost use Rattle.walk.specs.Walks.{liveScored};
 ghost use Rattle.bulk_default.specs.Collects.{CollectPre, CollectPost};
 ghost use Rattle.bulk_window.specs.Windows.{FreshTerms, SuitsWindows, Room, Empty, AddPre, AddPost, TermsPre, TermsPost, PlacePre, PlacePost, WindowPre, WindowPost, ByTerms};
 use bulk_term::posting::posting_score;
 use collector::TopDocs;
 use collector::TopScoreDocCollector;
 use index::wide;
-use score::walk::NO_MORE_DOCS;
+use walk::NO_MORE_DOCS;
 
 // What is left of a, where b may be more.
 fn less(a: usize, b: usize) -> usize {
@@ -84,7 +84,7 @@ fn add_postings(
     requires { ⌜ AddPre (now postings) (now norms) (now inverses) (now kid) base ⌝ }
     ensures { λ r. ⌜ AddPost (now (postings .entry)) (now (norms .entry)) (now (inverses .entry)) (now (kid .entry)) base (now (sums .entry)) (now (counts .entry)) (now (kid .exit)) (now (sums .exit)) (now (counts .exit)) r ⌝ }
 {
-    let n = score::node_at(kid);
+    let n = leaf_score::node_at(kid);
     let mut i = n.cursor;
     while i < n.number {
         let at = 3 * (n.first + i);

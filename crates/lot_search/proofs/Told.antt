@@ -14,7 +14,7 @@ use Rattle.meaning.specs.Hits.{hits}
 use Rattle.meaning.specs.CallRefusals.{Work}
 use Rattle.meaning.specs.Entries.{answered, written, Kept, searchRefusal, searchAnswer, searchHits, pageOf, pageRefusal, pageAnswer, pageDocuments, pageScores, pickedList, pickRefusal, pickAnswer, pickHits}
 use Rattle.collector.specs.declared.TopDocs.{TopDocs}
-use Rattle.score.specs.declared.walk.Listed.{Listed}
+use Rattle.walk.specs.declared.Listed.{Listed}
 use Rattle.searcher.specs.declared.search.Searched.{Searched}
 use Rattle.searcher.specs.declared.search.Searched.the-variants as Searched
 use Rattle.searcher.specs.declared.page.Paged.{Paged}

@@ -15,8 +15,8 @@ use Rattle.meaning.specs.Entries.{written, topDocs, searchRefusal, searchAnswer
 use Rattle.collector.specs.declared.TopDocs.{TopDocs}
 use Rattle.collector.specs.Collected.{answer, numbers}
 use Rattle.collector.proofs.Best.{written-part}
-use Rattle.score.specs.declared.walk.Listed.{Listed}
-use Rattle.score.specs.Walks.{PageIs}
+use Rattle.walk.specs.declared.Listed.{Listed}
+use Rattle.walk.specs.Walks.{PageIs}
 use Rattle.searcher.specs.declared.search.Searched.the-variants as Searched
 use Rattle.searcher.specs.declared.page.Paged.the-variants as Paged
 use Rattle.searcher.specs.Answers.{searchedNumbers, pagedNumbers}

@@ -7,10 +7,10 @@ ghost use Rattle.meaning.specs.CallRefusals.{workShort};
 ghost use Rattle.meaning.specs.Entries.{Kept, pageOf, pageRefusal, pageAnswer, pageDocuments, pageScores};
 ghost use Rattle.index.specs.Slices.{lent};
 ghost use Rattle.weight.specs.Measured.{Asks};
-ghost use Rattle.score.specs.Walks.{PageIs};
+ghost use Rattle.walk.specs.Walks.{PageIs};
 ghost use Rattle.order_check.specs.Lends.{work};
 ghost use Rattle.searcher.specs.Answers.{pagedNumbers};
-use score::walk::Listed;
+use walk::Listed;
 
 pub enum Paged {
     Refused(u32),
@@ -102,7 +102,7 @@ fn list_page(
     let mut inverses: [f32; 4096] = [0.0; 4096];
     inverses::fill_inverses(max_doc, fields, leaves, q, &mut inverses);
     let size = build::build(max_doc, fields, leaves, columns, values, q, states, ranges);
-    score::walk::list(
+    walk::list(
         &mut states[..size],
         max_doc,
         postings,

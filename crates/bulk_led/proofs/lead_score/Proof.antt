@@ -1,6 +1,6 @@
 -- `bulk_led::lead_score` meets its contract. Assumes nothing.
 use native.Mathlib.Omega.{arith}
-use Rattle.score.proofs.Bounds.{zero-32}
+use Rattle.leaf_score.proofs.Bounds.{zero-32}
 use Rattle.bulk_led.proofs.LedRuns.{lead-run, lead-posting, lead-scored, lead-constant, lead-zero}
 use Rattle.bulk_led.proofs.lead_score.Statement.{statement}
 use Rattle.bulk_led.proofs.lead_score.Tie as tie

@@ -11,7 +11,7 @@ use Rattle.weight.specs.ScorerTree.{Joining, leaf, end, more, requiredScores, j
 use Rattle.weight.specs.Sound.{nodesOf}
 use Rattle.leaf_scorer.proofs.Bounds.{oks-length}
 use Rattle.score.proofs.Alone.{none-left}
-use Rattle.score.proofs.Bounds.{scores-add, zero-64}
+use Rattle.leaf_score.proofs.Bounds.{scores-add, zero-64}
 use native.Mathlib.Omega.{arith}
 use Rattle.bulk_led.proofs.TermSums.{must-score, no-score}
 use Rattle.bulk_led.proofs.LedRuns.{led-took, led-skipped, led-alone}

@@ -10,7 +10,8 @@ use Rattle.meaning.specs.Lent.{Index}
 use Rattle.ieee754.specs.Nonneg.{AtMost}
 use Rattle.weight.specs.ScorerTree.{Scorers, allMatch}
 use Rattle.weight.specs.Held.{Oks}
-use Rattle.score.specs.Asked.{LentAt, Scorables}
+use Rattle.score.specs.Asked.{Scorables}
+use Rattle.leaf_score.specs.Asked.{LentAt}
 use Rattle.bulk_led.specs.Terms.{TermsOnly}
 use Rattle.bulk_led.proofs.TermSums.{TermSum, term-sum-start, term-sum-end, sum-here, sum-skip, sum-kind, sum-asks, sum-number, sum-more}
 use Rattle.bulk_led.proofs.terms.sum_scores.Statement.{statement}

@@ -18,8 +18,8 @@ use Rattle.weight.specs.ScorerTree.{Scorer, matches, scorerScore}
 use Rattle.weight.specs.Held.{Ok}
 use Rattle.weight.specs.Sound.{Lends}
 use Rattle.scorer.specs.Contracts.{Lent, RoomIn, NodeHeld}
-use Rattle.score.specs.Asked.{Scorable}
-use Rattle.score.specs.declared.walk.Listed.{Listed}
+use Rattle.leaf_score.specs.Asked.{Scorable}
+use Rattle.walk.specs.declared.Listed.{Listed}
 
 -- a live document of the index that the scorer matches
 unfoldable pub liveMatch : Index → Scorer → ℕ → Bool

@@ -1,12 +1,12 @@
--- `score::term_score` meets its contract: a constant, or what BM25 gives at the frequency that is found. Assumes nothing.
+-- `leaf_score::term_score` meets its contract: a constant, or what BM25 gives at the frequency that is found. Assumes nothing.
 use native.Mathlib.Omega.{arith}
 use mathlib.Core.Path.{_≡_, sym, _∙_}
 use Prim.Native.Nat.{ℕ}
 use Rattle.leaf_scorer.proofs.Bounds.{ok-long}
-use Rattle.score.proofs.Nodes.{constant-is, leaf-at}
-use Rattle.score.proofs.Leaves.{read, term-run, term-weighs, term-done}
-use Rattle.score.proofs.term_score.Statement.{statement}
-use Rattle.score.proofs.term_score.Tie as tie
+use Rattle.leaf_score.proofs.Nodes.{constant-is, leaf-at}
+use Rattle.leaf_score.proofs.Leaves.{read, term-run, term-weighs, term-done}
+use Rattle.leaf_score.proofs.term_score.Statement.{statement}
+use Rattle.leaf_score.proofs.term_score.Tie as tie
 
 no-boolean : (kind word : ℕ) → kind ≡ word → word ≡ 1 → kind ≡ 3 → ⊥
 no-boolean kind word e f g = omega arith

@@ -19,7 +19,7 @@ use Rattle.meaning.specs.FullList.{ScoreDoc}
 use Rattle.meaning.specs.Pages.{PageOf, page, fromTarget, firstDoc}
 use Rattle.meaning.specs.Entries.{written}
 use Rattle.weight.specs.ScorerTree.{Scorer, matches, scorerScore}
-use Rattle.score.specs.Walks.{liveMatch, scored, liveScored}
+use Rattle.walk.specs.Walks.{liveMatch, scored, liveScored}
 use Rattle.meaning.proofs.Tests.{cmp}
 
 from-append : (t : ℕ) (xs ys : List ScoreDoc) → fromTarget t (xs ++ ys) ≡ fromTarget t xs ++ fromTarget t ys

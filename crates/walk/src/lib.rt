@@ -2,7 +2,7 @@
 ghost use Prim.Native.Nat.{min};
 ghost use lib.ListN.{length};
 ghost use Rattle.scorer.specs.Contracts.{lent};
-ghost use Rattle.score.specs.Walks.{NextPre, NextPost, ListPre, ListPost};
+ghost use Rattle.walk.specs.Walks.{NextPre, NextPost, ListPre, ListPost};
 
 // Above every document.
 pub const NO_MORE_DOCS: u32 = 2147483647;
@@ -89,7 +89,7 @@ pub fn list(
         if next == NO_MORE_DOCS {
             return Listed { given, next };
         }
-        let s = crate::score(
+        let s = score::score(
             st,
             max_doc,
             postings,

@@ -1,4 +1,4 @@
--- `score::weighted` meets its contract. Assumes nothing.
+-- `leaf_score::weighted` meets its contract. Assumes nothing.
 use native.Mathlib.Omega.{arith}
 use Prim.Native.Nat.{ℕ, _+_, _*_, _≤_}
 use mathlib.Core.Path.{_≡_, sym, ap, subst, _∙_}
@@ -8,8 +8,8 @@ use lib.ListN.{getD}
 use lib.Ieee.{Float, nan, binary32, inFloat, ofBits, ofInt}
 use borrow.Author.Needs.{needs}
 use Rattle.meaning.specs.Bm25.{bm25}
-use Rattle.score.proofs.weighted.Statement.{statement}
-use Rattle.score.proofs.weighted.Tie as tie
+use Rattle.leaf_score.proofs.weighted.Statement.{statement}
+use Rattle.leaf_score.proofs.weighted.Tie as tie
 
 few : (n : ℕ) → n ≤ 16777216 → T (inFloat binary32 (pos n))
 unfolding inFloat

@@ -1,15 +1,15 @@
--- `score::walk::list` meets its contract: what is written are the first live matches. Assumes nothing.
+-- `walk::list` meets its contract: what is written are the first live matches. Assumes nothing.
 use Prim.Native.Nat.{ℕ, _+_, _-_, _≤_, _<_, min}
 use mathlib.Core.Path.{_≡_, refl, sym, ap, _∙_}
 use native.Mathlib.Omega.{arith}
 use lib.ListN.{length, length-set}
 use Rattle.meaning.specs.Limits.{noMoreDocs}
 use Rattle.score.proofs.Loops.{places-same}
-use Rattle.score.proofs.Walking.{GivenAt, page-first-asks, begun, page-start, page-top, page-score-asks, page-number, page-next-asks, page-more, page-none, page-full, page-done}
-use Rattle.score.proofs.walk.list.Statement.{statement}
-use Rattle.score.proofs.walk.list.Tie as tie
-use Rattle.score.proofs.walk.list.Reads as reads
-use Rattle.score.proofs.walk.list.Lts as lts
+use Rattle.walk.proofs.Walking.{GivenAt, page-first-asks, begun, page-start, page-top, page-score-asks, page-number, page-next-asks, page-more, page-none, page-full, page-done}
+use Rattle.walk.proofs.list.Statement.{statement}
+use Rattle.walk.proofs.list.Tie as tie
+use Rattle.walk.proofs.list.Reads as reads
+use Rattle.walk.proofs.list.Lts as lts
 
 abbrev Inv-loop : tie.InvT-loop
 Inv-loop st₀ max-doc postings positions norms ranges inverses live a₀ b₀ from depth docs₀ bits₀ next₀ given₀ st a b docs bits next given =

@@ -21,14 +21,14 @@ use Rattle.ieee754.proofs.Bounds.{atmost-number}
 use Rattle.index.specs.Slices.{liveOnly}
 use Rattle.weight.specs.ScorerTree.{Scorer, matches, scorerScore}
 use Rattle.weight.specs.Held.{Ok}
-use Rattle.score.specs.declared.walk.Listed.{Listed}
+use Rattle.walk.specs.declared.Listed.{Listed}
 use Rattle.scorer.specs.Contracts.{Lent, lent, RoomIn, NodeHeld, AdvancePre, AdvancePost}
-use Rattle.score.specs.Asked.{LentAt, ScoreIs, ScorePre, ScorePost}
-use Rattle.score.specs.Walks.{liveMatch, scored, liveScored, NextPre, NextPost, PageHeld, ListPre, PageIs, ListPost}
+use Rattle.leaf_score.specs.Asked.{LentAt, ScoreIs, ScorePre, ScorePost}
+use Rattle.walk.specs.Walks.{liveMatch, scored, liveScored, NextPre, NextPost, PageHeld, ListPre, PageIs, ListPost}
 use Rattle.meaning.proofs.Tests.{cmp}
 use Rattle.score.proofs.Loops.{scorable-at}
 use Rattle.leaf_scorer.proofs.Bounds.{ok-mono}
-use Rattle.score.proofs.Pages.{match-is, walk-end, walk-next, page-given, page-all, write-next}
+use Rattle.walk.proofs.Pages.{match-is, walk-end, walk-next, page-given, page-all, write-next}
 
 -- ---- what is a live match
 live-of : (ix : Index) (live : List ℕ) (d : ℕ) → ix .live ≡ live → isLive (liveOnly live) d ≡ isLive ix d

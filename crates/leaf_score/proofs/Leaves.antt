@@ -23,12 +23,12 @@ use Rattle.weight.specs.ScorerTree.{Leaf, nothing, term, phrase, range, everyth
 use Rattle.weight.specs.State.{State, wordsOf}
 use Rattle.weight.specs.Held.{normsWord, TermIs, PhraseIs, LeafIs, FloatIs}
 use Rattle.weight.specs.Sound.{Lends, LeafSound, EachTerm, FieldTable, LeafTable}
-use Rattle.score.specs.declared.Node.{Node}
-use Rattle.score.specs.Words.{NodeIs, byteAt}
+use Rattle.leaf_score.specs.declared.Node.{Node}
+use Rattle.leaf_score.specs.Words.{NodeIs, byteAt}
 use Rattle.leaf_scorer.specs.Phrases.{PhraseHeld}
-use Rattle.score.specs.Asked.{LentAt, LeafAsks, LeafKept, Same, FrequencyPost}
-use Rattle.score.proofs.Frequencies.{Scanned, scanned, phrase-frequency-few}
-use Rattle.score.proofs.Weights.{float-back, float-number, norm-there, norm-is, inverse-there, weighted-is, weighted-small}
+use Rattle.leaf_score.specs.Asked.{LentAt, LeafAsks, LeafKept, Same, FrequencyPost}
+use Rattle.leaf_score.proofs.Frequencies.{Scanned, scanned, phrase-frequency-few}
+use Rattle.leaf_score.proofs.Weights.{float-back, float-number, norm-there, norm-is, inverse-there, weighted-is, weighted-small}
 
 -- the record's words, as they are read
 pub record Read (n : Node) (s : State) : Type 0 where

@@ -1,4 +1,4 @@
--- `score::phrase_frequency` meets its contract: what is stored for the document is its frequency. Assumes nothing.
+-- `leaf_score::phrase_frequency` meets its contract: what is stored for the document is its frequency. Assumes nothing.
 use native.Mathlib.Omega.{arith}
 use Prim.Native.Nat.{ℕ, suc, _+_, _≤_, _<_}
 use mathlib.Core.Path.{_≡_, refl, sym, ap, subst, _∙_}
@@ -15,10 +15,10 @@ use Rattle.meaning.specs.First.{First}
 use Rattle.meaning.specs.Phrase.{phraseFrequency}
 use Rattle.weight.specs.Held.{PhraseIs}
 use Rattle.leaf_scorer.specs.Phrases.{PhrasePost}
-use Rattle.score.specs.Asked.{FrequencyPost}
-use Rattle.score.proofs.Leaves.{words-long}
-use Rattle.score.proofs.phrase_frequency.Statement.{statement}
-use Rattle.score.proofs.phrase_frequency.Tie as tie
+use Rattle.leaf_score.specs.Asked.{FrequencyPost}
+use Rattle.leaf_score.proofs.Leaves.{words-long}
+use Rattle.leaf_score.proofs.phrase_frequency.Statement.{statement}
+use Rattle.leaf_score.proofs.phrase_frequency.Tie as tie
 
 more : (d : ℕ) → d + 1 ≡ suc d
 more d = omega arith

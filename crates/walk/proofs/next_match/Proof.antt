@@ -1,4 +1,4 @@
--- `score::walk::next_match` meets its contract: what the loop has passed is no live match. Assumes nothing.
+-- `walk::next_match` meets its contract: what the loop has passed is no live match. Assumes nothing.
 use Prim.Native.Nat.{ℕ, _+_, _-_, _≤_, _<_}
 use mathlib.Core.Path.{_≡_, refl, sym, ap, _∙_}
 use mathlib.Core.Bool.{true, false}
@@ -6,11 +6,11 @@ use native.Mathlib.Omega.{arith}
 use lib.ListN.{length}
 use Rattle.meaning.specs.Limits.{noMoreDocs}
 use Rattle.scorer.specs.Contracts.{lent}
-use Rattle.score.proofs.Walking.{WalkAt, walk-start, walk-asks, walk-top, walk-from, walk-live, walk-stop, walk-found, walk-more}
-use Rattle.score.proofs.walk.next_match.Statement.{statement}
-use Rattle.score.proofs.walk.next_match.Tie as tie
-use Rattle.score.proofs.walk.next_match.Reads as reads
-use Rattle.score.proofs.walk.next_match.Lts as lts
+use Rattle.walk.proofs.Walking.{WalkAt, walk-start, walk-asks, walk-top, walk-from, walk-live, walk-stop, walk-found, walk-more}
+use Rattle.walk.proofs.next_match.Statement.{statement}
+use Rattle.walk.proofs.next_match.Tie as tie
+use Rattle.walk.proofs.next_match.Reads as reads
+use Rattle.walk.proofs.next_match.Lts as lts
 
 abbrev Inv-loop : tie.InvT-loop
 Inv-loop st₀ max-doc postings positions ranges live a₀ b₀ from depth target₀ st a b target =

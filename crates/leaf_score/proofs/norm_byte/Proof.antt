@@ -1,4 +1,4 @@
--- `score::norm_byte` meets its contract. Assumes nothing.
+-- `leaf_score::norm_byte` meets its contract. Assumes nothing.
 use native.Mathlib.Omega.{arith}
 use Prim.Native.Nat.{ℕ, _+_, _-_, _<_}
 use mathlib.Core.Path.{_≡_, sym, ap, _∙_}
@@ -8,9 +8,9 @@ use lib.Dec.{eqb}
 use lib.ListN.{length, getD}
 use borrow.Author.Tests.{eq-eqb, ne-eqb}
 use borrow.Author.Needs.{needs}
-use Rattle.score.specs.Words.{byteAt}
-use Rattle.score.proofs.norm_byte.Statement.{statement}
-use Rattle.score.proofs.norm_byte.Tie as tie
+use Rattle.leaf_score.specs.Words.{byteAt}
+use Rattle.leaf_score.proofs.norm_byte.Statement.{statement}
+use Rattle.leaf_score.proofs.norm_byte.Tie as tie
 
 byte-one : (norms : List ℕ) (begin doc : ℕ) → begin ≡ 0 → 1 ≡ byteAt norms begin doc
 byte-one norms begin doc e = rw (eq-eqb begin 0 e)

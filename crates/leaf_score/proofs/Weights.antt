@@ -23,7 +23,7 @@ use Rattle.sim.proofs.ScoreBounds.{score-atmost}
 use Rattle.index.specs.Accepted.{Accepted}
 use Rattle.weight.specs.Held.{normsWord, FloatIs}
 use Rattle.weight.specs.Sound.{FieldTable}
-use Rattle.score.specs.Words.{byteAt}
+use Rattle.leaf_score.specs.Words.{byteAt}
 use Rattle.meaning.proofs.Tests.{cmp}
 
 -- a score in words

@@ -1,15 +1,15 @@
--- `score::leaf_score` meets its contract. Assumes nothing.
+-- `leaf_score::leaf_score` meets its contract. Assumes nothing.
 use native.Mathlib.Omega.{arith}
 use Prim.Native.Nat.{ℕ, _≤_, min}
 use mathlib.Core.Path.{_≡_, sym, ap, _∙_}
 use lib.ListN.{length}
 use borrow.Author.Needs.{needs}
-use Rattle.score.proofs.Bounds.{zero-32}
-use Rattle.score.proofs.Leaves.{read, words-long, term-run, term-weighs, term-done, few-documents, phrase-asks, phrase-weighs, phrase-done, other-done}
-use Rattle.score.proofs.leaf_score.Statement.{statement}
-use Rattle.score.proofs.leaf_score.Tie as tie
-use Rattle.score.proofs.leaf_score.Reads as reads
-use Rattle.score.proofs.leaf_score.Lts as lts
+use Rattle.leaf_score.proofs.Bounds.{zero-32}
+use Rattle.leaf_score.proofs.Leaves.{read, words-long, term-run, term-weighs, term-done, few-documents, phrase-asks, phrase-weighs, phrase-done, other-done}
+use Rattle.leaf_score.proofs.leaf_score.Statement.{statement}
+use Rattle.leaf_score.proofs.leaf_score.Tie as tie
+use Rattle.leaf_score.proofs.leaf_score.Reads as reads
+use Rattle.leaf_score.proofs.leaf_score.Lts as lts
 
 room : (a b : ℕ) → min a b ≤ a
 room a b = omega arith

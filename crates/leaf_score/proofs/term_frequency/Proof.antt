@@ -1,4 +1,4 @@
--- `score::term_frequency` meets its contract: what the loop has passed is not the document's. Assumes nothing.
+-- `leaf_score::term_frequency` meets its contract: what the loop has passed is not the document's. Assumes nothing.
 use Prim.Native.Nat.{ℕ, _+_, _-_, _≤_, _<_}
 use mathlib.Core.Path.{_≡_, sym, ap, _∙_}
 use mathlib.Core.Logic.{⊎-elim}
@@ -7,8 +7,8 @@ use native.Mathlib.Nat.{eq-or-lt-of-le}
 use borrow.Author.Count.{below-more}
 use Rattle.index.specs.Runs.{postingDocument, postingFrequency}
 use Rattle.meaning.proofs.Tests.{cmp}
-use Rattle.score.proofs.term_frequency.Statement.{statement}
-use Rattle.score.proofs.term_frequency.Tie as tie
+use Rattle.leaf_score.proofs.term_frequency.Statement.{statement}
+use Rattle.leaf_score.proofs.term_frequency.Tie as tie
 
 abbrev Inv-loop : tie.InvT-loop
 Inv-loop postings first number cursor doc i₀ i = (k : ℕ) → k < i → cursor ≤ k → postingDocument postings first k ≡ doc → ⊥
