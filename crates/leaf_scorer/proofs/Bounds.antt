@@ -167,12 +167,16 @@ ok-long ix R T k o y b p = front-long (ok-front ix R T k o y b p)
 pub ok-cached : (ix : Index) (R : List ℕ) (T : Scorer) (k o : ℕ) (y : List ℕ) (b : ℕ) → Ok ix R T k o y b → Cache (matches ix T) b (getD y 2 0)
 ok-cached ix R T k o y b p = let f = ok-front ix R T k o y b p in rw (f .is) (f .cache)
 
--- a node whose first word is 1 is a term: its part is one record
-pub ok-term : (ix : Index) (R : List ℕ) (T : Scorer) (k o : ℕ) (y : List ℕ) (b : ℕ) → Ok ix R T k o y b → getD y 0 0 ≡ 1 → length y ≡ 24
+-- a node that is neither a phrase nor a Boolean: its part is one record
+pub ok-single : (ix : Index) (R : List ℕ) (T : Scorer) (k o : ℕ) (y : List ℕ) (b : ℕ) → Ok ix R T k o y b → (getD y 0 0 ≡ 2 → ⊥) → (getD y 0 0 ≡ 3 → ⊥) → length y ≡ 24
 unfolding Ok LeafIs
-ok-term ix R (leaf nothing sc) k o y b p e = absurd (omega (arith, ap (λ (l : List ℕ). getD l 0 0) (p .2), p .4 .0))
-ok-term ix R (leaf (term l) sc) k o y b p e = omega (arith, ap length (p .2), ap length (p .4 .1))
-ok-term ix R (leaf (phrase f ts) sc) k o y b p e = absurd (omega (arith, ap (λ (l : List ℕ). getD l 0 0) (p .2), p .4 .kind-is))
-ok-term ix R (leaf (range r) sc) k o y b p e = absurd (omega (arith, ap (λ (l : List ℕ). getD l 0 0) (p .2), p .4 .0 .kind-is))
-ok-term ix R (leaf everything sc) k o y b p e = absurd (omega (arith, ap (λ (l : List ℕ). getD l 0 0) (p .2), p .4 .0))
-ok-term ix R (boolean c j need rs os ps) k o y b p e = absurd (omega (arith, ap (λ (l : List ℕ). getD l 0 0) (p .4), p .7 .kind-is))
+ok-single ix R (leaf nothing sc) k o y b p n2 n3 = omega (arith, ap length (p .2), ap length (p .4 .3))
+ok-single ix R (leaf (term l) sc) k o y b p n2 n3 = omega (arith, ap length (p .2), ap length (p .4 .1))
+ok-single ix R (leaf (phrase f ts) sc) k o y b p n2 n3 = absurd (n2 (ap (λ (l : List ℕ). getD l 0 0) (p .2) ∙ p .4 .kind-is))
+ok-single ix R (leaf (range r) sc) k o y b p n2 n3 = omega (arith, ap length (p .2), ap length (p .4 .1))
+ok-single ix R (leaf everything sc) k o y b p n2 n3 = omega (arith, ap length (p .2), ap length (p .4 .2))
+ok-single ix R (boolean c j need rs os ps) k o y b p n2 n3 = absurd (n3 (ap (λ (l : List ℕ). getD l 0 0) (p .4) ∙ p .7 .kind-is))
+
+-- so one whose first word is 1, a term
+pub ok-term : (ix : Index) (R : List ℕ) (T : Scorer) (k o : ℕ) (y : List ℕ) (b : ℕ) → Ok ix R T k o y b → getD y 0 0 ≡ 1 → length y ≡ 24
+ok-term ix R T k o y b p e = ok-single ix R T k o y b p (λ x. omega (arith, e)) (λ x. omega (arith, e))

@@ -4,4 +4,5 @@ pub mod Loops
 pub mod LeafLaws
 pub mod PhraseLaws
 pub mod Seeks
+pub mod Asked
 pub mod Stands

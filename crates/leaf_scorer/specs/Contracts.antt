@@ -1,7 +1,8 @@
 -- What a leaf of a scorer tree asks and answers. Assumes nothing: these are definitions.
 use mathlib.Core.Path.{_≡_}
+use mathlib.Core.Bool.{Bool, true, false}
 use mathlib.Core.List.{List, _++_}
-use Prim.Native.Nat.{ℕ, _≤_}
+use Prim.Native.Nat.{ℕ, _≤_, _<_}
 use Rattle.meaning.specs.Limits.{noMoreDocs}
 use Rattle.meaning.specs.Lent.{Index}
 use Rattle.meaning.specs.First.{First}
@@ -53,3 +54,10 @@ LeafPre E a b st target = (target ≤ noMoreDocs) × ((ix : Index) × (places : 
 
 abbrev pub LeafPost : Lent → List ℕ → ℕ → ℕ → List ℕ → Type 0
 LeafPost E st target r st′ = (ix : Index) (places : ℕ) (l : Leaf) (s : State) (w : List ℕ) → LeafHeld E ix places l s w st target → First (leafMatches ix l) target r × LeafMoved E ix l s st′ r
+
+-- asked about t alone, or one pass over several: nothing from t up to r is taken, and r is if it is t
+pub record Passes (P : ℕ → Bool) (t r : ℕ) : Type 0 where
+  pub from : t ≤ r
+  pub top : r ≤ noMoreDocs
+  pub before : (d : ℕ) → t ≤ d → d < r → P d ≡ false
+  pub hit : r ≡ t → r < noMoreDocs → P r ≡ true

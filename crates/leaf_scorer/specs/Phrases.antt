@@ -15,6 +15,7 @@ use Rattle.weight.specs.ScorerTree.{phrase}
 use Rattle.weight.specs.State.{State, wordsOf}
 use Rattle.weight.specs.Held.{TermIs, TermsAre, PhraseIs}
 use Rattle.weight.specs.Sound.{LeafSound}
+use Rattle.leaf_scorer.specs.Contracts.{Passes}
 
 -- every term has a posting of the document
 unfoldable pub allFound : Index → List PhraseTerm → ℕ → Bool
@@ -167,3 +168,8 @@ pub record PhraseMoved (ix : Index) (f : ℕ) (ts : List PhraseTerm) (s : State)
 -- .. and the frequency that is stored is that of the document where the phrase stands
 abbrev pub PhrasePost : List ℕ → List ℕ → List ℕ → ℕ → ℕ → List ℕ → Type 0
 PhrasePost postings positions st target r st′ = (ix : Index) (places f : ℕ) (ts : List PhraseTerm) (s : State) (w : List ℕ) → PhraseHeld postings positions ix places f ts s w st target → First (λ d. ltb 0 (phraseFrequency ix ts d)) target r × PhraseMoved ix f ts s st′ r × (r < noMoreDocs → getD st′ 16 0 ≡ r + 1)
+
+-- asked about the target alone: r is the target where the phrase stands there
+abbrev pub PhraseAtPost : List ℕ → List ℕ → List ℕ → ℕ → ℕ → List ℕ → Type 0
+PhraseAtPost postings positions st target r st′ =
+    (ix : Index) (places f : ℕ) (ts : List PhraseTerm) (s : State) (w : List ℕ) → PhraseHeld postings positions ix places f ts s w st target → Passes (λ d. ltb 0 (phraseFrequency ix ts d)) target r × PhraseMoved ix f ts s st′ r

@@ -3,7 +3,7 @@ ghost use mathlib.Core.Path.{_≡_};
 ghost use Prim.Native.Nat.{ℕ, _+_, _*_, _≤_, _<_};
 ghost use lib.ListN.{length};
 ghost use Rattle.leaf_scorer.specs.Search.{CursorRead, SearchPre, SearchPost, AnyDocument};
-ghost use Rattle.leaf_scorer.specs.Phrases.{TermsPre, PassTermsPost, LeapfrogPost, PlaceAt, PlaceRead, GatherPre, GatherPost, FrequencyPre, FrequencyPost, PhrasePre, PhrasePost};
+ghost use Rattle.leaf_scorer.specs.Phrases.{TermsPre, PassTermsPost, LeapfrogPost, PlaceAt, PlaceRead, GatherPre, GatherPost, FrequencyPre, FrequencyPost, PhrasePre, PhrasePost, PhraseAtPost};
 ghost use Rattle.leaf_scorer.specs.Contracts.{lent, LeafPre, LeafPost};
 use index::wide;
 use run::document;
@@ -20,7 +20,7 @@ const RANGE: u32 = 4;
 // The words of a posting; a document of a range is one word.
 const POSTING: usize = 3;
 
-const ENTRY: usize = 1;
+pub const ENTRY: usize = 1;
 
 // The words of a record.
 const RECORD: usize = 24;
@@ -47,7 +47,7 @@ fn cursor_at(st: &[u32]) -> Cursor
 }
 
 // Moves a record's cursor to the first document at or after the target.
-fn search(st: &mut [u32], words: &[u32], stride: usize, target: u32) -> u32
+pub fn search(st: &mut [u32], words: &[u32], stride: usize, target: u32) -> u32
     requires { ⌜ SearchPre (now words) stride (now st) target ⌝ }
     ensures { λ r. ⌜ SearchPost (now (words .entry)) stride (now (st .entry)) target r (now (st .exit)) ⌝ }
 {
@@ -224,6 +224,36 @@ pub fn seek_phrase(
             return d;
         }
     }
+}
+
+// Whether a phrase stands at the target: the target where it does, and its frequency is stored; else a document beyond it, before
+// which it stands nowhere. Positions are read only at the target.
+pub fn phrase_at(
+    st: &mut [u32],
+    postings: &[u32],
+    positions: &[u32],
+    a: &mut [i32],
+    b: &mut [i32],
+    target: u32,
+) -> u32
+    requires { ⌜ PhrasePre (now postings) (now positions) (length (now a)) (length (now b)) (now st) target ⌝ }
+    ensures { λ r. ⌜ PhraseAtPost (now (postings .entry)) (now (positions .entry)) (now (st .entry)) target r (now (st .exit)) ⌝ }
+{
+    let p = pass_terms(&mut st[RECORD..], postings, target);
+    let d = p.doc;
+    if d != target {
+        return d;
+    }
+    if d == NO_MORE_DOCS {
+        return d;
+    }
+    let n = frequency(&st[RECORD..], postings, positions, a, b);
+    if n == 0 {
+        return d + 1;
+    }
+    st[16] = d + 1;
+    st[17] = n;
+    d
 }
 
 // A leaf of any kind, asked for a document beyond the one where it stands.

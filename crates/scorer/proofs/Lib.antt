@@ -4,5 +4,6 @@ pub mod Children
 pub mod Loops
 pub mod Leads
 pub mod Nodes
+pub mod Asked
 pub mod Terms
 pub mod Example

@@ -13,7 +13,7 @@ use Rattle.weight.specs.ScorerTree.{Scorer, Scorers, matches, allMatch, anyMatc
 use Rattle.weight.specs.State.{sizesOf}
 use Rattle.weight.specs.Held.{Ok, Oks}
 use Rattle.weight.specs.Sound.{Lends, Sound, Sounds}
-pub use Rattle.leaf_scorer.specs.Contracts.{Lent, lent, RoomIn}
+pub use Rattle.leaf_scorer.specs.Contracts.{Lent, lent, RoomIn, Passes}
 
 -- the index and the tree of a node's part, asked for documents up to a bound
 pub record NodeHeld (E : Lent) (ix : Index) (places : ℕ) (s : Scorer) (depth scores : ℕ) (st : List ℕ) (b : ℕ) : Type 0 where
@@ -33,6 +33,29 @@ TermPre postings st target = (target ≤ noMoreDocs) × (getD st 0 0 ≡ 1) × (
 
 abbrev pub TermPost : List ℕ → List ℕ → ℕ → ℕ → List ℕ → Type 0
 TermPost postings st target r st′ = (E : Lent) (depth : ℕ) → E .postings ≡ postings → AdvancePost E st target depth r st′
+
+-- a node that is a range: it asks nothing of what is lent but the range buffer
+abbrev pub RangePre : List ℕ → List ℕ → ℕ → Type 0
+RangePre ranges st target = (target ≤ noMoreDocs) × (getD st 0 0 ≡ 4) × ((E : Lent) × (E .ranges ≡ ranges) × (ix : Index) × (places : ℕ) × (s : Scorer) × (depth : ℕ) × (scores : ℕ) × NodeHeld E ix places s depth scores st target)
+
+abbrev pub RangePost : List ℕ → List ℕ → ℕ → ℕ → List ℕ → Type 0
+RangePost ranges st target r st′ = (E : Lent) (depth : ℕ) → E .ranges ≡ ranges → AdvancePost E st target depth r st′
+
+-- asked at d by a pass that began at t: nothing from d up to r is taken, and r is if it is t
+pub record Asks (P : ℕ → Bool) (t d r : ℕ) : Type 0 where
+  pub from : d ≤ r
+  pub top : r ≤ noMoreDocs
+  pub before : (x : ℕ) → d ≤ x → x < r → P x ≡ false
+  pub hit : r ≡ t → r < noMoreDocs → P r ≡ true
+
+-- a node that is a phrase and does not stand beyond the target: it asks nothing of what is lent but the postings and the positions
+abbrev pub AskPre : List ℕ → List ℕ → ℕ → ℕ → List ℕ → ℕ → Type 0
+AskPre postings positions a b st target =
+    (target ≤ noMoreDocs) × (getD st 0 0 ≡ 2) × (getD st 2 0 ≤ target) × ((E : Lent) × (E .postings ≡ postings) × (E .positions ≡ positions) × (ix : Index) × (places : ℕ) × (s : Scorer) × (depth : ℕ) × (scores : ℕ) × RoomIn places a b × NodeHeld E ix places s depth scores st target)
+
+abbrev pub AskPost : List ℕ → List ℕ → List ℕ → ℕ → ℕ → ℕ → List ℕ → Type 0
+AskPost postings positions st t target r st′ =
+    (E : Lent) (depth : ℕ) → E .postings ≡ postings → E .positions ≡ positions → (ix : Index) (places : ℕ) (s : Scorer) (scores : ℕ) → NodeHeld E ix places s depth scores st target → Asks (matches ix s) t target r × Ok ix (E .ranges) s depth scores st′ r
 
 -- ---- children
 -- some parts, one after the other
@@ -69,13 +92,6 @@ LeastPost E kids target depth d n kids′ = (ix : Index) (places : ℕ) (ss : Sc
 
 abbrev pub DisjunctionPost : Lent → List ℕ → ℕ → ℕ → ℕ → ℕ → List ℕ → Type 0
 DisjunctionPost E kids need target depth r kids′ = (ix : Index) (places : ℕ) (ss : Scorers) → PartsHeld E ix places ss depth kids target → First (λ x. leb need (matching ix ss x)) target r × PartsHeld E ix places ss depth kids′ r
-
--- one pass over the required: nothing from t up to r is taken, and r is if it is t
-pub record Passes (P : ℕ → Bool) (t r : ℕ) : Type 0 where
-  pub from : t ≤ r
-  pub top : r ≤ noMoreDocs
-  pub before : (d : ℕ) → t ≤ d → d < r → P d ≡ false
-  pub hit : r ≡ t → r < noMoreDocs → P r ≡ true
 
 abbrev pub PassPost : Lent → List ℕ → ℕ → ℕ → ℕ → List ℕ → Type 0
 PassPost E kids target depth r kids′ = (ix : Index) (places : ℕ) (ss : Scorers) → PartsHeld E ix places ss depth kids target → Passes (allMatch ix ss) target r × PartsHeld E ix places ss depth kids′ r
