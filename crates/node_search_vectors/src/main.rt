@@ -5,7 +5,7 @@ ghost use Prim.Native.Nat.{_*_};
 ghost use lib.ListN.{length};
 ghost use Rattle.meaning.specs.Entries.{searchAnswer, searchHits};
 ghost use Rattle.index.specs.Slices.{lent};
-ghost use Rattle.searcher.specs.Lends.{work};
+ghost use Rattle.order_check.specs.Lends.{work};
 ghost use Rattle.searcher.specs.Answers.{searchedNumbers};
 ghost use Rattle.node_state.specs.Records.{held};
 use node_state::NodeState;

@@ -22,7 +22,7 @@ use denote.Struct.Laws as LL
 use Rattle.meaning.specs.Entries.{searchAnswer, searchHits}
 use Rattle.index.specs.Slices.{lent}
 use Rattle.searcher.specs.declared.search.Searched.{Searched}
-use Rattle.searcher.specs.Lends.{work}
+use Rattle.order_check.specs.Lends.{work}
 use Rattle.searcher.specs.Answers.{searchedNumbers}
 use Rattle.searcher.proofs.search.Searched as Sd
 use Rattle.node_state.specs.declared.NodeState.{NodeState}
