@@ -49,6 +49,7 @@ fn oracle(package: &Path) {
     }
     let out = PathBuf::from(env::var("OUT_DIR").unwrap());
     fs::write(out.join("cuts.rs"), cuts(&source)).unwrap();
+    fs::write(out.join("private.rs"), private(&source)).unwrap();
     let own = package.join("src/oracle");
     fs::write(out.join("root.rs"), root(&source, &own, &out)).unwrap();
     println!("cargo::rustc-cfg=oracle");
@@ -81,6 +82,19 @@ fn cuts(source: &Path) -> String {
     let reader = "/// An immutable view of one commit";
     let mut text = cut(&read("src/index/mod.rs"), term, None).to_string();
     text += cut(&read("src/index/reader.rs"), stats, Some(reader));
+    text
+}
+
+/// The private functions of the collector's codes and of SmallFloat, for src/oracle/private.rs to
+/// include: their files are compiled whole as well, but nothing else can call them there.
+fn private(source: &Path) -> String {
+    let read = |path| fs::read_to_string(find(source, path)).unwrap();
+    let codes = "#[inline]\nconst fn float_to_sortable_int(";
+    let after_codes = "use crate::search::util::next_up;";
+    let small_float = "const fn long_to_int4(";
+    let after_small_float = "const MAX_INT4";
+    let mut text = cut(&read("src/search/collector.rs"), codes, Some(after_codes)).to_string();
+    text += cut(&read("src/sim.rs"), small_float, Some(after_small_float));
     text
 }
 

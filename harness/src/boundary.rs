@@ -1,7 +1,10 @@
 //! Cases from both sides of every boundary of document 01's refusals 1 to 10, each with its number
 //! as the text has it: none of these numbers is worked out.
 mod index;
+mod laid;
 mod query;
+
+pub use laid::large;
 
 use crate::case::Case;
 use crate::catalogue::Catalogue;
@@ -69,6 +72,7 @@ pub fn all() -> Vec<(u32, Case)> {
     let mut cases = Cases::default();
     cases.is(0, sound());
     index::add(&mut cases);
+    laid::add(&mut cases);
     query::add(&mut cases);
     several(&mut cases);
     cases.0

@@ -1,5 +1,7 @@
-//! Damaged copies of a case: one or two words changed, added or taken away.
+//! Damaged copies of a case: one or two words changed, added or taken away; boosts put above the
+//! query, or a field's positions taken away, which no single word does.
 use crate::case::Case;
+use crate::query::{RECORD, boost, match_all};
 use crate::random::Random;
 
 /// Values at and beyond document 01's limits.
@@ -30,7 +32,7 @@ const LIMITS: [u32; 20] = [
 pub fn damaged(random: &mut Random, case: &Case) -> Case {
     let mut case = case.clone();
     for _ in 0..random.within(1, 2) {
-        match random.below(12) {
+        match random.below(14) {
             0 => {
                 case.n = random.pick(&[
                     case.n.saturating_add(1),
@@ -48,6 +50,8 @@ pub fn damaged(random: &mut Random, case: &Case) -> Case {
             7 => word(random, &mut case.positions),
             8 => word(random, &mut case.columns),
             9 => word(random, &mut case.values),
+            10 => boosted(random, &mut case.query),
+            11 => without_positions(random, &mut case),
             _ => word(random, &mut case.query),
         }
     }
@@ -64,6 +68,37 @@ fn word(random: &mut Random, list: &mut Vec<u32>) {
     }
     let at = random.below(list.len() as u32) as usize;
     list[at] = value;
+}
+
+/// Two boosts above the whole query, which come to 65,536 or a little more or less.
+fn boosted(random: &mut Random, query: &mut Vec<u32>) {
+    let other = random.pick(&[0x3f7f_ffff, 0x3f80_0000, 0x3f80_0001, 0x4000_0000]);
+    let mut both = [0x4780_0000, other];
+    random.shuffle(&mut both);
+    let boosts = both.map(|bits| boost(bits, match_all()).words());
+    query.splice(
+        0..0,
+        boosts.iter().flat_map(|words| &words[..RECORD]).copied(),
+    );
+}
+
+/// A field has no positions any more, and the postings of its leaves no indexes.
+fn without_positions(random: &mut Random, case: &mut Case) {
+    let fields = (0..).zip(case.fields.chunks_exact(3));
+    let with: Vec<u32> = fields
+        .filter(|(_, f)| f[2] == 1)
+        .map(|(at, _)| at)
+        .collect();
+    if with.is_empty() {
+        return;
+    }
+    let field = random.pick(&with);
+    case.fields[3 * field as usize + 2] = 0;
+    for leaf in case.leaves.chunks_exact(4).filter(|leaf| leaf[0] == field) {
+        let run = case.postings.chunks_exact_mut(3).skip(leaf[1] as usize);
+        run.take(leaf[2] as usize)
+            .for_each(|posting| posting[2] = 0);
+    }
 }
 
 /// One more element, or one less.

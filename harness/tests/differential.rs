@@ -145,6 +145,16 @@ fn every_boundary() {
     });
 }
 
+/// Frequencies at their limit where there are positions.
+#[test]
+fn large_frequencies() {
+    with_library!(library, {
+        for (number, case) in boundary::large() {
+            at_boundary(library, number, &case, &mut Random::new(1));
+        }
+    });
+}
+
 #[cfg(oracle)]
 fn at_boundary(entries: &dyn Entries, number: u32, case: &Case, random: &mut Random) {
     let mut calls = Compare::new(entries, case, random);

@@ -40,6 +40,8 @@ fn pages_joined(oracle: &Oracle, list: &[Hit], m: usize) {
 /// Hits, count and mark by document 01's rules; whether k cuts between equal scores.
 #[cfg(oracle)]
 fn best_of(case: &Case, oracle: &Oracle, list: &[Hit]) -> bool {
+    let rust_s = |hit: &Hit| oracle::private::code(hit.document, hit.bits);
+    assert!(list.iter().all(|hit| hit.code() == rust_s(hit)));
     let mut sorted = list.to_vec();
     sorted.sort_by_key(|hit| std::cmp::Reverse(hit.code()));
     let (count, k) = (list.len() as u64, case.k as usize);

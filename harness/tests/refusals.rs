@@ -3,8 +3,11 @@
 use harness::boundary::{self, sound};
 use harness::case::Case;
 use harness::catalogue::Catalogue;
+use harness::damage::damaged;
+use harness::generate;
 use harness::query::*;
-use harness::refusal::refusal;
+use harness::random::Random;
+use harness::refusal::{order, refusal};
 
 /// The number with which the sound case is refused once it is changed.
 fn changed(change: impl FnOnce(&mut Case)) -> u32 {
@@ -189,4 +192,22 @@ fn every_boundary() {
         };
         assert_eq!(told, number, "case {at}: {case:?}");
     }
+}
+
+#[test]
+fn large_frequencies() {
+    for (at, (number, case)) in boundary::large().enumerate() {
+        assert_eq!(refusal(&case), number, "case {at}");
+    }
+}
+
+/// Damaged copies of generated cases are refused with each number, and some are sound.
+#[test]
+fn damage_gives_every_number() {
+    let mut copies = [0; 11];
+    for seed in 0..4000 {
+        let copy = damaged(&mut Random::new(seed), &generate::case(seed));
+        copies[order(&copy) as usize] += 1;
+    }
+    assert!(copies.iter().all(|number| *number >= 10), "{copies:?}");
 }

@@ -24,16 +24,16 @@ use Rattle.index.specs.Slices.{liveOnly}
 use Rattle.weight.specs.ScorerTree.{Leaf, nothing, term, phrase, range, everything, Scoring, constant, weighted, Scorer, leaf, boolean, matches, leafMatches, leafScore, scorerScore}
 use Rattle.weight.specs.Held.{LeafIs, Ok}
 use Rattle.scorer.specs.Contracts.{Lent}
-use Rattle.score.specs.declared.Node.{Node}
-use Rattle.score.specs.Words.{NodeIs}
-use Rattle.score.specs.Walks.{liveMatch, liveScored, PageHeld}
-use Rattle.score.proofs.Leaves.{read}
-use Rattle.score.proofs.Bounds.{zero-32}
-use Rattle.score.proofs.Weights.{float-back, float-number}
-use Rattle.bulk.specs.Postings.{NodeScores}
-use Rattle.bulk.proofs.LiveMatches.{live-of, live-there, not-live, not-below, is-match}
-use Rattle.bulk.proofs.Sofar.{Sofar, sofar-start, sofar-skip, sofar-ready, sofar-take, sofar-done}
-use Rattle.bulk.proofs.Roots.{node-scores}
+use Rattle.leaf_score.specs.declared.Node.{Node}
+use Rattle.leaf_score.specs.Words.{NodeIs}
+use Rattle.walk.specs.Walks.{liveMatch, liveScored, PageHeld}
+use Rattle.leaf_score.proofs.Leaves.{read}
+use Rattle.leaf_score.proofs.Bounds.{zero-32}
+use Rattle.leaf_score.proofs.Weights.{float-back, float-number}
+use Rattle.bulk_term.specs.Postings.{NodeScores}
+use Rattle.bulk_term.proofs.LiveMatches.{live-of, live-there, not-live, not-below, is-match}
+use Rattle.bulk_term.proofs.Sofar.{Sofar, sofar-start, sofar-skip, sofar-ready, sofar-take, sofar-done}
+use Rattle.bulk_term.proofs.Roots.{node-scores}
 
 -- ---- the score
 pub constant-number : (sc : Scoring) (n : Node) → NodeScores sc n → T (not (nanBits binary32 (n .weight)))

@@ -9,11 +9,11 @@ ghost use Rattle.meaning.specs.Lent.{Index};
 ghost use Rattle.ieee754.specs.Nonneg.{AtMost};
 ghost use Rattle.weight.specs.ScorerTree.{everything, Scoring, leafScore};
 ghost use Rattle.scorer.specs.Contracts.{Lent};
-ghost use Rattle.bulk.specs.Collects.{CollectPre, CollectPost};
-ghost use Rattle.bulk.specs.Postings.{NodeScores};
+ghost use Rattle.bulk_default.specs.Collects.{CollectPre, CollectPost};
+ghost use Rattle.bulk_term.specs.Postings.{NodeScores};
 use collector::TopDocs;
 use collector::TopScoreDocCollector;
-use score::Node;
+use leaf_score::Node;
 
 // The score of each document: what has no frequencies scores 0 by BM25.
 fn one_score(n: Node) -> f32
@@ -38,7 +38,7 @@ pub fn collect_everything(
     requires { ⌜ ((E : Lent) × (norms : List ℕ) × (table : List Float) × (places : ℕ) × (depth : ℕ) × (E .documents ≡ «max_doc») × (getD (now st) 0 0 ≡ 5) × CollectPre E norms (now live) table places (now st) depth) ⌝ }
     ensures { λ r. ⌜ ((E : Lent) (norms : List ℕ) (table : List Float) (places depth : ℕ) → E .documents ≡ «max_doc» → CollectPost E norms (now (live .entry)) table places (now (st .entry)) depth t (now (heap .entry)) r (now (heap .exit))) ⌝ }
 {
-    let s = one_score(score::node_at(st));
+    let s = one_score(leaf_score::node_at(st));
     let mut c = TopScoreDocCollector::new(t as u64);
     let mut doc = 0;
     while doc < max_doc {

@@ -3,16 +3,10 @@ ghost use Prim.Native.Nat.{_≤_, _<_, min};
 ghost use lib.ListN.{length};
 ghost use Rattle.meaning.specs.Limits.{maxHits};
 ghost use Rattle.scorer.specs.Contracts.{lent};
-ghost use Rattle.bulk.specs.Collects.{CollectPre, CollectPost};
+ghost use Rattle.bulk_default.specs.Collects.{CollectPre, CollectPost};
 use collector::TopDocs;
 
-pub mod default;
 pub mod everything;
-pub mod led;
-pub mod posting;
-pub mod term;
-pub mod terms;
-pub mod window;
 
 // The kinds of a root that has a loop of its own.
 const TERM: u32 = 1;
@@ -41,18 +35,18 @@ pub fn collect_matches(
 {
     let kind = st[0];
     if kind == TERM {
-        return term::collect_term(st, postings, norms, inverses, live, t, heap);
+        return bulk_term::collect_term(st, postings, norms, inverses, live, t, heap);
     }
     if kind == EVERYTHING {
         return everything::collect_everything(st, max_doc, live, t, heap);
     }
-    if window::suits_windows(st, max_doc) {
-        return window::collect_windows(st, postings, norms, inverses, live, t, heap);
+    if bulk_window::suits_windows(st, max_doc) {
+        return bulk_window::collect_windows(st, postings, norms, inverses, live, t, heap);
     }
-    if led::suits_led(st) {
-        return led::collect_led(st, postings, norms, ranges, inverses, live, t, heap);
+    if bulk_led::suits_led(st) {
+        return bulk_led::collect_led(st, postings, norms, ranges, inverses, live, t, heap);
     }
-    default::collect_matches(
+    bulk_default::collect_matches(
         st,
         max_doc,
         postings,

@@ -1,9 +1,9 @@
 // Document 01's examples that are not proved as a table, and each other entry once, run through the entries.
 // crates/examples/stdout is written from the document's text: a hit is its document and its score's bits.
+use pick_entry::Picked;
+use place_entry::Placed;
+use range_entry::Ranged;
 use searcher::page::Paged;
-use searcher::pick::Picked;
-use searcher::place::Placed;
-use searcher::range::Ranged;
 use searcher::search::Searched;
 
 // A query of one record, MatchAll.
@@ -208,7 +208,7 @@ fn range(kinds: u32, lower: u32, upper: u32) {
     let columns = [0u32; 1];
     let mut work = [0u32; 4];
     let mut output = [0u32; 4];
-    let ranged = searcher::range::range(
+    let ranged = range_entry::range(
         4,
         &columns,
         &VALUES,
@@ -232,7 +232,7 @@ fn pick() {
     let documents: [u32; 3] = [3, 5, 9];
     let scores: [u32; 3] = [0x3f80_0000, 0x4000_0000, 0x3f80_0000];
     let mut hits = [0i64; 2];
-    match searcher::pick::pick(&documents, &scores, 2, 10, &mut hits) {
+    match pick_entry::pick(&documents, &scores, 2, 10, &mut hits) {
         Picked::Refused(n) => print_refused(n),
         Picked::Found(top) => print_found(top, &hits),
     }
@@ -258,7 +258,7 @@ fn place(query: &[u32], document: u32) {
     let no_live = [0u64; 0];
     let mut starts = [0i32; 3];
     let mut other_starts = [0i32; 3];
-    print_placed(searcher::place::place(
+    print_placed(place_entry::place(
         2,
         &FIELDS,
         &LEAVES,

@@ -14,14 +14,15 @@ use Rattle.meaning.specs.Hits.{hits}
 use Rattle.meaning.specs.CallRefusals.{Work}
 use Rattle.meaning.specs.Entries.{answered, written, Kept, searchRefusal, searchAnswer, searchHits, pageOf, pageRefusal, pageAnswer, pageDocuments, pageScores, pickedList, pickRefusal, pickAnswer, pickHits}
 use Rattle.collector.specs.declared.TopDocs.{TopDocs}
-use Rattle.score.specs.declared.walk.Listed.{Listed}
+use Rattle.walk.specs.declared.Listed.{Listed}
 use Rattle.searcher.specs.declared.search.Searched.{Searched}
 use Rattle.searcher.specs.declared.search.Searched.the-variants as Searched
 use Rattle.searcher.specs.declared.page.Paged.{Paged}
 use Rattle.searcher.specs.declared.page.Paged.the-variants as Paged
-use Rattle.searcher.specs.declared.pick.Picked.{Picked}
-use Rattle.searcher.specs.declared.pick.Picked.the-variants as Picked
-use Rattle.searcher.specs.Answers.{searchedNumbers, pagedNumbers, pickedNumbers}
+use Rattle.pick_entry.specs.declared.Picked.{Picked}
+use Rattle.pick_entry.specs.declared.Picked.the-variants as Picked
+use Rattle.searcher.specs.Answers.{searchedNumbers, pagedNumbers}
+use Rattle.pick_entry.specs.Answers.{pickedNumbers}
 use Rattle.lot_search.specs.Border.{shortAnswer, borderSearch, borderPage, borderPick, topNumbers, pageNumbers}
 use Rattle.lot_search.proofs.Short.{short-refuses, search-short, search-long, page-short, page-long, pick-short, pick-long}
 

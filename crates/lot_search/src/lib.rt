@@ -10,7 +10,7 @@ ghost use Rattle.meaning.specs.FullList.{fullList};
 ghost use Rattle.meaning.specs.Hits.{hits as hitsOf};
 ghost use Rattle.meaning.specs.Entries.{written, answered, Kept, pageOf, pickedList};
 ghost use Rattle.index.specs.Slices.{lent};
-ghost use Rattle.searcher.specs.Lends.{work};
+ghost use Rattle.order_check.specs.Lends.{work};
 ghost use Rattle.lot_search.specs.Border.{shortAnswer, borderSearch, borderPage, borderPick, topNumbers, pageNumbers};
 use collector::TopDocs;
 
@@ -206,11 +206,11 @@ pub extern "C" fn lot_pick(
     ensures { λ r. ⌜ now (answer .exit) ≡ answered r (written (topNumbers k t (pickedList (now (documents .entry)) (now (scores .entry)))) (now (answer .entry))) (λ n. now (answer .entry)) ⌝ }
 {
     if answer.len() < 3 {
-        return short_answer(searcher::pick::pick_refusal(documents, scores, k, hits.len()));
+        return short_answer(pick_entry::pick_refusal(documents, scores, k, hits.len()));
     }
-    match searcher::pick::pick(documents, scores, k, t, hits) {
-        searcher::pick::Picked::Refused(n) => n,
-        searcher::pick::Picked::Found(top) => {
+    match pick_entry::pick(documents, scores, k, t, hits) {
+        pick_entry::Picked::Refused(n) => n,
+        pick_entry::Picked::Found(top) => {
             write_top_docs(top, answer);
             0
         }

@@ -134,6 +134,12 @@ pub largest-more : (n : ℕ) (f : ℕ → ℕ) → largestBelow (n + 1) f ≡ ma
 unfolding largestBelow
 largest-more n f = rw (add-one n)
 
+-- each is at most the largest
+pub largest-at : (n : ℕ) (f : ℕ → ℕ) (i : ℕ) → i < n → f i ≤ largestBelow n f
+unfolding largestBelow
+largest-at zero f i h = absurd (omega arith)
+largest-at (suc n) f i h = ⊎-elim (λ g. omega (arith, ap f g)) (λ g. omega (arith, largest-at n f i g)) (last-or-below i n h)
+
 -- ---- listTo
 module _ {ℓ} {A : Type ℓ} where
   pub listTo-zero : (f : ℕ → A) → listTo 0 f ≡ []

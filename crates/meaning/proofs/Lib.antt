@@ -2,6 +2,7 @@
 pub mod Tests
 pub mod Below
 pub mod Signed
+pub mod Lowest
 pub mod Examples
 pub mod Scorers
 pub mod Phrases

@@ -1,5 +1,5 @@
 -- Document 01, "What a caller lends": the index as lists of words, and what each word of a record says.
--- Only the accessors here know a record's size and the order of its words. Assumes nothing: these are definitions.
+-- In this crate only the accessors here know the order of a record's words; the specs of the crates that read records say it again for slices. Assumes nothing: these are definitions.
 use mathlib.Core.Bool.{Bool, cond}
 use mathlib.Core.List.{List}
 use Prim.Native.Nat.{ℕ, _+_, _*_, _/_, _^_}

@@ -1,11 +1,10 @@
-// Search over node states as records: their words are copied out, the word form runs on the copy, and the records are read back.
+// Search over node states as records: the word form runs on lent words, and the records are read from them.
 ghost use mathlib.Core.Path.{_≡_};
-ghost use Prim.Native.Nat.{ℕ, _≤_, _*_};
+ghost use Prim.Native.Nat.{_≤_, _*_};
 ghost use lib.ListN.{length};
 ghost use Rattle.index.specs.Slices.{lent};
-ghost use Rattle.searcher.specs.Lends.{work};
 ghost use Rattle.node_state.specs.Records.{held};
-ghost use Rattle.node_search.specs.Searches.{Searches, Copied, refusalOf};
+ghost use Rattle.node_search.specs.Searches.{Searches, Copied, refusalOf, used};
 use node_state::NodeState;
 use searcher::search::Searched;
 
@@ -55,7 +54,17 @@ fn search_words(
     )
 }
 
-// The words are room for the copy: 24 for each record that the call may use.
+// How many of n states the call used: none where it was refused.
+fn used(r: Searched, n: usize) -> usize
+    ensures { λ m. ⌜ m ≡ used r n ⌝ }
+{
+    match r {
+        Searched::Refused(_) => 0,
+        Searched::Found(_) => n,
+    }
+}
+
+// The words are room to work in: 24 for each record that the call may use.
 pub fn search_nodes(
     max_doc: u32,
     fields: &[u32],
@@ -76,11 +85,10 @@ pub fn search_nodes(
     ranges: &mut [u32],
     hits: &mut [i64],
 ) -> Searched
-    ensures { λ r. ⌜ Searches (lent «max_doc» (now (fields .entry)) (now (leaves .entry)) (now (postings .entry)) (now (positions .entry)) (now (norms .entry)) (now (live .entry)) (now (columns .entry)) (now (values .entry))) (now (q .entry)) k t (held (length (now (nodes .entry))) (length (now (words .entry)))) (now (nodes .entry)) (now (nodes .exit)) (now (a .entry)) (now (a .exit)) (now (b .entry)) (now (b .exit)) (now (ranges .entry)) (now (ranges .exit)) (now (hits .entry)) (now (hits .exit)) r
-        × Copied (refusalOf (lent «max_doc» (now (fields .entry)) (now (leaves .entry)) (now (postings .entry)) (now (positions .entry)) (now (norms .entry)) (now (live .entry)) (now (columns .entry)) (now (values .entry))) (now (q .entry)) k (held (length (now (nodes .entry))) (length (now (words .entry)))) (now (a .entry)) (now (b .entry)) (now (ranges .entry)) (now (hits .entry))) (held (length (now (nodes .entry))) (length (now (words .entry)))) (now (nodes .entry)) (now (nodes .exit)) (now (words .entry)) (now (words .exit)) ⌝ }
+    ensures { λ r. ⌜ Searches (lent «max_doc» (now (fields .entry)) (now (leaves .entry)) (now (postings .entry)) (now (positions .entry)) (now (norms .entry)) (now (live .entry)) (now (columns .entry)) (now (values .entry))) (now (q .entry)) k t (held (length (now (nodes .entry))) (length (now (words .entry)))) (now (words .entry)) (now (words .exit)) (now (a .entry)) (now (a .exit)) (now (b .entry)) (now (b .exit)) (now (ranges .entry)) (now (ranges .exit)) (now (hits .entry)) (now (hits .exit)) r
+        × Copied (refusalOf (lent «max_doc» (now (fields .entry)) (now (leaves .entry)) (now (postings .entry)) (now (positions .entry)) (now (norms .entry)) (now (live .entry)) (now (columns .entry)) (now (values .entry))) (now (q .entry)) k (held (length (now (nodes .entry))) (length (now (words .entry)))) (now (a .entry)) (now (b .entry)) (now (ranges .entry)) (now (hits .entry))) (held (length (now (nodes .entry))) (length (now (words .entry)))) (now (nodes .entry)) (now (nodes .exit)) (now (words .exit)) ⌝ }
 {
     let n = node_state::held(nodes.len(), words.len());
-    node_state::unpack(nodes, n, words);
     let r = search_words(
         max_doc,
         fields,
@@ -101,6 +109,7 @@ pub fn search_nodes(
         ranges,
         hits,
     );
-    node_state::pack(words, n, nodes);
+    let m = used(r, n);
+    node_state::pack(words, m, nodes);
     r
 }

@@ -1,11 +1,11 @@
-// Search with node states as words and as records, side by side, on document 01's whole case: both answers and whether they agree.
+// Search with node states as words and as records, side by side, on document 01's whole case: both answers, whether they agree, and what a refused call left in the lent words and records.
 // crates/node_search_vectors/stdout is written from the document's text: a hit is its code.
 ghost use mathlib.Core.Path.{_≡_};
 ghost use Prim.Native.Nat.{_*_};
 ghost use lib.ListN.{length};
 ghost use Rattle.meaning.specs.Entries.{searchAnswer, searchHits};
 ghost use Rattle.index.specs.Slices.{lent};
-ghost use Rattle.searcher.specs.Lends.{work};
+ghost use Rattle.order_check.specs.Lends.{work};
 ghost use Rattle.searcher.specs.Answers.{searchedNumbers};
 ghost use Rattle.node_state.specs.Records.{held};
 use node_state::NodeState;
@@ -76,37 +76,97 @@ const QUERY: [u32; 54] = [
     0,
 ];
 
-// Records that hold rubbish.
+// Rubbish in the records, and other rubbish in the words.
+const IN_RECORDS: u32 = 0xfeed_face;
+
+const IN_WORDS: u32 = 0xdead_beef;
+
 fn rubbish() -> NodeState {
     NodeState {
-        kind: 0xdead_beef,
-        size: 0xdead_beef,
-        cached: 0xdead_beef,
-        need: 0xdead_beef,
-        required_end: 0xdead_beef,
-        optional_end: 0xdead_beef,
-        first: 0xdead_beef,
-        number: 0xdead_beef,
-        cursor: 0xdead_beef,
-        offset: 0xdead_beef,
-        field: 0xdead_beef,
-        constant: 0xdead_beef,
-        weight: 0xdead_beef,
-        afterwards: 0xdead_beef,
-        group_at: 0xdead_beef,
-        scores: 0xdead_beef,
-        frequency_of: 0xdead_beef,
-        frequency: 0xdead_beef,
-        norms: 0xdead_beef,
-        spare1: 0xdead_beef,
-        spare2: 0xdead_beef,
-        spare3: 0xdead_beef,
-        spare4: 0xdead_beef,
-        spare5: 0xdead_beef,
+        kind: IN_RECORDS,
+        size: IN_RECORDS,
+        cached: IN_RECORDS,
+        need: IN_RECORDS,
+        required_end: IN_RECORDS,
+        optional_end: IN_RECORDS,
+        first: IN_RECORDS,
+        number: IN_RECORDS,
+        cursor: IN_RECORDS,
+        offset: IN_RECORDS,
+        field: IN_RECORDS,
+        constant: IN_RECORDS,
+        weight: IN_RECORDS,
+        afterwards: IN_RECORDS,
+        group_at: IN_RECORDS,
+        scores: IN_RECORDS,
+        frequency_of: IN_RECORDS,
+        frequency: IN_RECORDS,
+        norms: IN_RECORDS,
+        spare1: IN_RECORDS,
+        spare2: IN_RECORDS,
+        spare3: IN_RECORDS,
+        spare4: IN_RECORDS,
+        spare5: IN_RECORDS,
     }
 }
 
-// Whoever lends records by reference is proved by hand: this function does nothing else.
+// Whether a record holds nothing but the rubbish that it was lent with.
+fn is_rubbish(s: NodeState) -> bool {
+    let r = IN_RECORDS;
+    let mut bits = 0;
+    bits = bits | (s.kind ^ r);
+    bits = bits | (s.size ^ r);
+    bits = bits | (s.cached ^ r);
+    bits = bits | (s.need ^ r);
+    bits = bits | (s.required_end ^ r);
+    bits = bits | (s.optional_end ^ r);
+    bits = bits | (s.first ^ r);
+    bits = bits | (s.number ^ r);
+    bits = bits | (s.cursor ^ r);
+    bits = bits | (s.offset ^ r);
+    bits = bits | (s.field ^ r);
+    bits = bits | (s.constant ^ r);
+    bits = bits | (s.weight ^ r);
+    bits = bits | (s.afterwards ^ r);
+    bits = bits | (s.group_at ^ r);
+    bits = bits | (s.scores ^ r);
+    bits = bits | (s.frequency_of ^ r);
+    bits = bits | (s.frequency ^ r);
+    bits = bits | (s.norms ^ r);
+    bits = bits | (s.spare1 ^ r);
+    bits = bits | (s.spare2 ^ r);
+    bits = bits | (s.spare3 ^ r);
+    bits = bits | (s.spare4 ^ r);
+    bits = bits | (s.spare5 ^ r);
+    bits == 0
+}
+
+fn untouched_records(nodes: [NodeState; 8]) -> bool {
+    let mut i = 0;
+    while i < 8 {
+        if !is_rubbish(nodes[i]) {
+            return false;
+        }
+        i += 1;
+    }
+    true
+}
+
+// A refused call leaves the lent records as they were.
+fn print_records(s: Searched, nodes: [NodeState; 8]) {
+    match s {
+        Searched::Refused(_) => {
+            if untouched_records(nodes) {
+                io::write_all(1, b"records as they were\n");
+            } else {
+                io::write_all(1, b"records changed\n");
+            }
+        }
+        Searched::Found(_) => {}
+    }
+}
+
+// Whoever lends records by reference is proved by hand: this function does no more than show what becomes of them.
 fn search_lent(
     max_doc: u32,
     fields: &[u32],
@@ -131,7 +191,7 @@ fn search_lent(
         × (now (hits .exit) ≡ searchHits (lent «max_doc» (now (fields .entry)) (now (leaves .entry)) (now (postings .entry)) (now (positions .entry)) (now (norms .entry)) (now (live .entry)) (now (columns .entry)) (now (values .entry))) (now (q .entry)) k (work (24 * held 8 (length (now (words .entry)))) (length (now (a .entry))) (length (now (b .entry))) (length (now (ranges .entry)))) (now (hits .entry))) ⌝ }
 {
     let mut nodes = records;
-    node_search::search_nodes(
+    let r = node_search::search_nodes(
         max_doc,
         fields,
         leaves,
@@ -150,7 +210,9 @@ fn search_lent(
         b,
         ranges,
         hits,
-    )
+    );
+    print_records(r, nodes);
+    r
 }
 
 // The answer's numbers: the refusal's, or 0, the hits held, the count and the mark.
@@ -203,6 +265,32 @@ fn print_same(numbers: bool, codes: bool) {
         }
     }
     io::write_all(1, b"different\n");
+}
+
+// Whether all words still hold the rubbish that they were lent with.
+fn untouched(words: &[u32]) -> bool {
+    let mut i = 0;
+    while i < words.len() {
+        if words[i] != IN_WORDS {
+            return false;
+        }
+        i += 1;
+    }
+    true
+}
+
+// A refused call leaves the lent words as they were.
+fn print_room(s: Searched, words: &[u32]) {
+    match s {
+        Searched::Refused(_) => {
+            if untouched(words) {
+                io::write_all(1, b"room as it was\n");
+            } else {
+                io::write_all(1, b"room changed\n");
+            }
+        }
+        Searched::Found(_) => {}
+    }
 }
 
 // The whole case with k hits wanted and threshold t.
@@ -265,8 +353,8 @@ fn with_records(k: u32, t: u32, words: &mut [u32], hits: &mut [i64]) -> Searched
 
 // Words for eight states, where six are needed.
 fn compare(k: u32, t: u32) {
-    let mut states = [0xdead_beefu32; 192];
-    let mut words = [0xdead_beefu32; 192];
+    let mut states = [IN_WORDS; 192];
+    let mut words = [IN_WORDS; 192];
     let mut hits = [-1i64; 3];
     let mut more = [-1i64; 3];
     let x = with_words(k, t, &mut states, &mut hits);
@@ -274,12 +362,13 @@ fn compare(k: u32, t: u32) {
     print_answer(x, &hits);
     print_answer(y, &more);
     print_same(same_numbers(numbers(x), numbers(y)), same_codes(hits, more));
+    print_room(y, &words);
 }
 
 // Words for five.
 fn compare_short(k: u32, t: u32) {
-    let mut states = [0xdead_beefu32; 120];
-    let mut words = [0xdead_beefu32; 120];
+    let mut states = [IN_WORDS; 120];
+    let mut words = [IN_WORDS; 120];
     let mut hits = [-1i64; 3];
     let mut more = [-1i64; 3];
     let x = with_words(k, t, &mut states, &mut hits);
@@ -287,6 +376,7 @@ fn compare_short(k: u32, t: u32) {
     print_answer(x, &hits);
     print_answer(y, &more);
     print_same(same_numbers(numbers(x), numbers(y)), same_codes(hits, more));
+    print_room(y, &words);
 }
 
 fn main() {

@@ -1,3 +1,2 @@
--- The plain mathematics of this crate's proofs, and a slice that is lent again.
+-- The plain mathematics of this crate's proofs.
 pub mod Turns
-pub mod Again

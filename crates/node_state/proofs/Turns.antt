@@ -1,63 +1,32 @@
--- Records to words and back, one record in a turn. Assumes nothing.
+-- Records from words, one record in a turn. Assumes nothing.
 use mathlib.Core.Path.{_≡_, refl, sym, _∙_, ap}
-use mathlib.Core.List.{List, [], _∷_, _++_, append-assoc, append-nil}
-use Prim.Native.Nat.{ℕ, zero, suc, _+_, _-_, _*_, _≤_, _<_}
+use mathlib.Core.List.{List, [], _∷_, _++_, append-assoc}
+use Prim.Native.Nat.{ℕ, zero, suc, _+_, _-_, _*_, _≤_}
 use native.Mathlib.Omega.{arith}
 use native.Mathlib.Numerals.{add-one}
-use lib.ListN.{length, getD, set, take, drop, length-append, length-drop, length-set}
-use lib.Seq.{take-all, drop-length, take-suc, take-suc-set, drop-set-lt, take-add, drop-drop, take-at, drop-append-add, length-take-le}
+use lib.ListN.{length, getD, set, take, drop, length-drop, length-set}
+use lib.Seq.{take-all, take-suc, take-suc-set, drop-set-lt, take-add, drop-drop}
 use Rattle.weight.specs.State.{wordsOf}
 use Rattle.node_state.specs.declared.NodeState.{NodeState}
 use Rattle.node_state.specs.Records.{stateOf, recordWords, nodeFrom}
 
--- the words with a record at i
-abbrev pub putNode : List ℕ → ℕ → NodeState → List ℕ
-putNode w i s = take (24 * i) w ++ (wordsOf (stateOf s) ++ drop (24 * i + 24) w)
-
 abbrev pub none : NodeState
 none = nodeFrom []
 
--- a part from `at` to the end, and what its first words are afterwards
+-- a part from `at` to the end
 pub whole-part : (w : List ℕ) (at : ℕ) → take (length w - at) (drop at w) ≡ drop at w
 whole-part w at = let d = length-drop at w in take-all (length w - at) (drop at w) (omega (arith, d))
-
-pub part-put : (w out words : List ℕ) (at : ℕ) → at ≤ length w → out ≡ words ++ drop 24 (take (length w - at) (drop at w)) → take at w ++ (out ++ drop (length w - at) (drop at w)) ≡ take at w ++ (words ++ drop (at + 24) w)
-part-put w out words at h e =
-    let end : drop (length w - at) (drop at w) ≡ [] = drop-drop (length w - at) at w ∙ ap (λ (n : ℕ). drop n w) (sums at (length w) h) ∙ drop-length w in
-    ap (λ (l : List ℕ). take at w ++ (out ++ l)) end ∙ ap (λ (l : List ℕ). take at w ++ l) (append-nil out ∙ e ∙ ap (λ (l : List ℕ). words ++ drop 24 l) (whole-part w at) ∙ ap (λ (l : List ℕ). words ++ l) (drop-drop 24 at w))
-  where
-    sums : (a n : ℕ) → a ≤ n → a + (n - a) ≡ n
-    sums a n h = omega arith
-
--- the words after the first n turns
-abbrev pub putAll : List NodeState → ℕ → List ℕ → List ℕ
-putAll ns zero w = w
-putAll ns (suc n) w = putNode (putAll ns n w) n (getD ns n none)
 
 -- the records after the first n turns
 abbrev pub takeAll : List ℕ → ℕ → List NodeState → List NodeState
 takeAll w zero ns = ns
 takeAll w (suc n) ns = set (takeAll w n ns) n (nodeFrom (drop (24 * n) w))
 
-pub put-length : (w : List ℕ) (i : ℕ) (s : NodeState) → 24 * i + 24 ≤ length w → length (putNode w i s) ≡ length w
-put-length w i s h =
-    let a = length-append (take (24 * i) w) (wordsOf (stateOf s) ++ drop (24 * i + 24) w) in
-    let b = length-append (wordsOf (stateOf s)) (drop (24 * i + 24) w) in
-    let t = length-take-le (24 * i) w (omega (arith, h)) in
-    let d = length-drop (24 * i + 24) w in
-    omega (arith, a, b, t, d, h)
-
-pub all-length : (ns : List NodeState) (n : ℕ) (w : List ℕ) → 24 * n ≤ length w → length (putAll ns n w) ≡ length w
-all-length ns zero w h = refl
-all-length ns (suc n) w h =
-    let e = all-length ns n w (omega (arith, h)) in
-    put-length (putAll ns n w) n (getD ns n none) (omega (arith, h, e)) ∙ e
-
 pub taken-length : (w : List ℕ) (n : ℕ) (ns : List NodeState) → length (takeAll w n ns) ≡ length ns
 taken-length w zero ns = refl
 taken-length w (suc n) ns = length-set (takeAll w n ns) n (nodeFrom (drop (24 * n) w)) ∙ taken-length w n ns
 
-pub words-append : (xs ys : List NodeState) → recordWords (xs ++ ys) ≡ recordWords xs ++ recordWords ys
+words-append : (xs ys : List NodeState) → recordWords (xs ++ ys) ≡ recordWords xs ++ recordWords ys
 unfolding recordWords
 words-append [] ys = refl
 words-append (x ∷ xs) ys = ap (λ (l : List ℕ). wordsOf (stateOf x) ++ l) (words-append xs ys) ∙ sym (append-assoc (wordsOf (stateOf x)) (recordWords xs) (recordWords ys))
@@ -70,49 +39,6 @@ words-one : (x : NodeState) → recordWords (x ∷ []) ≡ wordsOf (stateOf x)
 unfolding recordWords
 words-one x = refl
 
-pub words-length : (xs : List NodeState) → length (recordWords xs) ≡ 24 * length xs
-unfolding recordWords
-words-length [] = refl
-words-length (x ∷ xs) = let e = words-length xs in let a = length-append (wordsOf (stateOf x)) (recordWords xs) in omega (arith, a, e)
-
-pub words-take : (ns : List NodeState) (n : ℕ) → n ≤ length ns → length (recordWords (take n ns)) ≡ 24 * n
-words-take ns n h = words-length (take n ns) ∙ ap (λ (m : ℕ). 24 * m) (length-take-le n ns h)
-
-words-more : (ns : List NodeState) (n : ℕ) → n < length ns → recordWords (take (suc n) ns) ≡ recordWords (take n ns) ++ wordsOf (stateOf (getD ns n none))
-words-more ns n h = ap recordWords (take-suc ns n none h) ∙ words-append (take n ns) (getD ns n none ∷ []) ∙ ap (λ (l : List ℕ). recordWords (take n ns) ++ l) (words-one (getD ns n none))
-
--- the words tell the records
-pub same-records : (xs ys : List NodeState) → length xs ≡ length ys → recordWords xs ≡ recordWords ys → xs ≡ ys
-unfolding recordWords
-same-records [] [] l e = refl
-same-records [] (y ∷ ys) l e = absurd (omega (arith, l))
-same-records (x ∷ xs) [] l e = absurd (omega (arith, l))
-same-records (x ∷ xs) (y ∷ ys) l e =
-    let first : x ≡ y = ap nodeFrom e in
-    let others = same-records xs ys (omega (arith, l)) (ap (λ (w : List ℕ). drop 24 w) e) in
-    ap (λ (z : NodeState). z ∷ xs) first ∙ ap (λ (zs : List NodeState). y ∷ zs) others
-
--- all turns of `unpack`
-pub all-put : (ns : List NodeState) (n : ℕ) (w : List ℕ) → n ≤ length ns → 24 * n ≤ length w → putAll ns n w ≡ recordWords (take n ns) ++ drop (24 * n) w
-all-put ns zero w h g = ap (λ (l : List ℕ). l ++ w) (sym words-none)
-all-put ns (suc n) w h g =
-    let s = getD ns n none in
-    let X = recordWords (take n ns) in
-    let D = drop (24 * n) w in
-    let long = words-take ns n (omega (arith, h)) in
-    let e = all-put ns n w (omega (arith, h)) (omega (arith, g)) in
-    ap (λ (l : List ℕ). putNode l n s) e
-    ∙ ap (λ (l : List ℕ). l ++ (wordsOf (stateOf s) ++ drop (24 * n + 24) (X ++ D))) (take-at X D (24 * n) long)
-    ∙ ap (λ (l : List ℕ). X ++ (wordsOf (stateOf s) ++ l)) (after X D (24 * n) long ∙ drop-drop 24 (24 * n) w ∙ ap (λ (m : ℕ). drop m w) (next n))
-    ∙ sym (append-assoc X (wordsOf (stateOf s)) (drop (24 * suc n) w))
-    ∙ ap (λ (l : List ℕ). l ++ drop (24 * suc n) w) (sym (words-more ns n (omega (arith, h))))
-  where
-    after : (X D : List ℕ) (k : ℕ) → length X ≡ k → drop (k + 24) (X ++ D) ≡ drop 24 D
-    after X D k e = ap (λ (m : ℕ). drop (m + 24) (X ++ D)) (sym e) ∙ drop-append-add X D 24
-
-    next : (n : ℕ) → 24 * n + 24 ≡ 24 * suc n
-    next n = omega arith
-
 -- the first j words, one after the other
 abbrev prefix : ℕ → List ℕ → List ℕ
 prefix zero y = []
@@ -123,7 +49,7 @@ prefix-is zero y h = refl
 prefix-is (suc j) y h = take-suc y j 0 (omega (arith, h)) ∙ ap (λ (l : List ℕ). l ++ (getD y j 0 ∷ [])) (prefix-is j y (omega (arith, h)))
 
 -- the words of a record that was read are those it was read from
-pub from-words : (y : List ℕ) → 24 ≤ length y → wordsOf (stateOf (nodeFrom y)) ≡ take 24 y
+from-words : (y : List ℕ) → 24 ≤ length y → wordsOf (stateOf (nodeFrom y)) ≡ take 24 y
 from-words y h = sym (prefix-is 24 y h)
 
 -- all turns of `pack`

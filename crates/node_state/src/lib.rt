@@ -1,10 +1,8 @@
-// Node states as records: the words of `weight`'s layout as named numbers, and the lent words of records in turn.
+// Node states as records: the words of `weight`'s layout as named numbers, and records read from lent words.
 ghost use mathlib.Core.Path.{_≡_};
-ghost use mathlib.Core.List.{_++_};
-ghost use Prim.Native.Nat.{ℕ, _≤_, _+_, _*_, min, _/_};
+ghost use Prim.Native.Nat.{_≤_, _+_, _*_};
 ghost use lib.ListN.{length, take, drop};
-ghost use Rattle.weight.specs.State.{wordsOf};
-ghost use Rattle.node_state.specs.Records.{stateOf, recordWords, nodeFrom, held};
+ghost use Rattle.node_state.specs.Records.{recordWords, nodeFrom, held};
 
 // One scorer of the tree, or one term of a phrase.
 pub struct NodeState {
@@ -43,43 +41,6 @@ pub fn held(nodes: usize, words: usize) -> usize
         return nodes;
     }
     whole
-}
-
-// The record at i to its words.
-fn put_node(words: &mut [u32], i: usize, s: NodeState)
-    requires { ⌜ 24 * i + 24 ≤ length (now words) ⌝ }
-    ensures { λ _. ⌜ now (words .exit) ≡ take (24 * i) (now (words .entry)) ++ (wordsOf (stateOf s) ++ drop (24 * i + 24) (now (words .entry))) ⌝ }
-{
-    let at = 24 * i;
-    node_words::place::put(
-        &mut words[at..],
-        [
-            s.kind,
-            s.size,
-            s.cached,
-            s.need,
-            s.required_end,
-            s.optional_end,
-            s.first,
-            s.number,
-            s.cursor,
-            s.offset,
-            s.field,
-            s.constant,
-            s.weight,
-            s.afterwards,
-            s.group_at,
-            s.scores,
-            s.frequency_of,
-            s.frequency,
-            s.norms,
-            s.spare1,
-            s.spare2,
-            s.spare3,
-            s.spare4,
-            s.spare5,
-        ],
-    );
 }
 
 // The record of the first words.
@@ -122,18 +83,6 @@ fn node_at(words: &[u32], i: usize) -> NodeState
 {
     let at = 24 * i;
     first_node(&words[at..])
-}
-
-// The first n records to the words.
-pub fn unpack(nodes: &[NodeState], n: usize, words: &mut [u32])
-    requires { ⌜ (n ≤ length (now nodes)) × (24 * n ≤ length (now words)) ⌝ }
-    ensures { λ _. ⌜ now (words .exit) ≡ recordWords (take n (now (nodes .entry))) ++ drop (24 * n) (now (words .entry)) ⌝ }
-{
-    let mut i = 0;
-    while i < n {
-        put_node(words, i, nodes[i]);
-        i += 1;
-    }
 }
 
 // The first n records from the words.

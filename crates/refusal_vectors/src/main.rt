@@ -71,8 +71,8 @@ fn print_refusals(file: &[u32], norms: &[u8], live: &[u64]) {
 fn print_all(fd: i32) {
     let norms = [255u8; 65_553];
     let live = [0xffff_ffff_ffff_ffffu64; 16_385];
-    let mut bytes = [0u8; 131_072];
-    let mut file = [0u32; 32_768];
+    let mut bytes = [0u8; 262_144];
+    let mut file = [0u32; 65_536];
     let n = io::read_full(fd, &mut bytes);
     vectors::file::read_words(&bytes[..n], &mut file);
     print_refusals(&file, &norms, &live);

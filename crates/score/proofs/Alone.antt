@@ -21,7 +21,7 @@ use Rattle.weight.specs.ScorerTree.{Leaf, nothing, term, phrase, range, everyth
 use Rattle.weight.specs.State.{leafSize, sizeOf, sizesOf}
 use Rattle.weight.specs.Sound.{nodesOf}
 use Rattle.score.specs.Asked.{SumIs, JoinIs}
-use Rattle.score.proofs.Bounds.{scores-narrow, scores-more}
+use Rattle.leaf_score.proofs.Bounds.{scores-narrow, scores-more}
 use Rattle.score.proofs.Join.{firstOf, restOf, sum-append, with-group}
 
 -- ---- +0

@@ -16,10 +16,11 @@ use Rattle.weight.specs.ScorerTree.{Scorers, end, more, Joining, oneMore, after
 use Rattle.weight.specs.State.{sizesOf, sizesOfFirst}
 use Rattle.weight.specs.Held.{Oks}
 use Rattle.weight.specs.Sound.{nodesOf}
-use Rattle.score.specs.declared.Node.{Node}
-use Rattle.score.specs.Asked.{LentAt, Scorables, SumIs, RequiredPre, RequiredPost, OptionalPre, OptionalPost, JoinPre, JoinPost, JoinAsks, JoinIs, JoinsAt, PartsAre}
-use Rattle.score.proofs.Bounds.{scores-narrow}
-use Rattle.scorer.proofs.Bounds.{oks-length}
+use Rattle.leaf_score.specs.declared.Node.{Node}
+use Rattle.score.specs.Asked.{Scorables, SumIs, RequiredPre, RequiredPost, OptionalPre, OptionalPost, JoinPre, JoinPost, JoinAsks, JoinIs, JoinsAt, PartsAre}
+use Rattle.leaf_score.specs.Asked.{LentAt}
+use Rattle.leaf_score.proofs.Bounds.{scores-narrow}
+use Rattle.leaf_scorer.proofs.Bounds.{oks-length}
 use Rattle.score.proofs.Loops.{put}
 use Rattle.score.proofs.Small.{first-small, oks-weighted}
 use Rattle.score.proofs.Alone.{none-left, none-summed, joined-alone, joined-only}

@@ -15,8 +15,8 @@ use Rattle.weight.specs.State.{sizesOf, sizesOfFirst}
 use Rattle.weight.specs.Held.{Ok, Oks}
 use Rattle.weight.specs.Sound.{Sounds, TablesOf, nodes, nodesOf}
 use Rattle.score.specs.Asked.{Scorables, SumIs, JoinIs, JoinsAt, PartsAre}
-use Rattle.score.proofs.Bounds.{scores-add, scores-narrow, scores-more}
-use Rattle.scorer.proofs.Bounds.{ok-length}
+use Rattle.leaf_score.proofs.Bounds.{scores-add, scores-narrow, scores-more}
+use Rattle.leaf_scorer.proofs.Bounds.{ok-length}
 
 -- the first n of some children, and the others
 unfoldable pub firstOf : ℕ → Scorers → Scorers

@@ -22,7 +22,8 @@ use Rattle.weight.specs.Sound.{nodesOf}
 use Rattle.score.specs.Words.{ChildThere}
 use Rattle.scorer.specs.Contracts as scorer
 use Rattle.scorer.specs.Contracts.{lent, RoomIn, NodeHeld, AdvancePre, AdvancePost}
-use Rattle.score.specs.Asked.{LentAt, Scorable, Scorables, ScoreIs, SumIs, ScorePre, ScorePost, RequiredPre, RequiredPost, OptionalPre, OptionalPost, TermPre, TermPost}
+use Rattle.score.specs.Asked.{Scorables, SumIs, RequiredPre, RequiredPost, OptionalPre, OptionalPost}
+use Rattle.leaf_score.specs.Asked.{LentAt, Scorable, ScoreIs, ScorePre, ScorePost, TermPre, TermPost}
 use Rattle.score.proofs.Parts.{part-same}
 use Rattle.score.proofs.Sums.{counted, scores-word, matches-at, required-counted, optional-counted, required-matched, optional-matched, SumAt, sum-start, sum-end, sum-open, sum-there, sum-scores, sum-size, sum-kind, sum-stop, sum-scorable, sum-matched, sum-part, sum-part-kind, sum-renewed, sum-skipped, sum-took}
 

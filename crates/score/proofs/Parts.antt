@@ -1,24 +1,17 @@
 -- The parts of a node's children, one after the other: what is read at a place, and a part put back. Assumes nothing.
 use mathlib.Core.Path.{_≡_, refl, sym, ap, subst, _∙_}
-use mathlib.Core.Logic.{_⊎_, inl, inr, ⊎-elim}
 use mathlib.Core.Bool.{Bool, true, false, cond}
-use mathlib.Core.Bool.{false≢true}
-use mathlib.Core.List.{List, [], _∷_, _++_, append-assoc, append-nil}
-use Prim.Native.Nat.{ℕ, zero, suc, _+_, _-_, _*_, _≤_, _<_, max}
-use native.Mathlib.Nat.{le-refl}
-use native.Mathlib.Decide.{decLt}
+use mathlib.Core.List.{List, [], _++_, append-assoc}
+use Prim.Native.Nat.{ℕ, _+_, _-_, _≤_, max}
 use native.Mathlib.Omega.{arith}
 use lib.ListN.{getD, length, take, drop, length-append, length-take, length-drop, take-append-drop}
 use lib.Seq.{take-at, drop-at, getD-append-add}
 use Rattle.meaning.specs.Lent.{Index}
 use Rattle.weight.specs.ScorerTree.{Leaf, nothing, term, phrase, range, everything, Scorer, leaf, boolean, Scorers, end, more}
 use Rattle.weight.specs.State.{State, wordsOf, leafSize, sizeOf}
-use Rattle.weight.specs.Held.{Cache, LeafIs, Ok, Oks}
-use Rattle.scorer.proofs.Bounds.{leaf-sizes, ok-length, ok-long}
+use Rattle.weight.specs.Held.{LeafIs, Ok, Oks}
+use Rattle.leaf_scorer.proofs.Bounds.{leaf-sizes, ok-length, ok-long}
 use Rattle.score.specs.Words.{ChildThere}
-
-pub cmp : (a b : ℕ) → (a < b) ⊎ (b ≤ a)
-cmp a b = elim (decLt a b) as (λ _. (a < b) ⊎ (b ≤ a)) [ yes p ↦ inl p | no p ↦ inr (omega arith) ]
 
 -- ---- the kind in the first word of a scorer's part
 unfoldable pub leafKind : Leaf → ℕ
@@ -66,14 +59,6 @@ head ix ranges (boolean c j need rs os ps) k sc y b p = record { s = p .0; w = p
 
 pub ok-kind : (ix : Index) (ranges : List ℕ) (T : Scorer) (k sc : ℕ) (y : List ℕ) (b : ℕ) → Ok ix ranges T k sc y b → getD y 0 0 ≡ kindWord T
 ok-kind ix ranges T k sc y b p = let h = head ix ranges T k sc y b p in ap (λ (l : List ℕ). getD l 0 0) (h .is) ∙ h .kind-is
-
--- ---- a node that matches the document and was asked for none beyond stands at most there
-pub at-most-there : (P : ℕ → Bool) (doc cached : ℕ) → P doc ≡ true → Cache P doc cached → max doc (cached - 1) ≡ doc
-at-most-there P doc cached y h = ⊎-elim (λ l. go l (h doc (le-refl _) l .from) (λ m. h doc (le-refl _) l .before doc (le-refl _) m) (cmp doc (cached - 1))) (λ l. omega arith) (cmp doc cached)
-  where
-    go : doc < cached → doc ≤ cached - 1 → (doc < cached - 1 → P doc ≡ false) → (doc < cached - 1) ⊎ (cached - 1 ≤ doc) → max doc (cached - 1) ≡ doc
-    go l a b (inl m) = absurd (false≢true (sym (b m) ∙ y))
-    go l a b (inr m) = omega arith
 
 -- ---- a place in the list of parts: g are the children that are left
 pub record Zip (ix : Index) (ranges : List ℕ) (k doc : ℕ) (fs g : Scorers) (kids : List ℕ) (at : ℕ) : Type 0 where

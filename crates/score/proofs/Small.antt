@@ -25,8 +25,8 @@ use Rattle.weight.specs.ScorerTree.{Leaf, nothing, term, phrase, range, everyth
 use Rattle.weight.specs.Held.{FloatIs, ScoringIs, KeptIs, Ok, Oks}
 use Rattle.weight.specs.Sound.{LeafSound, Sound, Sounds, nodes, nodesOf}
 use Rattle.weight.proofs.Weights.{Fine, ScoringFine, Weighted, WeightedAll}
-use Rattle.score.proofs.Bounds.{scores-add, scores-narrow, scores-more}
-use Rattle.score.proofs.Frequencies.{phrase-frequency-few}
+use Rattle.leaf_score.proofs.Bounds.{scores-add, scores-narrow, scores-more}
+use Rattle.leaf_score.proofs.Frequencies.{phrase-frequency-few}
 use Rattle.score.proofs.Sums.{counted, scores-word, matches-at, required-counted, optional-counted}
 use Rattle.score.proofs.Join.{firstOf, restOf, first-nodes, joined-sum, joined-more, joined-after}
 

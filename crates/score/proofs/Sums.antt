@@ -15,8 +15,8 @@ use Rattle.weight.specs.State.{sizeOf}
 use Rattle.weight.specs.Held.{Ok, Oks}
 use Rattle.weight.specs.Sound.{Sound, Sounds, Tables, TablesOf, nodes, nodesOf}
 use Rattle.score.specs.Words.{ChildThere}
-use Rattle.score.specs.Asked.{Scorable, ScoreIs}
-use Rattle.score.proofs.Bounds.{scores-add, scores-more}
+use Rattle.leaf_score.specs.Asked.{Scorable, ScoreIs}
+use Rattle.leaf_score.proofs.Bounds.{scores-add, scores-more}
 use Rattle.score.proofs.Parts.{Zip, zip-start, zip-end, zip-none, zip-next, zip-renewed, kindWord, term-size, ok-kind, view, child-there, part-ok}
 
 -- the scores of the children that count

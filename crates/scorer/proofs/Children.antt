@@ -13,8 +13,9 @@ use Rattle.weight.specs.ScorerTree.{Scorer, Scorers, end, more, matches}
 use Rattle.weight.specs.State.{State, wordsOf}
 use Rattle.weight.specs.Held.{Cache, Ok, Oks}
 use Rattle.weight.specs.Sound.{Lends, Sound, Sounds}
-use Rattle.scorer.specs.Contracts.{Lent, NodeHeld, AdvancePost, PartsHeld, ChildAt, ChildRead}
-use Rattle.scorer.proofs.Bounds.{Front, front-long, front-size, ok-mono, oks-mono, ok-front, ok-cached, ok-term}
+use Rattle.scorer.specs.Contracts.{NodeHeld, AdvancePost, PartsHeld, ChildAt, ChildRead}
+use Rattle.leaf_scorer.specs.Contracts.{Lent}
+use Rattle.leaf_scorer.proofs.Bounds.{Front, front-long, front-size, ok-mono, oks-mono, ok-front, ok-cached, ok-single}
 
 -- g are the children that are left, whose words are z; the words before them are x. Nothing is said of those passed but how to put them back.
 pub record Zip (E : Lent) (ix : Index) (p k : ℕ) (fs g : Scorers) (kids : List ℕ) (at t : ℕ) : Type 0 where
@@ -147,22 +148,33 @@ module _ {E : Lent} {ix : Index} {p k : ℕ} {fs : Scorers} {kids : List ℕ} {a
   child-held end q l e h = absurd (omega (arith, zip-none q))
   child-held (more f T g) q l e h = (T, cond f 1 0, held (view q) e h)
 
-pub back-length : (kids ys : List ℕ) (at e : ℕ) → length ys ≡ length (take (e - at) (drop at kids)) → length (take at kids ++ (ys ++ drop (e - at) (drop at kids))) ≡ length kids
-back-length kids ys at e h = simp (length-append, length-take, length-drop, h) (omega arith)
-
 -- the first word of a child's part is its kind
 pub child-kind : (kids : List ℕ) (at e : ℕ) → ChildAt kids at → e ≡ at + getD kids (at + 1) 0 → getD (take (e - at) (drop at kids)) 0 0 ≡ getD kids at 0
 child-kind kids at e c h = let z : at + 0 ≡ at = omega arith in getD-take (e - at) (drop at kids) 0 0 (omega (arith, c .long, h)) ∙ getD-drop at kids 0 0 ∙ ap (λ (i : ℕ). getD kids i 0) z
 
--- a child whose first word is 1 is a term: its part is one record
+-- its third the document where it stands, + 1
+pub child-cached : (kids : List ℕ) (at e : ℕ) → ChildAt kids at → e ≡ at + getD kids (at + 1) 0 → (c : ℕ) → c ≡ getD kids (at + 2) 0 → {t : ℕ} → c ≤ t → getD (take (e - at) (drop at kids)) 2 0 ≤ t
+child-cached kids at e k h c i l = omega (arith, getD-take (e - at) (drop at kids) 2 0 (omega (arith, k .long, h)), getD-drop at kids 2 0)
+
+-- a child whose first word is not that of a phrase or a Boolean: its part is one record
 module _ {E : Lent} {ix : Index} {p k : ℕ} {fs : Scorers} {kids : List ℕ} {at t : ℕ} where
-  pub child-term : (g : Scorers) → Zip E ix p k fs g kids at t → at < length kids → getD kids at 0 ≡ 1 → getD kids (at + 1) 0 ≡ 24
-  child-term end q l e = absurd (omega (arith, zip-none q))
-  child-term (more f T g) q l e =
+  pub child-single : (g : Scorers) → Zip E ix p k fs g kids at t → at < length kids → (getD kids at 0 ≡ 2 → ⊥) → (getD kids at 0 ≡ 3 → ⊥) → getD kids (at + 1) 0 ≡ 24
+  child-single end q l n2 n3 = absurd (omega (arith, zip-none q))
+  child-single (more f T g) q l n2 n3 =
       let v = view q in
       let n : ℕ = at + getD kids (at + 1) 0 in
-      let first : getD (v .y) 0 0 ≡ 1 = ap (λ (y : List ℕ). getD y 0 0) (sym (part v n refl)) ∙ child-kind kids at n (child-facts (more f T g) q l) refl ∙ e in
-      v .size ∙ ok-term ix (E .ranges) T k (cond f 1 0) (v .y) t (v .ok) first
+      let first : getD (v .y) 0 0 ≡ getD kids at 0 = ap (λ (y : List ℕ). getD y 0 0) (sym (part v n refl)) ∙ child-kind kids at n (child-facts (more f T g) q l) refl in
+      v .size ∙ ok-single ix (E .ranges) T k (cond f 1 0) (v .y) t (v .ok) (λ e. n2 (sym first ∙ e)) (λ e. n3 (sym first ∙ e))
+
+  -- so one whose first word is that of a term or a range
+  pub child-term : (g : Scorers) → Zip E ix p k fs g kids at t → at < length kids → getD kids at 0 ≡ 1 → getD kids (at + 1) 0 ≡ 24
+  child-term g q l e = child-single g q l (λ x. omega (arith, e)) (λ x. omega (arith, e))
+
+  pub child-range : (g : Scorers) → Zip E ix p k fs g kids at t → at < length kids → getD kids at 0 ≡ 4 → getD kids (at + 1) 0 ≡ 24
+  child-range g q l e = child-single g q l (λ x. omega (arith, e)) (λ x. omega (arith, e))
 
   pub term-end : (g : Scorers) → Zip E ix p k fs g kids at t → at < length kids → getD kids at 0 ≡ 1 → at + 24 ≡ at + getD kids (at + 1) 0
   term-end g q l e = ap (λ (n : ℕ). at + n) (sym (child-term g q l e))
+
+  pub range-end : (g : Scorers) → Zip E ix p k fs g kids at t → at < length kids → getD kids at 0 ≡ 4 → at + 24 ≡ at + getD kids (at + 1) 0
+  range-end g q l e = ap (λ (n : ℕ). at + n) (sym (child-range g q l e))

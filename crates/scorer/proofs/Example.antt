@@ -22,7 +22,8 @@ use Rattle.weight.specs.ScorerTree.{Leaf, nothing, term, phrase, constant, oneM
 use Rattle.weight.specs.State.{State, wordsOf, leafSize, sizeOf, sizesOf, sizesOfFirst}
 use Rattle.weight.specs.Held.{TermIs, TermsAre, normsWord, LeafIs, ScoringIs, FloatIs, KeptIs, JoiningIs, Ok}
 use Rattle.weight.specs.Sound.{EachTerm, LeafSound, Sound}
-use Rattle.scorer.specs.Contracts.{lent, AdvancePre}
+use Rattle.scorer.specs.Contracts.{AdvancePre}
+use Rattle.leaf_scorer.specs.Contracts.{lent}
 
 abbrev postings : List ℕ
 postings = 0 ∷ 1 ∷ 0 ∷ 2 ∷ 1 ∷ 1 ∷ 2 ∷ 1 ∷ 2 ∷ []

@@ -15,13 +15,10 @@ use Rattle.meaning.specs.First.{First}
 use Rattle.weight.specs.ScorerTree.{Joining, Scorer, Scorers, end, more, boolean, matches, allMatch, anyMatches, matching}
 use Rattle.weight.specs.Held.{Cache}
 use Rattle.scorer.specs.Contracts.{Passes, leads, takes, LeastIs}
-use Rattle.scorer.proofs.Runs.{cmp}
+use Rattle.meaning.proofs.Tests.{cmp}
 
 pub first-to : {P : ℕ → Bool} {t r : ℕ} → First P t r → (s : ℕ) → r ≡ s → First P t s
 first-to {P} {t} p s e = subst (λ (j : ℕ). First P t j) e p
-
-pub first-like : {P Q : ℕ → Bool} {t r : ℕ} → ((d : ℕ) → P d ≡ Q d) → First P t r → First Q t r
-first-like {r = r} e p = record { from = p .from; top = p .top; before = λ d g h. sym (e d) ∙ p .before d g h; hit = λ h. sym (e r) ∙ p .hit h }
 
 pub first-later : {P : ℕ → Bool} {t r : ℕ} (s : ℕ) → First P t r → t ≤ s → s ≤ r → First P s r
 first-later s p a b = record { from = b; top = p .top; before = λ d g h. p .before d (le-trans a g) h; hit = p .hit }

@@ -15,9 +15,11 @@ use Rattle.meaning.specs.First.{First}
 use Rattle.weight.specs.ScorerTree.{Scorer, Scorers, end, more, allMatch, matching}
 use Rattle.weight.specs.State.{sizesOf}
 use Rattle.weight.specs.Held.{Oks}
-use Rattle.scorer.specs.Contracts.{Lent, PartsHeld, LeadHeld, BooleanHeld, leads}
-use Rattle.scorer.proofs.Bounds.{oks-mono, oks-length, ok-long}
-use Rattle.scorer.proofs.Firsts.{first-like, all-end, matching-end}
+use Rattle.scorer.specs.Contracts.{PartsHeld, LeadHeld, BooleanHeld, leads}
+use Rattle.leaf_scorer.specs.Contracts.{Lent}
+use Rattle.leaf_scorer.proofs.Bounds.{oks-mono, oks-length, ok-long}
+use Rattle.scorer.proofs.Firsts.{all-end, matching-end}
+use Rattle.leaf_scorer.proofs.Loops.{first-like}
 
 -- a list in two: the part up to the seam, the part from it on, and each put back
 module _ (kids x v : List ℕ) (n : ℕ) (is : kids ≡ x ++ v) (seam : length x ≡ n) where

@@ -1,14 +1,9 @@
 -- The laws of the scorer tree that the proofs of this crate and of those above it cite.
-pub mod Runs
-pub mod Bounds
 pub mod Firsts
 pub mod Children
 pub mod Loops
 pub mod Leads
 pub mod Nodes
-pub mod LeafLaws
-pub mod PhraseLaws
-pub mod Seeks
+pub mod Asked
 pub mod Terms
-pub mod Stands
 pub mod Example

@@ -1,7 +1,7 @@
 -- The loops over children: the least document where some stand, and a pass over all. Assumes nothing.
 use mathlib.Core.Path.{_≡_, refl, sym, ap, subst, _∙_}
 use mathlib.Core.Logic.{_⊎_, inl, inr, ⊎-elim}
-use mathlib.Core.Bool.{Bool, true, false}
+use mathlib.Core.Bool.{Bool, true, false, cond}
 use mathlib.Core.List.{List, _++_}
 use Prim.Native.Nat.{ℕ, _+_, _-_, _≤_, _<_}
 use native.Mathlib.Nat.{le-refl, le-trans}
@@ -13,25 +13,12 @@ use Rattle.meaning.specs.Limits.{noMoreDocs}
 use Rattle.meaning.specs.Lent.{Index}
 use Rattle.meaning.specs.First.{First}
 use Rattle.weight.specs.ScorerTree.{Scorer, Scorers, end, more, matches, allMatch, matching}
-use Rattle.scorer.specs.Contracts.{Lent, AdvancePost, PartsHeld, Tally, LeastIs, Passes}
-use Rattle.scorer.proofs.Runs.{cmp}
+use Rattle.weight.specs.Held.{Ok}
+use Rattle.scorer.specs.Contracts.{NodeHeld, AdvancePost, PartsHeld, Tally, LeastIs, Passes, Asks}
+use Rattle.leaf_scorer.specs.Contracts.{Lent}
+use Rattle.meaning.proofs.Tests.{cmp}
 use Rattle.scorer.proofs.Firsts.{matching-hit, matching-miss, matching-end, all-hit, all-miss, all-rest, all-end}
-use Rattle.scorer.proofs.Children.{Zip, View, zip-start, zip-later, zip-end, zip-none, view, zip-took, zip-skip, of-advance, of-cached}
-
--- the lists that a loop changes keep their lengths
-pub record Lengths (kids kids₀ a a₀ b b₀ : ℕ) : Type 0 where
-  pub kids-same : kids ≡ kids₀
-  pub a-same : a ≡ a₀
-  pub b-same : b ≡ b₀
-
--- a loop that has come to t: the property takes nothing from the target up to it
-pub record Going (P : ℕ → Bool) (target t : ℕ) (H : Type 0) : Type 0 where
-  pub lo : target ≤ t
-  pub before : (x : ℕ) → target ≤ x → x < t → P x ≡ false
-  pub held : H
-
-pub going-start : {P : ℕ → Bool} {t : ℕ} {H : Type 0} → H → Going P t t H
-going-start h = record { lo = le-refl _; before = λ x a b. absurd (omega arith); held = h }
+use Rattle.scorer.proofs.Children.{Zip, View, zip-start, zip-later, zip-end, zip-none, view, zip-took, zip-skip, held, of-advance, of-cached}
 
 -- ---- the least document
 pub record LeastAt (E : Lent) (ix : Index) (p k : ℕ) (fs : Scorers) (kids : List ℕ) (t best n at : ℕ) : Type 0 where
@@ -155,6 +142,10 @@ pub record PassAt (E : Lent) (ix : Index) (p k : ℕ) (fs : Scorers) (from : ℕ
   pub fails : (x : ℕ) → allMatch ix left x ≡ false → allMatch ix fs x ≡ false
   pub holds : d ≡ from → d < noMoreDocs → allMatch ix left d ≡ true → allMatch ix fs d ≡ true
 
+-- what stands at r was asked
+asks-first : {P : ℕ → Bool} {t d r : ℕ} → First P d r → Asks P t d r
+asks-first first = record { from = first .from; top = first .top; before = first .before; hit = λ a b. first .hit b }
+
 module _ {E : Lent} {ix : Index} {p k : ℕ} {fs : Scorers} {from : ℕ} where
   pub pass-start : {kids : List ℕ} → from ≤ noMoreDocs → PartsHeld E ix p fs k kids from → PassAt E ix p k fs from kids from 0
   pass-start h q = record { left = fs; zip = zip-start q; lo = le-refl _; top = h; before = λ x a b. absurd (omega arith); fails = λ x e. e; holds = λ a b e. e }
@@ -166,21 +157,21 @@ module _ {E : Lent} {ix : Index} {p k : ℕ} {fs : Scorers} {from : ℕ} where
       go end z y = (record { from = q .lo; top = q .top; before = q .before; hit = λ a b. y a b (all-end ix d) }, zip-end end z)
       go (more f T g) z y = absurd (omega (arith, view z .fits, view z .long))
 
-  -- one child more, which stands at r
+  -- one child more, asked at d, where the pass comes to r
   pass-next : {kids′ : List ℕ} {d : ℕ} (f : Bool) (T : Scorer) (g : Scorers) (e r : ℕ) → from ≤ d → ((x : ℕ) → from ≤ x → x < d → allMatch ix fs x ≡ false) → ((x : ℕ) → allMatch ix (more f T g) x ≡ false → allMatch ix fs x ≡ false) → (d ≡ from → d < noMoreDocs → allMatch ix (more f T g) d ≡ true → allMatch ix fs d ≡ true)
-      → Zip E ix p k fs g kids′ e d → First (matches ix T) d r → PassAt E ix p k fs from kids′ r e
-  pass-next {kids′} {d} f T g e r lo before fails holds z first =
+      → Zip E ix p k fs g kids′ e r → Asks (matches ix T) from d r → PassAt E ix p k fs from kids′ r e
+  pass-next {kids′} {d} f T g e r lo before fails holds z asks =
       record {
         left = g;
-        zip = zip-later r (first .from) z;
-        lo = le-trans lo (first .from);
-        top = first .top;
-        before = λ x a b. ⊎-elim (λ h. before x a h) (λ h. fails x (all-miss ix f T g x (first .before x h b))) (cmp x d);
+        zip = z;
+        lo = le-trans lo (asks .from);
+        top = asks .top;
+        before = λ x a b. ⊎-elim (λ h. before x a h) (λ h. fails x (all-miss ix f T g x (asks .before x h b))) (cmp x d);
         fails = λ x h. fails x (all-rest ix f T g x h);
         holds = λ a b h.
-            let up : d ≤ r = first .from in
+            let up : d ≤ r = asks .from in
             let s : d ≡ r = omega arith in
-            subst (λ (j : ℕ). allMatch ix fs j ≡ true) s (holds (omega arith) (omega arith) (subst (λ (j : ℕ). allMatch ix (more f T g) j ≡ true) (sym s) (all-hit ix f T g r (first .hit b) ∙ h)));
+            subst (λ (j : ℕ). allMatch ix fs j ≡ true) s (holds (omega arith) (omega arith) (subst (λ (j : ℕ). allMatch ix (more f T g) j ≡ true) (sym s) (all-hit ix f T g r (asks .hit a b) ∙ h)));
       }
 
   module _ {kids : List ℕ} {d at : ℕ} (q : PassAt E ix p k fs from kids d at) (l : at < length kids) (e : ℕ) (stop : e ≡ at + getD kids (at + 1) 0) where
@@ -189,7 +180,9 @@ module _ {E : Lent} {ix : Index} {p k : ℕ} {fs : Scorers} {from : ℕ} where
       where
         go : (g : Scorers) → Zip E ix p k fs g kids at d → ((x : ℕ) → allMatch ix g x ≡ false → allMatch ix fs x ≡ false) → (d ≡ from → d < noMoreDocs → allMatch ix g d ≡ true → allMatch ix fs d ≡ true) → PassAt E ix p k fs from kids (c - 1) e
         go end z u r = absurd (omega (arith, zip-none z))
-        go (more f T g) z u r = pass-next f T g e (c - 1) (q .lo) (q .before) u r (zip-skip (view z) e stop) (of-cached (view z) e stop c i h)
+        go (more f T g) z u r =
+            let a = of-cached (view z) e stop c i h in
+            pass-next f T g e (c - 1) (q .lo) (q .before) u r (zip-later (c - 1) (a .from) (zip-skip (view z) e stop)) (asks-first a)
 
     pub pass-took : (r : ℕ) (ys : List ℕ) → length ys ≡ length (take (e - at) (drop at kids)) → AdvancePost E (take (e - at) (drop at kids)) d k r ys → PassAt E ix p k fs from (take at kids ++ (ys ++ drop (e - at) (drop at kids))) r e
     pass-took r ys len post = go (q .left) (q .zip) (q .fails) (q .holds)
@@ -198,4 +191,14 @@ module _ {E : Lent} {ix : Index} {p k : ℕ} {fs : Scorers} {from : ℕ} where
         go end z u h = absurd (omega (arith, zip-none z))
         go (more f T g) z u h =
             let a = of-advance (view z) e stop r ys post in
-            pass-next f T g e r (q .lo) (q .before) u h (zip-took (view z) e stop ys len (a .1)) (a .0)
+            pass-next f T g e r (q .lo) (q .before) u h (zip-later r (a .0 .from) (zip-took (view z) e stop ys len (a .1))) (asks-first (a .0))
+
+    -- a child that was asked and may be left beyond d
+    pub pass-asked : (r : ℕ) (ys : List ℕ) → length ys ≡ length (take (e - at) (drop at kids)) → ((ix : Index) (p : ℕ) (T : Scorer) (o : ℕ) → NodeHeld E ix p T k o (take (e - at) (drop at kids)) d → Asks (matches ix T) from d r × Ok ix (E .ranges) T k o ys r) → PassAt E ix p k fs from (take at kids ++ (ys ++ drop (e - at) (drop at kids))) r e
+    pass-asked r ys len post = go (q .left) (q .zip) (q .fails) (q .holds)
+      where
+        go : (g : Scorers) → Zip E ix p k fs g kids at d → ((x : ℕ) → allMatch ix g x ≡ false → allMatch ix fs x ≡ false) → (d ≡ from → d < noMoreDocs → allMatch ix g d ≡ true → allMatch ix fs d ≡ true) → PassAt E ix p k fs from (take at kids ++ (ys ++ drop (e - at) (drop at kids))) r e
+        go end z u h = absurd (omega (arith, zip-none z))
+        go (more f T g) z u h =
+            let a = post ix p T (cond f 1 0) (held (view z) e stop) in
+            pass-next f T g e r (q .lo) (q .before) u h (zip-took (view (zip-later r (a .0 .from) z)) e stop ys len (a .1)) (a .0)

@@ -1,6 +1,6 @@
 -- A node: where it stands, its move as a leaf and as a Boolean, and its words with a new cached document. Assumes nothing.
 use mathlib.Core.Path.{_≡_, refl, sym, ap, subst, _∙_}
-use mathlib.Core.Bool.{Bool, cond}
+use mathlib.Core.Bool.{Bool, true, cond}
 use mathlib.Core.List.{List, [], _∷_, _++_, append-assoc, append-nil}
 use mathlib.Core.Option.{Option, none, some}
 use Prim.Native.Nat.{ℕ, suc, _+_, _-_, _≤_, _<_, max}
@@ -16,9 +16,11 @@ use Rattle.weight.specs.ScorerTree.{Leaf, nothing, term, phrase, range, everyth
 use Rattle.weight.specs.State.{State, wordsOf, sizesOf}
 use Rattle.weight.specs.Held.{LeafIs, ScoringIs, KeptIs, JoiningIs, BooleanIs, Ok, Oks}
 use Rattle.weight.specs.Sound.{Sound}
-use Rattle.scorer.specs.Contracts.{Lent, NodeHeld, LeafHeld, LeafMoved, LeafPost, PartsHeld, LeadHeld, BooleanHeld, BooleanPost, takes}
-use Rattle.scorer.proofs.Bounds.{leaf-mono, oks-mono, oks-length, ok-front, ok-cached}
-use Rattle.scorer.proofs.Firsts.{first-like, cache-new, boolean-takes}
+use Rattle.scorer.specs.Contracts.{NodeHeld, PartsHeld, LeadHeld, BooleanHeld, BooleanPost, takes}
+use Rattle.leaf_scorer.specs.Contracts.{Lent, LeafHeld, LeafMoved, LeafPost, Passes}
+use Rattle.leaf_scorer.proofs.Bounds.{leaf-mono, oks-mono, oks-length, ok-front, ok-cached}
+use Rattle.scorer.proofs.Firsts.{cache-new, boolean-takes}
+use Rattle.leaf_scorer.proofs.Loops.{first-like}
 
 -- a record with another cached document
 abbrev pub cachedAt : State → ℕ → State
@@ -171,6 +173,10 @@ module _ (E : Lent) (ix : Index) (p : ℕ) (k o : ℕ) (st : List ℕ) (t c : �
         rw b (v .prohibited .oks),
       )
 
+-- a leaf that was asked about the target alone
+abbrev pub LeafAsked : Lent → List ℕ → ℕ → ℕ → List ℕ → Type 0
+LeafAsked E st t r st′ = (ix : Index) (p : ℕ) (l : Leaf) (s : State) (w : List ℕ) → LeafHeld E ix p l s w st t → Passes (leafMatches ix l) t r × LeafMoved E ix l s st′ r
+
 -- ---- advance
 module _ (E : Lent) (ix : Index) (p : ℕ) (k o : ℕ) (st : List ℕ) (t c : ℕ) (ec : c ≡ getD st 2 0) where
   pub node-cached : (T : Scorer) → NodeHeld E ix p T k o st t → t < c → First (matches ix T) t (c - 1)
@@ -210,6 +216,40 @@ module _ (E : Lent) (ix : Index) (p : ℕ) (k o : ℕ) (st : List ℕ) (t c : �
           ),
         )
     node-sought top e r st′ post (boolean x j need rs os ps) h = absurd (e (rw (ek, h .ok .4) (h .ok .7 .kind-is)))
+
+    -- asked about the target alone, the document is cached where it stands there
+    pub node-asked : (kind ≡ 3 → ⊥) → (r : ℕ) (st′ : List ℕ) → LeafAsked E st t r st′ → (T : Scorer) → NodeHeld E ix p T k o st t
+        → Passes (matches ix T) t r × (r ≡ t → Ok ix (E .ranges) T k o (set st′ 2 (t + 1)) t) × ((r ≡ t → ⊥) → Ok ix (E .ranges) T k o st′ r)
+    unfolding Ok matches leaf-held
+    node-asked e r st′ post (leaf l sc) h =
+        let q = leaf-held l sc h in
+        let v = post ix p l (q .0) (q .1) (q .2) in
+        let s′ = v .1 .state in
+        let due′ : s′ .cached ≤ t = omega (arith, v .1 .kept .cached, q .2 .due) in
+        let up : t ≤ r = v .0 .from in
+        let low : s′ .cached ≤ noMoreDocs = omega (arith, v .0 .top) in (
+          record { from = v .0 .from; top = v .0 .top; before = v .0 .before; hit = v .0 .hit },
+          λ same.
+              let f : First (matches ix (leaf l sc)) t t = record { from = le-refl _; top = omega (arith, v .0 .top); before = λ x a b. absurd (omega arith); hit = λ g. subst (λ (y : ℕ). leafMatches ix l y ≡ true) same (v .0 .hit same (omega arith)) } in (
+                cachedAt s′ (t + 1),
+                v .1 .behind,
+                rw (v .1 .words),
+                v .1 .kept .scores ∙ h .ok .3,
+                leaf-mono ix (E .ranges) l (cachedAt s′ (t + 1)) (v .1 .behind) r (max t (t + 1 - 1)) (omega arith) (leaf-recached ix (E .ranges) l s′ (v .1 .behind) r (t + 1) low (v .1 .is)),
+                scoring-kept sc (h .ok .0) (cachedAt s′ (t + 1)) (v .1 .kept .constant) (v .1 .kept .weight) (h .ok .5),
+                cache-new f,
+              ),
+          λ other. (
+            s′,
+            v .1 .behind,
+            v .1 .words,
+            v .1 .kept .scores ∙ h .ok .3,
+            leaf-mono ix (E .ranges) l s′ (v .1 .behind) r (max r (s′ .cached - 1)) (omega arith) (v .1 .is),
+            scoring-kept sc (h .ok .0) s′ (v .1 .kept .constant) (v .1 .kept .weight) (h .ok .5),
+            λ x a b. absurd (omega arith),
+          ),
+        )
+    node-asked e r st′ post (boolean x j need rs os ps) h = absurd (e (rw (ek, h .ok .4) (h .ok .7 .kind-is)))
 
     module _ (is-3 : kind ≡ 3) (n : ℕ) (en : n ≡ getD st 3 0) (re oe : ℕ) (er : re ≡ getD st 4 0) (eo : oe ≡ getD st 5 0) where
       children-held : (x : Option Float) (j : Joining) (need : ℕ) (rs os ps : Scorers) → NodeHeld E ix p (boolean x j need rs os ps) k o st t → BooleanHeld E ix p rs os ps (k - 1) re oe (take (length st - 24) (drop 24 st)) t

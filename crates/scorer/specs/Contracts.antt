@@ -9,25 +9,11 @@ use lib.Dec.{leb, ltb}
 use Rattle.meaning.specs.Limits.{noMoreDocs}
 use Rattle.meaning.specs.Lent.{Index}
 use Rattle.meaning.specs.First.{First}
-use Rattle.weight.specs.ScorerTree.{Leaf, Scorer, Scorers, leafMatches, matches, allMatch, anyMatches, matching}
-use Rattle.weight.specs.State.{State, wordsOf, sizesOf}
-use Rattle.weight.specs.Held.{LeafIs, Ok, Oks}
-use Rattle.weight.specs.Sound.{Lends, LeafSound, Sound, Sounds}
-
--- what is lent beside the words: N, the postings, the positions and the range buffer
-pub record Lent : Type 0 where
-  pub documents : ℕ
-  pub postings : List ℕ
-  pub positions : List ℕ
-  pub ranges : List ℕ
-
-abbrev pub lent : ℕ → List ℕ → List ℕ → List ℕ → Lent
-lent n ps qs rs = record { documents = n; postings = ps; positions = qs; ranges = rs }
-
--- so many places are there in both phrase buffers
-pub record RoomIn (places a b : ℕ) : Type 0 where
-  pub in-a : places ≤ a
-  pub in-b : places ≤ b
+use Rattle.weight.specs.ScorerTree.{Scorer, Scorers, matches, allMatch, anyMatches, matching}
+use Rattle.weight.specs.State.{sizesOf}
+use Rattle.weight.specs.Held.{Ok, Oks}
+use Rattle.weight.specs.Sound.{Lends, Sound, Sounds}
+pub use Rattle.leaf_scorer.specs.Contracts.{Lent, lent, RoomIn, Passes}
 
 -- the index and the tree of a node's part, asked for documents up to a bound
 pub record NodeHeld (E : Lent) (ix : Index) (places : ℕ) (s : Scorer) (depth scores : ℕ) (st : List ℕ) (b : ℕ) : Type 0 where
@@ -48,35 +34,28 @@ TermPre postings st target = (target ≤ noMoreDocs) × (getD st 0 0 ≡ 1) × (
 abbrev pub TermPost : List ℕ → List ℕ → ℕ → ℕ → List ℕ → Type 0
 TermPost postings st target r st′ = (E : Lent) (depth : ℕ) → E .postings ≡ postings → AdvancePost E st target depth r st′
 
--- ---- leaves
--- a leaf that must be moved, s its record and w the words behind it
-pub record LeafHeld (E : Lent) (ix : Index) (places : ℕ) (l : Leaf) (s : State) (w st : List ℕ) (target : ℕ) : Type 0 where
-  pub lends : Lends ix (E .documents) (E .postings) (E .positions)
-  pub sound : LeafSound ix places l
-  pub words : st ≡ wordsOf s ++ w
-  pub due : s .cached ≤ target
-  pub is : LeafIs ix (E .ranges) l s w target
+-- a node that is a range: it asks nothing of what is lent but the range buffer
+abbrev pub RangePre : List ℕ → List ℕ → ℕ → Type 0
+RangePre ranges st target = (target ≤ noMoreDocs) × (getD st 0 0 ≡ 4) × ((E : Lent) × (E .ranges ≡ ranges) × (ix : Index) × (places : ℕ) × (s : Scorer) × (depth : ℕ) × (scores : ℕ) × NodeHeld E ix places s depth scores st target)
 
--- the words of a record that a move leaves as they are
-pub record Kept (s s′ : State) : Type 0 where
-  pub cached : s′ .cached ≡ s .cached
-  pub constant : s′ .constant ≡ s .constant
-  pub weight : s′ .weight ≡ s .weight
-  pub scores : s′ .scores ≡ s .scores
+abbrev pub RangePost : List ℕ → List ℕ → ℕ → ℕ → List ℕ → Type 0
+RangePost ranges st target r st′ = (E : Lent) (depth : ℕ) → E .ranges ≡ ranges → AdvancePost E st target depth r st′
 
--- the leaf after the move to a document, which its cursors have not passed
-pub record LeafMoved (E : Lent) (ix : Index) (l : Leaf) (s : State) (st : List ℕ) (r : ℕ) : Type 0 where
-  pub state : State
-  pub behind : List ℕ
-  pub words : st ≡ wordsOf state ++ behind
-  pub kept : Kept s state
-  pub is : LeafIs ix (E .ranges) l state behind r
+-- asked at d by a pass that began at t: nothing from d up to r is taken, and r is if it is t
+pub record Asks (P : ℕ → Bool) (t d r : ℕ) : Type 0 where
+  pub from : d ≤ r
+  pub top : r ≤ noMoreDocs
+  pub before : (x : ℕ) → d ≤ x → x < r → P x ≡ false
+  pub hit : r ≡ t → r < noMoreDocs → P r ≡ true
 
-abbrev pub LeafPre : Lent → ℕ → ℕ → List ℕ → ℕ → Type 0
-LeafPre E a b st target = (target ≤ noMoreDocs) × ((ix : Index) × (places : ℕ) × (l : Leaf) × (s : State) × (w : List ℕ) × RoomIn places a b × LeafHeld E ix places l s w st target)
+-- a node that is a phrase and does not stand beyond the target: it asks nothing of what is lent but the postings and the positions
+abbrev pub AskPre : List ℕ → List ℕ → ℕ → ℕ → List ℕ → ℕ → Type 0
+AskPre postings positions a b st target =
+    (target ≤ noMoreDocs) × (getD st 0 0 ≡ 2) × (getD st 2 0 ≤ target) × ((E : Lent) × (E .postings ≡ postings) × (E .positions ≡ positions) × (ix : Index) × (places : ℕ) × (s : Scorer) × (depth : ℕ) × (scores : ℕ) × RoomIn places a b × NodeHeld E ix places s depth scores st target)
 
-abbrev pub LeafPost : Lent → List ℕ → ℕ → ℕ → List ℕ → Type 0
-LeafPost E st target r st′ = (ix : Index) (places : ℕ) (l : Leaf) (s : State) (w : List ℕ) → LeafHeld E ix places l s w st target → First (leafMatches ix l) target r × LeafMoved E ix l s st′ r
+abbrev pub AskPost : List ℕ → List ℕ → List ℕ → ℕ → ℕ → ℕ → List ℕ → Type 0
+AskPost postings positions st t target r st′ =
+    (E : Lent) (depth : ℕ) → E .postings ≡ postings → E .positions ≡ positions → (ix : Index) (places : ℕ) (s : Scorer) (scores : ℕ) → NodeHeld E ix places s depth scores st target → Asks (matches ix s) t target r × Ok ix (E .ranges) s depth scores st′ r
 
 -- ---- children
 -- some parts, one after the other
@@ -113,13 +92,6 @@ LeastPost E kids target depth d n kids′ = (ix : Index) (places : ℕ) (ss : Sc
 
 abbrev pub DisjunctionPost : Lent → List ℕ → ℕ → ℕ → ℕ → ℕ → List ℕ → Type 0
 DisjunctionPost E kids need target depth r kids′ = (ix : Index) (places : ℕ) (ss : Scorers) → PartsHeld E ix places ss depth kids target → First (λ x. leb need (matching ix ss x)) target r × PartsHeld E ix places ss depth kids′ r
-
--- one pass over the required: nothing from t up to r is taken, and r is if it is t
-pub record Passes (P : ℕ → Bool) (t r : ℕ) : Type 0 where
-  pub from : t ≤ r
-  pub top : r ≤ noMoreDocs
-  pub before : (d : ℕ) → t ≤ d → d < r → P d ≡ false
-  pub hit : r ≡ t → r < noMoreDocs → P r ≡ true
 
 abbrev pub PassPost : Lent → List ℕ → ℕ → ℕ → ℕ → List ℕ → Type 0
 PassPost E kids target depth r kids′ = (ix : Index) (places : ℕ) (ss : Scorers) → PartsHeld E ix places ss depth kids target → Passes (allMatch ix ss) target r × PartsHeld E ix places ss depth kids′ r

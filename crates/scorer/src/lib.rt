@@ -1,27 +1,22 @@
 // Scorers over a lent state: the words of a node are its record of 24 and then its children's parts, one after the other.
-pub mod leaves;
-pub mod run;
-
 ghost use Prim.Native.Nat.{ℕ, _+_, _≤_, _<_};
 ghost use mathlib.Core.Path.{_≡_};
 ghost use lib.ListN.{length, getD};
-ghost use Rattle.scorer.specs.Contracts.{lent, AdvancePre, AdvancePost, TermPre, TermPost, PartsPre, ChildAt, ChildRead, Tally, LeastPost, DisjunctionPost, PassPost, LeadPre, StepPost, LeadPost, BooleanPre, BooleanPost, HeadRead, BooleanRead};
-
-pub const NO_MORE_DOCS: u32 = 2147483647;
+ghost use Rattle.scorer.specs.Contracts.{AdvancePre, AdvancePost, TermPre, TermPost, RangePre, RangePost, AskPre, AskPost, PartsPre, ChildAt, ChildRead, Tally, LeastPost, DisjunctionPost, PassPost, LeadPre, StepPost, LeadPost, BooleanPre, BooleanPost, HeadRead, BooleanRead};
+ghost use Rattle.leaf_scorer.specs.Contracts.{lent};
+use index::wide;
+use leaf_scorer::NO_MORE_DOCS;
 
 // The words of a record, where children begin.
 const RECORD: usize = 24;
 
 const TERM: u32 = 1;
 
-const BOOLEAN: u32 = 3;
+const PHRASE: u32 = 2;
 
-// A word as a place in a slice.
-pub fn wide(x: u32) -> usize
-    ensures { λ r. ⌜ r ≡ x ⌝ }
-{
-    x as usize
-}
+const RANGE: u32 = 4;
+
+const BOOLEAN: u32 = 3;
 
 // What a loop over parts reads of a child: where its part ends, and the document where it stands, + 1.
 pub struct Child {
@@ -113,9 +108,49 @@ pub fn advance_term(st: &mut [u32], postings: &[u32], target: u32) -> u32
     if target < cached {
         return cached - 1;
     }
-    let d = leaves::search_postings(st, postings, target);
+    let d = leaf_scorer::search_postings(st, postings, target);
     st[2] = d + 1;
     d
+}
+
+// A node that is a range, likewise.
+fn advance_range(st: &mut [u32], ranges: &[u32], target: u32) -> u32
+    requires { ⌜ RangePre (now ranges) (now st) target ⌝ }
+    ensures { λ r. ⌜ RangePost (now (ranges .entry)) (now (st .entry)) target r (now (st .exit)) ⌝ }
+{
+    let h = head_at(st);
+    let cached = h.cached;
+    if target < cached {
+        return cached - 1;
+    }
+    let d = leaf_scorer::search(st, ranges, leaf_scorer::ENTRY, target);
+    st[2] = d + 1;
+    d
+}
+
+// A node that is a phrase, asked by a pass from `from` on that has come to the target. Its positions cost most, so it is asked
+// only where no child before it moved the pass, and about no other document.
+fn ask_phrase(
+    st: &mut [u32],
+    postings: &[u32],
+    positions: &[u32],
+    a: &mut [i32],
+    b: &mut [i32],
+    from: u32,
+    target: u32,
+) -> u32
+    requires { ⌜ AskPre (now postings) (now positions) (length (now a)) (length (now b)) (now st) target ⌝ }
+    ensures { λ r. ⌜ AskPost (now (postings .entry)) (now (positions .entry)) (now (st .entry)) from target r (now (st .exit)) ⌝ }
+{
+    if from != target {
+        return target;
+    }
+    let d = leaf_scorer::phrase_at(st, postings, positions, a, b, target);
+    if d != target {
+        return d;
+    }
+    st[2] = target + 1;
+    target
 }
 
 // The first document at or after the target that the node matches, or NO_MORE_DOCS.
@@ -159,7 +194,7 @@ pub fn advance(
         st[2] = d + 1;
         d
     } else {
-        let d = leaves::seek(st, max_doc, postings, positions, ranges, a, b, target);
+        let d = leaf_scorer::seek(st, max_doc, postings, positions, ranges, a, b, target);
         st[2] = d + 1;
         d
     }
@@ -359,7 +394,7 @@ fn step(
     }
 }
 
-// Each child in turn, cheapest first, advanced to where the one before it got. A term's part is one record: its end is known without its size word.
+// Each child in turn, cheapest first, advanced to where the one before it got; phrases as `ask_phrase` says. The part of a term or a range is one record: its end is known without its size word.
 fn pass(
     kids: &mut [u32],
     max_doc: u32,
@@ -377,9 +412,14 @@ fn pass(
     let mut d = target;
     let mut at = 0;
     while at < kids.len() {
-        if kind_at(kids, at) == TERM {
+        let kind = kind_at(kids, at);
+        if kind == TERM {
             let end = at + RECORD;
             d = advance_term(&mut kids[at..end], postings, d);
+            at = end;
+        } else if kind == RANGE {
+            let end = at + RECORD;
+            d = advance_range(&mut kids[at..end], ranges, d);
             at = end;
         } else {
             let k = child_at(kids, at);
@@ -387,6 +427,9 @@ fn pass(
             let cached = k.cached;
             if d < cached {
                 d = cached - 1;
+                at = end;
+            } else if kind == PHRASE {
+                d = ask_phrase(&mut kids[at..end], postings, positions, a, b, target, d);
                 at = end;
             } else {
                 d = advance(

@@ -15,12 +15,12 @@ use Rattle.meaning.specs.Entries.{written, topDocs, searchRefusal, searchAnswer
 use Rattle.collector.specs.declared.TopDocs.{TopDocs}
 use Rattle.collector.specs.Collected.{answer, numbers}
 use Rattle.collector.proofs.Best.{written-part}
-use Rattle.score.specs.declared.walk.Listed.{Listed}
-use Rattle.score.specs.Walks.{PageIs}
+use Rattle.walk.specs.declared.Listed.{Listed}
+use Rattle.walk.specs.Walks.{PageIs}
 use Rattle.searcher.specs.declared.search.Searched.the-variants as Searched
 use Rattle.searcher.specs.declared.page.Paged.the-variants as Paged
 use Rattle.searcher.specs.Answers.{searchedNumbers, pagedNumbers}
-use Rattle.searcher.proofs.Lowest.{answered-refused, answered-accepted}
+use Rattle.meaning.proofs.Lowest.{answered-refused, answered-accepted}
 
 -- ---- Search
 module _ (ix : Index) (q : List ℕ) (k t : ℕ) (w : Work) (buffer : List ℤ) (r : ℕ) (e : r ≡ searchRefusal ix q k w (length buffer)) where

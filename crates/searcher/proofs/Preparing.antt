@@ -28,10 +28,10 @@ use Rattle.weight.proofs.FullList.{scorer-list}
 use Rattle.node_words.specs.Placed.{Placed, LeafLent}
 use Rattle.inverses.specs.Inverses.{fieldAt, hasField}
 use Rattle.scorer.specs.Contracts.{lent}
-use Rattle.scorer.proofs.Bounds.{ok-mono}
-use Rattle.score.specs.declared.walk.Listed.{Listed}
-use Rattle.score.specs.Walks.{liveScored, PageHeld, PageIs}
-use Rattle.searcher.proofs.Rooms.{starts-room}
+use Rattle.leaf_scorer.proofs.Bounds.{ok-mono}
+use Rattle.walk.specs.declared.Listed.{Listed}
+use Rattle.walk.specs.Walks.{liveScored, PageHeld, PageIs}
+use Rattle.order_check.proofs.Rooms.{starts-room}
 use Rattle.inverses.proofs.QueryTables.{query-tables}
 
 -- ---- the tree in the node states

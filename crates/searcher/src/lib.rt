@@ -1,8 +1,4 @@
-// The entries that the sale office calls.
+// The entries that the sale office calls: Search, Page and Length.
 pub mod length;
-pub mod order;
 pub mod page;
-pub mod pick;
-pub mod place;
-pub mod range;
 pub mod search;

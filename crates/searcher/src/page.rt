@@ -7,10 +7,10 @@ ghost use Rattle.meaning.specs.CallRefusals.{workShort};
 ghost use Rattle.meaning.specs.Entries.{Kept, pageOf, pageRefusal, pageAnswer, pageDocuments, pageScores};
 ghost use Rattle.index.specs.Slices.{lent};
 ghost use Rattle.weight.specs.Measured.{Asks};
-ghost use Rattle.score.specs.Walks.{PageIs};
-ghost use Rattle.searcher.specs.Lends.{work};
+ghost use Rattle.walk.specs.Walks.{PageIs};
+ghost use Rattle.order_check.specs.Lends.{work};
 ghost use Rattle.searcher.specs.Answers.{pagedNumbers};
-use score::walk::Listed;
+use walk::Listed;
 
 pub enum Paged {
     Refused(u32),
@@ -39,7 +39,7 @@ pub fn page_refusal(
 ) -> u32
     ensures { λ r. ⌜ r ≡ pageRefusal (lent «max_doc» (now (fields .entry)) (now (leaves .entry)) (now (postings .entry)) (now (positions .entry)) (now (norms .entry)) (now (live .entry)) (now (columns .entry)) (now (values .entry))) (now (q .entry)) target (work states starts «other_starts» ranges) documents scores ⌝ }
 {
-    let refusal = crate::order::check_order(
+    let refusal = order_check::check_order(
         max_doc,
         fields,
         leaves,
@@ -54,7 +54,7 @@ pub fn page_refusal(
     if refusal != 0 {
         return refusal;
     }
-    if crate::order::work_short(
+    if order_check::work_short(
         max_doc,
         leaves,
         postings,
@@ -102,7 +102,7 @@ fn list_page(
     let mut inverses: [f32; 4096] = [0.0; 4096];
     inverses::fill_inverses(max_doc, fields, leaves, q, &mut inverses);
     let size = build::build(max_doc, fields, leaves, columns, values, q, states, ranges);
-    score::walk::list(
+    walk::list(
         &mut states[..size],
         max_doc,
         postings,

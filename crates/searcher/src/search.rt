@@ -12,7 +12,7 @@ ghost use Rattle.meaning.specs.Entries.{written, Kept, searchRefusal, searchAns
 ghost use Rattle.index.specs.Slices.{lent};
 ghost use Rattle.collector.specs.Collected.{answer};
 ghost use Rattle.weight.specs.Measured.{Asks};
-ghost use Rattle.searcher.specs.Lends.{work};
+ghost use Rattle.order_check.specs.Lends.{work};
 ghost use Rattle.searcher.specs.Answers.{searchedNumbers};
 use collector::TopDocs;
 
@@ -42,7 +42,7 @@ pub fn search_refusal(
 ) -> u32
     ensures { λ r. ⌜ r ≡ searchRefusal (lent «max_doc» (now (fields .entry)) (now (leaves .entry)) (now (postings .entry)) (now (positions .entry)) (now (norms .entry)) (now (live .entry)) (now (columns .entry)) (now (values .entry))) (now (q .entry)) k (work states starts «other_starts» ranges) places ⌝ }
 {
-    let refusal = crate::order::check_order(
+    let refusal = order_check::check_order(
         max_doc,
         fields,
         leaves,
@@ -63,7 +63,7 @@ pub fn search_refusal(
     if 1024 < k {
         return 11;
     }
-    if crate::order::work_short(
+    if order_check::work_short(
         max_doc,
         leaves,
         postings,

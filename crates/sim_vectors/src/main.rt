@@ -108,8 +108,60 @@ fn at_averages() {
     }
 }
 
+fn print_int4(number: u64) {
+    vectors::print_number(sim::small_float::long_to_int4(number));
+}
+
+fn print_long(number: u64) {
+    io::print_decimal(1, number);
+    io::write_all(1, b" ");
+}
+
+// A four-bit code's number, and the codes of the numbers beside it and of itself.
+fn four_bits(code: u32)
+    requires { ⌜ code < 496 ⌝ }
+{
+    let number = sim::small_float::int4_to_long(code);
+    print_long(number);
+    print_int4(std::num::wrapping_sub_u64(number, 1));
+    print_int4(number);
+    print_int4(std::num::wrapping_add_u64(number, 1));
+    vectors::end_line();
+}
+
+fn all_four_bits() {
+    let mut code = 0;
+    while code < 496 {
+        four_bits(code);
+        code += 1;
+    }
+}
+
+// The code of a number, and the number that the code stands for.
+fn there_and_back(number: u64) {
+    let code = sim::small_float::long_to_int4(number);
+    vectors::print_number(code);
+    if code < 496 {
+        print_long(sim::small_float::int4_to_long(code));
+    }
+    vectors::end_line();
+}
+
+// Numbers from a seed, of each length in turn.
+fn any_four_bits() {
+    let mut x: u64 = 4;
+    let mut turns: u64 = 0;
+    while turns < 256 {
+        x = vectors::xorshift(x);
+        there_and_back(x >> (turns % 64));
+        turns += 1;
+    }
+}
+
 fn main() {
     all_decoded();
     codes();
     at_averages();
+    all_four_bits();
+    any_four_bits();
 }

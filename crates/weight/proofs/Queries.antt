@@ -3,15 +3,13 @@ use mathlib.Core.Path.{_≡_, refl, sym, ap, subst}
 use mathlib.Core.Bool.{Bool, true, false, not, cond, _&&_, false≢true}
 use mathlib.Core.List.{List, [], _∷_}
 use mathlib.Core.Option.{Option, none, some}
-use mathlib.Core.Logic.{inl, inr}
 use Prim.Native.Nat.{ℕ, zero, suc, suc-le-suc, zero-le, _+_, _≤_, _<_}
-use native.Mathlib.Nat.{le-trans, not-suc-le-zero}
+use native.Mathlib.Nat.{le-trans}
 use native.Mathlib.Omega.{arith}
 use lib.Dec.{eqb}
 use lib.ListN.{length, getD}
 use lib.Ieee.{Float}
 use borrow.Author.Tests.{eqb-true, eq-eqb}
-use Rattle.meaning.specs.Below.{largestBelow}
 use Rattle.meaning.specs.Lent.{Index, hasPositions}
 use Rattle.meaning.specs.Bm25.{one}
 use Rattle.meaning.specs.Phrase.{PhraseTerm}
@@ -19,7 +17,7 @@ use Rattle.meaning.specs.Query.{recordCount, recordKind, recordChildren, record
 use Rattle.meaning.specs.QueryRefusals.{wrong7, wrong8, wrong9, wrong10}
 use Rattle.meaning.specs.CallRefusals.{statesNeeded, largestIn, startsNeeded}
 use Rattle.index.specs.Accepted.{Accepted}
-use Rattle.meaning.proofs.Below.{last-or-below, none-below, length-listTo, getD-listTo}
+use Rattle.meaning.proofs.Below.{none-below, largest-at, length-listTo, getD-listTo}
 use Rattle.query.proofs.Inverse.{both-true, one-clause, some-same, record-here, term-at, phrase-at, boolean-at, range-at, all-at, constant-at, boost-at, none-at, kind-is, KindIs, is-term, is-phrase, is-boolean, is-range, is-all, is-constant, is-boost, is-none}
 use Rattle.query.proofs.Spans.{nothing, no-depth}
 use Rattle.query.proofs.Whole.{whole}
@@ -118,14 +116,6 @@ each-term : (ix : Index) (f places : ℕ) (ts : List PhraseTerm) → ((j : ℕ) 
 unfolding EachTerm
 each-term ix f places [] h = tt
 each-term ix f places (t ∷ ts) h = (h 0 (suc-le-suc zero-le), each-term ix f places ts (λ j g. h (suc j) (suc-le-suc g)))
-
-largest-at : (n : ℕ) (f : ℕ → ℕ) (i : ℕ) → i < n → f i ≤ largestBelow n f
-unfolding largestBelow
-largest-at zero f i h = absurd (not-suc-le-zero h)
-largest-at (suc n) f i h = elim (last-or-below i n h) [
-  | inl e ↦ let b : f i ≡ f n = ap f e in omega (arith, b)
-  | inr a ↦ let b = largest-at n f i a in omega (arith, b)
-]
 
 module _ (ix : Index) (q : List ℕ) (places : ℕ) (values-right : wrong8 ix q ≡ false) (positions-right : wrong10 ix q ≡ false) (room : startsNeeded ix q ≤ places) where
   field-positions : (r : ℕ) → r < recordCount q → recordKind q r ≡ 2 → hasPositions ix (recordValue q r 0) ≡ true

@@ -1,5 +1,7 @@
 //! The oracle: what the unchanged Rust source answers for a valid case. Whether a case is valid
 //! is the business of `refusal`; the Rust answers no refusals.
+#[allow(clippy::all)]
+pub mod private;
 mod tree;
 
 use crate::answer::{Hit, NO_MORE_DOCS, Paged, Searched};

@@ -1,5 +1,6 @@
 //! The numbers are `refusal`'s, which is written from document 01's text: of every boundary, and of
-//! damaged copies of generated cases. Both the cases' file and the numbers are made here.
+//! damaged copies of generated cases and of the sound one; a copy that is refused with 9 or 10 is
+//! damaged twice more, so that a lower number holds beside it. Both the cases' file and the numbers are made here.
 use super::place;
 use crate::boundary;
 use crate::case::Case;
@@ -12,7 +13,7 @@ use crate::refusal::refusal;
 const HEAD: usize = 10;
 
 /// What the program has room for: the file's words, norm bytes, live words.
-const ROOM: usize = 32_768;
+const ROOM: usize = 65_536;
 const NORMS: usize = 65_553;
 const LIVE: usize = 16_385;
 
@@ -38,7 +39,13 @@ fn cases() -> Vec<Case> {
         cases.push(sound);
     }
     let sound = boundary::sound();
-    cases.extend((0..5 * DAMAGED).map(|_| damaged(&mut random, &sound)));
+    for _ in 0..6 * DAMAGED {
+        let copy = damaged(&mut random, &sound);
+        if number(&copy) > 8 {
+            cases.extend((0..2).map(|_| damaged(&mut random, &copy)));
+        }
+        cases.push(copy);
+    }
     cases
 }
 

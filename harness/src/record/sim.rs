@@ -1,6 +1,6 @@
 //! All of the unchanged Rust's sim.rs; a length as an f32 is Rust's `as`.
-use super::single;
-use crate::oracle;
+use super::{numbers, single};
+use crate::oracle::{self, private};
 
 const AVERAGES: [u32; 6] = [
     0x3f80_0000,
@@ -24,7 +24,23 @@ pub fn text() -> String {
         text.extend(inverses.map(single));
         text.extend((0..128).map(|point| score(average, point)));
     }
+    text.extend((0..496).map(four_bits));
+    text.extend(numbers(4).take(256).enumerate().map(any_four_bits));
     text
+}
+
+/// A four-bit code's number, and the codes of the numbers beside it and of itself.
+fn four_bits(code: u32) -> String {
+    let number = private::int4_number(code);
+    let beside = [number.wrapping_sub(1), number, number.wrapping_add(1)];
+    let [below, own, above] = beside.map(private::int4);
+    format!("{number} {below} {own} {above} \n")
+}
+
+/// The code of a number from a seed, of each length in turn, and the number that the code stands for.
+fn any_four_bits((turn, x): (usize, u64)) -> String {
+    let code = private::int4(x >> (turn % 64));
+    format!("{code} {} \n", private::int4_number(code))
 }
 
 /// The code of a length that has one.

@@ -5,7 +5,7 @@ use Prim.Native.Nat.{min}
 use native.Mathlib.Omega.{arith}
 use lib.ListN.{length}
 use Rattle.scorer.specs.Contracts.{lent}
-use Rattle.bulk.proofs.Roots.{root-long}
+use Rattle.bulk_term.proofs.Roots.{root-long}
 use Rattle.bulk.proofs.collect_matches.Statement.{statement}
 use Rattle.bulk.proofs.collect_matches.Tie as tie
 

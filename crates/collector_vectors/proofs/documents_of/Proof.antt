@@ -7,10 +7,10 @@ use Rattle.collector_vectors.proofs.documents_of.Statement.{statement}
 use Rattle.collector_vectors.proofs.documents_of.Tie as tie
 
 abbrev Inv-loop : tie.InvT-loop
-Inv-loop base seed documents₀ x₀ document₀ i₀ documents x document i = (i ≤ 12) × (length documents ≡ 12)
+Inv-loop base n seed documents₀ x₀ document₀ i₀ documents x document i = (i ≤ n) × (length documents ≡ 150)
 
 abbrev μ-loop : tie.MeasureT-loop
-μ-loop base seed documents₀ x₀ document₀ i₀ documents x document i = 12 - i
+μ-loop base n seed documents₀ x₀ document₀ i₀ documents x document i = n - i
 
 loop-holds : tie.Need-loop-holds Inv-loop μ-loop
 loop-holds c = search needs

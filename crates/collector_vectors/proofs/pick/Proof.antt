@@ -11,10 +11,10 @@ use Rattle.collector_vectors.proofs.pick.Statement.{statement}
 use Rattle.collector_vectors.proofs.pick.Tie as tie
 
 abbrev zeros : List ℤ
-zeros = pos 0 ∷ pos 0 ∷ pos 0 ∷ pos 0 ∷ pos 0 ∷ pos 0 ∷ []
+zeros = pos 0 ∷ pos 0 ∷ pos 0 ∷ pos 0 ∷ pos 0 ∷ pos 0 ∷ pos 0 ∷ pos 0 ∷ pos 0 ∷ pos 0 ∷ pos 0 ∷ pos 0 ∷ pos 0 ∷ pos 0 ∷ pos 0 ∷ pos 0 ∷ pos 0 ∷ pos 0 ∷ pos 0 ∷ pos 0 ∷ pos 0 ∷ pos 0 ∷ pos 0 ∷ pos 0 ∷ pos 0 ∷ pos 0 ∷ pos 0 ∷ pos 0 ∷ pos 0 ∷ pos 0 ∷ pos 0 ∷ pos 0 ∷ pos 0 ∷ pos 0 ∷ pos 0 ∷ pos 0 ∷ pos 0 ∷ pos 0 ∷ pos 0 ∷ pos 0 ∷ []
 
 -- the part of the heap that is lent is as long as k says
-places : (k : ℕ) → k ≤ 6 → length (take k zeros) ≡ k
+places : (k : ℕ) → k ≤ 40 → length (take k zeros) ≡ k
 places k h = length-take-le k zeros h
 
 is-good-requires : tie.Need-is-good-requires

@@ -7,10 +7,10 @@ use Rattle.collector_vectors.proofs.scores_of.Statement.{statement}
 use Rattle.collector_vectors.proofs.scores_of.Tie as tie
 
 abbrev Inv-loop : tie.InvT-loop
-Inv-loop order seed scores₀ x₀ i₀ scores x i = (i ≤ 12) × (length scores ≡ 12)
+Inv-loop order n seed scores₀ x₀ i₀ scores x i = (i ≤ n) × (length scores ≡ 150)
 
 abbrev μ-loop : tie.MeasureT-loop
-μ-loop order seed scores₀ x₀ i₀ scores x i = 12 - i
+μ-loop order n seed scores₀ x₀ i₀ scores x i = n - i
 
 loop-holds : tie.Need-loop-holds Inv-loop μ-loop
 loop-holds c = search needs
@@ -18,17 +18,11 @@ loop-holds c = search needs
 xorshift-requires : tie.Need-xorshift-requires Inv-loop μ-loop
 xorshift-requires c κs = search needs
 
-place-of-requires : tie.Need-place-of-requires Inv-loop μ-loop
-place-of-requires c κs = search needs
+score-of-requires : tie.Need-score-of-requires Inv-loop μ-loop
+score-of-requires c κs = search needs
 
 mul-scores : tie.Need-mul-scores Inv-loop μ-loop
 mul-scores c = search needs
-
-array-read-scores : tie.Need-array-read-scores Inv-loop μ-loop
-array-read-scores c = search needs
-
-mul-scores-2 : tie.Need-mul-scores-2 Inv-loop μ-loop
-mul-scores-2 c = search needs
 
 array-write-scores : tie.Need-array-write-scores Inv-loop μ-loop
 array-write-scores c = search needs
@@ -53,10 +47,8 @@ scores-of-spec =
     μ-loop
     loop-holds
     xorshift-requires
-    place-of-requires
+    score-of-requires
     mul-scores
-    array-read-scores
-    mul-scores-2
     array-write-scores
     add-i
     loop-less

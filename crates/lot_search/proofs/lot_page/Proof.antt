@@ -2,7 +2,7 @@
 use borrow.Author.Needs.{needs}
 use lib.ListN.{length}
 use Rattle.index.specs.Slices.{lent}
-use Rattle.searcher.specs.Lends.{work}
+use Rattle.order_check.specs.Lends.{work}
 use Rattle.lot_search.proofs.Told.{page-told-short, page-told-refused, page-told-given}
 use Rattle.lot_search.proofs.lot_page.Statement.{statement}
 use Rattle.lot_search.proofs.lot_page.Tie as tie

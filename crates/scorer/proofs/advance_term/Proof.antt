@@ -4,7 +4,7 @@ use mathlib.Core.Path.{refl}
 use native.Mathlib.Omega.{arith}
 use lib.ListN.{length}
 use lib.Seq.{getD-set-same}
-use Rattle.scorer.proofs.Bounds.{ok-long}
+use Rattle.leaf_scorer.proofs.Bounds.{ok-long}
 use Rattle.scorer.proofs.Nodes.{node-cached}
 use Rattle.scorer.proofs.Terms.{term-asks, term-sought}
 use borrow.Author.Needs.{needs}
@@ -13,7 +13,7 @@ use Rattle.scorer.proofs.advance_term.Tie as tie
 use Rattle.scorer.proofs.advance_term.Reads as reads
 use Rattle.scorer.proofs.advance_term.Lts as lts
 use Rattle.scorer.proofs.head_at.Reads as head-at-reads
-use Rattle.scorer.proofs.leaves.search_postings.Reads as search-postings-reads
+use Rattle.leaf_scorer.proofs.search_postings.Reads as search-postings-reads
 
 head-at-requires : tie.Need-head-at-requires
 head-at-requires c κs = let s = (c .before .before .before) in let P = s .pre .2 in ok-long (P .2) (P .0 .ranges) (P .4) (P .5) (P .6) (s .args .st .now) (s .args .target) (P .7 .ok)

@@ -9,8 +9,8 @@ use lib.IntN.{ℤ}
 use lib.ListN.{length}
 use Rattle.meaning.specs.Limits.{noMoreDocs}
 use Rattle.collector.specs.declared.TopScoreDocCollector.{TopScoreDocCollector}
-use Rattle.bulk.proofs.Collecting.{nonneg-clear}
-use Rattle.bulk.proofs.Roots.{root-long, joined}
+use Rattle.bulk_default.proofs.Collecting.{nonneg-clear}
+use Rattle.bulk_term.proofs.Roots.{root-long, joined}
 use Rattle.bulk.proofs.AnyRoot.{AnysAt, any-is, any-root, any-start, any-ready, any-done, any-few, any-bit, any-pass, any-take}
 use Rattle.bulk.proofs.everything.collect_everything.Statement.{statement}
 use Rattle.bulk.proofs.everything.collect_everything.Tie as tie

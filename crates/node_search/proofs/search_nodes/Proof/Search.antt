@@ -1,6 +1,6 @@
 -- The call of `search_words`: what its contract binds, that the caller has what it asks, and what it gives back. Assumes nothing.
-use mathlib.Core.Path.{_≡_, refl, sym, subst}
-use Prim.Native.Nat.{ℕ, _<_, _≤_, _^_, _*_}
+use mathlib.Core.Path.{_≡_, refl}
+use Prim.Native.Nat.{ℕ, _<_, _^_}
 use mathlib.Core.List.{[], _∷_, List}
 use lib.ListN.{length}
 use lib.IntN.{ℤ}
@@ -30,7 +30,7 @@ use Rattle.index.specs.Slices.{lent}
 use Rattle.searcher.specs.declared.search.Searched.{Searched}
 use Rattle.node_search.specs.Searches.{Searches}
 use Rattle.node_search.proofs.search_words as kk
-use Rattle.node_search.proofs.search_nodes.Proof.Lent.{Call, n, enough, yw, dv, MW, d₀, d₁, d₂, d₃, d₄, d₅, d₆, d₇, d₈, e₀, e₁, e₂, e₃, P, TS, TX, SH, XS}
+use Rattle.node_search.proofs.search_nodes.Proof.Lent.{Call, n, enough, yw, dv, MW, d₀, d₁, d₂, d₃, d₄, d₅, d₆, d₇, d₈, e₀, e₁, e₂, e₃, TS, TX, SH, XS}
 
 module _ {M : Type 1} (𝓤 : URA M) (H : Heap 𝓤) (A : Atoms 𝓤) (mem : Memory → SProp 𝓤) (run : Routine → Fun 𝓤) where
   abbrev pub Kk : Contract 𝓤
@@ -40,19 +40,19 @@ module _ {M : Type 1} (𝓤 : URA M) (H : Heap 𝓤) (A : Atoms 𝓤) (W : Given
   abbrev pub to-κ : ℕ → Lft × (Lft × (Lft × (Lft × (Lft × (Lft × (Lft × (Lft × (Lft × (Lft × (Lft × (Lft × (Lft × (Lft × Unit {0})))))))))))))
   to-κ ν = (c .κ₀, (c .κ₁, (c .κ₂, (c .κ₃, (c .κ₄, (c .κ₅, (c .κ₆, (c .κ₇, (c .κ₈, (ν ∷ [], (c .κ₁₁, (c .κ₁₂, (c .κ₁₃, (c .κ₁₄, tt))))))))))))))
 
-  abbrev pub to-a : GName → List ℕ → ℕ × (RefT (List ℕ) × (RefT (List ℕ) × (RefT (List ℕ) × (RefT (List ℕ) × (RefT (List ℕ) × (RefT (List ℕ) × (RefT (List ℕ) × (RefT (List ℕ) × (RefT (List ℕ) × (ℕ × (ℕ × (ℕ × (RefT (List ℕ) × (RefT (List ℤ) × (RefT (List ℤ) × (RefT (List ℕ) × (RefT (List ℤ) × Unit {0})))))))))))))))))
-  to-a δ l = (c .md, (c .s₀, (c .s₁, (c .s₂, (c .s₃, (c .s₄, (c .s₅, (c .s₆, (c .s₇, (c .s₈, (c .k, (c .t, (n c, (yw c δ l, (c .x₀, (c .x₁, (c .x₂, (c .x₃, tt))))))))))))))))))
+  abbrev pub to-a : GName → ℕ × (RefT (List ℕ) × (RefT (List ℕ) × (RefT (List ℕ) × (RefT (List ℕ) × (RefT (List ℕ) × (RefT (List ℕ) × (RefT (List ℕ) × (RefT (List ℕ) × (RefT (List ℕ) × (ℕ × (ℕ × (ℕ × (RefT (List ℕ) × (RefT (List ℤ) × (RefT (List ℤ) × (RefT (List ℕ) × (RefT (List ℤ) × Unit {0})))))))))))))))))
+  to-a δ = (c .md, (c .s₀, (c .s₁, (c .s₂, (c .s₃, (c .s₄, (c .s₅, (c .s₆, (c .s₇, (c .s₈, (c .k, (c .t, (n c, (yw c δ (c .ws), (c .x₀, (c .x₁, (c .x₂, (c .x₃, tt))))))))))))))))))
 
-  abbrev pub to-k : ℕ → GName → List ℕ → Kk 𝓤 H A mem run .Ghost
-  to-k ν δ l = ((to-κ ν, (c .q₀, (c .q₁, (c .q₂, (c .q₃, (c .q₄, (c .q₅, (c .q₆, (c .q₇, (c .q₈, (fullShare, (c .q₁₁, (c .q₁₂, (c .q₁₃, (c .q₁₄, tt)))))))))))))), tt, to-a δ l, (vint w32 (c .md) ∷ [], (d₀ c ∷ [], (d₁ c ∷ [], (d₂ c ∷ [], (d₃ c ∷ [], (d₄ c ∷ [], (d₅ c ∷ [], (d₆ c ∷ [], (d₇ c ∷ [], (d₈ c ∷ [], (vint w32 (c .k) ∷ [], (vint w32 (c .t) ∷ [], (vint w64 (n c) ∷ [], (dv c (length l) ∷ [], (e₀ c ∷ [], (e₁ c ∷ [], (e₂ c ∷ [], (e₃ c ∷ [], tt))))))))))))))))))), tt)
+  abbrev pub to-k : ℕ → GName → Kk 𝓤 H A mem run .Ghost
+  to-k ν δ = ((to-κ ν, (c .q₀, (c .q₁, (c .q₂, (c .q₃, (c .q₄, (c .q₅, (c .q₆, (c .q₇, (c .q₈, (fullShare, (c .q₁₁, (c .q₁₂, (c .q₁₃, (c .q₁₄, tt)))))))))))))), tt, to-a δ, (vint w32 (c .md) ∷ [], (d₀ c ∷ [], (d₁ c ∷ [], (d₂ c ∷ [], (d₃ c ∷ [], (d₄ c ∷ [], (d₅ c ∷ [], (d₆ c ∷ [], (d₇ c ∷ [], (d₈ c ∷ [], (vint w32 (c .k) ∷ [], (vint w32 (c .t) ∷ [], (vint w64 (n c) ∷ [], (dv c (length (c .ws)) ∷ [], (e₀ c ∷ [], (e₁ c ∷ [], (e₂ c ∷ [], (e₃ c ∷ [], tt))))))))))))))))))), tt)
 
   abbrev pub TK : ℕ → Item 𝓤
   TK ν = ‵ (flft (c .κ₀) (c .q₀)) ⊛ ‵ (flft (c .κ₁) (c .q₁)) ⊛ ‵ (flft (c .κ₂) (c .q₂)) ⊛ ‵ (flft (c .κ₃) (c .q₃)) ⊛ ‵ (flft (c .κ₄) (c .q₄)) ⊛ ‵ (flft (c .κ₅) (c .q₅)) ⊛ ‵ (flft (c .κ₆) (c .q₆)) ⊛ ‵ (flft (c .κ₇) (c .q₇)) ⊛ ‵ (flft (c .κ₈) (c .q₈)) ⊛ ‵ (flft (ν ∷ []) fullShare) ⊛ ‵ (flft (c .κ₁₁) (c .q₁₁)) ⊛ ‵ (flft (c .κ₁₂) (c .q₁₂)) ⊛ ‵ (flft (c .κ₁₃) (c .q₁₃)) ⊛ ‵ (flft (c .κ₁₄) (c .q₁₄)) ⊛ ‵ ftrue
 
-  pub goes-k : (n c) < 2 ^ 64 → length (P c) ≡ length (c .ws) → (ν : ℕ) (δ : GName) → ent 𝓤 (⋆ 𝓤 H A ((TS 𝓤 c) ∷ ‵ (flft (ν ∷ []) fullShare) ∷ (TX 𝓤 c) ∷ (SH 𝓤 c) ∷ ‵ (MW c (ν ∷ []) δ (P c)) ∷ (XS 𝓤 c) ∷ [])) (Kk 𝓤 H A mem run .pre (to-k ν δ (P c)))
-  goes-k gn lp ν δ =
-      qed W ((TS 𝓤 c) ∷ ‵ (flft (ν ∷ []) fullShare) ∷ (TX 𝓤 c) ∷ (SH 𝓤 c) ∷ ‵ (MW c (ν ∷ []) δ (P c)) ∷ (XS 𝓤 c) ∷ []) ∵
-      says ! (subst (λ (l : ℕ). 24 * (n c) ≤ l) (sym lp) (enough c)) $
+  pub goes-k : (n c) < 2 ^ 64 → (ν : ℕ) (δ : GName) → ent 𝓤 (⋆ 𝓤 H A ((TS 𝓤 c) ∷ ‵ (flft (ν ∷ []) fullShare) ∷ (TX 𝓤 c) ∷ (SH 𝓤 c) ∷ ‵ (MW c (ν ∷ []) δ (c .ws)) ∷ (XS 𝓤 c) ∷ [])) (Kk 𝓤 H A mem run .pre (to-k ν δ))
+  goes-k gn ν δ =
+      qed W ((TS 𝓤 c) ∷ ‵ (flft (ν ∷ []) fullShare) ∷ (TX 𝓤 c) ∷ (SH 𝓤 c) ∷ ‵ (MW c (ν ∷ []) δ (c .ws)) ∷ (XS 𝓤 c) ∷ []) ∵
+      says ! (enough c) $
       split ! $
       move ! (1 ∷ []) $
       split ! $
@@ -190,10 +190,10 @@ module _ {M : Type 1} (𝓤 : URA M) (H : Heap 𝓤) (A : Atoms 𝓤) (W : Given
   Zs = List ℕ × (List ℤ × (List ℤ × (List ℕ × List ℤ)))
 
   abbrev pub Lens : Zs → Type 0
-  Lens z = (length (z .0) ≡ length (P c)) × ((length (z .1 .0) ≡ length (c .x₀ .now)) × ((length (z .1 .1 .0) ≡ length (c .x₁ .now)) × ((length (z .1 .1 .1 .0) ≡ length (c .x₂ .now)) × (length (z .1 .1 .1 .1) ≡ length (c .x₃ .now)))))
+  Lens z = (length (z .0) ≡ length (c .ws)) × ((length (z .1 .0) ≡ length (c .x₀ .now)) × ((length (z .1 .1 .0) ≡ length (c .x₁ .now)) × ((length (z .1 .1 .1 .0) ≡ length (c .x₂ .now)) × (length (z .1 .1 .1 .1) ≡ length (c .x₃ .now)))))
 
   abbrev pub Found : Searched → List ℕ → List ℤ → List ℤ → List ℕ → List ℤ → Type 0
-  Found r ws₂ y₀ y₁ y₂ y₃ = Searches (lent (c .md) (c .s₀ .now) (c .s₁ .now) (c .s₂ .now) (c .s₃ .now) (c .s₄ .now) (c .s₅ .now) (c .s₆ .now) (c .s₇ .now)) (c .s₈ .now) (c .k) (c .t) (n c) (P c) ws₂ (c .x₀ .now) y₀ (c .x₁ .now) y₁ (c .x₂ .now) y₂ (c .x₃ .now) y₃ r
+  Found r ws₂ y₀ y₁ y₂ y₃ = Searches (lent (c .md) (c .s₀ .now) (c .s₁ .now) (c .s₂ .now) (c .s₃ .now) (c .s₄ .now) (c .s₅ .now) (c .s₆ .now) (c .s₇ .now)) (c .s₈ .now) (c .k) (c .t) (n c) (c .ws) ws₂ (c .x₀ .now) y₀ (c .x₁ .now) y₁ (c .x₂ .now) y₂ (c .x₃ .now) y₃ r
 
   abbrev pub Found₁ : Searched → Zs → Type 0
   Found₁ r z = Found r (z .0) (z .1 .0) (z .1 .1 .0) (z .1 .1 .1 .0) (z .1 .1 .1 .1)
@@ -204,10 +204,10 @@ module _ {M : Type 1} (𝓤 : URA M) (H : Heap 𝓤) (A : Atoms 𝓤) (W : Given
   abbrev pub Back : GName → Searched → Zs → SProp 𝓤
   Back δ r z = sep 𝓤 (sep 𝓤 (sem 𝓤 H A (finally u32 δ (z .0))) (mean 𝓤 H A (FX z))) (fact 𝓤 (Lens z × Found₁ r z))
 
-  pub said-k : (ν : ℕ) (δ : GName) (r : Searched) → ent 𝓤 (ensured 𝓤 H A kk.ended (kk.clauses 𝓤 H A mem run) (to-κ ν) (to-a δ (P c)) tt r) (mean 𝓤 H A (some (λ (z : Zs). ((‵ (finally u32 δ (z .0))) ⊛ FX z) ⊛ raw (fact 𝓤 (Lens z × Found₁ r z)))))
+  pub said-k : (ν : ℕ) (δ : GName) (r : Searched) → ent 𝓤 (ensured 𝓤 H A kk.ended (kk.clauses 𝓤 H A mem run) (to-κ ν) (to-a δ) tt r) (mean 𝓤 H A (some (λ (z : Zs). ((‵ (finally u32 δ (z .0))) ⊛ FX z) ⊛ raw (fact 𝓤 (Lens z × Found₁ r z)))))
   said-k ν δ r =
-      qed W (raw (ensured 𝓤 H A kk.ended (kk.clauses 𝓤 H A mem run) (to-κ ν) (to-a δ (P c)) tt r) ∷ []) ∵
-      use1 W (some (λ (zs : Unit {0} × (Unit {0} × (Unit {0} × (Unit {0} × (Unit {0} × (Unit {0} × (Unit {0} × (Unit {0} × (Unit {0} × (Unit {0} × (Unit {0} × (Unit {0} × (Unit {0} × (List ℕ × (List ℤ × (List ℤ × (List ℕ × (List ℤ × Unit {0})))))))))))))))))). ‵ (lasts kk.ended (to-κ ν) (to-a δ (P c)) zs) ⊛ raw (fact 𝓤 (Found r (zs .1 .1 .1 .1 .1 .1 .1 .1 .1 .1 .1 .1 .1 .0) (zs .1 .1 .1 .1 .1 .1 .1 .1 .1 .1 .1 .1 .1 .1 .0) (zs .1 .1 .1 .1 .1 .1 .1 .1 .1 .1 .1 .1 .1 .1 .1 .0) (zs .1 .1 .1 .1 .1 .1 .1 .1 .1 .1 .1 .1 .1 .1 .1 .1 .0) (zs .1 .1 .1 .1 .1 .1 .1 .1 .1 .1 .1 .1 .1 .1 .1 .1 .1 .0))))) (id⊢ 𝓤 _) $ pick ! (λ zs.
+      qed W (raw (ensured 𝓤 H A kk.ended (kk.clauses 𝓤 H A mem run) (to-κ ν) (to-a δ) tt r) ∷ []) ∵
+      use1 W (some (λ (zs : Unit {0} × (Unit {0} × (Unit {0} × (Unit {0} × (Unit {0} × (Unit {0} × (Unit {0} × (Unit {0} × (Unit {0} × (Unit {0} × (Unit {0} × (Unit {0} × (Unit {0} × (List ℕ × (List ℤ × (List ℤ × (List ℕ × (List ℤ × Unit {0})))))))))))))))))). ‵ (lasts kk.ended (to-κ ν) (to-a δ) zs) ⊛ raw (fact 𝓤 (Found r (zs .1 .1 .1 .1 .1 .1 .1 .1 .1 .1 .1 .1 .1 .0) (zs .1 .1 .1 .1 .1 .1 .1 .1 .1 .1 .1 .1 .1 .1 .0) (zs .1 .1 .1 .1 .1 .1 .1 .1 .1 .1 .1 .1 .1 .1 .1 .0) (zs .1 .1 .1 .1 .1 .1 .1 .1 .1 .1 .1 .1 .1 .1 .1 .1 .0) (zs .1 .1 .1 .1 .1 .1 .1 .1 .1 .1 .1 .1 .1 .1 .1 .1 .1 .0))))) (id⊢ 𝓤 _) $ pick ! (λ zs.
       split ! $
       move ! (1 ∷ []) $
       heard ! (Found r (zs .1 .1 .1 .1 .1 .1 .1 .1 .1 .1 .1 .1 .1 .0) (zs .1 .1 .1 .1 .1 .1 .1 .1 .1 .1 .1 .1 .1 .1 .0) (zs .1 .1 .1 .1 .1 .1 .1 .1 .1 .1 .1 .1 .1 .1 .1 .0) (zs .1 .1 .1 .1 .1 .1 .1 .1 .1 .1 .1 .1 .1 .1 .1 .1 .0) (zs .1 .1 .1 .1 .1 .1 .1 .1 .1 .1 .1 .1 .1 .1 .1 .1 .1 .0)) (λ e.

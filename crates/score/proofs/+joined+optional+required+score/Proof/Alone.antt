@@ -5,7 +5,7 @@ use Prim.Native.Nat.{ℕ, _≤_, min}
 use lib.ListN.{length}
 use lib.Seq.{length-front, length-take-le}
 use Rattle.meaning.specs.Ieee754.{zeroFloat}
-use Rattle.score.proofs.Bounds.{zero-64}
+use Rattle.leaf_score.proofs.Bounds.{zero-64}
 use Rattle.score.proofs.Parts.{back-length}
 use Rattle.score.proofs.Loops.{put}
 use Rattle.score.proofs.Alone.{zero-narrowed}

@@ -7,7 +7,7 @@ use lib.ListN.{length, drop}
 use lib.Seq.{length-front, length-take-le}
 use lib.Ieee.{binary64, isNan, fits}
 use lib.Ieee.Fits.{and-i, fits-widens}
-use Rattle.score.proofs.Bounds.{zero-64}
+use Rattle.leaf_score.proofs.Bounds.{zero-64}
 use Rattle.score.proofs.Parts.{back-length}
 use Rattle.score.proofs.Loops.{places-same, put}
 use Rattle.score.proofs.Booleans.{lies, group-asks, grouped, group-number, after-asks, after-number, after-done, cut-lies, front-asks, rest-asks, rest-done}

@@ -20,9 +20,9 @@ use Rattle.score.proofs.+joined+optional+required+score.Lts-score as sc
 use Rattle.ieee754.proofs.add_score.Reads as add-score-reads
 use Rattle.ieee754.proofs.narrow.Reads as narrow-reads
 use Rattle.score.proofs.child_at.Reads as child-at-reads
-use Rattle.score.proofs.leaf_score.Reads as leaf-score-reads
-use Rattle.score.proofs.node_at.Reads as node-at-reads
-use Rattle.score.proofs.term_score.Reads as term-score-reads
+use Rattle.leaf_score.proofs.leaf_score.Reads as leaf-score-reads
+use Rattle.leaf_score.proofs.node_at.Reads as node-at-reads
+use Rattle.leaf_score.proofs.term_score.Reads as term-score-reads
 use Rattle.scorer.proofs.advance.Reads as advance-reads
 use Rattle.scorer.proofs.advance_term.Reads as advance-term-reads
 

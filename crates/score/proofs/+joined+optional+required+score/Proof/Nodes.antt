@@ -2,9 +2,10 @@
 use mathlib.Core.Path.{refl}
 use native.Mathlib.Omega.{arith}
 use lib.ListN.{length}
-use Rattle.scorer.proofs.Bounds.{ok-long}
+use Rattle.leaf_scorer.proofs.Bounds.{ok-long}
 use Rattle.score.proofs.Parts.{back-length}
-use Rattle.score.proofs.Nodes.{constant-is, leaf-at, node-at}
+use Rattle.score.proofs.Nodes.{node-at}
+use Rattle.leaf_score.proofs.Nodes.{constant-is, leaf-at}
 use Prim.Native.Nat.{ℕ, min}
 use Rattle.score.proofs.score.Reads as score
 use Rattle.score.proofs.+joined+optional+required+score.Lts-score as score-lts

@@ -2,7 +2,7 @@
 use mathlib.Core.Path.{refl, _∙_}
 use native.Mathlib.Omega.{arith}
 use lib.ListN.{length}
-use Rattle.score.proofs.Bounds.{zero-64}
+use Rattle.leaf_score.proofs.Bounds.{zero-64}
 use Rattle.score.proofs.Parts.{back-length}
 use Rattle.score.proofs.Loops.{places-same, put, optional-start, optional-end, optional-there, optional-ask, optional-mid, optional-left, optional-child, optional-number, optional-took}
 use Prim.Native.Nat.{ℕ, min}

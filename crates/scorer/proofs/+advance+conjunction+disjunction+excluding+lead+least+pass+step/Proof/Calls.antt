@@ -6,8 +6,10 @@ use lib.Dec.{leb}
 use Rattle.meaning.specs.Limits.{noMoreDocs}
 use Rattle.meaning.specs.Lent.{Index}
 use Rattle.weight.specs.ScorerTree.{Scorers, matching}
-use Rattle.scorer.specs.Contracts.{lent, PartsHeld, LeadHeld, BooleanHeld, leads, takes}
-use Rattle.scorer.proofs.Loops.{Lengths, Going, LeastAt, PassAt}
+use Rattle.scorer.specs.Contracts.{PartsHeld, LeadHeld, BooleanHeld, leads, takes}
+use Rattle.leaf_scorer.specs.Contracts.{lent}
+use Rattle.scorer.proofs.Loops.{LeastAt, PassAt}
+use Rattle.leaf_scorer.proofs.Loops.{Lengths, Going}
 use Prim.Native.Nat.{ℕ, _<_}
 use borrow.Fn.Kinds.{In}
 use borrow.Fn.PlainCycle.{Measures, is, falls, and}
@@ -40,9 +42,11 @@ use Rattle.scorer.proofs.child_at.Reads as child-at-reads
 use Rattle.scorer.proofs.head_at.Reads as head-at-reads
 use Rattle.scorer.proofs.kind_at.Reads as kind-at-reads
 use Rattle.scorer.proofs.advance_term.Reads as advance-term-reads
-use Rattle.scorer.proofs.leaves.seek.Reads as seek-reads
+use Rattle.scorer.proofs.advance_range.Reads as advance-range-reads
+use Rattle.scorer.proofs.ask_phrase.Reads as ask-phrase-reads
+use Rattle.leaf_scorer.proofs.seek.Reads as seek-reads
 use Rattle.scorer.proofs.tally.Reads as tally-reads
-use Rattle.scorer.proofs.wide.Reads as wide-reads
+use Rattle.index.proofs.wide.Reads as wide-reads
 
 abbrev pub μ-advance : Measures 6 advance-kinds.ps ℕ
 μ-advance κs a = a .1 .1 .1 .1 .1 .1 .1 .1 .0 * 16 + 1
@@ -140,7 +144,7 @@ abbrev pub least-calls : ℕ → least-lts.Claims
 least-calls t = (kind-at-reads.Asked, kind-at-reads.Learnt, advance-term-reads.Asked, advance-term-reads.Learnt, tally-reads.Asked, tally-reads.Learnt, child-at-reads.Asked, child-at-reads.Learnt, advance-below t, advance.Post)
 
 abbrev pub pass-calls : ℕ → pass-lts.Claims
-pass-calls t = (kind-at-reads.Asked, kind-at-reads.Learnt, advance-term-reads.Asked, advance-term-reads.Learnt, child-at-reads.Asked, child-at-reads.Learnt, advance-below t, advance.Post)
+pass-calls t = (kind-at-reads.Asked, kind-at-reads.Learnt, advance-term-reads.Asked, advance-term-reads.Learnt, advance-range-reads.Asked, advance-range-reads.Learnt, child-at-reads.Asked, child-at-reads.Learnt, ask-phrase-reads.Asked, ask-phrase-reads.Learnt, advance-below t, advance.Post)
 
 abbrev pub step-calls : ℕ → step-lts.Claims
 step-calls t = (pass-below t, pass.Post, disjunction-below t, disjunction.Post)

@@ -11,8 +11,8 @@ use borrow.Author.Tests.{le-leb}
 use Rattle.meaning.specs.Limits.{noMoreDocs}
 use Rattle.weight.specs.ScorerTree.{matching, allMatch}
 use Rattle.scorer.proofs.Firsts.{pass-done, pass-more, pass-then, pass-only, enough-top, enough-hit, enough-more}
-use Rattle.scorer.proofs.Children.{back-length}
-use Rattle.scorer.proofs.Loops.{going-start}
+use Rattle.leaf_scorer.proofs.Loops.{back-length}
+use Rattle.leaf_scorer.proofs.Loops.{going-start}
 use Rattle.scorer.proofs.Leads.{front-length, parts-later, lead-fits, lead-required, lead-passed, lead-optional, lead-joined, alone-optional, alone-joined, alone-first, alone-here}
 use Prim.Native.Nat.{ℕ, _<_}
 use Rattle.scorer.proofs.conjunction.Reads as conjunction

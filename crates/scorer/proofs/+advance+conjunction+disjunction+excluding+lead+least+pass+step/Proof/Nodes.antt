@@ -6,11 +6,11 @@ use native.Mathlib.Omega.{arith}
 use lib.ListN.{length, length-set, take, drop}
 use lib.Seq.{length-take-le, getD-set-same}
 use Rattle.meaning.specs.Limits.{noMoreDocs}
-use Rattle.scorer.specs.Contracts.{lent}
-use Rattle.scorer.proofs.Bounds.{ok-long}
+use Rattle.leaf_scorer.specs.Contracts.{lent}
+use Rattle.leaf_scorer.proofs.Bounds.{ok-long}
 use Rattle.scorer.proofs.Firsts.{kept-top, kept-alone, kept-hit, kept-more}
-use Rattle.scorer.proofs.Children.{back-length}
-use Rattle.scorer.proofs.Loops.{going-start}
+use Rattle.leaf_scorer.proofs.Loops.{back-length}
+use Rattle.leaf_scorer.proofs.Loops.{going-start}
 use Rattle.scorer.proofs.Leads.{front-length, boolean-fits, boolean-lead, boolean-led, boolean-prohibited, boolean-joined, boolean-later, boolean-none}
 use Rattle.scorer.proofs.Nodes.{node-cached, node-leaf, node-sought, node-boolean, node-joined}
 use Prim.Native.Nat.{ℕ, _<_}

@@ -5,9 +5,9 @@ use native.Mathlib.Omega.{arith}
 use lib.ListN.{length, length-take}
 use Rattle.meaning.specs.Lent.{Index}
 use Rattle.meaning.specs.CallRefusals.{Work}
-use Rattle.searcher.specs.Lends.{work}
+use Rattle.order_check.specs.Lends.{work}
 use Rattle.searcher.proofs.Preparing.{treeOf, page-full, leaf-lent, columns-lent, walk-held}
-use Rattle.searcher.proofs.Rooms.{states-room, ranges-room}
+use Rattle.order_check.proofs.Rooms.{states-room, ranges-room}
 use Rattle.searcher.proofs.page.list_page.Statement.{statement}
 use Rattle.searcher.proofs.page.list_page.Tie as tie
 

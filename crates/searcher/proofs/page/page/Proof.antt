@@ -4,7 +4,7 @@ use mathlib.Core.Path.{refl}
 use lib.ListN.{length}
 use Rattle.meaning.specs.Lent.{Index}
 use Rattle.meaning.specs.CallRefusals.{Work}
-use Rattle.searcher.specs.Lends.{work}
+use Rattle.order_check.specs.Lends.{work}
 use Rattle.searcher.proofs.CallConditions.{page-lends}
 use Rattle.searcher.proofs.Answering.{page-not-refused, page-refused, page-given}
 use Rattle.searcher.proofs.page.page.Statement.{statement}

@@ -3,8 +3,8 @@ use borrow.Author.Needs.{needs}
 use mathlib.Core.Path.{refl}
 use Rattle.meaning.specs.Lent.{Index}
 use Rattle.meaning.specs.CallRefusals.{Work}
-use Rattle.searcher.specs.Lends.{work}
-use Rattle.searcher.proofs.Refusing.{order-checked}
+use Rattle.order_check.specs.Lends.{work}
+use Rattle.order_check.proofs.Refusing.{order-checked}
 use Rattle.searcher.proofs.CallConditions.{page-order, page-short, page-unequal, page-above, page-accepted}
 use Rattle.searcher.proofs.page.page_refusal.Statement.{statement}
 use Rattle.searcher.proofs.page.page_refusal.Tie as tie

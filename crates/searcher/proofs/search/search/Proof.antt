@@ -4,7 +4,7 @@ use mathlib.Core.Path.{refl}
 use lib.ListN.{length}
 use Rattle.meaning.specs.Lent.{Index}
 use Rattle.meaning.specs.CallRefusals.{Work}
-use Rattle.searcher.specs.Lends.{work}
+use Rattle.order_check.specs.Lends.{work}
 use Rattle.searcher.proofs.CallConditions.{search-lends, hits-front}
 use Rattle.searcher.proofs.Answering.{search-not-refused, search-refused, search-found}
 use Rattle.searcher.proofs.search.search.Statement.{statement}

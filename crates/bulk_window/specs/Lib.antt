@@ -1,0 +1,2 @@
+-- What the loops over windows of documents ask and give.
+pub mod Windows

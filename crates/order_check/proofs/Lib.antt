@@ -1,0 +1,3 @@
+-- The laws of the numbers that Search, Page and Place share.
+pub mod Rooms
+pub mod Refusing

@@ -1,0 +1,2 @@
+-- What Search, Page and Place are lent.
+pub mod Lends

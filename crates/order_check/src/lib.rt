@@ -1,0 +1,94 @@
+// The numbers that Search, Page and Place share: 1 to 10 of what is lent, and work buffers too short.
+ghost use mathlib.Core.Path.{_≡_};
+ghost use Prim.Native.Nat.{ℕ};
+ghost use Rattle.meaning.specs.Lent.{Index};
+ghost use Rattle.meaning.specs.Refusals.{lowest};
+ghost use Rattle.meaning.specs.CallRefusals.{startsShort, workShort};
+ghost use Rattle.meaning.specs.Entries.{orderConditions};
+ghost use Rattle.index.specs.Slices.{lent};
+ghost use Rattle.order_check.specs.Lends.{work, QueryLent};
+
+// The lowest number of 1 to 10 whose condition holds, and 0 where none does.
+pub fn check_order(
+    max_doc: u32,
+    fields: &[u32],
+    leaves: &[u32],
+    postings: &[u32],
+    positions: &[u32],
+    norms: &[u8],
+    live: &[u64],
+    columns: &[u32],
+    values: &[u32],
+    q: &[u32],
+) -> u32
+    ensures { λ r. ⌜ r ≡ lowest (orderConditions (lent «max_doc» (now (fields .entry)) (now (leaves .entry)) (now (postings .entry)) (now (positions .entry)) (now (norms .entry)) (now (live .entry)) (now (columns .entry)) (now (values .entry))) (now (q .entry))) ⌝ }
+{
+    let refusal = index_check::check_index(
+        max_doc,
+        fields,
+        leaves,
+        postings,
+        positions,
+        norms,
+        live,
+        columns,
+        values,
+    );
+    if refusal != 0 {
+        return refusal;
+    }
+    query_check::check_query(q, fields, leaves, columns)
+}
+
+// Whether a phrase buffer is too short for the query.
+pub fn starts_short(
+    max_doc: u32,
+    leaves: &[u32],
+    postings: &[u32],
+    q: &[u32],
+    states: usize,
+    starts: usize,
+    other_starts: usize,
+    ranges: usize,
+) -> bool
+    requires { ⌜ ((ix : Index) × QueryLent ix «max_doc» (now leaves) (now postings) (now q)) ⌝ }
+    ensures { λ r. ⌜ ((ix : Index) → QueryLent ix «max_doc» (now (leaves .entry)) (now (postings .entry)) (now (q .entry)) → r ≡ startsShort ix (now (q .entry)) (work states starts «other_starts» ranges)) ⌝ }
+{
+    let needed = query_check::buffers::starts_needed(q, leaves, postings) as usize;
+    if starts < needed {
+        return true;
+    }
+    other_starts < needed
+}
+
+// Whether a work buffer is too short for the query.
+pub fn work_short(
+    max_doc: u32,
+    leaves: &[u32],
+    postings: &[u32],
+    q: &[u32],
+    states: usize,
+    starts: usize,
+    other_starts: usize,
+    ranges: usize,
+) -> bool
+    requires { ⌜ ((ix : Index) × QueryLent ix «max_doc» (now leaves) (now postings) (now q)) ⌝ }
+    ensures { λ r. ⌜ ((ix : Index) → QueryLent ix «max_doc» (now (leaves .entry)) (now (postings .entry)) (now (q .entry)) → r ≡ workShort ix (now (q .entry)) (work states starts «other_starts» ranges)) ⌝ }
+{
+    if (states as u64) < query_check::buffers::states_needed(q) {
+        return true;
+    }
+    if starts_short(
+        max_doc,
+        leaves,
+        postings,
+        q,
+        states,
+        starts,
+        other_starts,
+        ranges,
+    ) {
+        return true;
+    }
+    (ranges as u64) < query_check::buffers::ranges_needed(max_doc, q)
+}

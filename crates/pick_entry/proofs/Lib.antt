@@ -1,0 +1,2 @@
+-- The laws of the Pick entry.
+pub mod PickEntry

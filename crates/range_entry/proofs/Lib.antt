@@ -1,0 +1,2 @@
+-- The laws of the Range entry.
+pub mod RangeEntry

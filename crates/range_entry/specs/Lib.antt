@@ -1,0 +1,2 @@
+-- What the answers of the Range entry say in document 01's numbers.
+pub mod Answers

@@ -1,0 +1,2 @@
+-- The laws of the search in a run of documents.
+pub mod Runs

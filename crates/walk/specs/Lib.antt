@@ -1,0 +1,2 @@
+-- What the contracts of the walk name.
+pub mod Walks
