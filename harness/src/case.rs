@@ -24,6 +24,19 @@ pub struct Case {
 pub const FILE_LIMIT: usize = 65_536;
 
 impl Case {
+    /// The lists that the checks read: of norms and live words they look at the length alone.
+    pub fn words(&self) -> [&[u32]; 7] {
+        [
+            &self.fields,
+            &self.leaves,
+            &self.postings,
+            &self.positions,
+            &self.columns,
+            &self.values,
+            &self.query,
+        ]
+    }
+
     /// The case in the ten files of a folder. What the program `hits` refuses with 0 is an error
     /// that says why.
     pub fn read_folder(folder: &Path) -> Result<Case, String> {

@@ -5,4 +5,3 @@ pub mod LeafLaws
 pub mod PhraseLaws
 pub mod Seeks
 pub mod Asked
-pub mod Stands

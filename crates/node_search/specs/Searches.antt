@@ -8,7 +8,7 @@ use Rattle.meaning.specs.Lent.{Index}
 use Rattle.meaning.specs.Entries.{Kept, searchRefusal, searchAnswer, searchHits}
 use Rattle.searcher.specs.declared.search.Searched.{Searched}
 use Rattle.searcher.specs.declared.search.Searched.the-variants as Searched
-use Rattle.searcher.specs.Lends.{work}
+use Rattle.order_check.specs.Lends.{work}
 use Rattle.searcher.specs.Answers.{searchedNumbers}
 use Rattle.node_state.specs.declared.NodeState.{NodeState}
 use Rattle.node_state.specs.Records.{recordWords}

@@ -1,3 +1,2 @@
--- What Search and Page are lent, and what their answers say in document 01's numbers.
-pub mod Lends
+-- What the answers of Search and Page say in document 01's numbers.
 pub mod Answers

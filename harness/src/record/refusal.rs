@@ -62,18 +62,6 @@ pub fn text() -> String {
     cases().into_iter().map(line).collect()
 }
 
-fn lists(case: &Case) -> [&[u32]; 7] {
-    [
-        &case.fields,
-        &case.leaves,
-        &case.postings,
-        &case.positions,
-        &case.columns,
-        &case.values,
-        &case.query,
-    ]
-}
-
 /// The number of cases, their heads, then the words of all lists: a list that stands there already
 /// is not written again.
 pub fn data() -> Vec<u8> {
@@ -81,7 +69,7 @@ pub fn data() -> Vec<u8> {
     let start = 1 + HEAD * cases.len();
     let mut heads = vec![cases.len() as u32];
     let mut pool: Vec<u32> = Vec::new();
-    let mut longest_first: Vec<_> = cases.iter().flat_map(lists).collect();
+    let mut longest_first: Vec<_> = cases.iter().flat_map(Case::words).collect();
     longest_first.sort_by_key(|list| std::cmp::Reverse(list.len()));
     for list in longest_first {
         place(&mut pool, list);
@@ -89,7 +77,7 @@ pub fn data() -> Vec<u8> {
     for case in &cases {
         assert!(case.norms.len() <= NORMS && case.live.len() <= LIVE);
         heads.extend([case.n, case.norms.len() as u32, case.live.len() as u32]);
-        for list in lists(case) {
+        for list in case.words() {
             let first = start + place(&mut pool, list);
             heads.push((first + 65_536 * list.len()) as u32);
         }

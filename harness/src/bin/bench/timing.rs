@@ -60,27 +60,13 @@ impl Order {
         self.oracle.walk(self.case.k, self.case.t)
     }
 
-    /// The words that the checks read: of norms and live words they look at the length alone.
-    fn checked(&self) -> [&[u32]; 7] {
-        let case = &self.case;
-        [
-            &case.fields,
-            &case.leaves,
-            &case.postings,
-            &case.positions,
-            &case.columns,
-            &case.values,
-            &case.query,
-        ]
-    }
-
     pub fn bytes(&self) -> usize {
-        4 * self.checked().map(<[u32]>::len).iter().sum::<usize>()
+        4 * self.case.words().map(<[u32]>::len).iter().sum::<usize>()
     }
 
     fn sum(&self) -> u32 {
         let sum = |words: &[u32]| words.iter().fold(0u32, |sum, word| sum.wrapping_add(*word));
-        self.checked().map(sum).iter().fold(0, |a, b| a ^ b)
+        self.case.words().map(sum).iter().fold(0, |a, b| a ^ b)
     }
 
     /// Both sides give the same before any time is taken.
