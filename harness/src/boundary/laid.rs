@@ -206,7 +206,8 @@ fn past_the_slice(run: &Run, at: usize) -> Case {
 }
 
 /// A posting's last position at the limit and one above it; all above those of the posting before;
-/// then falling inside of the posting, once more than before and as often as before.
+/// then falling inside of the posting: once more than before, and as often as before, where the
+/// first position is above the one before it or equal to it.
 fn positions(cases: &mut Cases, run: &Run, at: usize) {
     let last = run.frequency(at) - 1;
     cases.is(0, run.with(at, |p| p.positions[last] = MOST));
@@ -215,6 +216,11 @@ fn positions(cases: &mut Cases, run: &Run, at: usize) {
     if last > 0 {
         cases.is(5, run.with(at, |p| p.positions[last] = 0));
         cases.is(5, run.with(at, |p| p.positions[0] = ABOVE));
+        if at > 0 {
+            let before = run.postings[at - 1].positions.clone();
+            let equal = |p: &mut Posting| p.positions[0] = before[before.len() - 1];
+            cases.is(5, run.with(at, equal));
+        }
     }
 }
 
