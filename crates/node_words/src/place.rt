@@ -332,7 +332,14 @@ fn place_terms(st: &mut [u32], q: &[u32], max_doc: u32, fields: &[u32], leaves: 
     while j < terms {
         let leaf = query::value(q, at + 1 + j, 0);
         let offset = query::value(q, at + 1 + j, 1);
-        place_phrase_term(&mut st[NODE_STATE_WORDS * j..], max_doc, fields, leaves, leaf, offset);
+        place_phrase_term(
+            &mut st[NODE_STATE_WORDS * j..],
+            max_doc,
+            fields,
+            leaves,
+            leaf,
+            offset,
+        );
         j += 1;
     }
 }
