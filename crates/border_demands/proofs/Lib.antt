@@ -1,0 +1,4 @@
+-- Demand 3 at the border, each theorem after the laws that it uses.
+pub mod Contracts
+pub mod Entries
+pub mod Hits
