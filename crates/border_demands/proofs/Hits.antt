@@ -19,7 +19,7 @@ use Rattle.demands.proofs.Ranked.{hits-are}
 use Rattle.demands.proofs.Rankable.{picked-rankable}
 use Rattle.demands.proofs.Hits.{FirstHits, search-hits}
 use Rattle.lot_search.specs.Border.{topNumbers}
-use Rattle.border_demands.specs.Calls.{SearchCall, PickCall, hitsGiven}
+use Rattle.border_demands.specs.Calls.{SearchCall, PickCall, hitsGiven, Begin}
 use Rattle.border_demands.proofs.Entries.{search-work, search-entry, pick-entry}
 
 -- what stands in `answer` after the number returned, whatever stands behind it
@@ -54,9 +54,6 @@ module _ (list : List ScoreDoc) (k t : ℕ) (hits hits′ : List ℤ) (answer an
       ∙ ap (take (length (hitsOf k list))) h′
       ∙ take-at (hitsOf k list) (drop (length (hitsOf k list)) hits) (length (hitsOf k list)) refl
 
-  held-told : getD answer′ 0 0 ≡ length (hitsOf k list)
-  held-told = ap (λ (l : List ℕ). getD l 1 0) answer-told
-
 -- ---- lot_search
 module _ (ix : Index) (q : List ℕ) (k t : ℕ) (c : SearchCall ix q k t) (r : c .returned ≡ 0) where
   abbrev all : List ScoreDoc
@@ -71,12 +68,15 @@ module _ (ix : Index) (q : List ℕ) (k t : ℕ) (c : SearchCall ix q k t) (r : 
   search-answer : (c .returned ∷ c .answer′) ≡ (0 ∷ (topNumbers k t all ++ drop 3 (c .answer)))
   search-answer = answer-told all k t (c .hits) (c .hits′) (c .answer) (c .answer′) (c .returned) r (c .hits-told) (c .answer-told)
 
+  search-told : hitsGiven (c .hits′) (c .answer′) ≡ hitsOf k all
+  search-told = given-told all k t (c .hits) (c .hits′) (c .answer) (c .answer′) (c .returned) r (c .hits-told) (c .answer-told)
+
   -- the hits given are those that Search wrote, and as many
   search-given : hitsGiven (c .hits′) (c .answer′) ≡ hitsBy ix q k t w (c .hits)
-  search-given = given-told all k t (c .hits) (c .hits′) (c .answer) (c .answer′) (c .returned) r (c .hits-told) (c .answer-told) ∙ sym (wrote-is ix q k t w (c .hits) search-accepted)
+  search-given = search-told ∙ sym (wrote-is ix q k t w (c .hits) search-accepted)
 
-  search-held : getD (c .answer′) 0 0 ≡ heldBy ix q k t w (c .hits)
-  search-held = held-told all k t (c .hits) (c .hits′) (c .answer) (c .answer′) (c .returned) r (c .hits-told) (c .answer-told) ∙ sym (held-is ix q k t w (length (c .hits)) search-accepted)
+  search-held : length (hitsGiven (c .hits′) (c .answer′)) ≡ heldBy ix q k t w (c .hits)
+  search-held = ap length search-told ∙ sym (held-is ix q k t w (length (c .hits)) search-accepted)
 
   -- the first k of all live matches in their order stand in the hits buffer, and how many, their count and the mark in `answer`
   pub lot-search-hits : FirstHits all k t (hitsGiven (c .hits′) (c .answer′)) (c .returned ∷ c .answer′)
@@ -93,7 +93,8 @@ module _ (ix : Index) (q : List ℕ) (k t : ℕ) (c : SearchCall ix q k t) (r : 
       subst (λ (l : List ℕ). MarkExactly k t (length all) l) (sym search-answer) (mark-told k t (length all) all (drop 3 (c .answer)) entry)
 
 -- the hits given for k are the beginning of those given for a larger k, whatever the thresholds and the buffers
-pub lot-search-grows : (ix : Index) (q : List ℕ) (k k′ t t′ : ℕ) (c : SearchCall ix q k t) (c′ : SearchCall ix q k′ t′) → k ≤ k′ → c .returned ≡ 0 → c′ .returned ≡ 0 → take (getD (c .answer′) 0 0) (hitsGiven (c′ .hits′) (c′ .answer′)) ≡ hitsGiven (c .hits′) (c .answer′)
+pub lot-search-grows : (ix : Index) (q : List ℕ) (k k′ t t′ : ℕ) (c : SearchCall ix q k t) (c′ : SearchCall ix q k′ t′) → k ≤ k′ → c .returned ≡ 0 → c′ .returned ≡ 0 → Begin (hitsGiven (c .hits′) (c .answer′)) (hitsGiven (c′ .hits′) (c′ .answer′))
+unfolding Begin
 lot-search-grows ix q k k′ t t′ c c′ l r r′ =
     ap (λ (n : ℕ). take n (hitsGiven (c′ .hits′) (c′ .answer′))) (search-held ix q k t c r)
     ∙ ap (take (heldBy ix q k t (search-work ix q k t c) (c .hits))) (search-given ix q k′ t′ c′ r′)
@@ -116,9 +117,6 @@ module _ (documents scores : List ℕ) (k t : ℕ) (c : PickCall documents score
   pick-given : hitsGiven (c .hits′) (c .answer′) ≡ hitsOf k picked
   pick-given = given-told picked k t (c .hits) (c .hits′) (c .answer) (c .answer′) (c .returned) r (c .hits-told) (c .answer-told)
 
-  pick-held : getD (c .answer′) 0 0 ≡ length (hitsOf k picked)
-  pick-held = held-told picked k t (c .hits) (c .hits′) (c .answer) (c .answer′) (c .returned) r (c .hits-told) (c .answer-told)
-
   -- as lot_search, of the lists lent
   pub lot-pick-hits : FirstHits picked k t (hitsGiven (c .hits′) (c .answer′)) (c .returned ∷ c .answer′)
   lot-pick-hits =
@@ -140,9 +138,10 @@ module _ (documents scores : List ℕ) (k t : ℕ) (c : PickCall documents score
   pub lot-pick-mark : MarkExactly k t (length picked) (c .returned ∷ c .answer′)
   lot-pick-mark = lot-pick-hits .numbers
 
-pub lot-pick-grows : (documents scores : List ℕ) (k k′ t t′ : ℕ) (c : PickCall documents scores k t) (c′ : PickCall documents scores k′ t′) → k ≤ k′ → c .returned ≡ 0 → c′ .returned ≡ 0 → take (getD (c .answer′) 0 0) (hitsGiven (c′ .hits′) (c′ .answer′)) ≡ hitsGiven (c .hits′) (c .answer′)
+pub lot-pick-grows : (documents scores : List ℕ) (k k′ t t′ : ℕ) (c : PickCall documents scores k t) (c′ : PickCall documents scores k′ t′) → k ≤ k′ → c .returned ≡ 0 → c′ .returned ≡ 0 → Begin (hitsGiven (c .hits′) (c .answer′)) (hitsGiven (c′ .hits′) (c′ .answer′))
+unfolding Begin
 lot-pick-grows documents scores k k′ t t′ c c′ l r r′ =
-    ap (λ (n : ℕ). take n (hitsGiven (c′ .hits′) (c′ .answer′))) (pick-held documents scores k t c r)
+    ap (λ (n : ℕ). take n (hitsGiven (c′ .hits′) (c′ .answer′))) (ap length (pick-given documents scores k t c r))
     ∙ ap (take (length (hitsOf k (pickedList documents scores)))) (pick-given documents scores k′ t′ c′ r′)
     ∙ hits-begin k k′ (pickedList documents scores) l
     ∙ sym (pick-given documents scores k t c r)

@@ -2,3 +2,6 @@
 pub mod Contracts
 pub mod Entries
 pub mod Hits
+pub mod Pages
+pub mod Alone
+pub mod Example

@@ -78,3 +78,7 @@ pub record PickCall (documents scores : List ℕ) (k t : ℕ) : Type 0 where
 -- the hits that an accepted call of lot_search or lot_pick gave: the front of its hits buffer, as many as `answer` says first
 unfoldable pub hitsGiven : List ℤ → List ℕ → List ℤ
 hitsGiven hits′ answer′ = take (getD answer′ 0 0) hits′
+
+-- the first hits are the beginning of the others
+unfoldable pub Begin : List ℤ → List ℤ → Type 0
+Begin hits others = take (length hits) others ≡ hits

@@ -49,6 +49,11 @@ module _ {ix : Index} {q : List ℕ} where
   joinedPlaces [] = 0
   joinedPlaces (c ∷ cs) = placesLent c + joinedPlaces cs
 
+  -- how many of the calls were accepted
+  unfoldable pub acceptedCalls : List (PageCall ix q) → ℕ
+  acceptedCalls [] = 0
+  acceptedCalls (c ∷ cs) = answered (c .returned) 1 (λ n. 0) + acceptedCalls cs
+
   unfoldable pub goesOnAfter : ℕ → List (PageCall ix q) → ℕ
   goesOnAfter s [] = s
   goesOnAfter s (c ∷ cs) = goesOnAfter (goesOn s c) cs
