@@ -1,4 +1,4 @@
--- What the contracts of lot_search, lot_page and lot_pick tell a caller is exactly a call: `Learnt` is what the kit reads from an entry's `ensures`, `args` what the call was lent in the order of the parameters, and `end` what its buffers held afterwards. Assumes nothing.
+-- The clauses of the contracts of lot_search, lot_page and lot_pick are the fields of a call. `Learnt` is what the kit reads from an entry's `ensures`, `args` what a call was lent in the order of the parameters, `end` what it was lent as it stood afterwards. Assumes nothing.
 use contract.Lifetimes.{Lfts}
 use borrow.Fn.Kinds.{Dens, resT, endedOf}
 use denote.Triple.Clauses.{AtExit}

@@ -26,6 +26,7 @@ use Rattle.order_check.specs.Lends.{work}
 use Rattle.lot_search.specs.Border.{borderSearch, borderPage, borderPick, topNumbers, pageNumbers}
 use Rattle.border_demands.specs.Calls.{SearchCall, PageCall, PickCall, hitsGiven, Begin}
 use Rattle.border_demands.specs.Pages.{documentsGiven, scoresGiven, goesOn, Follow, joinedDocuments, joinedScores, goesOnAfter, AnswerAlone}
+use Rattle.border_demands.proofs.Pages.{PagesJoined, lot-pages-joined}
 
 abbrev three : Index
 three = record { maxDoc = 3; fields = []; leaves = []; postings = []; positions = []; norms = []; live = []; columns = []; values = [] }
@@ -79,6 +80,9 @@ calls = call 0 (9 ∷ 9 ∷ []) ∷ call 2 (9 ∷ []) ∷ call 2 (9 ∷ 9 ∷ 9 
 example-pages : (map (λ c. c .returned) calls ≡ 0 ∷ 12 ∷ 0 ∷ []) × Follow 0 calls × (joinedDocuments calls ≡ 0 ∷ 1 ∷ 2 ∷ []) × (joinedScores calls ≡ 0x3f80_0000 ∷ 0x3f80_0000 ∷ 0x3f80_0000 ∷ []) × (goesOnAfter 0 calls ≡ noMoreDocs)
 unfolding wrong1 wrong2 wrong3 wrong4 wrong5 wrong6 wrong7 wrongRecords wrong8 wrongValues wrongKind unusedFrom wrong9 aboveLimit carriesAbove wrong10 decodeQuery decode decodeKind queryTree lowest anyBelow lt ofBits borderPage wrong12Page workShort statesNeeded startsShort startsNeeded largestBelow rangesNeeded rangeRecords countBelow wrong13Page matches fullList listBelow isLive takes score fromTarget firstDoc page toBits documentsGiven scoresGiven goesOn Follow joinedDocuments joinedScores goesOnAfter
 example-pages = (refl, ((λ e. refl), ((λ e. refl), ((λ e. refl), tt))), refl, refl, refl)
+
+example-joined : PagesJoined three everything calls
+example-joined = lot-pages-joined three everything calls (example-pages .1)
 
 example-alone : AnswerAlone (call 2 (9 ∷ []))
 unfolding wrong1 wrong2 wrong3 wrong4 wrong5 wrong6 wrong7 wrongRecords wrong8 wrongValues wrongKind unusedFrom wrong9 aboveLimit carriesAbove wrong10 decodeQuery decode decodeKind queryTree lowest anyBelow lt ofBits pageRefusal wrong12Page workShort statesNeeded startsShort startsNeeded largestBelow rangesNeeded rangeRecords countBelow wrong13Page

@@ -1,4 +1,4 @@
--- A call of lot_search, lot_page or lot_pick: what it was lent, the number that it returned, what its buffers held afterwards, and of these the clauses of the entry's contract, in their order.
+-- A call of lot_search, lot_page or lot_pick: what it was lent, the number that it returned, what its buffers held afterwards, and of these the clauses of the entry's contract, in their order. A buffer's name with ′ is what it held afterwards.
 -- Assumes nothing: these are definitions.
 use mathlib.Core.Path.{_≡_}
 use mathlib.Core.List.{List, map}
@@ -14,7 +14,7 @@ use Rattle.meaning.specs.Entries.{written, answered, Kept, pageOf, pickedList}
 use Rattle.order_check.specs.Lends.{work}
 use Rattle.lot_search.specs.Border.{borderSearch, borderPage, borderPick, topNumbers, pageNumbers}
 
--- a call of lot_search on an index and a query, for k hits with threshold t; a buffer's name with ′ is what it held afterwards
+-- "Search gives hits, count and the "at least" mark": a call of lot_search on an index and a query, with k and t
 pub record SearchCall (ix : Index) (q : List ℕ) (k t : ℕ) : Type 0 where
   pub states : List ℕ
   pub a : List ℤ
@@ -37,7 +37,7 @@ pub record SearchCall (ix : Index) (q : List ℕ) (k t : ℕ) : Type 0 where
   pub b-kept : Kept returned b b′
   pub ranges-kept : Kept returned ranges ranges′
 
--- a call of lot_page on an index and a query, with a target of its own
+-- "Page takes a target and two output slices of equal length m": a call of lot_page on an index and a query
 pub record PageCall (ix : Index) (q : List ℕ) : Type 0 where
   pub target : ℕ
   pub states : List ℕ
@@ -64,7 +64,7 @@ pub record PageCall (ix : Index) (q : List ℕ) : Type 0 where
   pub b-kept : Kept returned b b′
   pub ranges-kept : Kept returned ranges ranges′
 
--- a call of lot_pick on parallel lists, for k hits with threshold t
+-- "Pick takes parallel lists of documents and scores, with k and t, and answers as Search does": a call of lot_pick on such lists
 pub record PickCall (documents scores : List ℕ) (k t : ℕ) : Type 0 where
   pub hits : List ℤ
   pub answer : List ℕ
@@ -75,10 +75,10 @@ pub record PickCall (documents scores : List ℕ) (k t : ℕ) : Type 0 where
   pub hits-told : hits′ ≡ answered returned (written (hitsOf k (pickedList documents scores)) hits) (λ n. hits)
   pub answer-told : answer′ ≡ answered returned (written (topNumbers k t (pickedList documents scores)) answer) (λ n. answer)
 
--- the hits that an accepted call of lot_search or lot_pick gave: the front of its hits buffer, as many as `answer` says first
+-- the hits that a call of lot_search or lot_pick gave that returned 0: the front of its hits buffer, as many as `answer` says first
 unfoldable pub hitsGiven : List ℤ → List ℕ → List ℤ
 hitsGiven hits′ answer′ = take (getD answer′ 0 0) hits′
 
--- the first hits are the beginning of the others
+-- some hits are the beginning of others: demand 3's "hits for k begin those for a larger k"
 unfoldable pub Begin : List ℤ → List ℤ → Type 0
 Begin hits others = take (length hits) others ≡ hits
