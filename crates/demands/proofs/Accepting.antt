@@ -8,7 +8,7 @@ use lib.Dec.{lit<}
 use Rattle.meaning.specs.Lent.{Index}
 use Rattle.meaning.specs.Refusals.{Condition, lowest}
 use Rattle.meaning.specs.CallRefusals.{Work}
-use Rattle.meaning.specs.Entries.{orderConditions, searchRefusal}
+use Rattle.meaning.specs.Entries.{orderConditions, searchRefusal, pageRefusal}
 use Rattle.index.proofs.Refused.{Numbered}
 use Rattle.index.proofs.Accepted.{accepted}
 use Rattle.weight.specs.Measured.{Asks}
@@ -51,3 +51,8 @@ accepts-asks ix q a =
 pub search-accepts : (ix : Index) (q : List ℕ) (k : ℕ) (w : Work) (places : ℕ) → searchRefusal ix q k w places ≡ 0 → Accepts ix q
 unfolding searchRefusal
 search-accepts ix q k w places r = none-first (orderConditions ix q) _ r
+
+-- .. and so does one of Page
+pub page-accepts : (ix : Index) (q : List ℕ) (target : ℕ) (w : Work) (documents scores : ℕ) → pageRefusal ix q target w documents scores ≡ 0 → Accepts ix q
+unfolding pageRefusal
+page-accepts ix q target w documents scores r = none-first (orderConditions ix q) _ r

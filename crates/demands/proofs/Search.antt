@@ -17,12 +17,19 @@ use Rattle.meaning.specs.CallRefusals.{Work}
 use Rattle.meaning.specs.Entries.{topDocs, searchRefusal, searchAnswer, searchHits}
 use Rattle.collector.proofs.Best.{ranked, ranked-length, hits-is, hits-few, hits-prefix}
 
-hits-length : (k : ℕ) (list : List ScoreDoc) → length (hits k list) ≡ min k (length list)
+pub hits-length : (k : ℕ) (list : List ScoreDoc) → length (hits k list) ≡ min k (length list)
 hits-length k list = ap length (hits-is k list) ∙ length-take k (ranked list) ∙ ap (min k) (ranked-length list)
 
 -- the hits for k are the beginning of those for a larger k
 pub hits-grow : (k k′ : ℕ) (list : List ScoreDoc) → k ≤ k′ → take k (hits k′ list) ≡ hits k list
 hits-grow = hits-prefix
+
+-- .. as many as there are
+pub hits-begin : (k k′ : ℕ) (list : List ScoreDoc) → k ≤ k′ → take (length (hits k list)) (hits k′ list) ≡ hits k list
+hits-begin k k′ list l =
+    sym (take-take (length (hits k list)) k (hits k′ list) (hits-few k list))
+    ∙ ap (take (length (hits k list))) (hits-grow k k′ list l)
+    ∙ take-length (hits k list)
 
 -- ---- one call that was not refused
 module _ (ix : Index) (q : List ℕ) (k t : ℕ) (w : Work) where
@@ -33,7 +40,7 @@ module _ (ix : Index) (q : List ℕ) (k t : ℕ) (w : Work) where
   unfolding searchAnswer
   answer-is places r = rw r
 
-  held-is : (places : ℕ) → searchRefusal ix q k w places ≡ 0 → getD (searchAnswer ix q k t w places) 1 0 ≡ length (hits k all)
+  pub held-is : (places : ℕ) → searchRefusal ix q k w places ≡ 0 → getD (searchAnswer ix q k t w places) 1 0 ≡ length (hits k all)
   held-is places r = ap (λ (l : List ℕ). getD l 1 0) (answer-is places r)
 
   pub wrote-is : (buffer : List ℤ) → searchRefusal ix q k w (length buffer) ≡ 0 → take (getD (searchAnswer ix q k t w (length buffer)) 1 0) (searchHits ix q k w buffer) ≡ hits k all
@@ -53,14 +60,8 @@ search-grows ix q k k′ t t′ w w′ buffer buffer′ l r r′ =
     let list = fullList ix (queryTree q) in
     ap (take (heldBy ix q k t w buffer)) (wrote-is ix q k′ t′ w′ buffer′ r′)
     ∙ ap (λ (n : ℕ). take n (hits k′ list)) (held-is ix q k t w (length buffer) r)
-    ∙ begun list
+    ∙ hits-begin k k′ list l
     ∙ sym (wrote-is ix q k t w buffer r)
-  where
-    begun : (list : List ScoreDoc) → take (length (hits k list)) (hits k′ list) ≡ hits k list
-    begun list =
-        sym (take-take (length (hits k list)) k (hits k′ list) (hits-few k list))
-        ∙ ap (take (length (hits k list))) (hits-grow k k′ list l)
-        ∙ take-length (hits k list)
 
 -- ---- the numbers that Search answers: hits held, count, and the mark, which is 1 exactly where the count is above t and at least k
 pub record MarkExactly (k t n : ℕ) (answer : List ℕ) : Type 0 where
@@ -71,7 +72,7 @@ pub record MarkExactly (k t n : ℕ) (answer : List ℕ) : Type 0 where
   pub filled : getD answer 3 0 ≡ 1 → k ≤ n
   pub else : (t < n → k ≤ n → ⊥) → getD answer 3 0 ≡ 0
 
-marked : (k t n held : ℕ) → held ≡ min k n → MarkExactly k t n (0 ∷ held ∷ n ∷ cond (mark k t n) 1 0 ∷ [])
+pub marked : (k t n held : ℕ) → held ≡ min k n → MarkExactly k t n (0 ∷ held ∷ n ∷ cond (mark k t n) 1 0 ∷ [])
 unfolding mark
 marked k t n held e = record {
   held = e;

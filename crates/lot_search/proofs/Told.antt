@@ -79,7 +79,7 @@ pick-told-short documents scores k t heap answer z r h e f =
     let p : 0 < r = rw (f ∙ ap shortAnswer e) (short-refuses (pickRefusal documents scores k (length heap))) in
     (i, (refused-keeps _ _ heap p, refused-keeps _ _ answer p))
 
-pick-written : (documents scores : List ℕ) (k b : ℕ) (heap : List ℤ) → b ≡ pickRefusal documents scores k (length heap) → pickHits documents scores k heap ≡ answered b (written (hits k (pickedList documents scores)) heap) (λ n. heap)
+pub pick-written : (documents scores : List ℕ) (k b : ℕ) (heap : List ℤ) → b ≡ pickRefusal documents scores k (length heap) → pickHits documents scores k heap ≡ answered b (written (hits k (pickedList documents scores)) heap) (λ n. heap)
 unfolding pickHits
 pick-written documents scores k b heap e = rw e refl
 
@@ -112,7 +112,7 @@ search-told-short ix q k t w heap answer states starts others ranges z r h e f =
     let p : 0 < r = rw (f ∙ ap shortAnswer e) (short-refuses (searchRefusal ix q k w (length heap))) in
     (i, (refused-keeps _ _ heap p, (refused-keeps _ _ answer p, ((λ u. refl), ((λ u. refl), ((λ u. refl), λ u. refl))))))
 
-search-written : (ix : Index) (q : List ℕ) (k : ℕ) (w : Work) (b : ℕ) (heap : List ℤ) → b ≡ searchRefusal ix q k w (length heap) → searchHits ix q k w heap ≡ answered b (written (hits k (fullList ix (queryTree q))) heap) (λ n. heap)
+pub search-written : (ix : Index) (q : List ℕ) (k : ℕ) (w : Work) (b : ℕ) (heap : List ℤ) → b ≡ searchRefusal ix q k w (length heap) → searchHits ix q k w heap ≡ answered b (written (hits k (fullList ix (queryTree q))) heap) (λ n. heap)
 unfolding searchHits
 search-written ix q k w b heap e = rw e refl
 
@@ -145,11 +145,11 @@ page-told-short ix q target w documents scores answer states starts others range
     let p : 0 < r = rw (f ∙ ap shortAnswer e) (short-refuses (pageRefusal ix q target w (length documents) (length scores))) in
     (i, (refused-keeps _ _ documents p, (refused-keeps _ _ scores p, (refused-keeps _ _ answer p, ((λ u. refl), ((λ u. refl), ((λ u. refl), λ u. refl)))))))
 
-documents-written : (ix : Index) (q : List ℕ) (target : ℕ) (w : Work) (b : ℕ) (documents scores : List ℕ) → b ≡ pageRefusal ix q target w (length documents) (length scores) → pageDocuments ix q target w documents scores ≡ answered b (written (map (λ h. h .doc) (pageOf ix q target (length documents) .given)) documents) (λ n. documents)
+pub documents-written : (ix : Index) (q : List ℕ) (target : ℕ) (w : Work) (b : ℕ) (documents scores : List ℕ) → b ≡ pageRefusal ix q target w (length documents) (length scores) → pageDocuments ix q target w documents scores ≡ answered b (written (map (λ h. h .doc) (pageOf ix q target (length documents) .given)) documents) (λ n. documents)
 unfolding pageDocuments
 documents-written ix q target w b documents scores e = rw e refl
 
-scores-written : (ix : Index) (q : List ℕ) (target : ℕ) (w : Work) (b : ℕ) (documents scores : List ℕ) → b ≡ pageRefusal ix q target w (length documents) (length scores) → pageScores ix q target w documents scores ≡ answered b (written (map (λ h. toBits binary32 (h .score)) (pageOf ix q target (length documents) .given)) scores) (λ n. scores)
+pub scores-written : (ix : Index) (q : List ℕ) (target : ℕ) (w : Work) (b : ℕ) (documents scores : List ℕ) → b ≡ pageRefusal ix q target w (length documents) (length scores) → pageScores ix q target w documents scores ≡ answered b (written (map (λ h. toBits binary32 (h .score)) (pageOf ix q target (length documents) .given)) scores) (λ n. scores)
 unfolding pageScores
 scores-written ix q target w b documents scores e = rw e refl
 
