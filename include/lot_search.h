@@ -86,7 +86,8 @@ extern "C" {
 /* and of every other record: the root, a Phrase's terms, the child of a ConstantScore or Boost */
 #define LOT_NO_OCCURRENCE 0u
 
-/* the ends of a range; the halves of an unbounded one are 0 */
+/* the ends of a range: each is one of three, and a Range's second value is the lower's + 3 * the upper's. The halves of an
+ * unbounded end are 0. */
 #define LOT_UNBOUNDED 0u
 #define LOT_INCLUDED 1u
 #define LOT_EXCLUDED 2u
@@ -109,8 +110,8 @@ extern "C" {
  *
  * Each call checks all that it is lent, so lend the fields, columns and leaf records that the order names, and no others.
  * Postings and positions can be lent whole: only the runs of lent leaves are read, so nothing is copied or numbered anew but
- * leaf records of four words. Lay a word's postings, and their positions, one after the other. Measured for a buyer's order
- * on 9,000 lots (docs/BENCHMARK.md), with the same answers:
+ * leaf records of four words. Lay the positions of a word's postings one after the other: they are then checked in one pass.
+ * Measured for a buyer's order on 9,000 lots (docs/BENCHMARK.md), with the same answers:
  *   all 512 leaf records lent        900,657 words   267 us
  *   its own leaf records alone       898,628 words    74 us
  *   their runs copied as well         92,528 words    79 us, and 81 us for the copies
