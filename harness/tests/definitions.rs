@@ -71,6 +71,7 @@ mod rows {
 }
 
 #[test]
+#[cfg_attr(not(oracle), ignore = "the Rust source is absent")]
 fn definitions_give_the_answers_of_the_rust() {
     with_oracle!({
         let number = std::env::var("DEFINITION_ROWS").map_or(16, |n| n.parse().unwrap());
