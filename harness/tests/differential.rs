@@ -66,7 +66,10 @@ fn generated(entries: &dyn Entries, seed: u64) {
 }
 
 #[test]
-#[cfg_attr(not(all(oracle, linked)), ignore = "the library or the Rust source is absent")]
+#[cfg_attr(
+    not(all(oracle, linked)),
+    ignore = "the library or the Rust source is absent"
+)]
 fn generated_cases() {
     with_library!(library, {
         let cases = std::env::var("LOT_SEARCH_CASES").map_or(CASES, |n| n.parse().unwrap());
@@ -93,7 +96,10 @@ fn short_case(entries: &dyn Entries, case: &Case, random: &mut Random) {
 }
 
 #[test]
-#[cfg_attr(not(all(oracle, linked)), ignore = "the library or the Rust source is absent")]
+#[cfg_attr(
+    not(all(oracle, linked)),
+    ignore = "the library or the Rust source is absent"
+)]
 fn every_short_boolean() {
     with_library!(library, {
         for (n, leaves) in [(0, 2), (1, 3), (2, 3), (3, 2)] {
@@ -111,7 +117,10 @@ fn every_short_boolean() {
 }
 
 #[test]
-#[cfg_attr(not(all(oracle, linked)), ignore = "the library or the Rust source is absent")]
+#[cfg_attr(
+    not(all(oracle, linked)),
+    ignore = "the library or the Rust source is absent"
+)]
 fn every_short_phrase_and_range() {
     with_library!(library, {
         let cases = [short::phrases(), short::ranges()].concat();
@@ -121,7 +130,10 @@ fn every_short_phrase_and_range() {
 
 /// More documents than a page of memory has, more hits than the heap holds.
 #[test]
-#[cfg_attr(not(all(oracle, linked)), ignore = "the library or the Rust source is absent")]
+#[cfg_attr(
+    not(all(oracle, linked)),
+    ignore = "the library or the Rust source is absent"
+)]
 fn larger_catalogues() {
     with_library!(library, { each(200, |seed| larger(library, seed)) });
 }
@@ -141,7 +153,10 @@ fn larger(entries: &dyn Entries, seed: u64) {
 
 /// Each case from both sides of the boundaries of 1 to 10, which Search and Page share.
 #[test]
-#[cfg_attr(not(all(oracle, linked)), ignore = "the library or the Rust source is absent")]
+#[cfg_attr(
+    not(all(oracle, linked)),
+    ignore = "the library or the Rust source is absent"
+)]
 fn every_boundary() {
     with_library!(library, {
         let cases = boundary::all();
@@ -153,7 +168,10 @@ fn every_boundary() {
 
 /// Frequencies at their limit where there are positions.
 #[test]
-#[cfg_attr(not(all(oracle, linked)), ignore = "the library or the Rust source is absent")]
+#[cfg_attr(
+    not(all(oracle, linked)),
+    ignore = "the library or the Rust source is absent"
+)]
 fn large_frequencies() {
     with_library!(library, {
         for (number, case) in boundary::large() {
@@ -179,7 +197,10 @@ fn at_boundary(entries: &dyn Entries, number: u32, case: &Case, random: &mut Ran
 
 /// Each buffer exactly long enough and one too short; k, target and the answer at their limits.
 #[test]
-#[cfg_attr(not(all(oracle, linked)), ignore = "the library or the Rust source is absent")]
+#[cfg_attr(
+    not(all(oracle, linked)),
+    ignore = "the library or the Rust source is absent"
+)]
 fn every_limit_of_the_caller() {
     with_library!(library, { limits(library) });
 }
@@ -238,7 +259,10 @@ fn limits(entries: &dyn Entries) {
 
 /// The deepest and the longest query on a stack of 64 KiB.
 #[test]
-#[cfg_attr(not(all(oracle, linked)), ignore = "the library or the Rust source is absent")]
+#[cfg_attr(
+    not(all(oracle, linked)),
+    ignore = "the library or the Rust source is absent"
+)]
 fn the_library_s_own_stack() {
     with_library!(library, {
         let deep = WORKLOADS

@@ -42,8 +42,7 @@ fn the_double_passes() {
             let mut accepted = [0; 3];
             for seed in 0..1500 {
                 let _seed = Seed(seed);
-                let made =
-                    fuzz(&Double(Wrong::Nothing), &inputs, against, &mut Plain).call(seed);
+                let made = fuzz(&Double(Wrong::Nothing), &inputs, against, &mut Plain).call(seed);
                 accepted[made.entry] += u32::from(made.number == 0);
             }
             println!("{against:?}: {accepted:?} accepted");
