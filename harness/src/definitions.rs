@@ -34,7 +34,7 @@ use Rattle.meaning.specs.FullList.{ScoreDoc, fullList}
 use Rattle.meaning.specs.CallRefusals.{Work}
 use Rattle.meaning.specs.Entries.{searchAnswer, searchHits, pageAnswer, pageDocuments, pageScores, columnsOnly, rangeAnswer, rangeOutput, pickAnswer, pickHits, placeRefusal, placeRight, lengthAnswer}
 use Rattle.meaning.specs.HitsText.{files}
-use Rattle.meaning.specs.HitsProgram.{hitsText}
+use Rattle.meaning.specs.HitsProgram.{searchText, hitsText}
 
 abbrev work : ℕ → ℕ → ℕ → ℕ → Work
 work a b c d = record { states = a; starts = b; otherStarts = c; ranges = d }

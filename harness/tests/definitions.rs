@@ -65,7 +65,8 @@ mod rows {
         write_crate(&crates, &folder).unwrap();
         write_rows(&folder, rows).unwrap();
         let mut command = Command::new("rt");
-        command.arg("check").arg(&folder).stdout(Stdio::piped());
+        command.arg("check").arg(&folder);
+        command.stdout(Stdio::piped()).stderr(Stdio::piped());
         command.spawn().expect("rt")
     }
 
@@ -77,7 +78,8 @@ mod rows {
         let started: Vec<_> = (0..).zip(parts).map(|(at, part)| start(at, part)).collect();
         for child in started {
             let out = child.wait_with_output().unwrap();
-            let text = String::from_utf8_lossy(&out.stdout);
+            let text = [out.stdout, out.stderr].concat();
+            let text = String::from_utf8_lossy(&text);
             assert!(out.status.success(), "{text}");
         }
         println!("{} rows", rows.len());
@@ -88,7 +90,7 @@ mod rows {
 #[cfg_attr(not(oracle), ignore = "the Rust source is absent")]
 fn definitions_give_the_answers_of_the_rust() {
     with_oracle!({
-        let number = std::env::var("DEFINITION_ROWS").map_or(320, |n| n.parse().unwrap());
+        let number = std::env::var("DEFINITION_ROWS").map_or(480, |n| n.parse().unwrap());
         rows::check(number);
     });
 }

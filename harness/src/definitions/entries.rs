@@ -222,6 +222,21 @@ pub fn text(case: &Case, spoiled: Option<usize>) -> Row {
     of_lists(Entry::Text, number, vec![(call, words(text.as_bytes()))])
 }
 
+/// The text for an index and a query that were read already: antt takes half a minute to read the
+/// files of an order that needs more than the range buffer of `hits`.
+pub fn text_of_read(case: &Case) -> Row {
+    let number = refusal(case);
+    assert_ne!(number, 0);
+    let call = format!("searchText IX QUERY {} {}", case.k, case.t);
+    let text = format!("refused {number}\n");
+    of_case(
+        Entry::Text,
+        number,
+        case,
+        vec![(call, words(text.as_bytes()))],
+    )
+}
+
 /// The bytes of a case's files, in document 01's order.
 fn files(case: &Case) -> Vec<Vec<u8>> {
     let run = [case.n, case.k, case.t];

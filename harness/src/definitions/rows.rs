@@ -7,7 +7,7 @@ use crate::catalogue::Catalogue;
 use crate::damage::damaged;
 use crate::fuzz::Lists;
 use crate::generate;
-use crate::query::{PHRASE, RANGE, RECORD, boolean, match_all, range};
+use crate::query::{PHRASE, RANGE, RECORD, boolean, match_all, phrase, range};
 use crate::random::Random;
 use crate::refusal::calls::{FOUND, Judge, Lengths};
 use crate::refusal::order;
@@ -61,6 +61,7 @@ pub fn every_number() -> Vec<Row> {
         }
     }
     callers(&mut rows);
+    standing(&mut rows);
     ranges(&mut rows);
     picks(&mut rows);
     rows
@@ -118,7 +119,7 @@ fn callers(rows: &mut Vec<Row>) {
         rows.push(entries::place(&case, record, document, &lent));
     }
     (0..10).for_each(|file| rows.push(entries::text(&case, (file != 5).then_some(file))));
-    rows.push(entries::text(&too_many_ranges(), None));
+    rows.push(entries::text_of_read(&too_many_ranges()));
 }
 
 /// An order for which the range buffer of `hits` is too short: 260 × 64 words.
@@ -206,7 +207,7 @@ pub fn generated(seed: u64) -> Option<Row> {
         (0, 0) => entries::list(&case),
         (1, _) => entries::page(&case, random.below(case.n + 2), &lent),
         (2, _) => entries::text(&case, None),
-        (3, _) => place(&case, &lent, &mut random)?,
+        (3, _) => place(seed, &mut random)?,
         (4, _) => one_range(&case, &mut random)?,
         (5, _) => one_pick(&mut random),
         _ => entries::search(&case, &lent),
@@ -214,13 +215,49 @@ pub fn generated(seed: u64) -> Option<Row> {
     Some(row)
 }
 
-/// Place at the first phrase of the query.
-fn place(case: &Case, lent: &Lengths, random: &mut Random) -> Option<Row> {
-    let records = case.query.chunks(RECORD);
-    let at = records
-        .map(|record| record[0])
-        .position(|kind| kind == PHRASE)?;
-    Some(entries::place(case, at, random.below(case.n + 1), lent))
+/// Place at the first phrase among the queries of a seed, mostly where its first term occurs.
+fn place(seed: u64, random: &mut Random) -> Option<Row> {
+    let phrase_of = |case: &Case| {
+        let mut records = case.query.chunks(RECORD);
+        records.position(|record| record[0] == PHRASE)
+    };
+    let mut cases = generate::cases(seed, 12).into_iter();
+    let case = cases.find(|case| small(case) && phrase_of(case).is_some())?;
+    let record = phrase_of(&case)?;
+    let leaf = case.query[RECORD * (record + 1) + 3] as usize;
+    let run = &case.leaves[4 * leaf + 1..][..2];
+    let document = match run[1] {
+        postings @ 1.. if !random.once_in(4) => {
+            let posting = run[0] + random.below(postings);
+            case.postings[3 * posting as usize]
+        }
+        _ => random.below(case.n + 1),
+    };
+    Some(entries::place(&case, record, document, &enough(&case, 0)))
+}
+
+/// Phrases that stand in a document: at the start 5 twice, and at −1.
+fn standing(rows: &mut Vec<Row>) {
+    let phrases: [&[(&[u32], u32)]; 3] = [
+        &[(&[0, 5, 5], 0), (&[6, 6, 9], 1)],
+        &[(&[0], 1)],
+        &[(&[3, 4], 2), (&[2], 1), (&[8], 7)],
+    ];
+    for terms in phrases {
+        let mut catalogue = Catalogue::new(2);
+        let field = catalogue.field_with_positions();
+        let leaf = |catalogue: &mut Catalogue, positions: &[u32]| {
+            catalogue.leaf_of_positions(field, 1.0, &[(1, positions)])
+        };
+        let terms = terms
+            .iter()
+            .map(|(own, offset)| (leaf(&mut catalogue, own), *offset));
+        let terms: Vec<_> = terms.collect();
+        let case = catalogue.case(1, 1, &phrase(field, &terms));
+        for document in [0, 1] {
+            rows.push(entries::place(&case, 0, document, &enough(&case, 0)));
+        }
+    }
 }
 
 /// A range over one of the columns, its ends mostly values of the column.
