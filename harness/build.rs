@@ -1,25 +1,38 @@
 //! Writes OUT_DIR/root.rs: the module tree of the oracle, with `#[path]` straight at the files of
 //! the Rust source, so that they are compiled as they stand. The source's folder is ORACLE_SRC
 //! (relative to this package), by default `shared/docs/src` beside the repository. Without it
-//! there is no `cfg(oracle)`, and what needs the Rust is left out.
-//! Links the proved library where `rt staticlib lot_search` has written it, and sets `cfg(linked)`.
+//! there is no `cfg(oracle)`, and the tests that need the Rust are ignored.
+//! Links the proved library where `rt staticlib lot_search` has written it, and sets `cfg(linked)`;
+//! sets `cfg(hits)` where the program is built.
+//! LOT_SEARCH_REQUIRED=1, which the gate sets, makes it an error that one of the three is absent;
+//! LOT_SEARCH_REQUIRED=library, that library or program is.
 use std::path::{Path, PathBuf};
 use std::{env, fs};
 
 const DEFAULT: &str = "../../shared/docs/src";
 const LIBRARY: &str = "../target/staticlib";
+const PROGRAM: &str = "../target/bin/hits";
 
 fn main() {
     println!("cargo::rerun-if-changed=build.rs");
+    println!("cargo::rerun-if-env-changed=LOT_SEARCH_REQUIRED");
     let package = PathBuf::from(env::var("CARGO_MANIFEST_DIR").unwrap());
     link(&package);
+    program(&package);
     oracle(&package);
 }
 
-/// LOT_SEARCH_REQUIRED=1 makes the library's absence an error.
+/// Says that something is absent: an error where LOT_SEARCH_REQUIRED has one of the words.
+fn absent(words: &[&str], what: &str) {
+    let required = env::var("LOT_SEARCH_REQUIRED").unwrap_or_default();
+    match words.contains(&required.as_str()) {
+        true => println!("cargo::error={what}"),
+        false => println!("cargo::warning={what}: the tests that need it are ignored"),
+    }
+}
+
 fn link(package: &Path) {
     println!("cargo::rustc-check-cfg=cfg(linked)");
-    println!("cargo::rerun-if-env-changed=LOT_SEARCH_REQUIRED");
     let folder = package.join(LIBRARY);
     let library = folder.join("liblot_search.a");
     println!("cargo::rerun-if-changed={}", library.display());
@@ -27,13 +40,23 @@ fn link(package: &Path) {
         println!("cargo::rustc-link-search=native={}", folder.display());
         println!("cargo::rustc-link-lib=static=lot_search");
         println!("cargo::rustc-cfg=linked");
-    } else if env::var("LOT_SEARCH_REQUIRED").is_ok_and(|required| required == "1") {
-        println!(
-            "cargo::error=no {}: run `rt staticlib lot_search`",
-            library.display()
-        );
     } else {
-        println!("cargo::warning=no library lot_search: what needs it is skipped");
+        let library = library.display();
+        let what = format!("no {library}, which `rt staticlib lot_search` writes");
+        absent(&["1", "library"], &what);
+    }
+}
+
+/// tests/hits_program.rs runs it.
+fn program(package: &Path) {
+    println!("cargo::rustc-check-cfg=cfg(hits)");
+    let program = package.join(PROGRAM);
+    println!("cargo::rerun-if-changed={}", program.display());
+    if program.exists() {
+        println!("cargo::rustc-cfg=hits");
+    } else {
+        let what = format!("no {}, which `rt check hits` writes", program.display());
+        absent(&["1", "library"], &what);
     }
 }
 
@@ -44,7 +67,7 @@ fn oracle(package: &Path) {
     if !source.is_dir() {
         // named although it is absent: cargo then looks for it again at the next build
         println!("cargo::rerun-if-changed={}", source.display());
-        println!("cargo::warning=no Rust source in ORACLE_SRC: what needs it is skipped");
+        absent(&["1"], &format!("no Rust source in {}", source.display()));
         return;
     }
     let out = PathBuf::from(env::var("OUT_DIR").unwrap());

@@ -1,122 +1,100 @@
-//! Rows for antt: what the definitions of crates/meaning must give for a case, as equations that
-//! the checker computes. The answers are the Rust's, or a refusal's number.
-use crate::answer::{Hit, Paged, Searched};
+//! Rows for antt: what the definitions of crates/meaning, and the text of `hits`, must give for a
+//! call of an entry, as equations that the checker computes. The answers are the Rust's, a
+//! refusal's number, or, of Place, which the Rust does not have, worked out here.
+#[cfg(oracle)]
+mod entries;
+#[cfg(oracle)]
+mod place;
+#[cfg(oracle)]
+pub mod rows;
+
 use crate::case::Case;
+use crate::refusal::calls::Lengths;
 use std::fmt::{Display, Write};
 use std::fs;
 use std::io;
 use std::path::Path;
 
-/// What the Rust says of a valid case: the full list, Search, one Page, the root's cost.
-pub struct Answers {
-    pub list: Vec<Hit>,
-    pub searched: Searched,
-    pub target: u32,
-    pub m: usize,
-    pub paged: Paged,
-    pub cost: Option<u64>,
-}
-
-/// The head of the module: what a row computes. A refused call's row is its number alone.
+/// The head of the module: what a row computes.
 const HEAD: &str = "\
 use mathlib.Core.Path.{_≡_, refl}
-use mathlib.Core.Bool.{cond}
+use mathlib.Core.Bool.{true, false, cond}
 use mathlib.Core.List.{List, [], _∷_, _++_, map}
-use Prim.Native.Nat.{ℕ, _*_}
+use mathlib.Core.Option.{none, some}
+use Prim.Native.Nat.{ℕ}
 use lib.ListN.{replicate}
+use lib.IntN.{ℤ, pos, negsuc}
 use lib.Ieee.{binary32, toBits}
-use Rattle.meaning.specs.Limits.{maxRecords, nodeStateWords}
 use Rattle.meaning.specs.Lent.{Index}
 use Rattle.meaning.specs.Query.{queryTree}
+use Rattle.meaning.specs.Range.{NumericRange}
 use Rattle.meaning.specs.Scorer.{hasScorer}
 use Rattle.meaning.specs.Cost.{cost}
-use Rattle.meaning.specs.FullList.{fullList}
-use Rattle.meaning.specs.Hits.{hits, toDoc, toScore}
+use Rattle.meaning.specs.FullList.{ScoreDoc, fullList}
 use Rattle.meaning.specs.CallRefusals.{Work}
-use Rattle.meaning.specs.Entries.{searchAnswer, pageAnswer, pageDocuments, pageScores}
+use Rattle.meaning.specs.Entries.{searchAnswer, searchHits, pageAnswer, pageDocuments, pageScores, columnsOnly, rangeAnswer, rangeOutput, pickAnswer, pickHits, placeRefusal, placeRight, lengthAnswer}
+use Rattle.meaning.specs.HitsText.{files}
+use Rattle.meaning.specs.HitsProgram.{searchText, hitsText}
 
-abbrev work : Work
-work = record { states = maxRecords * nodeStateWords; starts = 16384; otherStarts = 16384; ranges = 16384 }
+abbrev work : ℕ → ℕ → ℕ → ℕ → Work
+work a b c d = record { states = a; starts = b; otherStarts = c; ranges = d }
 
-abbrev listed : Index → List ℕ → List ℕ
-listed ix q = map (λ h. h .doc) (fullList ix (queryTree q)) ++ map (λ h. toBits binary32 (h .score)) (fullList ix (queryTree q))
+abbrev range : ℕ → ℕ → ℕ → ℕ → NumericRange
+range a b c d = record { column = a; kinds = b; lower = c; upper = d }
 
-abbrev searched : Index → List ℕ → ℕ → ℕ → List ℕ
-searched ix q k t = searchAnswer ix q k t work k ++ (map toDoc (hits k (fullList ix (queryTree q))) ++ map (λ h. toBits binary32 (toScore h)) (hits k (fullList ix (queryTree q))))
-
-abbrev paged : Index → List ℕ → ℕ → ℕ → List ℕ
-paged ix q target m = pageAnswer ix q target work m m ++ (pageDocuments ix q target work (replicate m 7) (replicate m 9) ++ pageScores ix q target work (replicate m 7) (replicate m 9))
+abbrev pairs : List ScoreDoc → List ℕ
+pairs list = map (λ h. h .doc) list ++ map (λ h. toBits binary32 (h .score)) list
 
 abbrev costed : Index → List ℕ → List ℕ
 costed ix q = cond (hasScorer ix (queryTree q)) (1 ∷ cost ix (queryTree q) ∷ []) (0 ∷ [])
 ";
 
-/// The row of a valid case, four equations.
-pub fn row(number: usize, case: &Case, answers: &Answers, opened: &str) -> String {
-    let Answers {
-        list,
-        searched,
-        target,
-        m,
-        paged,
-        cost,
-    } = answers;
-    let documents = |hits: &[Hit]| {
-        hits.iter()
-            .map(|h| u64::from(h.document))
-            .collect::<Vec<_>>()
-    };
-    let bits = |hits: &[Hit]| hits.iter().map(|h| u64::from(h.bits)).collect::<Vec<_>>();
-    let listed = [documents(list), bits(list)].concat();
-    let held = searched.hits.len() as u64;
-    let head = vec![0, held, searched.count, u64::from(searched.mark)];
-    let best = [head, documents(&searched.hits), bits(&searched.hits)].concat();
-    let given = paged.hits.len();
-    let head = vec![0, given as u64, u64::from(paged.next)];
-    let rest = m - given;
-    let page = [
-        head,
-        documents(&paged.hits),
-        vec![7; rest],
-        bits(&paged.hits),
-        vec![9; rest],
-    ]
-    .concat();
-    let costed = cost.map_or(vec![0], |cost| vec![1, cost]);
-    let (k, t) = (case.k, case.t);
-    let mut text = lent(number, case);
-    for (name, call, expected) in [
-        ("listed", format!("listed ix-{number} q-{number}"), listed),
-        (
-            "searched",
-            format!("searched ix-{number} q-{number} {k} {t}"),
-            best,
-        ),
-        (
-            "paged",
-            format!("paged ix-{number} q-{number} {target} {m}"),
-            page,
-        ),
-        ("costed", format!("costed ix-{number} q-{number}"), costed),
-    ] {
-        let name = format!("{name}-{number}");
-        text += &equation(&name, &call, &words(&expected), opened);
+/// The entries, with the full list and the text of the program `hits`.
+#[derive(Clone, Copy, Debug, PartialEq, Eq, PartialOrd, Ord)]
+pub enum Entry {
+    List,
+    Search,
+    Page,
+    Place,
+    Range,
+    Pick,
+    Length,
+    Text,
+}
+
+/// A call, and what its definitions must give. `ix` and `q` are what the case lends.
+pub struct Row {
+    pub entry: Entry,
+    /// the refusal's number, or 0
+    pub number: u32,
+    case: Option<Case>,
+    equations: Vec<(String, String)>,
+}
+
+impl Row {
+    /// The row in antt, its names made by its place.
+    fn text(&self, place: usize, opened: &str) -> String {
+        let mut text = self.case.as_ref().map_or(String::new(), |c| lent(place, c));
+        for (at, (call, expected)) in self.equations.iter().enumerate() {
+            let call = call.replace("IX", &format!("ix-{place}"));
+            let call = call.replace("QUERY", &format!("q-{place}"));
+            let name = format!("row-{place}-{at}");
+            text += &format!("\n{name} : {call} ≡ {expected}\nunfolding {opened}\n{name} = refl\n");
+        }
+        text
     }
-    text
 }
 
-/// The row of a case that Search refuses.
-pub fn refused(number: usize, case: &Case, refusal: u32, opened: &str) -> String {
-    let call = format!(
-        "searchAnswer ix-{number} q-{number} {} {} work {}",
-        case.k, case.t, case.k
-    );
-    let name = format!("refused-{number}");
-    lent(number, case) + &equation(&name, &call, &words(&[refusal]), opened)
-}
-
-fn equation(name: &str, call: &str, expected: &str, opened: &str) -> String {
-    format!("\n{name} : {call} ≡ {expected}\nunfolding {opened}\n{name} = refl\n")
+/// The lengths of the work buffers.
+fn work(lent: &Lengths) -> String {
+    let Lengths {
+        states,
+        starts,
+        other_starts,
+        ranges,
+        ..
+    } = lent;
+    format!("(work {states} {starts} {other_starts} {ranges})")
 }
 
 /// The lent index and query of a row.
@@ -155,9 +133,25 @@ fn words<T: Display>(list: &[T]) -> String {
     text + "[]"
 }
 
+/// A list of whole numbers, which may lie below 0.
+fn integers(list: &[i64]) -> String {
+    let mut text = String::new();
+    for number in list {
+        write!(text, "{} ∷ ", integer(*number)).unwrap();
+    }
+    text + "[]"
+}
+
+fn integer(number: i64) -> String {
+    match number {
+        0.. => format!("pos {number}"),
+        _ => format!("negsuc {}", -(number + 1)),
+    }
+}
+
 /// The names that a row has to open: every definition of specs/ that is marked unfoldable, alone or
 /// in a mutual block, and the operations of `lib.Ieee`.
-pub fn opened(specs: &Path) -> io::Result<String> {
+fn opened(specs: &Path) -> io::Result<String> {
     let ieee = [
         "toBits", "round", "units", "odd", "size", "span", "climb", "add", "sub", "mul",
     ];
@@ -194,8 +188,16 @@ pub fn opened(specs: &Path) -> io::Result<String> {
     Ok(names.join(" "))
 }
 
-/// A copy of crates/meaning whose proofs are the rows alone, for `rt check`.
-pub fn write_crate(meaning: &Path, folder: &Path, rows: &[String]) -> io::Result<()> {
+/// The definitions of the text of `hits`, which stand above crates/meaning: they come beside its
+/// own, with nothing changed but the names of modules.
+const ABOVE: [(&str, &str); 2] = [
+    ("hits_text/specs/Text.antt", "HitsText"),
+    ("hits/specs/Text.antt", "HitsProgram"),
+];
+
+/// A copy of crates/meaning, with the definitions above it, for `rt check`.
+pub fn write_crate(crates: &Path, folder: &Path) -> io::Result<()> {
+    let meaning = crates.join("meaning");
     for part in ["src", "specs"] {
         fs::create_dir_all(folder.join(part))?;
         for file in fs::read_dir(meaning.join(part))? {
@@ -203,10 +205,27 @@ pub fn write_crate(meaning: &Path, folder: &Path, rows: &[String]) -> io::Result
             fs::copy(file.path(), folder.join(part).join(file.file_name()))?;
         }
     }
+    let specs = folder.join("specs");
+    let mut root = fs::read_to_string(specs.join("Lib.antt"))?;
+    for (path, name) in ABOVE {
+        let text = fs::read_to_string(crates.join(path))?;
+        let text = text.replace("Rattle.meaning.specs.", "Rattle.meaning.specs.");
+        let own = "Rattle.meaning.specs.HitsText";
+        let text = text.replace("Rattle.hits_text.specs.Text", own);
+        fs::write(specs.join(format!("{name}.antt")), text)?;
+        writeln!(root, "pub mod {name}").unwrap();
+    }
+    fs::write(specs.join("Lib.antt"), root)?;
     fs::create_dir_all(folder.join("proofs"))?;
-    fs::write(folder.join("proofs/Lib.antt"), "pub mod Rows\n")?;
-    fs::write(
-        folder.join("proofs/Rows.antt"),
-        format!("{HEAD}{}", rows.concat()),
-    )
+    fs::write(folder.join("proofs/Lib.antt"), "pub mod Rows\n")
+}
+
+/// The rows as the crate's proofs.
+pub fn write_rows(folder: &Path, rows: &[Row]) -> io::Result<()> {
+    let opened = opened(&folder.join("specs"))?;
+    let mut text = HEAD.to_string();
+    for (place, row) in rows.iter().enumerate() {
+        text += &row.text(place, &opened);
+    }
+    fs::write(folder.join("proofs/Rows.antt"), text)
 }

@@ -1,6 +1,6 @@
 //! A stand-in for the library, made of the judge and the Rust; and wrong libraries, each of which
 //! the differential run has to catch.
-use crate::answer::NO_MORE_DOCS;
+use crate::answer::{Hit, NO_MORE_DOCS};
 use crate::border::{Entries, Index, Page, Pick, Search, Work};
 use crate::case::Case;
 use crate::expect::{self, Found, Right, codes, found_numbers, page_numbers};
@@ -29,10 +29,11 @@ pub enum Wrong {
     AnswersRefused,
     WorksRefused,
     TellsHigher,
+    ScoresUp,
 }
 
 /// Every wrong one.
-pub const WRONG: [Wrong; 19] = [
+pub const WRONG: [Wrong; 20] = [
     Wrong::FindsNothing,
     Wrong::RefusesAll,
     Wrong::LeavesOutputs,
@@ -52,6 +53,7 @@ pub const WRONG: [Wrong; 19] = [
     Wrong::AnswersRefused,
     Wrong::WorksRefused,
     Wrong::TellsHigher,
+    Wrong::ScoresUp,
 ];
 
 /// What a call that is not refused leaves in the states.
@@ -67,10 +69,13 @@ impl Entries for Double {
             answer: call.answer.len(),
             ..lengths(&call.work)
         });
-        let right = match right.search(call.k, call.t, &lent) {
+        let mut right = match right.search(call.k, call.t, &lent) {
             Err(11) if self.0 == Wrong::TellsHigher && call.answer.len() < 3 => Err(12),
             right => right,
         };
+        if let Ok(found) = &mut right {
+            self.score(&mut found.hits);
+        }
         let odd = call.work.states.first().is_some_and(|word| word % 2 == 1);
         self.work(&mut call.work, right.is_ok());
         let number = self.found(&right, call.hits, call.answer);
@@ -97,6 +102,7 @@ impl Entries for Double {
             Err(number) => return self.refused(number, call.answer),
             Ok(paged) => paged,
         };
+        self.score(&mut paged.hits);
         match self.0 {
             Wrong::EndsEarly if paged.hits.is_empty() => paged.next = NO_MORE_DOCS,
             Wrong::DropsTheLast => _ = paged.hits.pop(),
@@ -132,6 +138,13 @@ impl Double {
             _ => {}
         }
         lent
+    }
+
+    /// Scores that are wrong alike in Search and Page: only the Rust tells.
+    fn score(&self, hits: &mut [Hit]) {
+        if self.0 == Wrong::ScoresUp {
+            hits.iter_mut().for_each(|hit| hit.bits += 1);
+        }
     }
 
     /// What a call does to its work buffers.

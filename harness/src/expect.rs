@@ -107,3 +107,17 @@ pub fn found_numbers(searched: &Searched) -> [u64; 3] {
 pub fn page_numbers(paged: &Paged) -> [u64; 2] {
     [paged.hits.len() as u64, u64::from(paged.next)]
 }
+
+/// What an accepted call of Page wrote: the page as it stands in the buffers.
+pub fn written(buffers: &Buffers) -> Paged {
+    let [given, next] = buffers.answer.held()[..2] else {
+        panic!("an answer of two numbers");
+    };
+    let documents = &buffers.documents.held()[..given as usize];
+    let pairs = documents.iter().zip(buffers.scores.held());
+    let hits = pairs.map(|(&document, &bits)| Hit { document, bits });
+    Paged {
+        hits: hits.collect(),
+        next: u32::try_from(next).expect("a document"),
+    }
+}

@@ -13,6 +13,7 @@ pub mod definitions;
 #[cfg(oracle)]
 pub mod double;
 pub mod expect;
+pub mod fuzz;
 pub mod generate;
 pub mod lots;
 #[cfg(oracle)]

@@ -1,79 +1,96 @@
-//! The definitions of crates/meaning beside the Rust: antt computes them on generated cases, and
-//! on damaged ones, whose number is told by `refusal`. More rows: DEFINITION_ROWS=200.
+//! The definitions of crates/meaning, and the text of `hits`, beside the Rust: antt computes them on
+//! calls of every entry, accepted ones and refused ones of every number, whose number `refusal`
+//! tells. More rows: DEFINITION_ROWS=1000.
 #[macro_use]
 mod common;
 
 #[cfg(oracle)]
 mod rows {
-    use crate::common::ask;
-    use harness::case::Case;
-    use harness::damage;
-    use harness::definitions::{Answers, opened, refused, row, write_crate};
-    use harness::generate;
-    use harness::random::Random;
-    use harness::refusal::refusal;
-    use std::path::Path;
-    use std::process::Command;
+    use harness::definitions::rows::{every_number, generated};
+    use harness::definitions::{Entry, Row, write_crate, write_rows};
+    use std::collections::BTreeMap;
+    use std::path::{Path, PathBuf};
+    use std::process::{Child, Command, Stdio};
 
-    fn answers(case: &Case, random: &mut Random) -> Answers {
-        let oracle = ask(case);
-        let target = random.below(case.n + 1);
-        let m = random.below(5) as usize;
-        Answers {
-            list: oracle.list(),
-            searched: oracle.search(),
-            target,
-            m,
-            paged: oracle.page(target, m),
-            cost: oracle.cost(),
+    /// Which numbers an entry's rows must have.
+    const NUMBERS: [(Entry, &[u32]); 8] = [
+        (Entry::List, &[0]),
+        (Entry::Search, &[0, 1, 2, 3, 4, 5, 6, 7, 8, 9, 10, 11, 12]),
+        (Entry::Page, &[0, 1, 2, 3, 4, 5, 6, 7, 8, 9, 10, 12, 13]),
+        (Entry::Place, &[0, 1, 2, 3, 4, 5, 6, 7, 8, 9, 10, 12, 13]),
+        (Entry::Range, &[0, 1, 6, 8, 12]),
+        (Entry::Pick, &[0, 11, 12, 14]),
+        (Entry::Length, &[0]),
+        (Entry::Text, &[0, 1, 2, 3, 4, 5, 6, 7, 8, 9, 10, 11, 12]),
+    ];
+
+    fn all(number: usize) -> Vec<Row> {
+        let mut rows = every_number();
+        let wanted = number.max(rows.len() + 16);
+        let more = (0..).filter_map(generated);
+        rows.extend(more.take(wanted - rows.len()));
+        rows
+    }
+
+    /// How many rows each entry has, and that none of its numbers lacks.
+    fn count(rows: &[Row]) {
+        let mut counts = BTreeMap::new();
+        for row in rows {
+            *counts.entry((row.entry, row.number)).or_insert(0) += 1;
+        }
+        for (entry, numbers) in NUMBERS {
+            let of = |number: &u32| counts.get(&(entry, *number)).copied().unwrap_or(0);
+            let given: Vec<_> = numbers.iter().map(|n| format!("{n}: {}", of(n))).collect();
+            println!("{entry:?}: {}", given.join(", "));
+            assert!(
+                numbers.iter().all(|n| of(n) > 0),
+                "{entry:?} lacks a number"
+            );
         }
     }
 
-    pub fn check(first: u64, number: u64) {
-        let meaning = Path::new(env!("CARGO_MANIFEST_DIR")).join("../crates/meaning");
-        let opened = opened(&meaning.join("specs")).unwrap();
-        let mut rows = Vec::new();
-        for seed in first..first + number {
-            let mut random = Random::new(seed);
-            let case = generate::case(seed);
-            rows.push(row(
-                rows.len(),
-                &case,
-                &answers(&case, &mut random),
-                &opened,
-            ));
-            let damaged = damage::damaged(&mut random, &case);
-            let text = match refusal(&damaged) {
-                0 => row(
-                    rows.len(),
-                    &damaged,
-                    &answers(&damaged, &mut random),
-                    &opened,
-                ),
-                number => refused(rows.len(), &damaged, number, &opened),
-            };
-            rows.push(text);
-        }
-        // below the repository's own target/, where rt looks for no crate's files
-        let folder = meaning.join("../../target/definitions/meaning");
+    /// Below the repository's own target/, where rt looks for no crate's files.
+    fn folder(part: usize) -> PathBuf {
+        let target = Path::new(env!("CARGO_MANIFEST_DIR")).join("../target");
+        target.join(format!("definitions/{part}/meaning"))
+    }
+
+    /// Starts the check of some rows.
+    fn start(part: usize, rows: &[Row]) -> Child {
+        let folder = folder(part);
         if folder.exists() {
             std::fs::remove_dir_all(&folder).unwrap();
         }
-        write_crate(&meaning, &folder, &rows).unwrap();
-        let out = Command::new("rt")
-            .arg("check")
-            .arg(&folder)
-            .output()
-            .expect("rt");
-        let text = String::from_utf8_lossy(&out.stdout);
-        assert!(out.status.success(), "{text}");
+        let crates = Path::new(env!("CARGO_MANIFEST_DIR")).join("../crates");
+        write_crate(&crates, &folder).unwrap();
+        write_rows(&folder, rows).unwrap();
+        let mut command = Command::new("rt");
+        command.arg("check").arg(&folder);
+        command.stdout(Stdio::piped()).stderr(Stdio::piped());
+        command.spawn().expect("rt")
+    }
+
+    pub fn check(number: usize) {
+        let rows = all(number);
+        count(&rows);
+        let processors = std::thread::available_parallelism().map_or(1, |number| number.get());
+        let parts = rows.chunks(rows.len().div_ceil(processors));
+        let started: Vec<_> = (0..).zip(parts).map(|(at, part)| start(at, part)).collect();
+        for child in started {
+            let out = child.wait_with_output().unwrap();
+            let text = [out.stdout, out.stderr].concat();
+            let text = String::from_utf8_lossy(&text);
+            assert!(out.status.success(), "{text}");
+        }
+        println!("{} rows", rows.len());
     }
 }
 
 #[test]
+#[cfg_attr(not(oracle), ignore = "the Rust source is absent")]
 fn definitions_give_the_answers_of_the_rust() {
     with_oracle!({
-        let number = std::env::var("DEFINITION_ROWS").map_or(16, |n| n.parse().unwrap());
-        rows::check(1, number);
+        let number = std::env::var("DEFINITION_ROWS").map_or(480, |n| n.parse().unwrap());
+        rows::check(number);
     });
 }

@@ -24,7 +24,7 @@ use std::thread;
 
 const CASES: u64 = 300_000;
 
-/// The body of a test that needs the library and the Rust source.
+/// The body of a test that needs the library and the Rust source, ignored where one is absent.
 macro_rules! with_library {
     ($library:ident, $body:block) => {
         #[cfg(all(oracle, linked))]
@@ -33,7 +33,7 @@ macro_rules! with_library {
             $body
         }
         #[cfg(not(all(oracle, linked)))]
-        println!("skipped: the library or the Rust source is absent");
+        panic!("the library or the Rust source is absent");
     };
 }
 
@@ -66,9 +66,14 @@ fn generated(entries: &dyn Entries, seed: u64) {
 }
 
 #[test]
+#[cfg_attr(
+    not(all(oracle, linked)),
+    ignore = "the library or the Rust source is absent"
+)]
 fn generated_cases() {
     with_library!(library, {
         let cases = std::env::var("LOT_SEARCH_CASES").map_or(CASES, |n| n.parse().unwrap());
+        assert!(cases > 0, "LOT_SEARCH_CASES leaves no case");
         each(cases, |seed| generated(library, seed));
     });
 }
@@ -91,6 +96,10 @@ fn short_case(entries: &dyn Entries, case: &Case, random: &mut Random) {
 }
 
 #[test]
+#[cfg_attr(
+    not(all(oracle, linked)),
+    ignore = "the library or the Rust source is absent"
+)]
 fn every_short_boolean() {
     with_library!(library, {
         for (n, leaves) in [(0, 2), (1, 3), (2, 3), (3, 2)] {
@@ -108,6 +117,10 @@ fn every_short_boolean() {
 }
 
 #[test]
+#[cfg_attr(
+    not(all(oracle, linked)),
+    ignore = "the library or the Rust source is absent"
+)]
 fn every_short_phrase_and_range() {
     with_library!(library, {
         let cases = [short::phrases(), short::ranges()].concat();
@@ -117,6 +130,10 @@ fn every_short_phrase_and_range() {
 
 /// More documents than a page of memory has, more hits than the heap holds.
 #[test]
+#[cfg_attr(
+    not(all(oracle, linked)),
+    ignore = "the library or the Rust source is absent"
+)]
 fn larger_catalogues() {
     with_library!(library, { each(200, |seed| larger(library, seed)) });
 }
@@ -136,6 +153,10 @@ fn larger(entries: &dyn Entries, seed: u64) {
 
 /// Each case from both sides of the boundaries of 1 to 10, which Search and Page share.
 #[test]
+#[cfg_attr(
+    not(all(oracle, linked)),
+    ignore = "the library or the Rust source is absent"
+)]
 fn every_boundary() {
     with_library!(library, {
         let cases = boundary::all();
@@ -147,6 +168,10 @@ fn every_boundary() {
 
 /// Frequencies at their limit where there are positions.
 #[test]
+#[cfg_attr(
+    not(all(oracle, linked)),
+    ignore = "the library or the Rust source is absent"
+)]
 fn large_frequencies() {
     with_library!(library, {
         for (number, case) in boundary::large() {
@@ -172,6 +197,10 @@ fn at_boundary(entries: &dyn Entries, number: u32, case: &Case, random: &mut Ran
 
 /// Each buffer exactly long enough and one too short; k, target and the answer at their limits.
 #[test]
+#[cfg_attr(
+    not(all(oracle, linked)),
+    ignore = "the library or the Rust source is absent"
+)]
 fn every_limit_of_the_caller() {
     with_library!(library, { limits(library) });
 }
@@ -230,6 +259,10 @@ fn limits(entries: &dyn Entries) {
 
 /// The deepest and the longest query on a stack of 64 KiB.
 #[test]
+#[cfg_attr(
+    not(all(oracle, linked)),
+    ignore = "the library or the Rust source is absent"
+)]
 fn the_library_s_own_stack() {
     with_library!(library, {
         let deep = WORKLOADS
@@ -264,6 +297,7 @@ fn on_small_stack(entries: &dyn Entries, case: &Case) {
 
 /// The same run with the judge and the Rust in place of the library.
 #[test]
+#[cfg_attr(not(oracle), ignore = "the Rust source is absent")]
 fn the_double_is_right() {
     with_oracle!({
         let double = &Double(Wrong::Nothing);
@@ -284,6 +318,7 @@ fn the_double_is_right() {
 
 /// Each wrong library is caught, most by the first few cases.
 #[test]
+#[cfg_attr(not(oracle), ignore = "the Rust source is absent")]
 fn wrong_libraries_are_caught() {
     with_oracle!({
         for wrong in WRONG {

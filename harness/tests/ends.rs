@@ -28,6 +28,7 @@ fn panic_after_end(case: &Case) -> String {
 }
 
 #[test]
+#[cfg_attr(not(oracle), ignore = "the Rust source is absent")]
 #[cfg_attr(not(debug_assertions), ignore = "built without overflow checks")]
 fn a_disjunction_overflows() {
     with_oracle!({
@@ -37,6 +38,7 @@ fn a_disjunction_overflows() {
 }
 
 #[test]
+#[cfg_attr(not(oracle), ignore = "the Rust source is absent")]
 #[cfg_attr(not(debug_assertions), ignore = "built without overflow checks")]
 fn match_all_overflows() {
     with_oracle!({
@@ -48,6 +50,7 @@ fn match_all_overflows() {
 }
 
 #[test]
+#[cfg_attr(not(oracle), ignore = "the Rust source is absent")]
 #[cfg_attr(not(debug_assertions), ignore = "built without overflow checks")]
 fn the_list_cursor_sees_it() {
     with_oracle!({
@@ -56,6 +59,7 @@ fn the_list_cursor_sees_it() {
 }
 
 #[test]
+#[cfg_attr(not(oracle), ignore = "the Rust source is absent")]
 fn a_root_without_a_scorer_has_no_end() {
     with_oracle!({
         assert_eq!(ask(&case(|_| match_none())).next_after_end(), None);

@@ -56,6 +56,7 @@ fn best_of(case: &Case, oracle: &Oracle, list: &[Hit]) -> bool {
 }
 
 #[test]
+#[cfg_attr(not(oracle), ignore = "the Rust source is absent")]
 fn answers_hang_together() {
     with_oracle!({
         let (mut matching, mut listed, mut marked, mut ties) = (0, 0, 0, 0);
@@ -89,6 +90,7 @@ fn end(case: &Case, column: u32, random: &mut Random) -> [u32; 2] {
 }
 
 #[test]
+#[cfg_attr(not(oracle), ignore = "the Rust source is absent")]
 fn ranges_list_what_lies_in_them() {
     with_oracle!({
         let mut random = Random::new(1);

@@ -40,19 +40,13 @@ struct Hits {
 }
 
 impl Hits {
-    /// Nothing where the program is not built.
-    fn find(test: &str) -> Option<Hits> {
+    fn find(test: &str) -> Hits {
         let root = Path::new(env!("CARGO_MANIFEST_DIR")).join("..");
         let program = root.join("target/bin/hits");
-        if program.exists() {
-            let folder = folder(&format!("hits-{test}"));
-            fs::create_dir_all(&folder).unwrap();
-            return Some(Hits { program, folder });
-        }
-        let required = std::env::var("LOT_SEARCH_REQUIRED").is_ok_and(|required| required == "1");
-        assert!(!required, "no {}: run `rt check hits`", program.display());
-        println!("skipped: the program hits is not built");
-        None
+        assert!(program.exists(), "no {}", program.display());
+        let folder = folder(&format!("hits-{test}"));
+        fs::create_dir_all(&folder).unwrap();
+        Hits { program, folder }
     }
 
     fn file(&self, name: &str) -> PathBuf {
@@ -109,10 +103,9 @@ fn own_folder() -> PathBuf {
 }
 
 #[test]
+#[cfg_attr(not(hits), ignore = "the program hits is not built")]
 fn the_whole_case() {
-    let Some(hits) = Hits::find("whole") else {
-        return;
-    };
+    let hits = Hits::find("whole");
     let expected = "count 3\n2 40400000\n0 3f800000\n";
     assert_eq!(hits.started_in(&own_folder()), expected);
     let case = Case::read_folder(&own_folder()).unwrap();
@@ -124,10 +117,9 @@ fn the_whole_case() {
 }
 
 #[test]
+#[cfg_attr(not(hits), ignore = "the program hits is not built")]
 fn files_that_are_missing_or_unreadable() {
-    let Some(hits) = Hits::find("missing") else {
-        return;
-    };
+    let hits = Hits::find("missing");
     assert_eq!(hits.prints(), REFUSED);
     for name in FILES {
         hits.write(&boundary::sound());
@@ -143,10 +135,9 @@ fn files_that_are_missing_or_unreadable() {
 
 /// One byte less or more is no whole word; norm bytes are refused by their number alone.
 #[test]
+#[cfg_attr(not(hits), ignore = "the program hits is not built")]
 fn files_that_are_not_of_whole_words() {
-    let Some(hits) = Hits::find("words") else {
-        return;
-    };
+    let hits = Hits::find("words");
     let case = boundary::sound();
     for name in FILES {
         hits.write(&case);
@@ -166,10 +157,9 @@ fn files_that_are_not_of_whole_words() {
 
 /// 64 KiB are taken (a run.rec is of 12 bytes), and a byte more is not.
 #[test]
+#[cfg_attr(not(hits), ignore = "the program hits is not built")]
 fn files_at_the_limit() {
-    let Some(hits) = Hits::find("limit") else {
-        return;
-    };
+    let hits = Hits::find("limit");
     let case = boundary::sound();
     let mut full = case.clone();
     full.positions.resize(FILE_LIMIT / 4, 0);
@@ -197,10 +187,9 @@ fn ranges(n: u32, ranges: usize) -> Case {
 
 /// Every boundary of the refusals 1 to 10 from both sides, and the caller's.
 #[test]
+#[cfg_attr(not(hits), ignore = "the program hits is not built")]
 fn every_refusal() {
-    let Some(hits) = Hits::find("refusals") else {
-        return;
-    };
+    let hits = Hits::find("refusals");
     let mut told = BTreeSet::new();
     for (_, case) in boundary::all() {
         told.insert(hits.right(&case));
@@ -220,10 +209,9 @@ fn every_refusal() {
 }
 
 #[test]
+#[cfg_attr(not(hits), ignore = "the program hits is not built")]
 fn the_largest_catalogue() {
-    let Some(hits) = Hits::find("largest") else {
-        return;
-    };
+    let hits = Hits::find("largest");
     let all = |n| Catalogue::new(n).case(1024, 5, &match_all());
     hits.write(&all(1_048_576));
     let lines = (0..1024).map(|document| format!("{document} 3f800000\n"));
@@ -235,10 +223,10 @@ fn the_largest_catalogue() {
 
 /// Generated cases, and damaged copies of them.
 #[test]
+#[cfg_attr(not(oracle), ignore = "the Rust source is absent")]
+#[cfg_attr(not(hits), ignore = "the program hits is not built")]
 fn generated_cases() {
-    let Some(hits) = Hits::find("generated") else {
-        return;
-    };
+    let hits = Hits::find("generated");
     let mut random = Random::new(11);
     for seed in 0..300 {
         let _seed = Seed(seed);

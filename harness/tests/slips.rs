@@ -40,6 +40,7 @@ fn shown(case: &Case) -> Vec<bool> {
 }
 
 #[test]
+#[cfg_attr(not(oracle), ignore = "the Rust source is absent")]
 fn document_01_by_its_words_and_the_slips_that_show() {
     with_oracle!({
         let mut shows = [0; SLIPS.len()];
@@ -60,6 +61,7 @@ fn document_01_by_its_words_and_the_slips_that_show() {
 
 /// So that the programs that are held to them would show each slip without the Rust.
 #[test]
+#[cfg_attr(not(oracle), ignore = "the Rust source is absent")]
 fn every_slip_shows_in_the_recorded_cases() {
     with_oracle!({
         let mut shows = [0; SLIPS.len()];

@@ -71,6 +71,7 @@ fn the_files_give_back_the_case() {
 }
 
 #[test]
+#[cfg_attr(not(oracle), ignore = "the Rust source is absent")]
 fn the_oracle_gives_the_paper_s_lines() {
     with_oracle!({
         for (t, expected) in [

@@ -1,8 +1,8 @@
-//! Pages one after the other, refused calls among them: joined they are the full list.
+//! Pages one after the other, refused calls among them: what they wrote, joined, is the full list.
 use super::Compare;
 use crate::answer::{Hit, NO_MORE_DOCS, Paged};
 use crate::buffer::{Buffer, Buffers};
-use crate::expect;
+use crate::expect::{self, written};
 use crate::refusal::calls::Lengths;
 
 impl Compare<'_> {
@@ -24,10 +24,10 @@ impl Compare<'_> {
             buffers.scores = Buffer::new(self.random, m);
             buffers.settle();
             let number = self.entries.page(buffers.page(self.case, target));
-            let right = self.from_list(target, m);
-            target = right.next;
-            expect::given(&buffers, number, &Ok(right.clone()));
-            joined.extend(right.hits);
+            expect::given(&buffers, number, &Ok(self.from_list(target, m)));
+            let written = written(&buffers);
+            target = written.next;
+            joined.extend(written.hits);
         }
         assert_eq!(joined, self.right.list);
         self.page(NO_MORE_DOCS, &lent);

@@ -1,20 +1,36 @@
-//! The calls, one for each seed.
+//! The calls, one for each seed, on all processors.
 use crate::fault;
-use crate::input::{Inputs, lengths, lists};
 use crate::memory::Memory;
-use harness::border::{Entries, Library};
-use harness::buffer::Buffers;
-use harness::case::Case;
-use harness::expect::{self, Found, Given};
-use harness::random::Random;
-use harness::refusal::calls::{self, Judge, Lengths};
+use harness::border::Library;
+use harness::fuzz::input::Inputs;
+use harness::fuzz::{Against, Fuzz, Made};
 use std::sync::Mutex;
 use std::sync::atomic::{AtomicU64, Ordering};
 use std::thread;
 use std::time::{Duration, Instant};
 
-/// How often each number was given by Search, Page and Pick.
-type Counts = [[u64; 15]; 3];
+/// How often each number was given by Search, Page and Pick, and how often an accepted call of
+/// each was held to the Rust.
+#[derive(Default)]
+struct Counts {
+    given: [[u64; 15]; 3],
+    by_rust: [u64; 3],
+}
+
+impl Counts {
+    fn count(&mut self, made: &Made) {
+        self.given[made.entry][made.number as usize] += 1;
+        self.by_rust[made.entry] += u64::from(made.by_rust);
+    }
+
+    fn add(&mut self, other: &Counts) {
+        let given = other.given.as_flattened();
+        let counts = self.given.as_flattened_mut().iter_mut();
+        counts.zip(given).for_each(|(all, own)| *all += own);
+        let counts = self.by_rust.iter_mut().zip(other.by_rust);
+        counts.for_each(|(all, own)| *all += own);
+    }
+}
 
 pub fn run(seconds: u64, first: u64) {
     fault::watch();
@@ -25,10 +41,7 @@ pub fn run(seconds: u64, first: u64) {
     let one = || {
         let _told = Told;
         let own = calls(&inputs, &next, end);
-        let mut all = counts.lock().unwrap();
-        for (all, own) in all.as_flattened_mut().iter_mut().zip(own.as_flattened()) {
-            *all += own;
-        }
+        counts.lock().unwrap().add(&own);
     };
     let processors = thread::available_parallelism().map_or(1, |number| number.get());
     thread::scope(|scope| (0..processors).for_each(|_| _ = scope.spawn(one)));
@@ -47,124 +60,19 @@ impl Drop for Told {
 }
 
 fn calls(inputs: &Inputs, next: &AtomicU64, end: Instant) -> Counts {
-    let mut memory = Memory::new();
     let mut counts = Counts::default();
+    let mut fuzz = Fuzz {
+        entries: &Library,
+        inputs,
+        against: Against::MOST,
+        lend: &mut Memory::new(),
+    };
     while Instant::now() < end {
         let seed = next.fetch_add(1, Ordering::Relaxed);
         fault::at(seed);
-        let mut random = Random::new(seed);
-        let entry = random.pick(&[0, 0, 0, 1, 1, 1, 2]);
-        let number = match entry {
-            0 => search(&inputs.case(&mut random), &mut memory, &mut random),
-            1 => page(&inputs.case(&mut random), &mut memory, &mut random),
-            _ => pick(&mut memory, &mut random),
-        };
-        counts[entry][number as usize] += 1;
+        counts.count(&fuzz.call(seed));
     }
     counts
-}
-
-fn search(case: &Case, memory: &mut Memory, random: &mut Random) -> u32 {
-    let judge = Judge::new(case);
-    let lent = lengths(random, case.k, &judge.needed);
-    let mut buffers = Buffers::new(random, &lent);
-    memory.lend(case, random);
-    memory.put(&buffers, random);
-    let number = Library.search(memory.search(case.k, case.t));
-    memory.take(&mut buffers);
-    match right_search(case, &judge, &lent) {
-        Some(right) => expect::found(&buffers, number, &right),
-        None => assert_eq!(number, 0),
-    }
-    number
-}
-
-fn page(case: &Case, memory: &mut Memory, random: &mut Random) -> u32 {
-    let judge = Judge::new(case);
-    let lent = lengths(random, 0, &judge.needed);
-    let after = case.n.saturating_add(1);
-    let targets = [0, case.n / 2, case.n, after, u32::MAX];
-    let target = random.pick(&targets);
-    let mut buffers = Buffers::new(random, &lent);
-    memory.lend(case, random);
-    memory.put(&buffers, random);
-    let number = Library.page(memory.page(target));
-    memory.take(&mut buffers);
-    match right_page(case, &judge, target, &lent) {
-        Some(right) => expect::given(&buffers, number, &right),
-        None => assert_eq!(number, 0),
-    }
-    number
-}
-
-fn pick(memory: &mut Memory, random: &mut Random) -> u32 {
-    let (documents, scores) = lists(random);
-    let k = random.pick(&[0, 1, 2, 10, 100, 1024, 1025, u32::MAX]);
-    let t = random.pick(&[0, 1, 5, documents.len() as u32, u32::MAX]);
-    let lent = lengths(random, k, &Lengths::default());
-    let mut buffers = Buffers::new(random, &lent);
-    memory.lend_lists(&documents, &scores, random);
-    memory.put(&buffers, random);
-    let number = Library.pick(memory.pick(k, t));
-    memory.take(&mut buffers);
-    match right_pick(&documents, &scores, k, t, &lent) {
-        Some(right) => expect::found(&buffers, number, &right),
-        None => assert_eq!(number, 0),
-    }
-    number
-}
-
-/// What is right; `None` where the call is accepted and the Rust is not there to be asked.
-fn right_search(case: &Case, judge: &Judge, lent: &Lengths) -> Option<Found> {
-    match judge.search(case.k, lent) {
-        0 => answers::search(case, lent),
-        number => Some(Err(number)),
-    }
-}
-
-fn right_page(case: &Case, judge: &Judge, target: u32, lent: &Lengths) -> Option<Given> {
-    match judge.page(target, lent) {
-        0 => answers::page(case, target, lent),
-        number => Some(Err(number)),
-    }
-}
-
-fn right_pick(d: &[u32], scores: &[u32], k: u32, t: u32, lent: &Lengths) -> Option<Found> {
-    match calls::pick(d, scores, k, lent) {
-        0 => answers::pick(d, scores, k, t, lent),
-        number => Some(Err(number)),
-    }
-}
-
-#[cfg(oracle)]
-mod answers {
-    use super::*;
-    use harness::expect::Right;
-
-    pub fn search(case: &Case, lent: &Lengths) -> Option<Found> {
-        Some(Right::new(case).search(case.k, case.t, lent))
-    }
-    pub fn page(case: &Case, target: u32, lent: &Lengths) -> Option<Given> {
-        Some(Right::new(case).page(target, lent))
-    }
-    pub fn pick(d: &[u32], scores: &[u32], k: u32, t: u32, lent: &Lengths) -> Option<Found> {
-        Some(expect::pick(d, scores, k, t, lent))
-    }
-}
-
-#[cfg(not(oracle))]
-mod answers {
-    use super::*;
-
-    pub fn search(_: &Case, _: &Lengths) -> Option<Found> {
-        None
-    }
-    pub fn page(_: &Case, _: u32, _: &Lengths) -> Option<Given> {
-        None
-    }
-    pub fn pick(_: &[u32], _: &[u32], _: u32, _: u32, _: &Lengths) -> Option<Found> {
-        None
-    }
 }
 
 /// Which numbers each entry can give.
@@ -174,14 +82,27 @@ const GIVEN: [&[usize]; 3] = [
     &[0, 11, 12, 14],
 ];
 
+/// Of so many calls of an entry at least one has to be accepted.
+const ONE_IN: u64 = 4;
+
+/// A run of ten seconds or more has to give every number, and to accept a good share of the calls.
 fn report(counts: &Counts, seconds: u64) {
+    let mut all = [0; 4];
     for (entry, name) in ["search", "page", "pick"].iter().enumerate() {
-        let given = GIVEN[entry]
-            .iter()
-            .map(|n| format!("{n}: {}", counts[entry][*n]));
-        let given: Vec<_> = given.collect();
-        println!("{name}: {}", given.join(", "));
-        let missed = GIVEN[entry].iter().any(|n| counts[entry][*n] == 0);
+        let given = &counts.given[entry];
+        let numbers = GIVEN[entry].iter().map(|n| format!("{n}: {}", given[*n]));
+        println!("{name}: {}", numbers.collect::<Vec<_>>().join(", "));
+        let missed = GIVEN[entry].iter().any(|n| given[*n] == 0);
         assert!(seconds < 10 || !missed, "a number was never given");
+        let (calls, accepted) = (given.iter().sum::<u64>(), given[0]);
+        let few = ONE_IN * accepted < calls;
+        assert!(seconds < 10 || !few, "{name} accepts too few calls");
+        let by_rust = counts.by_rust[entry];
+        let row = [calls, accepted, by_rust, accepted - by_rust];
+        all.iter_mut().zip(row).for_each(|(all, own)| *all += own);
     }
+    let [calls, accepted, by_rust, by_laws] = all;
+    println!("{calls} calls, {accepted} accepted and held to the laws");
+    println!("{by_rust} of these held against the Rust, {by_laws} by laws alone");
+    assert!(accepted > 0, "nothing was called");
 }

@@ -1,11 +1,11 @@
 //! `fuzz SECONDS [SEED]` hands random and changed words to the library's three entries for so long,
 //! each lent slice between two pages that nobody may touch: no crash, nothing read or written
-//! outside, the judge's number, and the Rust's answer where its source is there.
+//! outside, the judge's number; and of accepted calls the Rust's answer where its source is there,
+//! and the laws (`harness::fuzz`).
 #![cfg_attr(not(linked), allow(dead_code, unused_imports))]
 #[cfg(linked)]
 mod calls;
 mod fault;
-mod input;
 mod mapping;
 mod memory;
 

@@ -1,15 +1,14 @@
 //! The mappings of everything that a call lends.
 use crate::mapping::Mapping;
-use harness::border::{Index, Page, Pick, Search, Work};
+use harness::border::{Entries, Index, Page, Pick, Search, Work};
 use harness::buffer::{Buffer, Buffers, Element};
 use harness::case::Case;
+use harness::fuzz::input::ROOM;
+use harness::fuzz::{Lend, Lent, Lists};
 use harness::random::Random;
 
-/// Elements that a slice may have.
-pub const ROOM: usize = 200_000;
-
 /// The lists of an index, which a call may only read.
-struct Lists {
+struct IndexLists {
     n: u32,
     fields: Mapping<u32>,
     leaves: Mapping<u32>,
@@ -30,7 +29,7 @@ struct Desk {
 }
 
 pub struct Memory {
-    lists: Lists,
+    index: IndexLists,
     query: Mapping<u32>,
     picked: Mapping<u32>,
     picked_scores: Mapping<u32>,
@@ -41,9 +40,9 @@ pub struct Memory {
     answer: Mapping<u64>,
 }
 
-impl Lists {
-    fn new() -> Lists {
-        Lists {
+impl IndexLists {
+    fn new() -> IndexLists {
+        IndexLists {
             n: 0,
             fields: Mapping::new(ROOM),
             leaves: Mapping::new(ROOM),
@@ -106,7 +105,7 @@ impl Desk {
 impl Memory {
     pub fn new() -> Memory {
         Memory {
-            lists: Lists::new(),
+            index: IndexLists::new(),
             query: Mapping::new(ROOM),
             picked: Mapping::new(ROOM),
             picked_scores: Mapping::new(ROOM),
@@ -118,18 +117,18 @@ impl Memory {
         }
     }
 
-    pub fn lend(&mut self, case: &Case, random: &mut Random) {
-        self.lists.lend(case, random);
+    fn lend(&mut self, case: &Case, random: &mut Random) {
+        self.index.lend(case, random);
         self.query.lend(&case.query, random);
     }
 
-    pub fn lend_lists(&mut self, documents: &[u32], scores: &[u32], random: &mut Random) {
-        self.picked.lend(documents, random);
-        self.picked_scores.lend(scores, random);
+    fn lend_lists(&mut self, lists: &Lists, random: &mut Random) {
+        self.picked.lend(&lists.documents, random);
+        self.picked_scores.lend(&lists.scores, random);
     }
 
     /// The buffers as they are before a call.
-    pub fn put(&mut self, buffers: &Buffers, random: &mut Random) {
+    fn put(&mut self, buffers: &Buffers, random: &mut Random) {
         self.desk.states.put(buffers.states.held(), random);
         self.desk.starts.put(buffers.starts.held(), random);
         let other_starts = buffers.other_starts.held();
@@ -142,7 +141,7 @@ impl Memory {
     }
 
     /// What stands in the buffers after a call.
-    pub fn take(&self, buffers: &mut Buffers) {
+    fn take(&self, buffers: &mut Buffers) {
         take(&self.desk.states, &mut buffers.states);
         take(&self.desk.starts, &mut buffers.starts);
         take(&self.desk.other_starts, &mut buffers.other_starts);
@@ -153,9 +152,9 @@ impl Memory {
         take(&self.answer, &mut buffers.answer);
     }
 
-    pub fn search(&mut self, k: u32, t: u32) -> Search<'_> {
+    fn call_search(&mut self, k: u32, t: u32) -> Search<'_> {
         Search {
-            index: self.lists.index(),
+            index: self.index.index(),
             query: self.query.slice(),
             k,
             t,
@@ -165,9 +164,9 @@ impl Memory {
         }
     }
 
-    pub fn page(&mut self, target: u32) -> Page<'_> {
+    fn call_page(&mut self, target: u32) -> Page<'_> {
         Page {
-            index: self.lists.index(),
+            index: self.index.index(),
             query: self.query.slice(),
             target,
             work: self.desk.work(),
@@ -177,7 +176,7 @@ impl Memory {
         }
     }
 
-    pub fn pick(&mut self, k: u32, t: u32) -> Pick<'_> {
+    fn call_pick(&mut self, k: u32, t: u32) -> Pick<'_> {
         Pick {
             documents: self.picked.slice(),
             scores: self.picked_scores.slice(),
@@ -186,6 +185,36 @@ impl Memory {
             hits: self.hits.slice_mut(),
             answer: self.answer.slice_mut(),
         }
+    }
+}
+
+/// Each slice stands at one end of its mapping, as the seed has it.
+impl Lend for Memory {
+    fn search(&mut self, entries: &dyn Entries, case: &Case, lent: Lent) -> u32 {
+        let Lent { buffers, random } = lent;
+        self.lend(case, random);
+        self.put(buffers, random);
+        let number = entries.search(self.call_search(case.k, case.t));
+        self.take(buffers);
+        number
+    }
+
+    fn page(&mut self, entries: &dyn Entries, case: &Case, target: u32, lent: Lent) -> u32 {
+        let Lent { buffers, random } = lent;
+        self.lend(case, random);
+        self.put(buffers, random);
+        let number = entries.page(self.call_page(target));
+        self.take(buffers);
+        number
+    }
+
+    fn pick(&mut self, entries: &dyn Entries, lists: &Lists, lent: Lent) -> u32 {
+        let Lent { buffers, random } = lent;
+        self.lend_lists(lists, random);
+        self.put(buffers, random);
+        let number = entries.pick(self.call_pick(lists.k, lists.t));
+        self.take(buffers);
+        number
     }
 }
 

@@ -1,16 +1,25 @@
 //! What is handed over: sound cases with words changed, and words that mean nothing.
-use crate::memory::ROOM;
-use harness::boundary;
-use harness::case::Case;
-use harness::damage::damaged;
-use harness::generate;
-use harness::query::RECORD;
-use harness::random::Random;
-use harness::refusal::calls::Lengths;
+use super::Lists;
+use crate::boundary;
+use crate::case::Case;
+use crate::damage::damaged;
+use crate::generate;
+use crate::query::RECORD;
+use crate::random::Random;
+use crate::refusal::calls::Lengths;
+
+/// Elements that a slice may have.
+pub const ROOM: usize = 200_000;
 
 /// Cases from both sides of the boundaries, made once.
 pub struct Inputs {
     boundaries: Vec<Case>,
+}
+
+impl Default for Inputs {
+    fn default() -> Inputs {
+        Inputs::new()
+    }
 }
 
 impl Inputs {
@@ -21,7 +30,7 @@ impl Inputs {
     }
 
     pub fn case(&self, random: &mut Random) -> Case {
-        let mut case = match random.below(8) {
+        let mut case = match random.below(16) {
             0 => self.boundaries[random.below(self.boundaries.len() as u32) as usize].clone(),
             1 => nonsense(random),
             2 => Case {
@@ -30,7 +39,7 @@ impl Inputs {
             },
             _ => generate::case(random.word()),
         };
-        for _ in 0..random.pick(&[0, 0, 0, 1, 1, 2, 4, 10]) {
+        for _ in 0..random.pick(&[0, 0, 0, 0, 0, 0, 0, 1, 1, 2, 4, 10]) {
             case = changed(random, case);
         }
         case
@@ -140,33 +149,56 @@ fn change(random: &mut Random, list: &mut Vec<u32>) {
     }
 }
 
-/// Buffers that are mostly exactly as long as they must be.
+/// Buffers that are mostly exactly as long as they must be; often one alone is not.
 pub fn lengths(random: &mut Random, k: u32, needed: &Lengths) -> Lengths {
-    let mut length = |needed: usize| {
-        match random.below(16) {
-            0 => random.below(needed.min(ROOM) as u32 + 1) as usize,
-            1 => needed.saturating_sub(1),
-            2 => 0,
-            3 => needed + 1,
-            _ => needed,
-        }
-        .min(ROOM)
-    };
-    let m = length(3);
-    Lengths {
-        states: length(needed.states),
-        starts: length(needed.starts),
-        other_starts: length(needed.other_starts),
-        ranges: length(needed.ranges),
-        hits: length(k.min(1024) as usize),
+    let any = random.below(40) as usize;
+    let m = random.pick(&[0, 1, 3, 3, 3, 3, 3, any]);
+    let mut lent = Lengths {
+        hits: k.min(1024) as usize,
         documents: m,
-        scores: if m < ROOM && length(1) == 0 { m + 1 } else { m },
-        answer: length(3),
+        scores: m,
+        answer: 3,
+        ..*needed
+    };
+    let wrong = random.pick(&[0, 0, 0, 0, 0, 0, 0, 1, 1, 3]);
+    for _ in 0..wrong {
+        let length = match random.below(8) {
+            0 => &mut lent.states,
+            1 => &mut lent.starts,
+            2 => &mut lent.other_starts,
+            3 => &mut lent.ranges,
+            4 => &mut lent.hits,
+            5 => &mut lent.documents,
+            6 => &mut lent.scores,
+            _ => &mut lent.answer,
+        };
+        *length = wrong_length(random, *length);
+    }
+    within_room(lent)
+}
+
+/// Too short, mostly by one; or one too long.
+fn wrong_length(random: &mut Random, length: usize) -> usize {
+    match random.below(8) {
+        0 => random.below(length.min(ROOM) as u32 + 1) as usize,
+        1 => 0,
+        2 | 3 => length + 1,
+        _ => length.saturating_sub(1),
+    }
+}
+
+fn within_room(lent: Lengths) -> Lengths {
+    Lengths {
+        states: lent.states.min(ROOM),
+        starts: lent.starts.min(ROOM),
+        other_starts: lent.other_starts.min(ROOM),
+        ranges: lent.ranges.min(ROOM),
+        ..lent
     }
 }
 
 /// Lists for Pick: ascending documents with scores, often spoiled.
-pub fn lists(random: &mut Random) -> (Vec<u32>, Vec<u32>) {
+pub fn lists(random: &mut Random) -> Lists {
     let length = random.pick(&[0, 1, 2, 5, 30, 300, 3000]);
     let mut documents: Vec<_> = (0..length).map(|_| random.below(2_147_483_647)).collect();
     documents.sort_unstable();
@@ -180,5 +212,12 @@ pub fn lists(random: &mut Random) -> (Vec<u32>, Vec<u32>) {
     if random.once_in(4) {
         change(random, &mut scores);
     }
-    (documents, scores)
+    let k = random.pick(&[0, 1, 2, 2, 10, 10, 100, 1024, 1025, u32::MAX]);
+    let t = random.pick(&[0, 1, 5, documents.len() as u32, u32::MAX]);
+    Lists {
+        documents,
+        scores,
+        k,
+        t,
+    }
 }

@@ -1,0 +1,74 @@
+//! The checks of the fuzz run catch each wrong library: with the Rust all, by the laws alone all but
+//! one that hangs together.
+#![cfg_attr(not(oracle), allow(unused))]
+#[macro_use]
+mod common;
+
+use common::Seed;
+#[cfg(oracle)]
+use harness::double::{Double, WRONG, Wrong};
+use harness::fuzz::input::Inputs;
+use harness::fuzz::{Against, Fuzz, Plain};
+use std::panic::{AssertUnwindSafe, catch_unwind};
+
+#[cfg(oracle)]
+const BOTH: [Against; 2] = [Against::Rust, Against::LawsAlone];
+
+/// What hangs together and is wrong: no law sees it.
+#[cfg(oracle)]
+const UNSEEN: Wrong = Wrong::ScoresUp;
+
+#[cfg(oracle)]
+fn fuzz<'a>(
+    double: &'a Double,
+    inputs: &'a Inputs,
+    against: Against,
+    lend: &'a mut Plain,
+) -> Fuzz<'a> {
+    Fuzz {
+        entries: double,
+        inputs,
+        against,
+        lend,
+    }
+}
+
+#[test]
+#[cfg_attr(not(oracle), ignore = "the Rust source is absent")]
+fn the_double_passes() {
+    with_oracle!({
+        let inputs = Inputs::new();
+        for against in BOTH {
+            let mut accepted = [0; 3];
+            for seed in 0..1500 {
+                let _seed = Seed(seed);
+                let made = fuzz(&Double(Wrong::Nothing), &inputs, against, &mut Plain).call(seed);
+                accepted[made.entry] += u32::from(made.number == 0);
+            }
+            println!("{against:?}: {accepted:?} accepted");
+            assert!(accepted.iter().all(|number| *number > 50));
+        }
+    });
+}
+
+#[test]
+#[cfg_attr(not(oracle), ignore = "the Rust source is absent")]
+fn wrong_libraries_are_caught() {
+    with_oracle!({
+        let inputs = Inputs::new();
+        for wrong in WRONG {
+            for against in BOTH {
+                let double = Double(wrong);
+                let caught = |seed: &u64| {
+                    let run = || fuzz(&double, &inputs, against, &mut Plain).call(*seed);
+                    catch_unwind(AssertUnwindSafe(run)).is_err()
+                };
+                let unseen = wrong == UNSEEN && against == Against::LawsAlone;
+                let end = if unseen { 300 } else { 6000 };
+                let first = (0..end).find(caught);
+                println!("{wrong:?} is caught at {first:?}, {against:?}");
+                assert_eq!(first.is_none(), unseen, "{wrong:?} {against:?}");
+            }
+        }
+    });
+}
