@@ -13,14 +13,14 @@ use Rattle.searcher.specs.declared.search.Searched.the-variants as Searched
 use Rattle.order_check.specs.Lends.{work}
 use Rattle.searcher.specs.Answers.{searchedNumbers}
 use Rattle.node_state.specs.declared.NodeState.{NodeState}
-use Rattle.node_state.specs.Records.{recordWords, held}
+use Rattle.node_state.specs.Records.{recordWords, heldWords}
 use Rattle.node_search.specs.Searches.{Searches, Copied, refusalOf, used}
 
 -- as many records as there are, and no more words than there are
-pub held-there : (nodes words : ℕ) → held nodes words ≤ nodes
+pub held-there : (nodes words : ℕ) → heldWords nodes words ≤ nodes
 held-there nodes words = omega arith
 
-pub held-enough : (nodes words : ℕ) → 24 * held nodes words ≤ words
+pub held-enough : (nodes words : ℕ) → 24 * heldWords nodes words ≤ words
 held-enough nodes words = omega arith
 
 pub fewer-words : {i n words : ℕ} → i ≤ n → 24 * n ≤ words → 24 * i ≤ words

@@ -3,7 +3,7 @@ ghost use mathlib.Core.Path.{_≡_};
 ghost use Prim.Native.Nat.{_≤_, _*_};
 ghost use lib.ListN.{length};
 ghost use Rattle.index.specs.Slices.{lent};
-ghost use Rattle.node_state.specs.Records.{held};
+ghost use Rattle.node_state.specs.Records.{heldWords};
 ghost use Rattle.node_search.specs.Searches.{Searches, Copied, refusalOf, used};
 use node_state::NodeState;
 use searcher::search::Searched;
@@ -85,10 +85,10 @@ pub fn search_nodes(
     ranges: &mut [u32],
     hits: &mut [i64],
 ) -> Searched
-    ensures { λ r. ⌜ Searches (lent «max_doc» (now (fields .entry)) (now (leaves .entry)) (now (postings .entry)) (now (positions .entry)) (now (norms .entry)) (now (live .entry)) (now (columns .entry)) (now (values .entry))) (now (q .entry)) k t (held (length (now (nodes .entry))) (length (now (words .entry)))) (now (words .entry)) (now (words .exit)) (now (a .entry)) (now (a .exit)) (now (b .entry)) (now (b .exit)) (now (ranges .entry)) (now (ranges .exit)) (now (hits .entry)) (now (hits .exit)) r
-        × Copied (refusalOf (lent «max_doc» (now (fields .entry)) (now (leaves .entry)) (now (postings .entry)) (now (positions .entry)) (now (norms .entry)) (now (live .entry)) (now (columns .entry)) (now (values .entry))) (now (q .entry)) k (held (length (now (nodes .entry))) (length (now (words .entry)))) (now (a .entry)) (now (b .entry)) (now (ranges .entry)) (now (hits .entry))) (held (length (now (nodes .entry))) (length (now (words .entry)))) (now (nodes .entry)) (now (nodes .exit)) (now (words .exit)) ⌝ }
+    ensures { λ r. ⌜ Searches (lent «max_doc» (now (fields .entry)) (now (leaves .entry)) (now (postings .entry)) (now (positions .entry)) (now (norms .entry)) (now (live .entry)) (now (columns .entry)) (now (values .entry))) (now (q .entry)) k t (heldWords (length (now (nodes .entry))) (length (now (words .entry)))) (now (words .entry)) (now (words .exit)) (now (a .entry)) (now (a .exit)) (now (b .entry)) (now (b .exit)) (now (ranges .entry)) (now (ranges .exit)) (now (hits .entry)) (now (hits .exit)) r
+        × Copied (refusalOf (lent «max_doc» (now (fields .entry)) (now (leaves .entry)) (now (postings .entry)) (now (positions .entry)) (now (norms .entry)) (now (live .entry)) (now (columns .entry)) (now (values .entry))) (now (q .entry)) k (heldWords (length (now (nodes .entry))) (length (now (words .entry)))) (now (a .entry)) (now (b .entry)) (now (ranges .entry)) (now (hits .entry))) (heldWords (length (now (nodes .entry))) (length (now (words .entry)))) (now (nodes .entry)) (now (nodes .exit)) (now (words .exit)) ⌝ }
 {
-    let n = node_state::held(nodes.len(), words.len());
+    let n = node_state::held_words(nodes.len(), words.len());
     let r = search_words(
         max_doc,
         fields,

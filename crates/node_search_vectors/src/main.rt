@@ -7,7 +7,7 @@ ghost use Rattle.meaning.specs.Entries.{searchAnswer, searchHits};
 ghost use Rattle.index.specs.Slices.{lent};
 ghost use Rattle.order_check.specs.Lends.{work};
 ghost use Rattle.searcher.specs.Answers.{searchedNumbers};
-ghost use Rattle.node_state.specs.Records.{held};
+ghost use Rattle.node_state.specs.Records.{heldWords};
 use node_state::NodeState;
 use searcher::search::Searched;
 
@@ -187,8 +187,8 @@ fn search_lent(
     ranges: &mut [u32],
     hits: &mut [i64],
 ) -> Searched
-    ensures { λ r. ⌜ (searchedNumbers r ≡ searchAnswer (lent «max_doc» (now (fields .entry)) (now (leaves .entry)) (now (postings .entry)) (now (positions .entry)) (now (norms .entry)) (now (live .entry)) (now (columns .entry)) (now (values .entry))) (now (q .entry)) k t (work (24 * held 8 (length (now (words .entry)))) (length (now (a .entry))) (length (now (b .entry))) (length (now (ranges .entry)))) (length (now (hits .entry))))
-        × (now (hits .exit) ≡ searchHits (lent «max_doc» (now (fields .entry)) (now (leaves .entry)) (now (postings .entry)) (now (positions .entry)) (now (norms .entry)) (now (live .entry)) (now (columns .entry)) (now (values .entry))) (now (q .entry)) k (work (24 * held 8 (length (now (words .entry)))) (length (now (a .entry))) (length (now (b .entry))) (length (now (ranges .entry)))) (now (hits .entry))) ⌝ }
+    ensures { λ r. ⌜ (searchedNumbers r ≡ searchAnswer (lent «max_doc» (now (fields .entry)) (now (leaves .entry)) (now (postings .entry)) (now (positions .entry)) (now (norms .entry)) (now (live .entry)) (now (columns .entry)) (now (values .entry))) (now (q .entry)) k t (work (24 * heldWords 8 (length (now (words .entry)))) (length (now (a .entry))) (length (now (b .entry))) (length (now (ranges .entry)))) (length (now (hits .entry))))
+        × (now (hits .exit) ≡ searchHits (lent «max_doc» (now (fields .entry)) (now (leaves .entry)) (now (postings .entry)) (now (positions .entry)) (now (norms .entry)) (now (live .entry)) (now (columns .entry)) (now (values .entry))) (now (q .entry)) k (work (24 * heldWords 8 (length (now (words .entry)))) (length (now (a .entry))) (length (now (b .entry))) (length (now (ranges .entry)))) (now (hits .entry))) ⌝ }
 {
     let mut nodes = records;
     let r = node_search::search_nodes(

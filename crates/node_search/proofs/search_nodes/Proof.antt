@@ -42,16 +42,16 @@ use Rattle.searcher.specs.declared.search.Searched.{Searched}
 use Rattle.searcher.proofs.search.Searched as Sd
 use Rattle.searcher.proofs.search.Searched.Laws as Sd′
 use Rattle.node_state.specs.declared.NodeState.{NodeState}
-use Rattle.node_state.proofs.held as hh
-use Rattle.node_state.proofs.held.Symbol as h-def
-use Rattle.node_state.proofs.held.Symbol.{name as #h}
-use Rattle.node_state.proofs.held.Met as h-thm
+use Rattle.node_state.proofs.held_words as hh
+use Rattle.node_state.proofs.held_words.Symbol as h-def
+use Rattle.node_state.proofs.held_words.Symbol.{name as #h}
+use Rattle.node_state.proofs.held_words.Met as h-thm
 use Rattle.node_state.proofs.pack as bb
 use Rattle.node_state.proofs.pack.Symbol as b-def
 use Rattle.node_state.proofs.pack.Symbol.{name as #b}
 use Rattle.node_state.proofs.pack.Met as b-thm
-use Rattle.node_search.proofs.Again.{LentAgain, lends-again, comes-back}
-use Rattle.node_search.proofs.Reshare.{Kept, reshares, reshared-back}
+use Rattle.node_state.proofs.Again.{LentAgain, lends-again, comes-back}
+use Rattle.node_state.proofs.Reshare.{Kept, reshares, reshared-back}
 use Rattle.node_search.specs.Searches.{used}
 use Rattle.node_search.proofs.Words.{used-least}
 use Rattle.node_search.proofs.used as uu
@@ -253,7 +253,7 @@ search-nodes-spec 𝓤 H 𝓜 𝓖 𝓡 =
     entered 𝓤 H (tripleOf 𝓤 H (𝓖 .A) f.signature (f.spec 𝓤 H (𝓖 .A) (𝓜 .mem) (𝓡 .run)))
     (tables 𝓤 H 𝓜 𝓡 code.env .C) (tables 𝓤 H 𝓜 𝓡 code.env .Λ) #f code.function (code.unfolded 𝓤 H 𝓜 𝓡)
     (search-nodes-meets 𝓤 H (𝓖 .A) (givenOf 𝓤 H 𝓜 𝓖) (𝓜 .mem) (𝓡 .run) (tablesOf 𝓤 H 𝓜 (tables 𝓤 H 𝓜 𝓡 code.env))
-    (cited 𝓤 H (Hd 𝓤 H (𝓖 .A) (𝓜 .mem) (𝓡 .run)) 𝓜 𝓡 code.env #h h-def.routine code.calls-node-state·held (h-thm.met 𝓤 H 𝓜 𝓖 𝓡))
+    (cited 𝓤 H (Hd 𝓤 H (𝓖 .A) (𝓜 .mem) (𝓡 .run)) 𝓜 𝓡 code.env #h h-def.routine code.calls-node-state·held-words (h-thm.met 𝓤 H 𝓜 𝓖 𝓡))
     (cited 𝓤 H (U 𝓤 H (𝓖 .A) (𝓜 .mem) (𝓡 .run)) 𝓜 𝓡 code.env #u u-def.routine code.calls-node-search·used (u-thm.met 𝓤 H 𝓜 𝓖 𝓡))
     (cited 𝓤 H (Kk 𝓤 H (𝓖 .A) (𝓜 .mem) (𝓡 .run)) 𝓜 𝓡 code.env #k k-def.routine code.calls-node-search·search-words (k-thm.met 𝓤 H 𝓜 𝓖 𝓡))
     (cited 𝓤 H (B 𝓤 H (𝓖 .A) (𝓜 .mem) (𝓡 .run)) 𝓜 𝓡 code.env #b b-def.routine code.calls-node-state·pack (b-thm.met 𝓤 H 𝓜 𝓖 𝓡)))

@@ -53,7 +53,7 @@ use Rattle.node_search_vectors.proofs.print_records as pp
 use Rattle.node_search_vectors.proofs.print_records.Symbol as p-def
 use Rattle.node_search_vectors.proofs.print_records.Symbol.{name as #p}
 use Rattle.node_search_vectors.proofs.print_records.Met as p-thm
-use Rattle.node_search_vectors.proofs.Arrays.{array-in, array-back}
+use Rattle.node_state.proofs.Arrays.{array-in, array-back}
 use Rattle.node_search_vectors.proofs.search_lent.Key.{name as #f}
 use Rattle.node_search_vectors.proofs.search_lent as f
 use Rattle.node_search_vectors.proofs.search_lent.Statement as stated

@@ -24,7 +24,7 @@ use denote.Triple.Clauses.{ensured, lasts}
 use Rattle.searcher.specs.declared.search.Searched.{Searched}
 use Rattle.searcher.proofs.search.Searched as Sd
 use Rattle.searcher.proofs.search.Searched.Laws as Sd′
-use Rattle.node_state.proofs.held as hh
+use Rattle.node_state.proofs.held_words as hh
 use Rattle.node_search.specs.Searches.{used}
 use Rattle.node_search.proofs.used as uu
 use Rattle.node_search.proofs.search_nodes.Proof.Lent.{RS, Call, m, n}

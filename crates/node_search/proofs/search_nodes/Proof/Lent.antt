@@ -16,7 +16,7 @@ use Rattle.index.specs.Slices.{lent}
 use Rattle.searcher.specs.declared.search.Searched.{Searched}
 use Rattle.searcher.proofs.search.Searched as Sd
 use Rattle.node_state.specs.declared.NodeState.{NodeState}
-use Rattle.node_state.specs.Records.{held}
+use Rattle.node_state.specs.Records.{heldWords}
 use Rattle.node_state.proofs.NodeState as T
 use Rattle.node_search.specs.Searches.{Searches, Copied, refusalOf}
 use Rattle.node_search.proofs.Words.{held-there, held-enough}
@@ -111,7 +111,7 @@ module _ (c : Call) where
 
   -- the records that are used
   abbrev pub n : ℕ
-  n = held m (length (c .ws))
+  n = heldWords m (length (c .ws))
 
   pub there : n ≤ m
   there = held-there m (length (c .ws))

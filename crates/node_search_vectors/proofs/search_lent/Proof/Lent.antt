@@ -26,7 +26,7 @@ use Rattle.order_check.specs.Lends.{work}
 use Rattle.searcher.specs.Answers.{searchedNumbers}
 use Rattle.searcher.proofs.search.Searched as Sd
 use Rattle.node_state.specs.declared.NodeState.{NodeState}
-use Rattle.node_state.specs.Records.{held}
+use Rattle.node_state.specs.Records.{heldWords}
 use Rattle.node_state.proofs.NodeState as T
 use Rattle.node_state.proofs.NodeState.Laws as T′
 use Rattle.node_search.specs.Searches.{Searches, Copied, refusalOf}
@@ -232,13 +232,13 @@ module _ (c : Call) where
   -- what `search_nodes` says, and what of it this function says: of m records, and of 8
   abbrev pub Told : Searched → List NodeState → List ℕ → List ℤ → List ℤ → List ℕ → List ℤ → Type 0
   Told r ns₂ y₀ y₁ y₂ y₃ y₄ =
-      Searches (lent (c .md) (c .s₀ .now) (c .s₁ .now) (c .s₂ .now) (c .s₃ .now) (c .s₄ .now) (c .s₅ .now) (c .s₆ .now) (c .s₇ .now)) (c .s₈ .now) (c .k) (c .t) (held (length (c .ns)) (length (c .x₀ .now))) (c .x₀ .now) y₀ (c .x₁ .now) y₁ (c .x₂ .now) y₂ (c .x₃ .now) y₃ (c .x₄ .now) y₄ r
-      × Copied (refusalOf (lent (c .md) (c .s₀ .now) (c .s₁ .now) (c .s₂ .now) (c .s₃ .now) (c .s₄ .now) (c .s₅ .now) (c .s₆ .now) (c .s₇ .now)) (c .s₈ .now) (c .k) (held (length (c .ns)) (length (c .x₀ .now))) (c .x₁ .now) (c .x₂ .now) (c .x₃ .now) (c .x₄ .now)) (held (length (c .ns)) (length (c .x₀ .now))) (c .ns) ns₂ y₀
+      Searches (lent (c .md) (c .s₀ .now) (c .s₁ .now) (c .s₂ .now) (c .s₃ .now) (c .s₄ .now) (c .s₅ .now) (c .s₆ .now) (c .s₇ .now)) (c .s₈ .now) (c .k) (c .t) (heldWords (length (c .ns)) (length (c .x₀ .now))) (c .x₀ .now) y₀ (c .x₁ .now) y₁ (c .x₂ .now) y₂ (c .x₃ .now) y₃ (c .x₄ .now) y₄ r
+      × Copied (refusalOf (lent (c .md) (c .s₀ .now) (c .s₁ .now) (c .s₂ .now) (c .s₃ .now) (c .s₄ .now) (c .s₅ .now) (c .s₆ .now) (c .s₇ .now)) (c .s₈ .now) (c .k) (heldWords (length (c .ns)) (length (c .x₀ .now))) (c .x₁ .now) (c .x₂ .now) (c .x₃ .now) (c .x₄ .now)) (heldWords (length (c .ns)) (length (c .x₀ .now))) (c .ns) ns₂ y₀
 
   abbrev pub ClaimOf : ℕ → Searched → List ℤ → Type 0
   ClaimOf m r y₄ =
-      (searchedNumbers r ≡ searchAnswer (lent (c .md) (c .s₀ .now) (c .s₁ .now) (c .s₂ .now) (c .s₃ .now) (c .s₄ .now) (c .s₅ .now) (c .s₆ .now) (c .s₇ .now)) (c .s₈ .now) (c .k) (c .t) (work (24 * held m (length (c .x₀ .now))) (length (c .x₁ .now)) (length (c .x₂ .now)) (length (c .x₃ .now))) (length (c .x₄ .now)))
-      × (y₄ ≡ searchHits (lent (c .md) (c .s₀ .now) (c .s₁ .now) (c .s₂ .now) (c .s₃ .now) (c .s₄ .now) (c .s₅ .now) (c .s₆ .now) (c .s₇ .now)) (c .s₈ .now) (c .k) (work (24 * held m (length (c .x₀ .now))) (length (c .x₁ .now)) (length (c .x₂ .now)) (length (c .x₃ .now))) (c .x₄ .now))
+      (searchedNumbers r ≡ searchAnswer (lent (c .md) (c .s₀ .now) (c .s₁ .now) (c .s₂ .now) (c .s₃ .now) (c .s₄ .now) (c .s₅ .now) (c .s₆ .now) (c .s₇ .now)) (c .s₈ .now) (c .k) (c .t) (work (24 * heldWords m (length (c .x₀ .now))) (length (c .x₁ .now)) (length (c .x₂ .now)) (length (c .x₃ .now))) (length (c .x₄ .now)))
+      × (y₄ ≡ searchHits (lent (c .md) (c .s₀ .now) (c .s₁ .now) (c .s₂ .now) (c .s₃ .now) (c .s₄ .now) (c .s₅ .now) (c .s₆ .now) (c .s₇ .now)) (c .s₈ .now) (c .k) (work (24 * heldWords m (length (c .x₀ .now))) (length (c .x₁ .now)) (length (c .x₂ .now)) (length (c .x₃ .now))) (c .x₄ .now))
 
   abbrev pub Claim : Searched → List ℤ → Type 0
   Claim r y₄ = ClaimOf 8 r y₄
