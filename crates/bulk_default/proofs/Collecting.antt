@@ -31,7 +31,7 @@ use Rattle.leaf_score.specs.Asked.{LentAt, ScoreIs, ScorePre, ScorePost}
 use Rattle.walk.specs.Walks.{liveMatch, scored, liveScored, NextPre, NextPost, PageHeld}
 use Rattle.score.proofs.Loops.{scorable-at}
 use Rattle.walk.proofs.Pages.{match-is, walk-end, walk-next}
-use Rattle.bulk_default.specs.Collects.{CollectPre, CollectPost}
+use Rattle.bulk_default.specs.Collects.{CollectPre, CollectPost, CollectEnd}
 
 -- every document is at or after 0
 pub from-zero : (list : List ScoreDoc) → fromTarget 0 list ≡ list
@@ -117,6 +117,10 @@ module _ (K : Call) where
           let e : i .xs ≡ liveScored ix s = sym (i .all ∙ ap (λ (l : List ScoreDoc). i .xs ++ l) none ∙ append-nil (i .xs)) in
           let q = d .drawn (length (K .start)) (K .t) from (i .xs) (K .start) (i .collected) in
           (q .0 ∙ ap (answer (length (K .start)) (K .t)) e, q .1 ∙ ap (λ (l : List ScoreDoc). written (hits (length (K .start)) l) (K .start)) e)
+
+      -- and the words stand there
+      pub gather-stands : next ≡ noMoreDocs → CollectEnd E (K .norms) (K .live) (K .table) (K .places) (K .st) (K .depth) st′
+      gather-stands m ix s scores H = subst (λ (d : ℕ). Ok ix (K .ranges) s (K .depth) scores st′ d) m (found ix s scores H .1)
 
       module _ (m : next ≡ noMoreDocs → ⊥) where
         pub gather-below : next < noMoreDocs

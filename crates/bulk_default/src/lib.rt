@@ -4,7 +4,7 @@ ghost use Prim.Native.Nat.{ℕ, _≤_, _<_, min};
 ghost use lib.ListN.{length};
 ghost use Rattle.meaning.specs.Limits.{maxHits};
 ghost use Rattle.scorer.specs.Contracts.{lent};
-ghost use Rattle.bulk_default.specs.Collects.{CollectPre, CollectPost};
+ghost use Rattle.bulk_default.specs.Collects.{CollectPre, CollectPost, CollectEnd};
 use collector::TopDocs;
 use collector::TopScoreDocCollector;
 use walk::NO_MORE_DOCS;
@@ -29,6 +29,7 @@ pub fn collect_matches(
     requires { ⌜ (0 < length (now heap)) × (length (now heap) ≤ maxHits) ⌝ }
     requires { ⌜ CollectPre (lent «max_doc» (now postings) (now positions) (now ranges)) (now norms) (now live) (now inverses) (min (length (now a)) (length (now b))) (now st) depth ⌝ }
     ensures { λ r. ⌜ CollectPost (lent «max_doc» (now (postings .entry)) (now (positions .entry)) (now (ranges .entry))) (now (norms .entry)) (now (live .entry)) (now (inverses .entry)) (min (length (now (a .entry))) (length (now (b .entry)))) (now (st .entry)) depth t (now (heap .entry)) r (now (heap .exit)) ⌝ }
+    ensures { λ r. ⌜ CollectEnd (lent «max_doc» (now (postings .entry)) (now (positions .entry)) (now (ranges .entry))) (now (norms .entry)) (now (live .entry)) (now (inverses .entry)) (min (length (now (a .entry))) (length (now (b .entry)))) (now (st .entry)) depth (now (st .exit)) ⌝ }
 {
     let mut c = TopScoreDocCollector::new(t as u64);
     let mut from = 0;

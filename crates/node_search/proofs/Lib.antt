@@ -1,4 +1,4 @@
--- The plain mathematics of this crate's proofs, and a slice that is lent again or lent as a shared one.
+-- The plain mathematics of this crate's proofs, and what is generic of its walk: a local array that is lent as a shared slice, and a long constant.
 pub mod Words
-pub mod Again
-pub mod Reshare
+pub mod Shares
+pub mod Literals

@@ -1,15 +1,16 @@
-// Search with node states as words and as records, side by side, on document 01's whole case: both answers, whether they agree, and what a refused call left in the lent words and records.
+// Search with node states as words and as records, side by side, on document 01's whole case: both answers, whether they agree, and what a refused call left in the lent records.
 // crates/node_search_vectors/stdout is written from the document's text: a hit is its code.
 ghost use mathlib.Core.Path.{_≡_};
 ghost use Prim.Native.Nat.{_*_};
 ghost use lib.ListN.{length};
+ghost use Rattle.meaning.specs.Limits.{nodeStateWords};
 ghost use Rattle.meaning.specs.Entries.{searchAnswer, searchHits};
 ghost use Rattle.index.specs.Slices.{lent};
 ghost use Rattle.order_check.specs.Lends.{work};
 ghost use Rattle.searcher.specs.Answers.{searchedNumbers};
-ghost use Rattle.node_state.specs.Records.{held};
 use node_state::NodeState;
 use searcher::search::Searched;
+use weight::NODE_STATE_WORDS;
 
 // One field; leaf 0 in the documents 0, 2 and 3, leaf 1 in 2.
 const FIELDS: [u32; 3] = [0x3f80_0000, 0, 0];
@@ -20,6 +21,91 @@ const POSTINGS: [u32; 12] = [0, 1, 0, 2, 1, 0, 3, 1, 0, 2, 1, 0];
 
 // Boolean of Must ConstantScore(leaf 0) and Should Boost 2 of ConstantScore(leaf 1).
 const QUERY: [u32; 54] = [
+    3,
+    0,
+    2,
+    0,
+    0,
+    0,
+    0,
+    0,
+    0,
+    6,
+    1,
+    1,
+    0,
+    0,
+    0,
+    0,
+    0,
+    0,
+    1,
+    0,
+    0,
+    0,
+    0,
+    0,
+    0,
+    0,
+    0,
+    7,
+    2,
+    1,
+    0x4000_0000,
+    0,
+    0,
+    0,
+    0,
+    0,
+    6,
+    0,
+    1,
+    0,
+    0,
+    0,
+    0,
+    0,
+    0,
+    1,
+    0,
+    0,
+    1,
+    0,
+    0,
+    0,
+    0,
+    0,
+];
+
+// The same below three Boosts of 1: nine records, where there are eight states.
+const LONGER: [u32; 81] = [
+    7,
+    0,
+    1,
+    0x3f80_0000,
+    0,
+    0,
+    0,
+    0,
+    0,
+    7,
+    0,
+    1,
+    0x3f80_0000,
+    0,
+    0,
+    0,
+    0,
+    0,
+    7,
+    0,
+    1,
+    0x3f80_0000,
+    0,
+    0,
+    0,
+    0,
+    0,
     3,
     0,
     2,
@@ -181,14 +267,13 @@ fn search_lent(
     k: u32,
     t: u32,
     records: [NodeState; 8],
-    words: &mut [u32],
     a: &mut [i32],
     b: &mut [i32],
     ranges: &mut [u32],
     hits: &mut [i64],
 ) -> Searched
-    ensures { λ r. ⌜ (searchedNumbers r ≡ searchAnswer (lent «max_doc» (now (fields .entry)) (now (leaves .entry)) (now (postings .entry)) (now (positions .entry)) (now (norms .entry)) (now (live .entry)) (now (columns .entry)) (now (values .entry))) (now (q .entry)) k t (work (24 * held 8 (length (now (words .entry)))) (length (now (a .entry))) (length (now (b .entry))) (length (now (ranges .entry)))) (length (now (hits .entry))))
-        × (now (hits .exit) ≡ searchHits (lent «max_doc» (now (fields .entry)) (now (leaves .entry)) (now (postings .entry)) (now (positions .entry)) (now (norms .entry)) (now (live .entry)) (now (columns .entry)) (now (values .entry))) (now (q .entry)) k (work (24 * held 8 (length (now (words .entry)))) (length (now (a .entry))) (length (now (b .entry))) (length (now (ranges .entry)))) (now (hits .entry))) ⌝ }
+    ensures { λ r. ⌜ (searchedNumbers r ≡ searchAnswer (lent «max_doc» (now (fields .entry)) (now (leaves .entry)) (now (postings .entry)) (now (positions .entry)) (now (norms .entry)) (now (live .entry)) (now (columns .entry)) (now (values .entry))) (now (q .entry)) k t (work (nodeStateWords * 8) (length (now (a .entry))) (length (now (b .entry))) (length (now (ranges .entry)))) (length (now (hits .entry))))
+        × (now (hits .exit) ≡ searchHits (lent «max_doc» (now (fields .entry)) (now (leaves .entry)) (now (postings .entry)) (now (positions .entry)) (now (norms .entry)) (now (live .entry)) (now (columns .entry)) (now (values .entry))) (now (q .entry)) k (work (nodeStateWords * 8) (length (now (a .entry))) (length (now (b .entry))) (length (now (ranges .entry)))) (now (hits .entry))) ⌝ }
 {
     let mut nodes = records;
     let r = node_search::search_nodes(
@@ -205,7 +290,6 @@ fn search_lent(
         k,
         t,
         &mut nodes,
-        words,
         a,
         b,
         ranges,
@@ -267,37 +351,12 @@ fn print_same(numbers: bool, codes: bool) {
     io::write_all(1, b"different\n");
 }
 
-// Whether all words still hold the rubbish that they were lent with.
-fn untouched(words: &[u32]) -> bool {
-    let mut i = 0;
-    while i < words.len() {
-        if words[i] != IN_WORDS {
-            return false;
-        }
-        i += 1;
-    }
-    true
-}
-
-// A refused call leaves the lent words as they were.
-fn print_room(s: Searched, words: &[u32]) {
-    match s {
-        Searched::Refused(_) => {
-            if untouched(words) {
-                io::write_all(1, b"room as it was\n");
-            } else {
-                io::write_all(1, b"room changed\n");
-            }
-        }
-        Searched::Found(_) => {}
-    }
-}
-
-// The whole case with k hits wanted and threshold t.
-fn with_words(k: u32, t: u32, states: &mut [u32], hits: &mut [i64]) -> Searched {
+// An order over the index with k hits wanted and threshold t.
+fn with_words(q: &[u32], k: u32, t: u32, hits: &mut [i64]) -> Searched {
     let no_words = [0u32; 0];
     let no_bytes = [0u8; 0];
     let no_live = [0u64; 0];
+    let mut states = [IN_WORDS; 8 * NODE_STATE_WORDS];
     let mut starts = [0i32; 0];
     let mut other_starts = [0i32; 0];
     let mut ranges = [0u32; 0];
@@ -311,10 +370,10 @@ fn with_words(k: u32, t: u32, states: &mut [u32], hits: &mut [i64]) -> Searched 
         &no_live,
         &no_words,
         &no_words,
-        &QUERY,
+        q,
         k,
         t,
-        states,
+        &mut states,
         &mut starts,
         &mut other_starts,
         &mut ranges,
@@ -322,7 +381,7 @@ fn with_words(k: u32, t: u32, states: &mut [u32], hits: &mut [i64]) -> Searched 
     )
 }
 
-fn with_records(k: u32, t: u32, words: &mut [u32], hits: &mut [i64]) -> Searched {
+fn with_records(q: &[u32], k: u32, t: u32, hits: &mut [i64]) -> Searched {
     let no_words = [0u32; 0];
     let no_bytes = [0u8; 0];
     let no_live = [0u64; 0];
@@ -339,11 +398,10 @@ fn with_records(k: u32, t: u32, words: &mut [u32], hits: &mut [i64]) -> Searched
         &no_live,
         &no_words,
         &no_words,
-        &QUERY,
+        q,
         k,
         t,
         [rubbish(); 8],
-        words,
         &mut starts,
         &mut other_starts,
         &mut ranges,
@@ -351,37 +409,20 @@ fn with_records(k: u32, t: u32, words: &mut [u32], hits: &mut [i64]) -> Searched
     )
 }
 
-// Words for eight states, where six are needed.
-fn compare(k: u32, t: u32) {
-    let mut states = [IN_WORDS; 192];
-    let mut words = [IN_WORDS; 192];
+// Eight states, as words and as records.
+fn compare(q: &[u32], k: u32, t: u32) {
     let mut hits = [-1i64; 3];
     let mut more = [-1i64; 3];
-    let x = with_words(k, t, &mut states, &mut hits);
-    let y = with_records(k, t, &mut words, &mut more);
+    let x = with_words(q, k, t, &mut hits);
+    let y = with_records(q, k, t, &mut more);
     print_answer(x, &hits);
     print_answer(y, &more);
     print_same(same_numbers(numbers(x), numbers(y)), same_codes(hits, more));
-    print_room(y, &words);
-}
-
-// Words for five.
-fn compare_short(k: u32, t: u32) {
-    let mut states = [IN_WORDS; 120];
-    let mut words = [IN_WORDS; 120];
-    let mut hits = [-1i64; 3];
-    let mut more = [-1i64; 3];
-    let x = with_words(k, t, &mut states, &mut hits);
-    let y = with_records(k, t, &mut words, &mut more);
-    print_answer(x, &hits);
-    print_answer(y, &more);
-    print_same(same_numbers(numbers(x), numbers(y)), same_codes(hits, more));
-    print_room(y, &words);
 }
 
 fn main() {
-    compare(2, 10);
-    compare(2, 1);
-    compare(0, 10);
-    compare_short(2, 10);
+    compare(&QUERY, 2, 10);
+    compare(&QUERY, 2, 1);
+    compare(&QUERY, 0, 10);
+    compare(&LONGER, 2, 10);
 }

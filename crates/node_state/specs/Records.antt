@@ -2,6 +2,7 @@
 use mathlib.Core.List.{List, [], _∷_, _++_}
 use Prim.Native.Nat.{ℕ, min, _/_}
 use lib.ListN.{getD}
+use Rattle.meaning.specs.Limits.{nodeStateWords, maxRecords}
 use Rattle.weight.specs.State.{State, wordsOf}
 use Rattle.node_state.specs.declared.NodeState.{NodeState}
 
@@ -20,6 +21,10 @@ abbrev pub nodeFrom : List ℕ → NodeState
 nodeFrom w =
     record { kind = getD w 0 0; size = getD w 1 0; cached = getD w 2 0; need = getD w 3 0; «required_end» = getD w 4 0; «optional_end» = getD w 5 0; first = getD w 6 0; number = getD w 7 0; cursor = getD w 8 0; offset = getD w 9 0; field = getD w 10 0; constant = getD w 11 0; weight = getD w 12 0; afterwards = getD w 13 0; «group_at» = getD w 14 0; scores = getD w 15 0; «frequency_of» = getD w 16 0; frequency = getD w 17 0; norms = getD w 18 0; spare1 = getD w 19 0; spare2 = getD w 20 0; spare3 = getD w 21 0; spare4 = getD w 22 0; spare5 = getD w 23 0 }
 
+-- how many of some records a call can need: an order has so many at most
+abbrev pub held : ℕ → ℕ
+held nodes = min nodes maxRecords
+
 -- how many records there are words for
-abbrev pub held : ℕ → ℕ → ℕ
-held nodes words = min nodes (words / 24)
+abbrev pub heldWords : ℕ → ℕ → ℕ
+heldWords nodes words = min nodes (words / nodeStateWords)

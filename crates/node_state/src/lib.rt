@@ -1,8 +1,15 @@
-// Node states as records: the words of `weight`'s layout as named numbers, and records read from lent words.
+// Node states as records: the words of `weight`'s layout as named numbers, and the lent words of records in turn.
 ghost use mathlib.Core.Path.{_≡_};
+ghost use mathlib.Core.List.{_++_};
 ghost use Prim.Native.Nat.{_≤_, _+_, _*_};
 ghost use lib.ListN.{length, take, drop};
-ghost use Rattle.node_state.specs.Records.{recordWords, nodeFrom, held};
+ghost use Rattle.meaning.specs.Limits.{nodeStateWords};
+ghost use Rattle.weight.specs.State.{wordsOf};
+ghost use Rattle.node_state.specs.Records.{stateOf, recordWords, nodeFrom, held, heldWords};
+use weight::NODE_STATE_WORDS;
+
+// The most query records of an order: as `maxRecords` in meaning's Limits.
+const MAX_RECORDS: usize = 256;
 
 // One scorer of the tree, or one term of a phrase.
 pub struct NodeState {
@@ -32,20 +39,67 @@ pub struct NodeState {
     pub spare5: u32,
 }
 
-// How many whole records so many words hold, and at most so many.
-pub fn held(nodes: usize, words: usize) -> usize
-    ensures { λ r. ⌜ r ≡ held nodes words ⌝ }
+// How many of so many records a call can need.
+pub fn held(nodes: usize) -> usize
+    ensures { λ r. ⌜ r ≡ held nodes ⌝ }
 {
-    let whole = words / 24;
+    if nodes < MAX_RECORDS {
+        return nodes;
+    }
+    MAX_RECORDS
+}
+
+// How many whole records so many words hold, and at most so many.
+pub fn held_words(nodes: usize, words: usize) -> usize
+    ensures { λ r. ⌜ r ≡ heldWords nodes words ⌝ }
+{
+    let whole = words / NODE_STATE_WORDS;
     if nodes < whole {
         return nodes;
     }
     whole
 }
 
+// The record at i to its words.
+fn put_node(words: &mut [u32], i: usize, s: NodeState)
+    requires { ⌜ nodeStateWords * i + nodeStateWords ≤ length (now words) ⌝ }
+    ensures { λ _. ⌜ now (words .exit) ≡ take (nodeStateWords * i) (now (words .entry)) ++ (wordsOf (stateOf s) ++ drop (nodeStateWords * i + nodeStateWords) (now (words .entry))) ⌝ }
+{
+    let at = NODE_STATE_WORDS * i;
+    node_words::place::put(
+        &mut words[at..],
+        [
+            s.kind,
+            s.size,
+            s.cached,
+            s.need,
+            s.required_end,
+            s.optional_end,
+            s.first,
+            s.number,
+            s.cursor,
+            s.offset,
+            s.field,
+            s.constant,
+            s.weight,
+            s.afterwards,
+            s.group_at,
+            s.scores,
+            s.frequency_of,
+            s.frequency,
+            s.norms,
+            s.spare1,
+            s.spare2,
+            s.spare3,
+            s.spare4,
+            s.spare5,
+        ],
+    );
+}
+
 // The record of the first words.
 fn first_node(words: &[u32]) -> NodeState
-    requires { ⌜ 24 ≤ length (now words) ⌝ }
+    requires { ⌜ nodeStateWords ≤ length (now words) ⌝ }
     ensures { λ r. ⌜ r ≡ nodeFrom (now (words .entry)) ⌝ }
 {
     NodeState {
@@ -78,17 +132,29 @@ fn first_node(words: &[u32]) -> NodeState
 
 // The record of the words at i.
 fn node_at(words: &[u32], i: usize) -> NodeState
-    requires { ⌜ 24 * i + 24 ≤ length (now words) ⌝ }
-    ensures { λ r. ⌜ r ≡ nodeFrom (drop (24 * i) (now (words .entry))) ⌝ }
+    requires { ⌜ nodeStateWords * i + nodeStateWords ≤ length (now words) ⌝ }
+    ensures { λ r. ⌜ r ≡ nodeFrom (drop (nodeStateWords * i) (now (words .entry))) ⌝ }
 {
-    let at = 24 * i;
+    let at = NODE_STATE_WORDS * i;
     first_node(&words[at..])
+}
+
+// The first n records to the words.
+pub fn unpack(nodes: &[NodeState], n: usize, words: &mut [u32])
+    requires { ⌜ (n ≤ length (now nodes)) × (nodeStateWords * n ≤ length (now words)) ⌝ }
+    ensures { λ _. ⌜ now (words .exit) ≡ recordWords (take n (now (nodes .entry))) ++ drop (nodeStateWords * n) (now (words .entry)) ⌝ }
+{
+    let mut i = 0;
+    while i < n {
+        put_node(words, i, nodes[i]);
+        i += 1;
+    }
 }
 
 // The first n records from the words.
 pub fn pack(words: &[u32], n: usize, nodes: &mut [NodeState])
-    requires { ⌜ (n ≤ length (now nodes)) × (24 * n ≤ length (now words)) ⌝ }
-    ensures { λ _. ⌜ (recordWords (take n (now (nodes .exit))) ≡ take (24 * n) (now (words .entry))) × (drop n (now (nodes .exit)) ≡ drop n (now (nodes .entry))) ⌝ }
+    requires { ⌜ (n ≤ length (now nodes)) × (nodeStateWords * n ≤ length (now words)) ⌝ }
+    ensures { λ _. ⌜ (recordWords (take n (now (nodes .exit))) ≡ take (nodeStateWords * n) (now (words .entry))) × (drop n (now (nodes .exit)) ≡ drop n (now (nodes .entry))) ⌝ }
 {
     let mut i = 0;
     while i < n {

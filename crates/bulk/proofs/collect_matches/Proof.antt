@@ -82,7 +82,7 @@ same-length-12 : tie.Need-same-length-12
 same-length-12 c = search needs
 
 returns-5 : tie.Need-returns-5
-returns-5 c = c .before .before .before .before .before .collect-matches .ensures
+returns-5 c = c .before .before .before .before .before .collect-matches .ensures .0
 
 pub collect-matches-spec : {M : Type 1} → statement M
 collect-matches-spec =

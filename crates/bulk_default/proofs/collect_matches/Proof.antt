@@ -6,7 +6,7 @@ use native.Mathlib.Omega.{arith}
 use lib.ListN.{length}
 use Rattle.meaning.specs.Limits.{noMoreDocs}
 use Rattle.score.proofs.Loops.{places-same}
-use Rattle.bulk_default.proofs.Collecting.{Call, GatheredAt, gather-start, gather-asks, gather-ready, gather-from, gather-done, gather-below, gather-score-asks, gather-clear, gather-more}
+use Rattle.bulk_default.proofs.Collecting.{Call, GatheredAt, gather-start, gather-asks, gather-ready, gather-from, gather-done, gather-stands, gather-below, gather-score-asks, gather-clear, gather-more}
 use Rattle.bulk_default.proofs.collect_matches.Statement.{statement}
 use Rattle.bulk_default.proofs.collect_matches.Tie as tie
 
@@ -70,7 +70,7 @@ returns c =
     let K : Call = record { n = s .args .max-doc; postings = s .args .postings .now; positions = s .args .positions .now; norms = s .args .norms .now; ranges = s .args .ranges .now; live = s .args .live .now; table = s .args .inverses .now; places = min (length (s .args .a .now)) (length (s .args .b .now)); st = s .args .st .now; depth = s .args .depth; t = s .args .t; start = s .args .heap .now } in
     let l = c .before .before .before .before .before .before .before .before .before .before .before .before .loop in
     let f = c .before .before .before .before .before .before .before .before .next-match in
-    gather-done K (s .pre .1) (l .st) (l .c) (l .heap) (l .from) (l .inv .5) (f .result) (f .last .0) (f .ensures) (c .before .before .before .if1 .taken) (c .before .top-docs .result) (c .before .top-docs .last .1 .0) (c .before .top-docs .ensures)
+    (gather-done K (s .pre .1) (l .st) (l .c) (l .heap) (l .from) (l .inv .5) (f .result) (f .last .0) (f .ensures) (c .before .before .before .if1 .taken) (c .before .top-docs .result) (c .before .top-docs .last .1 .0) (c .before .top-docs .ensures), gather-stands K (s .pre .1) (l .st) (l .c) (l .heap) (l .from) (l .inv .5) (f .result) (f .last .0) (f .ensures) (c .before .before .before .if1 .taken))
 
 score-requires : tie.Need-score-requires Inv-loop μ-loop
 score-requires c κs =

@@ -2,6 +2,7 @@
 use mathlib.Core.Path.{_∙_, ap}
 use Prim.Native.Nat.{_*_}
 use borrow.Author.Needs.{needs}
+use Rattle.meaning.specs.Limits.{nodeStateWords}
 use Rattle.node_state.specs.Records.{nodeFrom}
 use Rattle.node_state.proofs.Turns.{whole-part}
 use Rattle.node_state.proofs.node_at.Statement.{statement}
@@ -28,7 +29,7 @@ first-node-requires c κs = search needs
 returns : tie.Need-returns
 returns c =
     let s = c .before .before .before in
-    c .first-node .ensures ∙ ap nodeFrom (whole-part (s .args .words .now) (24 * s .args .i))
+    c .first-node .ensures ∙ ap nodeFrom (whole-part (s .args .words .now) (nodeStateWords * s .args .i))
 
 pub node-at-spec : {M : Type 1} → statement M
 node-at-spec =

@@ -48,6 +48,7 @@ use denote.Triple.Table.{entered, cited}
 use denote.Triple.Walked.{says, needs, Stays, stay-slice, stay-none-slice, stay-none, walkOf, goes-slice, goes-none-slice, goes-none, Walks, ends-at, walked, walk-meets}
 use denote.Exit.{yes}
 use denote.Signature.{plain}
+use Rattle.meaning.specs.Limits.{nodeStateWords}
 use Rattle.node_state.specs.declared.NodeState.{NodeState}
 use Rattle.node_state.specs.Records.{nodeFrom, recordWords}
 use Rattle.node_state.proofs.Turns.{none, takeAll, taken-length, all-taken, rest-stays}
@@ -70,10 +71,10 @@ abbrev stayed : Stays (f.ended .signature .params) (f.ended .kept)
 stayed = (stay-none-slice (0 ∷ []) tt (plain (λ _. u32)) yes, (stay-none (λ _. usize) yes, (stay-slice (1 ∷ []) tt (plain (λ _. R)), tt)))
 
 -- numbers
-offset-fits : {i m : ℕ} → m * 96 < 2 ^ 63 → i < m → i * 96 < 2 ^ 64
+offset-fits : {i m : ℕ} → m * (4 * nodeStateWords) < 2 ^ 63 → i < m → i * (4 * nodeStateWords) < 2 ^ 64
 offset-fits room within = omega (arith, room, within)
 
-words-hold : {i n m : ℕ} → 24 * n ≤ m → i < n → 24 * i + 24 ≤ m
+words-hold : {i n m : ℕ} → nodeStateWords * n ≤ m → i < n → nodeStateWords * i + nodeStateWords ≤ m
 words-hold enough within = omega (arith, enough, within)
 
 -- the contract that the proof cites
@@ -81,7 +82,7 @@ abbrev G : {M : Type 1} (𝓤 : URA M) (H : Heap 𝓤) (A : Atoms 𝓤) (mem : M
 G 𝓤 H A mem run = tripleOf 𝓤 H A g.signature (g.spec 𝓤 H A mem run)
 
 module _ {M : Type 1} (𝓤 : URA M) (H : Heap 𝓤) (A : Atoms 𝓤) (W : Given 𝓤 H A) (mem : Memory → SProp 𝓤) (run : Routine → Fun 𝓤) (κ κ′ : Lft) (q q′ : Share) (ws : RefT (List ℕ)) (n : ℕ) (b o : ℕ) (γ : GName) (ys : List NodeState)
-    (room : Room R (length ys)) (gn : n < 2 ^ 64) (room-w : Room u32 (length (ws .now))) (there : n ≤ length ys) (enough : 24 * n ≤ length (ws .now)) where
+    (room : Room R (length ys)) (gn : n < 2 ^ 64) (room-w : Room u32 (length (ws .now))) (there : n ≤ length ys) (enough : nodeStateWords * n ≤ length (ws .now)) where
   abbrev m : ℕ
   m = length ys
 
@@ -105,7 +106,7 @@ module _ {M : Type 1} (𝓤 : URA M) (H : Heap 𝓤) (A : Atoms 𝓤) (W : Given
 
   -- the record of the words at i, and the records after i turns
   abbrev nodeAt : ℕ → NodeState
-  nodeAt i = nodeFrom (drop-list (24 * i) (ws .now))
+  nodeAt i = nodeFrom (drop-list (nodeStateWords * i) (ws .now))
 
   abbrev Ns : ℕ → List NodeState
   Ns i = takeAll (ws .now) i ys
@@ -114,7 +115,7 @@ module _ {M : Type 1} (𝓤 : URA M) (H : Heap 𝓤) (A : Atoms 𝓤) (W : Given
   Post = walkOf 𝓤 H A f.ended stayed (f.clauses 𝓤 H A mem run) .post (((κ, (κ′, tt)), (q, (q′, tt)), tt, a, vals), tt)
 
   abbrev Packed : List NodeState → Type 0
-  Packed ns = (recordWords (take-list n ns) ≡ take-list (24 * n) (ws .now)) × (drop-list n ns ≡ drop-list n ys)
+  Packed ns = (recordWords (take-list n ns) ≡ take-list (nodeStateWords * n) (ws .now)) × (drop-list n ns ≡ drop-list n ys)
 
   exits : (i : ℕ) → i ≡ n
       → ent 𝓤 (⋆ 𝓤 H A (‵ (fobs γ (codedHoleys R .code (heres R (Ns i)))) ∷ ‵ (fbor κ′ (Held R (length (Ns i)) b o γ)) ∷ ‵ (flft κ′ q′) ∷ (‵ (flft κ q) ⊛ ‵ ftrue) ∷ ‵ (ShrSlice (named 0) κ u32 .own ws (d ∷ [])) ∷ [])) (Post vunit)
@@ -207,7 +208,7 @@ module _ {M : Type 1} (𝓤 : URA M) (H : Heap 𝓤) (A : Atoms 𝓤) (W : Given
           -- [NEW; kq; WS; ROW; OPEN; OBS; AUTH; _8; _7; _6; _5; _4; _3; _2; _1; _0]
           assigns ! (bin ! (load ! (from ! (stop !)) (look ! 15 refl)) (lit ! tt) (record { fits = offset-fits (room .1) inside })) (from ! (stop !)) (init ! 9 refl (tt, record { fits = offset-fits (room .1) inside })) $
           assigns ! (bin ! (load ! (from ! (fld ! refl (stop !))) (look-in ! 17 (sub ! 0 refl (whole !)))) (load ! (from ! (stop !)) (look ! 9 refl)) tt) (from ! (stop !)) (init ! 7 refl (tt, tt)) $
-          rewrite ! 7 (λ (p : ℕ). ‵ (fat fullShare tyPtr l₈ 0 (vptr b p))) (sym (place-is 96 o (i .0))) refl $
+          rewrite ! 7 (λ (p : ℕ). ‵ (fat fullShare tyPtr l₈ 0 (vptr b p))) (sym (place-is (4 * nodeStateWords) o (i .0))) refl $
           move ! (3 ∷ []) $
           elem-out ! R (Is R) (shows 𝓤 H A R) (LL.vals T.the-type T′.the-laws) (LL.tells T.the-type T′.the-laws) fullShare (Ns (i .0)) (i .0) none b o in-row (λ _.
           assigns ! (of-opd ! (load ! (from ! (stop !)) (look ! 13 refl))) (from ! (hop ! (look ! 9 refl) (stop !))) (store-raw ! 0 refl (LL.lawful T.the-type T′.the-laws 𝓤 H A W .typed (nodeAt (i .0)) _ is .0)) $
@@ -263,7 +264,7 @@ module _ {M : Type 1} (𝓤 : URA M) (H : Heap 𝓤) (A : Atoms 𝓤) (W : Given
   pack-walks : Walks 𝓤 H A f.ended stayed (WpFn 𝓤 H (𝓣 .C) (𝓣 .Λ) code.function) (f.clauses 𝓤 H A mem run)
   pack-walks = walked 𝓤 H A f.ended stayed (f.clauses 𝓤 H A mem run) (WpFn 𝓤 H (𝓣 .C) (𝓣 .Λ) code.function)
       (λ κs. (slice-vals, (uint-vals w64, (slice-vals, tt)))) (λ κs. (shr-slice-tells (named 0) (κs .0) u32, (uint-tells w64, (mut-slice-tells (named 1) (κs .1 .0) R, tt))))
-      (λ κs qs bounds a g are. needs 𝓤 ((a .1 .0 ≤ length (a .1 .1 .0 .now)) × (24 * a .1 .0 ≤ length (a .0 .now))) _ (λ hold.
+      (λ κs qs bounds a g are. needs 𝓤 ((a .1 .0 ≤ length (a .1 .1 .0 .now)) × (nodeStateWords * a .1 .0 ≤ length (a .0 .now))) _ (λ hold.
       walk 𝓤 H A W mem run (κs .0) (κs .1 .0) (qs .0) (qs .1 .0) (a .0) (a .1 .0) (a .1 .1 .0 .ptr .0) (a .1 .1 .0 .ptr .1) (a .1 .1 .0 .name) (a .1 .1 .0 .now) (are .1 .1 .0 .0 .1) (are .1 .0 .1) (are .0 .0 .1) (hold .0) (hold .1) 𝓣 known))
 
   pack-meets : Meets 𝓤 H A f.signature (WpFn 𝓤 H (𝓣 .C) (𝓣 .Λ) code.function) (f.spec 𝓤 H A mem run)

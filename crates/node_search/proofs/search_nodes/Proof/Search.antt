@@ -1,6 +1,6 @@
 -- The call of `search_words`: what its contract binds, that the caller has what it asks, and what it gives back. Assumes nothing.
-use mathlib.Core.Path.{_≡_, refl}
-use Prim.Native.Nat.{ℕ, _<_, _^_}
+use mathlib.Core.Path.{_≡_, refl, sym, subst}
+use Prim.Native.Nat.{ℕ, _<_, _≤_, _^_, _*_}
 use mathlib.Core.List.{[], _∷_, List}
 use lib.ListN.{length}
 use lib.IntN.{ℤ}
@@ -26,33 +26,36 @@ use denote.Triple.Spec.{tripleOf}
 use denote.Triple.Statement.{Contract}
 use denote.Triple.Clauses.{ensured, lasts}
 use denote.Triple.Walked.{says}
+use Rattle.meaning.specs.Limits.{nodeStateWords}
 use Rattle.index.specs.Slices.{lent}
 use Rattle.searcher.specs.declared.search.Searched.{Searched}
-use Rattle.node_search.specs.Searches.{Searches}
+use Rattle.node_search.specs.Searches.{SearchesWords}
+use Rattle.node_search.proofs.Words.{held-enough}
 use Rattle.node_search.proofs.search_words as kk
-use Rattle.node_search.proofs.search_nodes.Proof.Lent.{Call, n, enough, yw, dv, MW, d₀, d₁, d₂, d₃, d₄, d₅, d₆, d₇, d₈, e₀, e₁, e₂, e₃, TS, TX, SH, XS}
+use Rattle.node_search.proofs.search_nodes.Proof.Room.{size, yw, dv, MW}
+use Rattle.node_search.proofs.search_nodes.Proof.Lent.{Call, m, n, d₀, d₁, d₂, d₃, d₄, d₅, d₆, d₇, d₈, e₀, e₁, e₂, e₃, TS, TX, SH, XS}
 
 module _ {M : Type 1} (𝓤 : URA M) (H : Heap 𝓤) (A : Atoms 𝓤) (mem : Memory → SProp 𝓤) (run : Routine → Fun 𝓤) where
   abbrev pub Kk : Contract 𝓤
   Kk = tripleOf 𝓤 H A kk.signature (kk.spec 𝓤 H A mem run)
 
-module _ {M : Type 1} (𝓤 : URA M) (H : Heap 𝓤) (A : Atoms 𝓤) (W : Given 𝓤 H A) (mem : Memory → SProp 𝓤) (run : Routine → Fun 𝓤) (c : Call) where
+module _ {M : Type 1} (𝓤 : URA M) (H : Heap 𝓤) (A : Atoms 𝓤) (W : Given 𝓤 H A) (mem : Memory → SProp 𝓤) (run : Routine → Fun 𝓤) (c : Call) (l : ℕ) (xs : List ℕ) (lx : length xs ≡ size) where
   abbrev pub to-κ : ℕ → Lft × (Lft × (Lft × (Lft × (Lft × (Lft × (Lft × (Lft × (Lft × (Lft × (Lft × (Lft × (Lft × (Lft × Unit {0})))))))))))))
-  to-κ ν = (c .κ₀, (c .κ₁, (c .κ₂, (c .κ₃, (c .κ₄, (c .κ₅, (c .κ₆, (c .κ₇, (c .κ₈, (ν ∷ [], (c .κ₁₁, (c .κ₁₂, (c .κ₁₃, (c .κ₁₄, tt))))))))))))))
+  to-κ ν = (c .κ₀, (c .κ₁, (c .κ₂, (c .κ₃, (c .κ₄, (c .κ₅, (c .κ₆, (c .κ₇, (c .κ₈, (ν ∷ [], (c .κ₁₀, (c .κ₁₁, (c .κ₁₂, (c .κ₁₃, tt))))))))))))))
 
   abbrev pub to-a : GName → ℕ × (RefT (List ℕ) × (RefT (List ℕ) × (RefT (List ℕ) × (RefT (List ℕ) × (RefT (List ℕ) × (RefT (List ℕ) × (RefT (List ℕ) × (RefT (List ℕ) × (RefT (List ℕ) × (ℕ × (ℕ × (ℕ × (RefT (List ℕ) × (RefT (List ℤ) × (RefT (List ℤ) × (RefT (List ℕ) × (RefT (List ℤ) × Unit {0})))))))))))))))))
-  to-a δ = (c .md, (c .s₀, (c .s₁, (c .s₂, (c .s₃, (c .s₄, (c .s₅, (c .s₆, (c .s₇, (c .s₈, (c .k, (c .t, (n c, (yw c δ (c .ws), (c .x₀, (c .x₁, (c .x₂, (c .x₃, tt))))))))))))))))))
+  to-a δ = (c .md, (c .s₀, (c .s₁, (c .s₂, (c .s₃, (c .s₄, (c .s₅, (c .s₆, (c .s₇, (c .s₈, (c .k, (c .t, (n c, (yw l δ xs, (c .x₀, (c .x₁, (c .x₂, (c .x₃, tt))))))))))))))))))
 
   abbrev pub to-k : ℕ → GName → Kk 𝓤 H A mem run .Ghost
-  to-k ν δ = ((to-κ ν, (c .q₀, (c .q₁, (c .q₂, (c .q₃, (c .q₄, (c .q₅, (c .q₆, (c .q₇, (c .q₈, (fullShare, (c .q₁₁, (c .q₁₂, (c .q₁₃, (c .q₁₄, tt)))))))))))))), tt, to-a δ, (vint w32 (c .md) ∷ [], (d₀ c ∷ [], (d₁ c ∷ [], (d₂ c ∷ [], (d₃ c ∷ [], (d₄ c ∷ [], (d₅ c ∷ [], (d₆ c ∷ [], (d₇ c ∷ [], (d₈ c ∷ [], (vint w32 (c .k) ∷ [], (vint w32 (c .t) ∷ [], (vint w64 (n c) ∷ [], (dv c (length (c .ws)) ∷ [], (e₀ c ∷ [], (e₁ c ∷ [], (e₂ c ∷ [], (e₃ c ∷ [], tt))))))))))))))))))), tt)
+  to-k ν δ = ((to-κ ν, (c .q₀, (c .q₁, (c .q₂, (c .q₃, (c .q₄, (c .q₅, (c .q₆, (c .q₇, (c .q₈, (fullShare, (c .q₁₀, (c .q₁₁, (c .q₁₂, (c .q₁₃, tt)))))))))))))), tt, to-a δ, (vint w32 (c .md) ∷ [], (d₀ c ∷ [], (d₁ c ∷ [], (d₂ c ∷ [], (d₃ c ∷ [], (d₄ c ∷ [], (d₅ c ∷ [], (d₆ c ∷ [], (d₇ c ∷ [], (d₈ c ∷ [], (vint w32 (c .k) ∷ [], (vint w32 (c .t) ∷ [], (vint w64 (n c) ∷ [], (dv l (length xs) ∷ [], (e₀ c ∷ [], (e₁ c ∷ [], (e₂ c ∷ [], (e₃ c ∷ [], tt))))))))))))))))))), tt)
 
   abbrev pub TK : ℕ → Item 𝓤
-  TK ν = ‵ (flft (c .κ₀) (c .q₀)) ⊛ ‵ (flft (c .κ₁) (c .q₁)) ⊛ ‵ (flft (c .κ₂) (c .q₂)) ⊛ ‵ (flft (c .κ₃) (c .q₃)) ⊛ ‵ (flft (c .κ₄) (c .q₄)) ⊛ ‵ (flft (c .κ₅) (c .q₅)) ⊛ ‵ (flft (c .κ₆) (c .q₆)) ⊛ ‵ (flft (c .κ₇) (c .q₇)) ⊛ ‵ (flft (c .κ₈) (c .q₈)) ⊛ ‵ (flft (ν ∷ []) fullShare) ⊛ ‵ (flft (c .κ₁₁) (c .q₁₁)) ⊛ ‵ (flft (c .κ₁₂) (c .q₁₂)) ⊛ ‵ (flft (c .κ₁₃) (c .q₁₃)) ⊛ ‵ (flft (c .κ₁₄) (c .q₁₄)) ⊛ ‵ ftrue
+  TK ν = ‵ (flft (c .κ₀) (c .q₀)) ⊛ ‵ (flft (c .κ₁) (c .q₁)) ⊛ ‵ (flft (c .κ₂) (c .q₂)) ⊛ ‵ (flft (c .κ₃) (c .q₃)) ⊛ ‵ (flft (c .κ₄) (c .q₄)) ⊛ ‵ (flft (c .κ₅) (c .q₅)) ⊛ ‵ (flft (c .κ₆) (c .q₆)) ⊛ ‵ (flft (c .κ₇) (c .q₇)) ⊛ ‵ (flft (c .κ₈) (c .q₈)) ⊛ ‵ (flft (ν ∷ []) fullShare) ⊛ ‵ (flft (c .κ₁₀) (c .q₁₀)) ⊛ ‵ (flft (c .κ₁₁) (c .q₁₁)) ⊛ ‵ (flft (c .κ₁₂) (c .q₁₂)) ⊛ ‵ (flft (c .κ₁₃) (c .q₁₃)) ⊛ ‵ ftrue
 
-  pub goes-k : (n c) < 2 ^ 64 → (ν : ℕ) (δ : GName) → ent 𝓤 (⋆ 𝓤 H A ((TS 𝓤 c) ∷ ‵ (flft (ν ∷ []) fullShare) ∷ (TX 𝓤 c) ∷ (SH 𝓤 c) ∷ ‵ (MW c (ν ∷ []) δ (c .ws)) ∷ (XS 𝓤 c) ∷ [])) (Kk 𝓤 H A mem run .pre (to-k ν δ))
+  pub goes-k : (n c) < 2 ^ 64 → (ν : ℕ) (δ : GName) → ent 𝓤 (⋆ 𝓤 H A ((TS 𝓤 c) ∷ ‵ (flft (ν ∷ []) fullShare) ∷ (TX 𝓤 c) ∷ (SH 𝓤 c) ∷ ‵ (MW (ν ∷ []) l δ xs) ∷ (XS 𝓤 c) ∷ [])) (Kk 𝓤 H A mem run .pre (to-k ν δ))
   goes-k gn ν δ =
-      qed W ((TS 𝓤 c) ∷ ‵ (flft (ν ∷ []) fullShare) ∷ (TX 𝓤 c) ∷ (SH 𝓤 c) ∷ ‵ (MW c (ν ∷ []) δ (c .ws)) ∷ (XS 𝓤 c) ∷ []) ∵
-      says ! (enough c) $
+      qed W ((TS 𝓤 c) ∷ ‵ (flft (ν ∷ []) fullShare) ∷ (TX 𝓤 c) ∷ (SH 𝓤 c) ∷ ‵ (MW (ν ∷ []) l δ xs) ∷ (XS 𝓤 c) ∷ []) ∵
+      says ! (subst (λ (j : ℕ). nodeStateWords * n c ≤ j) (sym lx) (held-enough (m c))) $
       split ! $
       move ! (1 ∷ []) $
       split ! $
@@ -190,10 +193,10 @@ module _ {M : Type 1} (𝓤 : URA M) (H : Heap 𝓤) (A : Atoms 𝓤) (W : Given
   Zs = List ℕ × (List ℤ × (List ℤ × (List ℕ × List ℤ)))
 
   abbrev pub Lens : Zs → Type 0
-  Lens z = (length (z .0) ≡ length (c .ws)) × ((length (z .1 .0) ≡ length (c .x₀ .now)) × ((length (z .1 .1 .0) ≡ length (c .x₁ .now)) × ((length (z .1 .1 .1 .0) ≡ length (c .x₂ .now)) × (length (z .1 .1 .1 .1) ≡ length (c .x₃ .now)))))
+  Lens z = (length (z .0) ≡ length xs) × ((length (z .1 .0) ≡ length (c .x₀ .now)) × ((length (z .1 .1 .0) ≡ length (c .x₁ .now)) × ((length (z .1 .1 .1 .0) ≡ length (c .x₂ .now)) × (length (z .1 .1 .1 .1) ≡ length (c .x₃ .now)))))
 
   abbrev pub Found : Searched → List ℕ → List ℤ → List ℤ → List ℕ → List ℤ → Type 0
-  Found r ws₂ y₀ y₁ y₂ y₃ = Searches (lent (c .md) (c .s₀ .now) (c .s₁ .now) (c .s₂ .now) (c .s₃ .now) (c .s₄ .now) (c .s₅ .now) (c .s₆ .now) (c .s₇ .now)) (c .s₈ .now) (c .k) (c .t) (n c) (c .ws) ws₂ (c .x₀ .now) y₀ (c .x₁ .now) y₁ (c .x₂ .now) y₂ (c .x₃ .now) y₃ r
+  Found r ws₂ y₀ y₁ y₂ y₃ = SearchesWords (lent (c .md) (c .s₀ .now) (c .s₁ .now) (c .s₂ .now) (c .s₃ .now) (c .s₄ .now) (c .s₅ .now) (c .s₆ .now) (c .s₇ .now)) (c .s₈ .now) (c .k) (c .t) (n c) ws₂ (c .x₀ .now) y₀ (c .x₁ .now) y₁ (c .x₂ .now) y₂ (c .x₃ .now) y₃ r
 
   abbrev pub Found₁ : Searched → Zs → Type 0
   Found₁ r z = Found r (z .0) (z .1 .0) (z .1 .1 .0) (z .1 .1 .1 .0) (z .1 .1 .1 .1)

@@ -16,9 +16,9 @@ use denote.Slice.{shr-slice-copy, MutSlice, ShrSlice}
 use Rattle.node_search_vectors.proofs.search_lent.Proof.Lent.{A8, Call, d₀, S₀, d₁, S₁, d₂, S₂, d₃, S₃, d₄, S₄, d₅, S₅, d₆, S₆, d₇, S₇, d₈, S₈, a, vals, TS, TX, SH, XS}
 
 module _ {M : Type 1} (𝓤 : URA M) (H : Heap 𝓤) (A : Atoms 𝓤) (W : Given 𝓤 H A) (mem : Memory → SProp 𝓤) (run : Routine → Fun 𝓤) (c : Call) where
-  pub owns-apart : ent 𝓤 (sem 𝓤 H A (owns (u32 ∷ ShrSlice (named 0) (c .κ₀) u32 ∷ ShrSlice (named 1) (c .κ₁) u32 ∷ ShrSlice (named 2) (c .κ₂) u32 ∷ ShrSlice (named 3) (c .κ₃) u32 ∷ ShrSlice (named 4) (c .κ₄) u8 ∷ ShrSlice (named 5) (c .κ₅) u64 ∷ ShrSlice (named 6) (c .κ₆) u32 ∷ ShrSlice (named 7) (c .κ₇) u32 ∷ ShrSlice (named 8) (c .κ₈) u32 ∷ u32 ∷ u32 ∷ A8 ∷ MutSlice (named 9) (c .κ₉) u32 ∷ MutSlice (named 10) (c .κ₁₀) i32 ∷ MutSlice (named 11) (c .κ₁₁) i32 ∷ MutSlice (named 12) (c .κ₁₂) u32 ∷ MutSlice (named 13) (c .κ₁₃) i64 ∷ []) (a c) (vals c))) (mean 𝓤 H A ((SH 𝓤 c) ⊛ (XS 𝓤 c)))
+  pub owns-apart : ent 𝓤 (sem 𝓤 H A (owns (u32 ∷ ShrSlice (named 0) (c .κ₀) u32 ∷ ShrSlice (named 1) (c .κ₁) u32 ∷ ShrSlice (named 2) (c .κ₂) u32 ∷ ShrSlice (named 3) (c .κ₃) u32 ∷ ShrSlice (named 4) (c .κ₄) u8 ∷ ShrSlice (named 5) (c .κ₅) u64 ∷ ShrSlice (named 6) (c .κ₆) u32 ∷ ShrSlice (named 7) (c .κ₇) u32 ∷ ShrSlice (named 8) (c .κ₈) u32 ∷ u32 ∷ u32 ∷ A8 ∷ MutSlice (named 9) (c .κ₉) i32 ∷ MutSlice (named 10) (c .κ₁₀) i32 ∷ MutSlice (named 11) (c .κ₁₁) u32 ∷ MutSlice (named 12) (c .κ₁₂) i64 ∷ []) (a c) (vals c))) (mean 𝓤 H A ((SH 𝓤 c) ⊛ (XS 𝓤 c)))
   owns-apart =
-      qed W (‵ (owns (u32 ∷ ShrSlice (named 0) (c .κ₀) u32 ∷ ShrSlice (named 1) (c .κ₁) u32 ∷ ShrSlice (named 2) (c .κ₂) u32 ∷ ShrSlice (named 3) (c .κ₃) u32 ∷ ShrSlice (named 4) (c .κ₄) u8 ∷ ShrSlice (named 5) (c .κ₅) u64 ∷ ShrSlice (named 6) (c .κ₆) u32 ∷ ShrSlice (named 7) (c .κ₇) u32 ∷ ShrSlice (named 8) (c .κ₈) u32 ∷ u32 ∷ u32 ∷ A8 ∷ MutSlice (named 9) (c .κ₉) u32 ∷ MutSlice (named 10) (c .κ₁₀) i32 ∷ MutSlice (named 11) (c .κ₁₁) i32 ∷ MutSlice (named 12) (c .κ₁₂) u32 ∷ MutSlice (named 13) (c .κ₁₃) i64 ∷ []) (a c) (vals c)) ∷ []) ∵
+      qed W (‵ (owns (u32 ∷ ShrSlice (named 0) (c .κ₀) u32 ∷ ShrSlice (named 1) (c .κ₁) u32 ∷ ShrSlice (named 2) (c .κ₂) u32 ∷ ShrSlice (named 3) (c .κ₃) u32 ∷ ShrSlice (named 4) (c .κ₄) u8 ∷ ShrSlice (named 5) (c .κ₅) u64 ∷ ShrSlice (named 6) (c .κ₆) u32 ∷ ShrSlice (named 7) (c .κ₇) u32 ∷ ShrSlice (named 8) (c .κ₈) u32 ∷ u32 ∷ u32 ∷ A8 ∷ MutSlice (named 9) (c .κ₉) i32 ∷ MutSlice (named 10) (c .κ₁₀) i32 ∷ MutSlice (named 11) (c .κ₁₁) u32 ∷ MutSlice (named 12) (c .κ₁₂) i64 ∷ []) (a c) (vals c)) ∷ []) ∵
       fsplit ! $
       move ! (1 ∷ []) $
       fsplit ! $
@@ -52,17 +52,15 @@ module _ {M : Type 1} (𝓤 : URA M) (H : Heap 𝓤) (A : Atoms 𝓤) (W : Given
       fsplit ! $
       move ! (1 ∷ []) $
       fsplit ! $
-      move ! (1 ∷ []) $
-      fsplit ! $
-      move ! (17 ∷ 16 ∷ 15 ∷ 14 ∷ 13 ∷ 12 ∷ 11 ∷ 10 ∷ 9 ∷ []) $
+      move ! (16 ∷ 15 ∷ 14 ∷ 13 ∷ 12 ∷ 11 ∷ 10 ∷ 9 ∷ 8 ∷ []) $
       group ! 9 $
-      move ! (6 ∷ 5 ∷ 4 ∷ 3 ∷ 1 ∷ []) $
-      group ! 5 $
+      move ! (5 ∷ 4 ∷ 3 ∷ 1 ∷ []) $
+      group ! 4 $
       keep ! (1 ∷ 0 ∷ []) $ done !
 
-  pub tokens-apart : ent 𝓤 (mean 𝓤 H A (‵ (flft (c .κ₀) (c .q₀)) ⊛ ‵ (flft (c .κ₁) (c .q₁)) ⊛ ‵ (flft (c .κ₂) (c .q₂)) ⊛ ‵ (flft (c .κ₃) (c .q₃)) ⊛ ‵ (flft (c .κ₄) (c .q₄)) ⊛ ‵ (flft (c .κ₅) (c .q₅)) ⊛ ‵ (flft (c .κ₆) (c .q₆)) ⊛ ‵ (flft (c .κ₇) (c .q₇)) ⊛ ‵ (flft (c .κ₈) (c .q₈)) ⊛ ‵ (flft (c .κ₉) (c .q₉)) ⊛ ‵ (flft (c .κ₁₀) (c .q₁₀)) ⊛ ‵ (flft (c .κ₁₁) (c .q₁₁)) ⊛ ‵ (flft (c .κ₁₂) (c .q₁₂)) ⊛ ‵ (flft (c .κ₁₃) (c .q₁₃)) ⊛ ‵ ftrue)) (mean 𝓤 H A ((TS 𝓤 c) ⊛ (TX 𝓤 c)))
+  pub tokens-apart : ent 𝓤 (mean 𝓤 H A (‵ (flft (c .κ₀) (c .q₀)) ⊛ ‵ (flft (c .κ₁) (c .q₁)) ⊛ ‵ (flft (c .κ₂) (c .q₂)) ⊛ ‵ (flft (c .κ₃) (c .q₃)) ⊛ ‵ (flft (c .κ₄) (c .q₄)) ⊛ ‵ (flft (c .κ₅) (c .q₅)) ⊛ ‵ (flft (c .κ₆) (c .q₆)) ⊛ ‵ (flft (c .κ₇) (c .q₇)) ⊛ ‵ (flft (c .κ₈) (c .q₈)) ⊛ ‵ (flft (c .κ₉) (c .q₉)) ⊛ ‵ (flft (c .κ₁₀) (c .q₁₀)) ⊛ ‵ (flft (c .κ₁₁) (c .q₁₁)) ⊛ ‵ (flft (c .κ₁₂) (c .q₁₂)) ⊛ ‵ ftrue)) (mean 𝓤 H A ((TS 𝓤 c) ⊛ (TX 𝓤 c)))
   tokens-apart =
-      qed W ((‵ (flft (c .κ₀) (c .q₀)) ⊛ ‵ (flft (c .κ₁) (c .q₁)) ⊛ ‵ (flft (c .κ₂) (c .q₂)) ⊛ ‵ (flft (c .κ₃) (c .q₃)) ⊛ ‵ (flft (c .κ₄) (c .q₄)) ⊛ ‵ (flft (c .κ₅) (c .q₅)) ⊛ ‵ (flft (c .κ₆) (c .q₆)) ⊛ ‵ (flft (c .κ₇) (c .q₇)) ⊛ ‵ (flft (c .κ₈) (c .q₈)) ⊛ ‵ (flft (c .κ₉) (c .q₉)) ⊛ ‵ (flft (c .κ₁₀) (c .q₁₀)) ⊛ ‵ (flft (c .κ₁₁) (c .q₁₁)) ⊛ ‵ (flft (c .κ₁₂) (c .q₁₂)) ⊛ ‵ (flft (c .κ₁₃) (c .q₁₃)) ⊛ ‵ ftrue) ∷ []) ∵
+      qed W ((‵ (flft (c .κ₀) (c .q₀)) ⊛ ‵ (flft (c .κ₁) (c .q₁)) ⊛ ‵ (flft (c .κ₂) (c .q₂)) ⊛ ‵ (flft (c .κ₃) (c .q₃)) ⊛ ‵ (flft (c .κ₄) (c .q₄)) ⊛ ‵ (flft (c .κ₅) (c .q₅)) ⊛ ‵ (flft (c .κ₆) (c .q₆)) ⊛ ‵ (flft (c .κ₇) (c .q₇)) ⊛ ‵ (flft (c .κ₈) (c .q₈)) ⊛ ‵ (flft (c .κ₉) (c .q₉)) ⊛ ‵ (flft (c .κ₁₀) (c .q₁₀)) ⊛ ‵ (flft (c .κ₁₁) (c .q₁₁)) ⊛ ‵ (flft (c .κ₁₂) (c .q₁₂)) ⊛ ‵ ftrue) ∷ []) ∵
       split ! $
       move ! (1 ∷ []) $
       split ! $
@@ -88,12 +86,10 @@ module _ {M : Type 1} (𝓤 : URA M) (H : Heap 𝓤) (A : Atoms 𝓤) (W : Given
       split ! $
       move ! (1 ∷ []) $
       split ! $
-      move ! (1 ∷ []) $
-      split ! $
-      move ! (14 ∷ 13 ∷ 12 ∷ 11 ∷ 10 ∷ 9 ∷ 8 ∷ 7 ∷ 6 ∷ []) $
+      move ! (13 ∷ 12 ∷ 11 ∷ 10 ∷ 9 ∷ 8 ∷ 7 ∷ 6 ∷ 5 ∷ []) $
       group ! 9 $
-      move ! (6 ∷ 5 ∷ 4 ∷ 3 ∷ 1 ∷ 2 ∷ []) $
-      group ! 6 $
+      move ! (5 ∷ 4 ∷ 3 ∷ 1 ∷ 2 ∷ []) $
+      group ! 5 $
       keep ! (1 ∷ 0 ∷ []) $ done !
 
   pub shared-twice : ent 𝓤 (mean 𝓤 H A (SH 𝓤 c)) (mean 𝓤 H A ((SH 𝓤 c) ⊛ (SH 𝓤 c)))

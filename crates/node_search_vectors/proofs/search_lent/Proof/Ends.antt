@@ -29,17 +29,17 @@ use Rattle.node_search_vectors.proofs.search_lent.Proof.Lent.{R, RS, A8
 use Rattle.node_search_vectors.proofs.search_lent.Proof.Records.{makes-n}
 
 abbrev pub stayed : Stays (f.ended .signature .params) (f.ended .kept)
-stayed = (stay-none (λ _. u32) yes, (stay-none-slice (0 ∷ []) tt (plain (λ _. u32)) yes, (stay-none-slice (1 ∷ []) tt (plain (λ _. u32)) yes, (stay-none-slice (2 ∷ []) tt (plain (λ _. u32)) yes, (stay-none-slice (3 ∷ []) tt (plain (λ _. u32)) yes, (stay-none-slice (4 ∷ []) tt (plain (λ _. u8)) yes, (stay-none-slice (5 ∷ []) tt (plain (λ _. u64)) yes, (stay-none-slice (6 ∷ []) tt (plain (λ _. u32)) yes, (stay-none-slice (7 ∷ []) tt (plain (λ _. u32)) yes, (stay-none-slice (8 ∷ []) tt (plain (λ _. u32)) yes, (stay-none (λ _. u32) yes, (stay-none (λ _. u32) yes, (stay-none (λ _. A8) yes, (gave-slice (9 ∷ []) tt (plain (λ _. u32)), (gave-slice (10 ∷ []) tt (plain (λ _. i32)), (gave-slice (11 ∷ []) tt (plain (λ _. i32)), (gave-slice (12 ∷ []) tt (plain (λ _. u32)), (gave-slice (13 ∷ []) tt (plain (λ _. i64)), tt))))))))))))))))))
+stayed = (stay-none (λ _. u32) yes, (stay-none-slice (0 ∷ []) tt (plain (λ _. u32)) yes, (stay-none-slice (1 ∷ []) tt (plain (λ _. u32)) yes, (stay-none-slice (2 ∷ []) tt (plain (λ _. u32)) yes, (stay-none-slice (3 ∷ []) tt (plain (λ _. u32)) yes, (stay-none-slice (4 ∷ []) tt (plain (λ _. u8)) yes, (stay-none-slice (5 ∷ []) tt (plain (λ _. u64)) yes, (stay-none-slice (6 ∷ []) tt (plain (λ _. u32)) yes, (stay-none-slice (7 ∷ []) tt (plain (λ _. u32)) yes, (stay-none-slice (8 ∷ []) tt (plain (λ _. u32)) yes, (stay-none (λ _. u32) yes, (stay-none (λ _. u32) yes, (stay-none (λ _. A8) yes, (gave-slice (9 ∷ []) tt (plain (λ _. i32)), (gave-slice (10 ∷ []) tt (plain (λ _. i32)), (gave-slice (11 ∷ []) tt (plain (λ _. u32)), (gave-slice (12 ∷ []) tt (plain (λ _. i64)), tt)))))))))))))))))
 
 module _ {M : Type 1} (𝓤 : URA M) (H : Heap 𝓤) (A : Atoms 𝓤) (W : Given 𝓤 H A) (mem : Memory → SProp 𝓤) (run : Routine → Fun 𝓤) (c : Call) where
   abbrev pub Post : Val → SProp 𝓤
-  Post = walkOf 𝓤 H A f.ended stayed (f.clauses 𝓤 H A mem run) .post (((c .κ₀, (c .κ₁, (c .κ₂, (c .κ₃, (c .κ₄, (c .κ₅, (c .κ₆, (c .κ₇, (c .κ₈, (c .κ₉, (c .κ₁₀, (c .κ₁₁, (c .κ₁₂, (c .κ₁₃, tt)))))))))))))), (c .q₀, (c .q₁, (c .q₂, (c .q₃, (c .q₄, (c .q₅, (c .q₆, (c .q₇, (c .q₈, (c .q₉, (c .q₁₀, (c .q₁₁, (c .q₁₂, (c .q₁₃, tt)))))))))))))), tt, a c, vals c), tt)
+  Post = walkOf 𝓤 H A f.ended stayed (f.clauses 𝓤 H A mem run) .post (((c .κ₀, (c .κ₁, (c .κ₂, (c .κ₃, (c .κ₄, (c .κ₅, (c .κ₆, (c .κ₇, (c .κ₈, (c .κ₉, (c .κ₁₀, (c .κ₁₁, (c .κ₁₂, tt))))))))))))), (c .q₀, (c .q₁, (c .q₂, (c .q₃, (c .q₄, (c .q₅, (c .q₆, (c .q₇, (c .q₈, (c .q₉, (c .q₁₀, (c .q₁₁, (c .q₁₂, tt))))))))))))), tt, a c, vals c), tt)
 
-  pub exits : (v : Val) (r : Searched) (y₀ : List ℕ) (y₁ y₂ : List ℤ) (y₃ : List ℕ) (y₄ : List ℤ) → (length y₀ ≡ length (c .x₀ .now)) × ((length y₁ ≡ length (c .x₁ .now)) × ((length y₂ ≡ length (c .x₂ .now)) × ((length y₃ ≡ length (c .x₃ .now)) × ((length y₄ ≡ length (c .x₄ .now)))))) → (Claim c) r y₄
-      → ent 𝓤 (⋆ 𝓤 H A ((TS 𝓤 c) ∷ (TX 𝓤 c) ∷ (SH 𝓤 c) ∷ (‵ (finally u32 (c .x₀ .name) (y₀)) ⊛ ‵ (finally i32 (c .x₁ .name) (y₁)) ⊛ ‵ (finally i32 (c .x₂ .name) (y₂)) ⊛ ‵ (finally u32 (c .x₃ .name) (y₃)) ⊛ ‵ (finally i64 (c .x₄ .name) (y₄))) ∷ ‵ (RS .own r (v ∷ [])) ∷ [])) (Post v)
-  exits v r y₀ y₁ y₂ y₃ y₄ ls e =
-      qed W ((TS 𝓤 c) ∷ (TX 𝓤 c) ∷ (SH 𝓤 c) ∷ (‵ (finally u32 (c .x₀ .name) (y₀)) ⊛ ‵ (finally i32 (c .x₁ .name) (y₁)) ⊛ ‵ (finally i32 (c .x₂ .name) (y₂)) ⊛ ‵ (finally u32 (c .x₃ .name) (y₃)) ⊛ ‵ (finally i64 (c .x₄ .name) (y₄))) ∷ ‵ (RS .own r (v ∷ [])) ∷ []) ∵
-      suffices ! _ (ends-at 𝓤 H A f.ended stayed (f.clauses 𝓤 H A mem run) W (((c .κ₀, (c .κ₁, (c .κ₂, (c .κ₃, (c .κ₄, (c .κ₅, (c .κ₆, (c .κ₇, (c .κ₈, (c .κ₉, (c .κ₁₀, (c .κ₁₁, (c .κ₁₂, (c .κ₁₃, tt)))))))))))))), (c .q₀, (c .q₁, (c .q₂, (c .q₃, (c .q₄, (c .q₅, (c .q₆, (c .q₇, (c .q₈, (c .q₉, (c .q₁₀, (c .q₁₁, (c .q₁₂, (c .q₁₃, tt)))))))))))))), tt, a c, vals c), tt) v r (tt, (tt, (tt, (tt, (tt, (tt, (tt, (tt, (tt, (tt, (tt, (tt, (tt, (y₀, (y₁, (y₂, (y₃, (y₄, tt)))))))))))))))))) (tt, (tt, (tt, (tt, (tt, (tt, (tt, (tt, (tt, (tt, (tt, (tt, (tt, (ls .0, (ls .1 .0, (ls .1 .1 .0, (ls .1 .1 .1 .0, (ls .1 .1 .1 .1, tt))))))))))))))))))) $ says ! e $
+  pub exits : (v : Val) (r : Searched) (y₀ y₁ : List ℤ) (y₂ : List ℕ) (y₃ : List ℤ) → (length y₀ ≡ length (c .x₀ .now)) × ((length y₁ ≡ length (c .x₁ .now)) × ((length y₂ ≡ length (c .x₂ .now)) × (length y₃ ≡ length (c .x₃ .now)))) → (Claim c) r y₃
+      → ent 𝓤 (⋆ 𝓤 H A ((TS 𝓤 c) ∷ (TX 𝓤 c) ∷ (SH 𝓤 c) ∷ (‵ (finally i32 (c .x₀ .name) (y₀)) ⊛ ‵ (finally i32 (c .x₁ .name) (y₁)) ⊛ ‵ (finally u32 (c .x₂ .name) (y₂)) ⊛ ‵ (finally i64 (c .x₃ .name) (y₃))) ∷ ‵ (RS .own r (v ∷ [])) ∷ [])) (Post v)
+  exits v r y₀ y₁ y₂ y₃ ls e =
+      qed W ((TS 𝓤 c) ∷ (TX 𝓤 c) ∷ (SH 𝓤 c) ∷ (‵ (finally i32 (c .x₀ .name) (y₀)) ⊛ ‵ (finally i32 (c .x₁ .name) (y₁)) ⊛ ‵ (finally u32 (c .x₂ .name) (y₂)) ⊛ ‵ (finally i64 (c .x₃ .name) (y₃))) ∷ ‵ (RS .own r (v ∷ [])) ∷ []) ∵
+      suffices ! _ (ends-at 𝓤 H A f.ended stayed (f.clauses 𝓤 H A mem run) W (((c .κ₀, (c .κ₁, (c .κ₂, (c .κ₃, (c .κ₄, (c .κ₅, (c .κ₆, (c .κ₇, (c .κ₈, (c .κ₉, (c .κ₁₀, (c .κ₁₁, (c .κ₁₂, tt))))))))))))), (c .q₀, (c .q₁, (c .q₂, (c .q₃, (c .q₄, (c .q₅, (c .q₆, (c .q₇, (c .q₈, (c .q₉, (c .q₁₀, (c .q₁₁, (c .q₁₂, tt))))))))))))), tt, a c, vals c), tt) v r (tt, (tt, (tt, (tt, (tt, (tt, (tt, (tt, (tt, (tt, (tt, (tt, (tt, (y₀, (y₁, (y₂, (y₃, tt))))))))))))))))) (tt, (tt, (tt, (tt, (tt, (tt, (tt, (tt, (tt, (tt, (tt, (tt, (tt, (ls .0, (ls .1 .0, (ls .1 .1 .0, (ls .1 .1 .1, tt)))))))))))))))))) $ says ! e $
       split ! $
       move ! (1 ∷ []) $
       split ! $
@@ -95,12 +95,8 @@ module _ {M : Type 1} (𝓤 : URA M) (H : Heap 𝓤) (A : Atoms 𝓤) (W : Given
       split ! $
       move ! (1 ∷ []) $
       split ! $
-      move ! (1 ∷ []) $
-      split ! $
       nothing ! $
       move ! (2 ∷ 0 ∷ []) $
-      fjoin ! $
-      move ! (1 ∷ 0 ∷ []) $
       fjoin ! $
       move ! (1 ∷ 0 ∷ []) $
       fjoin ! $

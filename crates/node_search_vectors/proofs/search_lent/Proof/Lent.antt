@@ -19,6 +19,7 @@ use denote.Slice.{sliceTy, sliceVal, MutSlice, ShrSlice, Room}
 use denote.Array.{Array, array-vals}
 use denote.Steps.{only}
 use denote.Struct.Laws as LL
+use Rattle.meaning.specs.Limits.{nodeStateWords}
 use Rattle.meaning.specs.Entries.{searchAnswer, searchHits}
 use Rattle.index.specs.Slices.{lent}
 use Rattle.searcher.specs.declared.search.Searched.{Searched}
@@ -26,10 +27,9 @@ use Rattle.order_check.specs.Lends.{work}
 use Rattle.searcher.specs.Answers.{searchedNumbers}
 use Rattle.searcher.proofs.search.Searched as Sd
 use Rattle.node_state.specs.declared.NodeState.{NodeState}
-use Rattle.node_state.specs.Records.{held}
 use Rattle.node_state.proofs.NodeState as T
 use Rattle.node_state.proofs.NodeState.Laws as T′
-use Rattle.node_search.specs.Searches.{Searches, Copied, refusalOf}
+use Rattle.node_search.specs.Searches.{Searches}
 
 abbrev pub R : RattleType
 R = T.the-row
@@ -70,7 +70,6 @@ pub record Call : Type 0 where
   pub κ₁₀ : Lft
   pub κ₁₁ : Lft
   pub κ₁₂ : Lft
-  pub κ₁₃ : Lft
   pub q₀ : Share
   pub q₁ : Share
   pub q₂ : Share
@@ -84,7 +83,6 @@ pub record Call : Type 0 where
   pub q₁₀ : Share
   pub q₁₁ : Share
   pub q₁₂ : Share
-  pub q₁₃ : Share
   pub md : ℕ
   pub s₀ : RefT (List ℕ)
   pub s₁ : RefT (List ℕ)
@@ -98,11 +96,10 @@ pub record Call : Type 0 where
   pub k : ℕ
   pub t : ℕ
   pub ns : List NodeState
-  pub x₀ : RefT (List ℕ)
+  pub x₀ : RefT (List ℤ)
   pub x₁ : RefT (List ℤ)
-  pub x₂ : RefT (List ℤ)
-  pub x₃ : RefT (List ℕ)
-  pub x₄ : RefT (List ℤ)
+  pub x₂ : RefT (List ℕ)
+  pub x₃ : RefT (List ℤ)
   pub gm : md < 2 ^ 32
   pub room₀ : Room u32 (length (s₀ .now))
   pub room₁ : Room u32 (length (s₁ .now))
@@ -116,11 +113,10 @@ pub record Call : Type 0 where
   pub gk : k < 2 ^ 32
   pub gt : t < 2 ^ 32
   pub is : Is A8 ns (arr-n ns ∷ [])
-  pub room-w : Room u32 (length (x₀ .now))
-  pub room-a : Room i32 (length (x₁ .now))
-  pub room-b : Room i32 (length (x₂ .now))
-  pub room-r : Room u32 (length (x₃ .now))
-  pub room-h : Room i64 (length (x₄ .now))
+  pub room-a : Room i32 (length (x₀ .now))
+  pub room-b : Room i32 (length (x₁ .now))
+  pub room-r : Room u32 (length (x₂ .now))
+  pub room-h : Room i64 (length (x₃ .now))
 
 module _ (c : Call) where
   pub long : length (c .ns) ≡ 8
@@ -194,7 +190,7 @@ module _ (c : Call) where
   e₀ = sliceVal (c .x₀ .ptr) (length (c .x₀ .now))
 
   abbrev pub X₀ : Fml
-  X₀ = MutSlice (named 9) (c .κ₉) u32 .own (c .x₀) (e₀ ∷ [])
+  X₀ = MutSlice (named 9) (c .κ₉) i32 .own (c .x₀) (e₀ ∷ [])
 
   abbrev pub e₁ : Val
   e₁ = sliceVal (c .x₁ .ptr) (length (c .x₁ .now))
@@ -206,55 +202,47 @@ module _ (c : Call) where
   e₂ = sliceVal (c .x₂ .ptr) (length (c .x₂ .now))
 
   abbrev pub X₂ : Fml
-  X₂ = MutSlice (named 11) (c .κ₁₁) i32 .own (c .x₂) (e₂ ∷ [])
+  X₂ = MutSlice (named 11) (c .κ₁₁) u32 .own (c .x₂) (e₂ ∷ [])
 
   abbrev pub e₃ : Val
   e₃ = sliceVal (c .x₃ .ptr) (length (c .x₃ .now))
 
   abbrev pub X₃ : Fml
-  X₃ = MutSlice (named 12) (c .κ₁₂) u32 .own (c .x₃) (e₃ ∷ [])
-
-  abbrev pub e₄ : Val
-  e₄ = sliceVal (c .x₄ .ptr) (length (c .x₄ .now))
-
-  abbrev pub X₄ : Fml
-  X₄ = MutSlice (named 13) (c .κ₁₃) i64 .own (c .x₄) (e₄ ∷ [])
+  X₃ = MutSlice (named 12) (c .κ₁₂) i64 .own (c .x₃) (e₃ ∷ [])
 
   abbrev pub Arg : Type 0
-  Arg = ℕ × (RefT (List ℕ) × (RefT (List ℕ) × (RefT (List ℕ) × (RefT (List ℕ) × (RefT (List ℕ) × (RefT (List ℕ) × (RefT (List ℕ) × (RefT (List ℕ) × (RefT (List ℕ) × (ℕ × (ℕ × (List NodeState × (RefT (List ℕ) × (RefT (List ℤ) × (RefT (List ℤ) × (RefT (List ℕ) × (RefT (List ℤ) × Unit {0})))))))))))))))))
+  Arg = ℕ × (RefT (List ℕ) × (RefT (List ℕ) × (RefT (List ℕ) × (RefT (List ℕ) × (RefT (List ℕ) × (RefT (List ℕ) × (RefT (List ℕ) × (RefT (List ℕ) × (RefT (List ℕ) × (ℕ × (ℕ × (List NodeState × (RefT (List ℤ) × (RefT (List ℤ) × (RefT (List ℕ) × (RefT (List ℤ) × Unit {0}))))))))))))))))
 
   abbrev pub a : Arg
-  a = (c .md, (c .s₀, (c .s₁, (c .s₂, (c .s₃, (c .s₄, (c .s₅, (c .s₆, (c .s₇, (c .s₈, (c .k, (c .t, (c .ns, (c .x₀, (c .x₁, (c .x₂, (c .x₃, (c .x₄, tt))))))))))))))))))
+  a = (c .md, (c .s₀, (c .s₁, (c .s₂, (c .s₃, (c .s₄, (c .s₅, (c .s₆, (c .s₇, (c .s₈, (c .k, (c .t, (c .ns, (c .x₀, (c .x₁, (c .x₂, (c .x₃, tt)))))))))))))))))
 
-  abbrev pub vals : List Val × (List Val × (List Val × (List Val × (List Val × (List Val × (List Val × (List Val × (List Val × (List Val × (List Val × (List Val × (List Val × (List Val × (List Val × (List Val × (List Val × (List Val × Unit {0})))))))))))))))))
-  vals = (vint w32 (c .md) ∷ [], (d₀ ∷ [], (d₁ ∷ [], (d₂ ∷ [], (d₃ ∷ [], (d₄ ∷ [], (d₅ ∷ [], (d₆ ∷ [], (d₇ ∷ [], (d₈ ∷ [], (vint w32 (c .k) ∷ [], (vint w32 (c .t) ∷ [], (arr-n (c .ns) ∷ [], (e₀ ∷ [], (e₁ ∷ [], (e₂ ∷ [], (e₃ ∷ [], (e₄ ∷ [], tt))))))))))))))))))
+  abbrev pub vals : List Val × (List Val × (List Val × (List Val × (List Val × (List Val × (List Val × (List Val × (List Val × (List Val × (List Val × (List Val × (List Val × (List Val × (List Val × (List Val × (List Val × Unit {0}))))))))))))))))
+  vals = (vint w32 (c .md) ∷ [], (d₀ ∷ [], (d₁ ∷ [], (d₂ ∷ [], (d₃ ∷ [], (d₄ ∷ [], (d₅ ∷ [], (d₆ ∷ [], (d₇ ∷ [], (d₈ ∷ [], (vint w32 (c .k) ∷ [], (vint w32 (c .t) ∷ [], (arr-n (c .ns) ∷ [], (e₀ ∷ [], (e₁ ∷ [], (e₂ ∷ [], (e₃ ∷ [], tt)))))))))))))))))
 
   -- what `search_nodes` says, and what of it this function says: of m records, and of 8
-  abbrev pub Told : Searched → List NodeState → List ℕ → List ℤ → List ℤ → List ℕ → List ℤ → Type 0
-  Told r ns₂ y₀ y₁ y₂ y₃ y₄ =
-      Searches (lent (c .md) (c .s₀ .now) (c .s₁ .now) (c .s₂ .now) (c .s₃ .now) (c .s₄ .now) (c .s₅ .now) (c .s₆ .now) (c .s₇ .now)) (c .s₈ .now) (c .k) (c .t) (held (length (c .ns)) (length (c .x₀ .now))) (c .x₀ .now) y₀ (c .x₁ .now) y₁ (c .x₂ .now) y₂ (c .x₃ .now) y₃ (c .x₄ .now) y₄ r
-      × Copied (refusalOf (lent (c .md) (c .s₀ .now) (c .s₁ .now) (c .s₂ .now) (c .s₃ .now) (c .s₄ .now) (c .s₅ .now) (c .s₆ .now) (c .s₇ .now)) (c .s₈ .now) (c .k) (held (length (c .ns)) (length (c .x₀ .now))) (c .x₁ .now) (c .x₂ .now) (c .x₃ .now) (c .x₄ .now)) (held (length (c .ns)) (length (c .x₀ .now))) (c .ns) ns₂ y₀
+  abbrev pub Told : Searched → List NodeState → List ℤ → List ℤ → List ℕ → List ℤ → Type 0
+  Told r ns₂ y₀ y₁ y₂ y₃ = Searches (lent (c .md) (c .s₀ .now) (c .s₁ .now) (c .s₂ .now) (c .s₃ .now) (c .s₄ .now) (c .s₅ .now) (c .s₆ .now) (c .s₇ .now)) (c .s₈ .now) (c .k) (c .t) (c .ns) ns₂ (c .x₀ .now) y₀ (c .x₁ .now) y₁ (c .x₂ .now) y₂ (c .x₃ .now) y₃ r
 
   abbrev pub ClaimOf : ℕ → Searched → List ℤ → Type 0
-  ClaimOf m r y₄ =
-      (searchedNumbers r ≡ searchAnswer (lent (c .md) (c .s₀ .now) (c .s₁ .now) (c .s₂ .now) (c .s₃ .now) (c .s₄ .now) (c .s₅ .now) (c .s₆ .now) (c .s₇ .now)) (c .s₈ .now) (c .k) (c .t) (work (24 * held m (length (c .x₀ .now))) (length (c .x₁ .now)) (length (c .x₂ .now)) (length (c .x₃ .now))) (length (c .x₄ .now)))
-      × (y₄ ≡ searchHits (lent (c .md) (c .s₀ .now) (c .s₁ .now) (c .s₂ .now) (c .s₃ .now) (c .s₄ .now) (c .s₅ .now) (c .s₆ .now) (c .s₇ .now)) (c .s₈ .now) (c .k) (work (24 * held m (length (c .x₀ .now))) (length (c .x₁ .now)) (length (c .x₂ .now)) (length (c .x₃ .now))) (c .x₄ .now))
+  ClaimOf m r y₃ =
+      (searchedNumbers r ≡ searchAnswer (lent (c .md) (c .s₀ .now) (c .s₁ .now) (c .s₂ .now) (c .s₃ .now) (c .s₄ .now) (c .s₅ .now) (c .s₆ .now) (c .s₇ .now)) (c .s₈ .now) (c .k) (c .t) (work (nodeStateWords * m) (length (c .x₀ .now)) (length (c .x₁ .now)) (length (c .x₂ .now))) (length (c .x₃ .now)))
+      × (y₃ ≡ searchHits (lent (c .md) (c .s₀ .now) (c .s₁ .now) (c .s₂ .now) (c .s₃ .now) (c .s₄ .now) (c .s₅ .now) (c .s₆ .now) (c .s₇ .now)) (c .s₈ .now) (c .k) (work (nodeStateWords * m) (length (c .x₀ .now)) (length (c .x₁ .now)) (length (c .x₂ .now))) (c .x₃ .now))
 
   abbrev pub Claim : Searched → List ℤ → Type 0
-  Claim r y₄ = ClaimOf 8 r y₄
+  Claim r y₃ = ClaimOf 8 r y₃
 
-  pub claim : (r : Searched) (ns₂ : List NodeState) (y₀ : List ℕ) (y₁ y₂ : List ℤ) (y₃ : List ℕ) (y₄ : List ℤ) → Told r ns₂ y₀ y₁ y₂ y₃ y₄ → Claim r y₄
-  claim r ns₂ y₀ y₁ y₂ y₃ y₄ e = subst (λ (m : ℕ). ClaimOf m r y₄) long (e .0 .numbers, e .0 .found)
+  pub claim : (r : Searched) (ns₂ : List NodeState) (y₀ y₁ : List ℤ) (y₂ : List ℕ) (y₃ : List ℤ) → Told r ns₂ y₀ y₁ y₂ y₃ → Claim r y₃
+  claim r ns₂ y₀ y₁ y₂ y₃ e = subst (λ (m : ℕ). ClaimOf m r y₃) long (e .numbers, e .found)
 
 module _ {M : Type 1} (𝓤 : URA M) (c : Call) where
   abbrev pub TS : Item 𝓤
   TS = ‵ (flft (c .κ₀) (c .q₀)) ⊛ ‵ (flft (c .κ₁) (c .q₁)) ⊛ ‵ (flft (c .κ₂) (c .q₂)) ⊛ ‵ (flft (c .κ₃) (c .q₃)) ⊛ ‵ (flft (c .κ₄) (c .q₄)) ⊛ ‵ (flft (c .κ₅) (c .q₅)) ⊛ ‵ (flft (c .κ₆) (c .q₆)) ⊛ ‵ (flft (c .κ₇) (c .q₇)) ⊛ ‵ (flft (c .κ₈) (c .q₈))
 
   abbrev pub TX : Item 𝓤
-  TX = ‵ (flft (c .κ₉) (c .q₉)) ⊛ ‵ (flft (c .κ₁₀) (c .q₁₀)) ⊛ ‵ (flft (c .κ₁₁) (c .q₁₁)) ⊛ ‵ (flft (c .κ₁₂) (c .q₁₂)) ⊛ ‵ (flft (c .κ₁₃) (c .q₁₃)) ⊛ ‵ ftrue
+  TX = ‵ (flft (c .κ₉) (c .q₉)) ⊛ ‵ (flft (c .κ₁₀) (c .q₁₀)) ⊛ ‵ (flft (c .κ₁₁) (c .q₁₁)) ⊛ ‵ (flft (c .κ₁₂) (c .q₁₂)) ⊛ ‵ ftrue
 
   abbrev pub SH : Item 𝓤
   SH = ‵ (S₀ c) ⊛ ‵ (S₁ c) ⊛ ‵ (S₂ c) ⊛ ‵ (S₃ c) ⊛ ‵ (S₄ c) ⊛ ‵ (S₅ c) ⊛ ‵ (S₆ c) ⊛ ‵ (S₇ c) ⊛ ‵ (S₈ c)
 
   abbrev pub XS : Item 𝓤
-  XS = ‵ (X₀ c) ⊛ ‵ (X₁ c) ⊛ ‵ (X₂ c) ⊛ ‵ (X₃ c) ⊛ ‵ (X₄ c)
+  XS = ‵ (X₀ c) ⊛ ‵ (X₁ c) ⊛ ‵ (X₂ c) ⊛ ‵ (X₃ c)

@@ -1,2 +1,0 @@
--- A local array that is lent as a slice.
-pub mod Arrays
