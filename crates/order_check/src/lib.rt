@@ -42,17 +42,14 @@ pub fn check_order(
 
 // Whether a phrase buffer is too short for the query.
 pub fn starts_short(
-    max_doc: u32,
     leaves: &[u32],
     postings: &[u32],
     q: &[u32],
-    states: usize,
     starts: usize,
     other_starts: usize,
-    ranges: usize,
 ) -> bool
-    requires { ⌜ ((ix : Index) × QueryLent ix «max_doc» (now leaves) (now postings) (now q)) ⌝ }
-    ensures { λ r. ⌜ ((ix : Index) → QueryLent ix «max_doc» (now (leaves .entry)) (now (postings .entry)) (now (q .entry)) → r ≡ startsShort ix (now (q .entry)) (work states starts «other_starts» ranges)) ⌝ }
+    requires { ⌜ ((ix : Index) × (n : ℕ) × QueryLent ix n (now leaves) (now postings) (now q)) ⌝ }
+    ensures { λ r. ⌜ ((ix : Index) (n : ℕ) → QueryLent ix n (now (leaves .entry)) (now (postings .entry)) (now (q .entry)) → r ≡ startsShort ix (now (q .entry)) (work 0 starts «other_starts» 0)) ⌝ }
 {
     let needed = query_check::buffers::starts_needed(q, leaves, postings) as usize;
     if starts < needed {
@@ -78,16 +75,7 @@ pub fn work_short(
     if (states as u64) < query_check::buffers::states_needed(q) {
         return true;
     }
-    if starts_short(
-        max_doc,
-        leaves,
-        postings,
-        q,
-        states,
-        starts,
-        other_starts,
-        ranges,
-    ) {
+    if starts_short(leaves, postings, q, starts, other_starts) {
         return true;
     }
     (ranges as u64) < query_check::buffers::ranges_needed(max_doc, q)
