@@ -116,10 +116,18 @@ pub fn next_up(f: f32) -> f32
     }
 }
 
+// A score in binary64, which holds it as it is.
+fn to_f64(score: f32) -> f64
+    requires { ⌜ T (not (isNan score)) ⌝ }
+    ensures { λ r. ⌜ r ≡ score ⌝ }
+{
+    score as f64
+}
+
 // One more score in a sum, which is kept in binary64.
 pub fn add_score(sum: f64, score: f32) -> f64
     requires { ⌜ T (not (isNan score)) ⌝ }
     ensures { λ r. ⌜ r ≡ add binary64 sum score ⌝ }
 {
-    sum + score as f64
+    sum + to_f64(score)
 }

@@ -13,10 +13,6 @@ lent n fs ls ps qs ns vs cs xs =
 abbrev pub fieldsOnly : List ℕ → Index
 fieldsOnly fs = lent 0 fs [] [] [] [] [] [] []
 
--- what norms are read by: N, fields, norm bytes
-abbrev pub normsOnly : ℕ → List ℕ → List ℕ → Index
-normsOnly n fs ns = lent n fs [] [] [] ns [] [] []
-
 -- the live words alone
 abbrev pub liveOnly : List ℕ → Index
 liveOnly vs = lent 0 [] [] [] [] [] vs [] []

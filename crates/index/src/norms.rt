@@ -1,12 +1,12 @@
 // Norm bytes: N for each field with norms, in field order.
 ghost use mathlib.Core.Path.{_≡_};
-ghost use mathlib.Core.Bool.{true, false};
-ghost use Prim.Native.Nat.{_<_, _≤_, _+_, _*_, _/_};
+ghost use mathlib.Core.Bool.{false};
+ghost use Prim.Native.Nat.{_≤_, _*_, _/_};
 ghost use lib.ListN.{length};
 ghost use Rattle.meaning.specs.Below.{countBelow};
-ghost use Rattle.meaning.specs.Lent.{hasNorms, normByte};
+ghost use Rattle.meaning.specs.Lent.{hasNorms};
 ghost use Rattle.meaning.specs.IndexRefusals.{wrong2, wrong3};
-ghost use Rattle.index.specs.Slices.{fieldsOnly, normsOnly, lengthsOnly};
+ghost use Rattle.index.specs.Slices.{fieldsOnly, lengthsOnly};
 use super::wide;
 
 // How many of the fields before field f have norms.
@@ -31,19 +31,6 @@ pub fn norms_offset(max_doc: u32, fields: &[u32], field: usize) -> usize
     ensures { λ r. ⌜ r ≡ countBelow field (hasNorms (fieldsOnly (now (fields .entry)))) * «max_doc» ⌝ }
 {
     norms_before(fields, field) * wide(max_doc)
-}
-
-// The norm byte of a document in a field; 1 without norms.
-pub fn norm_byte(max_doc: u32, fields: &[u32], norms: &[u8], field: usize, doc: u32) -> u8
-    requires { ⌜ (field < length (now fields) / 3) × (field ≤ 16) ⌝ }
-    requires { ⌜ (hasNorms (fieldsOnly (now fields)) field ≡ true → countBelow field (hasNorms (fieldsOnly (now fields))) * «max_doc» + doc < length (now norms)) ⌝ }
-    ensures { λ r. ⌜ r ≡ normByte (normsOnly «max_doc» (now (fields .entry)) (now (norms .entry))) field doc ⌝ }
-{
-    if fields[3 * field + 1] == 1 {
-        norms[norms_offset(max_doc, fields, field) + wide(doc)]
-    } else {
-        1
-    }
 }
 
 // 3, the lengths of the norm bytes and of the live words, which are none or N ÷ 64 rounded up.

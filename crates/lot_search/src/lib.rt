@@ -67,7 +67,7 @@ pub extern "C" fn lot_search(
     ensures { λ r. ⌜ Kept r (now (ranges .entry)) (now (ranges .exit)) ⌝ }
 {
     if answer.len() < 3 {
-        return short_answer(searcher::search::search_refusal(
+        return short_answer(order_check::search_refusal(
             max_doc,
             fields,
             leaves,
@@ -144,7 +144,7 @@ pub extern "C" fn lot_page(
     ensures { λ r. ⌜ Kept r (now (ranges .entry)) (now (ranges .exit)) ⌝ }
 {
     if answer.len() < 2 {
-        return short_answer(searcher::page::page_refusal(
+        return short_answer(order_check::page_refusal(
             max_doc,
             fields,
             leaves,

@@ -1,5 +1,5 @@
 -- Whether a work buffer is too short, test by test, and where none is. Assumes nothing.
-use mathlib.Core.Path.{_≡_}
+use mathlib.Core.Path.{_≡_, refl}
 use mathlib.Core.Bool.{Bool, true, false}
 use mathlib.Core.List.{List}
 use Prim.Native.Nat.{ℕ, _≤_, _<_, min}
@@ -9,6 +9,12 @@ use lib.Dec.{ltb}
 use Rattle.meaning.specs.Lent.{Index}
 use Rattle.meaning.specs.CallRefusals.{Work, statesNeeded, startsNeeded, rangesNeeded, startsShort, workShort}
 use Rattle.meaning.proofs.Tests.{or-left, or-right, or-3}
+use Rattle.order_check.specs.Lends.{work}
+
+-- the phrase buffers alone tell whether they are too short
+pub starts-alone : (ix : Index) (q : List ℕ) (states starts otherStarts ranges : ℕ) → startsShort ix q (work 0 starts otherStarts 0) ≡ startsShort ix q (work states starts otherStarts ranges)
+unfolding startsShort
+starts-alone ix q states starts otherStarts ranges = refl
 
 module _ (ix : Index) (q : List ℕ) (w : Work) where
   -- ---- the phrase buffers

@@ -1,21 +1,17 @@
 // Place: a start at which a phrase of the order stands in a document.
 ghost use mathlib.Core.Path.{_≡_};
-ghost use mathlib.Core.Bool.{true, false};
 ghost use mathlib.Core.List.{[]};
-ghost use mathlib.Core.Option.{none, some};
 ghost use Prim.Native.Nat.{ℕ, _+_, _*_, _/_, _≤_, _<_};
 ghost use lib.ListN.{length, take};
 ghost use Rattle.meaning.specs.Lent.{Index};
 ghost use Rattle.meaning.specs.Query.{recordCount, recordKind, recordChildren, phraseTermsOf};
-ghost use Rattle.meaning.specs.CallRefusals.{startsShort, wrong13Place};
 ghost use Rattle.meaning.specs.Entries.{Kept, placeRefusal, PlaceFound, PlaceAnswer};
 ghost use Rattle.meaning.specs.Postings.{postingAt, frequencyOf};
 ghost use Rattle.index.specs.Slices.{lent, leavesOnly};
-ghost use Rattle.weight.specs.Measured.{Asks};
 ghost use Rattle.order_check.specs.Lends.{work, QueryLent};
 ghost use Rattle.phrase.specs.Words.{firstOf, phraseWords};
 ghost use Rattle.place_entry.specs.Answers.{placedNumbers};
-ghost use Rattle.place_entry.specs.Runs.{RunOk};
+ghost use Rattle.place_entry.specs.Runs.{RunOk, PlaceLent};
 use index::leaves::leaf_at;
 use index::postings::posting_document;
 use index::postings::posting_frequency;
@@ -63,7 +59,7 @@ fn place_refusal(
     if refusal != 0 {
         return refusal;
     }
-    if order_check::starts_short(max_doc, leaves, postings, q, 0, starts, other_starts, 0) {
+    if order_check::starts_short(leaves, postings, q, starts, other_starts) {
         return 12;
     }
     if max_doc <= document {
@@ -80,28 +76,22 @@ fn place_refusal(
 
 // The work of a call that is not refused: never Refused.
 fn locate(
-    max_doc: u32,
-    fields: &[u32],
     leaves: &[u32],
     postings: &[u32],
     positions: &[u32],
-    norms: &[u8],
-    live: &[u64],
-    columns: &[u32],
-    values: &[u32],
     q: &[u32],
     record_number: u32,
     document: u32,
     a: &mut [i32],
     b: &mut [i32],
 ) -> Placed
-    requires { ⌜ Asks (lent «max_doc» (now fields) (now leaves) (now postings) (now positions) (now norms) (now live) (now columns) (now values)) (now q) × (startsShort (lent «max_doc» (now fields) (now leaves) (now postings) (now positions) (now norms) (now live) (now columns) (now values)) (now q) (work 0 (length (now a)) (length (now b)) 0) ≡ false) × (wrong13Place (lent «max_doc» (now fields) (now leaves) (now postings) (now positions) (now norms) (now live) (now columns) (now values)) (now q) «record_number» document ≡ false) ⌝ }
-    ensures { λ r. ⌜ PlaceFound (lent «max_doc» (now (fields .entry)) (now (leaves .entry)) (now (postings .entry)) (now (positions .entry)) (now (norms .entry)) (now (live .entry)) (now (columns .entry)) (now (values .entry))) (now (q .entry)) «record_number» document (placedNumbers r) ⌝ }
+    requires { ⌜ ((ix : Index) × PlaceLent ix (now leaves) (now postings) (now positions) (now q) «record_number» document (length (now a)) (length (now b))) ⌝ }
+    ensures { λ r. ⌜ ((ix : Index) → PlaceLent ix (now (leaves .entry)) (now (postings .entry)) (now (positions .entry)) (now (q .entry)) «record_number» document (length (now (a .entry))) (length (now (b .entry))) → PlaceFound ix (now (q .entry)) «record_number» document (placedNumbers r)) ⌝ }
 {
     let at = record_number as usize;
     let count = query::children(q, at) as usize;
     let mut terms: [u32; 96] = [0; 96];
-    write_terms(max_doc, leaves, postings, q, at, document, &mut terms);
+    write_terms(leaves, postings, q, at, document, &mut terms);
     match phrase::place(positions, &terms[..3 * count], a, b) {
         phrase::Placed::Nothing => Placed::Nothing,
         phrase::Placed::At(s) => Placed::At(s),
@@ -139,7 +129,6 @@ fn occurrences_in(leaves: &[u32], postings: &[u32], l: usize, document: u32) -> 
 
 // The three words of each term of the phrase at `at` in a document: where its positions begin, how many there are, its offset.
 fn write_terms(
-    max_doc: u32,
     leaves: &[u32],
     postings: &[u32],
     q: &[u32],
@@ -148,8 +137,8 @@ fn write_terms(
     terms: &mut [u32],
 )
     requires { ⌜ (at < recordCount (now q)) × (recordKind (now q) at ≡ 2) × (length (now terms) ≡ 96) ⌝ }
-    requires { ⌜ ((ix : Index) × QueryLent ix «max_doc» (now leaves) (now postings) (now q)) ⌝ }
-    ensures { λ r. ⌜ ((ix : Index) → QueryLent ix «max_doc» (now (leaves .entry)) (now (postings .entry)) (now (q .entry)) → take (3 * recordChildren (now (q .entry)) at) (now (terms .exit)) ≡ phraseWords ix document (phraseTermsOf (now (q .entry)) at)) ⌝ }
+    requires { ⌜ ((ix : Index) × (n : ℕ) × QueryLent ix n (now leaves) (now postings) (now q)) ⌝ }
+    ensures { λ r. ⌜ ((ix : Index) (n : ℕ) → QueryLent ix n (now (leaves .entry)) (now (postings .entry)) (now (q .entry)) → take (3 * recordChildren (now (q .entry)) at) (now (terms .exit)) ≡ phraseWords ix document (phraseTermsOf (now (q .entry)) at)) ⌝ }
     ensures { λ r. ⌜ length (now (terms .exit)) ≡ 96 ⌝ }
 {
     let count = wide(query::children(q, at));
@@ -205,15 +194,9 @@ pub fn place(
         return Placed::Refused(refusal);
     }
     locate(
-        max_doc,
-        fields,
         leaves,
         postings,
         positions,
-        norms,
-        live,
-        columns,
-        values,
         q,
         record_number,
         document,

@@ -19,13 +19,12 @@ fn halve(
     words: &[u32],
     stride: usize,
     first: usize,
-    count: usize,
     from: usize,
     to: usize,
     target: u32,
 ) -> usize
-    requires { ⌜ Between (now words) stride first count from to target ⌝ }
-    ensures { λ r. ⌜ Lower (now (words .entry)) stride first count from target r ⌝ }
+    requires { ⌜ ((count : ℕ) × Between (now words) stride first count from to target) ⌝ }
+    ensures { λ r. ⌜ ((count : ℕ) → Between (now (words .entry)) stride first count from to target → Lower (now (words .entry)) stride first count from target r) ⌝ }
 {
     let mut low = from;
     let mut high = to;
@@ -60,10 +59,10 @@ fn gallop(
             low = high + 1;
             step = step * 2;
         } else {
-            return halve(words, stride, first, count, low, high, target);
+            return halve(words, stride, first, low, high, target);
         }
     }
-    halve(words, stride, first, count, low, count, target)
+    halve(words, stride, first, low, count, target)
 }
 
 // The first place from the cursor on whose document is at least the target: mostly it is near.

@@ -17,64 +17,6 @@ pub enum Paged {
     Given(Listed),
 }
 
-// The lowest number of 1 to 10, 12 and 13 whose condition holds, and 0 where none does.
-pub fn page_refusal(
-    max_doc: u32,
-    fields: &[u32],
-    leaves: &[u32],
-    postings: &[u32],
-    positions: &[u32],
-    norms: &[u8],
-    live: &[u64],
-    columns: &[u32],
-    values: &[u32],
-    q: &[u32],
-    target: u32,
-    states: usize,
-    starts: usize,
-    other_starts: usize,
-    ranges: usize,
-    documents: usize,
-    scores: usize,
-) -> u32
-    ensures { λ r. ⌜ r ≡ pageRefusal (lent «max_doc» (now (fields .entry)) (now (leaves .entry)) (now (postings .entry)) (now (positions .entry)) (now (norms .entry)) (now (live .entry)) (now (columns .entry)) (now (values .entry))) (now (q .entry)) target (work states starts «other_starts» ranges) documents scores ⌝ }
-{
-    let refusal = order_check::check_order(
-        max_doc,
-        fields,
-        leaves,
-        postings,
-        positions,
-        norms,
-        live,
-        columns,
-        values,
-        q,
-    );
-    if refusal != 0 {
-        return refusal;
-    }
-    if order_check::work_short(
-        max_doc,
-        leaves,
-        postings,
-        q,
-        states,
-        starts,
-        other_starts,
-        ranges,
-    ) {
-        return 12;
-    }
-    if documents != scores {
-        return 12;
-    }
-    if max_doc < target {
-        return 13;
-    }
-    0
-}
-
 // The work of a call that is not refused.
 fn list_page(
     max_doc: u32,
@@ -148,7 +90,7 @@ pub fn page(
     ensures { λ r. ⌜ Kept (pageRefusal (lent «max_doc» (now (fields .entry)) (now (leaves .entry)) (now (postings .entry)) (now (positions .entry)) (now (norms .entry)) (now (live .entry)) (now (columns .entry)) (now (values .entry))) (now (q .entry)) target (work (length (now (states .entry))) (length (now (a .entry))) (length (now (b .entry))) (length (now (ranges .entry)))) (length (now (documents .entry))) (length (now (scores .entry)))) (now (b .entry)) (now (b .exit)) ⌝ }
     ensures { λ r. ⌜ Kept (pageRefusal (lent «max_doc» (now (fields .entry)) (now (leaves .entry)) (now (postings .entry)) (now (positions .entry)) (now (norms .entry)) (now (live .entry)) (now (columns .entry)) (now (values .entry))) (now (q .entry)) target (work (length (now (states .entry))) (length (now (a .entry))) (length (now (b .entry))) (length (now (ranges .entry)))) (length (now (documents .entry))) (length (now (scores .entry)))) (now (ranges .entry)) (now (ranges .exit)) ⌝ }
 {
-    let refusal = page_refusal(
+    let refusal = order_check::page_refusal(
         max_doc,
         fields,
         leaves,

@@ -21,66 +21,6 @@ pub enum Searched {
     Found(TopDocs),
 }
 
-// The lowest number of 1 to 12 whose condition holds, and 0 where none does.
-pub fn search_refusal(
-    max_doc: u32,
-    fields: &[u32],
-    leaves: &[u32],
-    postings: &[u32],
-    positions: &[u32],
-    norms: &[u8],
-    live: &[u64],
-    columns: &[u32],
-    values: &[u32],
-    q: &[u32],
-    k: u32,
-    states: usize,
-    starts: usize,
-    other_starts: usize,
-    ranges: usize,
-    places: usize,
-) -> u32
-    ensures { λ r. ⌜ r ≡ searchRefusal (lent «max_doc» (now (fields .entry)) (now (leaves .entry)) (now (postings .entry)) (now (positions .entry)) (now (norms .entry)) (now (live .entry)) (now (columns .entry)) (now (values .entry))) (now (q .entry)) k (work states starts «other_starts» ranges) places ⌝ }
-{
-    let refusal = order_check::check_order(
-        max_doc,
-        fields,
-        leaves,
-        postings,
-        positions,
-        norms,
-        live,
-        columns,
-        values,
-        q,
-    );
-    if refusal != 0 {
-        return refusal;
-    }
-    if k < 1 {
-        return 11;
-    }
-    if 1024 < k {
-        return 11;
-    }
-    if order_check::work_short(
-        max_doc,
-        leaves,
-        postings,
-        q,
-        states,
-        starts,
-        other_starts,
-        ranges,
-    ) {
-        return 12;
-    }
-    if places < k as usize {
-        return 12;
-    }
-    0
-}
-
 // The work of a call that is not refused, with a place for each of k hits.
 fn find(
     max_doc: u32,
@@ -152,7 +92,7 @@ pub fn search(
     ensures { λ r. ⌜ Kept (searchRefusal (lent «max_doc» (now (fields .entry)) (now (leaves .entry)) (now (postings .entry)) (now (positions .entry)) (now (norms .entry)) (now (live .entry)) (now (columns .entry)) (now (values .entry))) (now (q .entry)) k (work (length (now (states .entry))) (length (now (a .entry))) (length (now (b .entry))) (length (now (ranges .entry)))) (length (now (hits .entry)))) (now (b .entry)) (now (b .exit)) ⌝ }
     ensures { λ r. ⌜ Kept (searchRefusal (lent «max_doc» (now (fields .entry)) (now (leaves .entry)) (now (postings .entry)) (now (positions .entry)) (now (norms .entry)) (now (live .entry)) (now (columns .entry)) (now (values .entry))) (now (q .entry)) k (work (length (now (states .entry))) (length (now (a .entry))) (length (now (b .entry))) (length (now (ranges .entry)))) (length (now (hits .entry)))) (now (ranges .entry)) (now (ranges .exit)) ⌝ }
 {
-    let refusal = search_refusal(
+    let refusal = order_check::search_refusal(
         max_doc,
         fields,
         leaves,

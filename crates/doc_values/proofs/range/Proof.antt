@@ -1,6 +1,6 @@
 -- `doc_values::range` meets its contract: the scan of the column between the keys of the two ends lists the range. Assumes nothing.
 use Prim.Native.Nat.{ℕ, _+_, _*_, _≤_}
-use mathlib.Core.Path.{ap, _∙_}
+use mathlib.Core.Path.{_≡_, ap, _∙_}
 use mathlib.Core.List.{List}
 use native.Mathlib.Omega.{arith}
 use borrow.Author.Needs.{needs}
@@ -21,6 +21,10 @@ asked s = record { column = s .args .column; kinds = s .args .kinds; lower = s .
 -- the column's values are there
 fits : (s : tie.Start) → 3 * (s .args .column * s .args .max-doc) + 3 * s .args .max-doc ≤ length (s .args .values .now)
 fits s = column-fits (lent s) (asked s) (s .pre .1 .0) (s .pre .1 .1 .0)
+
+-- the range is what the scan lists, and so the output is that of the range
+same-written : (l m out out′ : List ℕ) → l ≡ m → out′ ≡ written l out → out′ ≡ written m out
+same-written l m out out′ e h = h ∙ ap (λ (x : List ℕ). written x out) e
 
 mul-column-type : tie.Need-mul-column-type
 mul-column-type c = search needs
@@ -52,7 +56,7 @@ returns c =
     scan-is-range (a .max-doc) (a .columns .now) (a .values .now) (asked s)
     (λ i. c .before .before .before .before .before .before .before .shared-slice-known2 .given i .fits) (s .fits .lower .fits) (s .fits .upper .fits)
     (keys .result .from) (keys .result .to) (keys .ensures) in
-    (c .before .before .scan .ensures .0 ∙ ap length same, c .before .before .scan .ensures .1 ∙ ap (λ (l : List ℕ). written l (a .output .now)) same)
+    (c .before .before .scan .ensures .0 ∙ ap length same, same-written _ _ (a .output .now) _ same (c .before .before .scan .ensures .1))
 
 pub range-spec : {M : Type 1} → statement M
 range-spec =

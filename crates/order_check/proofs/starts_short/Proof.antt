@@ -10,7 +10,7 @@ starts-needed-requires : tie.Need-starts-needed-requires
 starts-needed-requires c κs =
     let s = c .before .before .before in
     let a = s .args in
-    query-runs (s .pre .0) (a .max-doc) (a .leaves .now) (a .postings .now) (a .q .now) (s .pre .1)
+    query-runs (s .pre .0) (s .pre .1) (a .leaves .now) (a .postings .now) (a .q .now) (s .pre .2)
 
 cast-needed : tie.Need-cast-needed
 cast-needed c =
@@ -21,14 +21,14 @@ returns c =
     let s = c .before .before .before .before .before in
     let a = s .args in
     let n = c .before .starts-needed in
-    λ ix h. first-short ix (a .q .now) (work (a .states) (a .starts) (a .other-starts) (a .ranges)) (n .result) (n .ensures ix (h .leaves-are) (h .postings-are)) (c .if1 .taken)
+    λ ix m h. first-short ix (a .q .now) (work 0 (a .starts) (a .other-starts) 0) (n .result) (n .ensures ix (h .leaves-are) (h .postings-are)) (c .if1 .taken)
 
 returns-2 : tie.Need-returns-2
 returns-2 c =
     let s = c .before .before .before .before .before in
     let a = s .args in
     let n = c .before .starts-needed in
-    λ ix h. second-short ix (a .q .now) (work (a .states) (a .starts) (a .other-starts) (a .ranges)) (n .result) (n .ensures ix (h .leaves-are) (h .postings-are)) (c .if1 .left)
+    λ ix m h. second-short ix (a .q .now) (work 0 (a .starts) (a .other-starts) 0) (n .result) (n .ensures ix (h .leaves-are) (h .postings-are)) (c .if1 .left)
 
 pub starts-short-spec : {M : Type 1} → statement M
 starts-short-spec = tie.close (tie.spec starts-needed-requires cast-needed returns returns-2)

@@ -1,8 +1,9 @@
 -- `work_short` meets its contract. Assumes nothing.
 use borrow.Author.Needs.{needs}
+use mathlib.Core.Path.{_∙_}
 use Rattle.order_check.specs.Lends.{work}
 use Rattle.order_check.proofs.Refusing.{query-few}
-use Rattle.order_check.proofs.Rooms.{states-short, starts-short, ranges-short}
+use Rattle.order_check.proofs.Rooms.{starts-alone, states-short, starts-short, ranges-short}
 use Rattle.order_check.proofs.work_short.Statement.{statement}
 use Rattle.order_check.proofs.work_short.Tie as tie
 
@@ -20,7 +21,7 @@ returns c =
 starts-short-requires : tie.Need-starts-short-requires
 starts-short-requires c κs =
     let s = c .before .before .before .before .before in
-    s .pre
+    (s .pre .0, s .args .max-doc, s .pre .1)
 
 returns-2 : tie.Need-returns-2
 returns-2 c =
@@ -28,7 +29,7 @@ returns-2 c =
     let a = s .args in
     let n = c .before .before .before .states-needed in
     let p = c .before .starts-short in
-    λ ix h. starts-short ix (a .q .now) (work (a .states) (a .starts) (a .other-starts) (a .ranges)) (n .result) (n .ensures) (c .before .before .if1 .left) (p .result) (p .ensures ix h) (c .if2 .taken)
+    λ ix h. starts-short ix (a .q .now) (work (a .states) (a .starts) (a .other-starts) (a .ranges)) (n .result) (n .ensures) (c .before .before .if1 .left) (p .result) (p .ensures ix (a .max-doc) h ∙ starts-alone ix (a .q .now) (a .states) (a .starts) (a .other-starts) (a .ranges)) (c .if2 .taken)
 
 ranges-needed-requires : tie.Need-ranges-needed-requires
 ranges-needed-requires c κs =
@@ -42,7 +43,7 @@ returns-3 c =
     let a = s .args in
     let n = c .before .before .before .before .states-needed in
     let p = c .before .before .starts-short in
-    λ ix h. ranges-short ix (a .q .now) (work (a .states) (a .starts) (a .other-starts) (a .ranges)) (n .result) (c .ranges-needed .result) (n .ensures) (c .before .before .before .if1 .left) (p .result) (p .ensures ix h) (c .before .if2 .left) (c .ranges-needed .ensures ix (h .documents))
+    λ ix h. ranges-short ix (a .q .now) (work (a .states) (a .starts) (a .other-starts) (a .ranges)) (n .result) (c .ranges-needed .result) (n .ensures) (c .before .before .before .if1 .left) (p .result) (p .ensures ix (a .max-doc) h ∙ starts-alone ix (a .q .now) (a .states) (a .starts) (a .other-starts) (a .ranges)) (c .before .if2 .left) (c .ranges-needed .ensures ix (h .documents))
 
 pub work-short-spec : {M : Type 1} → statement M
 work-short-spec = tie.close (tie.spec states-needed-requires returns starts-short-requires returns-2 ranges-needed-requires returns-3)

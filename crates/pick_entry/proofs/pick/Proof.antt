@@ -19,7 +19,9 @@ pick-refusal-requires : tie.Need-pick-refusal-requires
 pick-refusal-requires c κs = search needs
 
 returns : tie.Need-returns
-returns c = pick-refused _ _ _ _ _ _ (c .before .pick-refusal .ensures) (c .if1 .taken)
+returns c =
+    let t = c in
+    pick-refused _ _ _ _ _ _ (t .before .pick-refusal .ensures) (t .if1 .taken)
 
 slice-relend-prefix-pick : tie.Need-slice-relend-prefix-pick
 slice-relend-prefix-pick c = right c .room

@@ -9,43 +9,43 @@ use borrow.Author.Needs.{needs}
 use mir.Facts.{toZ-ofZ}
 use Rattle.meaning.specs.Lent.{Index}
 use Rattle.meaning.specs.Query.{recordCount, recordKind, phraseTermsOf}
-use Rattle.index.specs.Slices.{lent}
 use Rattle.phrase.specs.Words.{phraseWords}
 use Rattle.order_check.specs.Lends.{work, QueryLent}
 use Rattle.place_entry.specs.Answers.{placedNumbers}
+use Rattle.place_entry.specs.Runs.{PlaceLent}
 use Rattle.place_entry.proofs.TermWords.{phrase-here}
 use Rattle.place_entry.proofs.PlaceEntry.{place-within, starts-long, words-asked, found-nothing, found-at}
 use Rattle.place_entry.proofs.locate.Statement.{statement}
 use Rattle.place_entry.proofs.locate.Tie as tie
 
-abbrev index : tie.Start → Index
-index s =
-    lent (s .args .max-doc) (s .args .fields .now) (s .args .leaves .now) (s .args .postings .now) (s .args .positions .now) (s .args .norms .now) (s .args .live .now) (s .args .columns .now) (s .args .values .now)
+-- what is lent, of any index that it may be a part of
+abbrev Lent : tie.Start → Index → Type 0
+Lent s ix = PlaceLent ix (s .args .leaves .now) (s .args .postings .now) (s .args .positions .now) (s .args .q .now) (s .args .record-number) (s .args .document) (length (s .args .a .now)) (length (s .args .b .now))
 
-within : (s : tie.Start) → (s .args .document < s .args .max-doc) × (s .args .record-number < recordCount (s .args .q .now)) × (recordKind (s .args .q .now) (s .args .record-number) ≡ 2)
-within s = place-within (index s) (s .args .q .now) (s .args .record-number) (s .args .document) (work 0 (length (s .args .a .now)) (length (s .args .b .now)) 0) (s .pre .2)
+within : (s : tie.Start) (ix : Index) → Lent s ix → (s .args .document < ix .maxDoc) × (s .args .record-number < recordCount (s .args .q .now)) × (recordKind (s .args .q .now) (s .args .record-number) ≡ 2)
+within s ix h = place-within ix (s .args .q .now) (s .args .record-number) (s .args .document) (work 0 (length (s .args .a .now)) (length (s .args .b .now)) 0) (h .there)
 
-lends : (s : tie.Start) → QueryLent (index s) (s .args .max-doc) (s .args .leaves .now) (s .args .postings .now) (s .args .q .now)
-lends s = record { asks = s .pre .0; documents = refl; leaves-are = refl; postings-are = refl }
+lends : (s : tie.Start) (ix : Index) → Lent s ix → QueryLent ix (ix .maxDoc) (s .args .leaves .now) (s .args .postings .now) (s .args .q .now)
+lends s ix h = record { asks = h .asks; documents = refl; leaves-are = h .leaves-are; postings-are = h .postings-are }
 
 abbrev start : tie.After-children → tie.Start
-start c = c .before .before .before .before .before .before .before .before .before .before
+start c = c .before .before .before .before .before
 
 few : (c : tie.After-children) → c .children .result ≤ 32
-few c = let s = start c in let h = phrase-here (lends s) (s .args .record-number) (within s .1) (within s .2) in omega (arith, h .few-terms, c .children .ensures)
+few c = let s = start c in let w = within s (s .pre .0) (s .pre .1) in let h = phrase-here (lends s (s .pre .0) (s .pre .1)) (s .args .record-number) (w .1) (w .2) in omega (arith, h .few-terms, c .children .ensures)
 
 so-many : (n m : ℕ) → n ≡ m → (terms words : List ℕ) → take (3 * m) terms ≡ words → take (3 * n) terms ≡ words
 so-many n m e terms words h = rw e h
 
 -- the words that `phrase::place` is lent
-words-are : (c : tie.After-terms2) → let s = start (c .before .before .before) in take (3 * c .before .before .before .children .result) (c .before .write-terms .last .1 .1 .1 .1 .1 .1 .0) ≡ phraseWords (index s) (s .args .document) (phraseTermsOf (s .args .q .now) (s .args .record-number))
-words-are c =
+words-are : (c : tie.After-terms2) (ix : Index) → let s = start (c .before .before .before) in Lent s ix → take (3 * c .before .before .before .children .result) (c .before .write-terms .last .1 .1 .1 .1 .1 .0) ≡ phraseWords ix (s .args .document) (phraseTermsOf (s .args .q .now) (s .args .record-number))
+words-are c ix h =
     let w = c .before in
     let s = start (w .before .before) in
-    so-many _ _ (w .before .before .children .ensures) (w .write-terms .last .1 .1 .1 .1 .1 .1 .0) (phraseWords (index s) (s .args .document) (phraseTermsOf (s .args .q .now) (s .args .record-number))) (w .write-terms .ensures .0 (index s) (lends s))
+    so-many _ _ (w .before .before .children .ensures) (w .write-terms .last .1 .1 .1 .1 .1 .0) (phraseWords ix (s .args .document) (phraseTermsOf (s .args .q .now) (s .args .record-number))) (w .write-terms .ensures .0 ix (ix .maxDoc) (lends s ix h))
 
 children-requires : tie.Need-children-requires
-children-requires c κs = within (c .before .before .before .before .before .before .before .before .before) .1
+children-requires c κs = let s = c .before .before .before .before in within s (s .pre .0) (s .pre .1) .1
 
 cast-count : tie.Need-cast-count
 cast-count c = search needs
@@ -54,7 +54,7 @@ slice-aggregate-write-terms : tie.Need-slice-aggregate-write-terms
 slice-aggregate-write-terms c = search needs
 
 write-terms-requires : tie.Need-write-terms-requires
-write-terms-requires c κs = let s = start (c .before) in ((within s .1, within s .2, refl), (index s, lends s))
+write-terms-requires c κs = let s = start (c .before) in let ix = s .pre .0 in let w = within s ix (s .pre .1) in ((w .1, w .2, refl), (ix, ix .maxDoc, lends s ix (s .pre .1)))
 
 mul-terms : tie.Need-mul-terms
 mul-terms c = search needs
@@ -69,8 +69,11 @@ place-requires : tie.Need-place-requires
 place-requires c κs =
     let t = c .before .before .before in
     let s = start (t .before .before .before) in
-    let long = starts-long (index s) (s .args .q .now) (s .args .record-number) (s .args .document) (work 0 (length (s .args .a .now)) (length (s .args .b .now)) 0) (s .pre .1) in
-    words-asked (index s) (s .args .q .now) (s .pre .0) (s .args .record-number) (s .args .document) (within s .1) (within s .2) _ (words-are t) _ _ (long .0) (long .1)
+    let ix = s .pre .0 in
+    let h = s .pre .1 in
+    let w = within s ix h in
+    let long = starts-long ix (s .args .q .now) (s .args .record-number) (s .args .document) (work 0 (length (s .args .a .now)) (length (s .args .b .now)) 0) (h .long) in
+    rw (← h .positions-are) (words-asked ix (s .args .q .now) (h .asks) (s .args .record-number) (s .args .document) (w .1) (w .2) _ (words-are t ix h) _ _ (long .0) (long .1))
 
 enum-told : tie.Need-enum-told
 enum-told c = search needs
@@ -90,7 +93,7 @@ returns c =
     let p = c .before .before .before .before in
     let t = p .before .before .before .before in
     let s = start (t .before .before .before) in
-    found-nothing (index s) (s .args .q .now) (s .pre .0) (s .args .record-number) (s .args .document) (within s .1) (within s .2) _ (words-are t) _ (c .enum-told .given .1) (p .place .ensures)
+    λ ix h. let w = within s ix h in found-nothing ix (s .args .q .now) (h .asks) (s .args .record-number) (s .args .document) (w .1) (w .2) _ (words-are t ix h) _ (c .enum-told .given .1) (rw (h .positions-are) (p .place .ensures))
 
 same-length-3 : tie.Need-same-length-3
 same-length-3 c = search needs
@@ -104,7 +107,7 @@ returns-2 c =
     let p = c .before .before .before .before .before in
     let t = p .before .before .before .before in
     let s = start (t .before .before .before) in
-    found-at (index s) (s .args .q .now) (s .pre .0) (s .args .record-number) (s .args .document) (within s .1) (within s .2) _ (words-are t) _ _ _ (c .before .s .given .1) (toZ-ofZ (record { sfits = c .known-told .given .0 .1 })) (p .place .ensures)
+    λ ix h. let w = within s ix h in found-at ix (s .args .q .now) (h .asks) (s .args .record-number) (s .args .document) (w .1) (w .2) _ (words-are t ix h) _ _ _ (c .before .s .given .1) (toZ-ofZ (record { sfits = c .known-told .given .0 .1 })) (rw (h .positions-are) (p .place .ensures))
 
 pub locate-spec : {M : Type 1} → statement M
 locate-spec =

@@ -34,20 +34,20 @@ returns c =
     place-order (index s) (s .args .q .now) (s .args .record-number) (s .args .document) (room s) _ (c .before .check-order .ensures) (c .if1 .taken)
 
 starts-short-requires : tie.Need-starts-short-requires
-starts-short-requires c κs = (index (start (c .before)), lends c)
+starts-short-requires c κs = let s = start (c .before) in (index s, s .args .max-doc, lends c)
 
 returns-2 : tie.Need-returns-2
 returns-2 c =
     let e = c .before .before in
     let s = start (e .before) in
-    place-short (index s) (s .args .q .now) (s .args .record-number) (s .args .document) (room s) _ (e .before .check-order .ensures) (e .if1 .left) _ (c .before .starts-short .ensures (index s) (lends e)) (c .if2 .taken)
+    place-short (index s) (s .args .q .now) (s .args .record-number) (s .args .document) (room s) _ (e .before .check-order .ensures) (e .if1 .left) _ (c .before .starts-short .ensures (index s) (s .args .max-doc) (lends e)) (c .if2 .taken)
 
 returns-3 : tie.Need-returns-3
 returns-3 c =
     let f = c .before in
     let e = f .before .before in
     let s = start (e .before) in
-    place-document (index s) (s .args .q .now) (s .args .record-number) (s .args .document) (room s) _ (e .before .check-order .ensures) (e .if1 .left) _ (f .before .starts-short .ensures (index s) (lends e)) (f .if2 .left) (omega (arith, c .if3 .taken))
+    place-document (index s) (s .args .q .now) (s .args .record-number) (s .args .document) (room s) _ (e .before .check-order .ensures) (e .if1 .left) _ (f .before .starts-short .ensures (index s) (s .args .max-doc) (lends e)) (f .if2 .left) (omega (arith, c .if3 .taken))
 
 record-count-requires : tie.Need-record-count-requires
 record-count-requires c κs = search needs
@@ -57,7 +57,7 @@ returns-4 c =
     let f = c .before .before .before in
     let e = f .before .before in
     let s = start (e .before) in
-    place-record (index s) (s .args .q .now) (s .args .record-number) (s .args .document) (room s) _ (e .before .check-order .ensures) (e .if1 .left) _ (f .before .starts-short .ensures (index s) (lends e)) (f .if2 .left) (rw (c .before .record-count .ensures) at (c .if4 .taken))
+    place-record (index s) (s .args .q .now) (s .args .record-number) (s .args .document) (room s) _ (e .before .check-order .ensures) (e .if1 .left) _ (f .before .starts-short .ensures (index s) (s .args .max-doc) (lends e)) (f .if2 .left) (rw (c .before .record-count .ensures) at (c .if4 .taken))
 
 kind-requires : tie.Need-kind-requires
 kind-requires c κs = search needs
@@ -67,7 +67,7 @@ returns-5 c =
     let f = c .before .before .before .before .before in
     let e = f .before .before in
     let s = start (e .before) in
-    place-kind (index s) (s .args .q .now) (s .args .record-number) (s .args .document) (room s) _ (e .before .check-order .ensures) (e .if1 .left) _ (f .before .starts-short .ensures (index s) (lends e)) (f .if2 .left) (λ k. c .if5 .taken (c .before .kind .ensures ∙ k))
+    place-kind (index s) (s .args .q .now) (s .args .record-number) (s .args .document) (room s) _ (e .before .check-order .ensures) (e .if1 .left) _ (f .before .starts-short .ensures (index s) (s .args .max-doc) (lends e)) (f .if2 .left) (λ k. c .if5 .taken (c .before .kind .ensures ∙ k))
 
 returns-6 : tie.Need-returns-6
 returns-6 c =
@@ -75,7 +75,7 @@ returns-6 c =
     let f = r .before .before .before in
     let e = f .before .before in
     let s = start (e .before) in
-    place-0 (index s) (s .args .q .now) (s .args .record-number) (s .args .document) (room s) _ (e .before .check-order .ensures) (e .if1 .left) _ (f .before .starts-short .ensures (index s) (lends e)) (f .if2 .left) (r .before .before .if3 .left) (rw (r .before .record-count .ensures) at (r .if4 .left)) (sym (c .before .kind .ensures) ∙ c .if5 .left)
+    place-0 (index s) (s .args .q .now) (s .args .record-number) (s .args .document) (room s) _ (e .before .check-order .ensures) (e .if1 .left) _ (f .before .starts-short .ensures (index s) (s .args .max-doc) (lends e)) (f .if2 .left) (r .before .before .if3 .left) (rw (r .before .record-count .ensures) at (r .if4 .left)) (sym (c .before .kind .ensures) ∙ c .if5 .left)
 
 pub place-refusal-spec : {M : Type 1} → statement M
 place-refusal-spec =

@@ -1,6 +1,6 @@
 -- `place_entry::write_terms` meets its contract. Assumes nothing.
 use mathlib.Core.Path.{_≡_, _∙_}
-use Prim.Native.Nat.{_+_, _-_, _*_, _≤_, _<_}
+use Prim.Native.Nat.{ℕ, _+_, _-_, _*_, _≤_, _<_}
 use native.Mathlib.Omega.{arith}
 use lib.ListN.{length, take, length-set}
 use borrow.Author.Needs.{needs}
@@ -15,18 +15,18 @@ use Rattle.place_entry.proofs.write_terms.Tie as tie
 
 -- the words of the terms passed stand at the front
 abbrev Inv-loop : tie.InvT-loop
-Inv-loop max-doc leaves postings q at document terms₀ count j₀ terms j =
-    (j ≤ count) × (length terms ≡ 96) × ((ix : Index) → QueryLent ix max-doc leaves postings q → take (3 * j) terms ≡ phraseWords ix document (listTo j (λ i. record { leaf = recordValue q (at + 1 + i) 0; offset = recordValue q (at + 1 + i) 1 })))
+Inv-loop leaves postings q at document terms₀ count j₀ terms j =
+    (j ≤ count) × (length terms ≡ 96) × ((ix : Index) (n : ℕ) → QueryLent ix n leaves postings q → take (3 * j) terms ≡ phraseWords ix document (listTo j (λ i. record { leaf = recordValue q (at + 1 + i) 0; offset = recordValue q (at + 1 + i) 1 })))
 
 abbrev μ-loop : tie.MeasureT-loop
-μ-loop max-doc leaves postings q at document terms₀ count j₀ terms j = count - j
+μ-loop leaves postings q at document terms₀ count j₀ terms j = count - j
 
 -- a turn's term
 turn : (c : tie.In-loop Inv-loop μ-loop) → let s = c .before .before .before .before .before .before .before .before in let j = c .before .loop .j in (j < recordChildren (s .args .q .now) (s .args .at)) × (j < 32) × (s .args .at + 1 + j < recordCount (s .args .q .now))
 turn c =
     let w = c .before .before in
     let s = w .before .before .before .before .before .before in
-    term-here (s .pre .1 .1) (s .args .at) (s .pre .0 .0) (s .pre .0 .1) _ _ (w .wide .ensures ∙ w .before .children .ensures) (c .loop-test .taken)
+    term-here (s .pre .1 .2) (s .args .at) (s .pre .0 .0) (s .pre .0 .1) _ _ (w .wide .ensures ∙ w .before .children .ensures) (c .loop-test .taken)
 
 children-requires : tie.Need-children-requires Inv-loop μ-loop
 children-requires c κs = search needs
@@ -37,13 +37,13 @@ wide-requires c κs = search needs
 loop-holds : tie.Need-loop-holds Inv-loop μ-loop
 loop-holds c =
     let s = c .before .before .before .before .before .before in
-    (omega arith, s .pre .0 .2, λ ix lends. terms-none lends (s .args .at) (s .args .document) (s .args .terms .now))
+    (omega arith, s .pre .0 .2, λ ix m lends. terms-none lends (s .args .at) (s .args .document) (s .args .terms .now))
 
 add-term : tie.Need-add-term Inv-loop μ-loop
-add-term c = let t = turn c in omega (arith, t .2, c .before .before .before .before .before .before .before .before .good .1 .1 .1 .0 .0)
+add-term c = let t = turn c in omega (arith, t .2, c .before .before .before .before .before .before .before .before .good .1 .1 .0 .0)
 
 add-term-2 : tie.Need-add-term-2 Inv-loop μ-loop
-add-term-2 c = let t = turn c in omega (arith, t .2, c .before .before .before .before .before .before .before .before .good .1 .1 .1 .0 .0)
+add-term-2 c = let t = turn c in omega (arith, t .2, c .before .before .before .before .before .before .before .before .good .1 .1 .0 .0)
 
 value-requires : tie.Need-value-requires Inv-loop μ-loop
 value-requires c κs = (turn c .2, omega arith)
@@ -55,7 +55,7 @@ occurrences-in-requires : tie.Need-occurrences-in-requires Inv-loop μ-loop
 occurrences-in-requires c κs =
     let t = c .before .before in
     let s = t .before .before .before .before .before .before .before .before in
-    term-run (s .pre .1 .1) (s .args .at) (s .pre .0 .0) (s .pre .0 .1) (t .before .loop .j) _ (turn t .0) (c .wide2 .ensures ∙ c .before .value .ensures)
+    term-run (s .pre .1 .2) (s .args .at) (s .pre .0 .0) (s .pre .0 .1) (t .before .loop .j) _ (turn t .0) (c .wide2 .ensures ∙ c .before .value .ensures)
 
 mul-terms : tie.Need-mul-terms Inv-loop μ-loop
 mul-terms c = let t = turn (c .before .before .before) in omega (arith, t .1)
@@ -107,7 +107,7 @@ loop-again c =
     let few = turn t .1 in (
       omega (arith, t .loop-test .taken),
       simp length-set (l .inv .1),
-      λ ix lends. terms-more lends _ _ _ _ _ _ _ _ (l .inv .2 ix lends) (omega (arith, few, l .inv .1)) (o .before .wide2 .ensures ∙ o .before .before .value .ensures) (o .occurrences-in .ensures) (c .value2 .ensures),
+      λ ix m lends. terms-more lends _ _ _ _ _ _ _ _ (l .inv .2 ix m lends) (omega (arith, few, l .inv .1)) (o .before .wide2 .ensures ∙ o .before .before .value .ensures) (o .occurrences-in .ensures) (c .value2 .ensures),
     )
 
 same-length : tie.Need-same-length Inv-loop μ-loop
@@ -119,7 +119,7 @@ returns c =
     let w = c .before .before in
     let n = w .wide .ensures ∙ w .before .children .ensures in
     let whole : l .j ≡ w .wide .result = omega (arith, l .inv .0, c .loop-test .left) in
-    (λ ix lends. rw (← n, ← whole) (l .inv .2 ix lends), l .inv .1)
+    (λ ix m lends. rw (← n, ← whole) (l .inv .2 ix m lends), l .inv .1)
 
 pub write-terms-spec : {M : Type 1} → statement M
 write-terms-spec =

@@ -36,7 +36,10 @@ range-refusal-requires : tie.Need-range-refusal-requires
 range-refusal-requires c κs = search needs
 
 returns : tie.Need-returns
-returns c = range-refused (index (c .before)) (asked (c .before)) (lent (c .before)) (same (c .before)) _ _ _ (c .before .range-refusal .ensures) (c .if1 .taken)
+returns c =
+    let t = c in
+    let a = t .before in
+    range-refused (index a) (asked a) (lent a) (same a) _ _ _ (a .range-refusal .ensures) (t .if1 .taken)
 
 range-requires : tie.Need-range-requires
 range-requires c κs =

@@ -49,19 +49,19 @@ loop-again c = let a = c .before .before .before .loop in let s = c .before .bef
 
 -- src/run.rt:48:13
 halve-requires : tie.Need-halve-requires Inv-loop μ-loop
-halve-requires c κs = let a = c .before .before .before .loop in let s = c .before .before .before .before .before in record { run = s .pre .0; low-high = omega arith; high-within = omega (arith, c .before .before .loop-test .taken); stops = λ _. rw (c .before .document .ensures) at (c .if1 .left) }
+halve-requires c κs = let a = c .before .before .before .loop in let s = c .before .before .before .before .before in (s .args .count, record { run = s .pre .0; low-high = omega arith; high-within = omega (arith, c .before .before .loop-test .taken); stops = λ _. rw (c .before .document .ensures) at (c .if1 .left) })
 
 -- src/run.rt:48:13
 returns : tie.Need-returns Inv-loop μ-loop
-returns c = let a = c .before .before .before .before .loop in front-lower (a .low) _ (a .inv) (c .halve .ensures)
+returns c = let a = c .before .before .before .before .loop in let s = c .before .before .before .before .before .before in front-lower (a .low) _ (a .inv) (c .halve .ensures (s .args .count) (record { run = s .pre .0; low-high = omega arith; high-within = omega (arith, c .before .before .before .loop-test .taken); stops = λ _. rw (c .before .before .document .ensures) at (c .before .if1 .left) }))
 
 -- src/run.rt:51:5
 halve-requires-2 : tie.Need-halve-requires-2 Inv-loop μ-loop
-halve-requires-2 c κs = let a = c .before .loop in let s = c .before .before .before in record { run = s .pre .0; low-high = a .inv .within; high-within = le-refl _; stops = λ h. absurd (omega arith) }
+halve-requires-2 c κs = let a = c .before .loop in let s = c .before .before .before in (s .args .count, record { run = s .pre .0; low-high = a .inv .within; high-within = le-refl _; stops = λ h. absurd (omega arith) })
 
 -- src/run.rt:36:1
 returns-2 : tie.Need-returns-2 Inv-loop μ-loop
-returns-2 c = let a = c .before .before .loop in front-lower (a .low) _ (a .inv) (c .halve2 .ensures)
+returns-2 c = let a = c .before .before .loop in let s = c .before .before .before .before in front-lower (a .low) _ (a .inv) (c .halve2 .ensures (s .args .count) (record { run = s .pre .0; low-high = a .inv .within; high-within = le-refl _; stops = λ h. absurd (omega arith) }))
 
 pub gallop-spec : {M : Type 1} → statement M
 gallop-spec =

@@ -1,4 +1,5 @@
 -- `index::live::is_live` meets its contract. Assumes nothing.
+use mathlib.Core.Path.{refl}
 use native.Mathlib.Omega.{arith}
 use borrow.Author.Tests.{eq-eqb, ne-eqb}
 use Rattle.meaning.specs.Live.{isLive}
@@ -27,7 +28,7 @@ shr-result c = search needs
 
 returns-2 : tie.Need-returns-2
 unfolding isLive
-returns-2 c = rw (ne-eqb _ _ (c .before .before .if1 .left), c .before .wide .ensures)
+returns-2 c = rw (ne-eqb _ _ (c .before .before .if1 .left), c .before .wide .ensures) refl
 
 pub is-live-spec : {M : Type 1} → statement M
 is-live-spec =

@@ -5,7 +5,7 @@ use lib.ListN.{length}
 use Rattle.meaning.specs.Lent.{Index}
 use Rattle.meaning.specs.CallRefusals.{Work}
 use Rattle.order_check.specs.Lends.{work}
-use Rattle.searcher.proofs.CallConditions.{page-lends}
+use Rattle.order_check.proofs.CallConditions.{page-lends}
 use Rattle.searcher.proofs.Answering.{page-not-refused, page-refused, page-given}
 use Rattle.searcher.proofs.page.page.Statement.{statement}
 use Rattle.searcher.proofs.page.page.Tie as tie
@@ -16,11 +16,12 @@ page-refusal-requires c κs =
 
 returns : tie.Need-returns
 returns c =
-    let a = c .before .before .before .before .before .before .before .before .before .before .before .before .before .before .before .args in
+    let t = c in
+    let a = t .before .before .before .before .before .before .before .before .before .before .before .before .before .before .before .args in
     let ix : Index = record { maxDoc = a .max-doc; fields = a .fields .now; leaves = a .leaves .now; postings = a .postings .now; positions = a .positions .now; norms = a .norms .now; live = a .live .now; columns = a .columns .now; values = a .values .now } in
     let w : Work = work (length (a .states .now)) (length (a .a .now)) (length (a .b .now)) (length (a .ranges .now)) in
-    let o = c .before .page-refusal in
-    let r = page-refused ix (a .q .now) (a .target) w (a .documents .now) (a .scores .now) (o .result) (o .ensures) (c .if1 .taken) in
+    let o = t .before .page-refusal in
+    let r = page-refused ix (a .q .now) (a .target) w (a .documents .now) (a .scores .now) (o .result) (o .ensures) (t .if1 .taken) in
     (r .0, (r .1, (r .2, ((λ h. refl), ((λ h. refl), ((λ h. refl), (λ h. refl)))))))
 
 list-page-requires : tie.Need-list-page-requires

@@ -5,7 +5,7 @@ use lib.ListN.{length}
 use Rattle.meaning.specs.Lent.{Index}
 use Rattle.meaning.specs.CallRefusals.{Work}
 use Rattle.order_check.specs.Lends.{work}
-use Rattle.searcher.proofs.CallConditions.{search-lends, hits-front}
+use Rattle.order_check.proofs.CallConditions.{search-lends, hits-front}
 use Rattle.searcher.proofs.Answering.{search-not-refused, search-refused, search-found}
 use Rattle.searcher.proofs.search.search.Statement.{statement}
 use Rattle.searcher.proofs.search.search.Tie as tie
@@ -16,11 +16,12 @@ search-refusal-requires c κs =
 
 returns : tie.Need-returns
 returns c =
-    let a = c .before .before .before .before .before .before .before .before .before .before .before .before .before .args in
+    let t = c in
+    let a = t .before .before .before .before .before .before .before .before .before .before .before .before .before .args in
     let ix : Index = record { maxDoc = a .max-doc; fields = a .fields .now; leaves = a .leaves .now; postings = a .postings .now; positions = a .positions .now; norms = a .norms .now; live = a .live .now; columns = a .columns .now; values = a .values .now } in
     let w : Work = work (length (a .states .now)) (length (a .a .now)) (length (a .b .now)) (length (a .ranges .now)) in
-    let o = c .before .search-refusal in
-    let r = search-refused ix (a .q .now) (a .k) (a .t) w (a .hits .now) (o .result) (o .ensures) (c .if1 .taken) in
+    let o = t .before .search-refusal in
+    let r = search-refused ix (a .q .now) (a .k) (a .t) w (a .hits .now) (o .result) (o .ensures) (t .if1 .taken) in
     (r .0, (r .1, ((λ h. refl), ((λ h. refl), ((λ h. refl), (λ h. refl))))))
 
 slice-relend-prefix-find : tie.Need-slice-relend-prefix-find

@@ -3,11 +3,11 @@ use borrow.Author.Needs.{needs}
 use mathlib.Core.Path.{refl}
 use Rattle.meaning.specs.Lent.{Index}
 use Rattle.meaning.specs.CallRefusals.{Work}
 use Rattle.order_check.specs.Lends.{work}
 use Rattle.order_check.proofs.Refusing.{order-checked}
-use Rattle.searcher.proofs.CallConditions.{search-order, search-no-hits, search-many-hits, search-short, search-few-places, search-accepted}
-use Rattle.searcher.proofs.search.search_refusal.Statement.{statement}
-use Rattle.searcher.proofs.search.search_refusal.Tie as tie
+use Rattle.order_check.proofs.CallConditions.{search-order, search-no-hits, search-many-hits, search-short, search-few-places, search-accepted}
+use Rattle.order_check.proofs.search_refusal.Statement.{statement}
+use Rattle.order_check.proofs.search_refusal.Tie as tie
 
 check-order-requires : tie.Need-check-order-requires
 check-order-requires c κs =
