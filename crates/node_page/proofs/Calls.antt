@@ -18,7 +18,7 @@ use Rattle.order_check.proofs.Rooms.{starts-room, ranges-room}
 use Rattle.walk.specs.declared.Listed.{Listed}
 use Rattle.walk.specs.Walks.{PageIs}
 use Rattle.searcher.specs.declared.page.Paged.the-variants as Paged
-use Rattle.searcher.proofs.CallConditions.{Pages as Lends}
+use Rattle.order_check.proofs.CallConditions.{Pages as Lends}
 use Rattle.searcher.proofs.Answering.{page-refused, page-given, page-not-refused}
 use Rattle.node_state.specs.Standing.{Standing, treeOf}
 use Rattle.node_page.specs.Pages.{Pages, refusalOf, workOf, TreeAsked, ListAsked}

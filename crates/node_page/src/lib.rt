@@ -112,7 +112,7 @@ fn page_words(
     requires { ⌜ (nodeStateWords * nodes < 2 ^ 64) × (nodeStateWords * maxRecords ≤ length (now words)) × (resume ≡ true → refusalOf (lent «max_doc» (now fields) (now leaves) (now postings) (now positions) (now norms) (now live) (now columns) (now values)) (now q) target nodes (now a) (now b) (now ranges) (now documents) (now scores) ≡ 0 → Standing (lent «max_doc» (now fields) (now leaves) (now postings) (now positions) (now norms) (now live) (now columns) (now values)) (now q) (now ranges) (now words) target) ⌝ }
     ensures { λ r. ⌜ Pages (lent «max_doc» (now (fields .entry)) (now (leaves .entry)) (now (postings .entry)) (now (positions .entry)) (now (norms .entry)) (now (live .entry)) (now (columns .entry)) (now (values .entry))) (now (q .entry)) target (workOf nodes (now (a .entry)) (now (b .entry)) (now (ranges .entry))) (now (documents .entry)) (now (documents .exit)) (now (scores .entry)) (now (scores .exit)) (now (a .entry)) (now (a .exit)) (now (b .entry)) (now (b .exit)) (now (ranges .entry)) (now (ranges .exit)) (now (words .exit)) r ⌝ }
 {
-    let refusal = searcher::page::page_refusal(
+    let refusal = order_check::page_refusal(
         max_doc,
         fields,
         leaves,

@@ -90,7 +90,7 @@ fn search_words(
     ensures { λ r. ⌜ SearchesWords (lent «max_doc» (now (fields .entry)) (now (leaves .entry)) (now (postings .entry)) (now (positions .entry)) (now (norms .entry)) (now (live .entry)) (now (columns .entry)) (now (values .entry))) (now (q .entry)) k t n (now (words .exit)) (now (a .entry)) (now (a .exit)) (now (b .entry)) (now (b .exit)) (now (ranges .entry)) (now (ranges .exit)) (now (hits .entry)) (now (hits .exit)) r ⌝ }
 {
     let end = NODE_STATE_WORDS * n;
-    let refusal = searcher::search::search_refusal(
+    let refusal = order_check::search_refusal(
         max_doc,
         fields,
         leaves,

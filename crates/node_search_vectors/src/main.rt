@@ -193,6 +193,14 @@ fn rubbish() -> NodeState {
         spare3: IN_RECORDS,
         spare4: IN_RECORDS,
         spare5: IN_RECORDS,
+        spare6: IN_RECORDS,
+        spare7: IN_RECORDS,
+        spare8: IN_RECORDS,
+        spare9: IN_RECORDS,
+        spare10: IN_RECORDS,
+        spare11: IN_RECORDS,
+        spare12: IN_RECORDS,
+        spare13: IN_RECORDS,
     }
 }
 
@@ -224,6 +232,14 @@ fn is_rubbish(s: NodeState) -> bool {
     bits = bits | (s.spare3 ^ r);
     bits = bits | (s.spare4 ^ r);
     bits = bits | (s.spare5 ^ r);
+    bits = bits | (s.spare6 ^ r);
+    bits = bits | (s.spare7 ^ r);
+    bits = bits | (s.spare8 ^ r);
+    bits = bits | (s.spare9 ^ r);
+    bits = bits | (s.spare10 ^ r);
+    bits = bits | (s.spare11 ^ r);
+    bits = bits | (s.spare12 ^ r);
+    bits = bits | (s.spare13 ^ r);
     bits == 0
 }
 

@@ -5,7 +5,7 @@ ghost use Prim.Native.Nat.{_≤_, _+_, _*_};
 ghost use lib.ListN.{length, take, drop};
 ghost use Rattle.meaning.specs.Limits.{nodeStateWords};
 ghost use Rattle.weight.specs.State.{wordsOf};
-ghost use Rattle.node_state.specs.Records.{stateOf, recordWords, nodeFrom, held, heldWords};
+ghost use Rattle.node_state.specs.Records.{stateOf, recordWords, nodeFrom, held};
 use weight::NODE_STATE_WORDS;
 
 // The most query records of an order: as `maxRecords` in meaning's Limits.
@@ -37,6 +37,14 @@ pub struct NodeState {
     pub spare3: u32,
     pub spare4: u32,
     pub spare5: u32,
+    pub spare6: u32,
+    pub spare7: u32,
+    pub spare8: u32,
+    pub spare9: u32,
+    pub spare10: u32,
+    pub spare11: u32,
+    pub spare12: u32,
+    pub spare13: u32,
 }
 
 // How many of so many records a call can need.
@@ -47,17 +55,6 @@ pub fn held(nodes: usize) -> usize
         return nodes;
     }
     MAX_RECORDS
-}
-
-// How many whole records so many words hold, and at most so many.
-pub fn held_words(nodes: usize, words: usize) -> usize
-    ensures { λ r. ⌜ r ≡ heldWords nodes words ⌝ }
-{
-    let whole = words / NODE_STATE_WORDS;
-    if nodes < whole {
-        return nodes;
-    }
-    whole
 }
 
 // The record at i to its words.
@@ -93,6 +90,14 @@ fn put_node(words: &mut [u32], i: usize, s: NodeState)
             s.spare3,
             s.spare4,
             s.spare5,
+            s.spare6,
+            s.spare7,
+            s.spare8,
+            s.spare9,
+            s.spare10,
+            s.spare11,
+            s.spare12,
+            s.spare13,
         ],
     );
 }
@@ -127,6 +132,14 @@ fn first_node(words: &[u32]) -> NodeState
         spare3: words[21],
         spare4: words[22],
         spare5: words[23],
+        spare6: words[24],
+        spare7: words[25],
+        spare8: words[26],
+        spare9: words[27],
+        spare10: words[28],
+        spare11: words[29],
+        spare12: words[30],
+        spare13: words[31],
     }
 }
 

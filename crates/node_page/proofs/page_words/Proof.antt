@@ -3,7 +3,7 @@ use mathlib.Core.Path.{sym, _∙_}
 use lib.ListN.{length}
 use borrow.Author.Needs.{needs}
 use Rattle.index.specs.Slices.{lent}
-use Rattle.searcher.proofs.CallConditions.{page-lends}
+use Rattle.order_check.proofs.CallConditions.{page-lends}
 use Rattle.node_page.specs.Pages.{workOf}
 use Rattle.node_page.proofs.Calls.{tree-asked, list-asked, refuses, gives}
 use Rattle.node_page.proofs.page_words.Statement.{statement}

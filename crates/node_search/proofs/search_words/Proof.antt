@@ -6,7 +6,7 @@ use lib.Seq.{length-take-le}
 use borrow.Author.Needs.{needs}
 use Rattle.meaning.specs.Limits.{nodeStateWords}
 use Rattle.meaning.specs.Lent.{Index}
-use Rattle.searcher.proofs.CallConditions.{search-lends, hits-front}
+use Rattle.order_check.proofs.CallConditions.{search-lends, hits-front}
 use Rattle.node_search.specs.Searches.{roomOf}
 use Rattle.node_search.proofs.Words.{words-refused, long-front, words-found}
 use Rattle.node_search.proofs.search_words.Statement.{statement}
