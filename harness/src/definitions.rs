@@ -1,11 +1,8 @@
 //! Rows for antt: what the definitions of crates/meaning, and the text of `hits`, must give for a
 //! call of an entry, as equations that the checker computes. The answers are the Rust's, a
 //! refusal's number, or, of Place, which the Rust does not have, worked out here.
-#[cfg(oracle)]
 mod entries;
-#[cfg(oracle)]
 mod place;
-#[cfg(oracle)]
 pub mod rows;
 
 use crate::case::Case;

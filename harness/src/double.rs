@@ -1,5 +1,5 @@
 //! A stand-in for the library, made of the judge and the Rust; and wrong libraries, each of which
-//! the differential run has to catch.
+//! the differential run and the checks of the fuzz run have to catch.
 use crate::answer::{Hit, NO_MORE_DOCS};
 use crate::border::{Entries, Index, Page, Pick, Search, Work};
 use crate::case::Case;
@@ -156,7 +156,7 @@ impl Double {
             work.ranges.fill(11);
         }
         if accepted && self.0 == Wrong::WritesOutside {
-            // Safe here: the buffers of the differential run have margins.
+            // Safe here: a double is lent buffers with margins.
             unsafe { *work.ranges.as_mut_ptr().add(work.ranges.len()) ^= 1 };
         }
     }

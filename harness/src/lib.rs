@@ -9,6 +9,7 @@ pub mod catalogue;
 #[cfg(oracle)]
 pub mod compare;
 pub mod damage;
+#[cfg(oracle)]
 pub mod definitions;
 #[cfg(oracle)]
 pub mod double;
