@@ -151,6 +151,20 @@ pub fn unpack(nodes: &[NodeState], n: usize, words: &mut [u32])
     }
 }
 
+fn zeros() -> [u32; MAX_RECORDS * NODE_STATE_WORDS] {
+    [0; MAX_RECORDS * NODE_STATE_WORDS]
+}
+
+// The words of the records that a call can need, in an array of the largest order's size.
+pub fn unpacked(nodes: &[NodeState]) -> [u32; MAX_RECORDS * NODE_STATE_WORDS]
+    ensures { λ r. ⌜ take (nodeStateWords * held (length (now (nodes .entry)))) r ≡ recordWords (take (held (length (now (nodes .entry)))) (now (nodes .entry))) ⌝ }
+{
+    let mut words = zeros();
+    let n = held(nodes.len());
+    unpack(nodes, n, &mut words);
+    words
+}
+
 // The first n records from the words.
 pub fn pack(words: &[u32], n: usize, nodes: &mut [NodeState])
     requires { ⌜ (n ≤ length (now nodes)) × (nodeStateWords * n ≤ length (now words)) ⌝ }
