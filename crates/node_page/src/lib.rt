@@ -134,7 +134,17 @@ fn page_words(
     if refusal != 0 {
         return Paged::Refused(refusal);
     }
-    let size = stand(max_doc, fields, leaves, columns, values, q, resume, words, ranges);
+    let size = stand(
+        max_doc,
+        fields,
+        leaves,
+        columns,
+        values,
+        q,
+        resume,
+        words,
+        ranges,
+    );
     Paged::Given(list_on(
         max_doc,
         fields,
@@ -164,4 +174,3 @@ fn used(r: Paged, nodes: usize) -> usize
         Paged::Given(_) => node_state::held(nodes),
     }
 }
-

@@ -1,8 +1,8 @@
 -- Node states as records, and the words of records. Assumes nothing: these are definitions.
 use mathlib.Core.List.{List, [], _∷_, _++_}
-use Prim.Native.Nat.{ℕ, min, _/_}
+use Prim.Native.Nat.{ℕ, min}
 use lib.ListN.{getD}
-use Rattle.meaning.specs.Limits.{nodeStateWords, maxRecords}
+use Rattle.meaning.specs.Limits.{maxRecords}
 use Rattle.weight.specs.State.{State, wordsOf}
 use Rattle.node_state.specs.declared.NodeState.{NodeState}
 
@@ -24,7 +24,3 @@ nodeFrom w =
 -- how many of some records a call can need: an order has so many at most
 abbrev pub held : ℕ → ℕ
 held nodes = min nodes maxRecords
-
--- how many records there are words for
-abbrev pub heldWords : ℕ → ℕ → ℕ
-heldWords nodes words = min nodes (words / nodeStateWords)

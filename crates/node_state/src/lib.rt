@@ -5,7 +5,7 @@ ghost use Prim.Native.Nat.{_≤_, _+_, _*_};
 ghost use lib.ListN.{length, take, drop};
 ghost use Rattle.meaning.specs.Limits.{nodeStateWords};
 ghost use Rattle.weight.specs.State.{wordsOf};
-ghost use Rattle.node_state.specs.Records.{stateOf, recordWords, nodeFrom, held, heldWords};
+ghost use Rattle.node_state.specs.Records.{stateOf, recordWords, nodeFrom, held};
 use weight::NODE_STATE_WORDS;
 
 // The most query records of an order: as `maxRecords` in meaning's Limits.
@@ -47,17 +47,6 @@ pub fn held(nodes: usize) -> usize
         return nodes;
     }
     MAX_RECORDS
-}
-
-// How many whole records so many words hold, and at most so many.
-pub fn held_words(nodes: usize, words: usize) -> usize
-    ensures { λ r. ⌜ r ≡ heldWords nodes words ⌝ }
-{
-    let whole = words / NODE_STATE_WORDS;
-    if nodes < whole {
-        return nodes;
-    }
-    whole
 }
 
 // The record at i to its words.
