@@ -1,4 +1,3 @@
--- The plain mathematics of this crate's proofs, and what is generic of its walk: a local array that is lent as a shared slice, and a long constant.
+-- The plain mathematics of this crate's proofs, and a local array that is lent as a shared slice.
 pub mod Words
 pub mod Shares
-pub mod Literals

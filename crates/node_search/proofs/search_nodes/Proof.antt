@@ -53,9 +53,8 @@ use Rattle.node_state.proofs.pack as bb
 use Rattle.node_state.proofs.pack.Symbol as b-def
 use Rattle.node_state.proofs.pack.Symbol.{name as #b}
 use Rattle.node_state.proofs.pack.Met as b-thm
-use Rattle.node_state.proofs.Arrays.{array-in, array-back}
+use Rattle.node_state.proofs.Arrays.{array-in, array-back, big-lit}
 use Rattle.node_search.proofs.Shares.{Lender, lends-cells, cells-back}
-use Rattle.node_search.proofs.Literals.{big-lit}
 use Rattle.node_search.specs.Searches.{used}
 use Rattle.node_search.proofs.Words.{used-least}
 use Rattle.node_search.proofs.no_states as zz
