@@ -54,9 +54,9 @@ fn field_at(q: &[u32], leaves: &[u32], at: usize) -> u32
 }
 
 // A field's inverses are worked out once, where its first record is met.
-pub fn fill_inverses(max_doc: u32, fields: &[u32], leaves: &[u32], q: &[u32], table: &mut [f32])
-    requires { ⌜ ((ix : Index) × Asks ix (now q) × LeafLent ix «max_doc» (now fields) (now leaves)) × (length (now table) ≡ 4096) ⌝ }
-    ensures { λ r. ⌜ ((ix : Index) → Asks ix (now (q .entry)) → LeafLent ix «max_doc» (now (fields .entry)) (now (leaves .entry)) → (at : ℕ) → at < recordCount (now (q .entry)) → hasField (now (q .entry)) at ≡ true → FieldTable ix (now (table .exit)) (fieldAt ix (now (q .entry)) at)) ⌝ }
+pub fn fill_inverses(fields: &[u32], leaves: &[u32], q: &[u32], table: &mut [f32])
+    requires { ⌜ ((ix : Index) × (n : ℕ) × Asks ix (now q) × LeafLent ix n (now fields) (now leaves)) × (length (now table) ≡ 4096) ⌝ }
+    ensures { λ r. ⌜ ((ix : Index) (n : ℕ) → Asks ix (now (q .entry)) → LeafLent ix n (now (fields .entry)) (now (leaves .entry)) → (at : ℕ) → at < recordCount (now (q .entry)) → hasField (now (q .entry)) at ≡ true → FieldTable ix (now (table .exit)) (fieldAt ix (now (q .entry)) at)) ⌝ }
     ensures { λ r. ⌜ length (now (table .exit)) ≡ 4096 ⌝ }
 {
     let count = query::record_count(q);

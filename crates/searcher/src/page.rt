@@ -42,7 +42,7 @@ fn list_page(
     ensures { λ r. ⌜ PageIs (pageOf (lent «max_doc» (now (fields .entry)) (now (leaves .entry)) (now (postings .entry)) (now (positions .entry)) (now (norms .entry)) (now (live .entry)) (now (columns .entry)) (now (values .entry))) (now (q .entry)) target (length (now (documents .entry)))) (now (documents .entry)) (now (scores .entry)) r (now (documents .exit)) (now (scores .exit)) ⌝ }
 {
     let mut inverses: [f32; 4096] = [0.0; 4096];
-    inverses::fill_inverses(max_doc, fields, leaves, q, &mut inverses);
+    inverses::fill_inverses(fields, leaves, q, &mut inverses);
     let size = build::build(max_doc, fields, leaves, columns, values, q, states, ranges);
     walk::list(
         &mut states[..size],

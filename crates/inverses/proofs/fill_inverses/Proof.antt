@@ -6,7 +6,7 @@ use Rattle.weight.specs.Measured.{Asks}
 use Rattle.meaning.specs.Lent.{Index}
 use Rattle.meaning.specs.Query.{recordCount}
 use lib.ListN.{length, length-take, length-drop, length-set}
-use Prim.Native.Nat.{_-_, _≤_}
+use Prim.Native.Nat.{ℕ, _-_, _≤_}
 use native.Mathlib.Omega.{arith}
 use mathlib.Core.Bool.{true}
 use mathlib.Core.Logic.{⊎-elim}
@@ -17,11 +17,11 @@ use Rattle.inverses.proofs.fill_inverses.Statement.{statement}
 use Rattle.inverses.proofs.fill_inverses.Tie as tie
 
 abbrev Inv-loop : tie.InvT-loop
-Inv-loop max-doc fields leaves q table₀ count filled₀ at₀ table filled at =
-    ((ix : Index) → Asks ix q → LeafLent ix max-doc fields leaves → Filled ix q table filled at) × (at ≤ count) × (count ≡ recordCount q) × (length table ≡ 4096) × (length filled ≡ 16)
+Inv-loop fields leaves q table₀ count filled₀ at₀ table filled at =
+    ((ix : Index) (n : ℕ) → Asks ix q → LeafLent ix n fields leaves → Filled ix q table filled at) × (at ≤ count) × (count ≡ recordCount q) × (length table ≡ 4096) × (length filled ≡ 16)
 
 abbrev μ-loop : tie.MeasureT-loop
-μ-loop max-doc fields leaves q table₀ count filled₀ at₀ table filled at = count - at
+μ-loop fields leaves q table₀ count filled₀ at₀ table filled at = count - at
 
 record-count-requires : tie.Need-record-count-requires Inv-loop μ-loop
 record-count-requires c κs = search needs
@@ -29,7 +29,7 @@ record-count-requires c κs = search needs
 loop-holds : tie.Need-loop-holds Inv-loop μ-loop
 loop-holds c =
     let s = c .before .before .before .before .before in
-    (λ ix a lent. none-filled ix (s .args .q .now) (s .args .table .now), omega arith, c .record-count .ensures, s .pre .1, refl)
+    (λ ix n a lent. none-filled ix (s .args .q .now) (s .args .table .now), omega arith, c .record-count .ensures, s .pre .1, refl)
 
 has-field-requires : tie.Need-has-field-requires Inv-loop μ-loop
 has-field-requires c κs = omega (arith, c .loop-test .taken, c .before .loop .inv .2)
@@ -38,7 +38,7 @@ field-at-requires : tie.Need-field-at-requires Inv-loop μ-loop
 field-at-requires c κs =
     let s = c .before .before .before .before .before .before .before .before .before in
     let a = s .pre .0 in
-    (a .0, a .1, a .2 .leaves-are, omega (arith, c .before .before .loop-test .taken, c .before .before .before .loop .inv .2), sym (c .before .has-field .ensures) ∙ c .if1 .taken)
+    (a .0, a .2, a .3 .leaves-are, omega (arith, c .before .before .loop-test .taken, c .before .before .before .loop .inv .2), sym (c .before .has-field .ensures) ∙ c .if1 .taken)
 
 cast-f : tie.Need-cast-f Inv-loop μ-loop
 cast-f c = omega (arith, c .field-at .ok)
@@ -50,7 +50,7 @@ read c =
     let a = s .pre .0 in
     let low = c .before .before .before .loop-test .taken in
     let is = c .before .before .before .before .loop .inv .2 in
-    field-read (a .0) (s .args .max-doc) (s .args .q .now) (s .args .fields .now) (s .args .leaves .now) (c .before .before .before .before .loop .at) (c .field-at .result) (a .1) (a .2) (omega (arith, low, is)) (sym (c .before .before .has-field .ensures) ∙ c .before .if1 .taken) (c .field-at .ensures (a .0) (a .2 .leaves-are))
+    field-read (a .0) (a .1) (s .args .q .now) (s .args .fields .now) (s .args .leaves .now) (c .before .before .before .before .loop .at) (c .field-at .result) (a .2) (a .3) (omega (arith, low, is)) (sym (c .before .before .has-field .ensures) ∙ c .before .if1 .taken) (c .field-at .ensures (a .0) (a .3 .leaves-are))
 
 array-read-if2 : tie.Need-array-read-if2 Inv-loop μ-loop
 array-read-if2 c = read c .few
@@ -101,7 +101,6 @@ loop-again c =
     let l = c .before .before .before .loop in
     let low = c .before .before .loop-test .taken in
     let has = c .before .has-field .ensures in
-    let n = s .args .max-doc in
     let q = s .args .q .now in
     let fields = s .args .fields .now in
     let leaves = s .args .leaves .now in
@@ -112,15 +111,15 @@ loop-again c =
     let few = field .few in
     let long = l .inv .3 in
     let wide = l .inv .4 in (
-      λ ix a lent. rw (w .8, w .9) (filled-new ix q (l .table) (l .filled) (l .at) (l .inv .0 ix a lent) fields f (w .5 .last .1 .0) (lent .field-lent .fields-are) (w .1 .ensures ix (lent .leaves-are)) (omega (arith, few, wide)) (omega (arith, few, long)) (w .5 .ensures)),
+      λ ix n a lent. rw (w .8, w .9) (filled-new ix q (l .table) (l .filled) (l .at) (l .inv .0 ix n a lent) fields f (w .5 .last .1 .0) (lent .field-lent .fields-are) (w .1 .ensures ix (lent .leaves-are)) (omega (arith, few, wide)) (omega (arith, few, long)) (w .5 .ensures)),
       omega (arith, low),
       l .inv .2,
       ap length (w .8) ∙ w .6 .given .1 ∙ long,
       ap length (w .9) ∙ length-set (l .filled) f true ∙ wide,
     ))
     (⊎-elim
-    (λ w. (λ ix a lent. rw (w .3, w .4) (filled-again ix q (l .table) (l .filled) (l .at) (l .inv .0 ix a lent) (w .1 .result) (w .1 .ensures ix (lent .leaves-are)) (not-false _ (w .2 .left))), omega (arith, low), l .inv .2, ap length (w .3) ∙ l .inv .3, ap length (w .4) ∙ l .inv .4))
-    (λ w. (λ ix a lent. rw (w .1, w .2) (filled-skip ix q (l .table) (l .filled) (l .at) (l .inv .0 ix a lent) (sym has ∙ w .0 .left)), omega (arith, low), l .inv .2, ap length (w .1) ∙ l .inv .3, ap length (w .2) ∙ l .inv .4)))
+    (λ w. (λ ix n a lent. rw (w .3, w .4) (filled-again ix q (l .table) (l .filled) (l .at) (l .inv .0 ix n a lent) (w .1 .result) (w .1 .ensures ix (lent .leaves-are)) (not-false _ (w .2 .left))), omega (arith, low), l .inv .2, ap length (w .3) ∙ l .inv .3, ap length (w .4) ∙ l .inv .4))
+    (λ w. (λ ix n a lent. rw (w .1, w .2) (filled-skip ix q (l .table) (l .filled) (l .at) (l .inv .0 ix n a lent) (sym has ∙ w .0 .left)), omega (arith, low), l .inv .2, ap length (w .1) ∙ l .inv .3, ap length (w .2) ∙ l .inv .4)))
     (c .if1 .came)
 
 same-length : tie.Need-same-length Inv-loop μ-loop
@@ -134,7 +133,7 @@ returns c =
     let l = c .before .loop in
     let end = c .loop-test .left in
     let is = l .inv .2 in
-    (λ ix a lent at h has. let known = l .inv .0 ix a lent in known .tables (fieldAt ix (s .args .q .now) at) (known .met at (omega (arith, h, end, is)) has), l .inv .3)
+    (λ ix n a lent at h has. let known = l .inv .0 ix n a lent in known .tables (fieldAt ix (s .args .q .now) at) (known .met at (omega (arith, h, end, is)) has), l .inv .3)
 
 pub fill-inverses-spec : {M : Type 1} → statement M
 fill-inverses-spec =

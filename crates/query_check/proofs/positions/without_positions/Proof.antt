@@ -1,5 +1,5 @@
 -- `query::without_positions` meets its contract. Assumes nothing.
-use mathlib.Core.Path.{sym, _∙_}
+use mathlib.Core.Path.{refl, sym, _∙_}
 use native.Mathlib.Omega.{arith}
 use borrow.Author.Tests.{eq-eqb, ne-eqb}
 use Rattle.meaning.specs.Query.{recordKind}
@@ -38,7 +38,7 @@ shared-slice-read-result c =
 returns-2 : tie.Need-returns-2
 returns-2 c =
     let s = c .before .before .before .before .before .before .before in let q = s .args .q .now in let at = s .args .at in
-    rw (eq-eqb (recordKind q at) 2 (sym (c .before .before .before .before .kind .ensures) ∙ c .before .before .before .if1 .left), ← c .before .before .value .ensures, ← c .before .wide .ensures)
+    rw (eq-eqb (recordKind q at) 2 (sym (c .before .before .before .before .kind .ensures) ∙ c .before .before .before .if1 .left), ← c .before .before .value .ensures, ← c .before .wide .ensures) refl
 
 pub without-positions-spec : {M : Type 1} → statement M
 without-positions-spec =

@@ -23,7 +23,7 @@ fill-inverses-requires c κs =
     let asks = s .pre .1 .0 in
     let q = a .q .now in
     let lent = leaf-lent (a .max-doc) (a .fields .now) (a .leaves .now) (a .postings .now) (a .positions .now) (a .norms .now) (a .live .now) (a .columns .now) (a .values .now) q asks in
-    ((ix, asks, lent), refl)
+    ((ix, a .max-doc, asks, lent), refl)
 
 build-requires : tie.Need-build-requires
 build-requires c κs =
@@ -80,7 +80,7 @@ list-requires c κs =
     let lent = leaf-lent (a .max-doc) (a .fields .now) (a .leaves .now) (a .postings .now) (a .positions .now) (a .norms .now) (a .live .now) (a .columns .now) (a .values .now) q asks in
     let cols = columns-lent (a .max-doc) (a .fields .now) (a .leaves .now) (a .postings .now) (a .positions .now) (a .norms .now) (a .live .now) (a .columns .now) (a .values .now) q in
     let placed = p .ensures .0 ix asks lent cols in
-    (omega (arith, s .pre .0 .0, asks .accepted .documents), s .pre .0 .1, (ix, treeOf ix q, 0, walk-held (a .max-doc) (a .fields .now) (a .leaves .now) (a .postings .now) (a .positions .now) (a .norms .now) (a .live .now) (a .columns .now) (a .values .now) q w asks (s .pre .1 .1) (i .last .1 .1 .1 .1 .0) (i .ensures .0 ix asks lent) (p .last .1 .1 .1 .1 .1 .1 .1 .0) (p .last .1 .1 .1 .1 .1 .1 .0) (p .result) placed _))
+    (omega (arith, s .pre .0 .0, asks .accepted .documents), s .pre .0 .1, (ix, treeOf ix q, 0, walk-held (a .max-doc) (a .fields .now) (a .leaves .now) (a .postings .now) (a .positions .now) (a .norms .now) (a .live .now) (a .columns .now) (a .values .now) q w asks (s .pre .1 .1) (i .last .1 .1 .1 .0) (i .ensures .0 ix (a .max-doc) asks lent) (p .last .1 .1 .1 .1 .1 .1 .1 .0) (p .last .1 .1 .1 .1 .1 .1 .0) (p .result) placed _))
 
 same-length : tie.Need-same-length
 same-length c =
@@ -120,7 +120,7 @@ returns c =
     let cols = columns-lent (a .max-doc) (a .fields .now) (a .leaves .now) (a .postings .now) (a .positions .now) (a .norms .now) (a .live .now) (a .columns .now) (a .values .now) q in
     let placed = p .ensures .0 ix asks lent cols in
     let k = c .before .before .before .before .before .before .before .before .list in
-    page-full ix q (a .target) (a .documents .now) (a .scores .now) (k .last .1 .1 .1 .1 .1 .1 .1 .1 .1 .1 .1 .1 .0) (k .last .1 .1 .1 .1 .1 .1 .1 .1 .1 .1 .1 .1 .1 .0) (k .result) (k .ensures ix (treeOf ix q) 0 (walk-held (a .max-doc) (a .fields .now) (a .leaves .now) (a .postings .now) (a .positions .now) (a .norms .now) (a .live .now) (a .columns .now) (a .values .now) q w asks (s .pre .1 .1) (i .last .1 .1 .1 .1 .0) (i .ensures .0 ix asks lent) (p .last .1 .1 .1 .1 .1 .1 .1 .0) (p .last .1 .1 .1 .1 .1 .1 .0) (p .result) placed _) .0)
+    page-full ix q (a .target) (a .documents .now) (a .scores .now) (k .last .1 .1 .1 .1 .1 .1 .1 .1 .1 .1 .1 .1 .0) (k .last .1 .1 .1 .1 .1 .1 .1 .1 .1 .1 .1 .1 .1 .0) (k .result) (k .ensures ix (treeOf ix q) 0 (walk-held (a .max-doc) (a .fields .now) (a .leaves .now) (a .postings .now) (a .positions .now) (a .norms .now) (a .live .now) (a .columns .now) (a .values .now) q w asks (s .pre .1 .1) (i .last .1 .1 .1 .0) (i .ensures .0 ix (a .max-doc) asks lent) (p .last .1 .1 .1 .1 .1 .1 .1 .0) (p .last .1 .1 .1 .1 .1 .1 .0) (p .result) placed _) .0)
 
 pub list-page-spec : {M : Type 1} → statement M
 list-page-spec =
