@@ -68,7 +68,7 @@ fn list_on(
     ensures { λ r. ⌜ ((ix : Index) → ListAsked ix «max_doc» (now (fields .entry)) (now (leaves .entry)) (now (postings .entry)) (now (positions .entry)) (now (norms .entry)) (now (live .entry)) (now (q .entry)) (now (ranges .entry)) (now (words .entry)) (min (length (now (a .entry))) (length (now (b .entry)))) size target → PageIs (pageOf ix (now (q .entry)) target (length (now (documents .entry)))) (now (documents .entry)) (now (scores .entry)) r (now (documents .exit)) (now (scores .exit)) × Standing ix (now (q .entry)) (now (ranges .entry)) (now (words .exit)) (r .next)) ⌝ }
 {
     let mut inverses: [f32; 4096] = [0.0; 4096];
-    inverses::fill_inverses(max_doc, fields, leaves, q, &mut inverses);
+    inverses::fill_inverses(fields, leaves, q, &mut inverses);
     walk::list(
         &mut words[..size],
         max_doc,

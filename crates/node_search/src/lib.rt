@@ -46,7 +46,7 @@ fn find(
     ensures { λ r. ⌜ Standing (lent «max_doc» (now (fields .entry)) (now (leaves .entry)) (now (postings .entry)) (now (positions .entry)) (now (norms .entry)) (now (live .entry)) (now (columns .entry)) (now (values .entry))) (now (q .entry)) (now (ranges .exit)) (now (states .exit)) noMoreDocs ⌝ }
 {
     let mut inverses: [f32; 4096] = [0.0; 4096];
-    inverses::fill_inverses(max_doc, fields, leaves, q, &mut inverses);
+    inverses::fill_inverses(fields, leaves, q, &mut inverses);
     let size = build::build(max_doc, fields, leaves, columns, values, q, states, ranges);
     bulk_default::collect_matches(
         &mut states[..size],

@@ -15,8 +15,9 @@ slice-aggregate-fill-inverses c = search needs
 
 fill-inverses-requires : tie.Need-fill-inverses-requires
 fill-inverses-requires c κs =
-    let l = c .before .before .before .before .before .before .before .before .before .before .before .before .pre .1 in
-    ((l .0, l .1 .asks, l .1 .leaves-lent), refl)
+    let s = c .before .before .before .before .before .before .before .before .before .before .before .before in
+    let l = s .pre .1 in
+    ((l .0, s .args .max-doc, l .1 .asks, l .1 .leaves-lent), refl)
 
 slice-relend-prefix-list : tie.Need-slice-relend-prefix-list
 slice-relend-prefix-list c =
@@ -38,7 +39,7 @@ list-requires c κs =
     let ix = c .before .before .before .before .before .before .before .before .before .before .before .before .before .before .before .before .before .before .before .before .pre .1 .0 in
     let l = c .before .before .before .before .before .before .before .before .before .before .before .before .before .before .before .before .before .before .before .before .pre .1 .1 in
     let i = c .before .before .before .before .before .before .before .fill-inverses in
-    let held = page-held ix (a .max-doc) (a .fields .now) (a .leaves .now) (a .postings .now) (a .positions .now) (a .norms .now) (a .live .now) (a .q .now) (a .ranges .now) (a .words .now) (min (length (a .a .now)) (length (a .b .now))) (a .size) (a .target) l (i .last .1 .1 .1 .1 .0) (i .ensures .0 ix (l .asks) (l .leaves-lent)) in
+    let held = page-held ix (a .max-doc) (a .fields .now) (a .leaves .now) (a .postings .now) (a .positions .now) (a .norms .now) (a .live .now) (a .q .now) (a .ranges .now) (a .words .now) (min (length (a .a .now)) (length (a .b .now))) (a .size) (a .target) l (i .last .1 .1 .1 .0) (i .ensures .0 ix (a .max-doc) (l .asks) (l .leaves-lent)) in
     (omega (arith, l .target-within, l .asks .accepted .documents), c .before .before .before .before .before .before .before .before .before .before .before .before .before .before .before .before .before .before .before .before .pre .0, (ix, treeOf ix (a .q .now), 0, held))
 
 same-length : tie.Need-same-length
@@ -62,7 +63,7 @@ returns c = λ ix l.
     let q = a .q .now in
     let i = c .before .before .before .before .before .before .before .before .before .before .before .before .before .before .before .before .fill-inverses in
     let k = c .before .before .before .before .before .before .before .before .list in
-    let held = page-held ix (a .max-doc) (a .fields .now) (a .leaves .now) (a .postings .now) (a .positions .now) (a .norms .now) (a .live .now) q (a .ranges .now) (a .words .now) (min (length (a .a .now)) (length (a .b .now))) (a .size) (a .target) l (i .last .1 .1 .1 .1 .0) (i .ensures .0 ix (l .asks) (l .leaves-lent)) in
+    let held = page-held ix (a .max-doc) (a .fields .now) (a .leaves .now) (a .postings .now) (a .positions .now) (a .norms .now) (a .live .now) q (a .ranges .now) (a .words .now) (min (length (a .a .now)) (length (a .b .now))) (a .size) (a .target) l (i .last .1 .1 .1 .0) (i .ensures .0 ix (a .max-doc) (l .asks) (l .leaves-lent)) in
     let p = k .ensures ix (treeOf ix q) 0 held in
     (page-full ix q (a .target) (a .documents .now) (a .scores .now) (k .last .1 .1 .1 .1 .1 .1 .1 .1 .1 .1 .1 .1 .0) (k .last .1 .1 .1 .1 .1 .1 .1 .1 .1 .1 .1 .1 .1 .0) (k .result) (p .0), stands-on ix q (a .ranges .now) (a .words .now) (k .last .0) (a .size) (k .result .next) (l .size-is) (p .1))
 

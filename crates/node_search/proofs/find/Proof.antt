@@ -25,7 +25,7 @@ fill-inverses-requires c κs =
     let asks = s .pre .1 .0 in
     let q = a .q .now in
     let lent = leaf-lent (a .max-doc) (a .fields .now) (a .leaves .now) (a .postings .now) (a .positions .now) (a .norms .now) (a .live .now) (a .columns .now) (a .values .now) q asks in
-    ((ix, asks, lent), refl)
+    ((ix, a .max-doc, asks, lent), refl)
 
 build-requires : tie.Need-build-requires
 build-requires c κs =
@@ -82,7 +82,7 @@ collect-matches-requires c κs =
     let lent = leaf-lent (a .max-doc) (a .fields .now) (a .leaves .now) (a .postings .now) (a .positions .now) (a .norms .now) (a .live .now) (a .columns .now) (a .values .now) q asks in
     let cols = columns-lent (a .max-doc) (a .fields .now) (a .leaves .now) (a .postings .now) (a .positions .now) (a .norms .now) (a .live .now) (a .columns .now) (a .values .now) q in
     let placed = p .ensures .0 ix asks lent cols in
-    let held = walk-held (a .max-doc) (a .fields .now) (a .leaves .now) (a .postings .now) (a .positions .now) (a .norms .now) (a .live .now) (a .columns .now) (a .values .now) q w asks (s .pre .1 .1) (i .last .1 .1 .1 .1 .0) (i .ensures .0 ix asks lent) (p .last .1 .1 .1 .1 .1 .1 .1 .0) (p .last .1 .1 .1 .1 .1 .1 .0) (p .result) placed 0 in
+    let held = walk-held (a .max-doc) (a .fields .now) (a .leaves .now) (a .postings .now) (a .positions .now) (a .norms .now) (a .live .now) (a .columns .now) (a .values .now) q w asks (s .pre .1 .1) (i .last .1 .1 .1 .0) (i .ensures .0 ix (a .max-doc) asks lent) (p .last .1 .1 .1 .1 .1 .1 .1 .0) (p .last .1 .1 .1 .1 .1 .1 .0) (p .result) placed 0 in
     (s .pre .0, (ix, treeOf ix q, 0, held))
 
 same-length : tie.Need-same-length
@@ -118,7 +118,7 @@ returns c =
     let lent = leaf-lent (a .max-doc) (a .fields .now) (a .leaves .now) (a .postings .now) (a .positions .now) (a .norms .now) (a .live .now) (a .columns .now) (a .values .now) q asks in
     let cols = columns-lent (a .max-doc) (a .fields .now) (a .leaves .now) (a .postings .now) (a .positions .now) (a .norms .now) (a .live .now) (a .columns .now) (a .values .now) q in
     let placed = p .ensures .0 ix asks lent cols in
-    let held = walk-held (a .max-doc) (a .fields .now) (a .leaves .now) (a .postings .now) (a .positions .now) (a .norms .now) (a .live .now) (a .columns .now) (a .values .now) q w asks (s .pre .1 .1) (i .last .1 .1 .1 .1 .0) (i .ensures .0 ix asks lent) (p .last .1 .1 .1 .1 .1 .1 .1 .0) (p .last .1 .1 .1 .1 .1 .1 .0) (p .result) placed 0 in
+    let held = walk-held (a .max-doc) (a .fields .now) (a .leaves .now) (a .postings .now) (a .positions .now) (a .norms .now) (a .live .now) (a .columns .now) (a .values .now) q w asks (s .pre .1 .1) (i .last .1 .1 .1 .0) (i .ensures .0 ix (a .max-doc) asks lent) (p .last .1 .1 .1 .1 .1 .1 .1 .0) (p .last .1 .1 .1 .1 .1 .1 .0) (p .result) placed 0 in
     let k = c .before .before .before .before .before .collect-matches in
     let full = answer-full ix q (length (a .heap .now)) (a .t) (a .heap .now) (k .last .1 .1 .1 .1 .1 .1 .1 .1 .1 .1 .1 .1 .0) (k .result) (k .ensures .0 ix (treeOf ix q) 0 held) in
     (full .0, (full .1, built-stands ix q (p .last .1 .1 .1 .1 .1 .1 .1 .0) (p .last .1 .1 .1 .1 .1 .1 .0) (k .last .0) (p .result) noMoreDocs placed (k .kept .0) (k .ensures .1 ix (treeOf ix q) 0 held)))
