@@ -60,7 +60,9 @@ pub fn every_number() -> Vec<Row> {
             rows.push(order_row(entry, &case, &mut random));
         }
     }
-    callers(&mut rows);
+    wrong_run(&mut rows);
+    short_buffers(&mut rows);
+    wrong_places(&mut rows);
     standing(&mut rows);
     ranges(&mut rows);
     picks(&mut rows);
@@ -87,14 +89,22 @@ fn sound() -> Case {
     }
 }
 
-/// 11, 12 and 13 of Search, Page, Place and the text.
-fn callers(rows: &mut Vec<Row>) {
+/// 11 of Search and the text, and the text for files that are not of whole words.
+fn wrong_run(rows: &mut Vec<Row>) {
     let case = sound();
     for k in [0, 1025] {
         let wrong = Case { k, ..case.clone() };
         rows.push(entries::search(&wrong, &enough(&case, 0)));
         rows.push(entries::text(&wrong, None));
     }
+    // norms.rec, the file 5, may have any length
+    (0..10).for_each(|file| rows.push(entries::text(&case, (file != 5).then_some(file))));
+    rows.push(entries::text_of_read(&too_many_ranges()));
+}
+
+/// 12 of Search, Page and Place.
+fn short_buffers(rows: &mut Vec<Row>) {
+    let case = sound();
     let shorter: [fn(&mut Lengths); 7] = [
         |lent| lent.states -= 1,
         |lent| lent.starts -= 1,
@@ -111,15 +121,17 @@ fn callers(rows: &mut Vec<Row>) {
         rows.push(entries::page(&case, 0, &lent));
         rows.push(entries::place(&case, 1, 0, &lent));
     }
+}
+
+/// 13 of Page and Place, from both sides.
+fn wrong_places(rows: &mut Vec<Row>) {
+    let case = sound();
     let lent = enough(&case, 2);
-    for target in [0, 3, 4, u32::MAX] {
-        rows.push(entries::page(&case, target, &lent));
-    }
+    let targets = [0, 3, 4, u32::MAX].map(|target| entries::page(&case, target, &lent));
+    rows.extend(targets);
     for (record, document) in [(1, 0), (1, 2), (1, 3), (0, 0), (2, 0), (6, 0), (99, 0)] {
         rows.push(entries::place(&case, record, document, &lent));
     }
-    (0..10).for_each(|file| rows.push(entries::text(&case, (file != 5).then_some(file))));
-    rows.push(entries::text_of_read(&too_many_ranges()));
 }
 
 /// An order for which the range buffer of `hits` is too short: 260 × 64 words.

@@ -14,14 +14,19 @@ const INFINITY: u32 = 0x7f80_0000;
 const PAGE: usize = 5000;
 
 impl Fuzz<'_> {
-    /// Search gives the best k of what the pages list, all of it in `buffers`; and the same again
-    /// with other rubbish.
-    pub(super) fn search_laws(&mut self, case: &Case, judge: &Judge, b: &Buffers, r: &mut Random) {
-        let list = self.joined(case, judge, r);
+    /// Search gives the best k of what the pages list, and the same again with other rubbish.
+    pub(super) fn search_laws(
+        &mut self,
+        case: &Case,
+        judge: &Judge,
+        buffers: &Buffers,
+        random: &mut Random,
+    ) {
+        let list = self.joined(case, judge, random);
         let best = best(&list, case.k, case.t);
-        expect::found(b, 0, &Ok(best.clone()));
-        let mut again = again(b, r);
-        let number = self.number(Call::Search(case), &mut again, r);
+        expect::found(buffers, 0, &Ok(best.clone()));
+        let mut again = again(buffers, random);
+        let number = self.number(Call::Search(case), &mut again, random);
         expect::found(&again, number, &Ok(best));
     }
 
@@ -40,15 +45,22 @@ impl Fuzz<'_> {
     }
 
     /// A page in buffers of its own.
-    fn page_of(&mut self, case: &Case, judge: &Judge, at: u32, m: usize, r: &mut Random) -> Paged {
+    fn page_of(
+        &mut self,
+        case: &Case,
+        judge: &Judge,
+        target: u32,
+        m: usize,
+        random: &mut Random,
+    ) -> Paged {
         let lent = Lengths {
             documents: m,
             scores: m,
             answer: PAGED,
             ..judge.needed
         };
-        let mut buffers = Buffers::new(r, &lent);
-        let number = self.number(Call::Page(case, at), &mut buffers, r);
+        let mut buffers = Buffers::new(random, &lent);
+        let number = self.number(Call::Page(case, target), &mut buffers, random);
         assert_eq!(number, 0, "the number of a page that is not refused");
         let page = written(&buffers);
         expect::given(&buffers, number, &Ok(page.clone()));

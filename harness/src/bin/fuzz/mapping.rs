@@ -27,6 +27,8 @@ pub struct Mapping<T> {
     size: usize,
     length: usize,
     at_end: bool,
+    /// what may be done to it now
+    may: i32,
     of: PhantomData<T>,
 }
 
@@ -48,18 +50,23 @@ impl<T: Element> Mapping<T> {
             assert_ne!(all as isize, -1, "mmap");
             all.cast::<u8>().add(PAGE)
         };
-        let mapping = Mapping {
+        let mut mapping = Mapping {
             start,
             size,
             length: 0,
             at_end: false,
+            may: NOTHING,
             of: PhantomData,
         };
         mapping.allow(READ_AND_WRITE);
         mapping
     }
 
-    fn allow(&self, may: i32) {
+    fn allow(&mut self, may: i32) {
+        if self.may == may {
+            return;
+        }
+        self.may = may;
         // Safe: whole pages of our own.
         let done = unsafe { mprotect(self.start.cast(), self.size, may) };
         assert_eq!(done, 0, "mprotect");
