@@ -15,14 +15,7 @@ pub fn document(words: &[u32], stride: usize, first: usize, i: usize) -> u32
 }
 
 // By halves, between two places.
-fn halve(
-    words: &[u32],
-    stride: usize,
-    first: usize,
-    from: usize,
-    to: usize,
-    target: u32,
-) -> usize
+fn halve(words: &[u32], stride: usize, first: usize, from: usize, to: usize, target: u32) -> usize
     requires { ⌜ ((count : ℕ) × Between (now words) stride first count from to target) ⌝ }
     ensures { λ r. ⌜ ((count : ℕ) → Between (now (words .entry)) stride first count from to target → Lower (now (words .entry)) stride first count from target r) ⌝ }
 {
