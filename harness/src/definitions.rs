@@ -22,9 +22,10 @@ const HEAD: &str = "\
 use mathlib.Core.Path.{_≡_, refl}
 use mathlib.Core.Bool.{cond}
 use mathlib.Core.List.{List, [], _∷_, _++_, map}
-use Prim.Native.Nat.{ℕ}
+use Prim.Native.Nat.{ℕ, _*_}
 use lib.ListN.{replicate}
 use lib.Ieee.{binary32, toBits}
+use Rattle.meaning.specs.Limits.{maxRecords, nodeStateWords}
 use Rattle.meaning.specs.Lent.{Index}
 use Rattle.meaning.specs.Query.{queryTree}
 use Rattle.meaning.specs.Scorer.{hasScorer}
@@ -35,7 +36,7 @@ use Rattle.meaning.specs.CallRefusals.{Work}
 use Rattle.meaning.specs.Entries.{searchAnswer, pageAnswer, pageDocuments, pageScores}
 
 abbrev work : Work
-work = record { states = 6144; starts = 16384; otherStarts = 16384; ranges = 16384 }
+work = record { states = maxRecords * nodeStateWords; starts = 16384; otherStarts = 16384; ranges = 16384 }
 
 abbrev listed : Index → List ℕ → List ℕ
 listed ix q = map (λ h. h .doc) (fullList ix (queryTree q)) ++ map (λ h. toBits binary32 (h .score)) (fullList ix (queryTree q))

@@ -8,6 +8,7 @@ use lib.Dec.{T, eqb}
 use lib.ListN.{length, take, drop, length-append, length-take}
 use lib.Seq.{drop-at, take-append-le}
 use lib.Ieee.{Float, binary32, fits, toBits}
+use Rattle.meaning.specs.Limits.{nodeStateWords}
 use Rattle.meaning.specs.Lent.{Index}
 use Rattle.meaning.specs.Query.{isRequired, isShould, isMustNot, Clauses, hasRequired}
 use Rattle.meaning.specs.Takes.{shouldsNeeded}
@@ -51,40 +52,40 @@ take-mid (x ∷ xs) ys post a n e h =
     one-before : (a m n : ℕ) → a ≡ suc m → a + n ≡ suc (m + n)
     one-before a m n e = omega (arith, e)
 
-module _ (st out₁ out₂ out₃ post₁ post₂ post₃ : List ℕ) (e₁ e₂ e₃ : ℕ) (room : 24 ≤ length st) (long₁ : e₁ ≤ length out₁) (long₂ : e₂ ≤ length out₂) (long₃ : e₃ ≤ length out₃) where
+module _ (st out₁ out₂ out₃ post₁ post₂ post₃ : List ℕ) (e₁ e₂ e₃ : ℕ) (room : nodeStateWords ≤ length st) (long₁ : e₁ ≤ length out₁) (long₂ : e₂ ≤ length out₂) (long₃ : e₃ ≤ length out₃) where
   abbrev pub afterRequired : List ℕ
-  afterRequired = take 24 st ++ (out₁ ++ post₁)
+  afterRequired = take nodeStateWords st ++ (out₁ ++ post₁)
 
   abbrev pub afterOptional : List ℕ
-  afterOptional = take (24 + e₁) afterRequired ++ (out₂ ++ post₂)
+  afterOptional = take (nodeStateWords + e₁) afterRequired ++ (out₂ ++ post₂)
 
   abbrev pub afterProhibited : List ℕ
-  afterProhibited = take (24 + (e₁ + e₂)) afterOptional ++ (out₃ ++ post₃)
+  afterProhibited = take (nodeStateWords + (e₁ + e₂)) afterOptional ++ (out₃ ++ post₃)
 
-  record-long : length (take 24 st) ≡ 24
-  record-long = let l = length-take 24 st in omega (arith, l, room)
+  record-long : length (take nodeStateWords st) ≡ nodeStateWords
+  record-long = let l = length-take nodeStateWords st in omega (arith, l, room)
 
-  first-part : take (24 + e₁) afterRequired ≡ take 24 st ++ take e₁ out₁
-  first-part = take-mid (take 24 st) out₁ post₁ 24 e₁ record-long long₁
+  first-part : take (nodeStateWords + e₁) afterRequired ≡ take nodeStateWords st ++ take e₁ out₁
+  first-part = take-mid (take nodeStateWords st) out₁ post₁ nodeStateWords e₁ record-long long₁
 
-  second-part : take (24 + (e₁ + e₂)) afterOptional ≡ take 24 st ++ (take e₁ out₁ ++ take e₂ out₂)
+  second-part : take (nodeStateWords + (e₁ + e₂)) afterOptional ≡ take nodeStateWords st ++ (take e₁ out₁ ++ take e₂ out₂)
   second-part =
-      let l = ap length first-part ∙ length-append (take 24 st) (take e₁ out₁) in
+      let l = ap length first-part ∙ length-append (take nodeStateWords st) (take e₁ out₁) in
       let m = length-take e₁ out₁ in
       let r = record-long in
       ap (λ (n : ℕ). take n afterOptional) (shift e₁ e₂)
-      ∙ take-mid (take (24 + e₁) afterRequired) out₂ post₂ (24 + e₁) e₂ (omega (arith, l, m, r, long₁)) long₂
+      ∙ take-mid (take (nodeStateWords + e₁) afterRequired) out₂ post₂ (nodeStateWords + e₁) e₂ (omega (arith, l, m, r, long₁)) long₂
       ∙ ap (λ (zs : List ℕ). zs ++ take e₂ out₂) first-part
-      ∙ append-assoc (take 24 st) (take e₁ out₁) (take e₂ out₂)
+      ∙ append-assoc (take nodeStateWords st) (take e₁ out₁) (take e₂ out₂)
     where
-      shift : (a b : ℕ) → 24 + (a + b) ≡ (24 + a) + b
+      shift : (a b : ℕ) → nodeStateWords + (a + b) ≡ (nodeStateWords + a) + b
       shift a b = omega arith
 
-  after-record : drop 24 afterProhibited ≡ (take e₁ out₁ ++ take e₂ out₂) ++ (out₃ ++ post₃)
+  after-record : drop nodeStateWords afterProhibited ≡ (take e₁ out₁ ++ take e₂ out₂) ++ (out₃ ++ post₃)
   after-record =
-      ap (λ (zs : List ℕ). drop 24 (zs ++ (out₃ ++ post₃))) second-part
-      ∙ ap (drop 24) (append-assoc (take 24 st) (take e₁ out₁ ++ take e₂ out₂) (out₃ ++ post₃))
-      ∙ drop-at (take 24 st) ((take e₁ out₁ ++ take e₂ out₂) ++ (out₃ ++ post₃)) 24 record-long
+      ap (λ (zs : List ℕ). drop nodeStateWords (zs ++ (out₃ ++ post₃))) second-part
+      ∙ ap (drop nodeStateWords) (append-assoc (take nodeStateWords st) (take e₁ out₁ ++ take e₂ out₂) (out₃ ++ post₃))
+      ∙ drop-at (take nodeStateWords st) ((take e₁ out₁ ++ take e₂ out₂) ++ (out₃ ++ post₃)) nodeStateWords record-long
 
   both-long : length (take e₁ out₁ ++ take e₂ out₂) ≡ e₁ + e₂
   both-long =
@@ -93,19 +94,19 @@ module _ (st out₁ out₂ out₃ post₁ post₂ post₃ : List ℕ) (e₁ e₂
       let n = length-take e₂ out₂ in
       omega (arith, l, m, n, long₁, long₂)
 
-  pub parts-are : (w : List ℕ) → length w ≡ 24 → take (24 + (e₁ + e₂) + e₃) (w ++ drop 24 afterProhibited) ≡ w ++ (take e₁ out₁ ++ (take e₂ out₂ ++ take e₃ out₃))
+  pub parts-are : (w : List ℕ) → length w ≡ nodeStateWords → take (nodeStateWords + (e₁ + e₂) + e₃) (w ++ drop nodeStateWords afterProhibited) ≡ w ++ (take e₁ out₁ ++ (take e₂ out₂ ++ take e₃ out₃))
   parts-are w e =
       let l = length-append w (take e₁ out₁ ++ take e₂ out₂) in
       let b = both-long in
-      ap (λ (zs : List ℕ). take (24 + (e₁ + e₂) + e₃) (w ++ zs)) after-record
-      ∙ ap (take (24 + (e₁ + e₂) + e₃)) (sym (append-assoc w (take e₁ out₁ ++ take e₂ out₂) (out₃ ++ post₃)))
-      ∙ take-mid (w ++ (take e₁ out₁ ++ take e₂ out₂)) out₃ post₃ (24 + (e₁ + e₂)) e₃ (omega (arith, l, b, e)) long₃
+      ap (λ (zs : List ℕ). take (nodeStateWords + (e₁ + e₂) + e₃) (w ++ zs)) after-record
+      ∙ ap (take (nodeStateWords + (e₁ + e₂) + e₃)) (sym (append-assoc w (take e₁ out₁ ++ take e₂ out₂) (out₃ ++ post₃)))
+      ∙ take-mid (w ++ (take e₁ out₁ ++ take e₂ out₂)) out₃ post₃ (nodeStateWords + (e₁ + e₂)) e₃ (omega (arith, l, b, e)) long₃
       ∙ append-assoc w (take e₁ out₁ ++ take e₂ out₂) (take e₃ out₃)
       ∙ ap (λ (zs : List ℕ). w ++ zs) (append-assoc (take e₁ out₁) (take e₂ out₂) (take e₃ out₃))
 
-  pub parts-long : (w : List ℕ) → length w ≡ 24 → 24 + (e₁ + e₂) + e₃ ≤ length (w ++ drop 24 afterProhibited)
+  pub parts-long : (w : List ℕ) → length w ≡ nodeStateWords → nodeStateWords + (e₁ + e₂) + e₃ ≤ length (w ++ drop nodeStateWords afterProhibited)
   parts-long w e =
-      let l = length-append w (drop 24 afterProhibited) in
+      let l = length-append w (drop nodeStateWords afterProhibited) in
       let m = ap length after-record ∙ length-append (take e₁ out₁ ++ take e₂ out₂) (out₃ ++ post₃) in
       let n = length-append out₃ post₃ in
       let b = both-long in
@@ -132,22 +133,22 @@ module _ (ix : Index) (ranges : List ℕ) (msm : ℕ) (cs : Clauses) (fixed : Bo
   abbrev pub prohibitedHere : List Ready
   prohibitedHere = chosen isMustNot (readied ix cs boost)
 
-  pub boolean-placed : (depth scores size need requiredEnd optionalEnd groupAt : ℕ) (after : Bool) (x v z : List ℕ) → 0 < depth → T (fits binary32 kept) → AtMost (2 ^ 29) kept → size ≡ 24 + (sizesOf (scorersOf requiredHere) + (sizesOf (scorersOf optionalHere) + sizesOf (scorersOf prohibitedHere))) → need ≡ shouldsNeeded msm cs → requiredEnd ≡ sizesOf (scorersOf requiredHere) → optionalEnd ≡ sizesOf (scorersOf requiredHere) + sizesOf (scorersOf optionalHere) → after ≡ (hasRequired cs && eqb msm 0) → groupAt ≡ sizesOfFirst (upToCost (disjunctionCost (costs ix cs)) requiredHere) (scorersOf requiredHere) → Oks ix ranges (scorersOf requiredHere) (depth - 1) x 0 → Oks ix ranges (scorersOf optionalHere) (depth - 1) v 0 → Oks ix ranges (scorersOf prohibitedHere) (depth - 1) z 0 → Ok ix ranges (booleanOf ix msm cs (keptOf fixed kept) (readied ix cs boost)) depth scores (wordsOf (booleanState size need requiredEnd optionalEnd fixed (toBits binary32 kept) after groupAt scores) ++ (x ++ (v ++ z))) 0
+  pub boolean-placed : (depth scores size need requiredEnd optionalEnd groupAt : ℕ) (after : Bool) (x v z : List ℕ) → 0 < depth → T (fits binary32 kept) → AtMost (2 ^ 29) kept → size ≡ nodeStateWords + (sizesOf (scorersOf requiredHere) + (sizesOf (scorersOf optionalHere) + sizesOf (scorersOf prohibitedHere))) → need ≡ shouldsNeeded msm cs → requiredEnd ≡ sizesOf (scorersOf requiredHere) → optionalEnd ≡ sizesOf (scorersOf requiredHere) + sizesOf (scorersOf optionalHere) → after ≡ (hasRequired cs && eqb msm 0) → groupAt ≡ sizesOfFirst (upToCost (disjunctionCost (costs ix cs)) requiredHere) (scorersOf requiredHere) → Oks ix ranges (scorersOf requiredHere) (depth - 1) x 0 → Oks ix ranges (scorersOf optionalHere) (depth - 1) v 0 → Oks ix ranges (scorersOf prohibitedHere) (depth - 1) z 0 → Ok ix ranges (booleanOf ix msm cs (keptOf fixed kept) (readied ix cs boost)) depth scores (wordsOf (booleanState size need requiredEnd optionalEnd fixed (toBits binary32 kept) after groupAt scores) ++ (x ++ (v ++ z))) 0
   unfolding booleanOf Ok sizeOf
   boolean-placed depth scores size need requiredEnd optionalEnd groupAt after x v z levels held small sized needed required optional joins group a b c =
       let s = booleanState size need requiredEnd optionalEnd fixed (toBits binary32 kept) after groupAt scores in
       (s, x, v, z, refl, refl, levels, record { kind-is = refl; size-is = sized; need-is = needed; required-end = required; optional-end = optional; kept = kept-is fixed kept s refl (score-is kept held small); joining = joining-is (hasRequired cs && eqb msm 0) (disjunctionCost (costs ix cs)) requiredHere s (ap (λ (t : Bool). cond t 1 0) joins) group }, no-cache (matches ix (booleanOf ix msm cs (keptOf fixed kept) (readied ix cs boost))), a, b, c)
 
   -- the whole part, as the code writes it
-  pub boolean-whole : (st out₁ out₂ out₃ post₁ post₂ post₃ st′ : List ℕ) (depth scores need e₁ e₂ e₃ groupAt : ℕ) (after : Bool) → 24 ≤ length st → 0 < depth → T (fits binary32 kept) → AtMost (2 ^ 29) kept → PlacedAll ix ranges requiredHere (depth - 1) e₁ out₁ → PlacedAll ix ranges optionalHere (depth - 1) e₂ out₂ → PlacedAll ix ranges prohibitedHere (depth - 1) e₃ out₃ → need ≡ shouldsNeeded msm cs → after ≡ (hasRequired cs && eqb msm 0) → groupAt ≡ sizesOfFirst (upToCost (disjunctionCost (costs ix cs)) requiredHere) (scorersOf requiredHere) → st′ ≡ wordsOf (booleanState (24 + (e₁ + e₂) + e₃) need e₁ (e₁ + e₂) fixed (toBits binary32 kept) after groupAt scores) ++ drop 24 (take (24 + (e₁ + e₂)) (take (24 + e₁) (take 24 st ++ (out₁ ++ post₁)) ++ (out₂ ++ post₂)) ++ (out₃ ++ post₃)) → Placed ix ranges (booleanOf ix msm cs (keptOf fixed kept) (readied ix cs boost)) depth scores (24 + (e₁ + e₂) + e₃) st′
+  pub boolean-whole : (st out₁ out₂ out₃ post₁ post₂ post₃ st′ : List ℕ) (depth scores need e₁ e₂ e₃ groupAt : ℕ) (after : Bool) → nodeStateWords ≤ length st → 0 < depth → T (fits binary32 kept) → AtMost (2 ^ 29) kept → PlacedAll ix ranges requiredHere (depth - 1) e₁ out₁ → PlacedAll ix ranges optionalHere (depth - 1) e₂ out₂ → PlacedAll ix ranges prohibitedHere (depth - 1) e₃ out₃ → need ≡ shouldsNeeded msm cs → after ≡ (hasRequired cs && eqb msm 0) → groupAt ≡ sizesOfFirst (upToCost (disjunctionCost (costs ix cs)) requiredHere) (scorersOf requiredHere) → st′ ≡ wordsOf (booleanState (nodeStateWords + (e₁ + e₂) + e₃) need e₁ (e₁ + e₂) fixed (toBits binary32 kept) after groupAt scores) ++ drop nodeStateWords (take (nodeStateWords + (e₁ + e₂)) (take (nodeStateWords + e₁) (take nodeStateWords st ++ (out₁ ++ post₁)) ++ (out₂ ++ post₂)) ++ (out₃ ++ post₃)) → Placed ix ranges (booleanOf ix msm cs (keptOf fixed kept) (readied ix cs boost)) depth scores (nodeStateWords + (e₁ + e₂) + e₃) st′
   unfolding booleanOf sizeOf
   boolean-whole st out₁ out₂ out₃ post₁ post₂ post₃ st′ depth scores need e₁ e₂ e₃ groupAt after room levels held small a b c needed joins group is =
-      let size = 24 + (e₁ + e₂) + e₃ in
+      let size = nodeStateWords + (e₁ + e₂) + e₃ in
       let w = wordsOf (booleanState size need e₁ (e₁ + e₂) fixed (toBits binary32 kept) after groupAt scores) in
       let required = a .size-is in
       let optional = b .size-is in
       let prohibited = c .size-is in
-      let sized : size ≡ 24 + (sizesOf (scorersOf requiredHere) + (sizesOf (scorersOf optionalHere) + sizesOf (scorersOf prohibitedHere))) = omega (arith, required, optional, prohibited) in
+      let sized : size ≡ nodeStateWords + (sizesOf (scorersOf requiredHere) + (sizesOf (scorersOf optionalHere) + sizesOf (scorersOf prohibitedHere))) = omega (arith, required, optional, prohibited) in
       record {
         size-is = sized;
         within = subst (λ (zs : List ℕ). size ≤ length zs) (sym is) (parts-long st out₁ out₂ out₃ post₁ post₂ post₃ e₁ e₂ e₃ room (a .within) (b .within) (c .within) w refl);

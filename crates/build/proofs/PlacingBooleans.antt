@@ -3,11 +3,12 @@ use mathlib.Core.Path.{_≡_, sym, _∙_, ap, subst}
 use mathlib.Core.Bool.{Bool, true, false, cond, _&&_}
 use mathlib.Core.List.{List, _++_}
 use mathlib.Core.Option.{some}
-use Prim.Native.Nat.{ℕ, _+_, _-_, _^_, _≤_, _<_, max}
+use Prim.Native.Nat.{ℕ, _+_, _-_, _*_, _^_, _≤_, _<_, max}
 use native.Mathlib.Omega.{arith}
 use lib.Dec.{T, eqb}
 use lib.ListN.{length, take, drop, getD}
 use lib.Ieee.{Float, binary32, fits, toBits}
+use Rattle.meaning.specs.Limits.{maxRecords, nodeStateWords}
 use Rattle.meaning.specs.Lent.{Index}
 use Rattle.meaning.specs.Query
 use Rattle.meaning.specs.Query.{recordCount, recordKind, recordValue, Tree, Clauses, hasRequired, isMustNot, Decoded, DecodedClauses}
@@ -45,13 +46,13 @@ weigh-boolean ix msm cs b f x h = rw h
 
 -- the words of its three lists
 abbrev sizesHere : Index → DecodedClauses → Float → ℕ
-sizesHere ix C b = 24 + (sizesOf (scorersOf (requiredOf ix C b)) + (sizesOf (scorersOf (othersOf ix C b 2)) + sizesOf (scorersOf (othersOf ix C b 3))))
+sizesHere ix C b = nodeStateWords + (sizesOf (scorersOf (requiredOf ix C b)) + (sizesOf (scorersOf (othersOf ix C b 2)) + sizesOf (scorersOf (othersOf ix C b 3))))
 
 boolean-sizes : (ix : Index) (msm : ℕ) (C : DecodedClauses) (b : Float) (f : Bool) (x : Float) → sizeOf (booleanOf ix msm (C .clauses) (keptOf f x) (readied ix (C .clauses) b)) ≡ sizesHere ix C b
 unfolding booleanOf sizeOf
 boolean-sizes ix msm C b f x =
-    ap (λ (zs : List Ready). 24 + (sizesOf (scorersOf (requiredOf ix C b)) + (sizesOf (scorersOf zs) + sizesOf (scorersOf (chosen isMustNot (readied ix (C .clauses) b)))))) (sym (others-should ix C b))
-    ∙ ap (λ (zs : List Ready). 24 + (sizesOf (scorersOf (requiredOf ix C b)) + (sizesOf (scorersOf (othersOf ix C b 2)) + sizesOf (scorersOf zs)))) (sym (others-not ix C b))
+    ap (λ (zs : List Ready). nodeStateWords + (sizesOf (scorersOf (requiredOf ix C b)) + (sizesOf (scorersOf zs) + sizesOf (scorersOf (chosen isMustNot (readied ix (C .clauses) b)))))) (sym (others-should ix C b))
+    ∙ ap (λ (zs : List Ready). nodeStateWords + (sizesOf (scorersOf (requiredOf ix C b)) + (sizesOf (scorersOf (othersOf ix C b 2)) + sizesOf (scorersOf zs)))) (sym (others-not ix C b))
 
 -- the Boolean at a record: its clauses, its scorer, and how many words it takes
 record BooleanHere (ix : Index) (q : List ℕ) (k at : ℕ) (D : Decoded) (fixed : Bool) (kept boost : Float) (words : ℕ) : Type 0 where
@@ -59,7 +60,7 @@ record BooleanHere (ix : Index) (q : List ℕ) (k at : ℕ) (D : Decoded) (fixed
   asked : ClausesAsked q (k - 1) at inside boost
   scorer-is : weigh ix (D .tree) boost (keptOf fixed kept) ≡ booleanOf ix (recordValue q at 0) (inside .clauses) (keptOf fixed kept) (readied ix (inside .clauses) boost)
   room : sizesHere ix inside boost ≤ words
-  small : sizesHere ix inside boost ≤ 6144
+  small : sizesHere ix inside boost ≤ nodeStateWords * maxRecords
   deep-enough : 0 < k
 
 module _ (ix : Index) (E : Records) (ranges : List ℕ) (k at : ℕ) (D : Decoded) (fixed : Bool) (kept boost : Float) (words : ℕ) (kind : recordKind (E .query) at ≡ 3) (p : Prepared ix E ranges) (a : TreeAsked ix (E .query) k at D fixed kept boost words) where
@@ -97,7 +98,7 @@ module _ (E : Records) (at : ℕ) (fixed : Bool) (kept boost : Float) (words dep
   pub tree-here : TreePre E at fixed kept boost words depth → at < recordCount (E .query)
   tree-here a = at-here (a .0) E (a .1) (a .2) at (a .3) fixed kept boost words (a .4) (a .5)
 
-  pub tree-room : TreePre E at fixed kept boost words depth → 24 ≤ words
+  pub tree-room : TreePre E at fixed kept boost words depth → nodeStateWords ≤ words
   tree-room a = record-room (a .0) E (a .1) (a .2) at (a .3) fixed kept boost words (a .4) (a .5)
 
   pub tree-deep : TreePre E at fixed kept boost words depth → 1 ≤ depth
@@ -129,7 +130,7 @@ module _ (E : Records) (at : ℕ) (fixed : Bool) (kept boost : Float) (words dep
           (a .0, a .2 - 1, h .inside, boost, part-known E at boost words (depth - 1) (asks (a .0) (a .1) (a .2) (a .3) (a .4) (a .5) (a .6) words (requiredOf (a .0) (h .inside) boost) (omega (arith, r))))
 
       -- ---- the required, after the record
-      module _ (n₁ : ℕ) (n₁-is : n₁ ≡ words - 24) where
+      module _ (n₁ : ℕ) (n₁-is : n₁ ≡ words - nodeStateWords) where
         required-asked : (ix : Index) (ranges : List ℕ) (k : ℕ) (D : Decoded) (p : Prepared ix E ranges) (a : TreeAsked ix (E .query) k at D fixed kept boost words) → k ≤ depth → PartAsked ix E ranges (k - 1) at (here ix ranges k D p a .inside) boost (requiredOf ix (here ix ranges k D p a .inside) boost) n₁ (depth - 1)
         required-asked ix ranges k D p a levels =
             let h = here ix ranges k D p a in
@@ -144,14 +145,14 @@ module _ (E : Records) (at : ℕ) (fixed : Bool) (kept boost : Float) (words dep
           first-size : (ix : Index) (ranges : List ℕ) (k : ℕ) (D : Decoded) (p : Prepared ix E ranges) (a : TreeAsked ix (E .query) k at D fixed kept boost words) → k ≤ depth → e₁ ≡ sizesOf (scorersOf (requiredOf ix (here ix ranges k D p a .inside) boost))
           first-size ix ranges k D p a levels = post₁ ix ranges (k - 1) (here ix ranges k D p a .inside) (required-asked ix ranges k D p a levels) .0 .size-is
 
-          pub first-fits : TreePre E at fixed kept boost words depth → 24 + e₁ ≤ words
+          pub first-fits : TreePre E at fixed kept boost words depth → nodeStateWords + e₁ ≤ words
           first-fits a =
               let r = here (a .0) (a .1) (a .2) (a .3) (a .4) (a .5) .room in
               let s = first-size (a .0) (a .1) (a .2) (a .3) (a .4) (a .5) (a .6) in
               omega (arith, r, s)
 
           -- ---- the optional, after them
-          module _ (n₂ : ℕ) (n₂-is : n₂ ≡ words - (24 + e₁)) where
+          module _ (n₂ : ℕ) (n₂-is : n₂ ≡ words - (nodeStateWords + e₁)) where
             optional-asked : (ix : Index) (ranges : List ℕ) (k : ℕ) (D : Decoded) (p : Prepared ix E ranges) (a : TreeAsked ix (E .query) k at D fixed kept boost words) → k ≤ depth → PartAsked ix E ranges (k - 1) at (here ix ranges k D p a .inside) boost (othersOf ix (here ix ranges k D p a .inside) boost 2) n₂ (depth - 1)
             optional-asked ix ranges k D p a levels =
                 let h = here ix ranges k D p a in
@@ -166,7 +167,7 @@ module _ (E : Records) (at : ℕ) (fixed : Bool) (kept boost : Float) (words dep
               second-size : (ix : Index) (ranges : List ℕ) (k : ℕ) (D : Decoded) (p : Prepared ix E ranges) (a : TreeAsked ix (E .query) k at D fixed kept boost words) → k ≤ depth → e₂ ≡ sizesOf (scorersOf (othersOf ix (here ix ranges k D p a .inside) boost 2))
               second-size ix ranges k D p a levels = post₂ ix ranges (k - 1) (here ix ranges k D p a .inside) (optional-asked ix ranges k D p a levels) .size-is
 
-              pub second-fits : TreePre E at fixed kept boost words depth → 24 + (e₁ + e₂) ≤ words
+              pub second-fits : TreePre E at fixed kept boost words depth → nodeStateWords + (e₁ + e₂) ≤ words
               second-fits a =
                   let r = here (a .0) (a .1) (a .2) (a .3) (a .4) (a .5) .room in
                   let s = first-size (a .0) (a .1) (a .2) (a .3) (a .4) (a .5) (a .6) in
@@ -174,7 +175,7 @@ module _ (E : Records) (at : ℕ) (fixed : Bool) (kept boost : Float) (words dep
                   omega (arith, r, s, t)
 
               -- ---- the prohibited, after those
-              module _ (n₃ : ℕ) (n₃-is : n₃ ≡ words - (24 + (e₁ + e₂))) where
+              module _ (n₃ : ℕ) (n₃-is : n₃ ≡ words - (nodeStateWords + (e₁ + e₂))) where
                 prohibited-asked : (ix : Index) (ranges : List ℕ) (k : ℕ) (D : Decoded) (p : Prepared ix E ranges) (a : TreeAsked ix (E .query) k at D fixed kept boost words) → k ≤ depth → PartAsked ix E ranges (k - 1) at (here ix ranges k D p a .inside) boost (othersOf ix (here ix ranges k D p a .inside) boost 3) n₃ (depth - 1)
                 prohibited-asked ix ranges k D p a levels =
                     let h = here ix ranges k D p a in
@@ -191,7 +192,7 @@ module _ (E : Records) (at : ℕ) (fixed : Bool) (kept boost : Float) (words dep
                   third-size ix ranges k D p a levels = post₃ ix ranges (k - 1) (here ix ranges k D p a .inside) (prohibited-asked ix ranges k D p a levels) .size-is
 
                   -- the whole part
-                  pub whole-fits : TreePre E at fixed kept boost words depth → 24 + (e₁ + e₂) + e₃ ≤ words
+                  pub whole-fits : TreePre E at fixed kept boost words depth → nodeStateWords + (e₁ + e₂) + e₃ ≤ words
                   whole-fits a =
                       let r = here (a .0) (a .1) (a .2) (a .3) (a .4) (a .5) .room in
                       let s = first-size (a .0) (a .1) (a .2) (a .3) (a .4) (a .5) (a .6) in
@@ -199,7 +200,7 @@ module _ (E : Records) (at : ℕ) (fixed : Bool) (kept boost : Float) (words dep
                       let u = third-size (a .0) (a .1) (a .2) (a .3) (a .4) (a .5) (a .6) in
                       omega (arith, r, s, t, u)
 
-                  pub whole-small : TreePre E at fixed kept boost words depth → 24 + (e₁ + e₂) + e₃ ≤ 6144
+                  pub whole-small : TreePre E at fixed kept boost words depth → nodeStateWords + (e₁ + e₂) + e₃ ≤ nodeStateWords * maxRecords
                   whole-small a =
                       let r = here (a .0) (a .1) (a .2) (a .3) (a .4) (a .5) .small in
                       let s = first-size (a .0) (a .1) (a .2) (a .3) (a .4) (a .5) (a .6) in
@@ -219,7 +220,7 @@ module _ (E : Records) (at : ℕ) (fixed : Bool) (kept boost : Float) (words dep
                       let s = first-size (a .0) (a .1) (a .2) (a .3) (a .4) (a .5) (a .6) in
                       omega (arith, g, f, b, s)
 
-                  pub whole-placed : (st₀ rest₁ rest₂ rest₃ st : List ℕ) (scores need msm : ℕ) (required after : Bool) → length st₀ ≡ words → TreePre E at fixed kept boost words depth → T (fits binary32 kept) → msm ≡ recordValue (E .query) at 0 → ((ix : Index) (k : ℕ) (C : DecodedClauses) (b : Float) → ClausesKnown ix (E .query) (E .nexts) (E .presents) (E .costs) k at C b → required ≡ hasRequired (C .clauses)) → need ≡ cond required msm (max 1 msm) → after ≡ (required && eqb msm 0) → st ≡ wordsOf (booleanState (24 + (e₁ + e₂) + e₃) need e₁ (e₁ + e₂) fixed (toBits binary32 kept) after groupAt scores) ++ drop 24 (take (24 + (e₁ + e₂)) (take (24 + e₁) (take 24 st₀ ++ (out₁ ++ rest₁)) ++ (out₂ ++ rest₂)) ++ (out₃ ++ rest₃)) → TreePost E at fixed kept boost words depth scores (24 + (e₁ + e₂) + e₃) st
+                  pub whole-placed : (st₀ rest₁ rest₂ rest₃ st : List ℕ) (scores need msm : ℕ) (required after : Bool) → length st₀ ≡ words → TreePre E at fixed kept boost words depth → T (fits binary32 kept) → msm ≡ recordValue (E .query) at 0 → ((ix : Index) (k : ℕ) (C : DecodedClauses) (b : Float) → ClausesKnown ix (E .query) (E .nexts) (E .presents) (E .costs) k at C b → required ≡ hasRequired (C .clauses)) → need ≡ cond required msm (max 1 msm) → after ≡ (required && eqb msm 0) → st ≡ wordsOf (booleanState (nodeStateWords + (e₁ + e₂) + e₃) need e₁ (e₁ + e₂) fixed (toBits binary32 kept) after groupAt scores) ++ drop nodeStateWords (take (nodeStateWords + (e₁ + e₂)) (take (nodeStateWords + e₁) (take nodeStateWords st₀ ++ (out₁ ++ rest₁)) ++ (out₂ ++ rest₂)) ++ (out₃ ++ rest₃)) → TreePost E at fixed kept boost words depth scores (nodeStateWords + (e₁ + e₂) + e₃) st
                   unfolding shouldsNeeded
                   whole-placed st₀ rest₁ rest₂ rest₃ st scores need msm required after all pre held m required-is need-is after-is st-is ix ranges k D p a levels =
                       let h = here ix ranges k D p a in

@@ -7,6 +7,7 @@ ghost use Prim.Native.Nat.{ℕ, _^_, _≤_, _<_};
 ghost use lib.Dec.{eqb};
 ghost use lib.ListN.{length, drop};
 ghost use lib.Ieee.{binary32, toBits};
+ghost use Rattle.meaning.specs.Limits.{nodeStateWords};
 ghost use Rattle.meaning.specs.Query.{Occur, occurOf, recordKind};
 ghost use Rattle.meaning.specs.Score.{passed};
 ghost use Rattle.ieee754.specs.Nonneg.{AtMost};
@@ -24,6 +25,7 @@ use node_words::leaf::place_leaf;
 use node_words::place::place_nothing;
 use node_words::place::put;
 use node_words::place::word;
+use weight::NODE_STATE_WORDS;
 
 // Must and Should pass the boost on, Filter and MustNot pass 0.
 fn passed_on(occurrence: u32, boost: f32) -> f32
@@ -203,8 +205,8 @@ fn put_boolean(
     group_at: usize,
     scores: u32,
 )
-    requires { ⌜ (24 ≤ length (now st)) × (size < 4294967296) × («required_end» ≤ size) × («optional_end» ≤ size) × («group_at» ≤ size) × AtMost (2 ^ 29) kept ⌝ }
-    ensures { λ r. ⌜ now (st .exit) ≡ wordsOf (booleanState size need «required_end» «optional_end» fixed (toBits binary32 kept) afterwards «group_at» scores) ++ drop 24 (now (st .entry)) ⌝ }
+    requires { ⌜ (nodeStateWords ≤ length (now st)) × (size < 4294967296) × («required_end» ≤ size) × («optional_end» ≤ size) × («group_at» ≤ size) × AtMost (2 ^ 29) kept ⌝ }
+    ensures { λ r. ⌜ now (st .exit) ≡ wordsOf (booleanState size need «required_end» «optional_end» fixed (toBits binary32 kept) afterwards «group_at» scores) ++ drop nodeStateWords (now (st .entry)) ⌝ }
 {
     let bits = f32::to_bits(kept);
     put(
@@ -226,6 +228,14 @@ fn put_boolean(
             word(afterwards),
             group_at as u32,
             scores,
+            0,
+            0,
+            0,
+            0,
+            0,
+            0,
+            0,
+            0,
             0,
             0,
             0,
@@ -268,7 +278,7 @@ fn place_boolean(
     let msm = query::value(q, at, 0);
     let required = has_required(q, nexts, at);
     let first = place_required(
-        &mut st[24..],
+        &mut st[NODE_STATE_WORDS..],
         q,
         max_doc,
         fields,
@@ -283,7 +293,7 @@ fn place_boolean(
         depth - 1,
     );
     let shoulds = place_others(
-        &mut st[24 + first.end..],
+        &mut st[NODE_STATE_WORDS + first.end..],
         q,
         max_doc,
         fields,
@@ -300,7 +310,7 @@ fn place_boolean(
     );
     let optional_end = first.end + shoulds;
     let nots = place_others(
-        &mut st[24 + optional_end..],
+        &mut st[NODE_STATE_WORDS + optional_end..],
         q,
         max_doc,
         fields,
@@ -315,7 +325,7 @@ fn place_boolean(
         boost,
         depth - 1,
     );
-    let size = 24 + optional_end + nots;
+    let size = NODE_STATE_WORDS + optional_end + nots;
     let need = measure::shoulds_needed(required, msm);
     put_boolean(
         st,

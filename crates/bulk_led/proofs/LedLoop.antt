@@ -12,7 +12,7 @@ use lib.ListN.{getD, length, take, drop}
 use lib.IntN.{ℤ}
 use lib.Ieee.{Float}
 use borrow.Author.Tests.{lt-ltb}
-use Rattle.meaning.specs.Limits.{noMoreDocs, maxHits}
+use Rattle.meaning.specs.Limits.{noMoreDocs, maxHits, nodeStateWords}
 use Rattle.meaning.specs.Lent.{Index}
 use Rattle.meaning.specs.Live.{isLive}
 use Rattle.meaning.specs.Ieee754.{zeroFloat, narrowedSum, sumFrom}
@@ -69,9 +69,9 @@ pub record Case (K : LedCall) : Type 0 where
 -- what is read before the loop
 pub record Fixed (K : LedCall) (lead : Node) (scores at : ℕ) : Type 0 where
   pub words : LedWords (K .st)
-  pub node : NodeIs (take (length (K .st) - 24) (drop 24 (K .st))) lead
-  pub scores-is : scores ≡ getD (K .st) 39 0
-  pub at-is : at ≡ 24 + getD (K .st) 4 0
+  pub node : NodeIs (take (length (K .st) - nodeStateWords) (drop nodeStateWords (K .st))) lead
+  pub scores-is : scores ≡ getD (K .st) (nodeStateWords + 15) 0
+  pub at-is : at ≡ nodeStateWords + getD (K .st) 4 0
 
 both : (a b : Bool) → a && b ≡ true → (a ≡ true) × (b ≡ true)
 both true b e = (refl, e)
@@ -97,7 +97,7 @@ module _ (K : LedCall) (lead : Node) (scores at : ℕ) (F : Fixed K lead scores 
   same-postings = k .held .lends .postings-are ∙ k .postings-are
 
   reads : Read lead (sh .s)
-  reads = read (take (length (K .st) - 24) (drop 24 (K .st))) (sh .u) (sh .s) lead (sh .behind) (F .node)
+  reads = read (take (length (K .st) - nodeStateWords) (drop nodeStateWords (K .st))) (sh .u) (sh .s) lead (sh .behind) (F .node)
 
   kind-run : (lead .kind ≡ 1 → ⊥) → lead .kind ≡ 4
   kind-run h = reads .kind-is ∙ sym (sh .kind-is) ∙ F .words .lead (λ e. h (reads .kind-is ∙ sym (sh .kind-is) ∙ e))
@@ -106,7 +106,7 @@ module _ (K : LedCall) (lead : Node) (scores at : ℕ) (F : Fixed K lead scores 
   run = run-of (k .ix) accepted (K .postings) (K .ranges) same-postings lead (sh .s) reads kind-run (sh .L) (k .places) (sh .v) (sh .b) (sh .sound) (subst (λ (l : List ℕ). LeafIs (k .ix) l (sh .L) (sh .s) (sh .v) (sh .b)) (k .ranges-are) (sh .leaf-is))
 
   abbrev Parts : List ℕ → ℕ → Type 0
-  Parts st b = LedParts (k .E) (k .ix) (k .places) (sh .rs) (sh .ps) (k .depth - 1) (take 48 (K .st)) at st b
+  Parts st b = LedParts (k .E) (k .ix) (k .places) (sh .rs) (sh .ps) (k .depth - 1) (take (2 * nodeStateWords) (K .st)) at st b
 
   -- the live matches before `from` are collected, which stands behind the documents passed and not behind the next
   pub record LedAt (st : List ℕ) (c : TopScoreDocCollector) (heap : List ℤ) (i : ℕ) : Type 0 where
@@ -125,7 +125,7 @@ module _ (K : LedCall) (lead : Node) (scores at : ℕ) (F : Fixed K lead scores 
         sofar = sofar-start (k .ix) (k .S) (K .t) (K .start) c f some most;
         low = λ l. omega arith;
         passed = λ m l g. absurd (omega arith);
-        parts = subst (λ (n : ℕ). LedParts (k .E) (k .ix) (k .places) (sh .rs) (sh .ps) (k .depth - 1) (take 48 (K .st)) n (K .st) 0) (sym (F .at-is)) (sh .parts);
+        parts = subst (λ (n : ℕ). LedParts (k .E) (k .ix) (k .places) (sh .rs) (sh .ps) (k .depth - 1) (take (2 * nodeStateWords) (K .st)) n (K .st) 0) (sym (F .at-is)) (sh .parts);
       }
 
   pub lead-there : (i : ℕ) → i < lead .number → DocumentThere lead (K .postings) (K .ranges) i
@@ -163,11 +163,11 @@ module _ (K : LedCall) (lead : Node) (scores at : ℕ) (F : Fixed K lead scores 
       here = led-later (I .parts) d low-at
 
       pub led-asks : LedAtPre (K .postings) (K .live) st at d
-      led-asks = (live-there (k .ix) (K .live) d accepted (k .held .live-are) inside, led-few, (k .E, k .postings-are, k .ix, k .places, sh .rs, sh .ps, k .depth - 1, take 48 (K .st), here))
+      led-asks = (live-there (k .ix) (K .live) d accepted (k .held .live-are) inside, led-few, (k .E, k .postings-are, k .ix, k .places, sh .rs, sh .ps, k .depth - 1, take (2 * nodeStateWords) (K .st), here))
 
       module _ (r : Bool) (st′ : List ℕ) (post : LedAtPost (K .postings) (K .live) st at d r st′) where
         after : (r ≡ (isLive (liveOnly (K .live)) d && (allMatch (k .ix) (sh .rs) d && not (anyMatches (k .ix) (sh .ps) d)))) × Parts st′ d
-        after = post (k .E) (k .postings-are) (k .ix) (k .places) (sh .rs) (sh .ps) (k .depth - 1) (take 48 (K .st)) here
+        after = post (k .E) (k .postings-are) (k .ix) (k .places) (sh .rs) (sh .ps) (k .depth - 1) (take (2 * nodeStateWords) (K .st)) here
 
         hit : leafMatches (k .ix) (sh .L) d ≡ true
         hit = subst (λ (x : ℕ). leafMatches (k .ix) (sh .L) x ≡ true) (sym doc-is) (run .hits i l)
@@ -204,7 +204,7 @@ module _ (K : LedCall) (lead : Node) (scores at : ℕ) (F : Fixed K lead scores 
           lent-at : LentAt (k .ix) (k .E .documents) (K .postings) (k .E .positions) (K .norms) d
           lent-at = record { lends = record { accepted = accepted; documents = k .held .lends .documents; postings-are = same-postings; positions-are = k .held .lends .positions-are }; norms-are = k .held .norms-are; document = omega (arith, inside, k .held .lends .documents) }
 
-          asks : LedAsks (k .ix) (K .postings) (K .norms) (k .E .ranges) (K .table) (k .places) (k .depth - 1) (sh .f) (sh .L) (sh .sc) (sh .rs) lead scores (take (at - 48) (drop 48 st′)) i d
+          asks : LedAsks (k .ix) (K .postings) (K .norms) (k .E .ranges) (K .table) (k .places) (k .depth - 1) (sh .f) (sh .L) (sh .sc) (sh .rs) lead scores (take (at - 2 * nodeStateWords) (drop (2 * nodeStateWords) st′)) i d
           asks =
               record {
                 at-lead = record { s = sh .s; v = sh .v; u = sh .u; b = sh .b; node = subst (λ (w : List ℕ). NodeIs w lead) (sh .behind) (F .node); run = kind-run; words = sh .leaf-is; scoring = sh .scoring-is; sound = sh .sound; tables = sh .tables; place = l; posting = D .posting };
@@ -215,13 +215,13 @@ module _ (K : LedCall) (lead : Node) (scores at : ℕ) (F : Fixed K lead scores 
                 oks = led-required (after .1) .oks;
               }
 
-          pub led-score-asks : LedScorePre (take (at - 48) (drop 48 st′)) lead scores (K .postings) (K .norms) (K .table) i d
+          pub led-score-asks : LedScorePre (take (at - 2 * nodeStateWords) (drop (2 * nodeStateWords) st′)) lead scores (K .postings) (K .norms) (K .table) i d
           led-score-asks = (k .E .documents, k .E .positions, k .E .ranges, k .places, k .depth - 1, k .ix, sh .f, sh .L, sh .sc, sh .rs, lent-at, asks)
 
-          pub led-score-fits : (48 ≤ at) × (at ≤ length st′)
+          pub led-score-fits : (2 * nodeStateWords ≤ at) × (at ≤ length st′)
           led-score-fits = led-fits (after .1)
 
-          module _ (s : Float) (scored : LedScorePost (take (at - 48) (drop 48 st′)) lead scores (K .postings) (K .norms) (K .table) i d s) where
+          module _ (s : Float) (scored : LedScorePost (take (at - 2 * nodeStateWords) (drop (2 * nodeStateWords) st′)) lead scores (K .postings) (K .norms) (K .table) i d s) where
             result : ((j : Joining) → s ≡ joinedScore j (requiredScores (k .ix) (more (sh .f) (leaf (sh .L) (sh .sc)) (sh .rs)) d) zeroFloat) × AtMost ((1 + nodesOf (sh .rs)) * 2 ^ 29) s
             result = scored (k .E .documents) (k .E .positions) (k .E .ranges) (k .places) (k .depth - 1) (k .ix) (sh .f) (sh .L) (sh .sc) (sh .rs) lent-at asks
 

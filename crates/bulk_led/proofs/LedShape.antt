@@ -8,6 +8,7 @@ use native.Mathlib.Omega.{arith}
 use lib.ListN.{getD, length, take, drop, length-append}
 use lib.Seq.{take-at, drop-at, getD-append-add}
 use lib.Ieee.{Float}
+use Rattle.meaning.specs.Limits.{nodeStateWords}
 use Rattle.meaning.specs.Lent.{Index}
 use Rattle.weight.specs.ScorerTree.{Leaf, nothing, term, phrase, range, everything, Scoring, Joining, Scorer, leaf, boolean, Scorers, end, more, leafMatches, matches, allMatch, anyMatches}
 use Rattle.weight.specs.State.{State, wordsOf, sizesOf}
@@ -28,24 +29,24 @@ mid-back : (x v z kids : List ℕ) (a e : ℕ) → kids ≡ x ++ (v ++ z) → le
 mid-back x v z kids a e i l m ys = let s : length v ≡ e - a = omega arith in rw (i, take-at x (v ++ z) a l, drop-at x (v ++ z) a l, drop-at v z (e - a) s)
 
 module _ {E : Lent} {ix : Index} {places : ℕ} {rs ps : Scorers} {depth : ℕ} {front : List ℕ} {at : ℕ} {st : List ℕ} {b : ℕ} (p : LedParts E ix places rs ps depth front at st b) where
-  pub led-fits : (48 ≤ at) × (at ≤ length st)
+  pub led-fits : (2 * nodeStateWords ≤ at) × (at ≤ length st)
   led-fits = (omega (arith, p .at-is), omega (arith, p .at-is, p .front-long, ap length (p .is), length-append front (p .x ++ p .z), length-append (p .x) (p .z)))
 
-  seam : 48 + length (p .x) ≡ at
+  seam : 2 * nodeStateWords + length (p .x) ≡ at
   seam = sym (p .at-is)
 
-  pub led-part : take (at - 48) (drop 48 st) ≡ p .x
-  led-part = mid-part front (p .x) (p .z) st 48 at (p .is) (p .front-long) seam
+  pub led-part : take (at - 2 * nodeStateWords) (drop (2 * nodeStateWords) st) ≡ p .x
+  led-part = mid-part front (p .x) (p .z) st (2 * nodeStateWords) at (p .is) (p .front-long) seam
 
-  pub led-required : PartsHeld E ix places rs depth (take (at - 48) (drop 48 st)) b
+  pub led-required : PartsHeld E ix places rs depth (take (at - 2 * nodeStateWords) (drop (2 * nodeStateWords) st)) b
   led-required = subst (λ (l : List ℕ). PartsHeld E ix places rs depth l b) (sym led-part) (p .required)
 
-  pub led-passed : (ys : List ℕ) → length ys ≡ length (take (at - 48) (drop 48 st)) → PartsHeld E ix places rs depth ys b → LedParts E ix places rs ps depth front at (take 48 st ++ (ys ++ drop (at - 48) (drop 48 st))) b
+  pub led-passed : (ys : List ℕ) → length ys ≡ length (take (at - 2 * nodeStateWords) (drop (2 * nodeStateWords) st)) → PartsHeld E ix places rs depth ys b → LedParts E ix places rs ps depth front at (take (2 * nodeStateWords) st ++ (ys ++ drop (at - 2 * nodeStateWords) (drop (2 * nodeStateWords) st))) b
   led-passed ys l h =
       record {
         x = ys;
         z = p .z;
-        is = mid-back front (p .x) (p .z) st 48 at (p .is) (p .front-long) seam ys;
+        is = mid-back front (p .x) (p .z) st (2 * nodeStateWords) at (p .is) (p .front-long) seam ys;
         front-long = p .front-long;
         at-is = omega (arith, p .at-is, l, ap length led-part);
         required-terms = p .required-terms;
@@ -147,12 +148,12 @@ pub record Shape (E : Lent) (ix : Index) (table : List Float) (places depth : �
   pub v : List ℕ
   pub u : List ℕ
   pub b : ℕ
-  pub kind-is : getD st 24 0 ≡ s .kind
-  pub behind : take (length st - 24) (drop 24 st) ≡ wordsOf s ++ u
+  pub kind-is : getD st nodeStateWords 0 ≡ s .kind
+  pub behind : take (length st - nodeStateWords) (drop nodeStateWords st) ≡ wordsOf s ++ u
   pub leaf-is : LeafIs ix (E .ranges) L s v b
   pub scoring-is : ScoringIs sc s
-  pub scores : getD st 39 0 ≡ cond f 1 0
-  pub parts : LedParts E ix places rs ps (depth - 1) (take 48 st) (24 + getD st 4 0) st 0
+  pub scores : getD st (nodeStateWords + 15) 0 ≡ cond f 1 0
+  pub parts : LedParts E ix places rs ps (depth - 1) (take (2 * nodeStateWords) st) (nodeStateWords + getD st 4 0) st 0
   pub sound : LeafSound ix places L
   pub tables : LeafTable ix table L sc
   pub rest-sound : Sounds ix places rs
@@ -160,21 +161,21 @@ pub record Shape (E : Lent) (ix : Index) (table : List Float) (places depth : �
   pub few : 1 + nodesOf rs ≤ 256
 
 module _ (E : Lent) (ix : Index) (table : List Float) (places depth : ℕ) (lends : Lends ix (E .documents) (E .postings) (E .positions)) (st : List ℕ) (W : LedWords st) where
-  ones : (front w : List ℕ) → st ≡ front ++ w → length front ≡ 48 → Ones w
+  ones : (front w : List ℕ) → st ≡ front ++ w → length front ≡ 2 * nodeStateWords → Ones w
   ones front w e l i g =
-      let d : 48 + 24 * i ≡ length front + 24 * i = omega arith in
-      sym (getD-append-add front w (24 * i) 0) ∙ ap (λ (j : ℕ). getD (front ++ w) j 0) (sym d) ∙ ap (λ (z : List ℕ). getD z (48 + 24 * i) 0) (sym e) ∙ W .terms i (omega (arith, ap length e, length-append front w))
+      let d : 2 * nodeStateWords + nodeStateWords * i ≡ length front + nodeStateWords * i = omega arith in
+      sym (getD-append-add front w (nodeStateWords * i) 0) ∙ ap (λ (j : ℕ). getD (front ++ w) j 0) (sym d) ∙ ap (λ (z : List ℕ). getD z (2 * nodeStateWords + nodeStateWords * i) 0) (sym e) ∙ W .terms i (omega (arith, ap length e, length-append front w))
 
   -- the Boolean's record, its first child and the rest
   made : (j : Joining) (need : ℕ) (rs os ps : Scorers) (s₀ : State) (x v z : List ℕ) (S : Scorable ix table places (boolean none j need rs os ps)) → st ≡ wordsOf s₀ ++ (x ++ (v ++ z)) → s₀ .need ≡ need → s₀ .requiredEnd ≡ sizesOf rs → (os ≡ end) × (v ≡ []) → Oks ix (E .ranges) rs (depth - 1) x 0 → Oks ix (E .ranges) ps (depth - 1) z 0 → (c : FirstChild ix (E .ranges) rs (depth - 1) x 0) → RunLeaf ix (E .ranges) (c .S) (cond (c .f) 1 0) (c .y) → Shape E ix table places depth (boolean none j need rs os ps) st
   unfolding Sound Sounds Tables TablesOf nodes nodesOf
   made j need rs os ps s₀ x v z S e n re without o q c l =
       let own : st ≡ wordsOf s₀ ++ (c .y ++ (c .w ++ z)) = e ∙ ap (λ (i : List ℕ). wordsOf s₀ ++ (x ++ (i ++ z))) (without .1) ∙ ap (λ (i : List ℕ). wordsOf s₀ ++ (i ++ z)) (c .words) ∙ ap (λ (i : List ℕ). wordsOf s₀ ++ i) (append-assoc (c .y) (c .w) z) in
-      let long : length (c .y) ≡ 24 = ap length (l .words) in
+      let long : length (c .y) ≡ nodeStateWords = ap length (l .words) in
       let front : List ℕ = wordsOf s₀ ++ c .y in
       let two : st ≡ front ++ (c .w ++ z) = own ∙ sym (append-assoc (wordsOf s₀) (c .y) (c .w ++ z)) in
-      let size : length front ≡ 48 = omega (arith, long) in
-      let taken : take 48 st ≡ front = ap (take 48) two ∙ take-at front (c .w ++ z) 48 size in
+      let size : length front ≡ 2 * nodeStateWords = omega (arith, long) in
+      let taken : take (2 * nodeStateWords) st ≡ front = ap (take (2 * nodeStateWords)) two ∙ take-at front (c .w ++ z) (2 * nodeStateWords) size in
       let t = terms-of ix (E .ranges) (c .g) (depth - 1) (c .w) z 0 (c .oks) (ones front (c .w ++ z) two size) in
       let t′ = terms-of ix (E .ranges) ps (depth - 1) z [] 0 q (subst (λ (i : List ℕ). Ones i) (sym (append-nil z)) (t .1)) in
       let tree : boolean none j need rs os ps ≡ boolean none j 0 (more (c .f) (leaf (l .L) (l .sc)) (c .g)) end ps =
@@ -192,11 +193,11 @@ module _ (E : Lent) (ix : Index) (table : List Float) (places depth : ℕ) (lend
         v = l .v;
         u = c .w ++ z;
         b = l .b;
-        kind-is = ap (λ (i : List ℕ). getD i 24 0) (own ∙ ap (λ (i : List ℕ). wordsOf s₀ ++ (i ++ (c .w ++ z))) (l .words));
-        behind = rest-part st (wordsOf s₀) (c .y ++ (c .w ++ z)) 24 own refl ∙ ap (λ (i : List ℕ). i ++ (c .w ++ z)) (l .words);
+        kind-is = ap (λ (i : List ℕ). getD i nodeStateWords 0) (own ∙ ap (λ (i : List ℕ). wordsOf s₀ ++ (i ++ (c .w ++ z))) (l .words));
+        behind = rest-part st (wordsOf s₀) (c .y ++ (c .w ++ z)) nodeStateWords own refl ∙ ap (λ (i : List ℕ). i ++ (c .w ++ z)) (l .words);
         leaf-is = l .leaf-is;
         scoring-is = l .scoring-is;
-        scores = ap (λ (i : List ℕ). getD i 39 0) (own ∙ ap (λ (i : List ℕ). wordsOf s₀ ++ (i ++ (c .w ++ z))) (l .words)) ∙ l .scores;
+        scores = ap (λ (i : List ℕ). getD i (nodeStateWords + 15) 0) (own ∙ ap (λ (i : List ℕ). wordsOf s₀ ++ (i ++ (c .w ++ z))) (l .words)) ∙ l .scores;
         parts = record {
           x = c .w;
           z = z;
@@ -229,12 +230,12 @@ module _ (E : Lent) (ix : Index) (table : List Float) (places depth : ℕ) (lend
       let qp : Oks ix (E .ranges) ps (depth - 1) (p .3) 0 = subst (λ (i : ℕ). Oks ix (E .ranges) ps (depth - 1) (p .3) i) m (p .11) in
       let without = no-children ix (E .ranges) os (depth - 1) (p .2) 0 qo (omega (arith, oks-length ix (E .ranges) os (depth - 1) (p .2) 0 qo, p .7 .optional-end, p .7 .required-end, re, oe, W .no-optional)) in
       let c = first-child ix (E .ranges) rs (depth - 1) (p .1) 0 qr (λ z. W .some (omega (arith, oks-length ix (E .ranges) rs (depth - 1) (p .1) 0 qr, p .7 .required-end, re, z))) in
-      let w : getD st 24 0 ≡ getD (c .y) 0 0 = front-word (p .0) (c .y) (c .w ++ (p .2 ++ p .3)) (p .4 ∙ ap (λ (i : List ℕ). wordsOf (p .0) ++ i) (ap (λ (i : List ℕ). i ++ (p .2 ++ p .3)) (c .words) ∙ append-assoc (c .y) (c .w) (p .2 ++ p .3))) (ok-long ix (E .ranges) (c .S) (depth - 1) (cond (c .f) 1 0) (c .y) 0 (c .ok)) in
+      let w : getD st nodeStateWords 0 ≡ getD (c .y) 0 0 = front-word (p .0) (c .y) (c .w ++ (p .2 ++ p .3)) (p .4 ∙ ap (λ (i : List ℕ). wordsOf (p .0) ++ i) (ap (λ (i : List ℕ). i ++ (p .2 ++ p .3)) (c .words) ∙ append-assoc (c .y) (c .w) (p .2 ++ p .3))) (ok-long ix (E .ranges) (c .S) (depth - 1) (cond (c .f) 1 0) (c .y) 0 (c .ok)) in
       made j need rs os ps (p .0) (p .1) (p .2) (p .3) S (p .4) (p .7 .need-is) (p .7 .required-end) without qr qp c (run-leaf ix (E .ranges) (c .S) (depth - 1) (cond (c .f) 1 0) (c .y) 0 (c .ok) (λ h. sym w ∙ W .lead (λ g. h (sym w ∙ g))))
     where
-      front-word : (s : State) (y z : List ℕ) → st ≡ wordsOf s ++ (y ++ z) → 24 ≤ length y → getD st 24 0 ≡ getD y 0 0
+      front-word : (s : State) (y z : List ℕ) → st ≡ wordsOf s ++ (y ++ z) → nodeStateWords ≤ length y → getD st nodeStateWords 0 ≡ getD y 0 0
       front-word s [] z e l = absurd (omega (arith, l))
-      front-word s (a ∷ y) z e l = ap (λ (i : List ℕ). getD i 24 0) e
+      front-word s (a ∷ y) z e l = ap (λ (i : List ℕ). getD i nodeStateWords 0) e
 
 -- ---- what it matches
 and-true : (b : Bool) → b && true ≡ b

@@ -8,7 +8,7 @@ use native.Mathlib.Nat.{eq-or-lt-of-le}
 use native.Mathlib.Omega.{arith}
 use lib.ListN.{getD, length, take, drop, length-append}
 use lib.Seq.{getD-append-add}
-use Rattle.meaning.specs.Limits.{noMoreDocs}
+use Rattle.meaning.specs.Limits.{noMoreDocs, nodeStateWords}
 use Rattle.meaning.specs.Lent.{Index}
 use Rattle.meaning.specs.First.{First}
 use Rattle.weight.specs.ScorerTree.{nothing, term, phrase, range, everything, Scorer, leaf, boolean, Scorers, end, more, matches, anyMatches}
@@ -19,7 +19,7 @@ use Rattle.scorer.proofs.Children.{Zip, View, zip-start, zip-end, zip-none, vie
 use Rattle.bulk_led.specs.Terms.{IsTerm, TermsOnly}
 
 -- a term's words
-pub term-kind : (ix : Index) (R : List ℕ) (T : Scorer) (k o : ℕ) (y : List ℕ) (b : ℕ) → IsTerm T → Ok ix R T k o y b → (getD y 0 0 ≡ 1) × (length y ≡ 24)
+pub term-kind : (ix : Index) (R : List ℕ) (T : Scorer) (k o : ℕ) (y : List ℕ) (b : ℕ) → IsTerm T → Ok ix R T k o y b → (getD y 0 0 ≡ 1) × (length y ≡ nodeStateWords)
 unfolding Ok LeafIs
 term-kind ix R T k o y b t p =
     let q : Ok ix R (leaf (term (t .0)) (t .1)) k o y b = subst (λ (S : Scorer). Ok ix R S k o y b) (t .2) p in
@@ -35,18 +35,18 @@ kind-term ix R (leaf (range r) sc) k o y b p e = let h : p .0 .kind ≡ 1 = sym 
 kind-term ix R (leaf everything sc) k o y b p e = let h : p .0 .kind ≡ 1 = sym (ap (λ (l : List ℕ). getD l 0 0) (p .2)) ∙ e in absurd (omega (arith, h, p .4 .0))
 kind-term ix R (boolean c j need rs os ps) k o y b p e = let h : p .0 .kind ≡ 1 = sym (ap (λ (l : List ℕ). getD l 0 0) (p .4)) ∙ e in absurd (omega (arith, h, p .7 .kind-is))
 
--- where the first word of each 24 is 1, the children are terms
+-- where the first word of each record is 1, the children are terms
 abbrev pub Ones : List ℕ → Type 0
-Ones w = (i : ℕ) → 24 * i < length w → getD w (24 * i) 0 ≡ 1
+Ones w = (i : ℕ) → nodeStateWords * i < length w → getD w (nodeStateWords * i) 0 ≡ 1
 
-front-one : (y z : List ℕ) → 24 ≤ length y → getD (y ++ z) 0 0 ≡ 1 → getD y 0 0 ≡ 1
+front-one : (y z : List ℕ) → nodeStateWords ≤ length y → getD (y ++ z) 0 0 ≡ 1 → getD y 0 0 ≡ 1
 front-one [] z l e = absurd (omega (arith, l))
 front-one (n ∷ y) z l e = e
 
-rest-ones : (y z : List ℕ) → length y ≡ 24 → Ones (y ++ z) → Ones z
+rest-ones : (y z : List ℕ) → length y ≡ nodeStateWords → Ones (y ++ z) → Ones z
 rest-ones y z l h i g =
-    let e : 24 * (i + 1) ≡ length y + 24 * i = omega (arith, l) in
-    sym (getD-append-add y z (24 * i) 0) ∙ ap (λ (j : ℕ). getD (y ++ z) j 0) (sym e) ∙ h (i + 1) (omega (arith, l, length-append y z))
+    let e : nodeStateWords * (i + 1) ≡ length y + nodeStateWords * i = omega (arith, l) in
+    sym (getD-append-add y z (nodeStateWords * i) 0) ∙ ap (λ (j : ℕ). getD (y ++ z) j 0) (sym e) ∙ h (i + 1) (omega (arith, l, length-append y z))
 
 pub terms-of : (ix : Index) (R : List ℕ) (ss : Scorers) (k : ℕ) (x z : List ℕ) (b : ℕ) → Oks ix R ss k x b → Ones (x ++ z) → TermsOnly ss × Ones z
 unfolding Oks TermsOnly
@@ -78,8 +78,8 @@ module _ (P : Index → Scorers → ℕ → Bool) (E : Lent) (ix : Index) (p k :
     pub is-term : IsTerm T
     pub terms : TermsOnly g
     pub same : P ix ss doc ≡ P ix (more f T g) doc
-    pub size : getD kids (at + 1) 0 ≡ 24
-    pub fits : at + 24 ≤ length kids
+    pub size : getD kids (at + 1) 0 ≡ nodeStateWords
+    pub fits : at + nodeStateWords ≤ length kids
 
   pub terms-start : (kids : List ℕ) → TermsOnly ss → PartsHeld E ix p ss k kids doc → TermsAt kids 0
   terms-start kids t h = record { left = ss; zip = zip-start h; terms = t; same = refl }
@@ -95,7 +95,7 @@ module _ (P : Index → Scorers → ℕ → Bool) (E : Lent) (ix : Index) (p k :
           let w = term-kind ix (E .ranges) T k (cond f 1 0) (v .y) doc (t .0) (v .ok) in
           record { f = f; T = T; g = g; view-at = v; is-term = t .0; terms = t .1; same = s; size = v .size ∙ w .1; fits = omega (arith, v .fits, w .1) }
 
-  module _ (kids : List ℕ) (at : ℕ) (h : TermHere kids at) (e : ℕ) (stop : e ≡ at + 24) where
+  module _ (kids : List ℕ) (at : ℕ) (h : TermHere kids at) (e : ℕ) (stop : e ≡ at + nodeStateWords) where
     stop-at : e ≡ at + getD kids (at + 1) 0
     stop-at = stop ∙ ap (λ (i : ℕ). at + i) (sym (h .size))
 

@@ -8,6 +8,7 @@ use lib.Dec.{T}
 use lib.ListN.{getD, length, take, drop}
 use lib.Ieee.{Float, binary64, add, fits, isNan}
 use lib.Ieee.Fits.{add-fits, fits-widens}
+use Rattle.meaning.specs.Limits.{nodeStateWords}
 use Rattle.meaning.specs.Lent.{Index}
 use Rattle.meaning.specs.Ieee754.{zeroFloat, narrow, sumFrom, narrowedSum}
 use Rattle.ieee754.specs.Nonneg.{nonneg, AtMost}
@@ -61,7 +62,7 @@ no-group afterwards ix ss doc p r e s h =
     let q : narrow (add binary64 (narrow t) zeroFloat) ≡ narrow t = ap narrow (plus-zero (narrow t) (fits-widens (narrow t) (narrow-fits t)) w) ∙ narrow-exact (narrow t) (narrow-fits t) in
     e ∙ sym q
 
-size-of : (S : Scorer) → IsTerm S → sizeOf S ≡ 24
+size-of : (S : Scorer) → IsTerm S → sizeOf S ≡ nodeStateWords
 unfolding sizeOf leafSize
 size-of S t = ap sizeOf (t .2)
 
@@ -97,8 +98,8 @@ module _ (ix : Index) (kids : List ℕ) (start : Float) (n : ℕ) (postings posi
     pub terms : TermsOnly g
     pub held : T (fits binary64 sum)
     pub group : NoGroup ix (more f S g) doc sum → NoGroup ix ss doc start
-    pub size : getD kids (at + 1) 0 ≡ 24
-    pub room : at + 24 ≤ length kids
+    pub size : getD kids (at + 1) 0 ≡ nodeStateWords
+    pub room : at + nodeStateWords ≤ length kids
     pub scores : getD kids (at + 15) 0 ≡ cond f 1 0
 
   pub term-sum-start : TermsOnly ss → Scorables ix table places p ss → allMatch ix ss doc ≡ true → Oks ix ranges ss depth kids doc → AtMost (p * 2 ^ 29) start → T (fits binary64 start) → TermSum 0 start
@@ -120,7 +121,7 @@ module _ (ix : Index) (kids : List ℕ) (start : Float) (n : ℕ) (postings posi
       go : (g : Scorers) → At g at sum → TermsOnly g → (NoGroup ix g doc sum → NoGroup ix ss doc start) → SumHere at sum
       go end s t h = absurd (omega (arith, zip-none (s .zip)))
       go (more f S g) s t h =
-          let z : getD kids (at + 1) 0 ≡ 24 = sum-size scores-word ix ranges table places depth doc ss total (p + nodesOf ss) kids at sum f S g s ∙ size-of S (t .0) in
+          let z : getD kids (at + 1) 0 ≡ nodeStateWords = sum-size scores-word ix ranges table places depth doc ss total (p + nodesOf ss) kids at sum f S g s ∙ size-of S (t .0) in
           record {
             f = f;
             S = S;
@@ -135,7 +136,7 @@ module _ (ix : Index) (kids : List ℕ) (start : Float) (n : ℕ) (postings posi
             scores = sum-scores scores-word ix ranges table places depth doc ss total (p + nodesOf ss) kids at sum f S g s;
           }
 
-  module _ (few : p + nodesOf ss ≤ 256) (at : ℕ) (sum : Float) (h : SumHere at sum) (e : ℕ) (stop : e ≡ at + 24) where
+  module _ (few : p + nodesOf ss ≤ 256) (at : ℕ) (sum : Float) (h : SumHere at sum) (e : ℕ) (stop : e ≡ at + nodeStateWords) where
     stop-at : e ≡ at + getD kids (at + 1) 0
     stop-at = stop ∙ ap (λ (i : ℕ). at + i) (sym (h .size))
 

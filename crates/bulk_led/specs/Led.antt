@@ -6,7 +6,7 @@ use Prim.Native.Nat.{ℕ, _+_, _*_, _^_, _≤_, _<_}
 use lib.ListN.{length, getD}
 use lib.IntN.{ℤ}
 use lib.Ieee.{Float}
-use Rattle.meaning.specs.Limits.{noMoreDocs}
+use Rattle.meaning.specs.Limits.{noMoreDocs, nodeStateWords}
 use Rattle.meaning.specs.Lent.{Index}
 use Rattle.meaning.specs.Live.{isLive}
 use Rattle.meaning.specs.Ieee754.{zeroFloat}
@@ -28,15 +28,15 @@ use Rattle.bulk_led.specs.Terms.{TermsOnly}
 
 -- the words of a Boolean that was not asked yet: no optional children, not constant; its first required child is a term or a range, its others are terms
 pub record LedWords (st : List ℕ) : Type 0 where
-  pub long : 48 ≤ length st
+  pub long : 2 * nodeStateWords ≤ length st
   pub kind-is : getD st 0 0 ≡ 3
   pub fresh : getD st 2 0 ≡ 0
   pub need-is : getD st 3 0 ≡ 0
   pub some : getD st 4 0 ≡ 0 → ⊥
   pub no-optional : getD st 5 0 ≡ getD st 4 0
   pub scores : getD st 11 0 ≡ 0
-  pub lead : (getD st 24 0 ≡ 1 → ⊥) → getD st 24 0 ≡ 4
-  pub terms : (i : ℕ) → 48 + 24 * i < length st → getD st (48 + 24 * i) 0 ≡ 1
+  pub lead : (getD st nodeStateWords 0 ≡ 1 → ⊥) → getD st nodeStateWords 0 ≡ 4
+  pub terms : (i : ℕ) → 2 * nodeStateWords + nodeStateWords * i < length st → getD st (2 * nodeStateWords + nodeStateWords * i) 0 ≡ 1
 
 -- the i-th document of the lead, where it stands in the postings or in the range buffer
 pub record DocumentThere (lead : Node) (postings ranges : List ℕ) (i : ℕ) : Type 0 where
@@ -52,8 +52,8 @@ pub record LedParts (E : Lent) (ix : Index) (places : ℕ) (rs ps : Scorers) (de
   pub x : List ℕ
   pub z : List ℕ
   pub is : st ≡ front ++ (x ++ z)
-  pub front-long : length front ≡ 48
-  pub at-is : at ≡ 48 + length x
+  pub front-long : length front ≡ 2 * nodeStateWords
+  pub at-is : at ≡ 2 * nodeStateWords + length x
   pub required-terms : TermsOnly rs
   pub prohibited-terms : TermsOnly ps
   pub required : PartsHeld E ix places rs depth x b

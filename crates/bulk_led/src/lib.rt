@@ -13,6 +13,7 @@ use terms::all_at;
 use terms::any_at;
 use terms::sum_scores;
 use terms::terms_from;
+use weight::NODE_STATE_WORDS;
 
 pub mod terms;
 
@@ -21,6 +22,12 @@ const TERM: u32 = 1;
 const BOOLEAN: u32 = 3;
 
 const RANGE: u32 = 4;
+
+// Where the second child's part begins: the first child, who leads, is one record.
+const SECOND_CHILD: usize = 2 * NODE_STATE_WORDS;
+
+// The scores word of the first child.
+const LEAD_SCORES: usize = NODE_STATE_WORDS + 15;
 
 // Whether a node's documents are a run.
 fn is_run(kind: u32) -> bool
@@ -39,7 +46,7 @@ fn is_run(kind: u32) -> bool
 pub fn suits_led(st: &[u32]) -> bool
     ensures { λ r. ⌜ (r ≡ true → LedWords (now (st .entry))) ⌝ }
 {
-    if st.len() < 48 {
+    if st.len() < SECOND_CHILD {
         return false;
     }
     if st[0] != BOOLEAN {
@@ -60,10 +67,10 @@ pub fn suits_led(st: &[u32]) -> bool
     if st[11] != 0 {
         return false;
     }
-    if !is_run(st[24]) {
+    if !is_run(st[NODE_STATE_WORDS]) {
         return false;
     }
-    terms_from(st, 48)
+    terms_from(st, SECOND_CHILD)
 }
 
 // The i-th document of the lead.
@@ -107,7 +114,7 @@ fn led_at(st: &mut [u32], postings: &[u32], live: &[u64], at: usize, doc: u32) -
     if !index::live::is_live(live, doc) {
         return false;
     }
-    if !all_at(&mut st[48..at], postings, doc) {
+    if !all_at(&mut st[SECOND_CHILD..at], postings, doc) {
         return false;
     }
     !any_at(&mut st[at..], postings, doc)
@@ -154,15 +161,24 @@ pub fn collect_led(
     requires { ⌜ LedPre (now postings) (now norms) (now ranges) (now live) (now inverses) (now st) ⌝ }
     ensures { λ r. ⌜ LedPost (now (postings .entry)) (now (norms .entry)) (now (ranges .entry)) (now (live .entry)) (now (inverses .entry)) (now (st .entry)) t (now (heap .entry)) r (now (heap .exit)) ⌝ }
 {
-    let lead = leaf_score::node_at(&st[24..]);
-    let scores = st[39];
-    let at = 24 + wide(st[4]);
+    let lead = leaf_score::node_at(&st[NODE_STATE_WORDS..]);
+    let scores = st[LEAD_SCORES];
+    let at = NODE_STATE_WORDS + wide(st[4]);
     let mut c = TopScoreDocCollector::new(t as u64);
     let mut i = 0;
     while i < lead.number {
         let doc = lead_document(lead, postings, ranges, i);
         if led_at(st, postings, live, at, doc) {
-            let s = led_score(&st[48..at], lead, scores, postings, norms, inverses, i, doc);
+            let s = led_score(
+                &st[SECOND_CHILD..at],
+                lead,
+                scores,
+                postings,
+                norms,
+                inverses,
+                i,
+                doc,
+            );
             c = c.stepped(heap, doc, s);
         }
         i += 1;

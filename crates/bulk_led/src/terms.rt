@@ -3,24 +3,23 @@ ghost use mathlib.Core.Path.{_≡_};
 ghost use mathlib.Core.Bool.{true};
 ghost use Prim.Native.Nat.{ℕ, _+_, _*_, _<_};
 ghost use lib.ListN.{length, getD};
+ghost use Rattle.meaning.specs.Limits.{nodeStateWords};
 ghost use Rattle.weight.specs.ScorerTree.{allMatch, anyMatches};
 ghost use Rattle.bulk_led.specs.Terms.{TermsPre, TermsPost, TermSumPre, TermSumPost};
+use weight::NODE_STATE_WORDS;
 
 const TERM: u32 = 1;
 
-// The words of a term's part.
-const PART: usize = 24;
-
 // Whether each part from a word on is a term's.
 pub fn terms_from(st: &[u32], from: usize) -> bool
-    ensures { λ r. ⌜ (r ≡ true → (i : ℕ) → from + 24 * i < length (now (st .entry)) → getD (now (st .entry)) (from + 24 * i) 0 ≡ 1) ⌝ }
+    ensures { λ r. ⌜ (r ≡ true → (i : ℕ) → from + nodeStateWords * i < length (now (st .entry)) → getD (now (st .entry)) (from + nodeStateWords * i) 0 ≡ 1) ⌝ }
 {
     let mut at = from;
     while at < st.len() {
         if st[at] != TERM {
             return false;
         }
-        at += PART;
+        at += NODE_STATE_WORDS;
     }
     true
 }
@@ -32,7 +31,7 @@ pub fn all_at(kids: &mut [u32], postings: &[u32], doc: u32) -> bool
 {
     let mut at = 0;
     while at < kids.len() {
-        let end = at + PART;
+        let end = at + NODE_STATE_WORDS;
         if scorer::advance_term(&mut kids[at..end], postings, doc) != doc {
             return false;
         }
@@ -48,7 +47,7 @@ pub fn any_at(kids: &mut [u32], postings: &[u32], doc: u32) -> bool
 {
     let mut at = 0;
     while at < kids.len() {
-        let end = at + PART;
+        let end = at + NODE_STATE_WORDS;
         if scorer::advance_term(&mut kids[at..end], postings, doc) == doc {
             return true;
         }
@@ -72,7 +71,7 @@ pub fn sum_scores(
     let mut sum = start;
     let mut at = 0;
     while at < kids.len() {
-        let end = at + PART;
+        let end = at + NODE_STATE_WORDS;
         if kids[at + 15] == 1 {
             let s = leaf_score::term_score(&kids[at..end], postings, norms, inverses, doc);
             sum = ieee754::add_score(sum, s);

@@ -10,7 +10,7 @@ use native.Mathlib.Omega.{arith}
 use lib.ListN.{length, getD, set}
 use lib.Seq.{getD-set-same, getD-set-other}
 use lib.Ieee.{Float, nan, binary64, add}
-use Rattle.meaning.specs.Limits.{noMoreDocs}
+use Rattle.meaning.specs.Limits.{noMoreDocs, nodeStateWords}
 use Rattle.meaning.specs.Lent.{Index, leafCount, leafFirst, leafNumber, leafDocument, leafFrequency}
 use Rattle.meaning.specs.Postings.{postingAt, found, frequencyOf}
 use Rattle.ieee754.specs.Nonneg.{AtMost}
@@ -140,7 +140,7 @@ module _ (ix : Index) (postings norms : List ℕ) (L : Lending ix postings norms
   pub first-of : n .first ≡ leafFirst ix l
   first-of = R .first-is ∙ H .first-is
 
-  pub term-long : length kid ≡ 24
+  pub term-long : length kid ≡ nodeStateWords
   term-long = ap length (H .words)
 
   pub document-is : (i : ℕ) → getD postings (3 * (n .first + i)) 0 ≡ leafDocument ix l i

@@ -9,7 +9,7 @@ use native.Mathlib.Omega.{arith}
 use lib.ListN.{length, getD, take, drop, length-append, replicate, length-replicate, getD-replicate}
 use lib.Seq.{take-at, drop-at}
 use lib.Ieee.{Float, nan, binary64, add, ofBits}
-use Rattle.meaning.specs.Limits.{noMoreDocs, maxDocuments}
+use Rattle.meaning.specs.Limits.{noMoreDocs, maxDocuments, nodeStateWords}
 use Rattle.meaning.specs.Lent.{Index}
 use Rattle.meaning.specs.Postings.{postingAt, found}
 use Rattle.meaning.specs.Ieee754.{zeroFloat, sumFrom}
@@ -140,7 +140,7 @@ pub record TermView (ix : Index) (table : List Float) (base : ℕ) (ss : Scorers
   pub z : List ℕ
   pub is : kids ≡ x ++ (y ++ z)
   pub place : at ≡ length x
-  pub long : length y ≡ 24
+  pub long : length y ≡ nodeStateWords
   pub held : TermHeld ix table l sc y base base
   pub rest : TermsHeld ix table g z base base
   pub back : (a : ℕ) → a ≤ least → (ys z′ : List ℕ) → TermHeld ix table l sc ys (base + 64) a → TermsHeld ix table g z′ (base + 64) a → TermsHeld ix table ss (x ++ (ys ++ z′)) (base + 64) a
@@ -202,13 +202,13 @@ module _ (ix : Index) (table : List Float) (base : ℕ) (ss : Scorers) (kids : L
   terms-end p m = ended (p .0) (p .1) m
 
   module _ (v : TermView ix table base ss kids at least sums counts) where
-    pub view-fits : at + 24 ≤ length kids
+    pub view-fits : at + nodeStateWords ≤ length kids
     view-fits = omega (arith, ap length (v .is), length-append (v .x) (v .y ++ v .z), length-append (v .y) (v .z), v .long, v .place)
 
     pub view-few : (i : ℕ) → i < 64 → getD counts i 0 < 256
     view-few i h = omega (arith, v .sums-are .few i h, v .few)
 
-    module _ (e : ℕ) (stop : e ≡ at + 24) where
+    module _ (e : ℕ) (stop : e ≡ at + nodeStateWords) where
       span : e - at ≡ length (v .y)
       span = omega (arith, v .long)
 

@@ -9,6 +9,7 @@ use lib.Dec.{T, leb, lit≤}
 use lib.ListN.{length, getD, drop, length-append}
 use lib.Seq.{getD-append-add}
 use lib.Ieee.{Float}
+use Rattle.meaning.specs.Limits.{nodeStateWords}
 use Rattle.meaning.specs.Lent.{Index}
 use Rattle.meaning.specs.Ieee754.{narrow, narrowedSum}
 use Rattle.ieee754.specs.Nonneg.{AtMost}
@@ -30,11 +31,11 @@ group-alone : (j : Joining) (x : Float) → AtMost (256 * 2 ^ 29) x → narrow x
 group-alone j x a = sym (alone j (narrow x) (narrow-fits x) (scores-narrow 256 x (lit≤ tt) a .sign))
 
 -- ---- the records of terms
-fresh-rest : (y z : List ℕ) → length y ≡ 24 → FreshTerms (y ++ z) → FreshTerms z
+fresh-rest : (y z : List ℕ) → length y ≡ nodeStateWords → FreshTerms (y ++ z) → FreshTerms z
 fresh-rest y z n p =
     record {
-      kind = λ i l. let e : 24 * (i + 1) ≡ length y + 24 * i = omega arith in sym (getD-append-add y z (24 * i) 0) ∙ ap (λ (j : ℕ). getD (y ++ z) j 0) (sym e) ∙ p .kind (i + 1) (omega (arith, length-append y z));
-      cursor = λ i l. let e : 24 * (i + 1) + 8 ≡ length y + (24 * i + 8) = omega arith in sym (getD-append-add y z (24 * i + 8) 0) ∙ ap (λ (j : ℕ). getD (y ++ z) j 0) (sym e) ∙ p .cursor (i + 1) (omega (arith, length-append y z));
+      kind = λ i l. let e : nodeStateWords * (i + 1) ≡ length y + nodeStateWords * i = omega arith in sym (getD-append-add y z (nodeStateWords * i) 0) ∙ ap (λ (j : ℕ). getD (y ++ z) j 0) (sym e) ∙ p .kind (i + 1) (omega (arith, length-append y z));
+      cursor = λ i l. let e : nodeStateWords * (i + 1) + 8 ≡ length y + (nodeStateWords * i + 8) = omega arith in sym (getD-append-add y z (nodeStateWords * i + 8) 0) ∙ ap (λ (j : ℕ). getD (y ++ z) j 0) (sym e) ∙ p .cursor (i + 1) (omega (arith, length-append y z));
     }
 
 module _ (ix : Index) (ranges : List ℕ) (table : List Float) (places : ℕ) where
@@ -87,11 +88,11 @@ module _ (E : Lent) (norms live : List ℕ) (table : List Float) (ix : Index) (p
   abbrev Held : Scorer → Type 0
   Held s = PageHeld E norms live table ix places s depth scores st 0
 
-  some-size : (f : Bool) (T : Scorer) (g : Scorers) (k : ℕ) (w : List ℕ) (b : ℕ) → Oks ix (E .ranges) (more f T g) k w b → 24 ≤ sizesOf (more f T g)
+  some-size : (f : Bool) (T : Scorer) (g : Scorers) (k : ℕ) (w : List ℕ) (b : ℕ) → Oks ix (E .ranges) (more f T g) k w b → nodeStateWords ≤ sizesOf (more f T g)
   unfolding Oks sizesOf
   some-size f T g k w b p = omega (arith, ok-long ix (E .ranges) T k (cond f 1 0) (p .0) b (p .3), ok-length ix (E .ranges) T k (cond f 1 0) (p .0) b (p .3))
 
-  by-terms : (c : Option Float) (j : Joining) (need : ℕ) (rs os ps : Scorers) → Held (boolean c j need rs os ps) → ByTerms ix (boolean c j need rs os ps) os postings norms live table (getD st 3 0) (drop 24 st)
+  by-terms : (c : Option Float) (j : Joining) (need : ℕ) (rs os ps : Scorers) → Held (boolean c j need rs os ps) → ByTerms ix (boolean c j need rs os ps) os postings norms live table (getD st 3 0) (drop nodeStateWords st)
   unfolding Ok Oks KeptIs Sound Sounds Tables TablesOf nodes nodesOf matches allMatch anyMatches scorerScore requiredScores narrowedSum sizesOf
   by-terms (some x) j need rs os ps H = absurd (omega (arith, H .ok .7 .kept .0, ap (λ (v : List ℕ). getD v 11 0) (H .ok .4), W .scored))
   by-terms none j need (more f T g) os ps H = absurd (omega (arith, W .required, ap (λ (v : List ℕ). getD v 4 0) (H .ok .4), H .ok .7 .required-end, some-size f T g (depth - 1) (H .ok .1) (max 0 (H .ok .0 .cached - 1)) (H .ok .9)))
@@ -100,7 +101,7 @@ module _ (E : Lent) (norms live : List ℕ) (table : List Float) (ix : Index) (p
       absurd (omega (arith, W .prohibited, ap (λ (v : List ℕ). getD v 5 0) (o .4), o .7 .optional-end, ap length (o .4), length-append (o .1) (o .2 ++ o .3), length-append (o .2) (o .3), oks-length ix (E .ranges) os (depth - 1) (o .2) (max 0 (o .0 .cached - 1)) (o .10), oks-length ix (E .ranges) (more f T g) (depth - 1) (o .3) (max 0 (o .0 .cached - 1)) (o .11), some-size f T g (depth - 1) (o .3) (max 0 (o .0 .cached - 1)) (o .11)))
   by-terms none j need end os end H =
       let o = H .ok in
-      let e : drop 24 st ≡ o .2 = ap (drop 24) (o .4) ∙ ap (λ (x : List ℕ). x ++ (o .2 ++ o .3)) (o .9) ∙ ap (λ (z : List ℕ). o .2 ++ z) (o .11) ∙ append-nil (o .2) in
+      let e : drop nodeStateWords st ≡ o .2 = ap (drop nodeStateWords) (o .4) ∙ ap (λ (x : List ℕ). x ++ (o .2 ++ o .3)) (o .9) ∙ ap (λ (z : List ℕ). o .2 ++ z) (o .11) ∙ append-nil (o .2) in
       let n : getD st 3 0 ≡ need = ap (λ (v : List ℕ). getD v 3 0) (o .4) ∙ o .7 .need-is in
       record {
         ask = record {
@@ -114,7 +115,7 @@ module _ (E : Lent) (norms live : List ℕ) (table : List Float) (ix : Index) (p
         score = λ d x q a. group-alone j x a ∙ ap (λ (g : Float). joinedScore j [] (narrow g)) q;
       }
 
-  pub root-by-terms : (s : Scorer) → Held s → (os : Scorers) × ByTerms ix s os postings norms live table (getD st 3 0) (drop 24 st)
+  pub root-by-terms : (s : Scorer) → Held s → (os : Scorers) × ByTerms ix s os postings norms live table (getD st 3 0) (drop nodeStateWords st)
   unfolding Ok
   root-by-terms (leaf l sc) H = absurd (leaf-kind ix (E .ranges) l (H .ok .0) (H .ok .1) (max 0 (H .ok .0 .cached - 1)) (H .ok .4) (sym (ap (λ (v : List ℕ). getD v 0 0) (H .ok .2)) ∙ W .kind))
   root-by-terms (boolean c j need rs os ps) H = (os, by-terms c j need rs os ps H)

@@ -7,7 +7,7 @@ use lib.Dec.{T, leb}
 use lib.ListN.{length, getD, drop}
 use lib.IntN.{ℤ}
 use lib.Ieee.{Float, nan, binary64, add}
-use Rattle.meaning.specs.Limits.{noMoreDocs, maxDocuments}
+use Rattle.meaning.specs.Limits.{noMoreDocs, maxDocuments, nodeStateWords}
 use Rattle.meaning.specs.Lent.{Index, leafCount, leafField, leafFirst, leafNumber, leafDocument}
 use Rattle.meaning.specs.Postings.{postingAt, found}
 use Rattle.meaning.specs.FullList.{ScoreDoc}
@@ -26,18 +26,18 @@ use Rattle.walk.specs.Walks.{liveScored}
 -- ---- which trees
 -- records of terms, one after the other, none of which has passed a posting
 pub record FreshTerms (kids : List ℕ) : Type 0 where
-  pub kind : (i : ℕ) → 24 * i < length kids → getD kids (24 * i) 0 ≡ 1
-  pub cursor : (i : ℕ) → 24 * i < length kids → getD kids (24 * i + 8) 0 ≡ 0
+  pub kind : (i : ℕ) → nodeStateWords * i < length kids → getD kids (nodeStateWords * i) 0 ≡ 1
+  pub cursor : (i : ℕ) → nodeStateWords * i < length kids → getD kids (nodeStateWords * i + 8) 0 ≡ 0
 
 -- the words of a Boolean with nothing required, nothing prohibited and only terms, some of which must match, that scores by their sum
 pub record SuitsWindows (st : List ℕ) : Type 0 where
-  pub long : 24 ≤ length st
+  pub long : nodeStateWords ≤ length st
   pub kind : getD st 0 0 ≡ 3
   pub some : 1 ≤ getD st 3 0
   pub required : getD st 4 0 ≡ 0
-  pub prohibited : 24 + getD st 5 0 ≡ length st
+  pub prohibited : nodeStateWords + getD st 5 0 ≡ length st
   pub scored : getD st 11 0 ≡ 0
-  pub terms : FreshTerms (drop 24 st)
+  pub terms : FreshTerms (drop nodeStateWords st)
 
 -- ---- the terms
 -- an accepted index with these postings and norm bytes

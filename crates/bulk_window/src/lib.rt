@@ -3,7 +3,7 @@ ghost use mathlib.Core.Path.{_≡_};
 ghost use mathlib.Core.Bool.{true};
 ghost use Prim.Native.Nat.{ℕ, _+_, _*_, _≤_, _<_, min};
 ghost use lib.ListN.{length};
-ghost use Rattle.meaning.specs.Limits.{noMoreDocs, maxHits};
+ghost use Rattle.meaning.specs.Limits.{noMoreDocs, maxHits, nodeStateWords};
 ghost use Rattle.meaning.specs.Lent.{Index};
 ghost use Rattle.meaning.specs.Hits.{hits};
 ghost use Rattle.meaning.specs.Entries.{written};
@@ -18,6 +18,7 @@ use collector::TopDocs;
 use collector::TopScoreDocCollector;
 use index::wide;
 use walk::NO_MORE_DOCS;
+use weight::NODE_STATE_WORDS;
 
 // What is left of a, where b may be more.
 fn less(a: usize, b: usize) -> usize {
@@ -32,7 +33,7 @@ fn terms_only(kids: &[u32], max_doc: u32) -> bool
     let mut left = wide(max_doc);
     let mut at = 0;
     while at < kids.len() {
-        if kids.len() - at < 24 {
+        if kids.len() - at < NODE_STATE_WORDS {
             return false;
         }
         if kids[at] != 1 {
@@ -42,14 +43,14 @@ fn terms_only(kids: &[u32], max_doc: u32) -> bool
             return false;
         }
         left = less(left, 8 * wide(kids[at + 7]));
-        at += 24;
+        at += NODE_STATE_WORDS;
     }
     left == 0
 }
 
 // Whether the root is a Boolean that `collect_windows` can take, and should.
 pub fn suits_windows(st: &[u32], max_doc: u32) -> bool
-    requires { ⌜ 24 ≤ length (now st) ⌝ }
+    requires { ⌜ nodeStateWords ≤ length (now st) ⌝ }
     ensures { λ r. ⌜ (r ≡ true → SuitsWindows (now (st .entry))) ⌝ }
 {
     if st[0] != 3 {
@@ -61,13 +62,13 @@ pub fn suits_windows(st: &[u32], max_doc: u32) -> bool
     if st[4] != 0 {
         return false;
     }
-    if 24 + wide(st[5]) != st.len() {
+    if NODE_STATE_WORDS + wide(st[5]) != st.len() {
         return false;
     }
     if st[11] != 0 {
         return false;
     }
-    terms_only(&st[24..], max_doc)
+    terms_only(&st[NODE_STATE_WORDS..], max_doc)
 }
 
 // Adds the scores of a term's postings in the window; gives its next document after the window.
@@ -126,7 +127,7 @@ fn add_terms(
     let mut least = NO_MORE_DOCS;
     let mut at = 0;
     while at < kids.len() {
-        let end = at + 24;
+        let end = at + NODE_STATE_WORDS;
         let d = add_postings(
             &mut kids[at..end],
             postings,
@@ -240,7 +241,7 @@ pub fn collect_windows(
 {
     let need = st[3];
     windows(
-        &mut st[24..],
+        &mut st[NODE_STATE_WORDS..],
         need,
         postings,
         norms,

@@ -3,6 +3,7 @@ use mathlib.Core.Path.{_≡_, refl}
 use mathlib.Core.List.{List, [], _∷_}
 use Prim.Native.Nat.{ℕ}
 use lib.Ieee.{lt, ofBits}
+use Rattle.meaning.specs.Limits.{nodeStateWords}
 use Rattle.meaning.specs.IndexRefusals.{wrong1, wrong2, wrong3, wrong4, wrong5, wrong6}
 use Rattle.meaning.specs.QueryRefusals.{aboveLimit, carriesAbove, unusedFrom, wrong10, wrong7, wrong8, wrong9, wrongKind, wrongRecords, wrongValues}
 use Rattle.meaning.specs.Query.{decode, decodeKind, decodeQuery, queryTree}
@@ -25,7 +26,7 @@ abbrev everything : List ℕ
 everything = 5 ∷ 0 ∷ 0 ∷ 0 ∷ 0 ∷ 0 ∷ 0 ∷ 0 ∷ 0 ∷ []
 
 abbrev call : ℕ → Call
-call target = record { target = target; documents = 7 ∷ 7 ∷ []; scores = 7 ∷ 7 ∷ []; work = record { states = 24; starts = 0; otherStarts = 0; ranges = 0 } }
+call target = record { target = target; documents = 7 ∷ 7 ∷ []; scores = 7 ∷ 7 ∷ []; work = record { states = nodeStateWords; starts = 0; otherStarts = 0; ranges = 0 } }
 
 example-accepts : Accepts three everything
 unfolding wrong1 wrong2 wrong3 wrong4 wrong5 wrong6 wrong7 wrongRecords wrong8 wrongValues wrongKind unusedFrom wrong9 aboveLimit carriesAbove wrong10 decodeQuery decode decodeKind queryTree lowest anyBelow countBelow lt ofBits
@@ -35,6 +36,6 @@ example-follows : Follow three everything 0 (answered three everything (call 0 �
 unfolding wrong1 wrong2 wrong3 wrong4 wrong5 wrong6 wrong7 wrongRecords wrong8 wrongValues wrongKind unusedFrom wrong9 aboveLimit carriesAbove wrong10 decodeQuery decode decodeKind queryTree lowest anyBelow lt ofBits pageRefusal pageAnswer wrong12Page workShort statesNeeded startsShort startsNeeded largestBelow rangesNeeded rangeRecords countBelow wrong13Page matches fullList listBelow isLive takes fromTarget firstDoc page Follow answered refusalOf answerOf
 example-follows = (refl, (refl, tt))
 
-example-search : searchRefusal three everything 2 (record { states = 24; starts = 0; otherStarts = 0; ranges = 0 }) 2 ≡ 0
+example-search : searchRefusal three everything 2 (record { states = nodeStateWords; starts = 0; otherStarts = 0; ranges = 0 }) 2 ≡ 0
 unfolding wrong1 wrong2 wrong3 wrong4 wrong5 wrong6 wrong7 wrongRecords wrong8 wrongValues wrongKind unusedFrom wrong9 aboveLimit carriesAbove wrong10 decodeQuery decode decodeKind queryTree lowest anyBelow lt ofBits searchRefusal wrong11 wrong12Search workShort statesNeeded startsShort startsNeeded largestBelow rangesNeeded rangeRecords countBelow
 example-search = refl

@@ -5,6 +5,7 @@ use place_entry::Placed;
 use range_entry::Ranged;
 use searcher::page::Paged;
 use searcher::search::Searched;
+use weight::NODE_STATE_WORDS;
 
 // A query of one record, MatchAll.
 const MATCH_ALL: [u32; 9] = [5, 0, 0, 0, 0, 0, 0, 0, 0];
@@ -116,7 +117,7 @@ fn search_all(k: u32) {
     let no_words = [0u32; 0];
     let no_bytes = [0u8; 0];
     let no_live = [0u64; 0];
-    let mut states = [0u32; 24];
+    let mut states = [0u32; NODE_STATE_WORDS];
     let mut starts = [0i32; 0];
     let mut other_starts = [0i32; 0];
     let mut ranges = [0u32; 0];
@@ -169,7 +170,7 @@ fn page_all(target: u32) {
     let no_words = [0u32; 0];
     let no_bytes = [0u8; 0];
     let no_live = [0u64; 0];
-    let mut states = [0u32; 24];
+    let mut states = [0u32; NODE_STATE_WORDS];
     let mut starts = [0i32; 0];
     let mut other_starts = [0i32; 0];
     let mut ranges = [0u32; 0];

@@ -8,6 +8,7 @@ ghost use Rattle.hits.specs.Text.{searchText, hitsText};
 ghost use Rattle.hits_text.specs.Puts.{Put};
 ghost use Rattle.hits_text.specs.Text.{files};
 use searcher::search::Searched;
+use weight::NODE_STATE_WORDS;
 
 // Searches with the program's own buffers.
 fn answer(
@@ -28,7 +29,7 @@ fn answer(
     requires { ⌜ 32768 ≤ length (now out) ⌝ }
     ensures { λ r. ⌜ Put (now (out .entry)) 0 (searchText (lent «max_doc» (now (fields .entry)) (now (leaves .entry)) (now (postings .entry)) (now (positions .entry)) (now (norms .entry)) (now (live .entry)) (now (columns .entry)) (now (values .entry))) (now (q .entry)) k t) r (now (out .exit)) ⌝ }
 {
-    let mut states = [0u32; 6144];
+    let mut states = [0u32; 256 * NODE_STATE_WORDS];
     let mut a = [0i32; 16384];
     let mut b = [0i32; 16384];
     let mut ranges = [0u32; 16384];

@@ -9,7 +9,7 @@ use lib.IntN.{pos}
 use lib.ListN.{length, getD}
 use lib.Ieee.{Float, nan, binary32, nanBits, ofBits, ofInt}
 use borrow.Author.Tests.{ltb-true}
-use Rattle.meaning.specs.Limits.{noMoreDocs, largestFrequency}
+use Rattle.meaning.specs.Limits.{noMoreDocs, largestFrequency, nodeStateWords}
 use Rattle.meaning.specs.Lent.{Index, leafField, normByte}
 use Rattle.meaning.specs.Ieee754.{zeroFloat}
 use Rattle.meaning.specs.Bm25.{bm25}
@@ -62,7 +62,7 @@ read st v s n e r =
       norms-is = r .norms-is ∙ ap (λ (l : List ℕ). getD l 18 0) e;
     }
 
-pub words-long : (st v : List ℕ) (s : State) → st ≡ wordsOf s ++ v → 24 ≤ length st
+pub words-long : (st v : List ℕ) (s : State) → st ≡ wordsOf s ++ v → nodeStateWords ≤ length st
 words-long st v s e = omega (arith, ap length e)
 
 -- what `weighted` asks, and its answer

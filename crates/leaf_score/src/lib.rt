@@ -6,6 +6,7 @@ ghost use lib.Dec.{T};
 ghost use lib.IntN.{pos};
 ghost use lib.ListN.{length, getD};
 ghost use lib.Ieee.{nan, binary32, nanBits, ofBits, ofInt};
+ghost use Rattle.meaning.specs.Limits.{nodeStateWords};
 ghost use Rattle.meaning.specs.Bm25.{bm25};
 ghost use Rattle.index.specs.Runs.{postingDocument, postingFrequency};
 ghost use Rattle.leaf_score.specs.Words.{NodeIs, byteAt};
@@ -29,7 +30,7 @@ pub struct Node {
 }
 
 pub fn node_at(st: &[u32]) -> Node
-    requires { ⌜ 24 ≤ length (now st) ⌝ }
+    requires { ⌜ nodeStateWords ≤ length (now st) ⌝ }
     ensures { λ r. ⌜ NodeIs (now (st .entry)) r ⌝ }
 {
     Node {

@@ -6,6 +6,7 @@ use Prim.Native.Nat.{ℕ, suc, _+_, _-_, _*_, _≤_, _<_, max}
 use native.Mathlib.Nat.{le-trans, lt-of-lt-of-le}
 use native.Mathlib.Omega.{arith}
 use lib.ListN.{getD, length, length-append}
+use Rattle.meaning.specs.Limits.{nodeStateWords}
 use Rattle.meaning.specs.Lent.{Index}
 use Rattle.meaning.specs.Phrase.{PhraseTerm}
 use Rattle.meaning.specs.First.{First}
@@ -95,14 +96,14 @@ mutual
   oks-mono ix R (more f T ss) k w b e h p = (p .0, p .1, p .2, ok-mono ix R T k (cond f 1 0) (p .0) b e h (p .3), oks-mono ix R ss k (p .1) b e h (p .4))
 
 -- ---- how many words
-pub terms-length : (ix : Index) (ts : List PhraseTerm) (w : List ℕ) (b : ℕ) → TermsAre ix ts w b → length w ≡ 24 * length ts
+pub terms-length : (ix : Index) (ts : List PhraseTerm) (w : List ℕ) (b : ℕ) → TermsAre ix ts w b → length w ≡ nodeStateWords * length ts
 unfolding TermsAre
 terms-length ix [] w b p = ap length p
 terms-length ix (t ∷ ts) w b p = omega (arith, ap length (p .2), terms-length ix ts (p .1) b (p .5))
 
 pub record Sizes (l : Leaf) (s : State) (w : List ℕ) : Type 0 where
   pub size : s .size ≡ leafSize l
-  pub words : 24 + length w ≡ leafSize l
+  pub words : nodeStateWords + length w ≡ leafSize l
 
 pub leaf-sizes : (ix : Index) (R : List ℕ) (l : Leaf) (s : State) (w : List ℕ) (b : ℕ) → LeafIs ix R l s w b → Sizes l s w
 unfolding LeafIs leafSize
@@ -135,7 +136,7 @@ pub record Front (P : ℕ → Bool) (b : ℕ) (y : List ℕ) : Type 0 where
   pub size : state .size ≡ length y
   pub cache : Cache P b (state .cached)
 
-pub front-long : {P : ℕ → Bool} {b : ℕ} {y : List ℕ} → Front P b y → 24 ≤ length y
+pub front-long : {P : ℕ → Bool} {b : ℕ} {y : List ℕ} → Front P b y → nodeStateWords ≤ length y
 front-long f = omega (arith, ap length (f .is))
 
 pub front-size : {P : ℕ → Bool} {b : ℕ} {y : List ℕ} → Front P b y → getD y 1 0 ≡ length y
@@ -160,7 +161,7 @@ ok-front ix R (boolean c j need rs os ps) k o y b p =
       cache = p .8;
     }
 
-pub ok-long : (ix : Index) (R : List ℕ) (T : Scorer) (k o : ℕ) (y : List ℕ) (b : ℕ) → Ok ix R T k o y b → 24 ≤ length y
+pub ok-long : (ix : Index) (R : List ℕ) (T : Scorer) (k o : ℕ) (y : List ℕ) (b : ℕ) → Ok ix R T k o y b → nodeStateWords ≤ length y
 ok-long ix R T k o y b p = front-long (ok-front ix R T k o y b p)
 
 -- the document of the cached word
@@ -168,7 +169,7 @@ pub ok-cached : (ix : Index) (R : List ℕ) (T : Scorer) (k o : ℕ) (y : List �
 ok-cached ix R T k o y b p = let f = ok-front ix R T k o y b p in rw (f .is) (f .cache)
 
 -- a node that is neither a phrase nor a Boolean: its part is one record
-pub ok-single : (ix : Index) (R : List ℕ) (T : Scorer) (k o : ℕ) (y : List ℕ) (b : ℕ) → Ok ix R T k o y b → (getD y 0 0 ≡ 2 → ⊥) → (getD y 0 0 ≡ 3 → ⊥) → length y ≡ 24
+pub ok-single : (ix : Index) (R : List ℕ) (T : Scorer) (k o : ℕ) (y : List ℕ) (b : ℕ) → Ok ix R T k o y b → (getD y 0 0 ≡ 2 → ⊥) → (getD y 0 0 ≡ 3 → ⊥) → length y ≡ nodeStateWords
 unfolding Ok LeafIs
 ok-single ix R (leaf nothing sc) k o y b p n2 n3 = omega (arith, ap length (p .2), ap length (p .4 .3))
 ok-single ix R (leaf (term l) sc) k o y b p n2 n3 = omega (arith, ap length (p .2), ap length (p .4 .1))
@@ -178,5 +179,5 @@ ok-single ix R (leaf everything sc) k o y b p n2 n3 = omega (arith, ap length (p
 ok-single ix R (boolean c j need rs os ps) k o y b p n2 n3 = absurd (n3 (ap (λ (l : List ℕ). getD l 0 0) (p .4) ∙ p .7 .kind-is))
 
 -- so one whose first word is 1, a term
-pub ok-term : (ix : Index) (R : List ℕ) (T : Scorer) (k o : ℕ) (y : List ℕ) (b : ℕ) → Ok ix R T k o y b → getD y 0 0 ≡ 1 → length y ≡ 24
+pub ok-term : (ix : Index) (R : List ℕ) (T : Scorer) (k o : ℕ) (y : List ℕ) (b : ℕ) → Ok ix R T k o y b → getD y 0 0 ≡ 1 → length y ≡ nodeStateWords
 ok-term ix R T k o y b p e = ok-single ix R T k o y b p (λ x. omega (arith, e)) (λ x. omega (arith, e))

@@ -15,7 +15,7 @@ use lib.Seq.{take-at, drop-at, take-length, drop-length, getD-append-add, getD-s
 use borrow.Author.Tests.{ltb-false, ltb-true, lt-ltb, le-ltb}
 use Rattle.meaning.specs.Below.{listTo}
 use Rattle.meaning.specs.CallRefusals.{largestIn}
-use Rattle.meaning.specs.Limits.{noMoreDocs}
+use Rattle.meaning.specs.Limits.{noMoreDocs, nodeStateWords}
 use Rattle.meaning.specs.Lent.{Index, leafNumber, leafFirst, leafDocument, leafFrequency, leafPositionsIndex, leafPosition, leafField, leafCount, hasPositions}
 use Rattle.meaning.specs.Postings.{postingAt, found, positionsOf}
 use Rattle.meaning.specs.Phrase.{PhraseTerm, starts, termStarts, multiplicity, smallest, commonSize, phraseFrequency}
@@ -79,18 +79,18 @@ module _ {postings : List ℕ} {ix : Index} {ts : List PhraseTerm} {from : ℕ} 
       }
 
 -- the words of a record in a list, where it begins at a place
-module _ (terms x w′ : List ℕ) (s : State) (at e : ℕ) (is : terms ≡ x ++ (wordsOf s ++ w′)) (place : at ≡ length x) (stop : e ≡ at + 24) where
-  span : e - at ≡ 24
+module _ (terms x w′ : List ℕ) (s : State) (at e : ℕ) (is : terms ≡ x ++ (wordsOf s ++ w′)) (place : at ≡ length x) (stop : e ≡ at + nodeStateWords) where
+  span : e - at ≡ nodeStateWords
   span = omega arith
 
-  pub record-fits : at + 24 ≤ length terms
+  pub record-fits : at + nodeStateWords ≤ length terms
   record-fits = omega (arith, ap length is, length-append x (wordsOf s ++ w′))
 
   pub record-part : take (e - at) (drop at terms) ≡ wordsOf s
-  record-part = rw (span, is, drop-at x (wordsOf s ++ w′) at (sym place), take-at (wordsOf s) w′ 24 refl)
+  record-part = rw (span, is, drop-at x (wordsOf s ++ w′) at (sym place), take-at (wordsOf s) w′ nodeStateWords refl)
 
   pub record-back : (ys : List ℕ) → take at terms ++ (ys ++ drop (e - at) (drop at terms)) ≡ x ++ (ys ++ w′)
-  record-back ys = rw (span, is, take-at x (wordsOf s ++ w′) at (sym place), drop-at x (wordsOf s ++ w′) at (sym place), drop-at (wordsOf s) w′ 24 refl)
+  record-back ys = rw (span, is, take-at x (wordsOf s ++ w′) at (sym place), drop-at x (wordsOf s ++ w′) at (sym place), drop-at (wordsOf s) w′ nodeStateWords refl)
 
 found-miss : (ix : Index) (t : PhraseTerm) (ts : List PhraseTerm) (d : ℕ) → found (postingAt ix (t .leaf) d) ≡ false → allFound ix (t ∷ ts) d ≡ false
 unfolding allFound
@@ -113,12 +113,12 @@ module _ {postings : List ℕ} {ix : Index} {ts : List PhraseTerm} {from : ℕ} 
       go [] r b s = record { from = q .lo; top = q .top; before = q .before; are = rw (q .is) (b d (le-refl _) (q .z) r); stand = λ e h. rw (q .is) (s (stood e) h (q .z) r); moved = λ e. q .rise (went e) }
       go (t ∷ g) r b s = absurd (omega (arith, ap length (q .is), length-append (q .x) (q .z), ap length (r .2), q .place))
 
-  module _ (l : at < length terms) (e : ℕ) (stop : e ≡ at + 24) (size : length postings < 9223372036854775808) where
-    pub terms-next : (at + 24 ≤ length terms) × ((s : State) × (w : List ℕ) × SearchHeld postings 3 s w (take (e - at) (drop at terms)) d)
+  module _ (l : at < length terms) (e : ℕ) (stop : e ≡ at + nodeStateWords) (size : length postings < 9223372036854775808) where
+    pub terms-next : (at + nodeStateWords ≤ length terms) × ((s : State) × (w : List ℕ) × SearchHeld postings 3 s w (take (e - at) (drop at terms)) d)
     unfolding TermsAre LeavesThere
     terms-next = go (q .left) (q .rest) (q .there)
       where
-        go : (g : List PhraseTerm) → TermsAre ix g (q .z) d → LeavesThere ix g → (at + 24 ≤ length terms) × ((s : State) × (w : List ℕ) × SearchHeld postings 3 s w (take (e - at) (drop at terms)) d)
+        go : (g : List PhraseTerm) → TermsAre ix g (q .z) d → LeavesThere ix g → (at + nodeStateWords ≤ length terms) × ((s : State) × (w : List ℕ) × SearchHeld postings 3 s w (take (e - at) (drop at terms)) d)
         go [] r h = absurd (omega (arith, ap length (q .is), length-append (q .x) (q .z), ap length r, q .place))
         go (t ∷ g) r h =
             let is = q .is ∙ ap (λ (y : List ℕ). q .x ++ y) (r .2) in (
@@ -243,21 +243,21 @@ module _ {postings : List ℕ} {ix : Index} {ts : List PhraseTerm} {d : ℕ} {te
               let long = ap length (q .postings-are) in
               record {
                 place = record {
-                  fits = record-fits terms (q .x) (r .1) (r .0) at (at + 24) is (q .place) refl;
+                  fits = record-fits terms (q .x) (r .1) (r .0) at (at + nodeStateWords) is (q .place) refl;
                   small = omega (arith, six, eight, o .words, r .3 .first-is, r .5, long);
                 };
                 posting = omega (arith, six, eight, o .words, r .3 .first-is, r .5, long);
                 room = omega (arith, e);
               }
 
-      pub gather-took : (p o : ℕ) → PlaceRead terms at p o → GatherAt postings ix ts d terms (set (set (set out n (getD postings (p + 2) 0)) (n + 1) (getD postings (p + 1) 0)) (n + 2) o) (n + 3) (at + 24)
+      pub gather-took : (p o : ℕ) → PlaceRead terms at p o → GatherAt postings ix ts d terms (set (set (set out n (getD postings (p + 2) 0)) (n + 1) (getD postings (p + 1) 0)) (n + 2) o) (n + 3) (at + nodeStateWords)
       unfolding TermsAt LeavesThere Gathered
       gather-took p o read = go (q .left) (q .rest) (q .there) (q .number) (q .back)
         where
           out′ : List ℕ
           out′ = set (set (set out n (getD postings (p + 2) 0)) (n + 1) (getD postings (p + 1) 0)) (n + 2) o
 
-          go : (g : List PhraseTerm) → TermsAt ix g (q .z) d → LeavesThere ix g → n + 3 * length g ≡ 3 * length ts → ((l : List ℕ) → Gathered ix g d l → Gathered ix ts d (take n out ++ l)) → GatherAt postings ix ts d terms out′ (n + 3) (at + 24)
+          go : (g : List PhraseTerm) → TermsAt ix g (q .z) d → LeavesThere ix g → n + 3 * length g ≡ 3 * length ts → ((l : List ℕ) → Gathered ix g d l → Gathered ix ts d (take n out ++ l)) → GatherAt postings ix ts d terms out′ (n + 3) (at + nodeStateWords)
           go [] r h e b = absurd (omega (arith, ap length (q .is), length-append (q .x) (q .z), ap length r, q .place))
           go (t ∷ g) r h e b =
               let is : terms ≡ q .x ++ (wordsOf (r .0) ++ r .1) = q .is ∙ ap (λ (y : List ℕ). q .x ++ y) (r .2) in
@@ -332,7 +332,7 @@ unfolding EachTerm LeavesThere
 leaves-there ix f places [] k = tt
 leaves-there ix f places (t ∷ ts) k = (k .0 .leaf-there, leaves-there ix f places ts (k .1))
 
-pub terms-at-length : (ix : Index) (ts : List PhraseTerm) (w : List ℕ) (d : ℕ) → TermsAt ix ts w d → length w ≡ 24 * length ts
+pub terms-at-length : (ix : Index) (ts : List PhraseTerm) (w : List ℕ) (d : ℕ) → TermsAt ix ts w d → length w ≡ nodeStateWords * length ts
 unfolding TermsAt
 terms-at-length ix [] w d p = ap length p
 terms-at-length ix (t ∷ ts) w d p = omega (arith, ap length (p .2), terms-at-length ix ts (p .1) d (p .7))
@@ -387,7 +387,7 @@ module _ {postings positions : List ℕ} {ix : Index} {places f : ℕ} {ts : Lis
   unfolding LeafSound
   frequency-few = omega (arith, h .sound .3)
 
-  pub frequency-four : length terms ≤ 96 → 3 * length ts ≤ 12
+  pub frequency-four : length terms ≤ 4 * nodeStateWords → 3 * length ts ≤ 12
   frequency-four l = omega (arith, terms-at-length ix ts terms d (h .stand))
 
   pub frequency-good : (l : List ℕ) → Gathered ix ts d l → Good positions l
@@ -401,30 +401,30 @@ module _ {postings positions : List ℕ} {ix : Index} {places f : ℕ} {ts : Lis
 
 -- ---- `seek_phrase`
 -- the words behind a record
-behind-part : (s : State) (st w : List ℕ) → st ≡ wordsOf s ++ w → take (length st - 24) (drop 24 st) ≡ w
-behind-part s st w e = let size : length st - 24 ≡ length w = omega (arith, ap length e) in rw (size, e, take-length)
+behind-part : (s : State) (st w : List ℕ) → st ≡ wordsOf s ++ w → take (length st - nodeStateWords) (drop nodeStateWords st) ≡ w
+behind-part s st w e = let size : length st - nodeStateWords ≡ length w = omega (arith, ap length e) in rw (size, e, take-length)
 
 module _ {ix : Index} {f : ℕ} {ts : List PhraseTerm} {s : State} {st : List ℕ} {b : ℕ} (m : PhraseMoved ix f ts s st b) where
-  behind-length : length st - 24 ≡ length (m .behind)
+  behind-length : length st - nodeStateWords ≡ length (m .behind)
   behind-length = omega (arith, ap length (m .words))
 
-  pub moved-long : 24 ≤ length st
+  pub moved-long : nodeStateWords ≤ length st
   moved-long = omega (arith, ap length (m .words))
 
-  pub moved-behind : take (length st - 24) (drop 24 st) ≡ m .behind
+  pub moved-behind : take (length st - nodeStateWords) (drop nodeStateWords st) ≡ m .behind
   moved-behind = behind-part (m .state) st (m .behind) (m .words)
 
-  pub moved-terms : {postings : List ℕ} → Accepted ix → ix .postings ≡ postings → LeavesThere ix ts → TermsHeld postings ix ts (take (length st - 24) (drop 24 st)) b
+  pub moved-terms : {postings : List ℕ} → Accepted ix → ix .postings ≡ postings → LeavesThere ix ts → TermsHeld postings ix ts (take (length st - nodeStateWords) (drop nodeStateWords st)) b
   moved-terms acc e there = record { accepted = acc; postings-are = e; there = there; are = rw moved-behind (m .is .terms) }
 
   -- the terms' words put back
-  put-back : (ys : List ℕ) → take 24 st ++ (ys ++ drop (length st - 24) (drop 24 st)) ≡ wordsOf (m .state) ++ ys
+  put-back : (ys : List ℕ) → take nodeStateWords st ++ (ys ++ drop (length st - nodeStateWords) (drop nodeStateWords st)) ≡ wordsOf (m .state) ++ ys
   put-back ys = rw (behind-length, m .words, drop-length, append-nil)
 
-  pub leapt-behind : (ys st′ : List ℕ) → st′ ≡ take 24 st ++ (ys ++ drop (length st - 24) (drop 24 st)) → take (length st′ - 24) (drop 24 st′) ≡ ys
+  pub leapt-behind : (ys st′ : List ℕ) → st′ ≡ take nodeStateWords st ++ (ys ++ drop (length st - nodeStateWords) (drop nodeStateWords st)) → take (length st′ - nodeStateWords) (drop nodeStateWords st′) ≡ ys
   leapt-behind ys st′ e = behind-part (m .state) st′ ys (e ∙ put-back ys)
 
-  pub moved-leapt : (r : ℕ) (ys : List ℕ) → TermsAre ix ts ys r → PhraseMoved ix f ts s (take 24 st ++ (ys ++ drop (length st - 24) (drop 24 st))) r
+  pub moved-leapt : (r : ℕ) (ys : List ℕ) → TermsAre ix ts ys r → PhraseMoved ix f ts s (take nodeStateWords st ++ (ys ++ drop (length st - nodeStateWords) (drop nodeStateWords st))) r
   moved-leapt r ys are =
       record {
         state = m .state;
@@ -472,7 +472,7 @@ module _ {ix : Index} {f : ℕ} {ts : List PhraseTerm} {s : State} {st : List �
       }
 
 -- the document + 1 of the frequency that is stored
-pub stored-at : (y : List ℕ) (v n : ℕ) → 24 ≤ length y → getD (set (set y 16 v) 17 n) 16 0 ≡ v
+pub stored-at : (y : List ℕ) (v n : ℕ) → nodeStateWords ≤ length y → getD (set (set y 16 v) 17 n) 16 0 ≡ v
 stored-at y v n l = getD-set-other (set y 16 v) 17 16 n 0 (λ e. omega arith) ∙ getD-set-same y 16 v 0 (omega arith)
 
 pub moved-start : {postings positions : List ℕ} {ix : Index} {places f : ℕ} {ts : List PhraseTerm} {s : State} {w st : List ℕ} {b : ℕ} → PhraseHeld postings positions ix places f ts s w st b → PhraseMoved ix f ts s st b

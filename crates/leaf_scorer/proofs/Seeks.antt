@@ -6,7 +6,7 @@ use Prim.Native.Nat.{ℕ, _+_, _*_, _≤_, _<_}
 use native.Mathlib.Omega.{arith}
 use lib.Dec.{ltb}
 use lib.ListN.{getD, length}
-use Rattle.meaning.specs.Limits.{noMoreDocs}
+use Rattle.meaning.specs.Limits.{noMoreDocs, nodeStateWords}
 use Rattle.meaning.specs.Lent.{Index}
 use Rattle.meaning.specs.First.{First}
 use Rattle.weight.specs.ScorerTree.{Leaf, nothing, term, phrase, range, everything, leafMatches}
@@ -21,7 +21,7 @@ use Rattle.leaf_scorer.proofs.Bounds.{leaf-mono}
 use Rattle.leaf_scorer.proofs.LeafLaws.{term-run, term-moved, term-first, range-run, range-moved, range-first, any-first}
 
 module _ (E : Lent) (st : List ℕ) (t : ℕ) where
-  pub seek-long : {ix : Index} {p : ℕ} {l : Leaf} {s : State} {w : List ℕ} → LeafHeld E ix p l s w st t → 24 ≤ length st
+  pub seek-long : {ix : Index} {p : ℕ} {l : Leaf} {s : State} {w : List ℕ} → LeafHeld E ix p l s w st t → nodeStateWords ≤ length st
   seek-long h = omega (arith, ap length (h .words))
 
   kind-of : {ix : Index} {p : ℕ} {l : Leaf} {s : State} {w : List ℕ} → LeafHeld E ix p l s w st t → getD st 0 0 ≡ s .kind

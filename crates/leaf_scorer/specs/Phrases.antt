@@ -5,7 +5,7 @@ use mathlib.Core.List.{List, [], _∷_, _++_}
 use Prim.Native.Nat.{ℕ, suc, _+_, _*_, _≤_, _<_}
 use lib.Dec.{ltb}
 use lib.ListN.{length, getD, take}
-use Rattle.meaning.specs.Limits.{noMoreDocs}
+use Rattle.meaning.specs.Limits.{noMoreDocs, nodeStateWords}
 use Rattle.meaning.specs.Lent.{Index, leafNumber, leafDocument, leafFrequency, leafPositionsIndex, leafCount}
 use Rattle.meaning.specs.Postings.{postingAt, found}
 use Rattle.meaning.specs.Phrase.{PhraseTerm, phraseFrequency}
@@ -68,7 +68,7 @@ LeapfrogPost postings terms target r terms′ = (ix : Index) (ts : List PhraseTe
 
 -- what is read of a term's record at a place
 pub record PlaceAt (terms : List ℕ) (at : ℕ) : Type 0 where
-  pub fits : at + 24 ≤ length terms
+  pub fits : at + nodeStateWords ≤ length terms
   pub small : getD terms (at + 6) 0 + getD terms (at + 8) 0 < 3074457345618258602
 
 pub record PlaceRead (terms : List ℕ) (at p o : ℕ) : Type 0 where
@@ -141,6 +141,14 @@ workedAt s d n =
       spare3 = s .spare3;
       spare4 = s .spare4;
       spare5 = s .spare5;
+      spare6 = s .spare6;
+      spare7 = s .spare7;
+      spare8 = s .spare8;
+      spare9 = s .spare9;
+      spare10 = s .spare10;
+      spare11 = s .spare11;
+      spare12 = s .spare12;
+      spare13 = s .spare13;
     }
 
 pub record PhraseHeld (postings positions : List ℕ) (ix : Index) (places f : ℕ) (ts : List PhraseTerm) (s : State) (w st : List ℕ) (b : ℕ) : Type 0 where

@@ -2,12 +2,14 @@
 ghost use mathlib.Core.Path.{_≡_};
 ghost use Prim.Native.Nat.{ℕ, _+_, _*_, _≤_, _<_};
 ghost use lib.ListN.{length};
+ghost use Rattle.meaning.specs.Limits.{nodeStateWords};
 ghost use Rattle.leaf_scorer.specs.Search.{CursorRead, SearchPre, SearchPost, AnyDocument};
 ghost use Rattle.leaf_scorer.specs.Phrases.{TermsPre, PassTermsPost, LeapfrogPost, PlaceAt, PlaceRead, GatherPre, GatherPost, FrequencyPre, FrequencyPost, PhrasePre, PhrasePost, PhraseAtPost};
 ghost use Rattle.leaf_scorer.specs.Contracts.{lent, LeafPre, LeafPost};
 use index::wide;
 use run::document;
 use run::lower;
+use weight::NODE_STATE_WORDS;
 
 pub const NO_MORE_DOCS: u32 = 2147483647;
 
@@ -22,11 +24,8 @@ const POSTING: usize = 3;
 
 pub const ENTRY: usize = 1;
 
-// The words of a record.
-const RECORD: usize = 24;
-
 // The words of four terms of a phrase.
-const FOUR_TERMS: usize = 96;
+const FOUR_TERMS: usize = 4 * NODE_STATE_WORDS;
 
 // A record's run: its first place, how many documents it has, and how many are passed.
 pub struct Cursor {
@@ -36,7 +35,7 @@ pub struct Cursor {
 }
 
 fn cursor_at(st: &[u32]) -> Cursor
-    requires { ⌜ 24 ≤ length (now st) ⌝ }
+    requires { ⌜ nodeStateWords ≤ length (now st) ⌝ }
     ensures { λ r. ⌜ CursorRead (now (st .entry)) (r .first) (r .number) (r .cursor) ⌝ }
 {
     Cursor {
@@ -109,7 +108,7 @@ fn pass_terms(terms: &mut [u32], postings: &[u32], target: u32) -> Pass
     let mut last = 0;
     let mut at = 0;
     while at < terms.len() {
-        let end = at + RECORD;
+        let end = at + NODE_STATE_WORDS;
         let e = search(&mut terms[at..end], postings, POSTING, d);
         if e == d {
             at = end;
@@ -171,7 +170,7 @@ fn gather(terms: &[u32], postings: &[u32], out: &mut [u32]) -> usize
         out[n + 1] = postings[posting + 1];
         out[n + 2] = p.offset;
         n += POSTING;
-        at += RECORD;
+        at += NODE_STATE_WORDS;
     }
     n
 }
@@ -211,11 +210,11 @@ pub fn seek_phrase(
 {
     let mut t = target;
     loop {
-        let d = leapfrog(&mut st[RECORD..], postings, t);
+        let d = leapfrog(&mut st[NODE_STATE_WORDS..], postings, t);
         if d == NO_MORE_DOCS {
             return d;
         }
-        let n = frequency(&st[RECORD..], postings, positions, a, b);
+        let n = frequency(&st[NODE_STATE_WORDS..], postings, positions, a, b);
         if n == 0 {
             t = d + 1;
         } else {
@@ -239,7 +238,7 @@ pub fn phrase_at(
     requires { ⌜ PhrasePre (now postings) (now positions) (length (now a)) (length (now b)) (now st) target ⌝ }
     ensures { λ r. ⌜ PhraseAtPost (now (postings .entry)) (now (positions .entry)) (now (st .entry)) target r (now (st .exit)) ⌝ }
 {
-    let p = pass_terms(&mut st[RECORD..], postings, target);
+    let p = pass_terms(&mut st[NODE_STATE_WORDS..], postings, target);
     let d = p.doc;
     if d != target {
         return d;
@@ -247,7 +246,7 @@ pub fn phrase_at(
     if d == NO_MORE_DOCS {
         return d;
     }
-    let n = frequency(&st[RECORD..], postings, positions, a, b);
+    let n = frequency(&st[NODE_STATE_WORDS..], postings, positions, a, b);
     if n == 0 {
         return d + 1;
     }

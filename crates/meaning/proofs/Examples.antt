@@ -2,12 +2,13 @@
 -- Two more rows tell the order and the format of a Boolean's additions apart. Assumes nothing.
 use mathlib.Core.Path.{_≡_, refl}
 use mathlib.Core.List.{List, [], _∷_, _++_, map}
-use Prim.Native.Nat.{ℕ}
+use Prim.Native.Nat.{ℕ, _*_}
 use lib.IntN.{ℤ, pos, negsuc}
 use lib.ListN.{take, drop, getD}
 use lib.Ieee.{Float, binary32, toBits, round, units, odd, size, span, climb, add, sub, mul, div, neg, sum as ieeeSum, ofFields, ofBits, ofInt, lt, toUnsigned}
 use lib.Count.{trailingZeros}
 use Rattle.meaning.specs.Below.{anyBelow, countBelow, listBelow, lastBelow, largestBelow, listTo}
+use Rattle.meaning.specs.Limits.{nodeStateWords}
 use Rattle.meaning.specs.Lent.{Index}
 use Rattle.meaning.specs.Live.{isLive}
 use Rattle.meaning.specs.Ieee754.{narrow, sumFrom, narrowedSum, totalBelow, sortableInt, sortableBits}
@@ -129,7 +130,7 @@ abbrev order : List ℕ
 order = recordOf 3 0 2 0 ++ (recordOf 6 1 1 0 ++ (recordOf 1 0 0 0 ++ (recordOf 7 2 1 0x4000_0000 ++ (recordOf 6 0 1 0 ++ recordOf 1 0 0 1))))
 
 abbrev work : Work
-work = record { states = 144; starts = 0; otherStarts = 0; ranges = 0 }
+work = record { states = 6 * nodeStateWords; starts = 0; otherStarts = 0; ranges = 0 }
 
 abbrev places : List ℤ
 places = negsuc 6 ∷ negsuc 6 ∷ negsuc 6 ∷ []
@@ -144,7 +145,7 @@ abbrev all : List ℕ
 all = recordOf 5 0 0 0
 
 abbrev oneState : Work
-oneState = record { states = 24; starts = 0; otherStarts = 0; ranges = 0 }
+oneState = record { states = nodeStateWords; starts = 0; otherStarts = 0; ranges = 0 }
 
 abbrev searched : Index → List ℕ → List ℕ
 searched ix q = searchAnswer ix q 1 0 oneState 1

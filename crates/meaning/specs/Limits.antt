@@ -57,7 +57,7 @@ maxHits = 1024
 
 -- a node state for each record, of one fixed size of at most 32 words
 abbrev pub nodeStateWords : ℕ
-nodeStateWords = 24
+nodeStateWords = 32
 
 -- plus infinity: the largest pattern of a score that Pick takes
 abbrev pub plusInfinity : ℕ

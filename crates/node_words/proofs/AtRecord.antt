@@ -8,6 +8,7 @@ use native.Mathlib.Omega.{arith}
 use lib.Dec.{lit≤}
 use lib.ListN.{getD}
 use lib.Ieee.{Float}
+use Rattle.meaning.specs.Limits.{nodeStateWords}
 use Rattle.meaning.specs.Lent.{Index}
 use Rattle.meaning.specs.Query
 use Rattle.meaning.specs.Query.{recordCount, recordKind, recordChildren, rangeOf, Tree, Decoded}
@@ -42,7 +43,7 @@ module _ (ix : Index) (E : Records) (ranges : List ℕ) (k at : ℕ) (D : Decode
   few-records = whole (E .query) (p .asks .records-right) .few-records
 
   -- the words of its part, and at least those of its record
-  pub record-room : 24 ≤ words
+  pub record-room : nodeStateWords ≤ words
   record-room = le-trans (size-least (weigh ix (D .tree) boost (keptOf fixed kept))) (a .room)
 
   pub boost-small : AtMost (2 ^ 16) boost
@@ -57,7 +58,7 @@ module _ (ix : Index) (E : Records) (ranges : List ℕ) (k at : ℕ) (D : Decode
   pub present-small : getD (E .presents) at 0 ≤ 1
   present-small = bit-small (getD (E .presents) at 0) (hasScorer ix (D .tree)) present-word
 
-  pub terms-room : recordKind (E .query) at ≡ 2 → getD (E .presents) at 0 ≡ 1 → 24 + 24 * recordChildren (E .query) at ≤ words
+  pub terms-room : recordKind (E .query) at ≡ 2 → getD (E .presents) at 0 ≡ 1 → nodeStateWords + nodeStateWords * recordChildren (E .query) at ≤ words
   terms-room kind = phrase-room ix (E .query) k at D (a .decoded) kind boost kept fixed (getD (E .presents) at 0) present-word words (a .room)
 
   -- ---- what is written where it has no trees below it

@@ -8,6 +8,7 @@ use native.Mathlib.Numerals.{add-one}
 use lib.Dec.{T}
 use lib.ListN.{length, getD, set, take, drop, length-append, length-take, length-drop}
 use lib.Ieee.{Float, binary32, fits, toBits}
+use Rattle.meaning.specs.Limits.{nodeStateWords}
 use Rattle.meaning.specs.Lent.{Index, leafFirst, leafNumber, leafField}
 use Rattle.meaning.specs.Query.{rangeOf}
 use Rattle.meaning.specs.Ieee754.{zeroFloat}
@@ -42,11 +43,11 @@ put-long words st₀ st i h g e =
     let s = ap length e in
     omega (arith, a, b, d, s, h, g)
 
-pub put-all : (words st₀ st : List ℕ) (i : ℕ) → i ≡ 24 → length words ≡ 24 → st ≡ take i words ++ drop i st₀ → st ≡ words ++ drop 24 st₀
-put-all words st₀ st i h g e = e ∙ ap (λ (n : ℕ). take n words ++ drop n st₀) h ∙ ap (λ (z : List ℕ). z ++ drop 24 st₀) (take-all 24 words (omega (arith, g)))
+pub put-all : (words st₀ st : List ℕ) (i : ℕ) → i ≡ nodeStateWords → length words ≡ nodeStateWords → st ≡ take i words ++ drop i st₀ → st ≡ words ++ drop nodeStateWords st₀
+put-all words st₀ st i h g e = e ∙ ap (λ (n : ℕ). take n words ++ drop n st₀) h ∙ ap (λ (z : List ℕ). z ++ drop nodeStateWords st₀) (take-all nodeStateWords words (omega (arith, g)))
 
-pub put-same : (words st₀ st : List ℕ) → st ≡ words ++ drop 24 st₀ → length words ≡ 24 → 24 ≤ length st₀ → length st ≡ length st₀
-put-same words st₀ st e f h = let a = ap length e ∙ length-append words (drop 24 st₀) in let d = length-drop 24 st₀ in omega (arith, a, d, f, h)
+pub put-same : (words st₀ st : List ℕ) → st ≡ words ++ drop nodeStateWords st₀ → length words ≡ nodeStateWords → nodeStateWords ≤ length st₀ → length st ≡ length st₀
+put-same words st₀ st e f h = let a = ap length e ∙ length-append words (drop nodeStateWords st₀) in let d = length-drop nodeStateWords st₀ in omega (arith, a, d, f, h)
 
 pub score-is : (x : Float) → T (fits binary32 x) → AtMost (2 ^ 29) x → FloatIs x (toBits binary32 x)
 score-is x f a = record { held = f; small = a; bits-are = refl }
@@ -55,7 +56,7 @@ score-is x f a = record { held = f; small = a; bits-are = refl }
 -- the words of a leaf's record; the others are 0
 abbrev pub leafState : ℕ → ℕ → ℕ → ℕ → ℕ → ℕ → ℕ → ℕ → ℕ → ℕ → State
 leafState kind cached first number offset field fixed weight scores norms =
-    record { kind = kind; size = 24; cached = cached; need = 0; requiredEnd = 0; optionalEnd = 0; first = first; number = number; cursor = 0; offset = offset; field = field; constant = fixed; weight = weight; afterwards = 0; groupAt = 0; scores = scores; frequencyOf = 0; frequency = 0; norms = norms; spare1 = 0; spare2 = 0; spare3 = 0; spare4 = 0; spare5 = 0 }
+    record { kind = kind; size = nodeStateWords; cached = cached; need = 0; requiredEnd = 0; optionalEnd = 0; first = first; number = number; cursor = 0; offset = offset; field = field; constant = fixed; weight = weight; afterwards = 0; groupAt = 0; scores = scores; frequencyOf = 0; frequency = 0; norms = norms; spare1 = 0; spare2 = 0; spare3 = 0; spare4 = 0; spare5 = 0; spare6 = 0; spare7 = 0; spare8 = 0; spare9 = 0; spare10 = 0; spare11 = 0; spare12 = 0; spare13 = 0 }
 
 pub no-cache : (P : ℕ → Bool) → Cache P 0 0
 no-cache P t h g = absurd (omega (arith, g))
@@ -65,38 +66,38 @@ unfolding ScoringIs
 scored x bits is true s e f = (e, rw f is)
 scored x bits is false s e f = (e, rw f is)
 
-module _ (ix : Index) (ranges st₀ st : List ℕ) (d scores : ℕ) (room : 24 ≤ length st₀) where
-  record-long : (s : State) → st ≡ wordsOf s ++ drop 24 st₀ → 24 ≤ length st
-  record-long s e = let a = ap length e ∙ length-append (wordsOf s) (drop 24 st₀) in omega (arith, a)
+module _ (ix : Index) (ranges st₀ st : List ℕ) (d scores : ℕ) (room : nodeStateWords ≤ length st₀) where
+  record-long : (s : State) → st ≡ wordsOf s ++ drop nodeStateWords st₀ → nodeStateWords ≤ length st
+  record-long s e = let a = ap length e ∙ length-append (wordsOf s) (drop nodeStateWords st₀) in omega (arith, a)
 
-  pub placed-leaf : (l : Leaf) (sc : Scoring) (s : State) → st ≡ wordsOf s ++ drop 24 st₀ → 24 ≡ leafSize l → s .scores ≡ scores → LeafIs ix ranges l s [] (max 0 (s .cached - 1)) → ScoringIs sc s → Cache (matches ix (leaf l sc)) 0 (s .cached) → Placed ix ranges (leaf l sc) d scores 24 st
+  pub placed-leaf : (l : Leaf) (sc : Scoring) (s : State) → st ≡ wordsOf s ++ drop nodeStateWords st₀ → nodeStateWords ≡ leafSize l → s .scores ≡ scores → LeafIs ix ranges l s [] (max 0 (s .cached - 1)) → ScoringIs sc s → Cache (matches ix (leaf l sc)) 0 (s .cached) → Placed ix ranges (leaf l sc) d scores nodeStateWords st
   unfolding sizeOf Ok
   placed-leaf l sc s e size scored is scoring cache =
       record {
         size-is = size;
         within = record-long s e;
-        ok = (s, [], ap (take 24) e, scored, is, scoring, cache);
+        ok = (s, [], ap (take nodeStateWords) e, scored, is, scoring, cache);
       }
 
-  pub placed-nothing : st ≡ wordsOf (leafState 0 2147483648 0 0 0 0 1 0 scores 0) ++ drop 24 st₀ → Placed ix ranges noScorer d scores 24 st
+  pub placed-nothing : st ≡ wordsOf (leafState 0 2147483648 0 0 0 0 1 0 scores 0) ++ drop nodeStateWords st₀ → Placed ix ranges noScorer d scores nodeStateWords st
   unfolding leafSize LeafIs ScoringIs matches leafMatches fits toBits
   placed-nothing e =
       placed-leaf nothing (constant zeroFloat) (leafState 0 2147483648 0 0 0 0 1 0 scores 0) e refl refl (refl, refl, refl, refl) (refl, record { held = tt; small = zero-atmost (2 ^ 29); bits-are = refl }) (λ t h g. record { from = omega (arith, g); top = omega arith; before = λ i a b. refl; hit = λ b. absurd (omega (arith, b)) })
 
   module _ (x : Float) (bits : ℕ) (is : FloatIs x bits) where
-    pub placed-everything : st ≡ wordsOf (leafState 5 0 0 0 0 0 1 bits scores 0) ++ drop 24 st₀ → Placed ix ranges (leaf everything (constant x)) d scores 24 st
+    pub placed-everything : st ≡ wordsOf (leafState 5 0 0 0 0 0 1 bits scores 0) ++ drop nodeStateWords st₀ → Placed ix ranges (leaf everything (constant x)) d scores nodeStateWords st
     unfolding leafSize LeafIs ScoringIs
     placed-everything e =
         placed-leaf everything (constant x) (leafState 5 0 0 0 0 0 1 bits scores 0) e refl refl (refl, refl, refl) (refl, is) (no-cache (matches ix (leaf everything (constant x))))
 
-    pub placed-range : (q : List ℕ) (at first number : ℕ) → RangeListed ix q ranges at first number → st ≡ wordsOf (leafState 4 0 first number 0 0 1 bits scores 0) ++ drop 24 st₀ → Placed ix ranges (leaf (range (rangeOf q at)) (constant x)) d scores 24 st
+    pub placed-range : (q : List ℕ) (at first number : ℕ) → RangeListed ix q ranges at first number → st ≡ wordsOf (leafState 4 0 first number 0 0 1 bits scores 0) ++ drop nodeStateWords st₀ → Placed ix ranges (leaf (range (rangeOf q at)) (constant x)) d scores nodeStateWords st
     unfolding leafSize LeafIs ScoringIs
     placed-range q at first number listed e =
         placed-leaf (range (rangeOf q at)) (constant x) (leafState 4 0 first number 0 0 1 bits scores 0) e refl refl
         (record { kind-is = refl; size-is = refl; number-is = listed .count-is; there = listed .there; listed = listed .listed; run = record { within = omega arith; passed = λ i h. absurd (omega (arith, h)) } }, refl)
         (refl, is) (no-cache (matches ix (leaf (range (rangeOf q at)) (constant x))))
 
-    pub placed-term : (b : Bool) (l fixed first number field norms : ℕ) → fixed ≡ cond b 1 0 → first ≡ leafFirst ix l → number ≡ leafNumber ix l → field ≡ leafField ix l → norms ≡ normsWord ix field → st ≡ wordsOf (leafState 1 0 first number 0 field fixed bits scores norms) ++ drop 24 st₀ → Placed ix ranges (leaf (term l) (scoringOf b x)) d scores 24 st
+    pub placed-term : (b : Bool) (l fixed first number field norms : ℕ) → fixed ≡ cond b 1 0 → first ≡ leafFirst ix l → number ≡ leafNumber ix l → field ≡ leafField ix l → norms ≡ normsWord ix field → st ≡ wordsOf (leafState 1 0 first number 0 field fixed bits scores norms) ++ drop nodeStateWords st₀ → Placed ix ranges (leaf (term l) (scoringOf b x)) d scores nodeStateWords st
     unfolding leafSize LeafIs
     placed-term b l fixed first number field norms k f n g m e =
         placed-leaf (term l) (scoringOf b x) (leafState 1 0 first number 0 field fixed bits scores norms) e refl refl

@@ -9,6 +9,7 @@ use native.Mathlib.Omega.{arith}
 use lib.Dec.{lit≤}
 use lib.ListN.{length}
 use lib.Ieee.{Float, binary32, ofBits}
+use Rattle.meaning.specs.Limits.{nodeStateWords}
 use Rattle.meaning.specs.Lent.{Index, leafIdf}
 use Rattle.meaning.specs.Ieee754.{zeroFloat}
 use Rattle.meaning.specs.Bm25.{weight}
@@ -120,11 +121,11 @@ module _ (ix : Index) (q : List ℕ) (k at : ℕ) (D : Decoded) (e : decode q k 
       ∙ ap (λ (y : Float). leaf (phrase (recordValue q at 0) (phraseTermsOf q at)) (scoringOf f y)) (sym s)
 
   -- its terms have room after its record
-  pub phrase-room : (words : ℕ) → sizeOf (weigh ix (D .tree) b (keptOf f x)) ≤ words → here ≡ 1 → 24 + 24 * recordChildren q at ≤ words
+  pub phrase-room : (words : ℕ) → sizeOf (weigh ix (D .tree) b (keptOf f x)) ≤ words → here ≡ 1 → nodeStateWords + nodeStateWords * recordChildren q at ≤ words
   unfolding sizeOf leafSize
   phrase-room words h one =
       let many = length-listTo {A = PhraseTerm} (recordChildren q at) (λ j. record { leaf = recordValue q (at + 1 + j) 0; offset = recordValue q (at + 1 + j) 1 }) in
-      let size : sizeOf (weigh ix (D .tree) b (keptOf f x)) ≡ 24 + 24 * length (phraseTermsOf q at) = ap sizeOf (phrase-weighed (λ z. not-both here z one)) in
+      let size : sizeOf (weigh ix (D .tree) b (keptOf f x)) ≡ nodeStateWords + nodeStateWords * length (phraseTermsOf q at) = ap sizeOf (phrase-weighed (λ z. not-both here z one)) in
       omega (arith, many, size, h)
     where
       not-both : (n : ℕ) → n ≡ 0 → n ≡ 1 → ⊥
@@ -137,15 +138,15 @@ only-one (suc zero) h n = refl
 only-one (suc (suc x)) h n = absurd (omega (arith, h))
 
 -- ---- every part has a record
-leaf-least : (l : Leaf) → 24 ≤ leafSize l
+leaf-least : (l : Leaf) → nodeStateWords ≤ leafSize l
 unfolding leafSize
-leaf-least nothing = le-refl 24
-leaf-least (term l) = le-refl 24
+leaf-least nothing = le-refl nodeStateWords
+leaf-least (term l) = le-refl nodeStateWords
 leaf-least (phrase f ts) = omega arith
-leaf-least (range r) = le-refl 24
-leaf-least everything = le-refl 24
+leaf-least (range r) = le-refl nodeStateWords
+leaf-least everything = le-refl nodeStateWords
 
-pub size-least : (s : Scorer) → 24 ≤ sizeOf s
+pub size-least : (s : Scorer) → nodeStateWords ≤ sizeOf s
 unfolding sizeOf
 size-least (leaf l sc) = leaf-least l
 size-least (boolean c j need rs os ps) = omega arith

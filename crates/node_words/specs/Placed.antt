@@ -6,6 +6,7 @@ use mathlib.Core.Option.{Option, none, some}
 use Prim.Native.Nat.{ℕ, _≤_}
 use lib.ListN.{length, take, drop}
 use lib.Ieee.{Float}
+use Rattle.meaning.specs.Limits.{nodeStateWords}
 use Rattle.meaning.specs.Lent.{Index}
 use Rattle.meaning.specs.Phrase.{PhraseTerm}
 use Rattle.index.specs.Accepted.{Accepted}
@@ -35,10 +36,10 @@ pub record LeafLent (ix : Index) (n : ℕ) (fields leaves : List ℕ) : Type 0 w
   pub field-lent : FieldLent ix n fields
   pub leaves-are : ix .leaves ≡ leaves
 
--- a record of a phrase's term stands in the first 24 words, and the others are as they were
+-- a record of a phrase's term stands in the first `nodeStateWords` words, and the others are as they were
 abbrev pub PhraseTermPlaced : Index → PhraseTerm → List ℕ → List ℕ → Type 0
 PhraseTermPlaced ix t before after =
-    (s : State) × (after ≡ wordsOf s ++ drop 24 before) × TermIs ix 9 (t .leaf) s 0 × (s .offset ≡ t .offset)
+    (s : State) × (after ≡ wordsOf s ++ drop nodeStateWords before) × TermIs ix 9 (t .leaf) s 0 × (s .offset ≡ t .offset)
 
 -- the score that a node has already, if any
 abbrev pub keptOf : Bool → Float → Option Float
@@ -48,4 +49,4 @@ keptOf false x = none
 -- a Boolean's record, not asked yet
 abbrev pub booleanState : ℕ → ℕ → ℕ → ℕ → Bool → ℕ → Bool → ℕ → ℕ → State
 booleanState size need requiredEnd optionalEnd fixed bits after groupAt scores =
-    record { kind = 3; size = size; cached = 0; need = need; requiredEnd = requiredEnd; optionalEnd = optionalEnd; first = 0; number = 0; cursor = 0; offset = 0; field = 0; constant = cond fixed 1 0; weight = bits; afterwards = cond after 1 0; groupAt = groupAt; scores = scores; frequencyOf = 0; frequency = 0; norms = 0; spare1 = 0; spare2 = 0; spare3 = 0; spare4 = 0; spare5 = 0 }
+    record { kind = 3; size = size; cached = 0; need = need; requiredEnd = requiredEnd; optionalEnd = optionalEnd; first = 0; number = 0; cursor = 0; offset = 0; field = 0; constant = cond fixed 1 0; weight = bits; afterwards = cond after 1 0; groupAt = groupAt; scores = scores; frequencyOf = 0; frequency = 0; norms = 0; spare1 = 0; spare2 = 0; spare3 = 0; spare4 = 0; spare5 = 0; spare6 = 0; spare7 = 0; spare8 = 0; spare9 = 0; spare10 = 0; spare11 = 0; spare12 = 0; spare13 = 0 }

@@ -6,6 +6,7 @@ ghost use mathlib.Core.Option.{some};
 ghost use Prim.Native.Nat.{ℕ, _+_, _*_, _^_, _≤_, _<_};
 ghost use lib.ListN.{length, take, drop};
 ghost use lib.Ieee.{binary32, ofBits};
+ghost use Rattle.meaning.specs.Limits.{nodeStateWords};
 ghost use Rattle.meaning.specs.Lent.{Index, leafCount, leafIdf, fieldCount};
 ghost use Rattle.meaning.specs.Bm25.{weight};
 ghost use Rattle.meaning.specs.Score.{phraseIdf};
@@ -18,14 +19,18 @@ ghost use Rattle.weight.specs.Weigh.{weigh, noScorer};
 ghost use Rattle.weight.specs.Held.{TermsAre, normsWord};
 ghost use Rattle.weight.specs.Measured.{Asks, RangeListed};
 ghost use Rattle.node_words.specs.Placed.{Placed, PhraseTermPlaced, scoringOf, keptOf, FieldLent, LeafLent};
+use weight::NODE_STATE_WORDS;
+
+// The size word of a node without parts below it.
+const SIZE: u32 = NODE_STATE_WORDS as u32;
 
 // A node's record.
-pub fn put(st: &mut [u32], words: [u32; 24])
-    requires { ⌜ 24 ≤ length (now st) ⌝ }
-    ensures { λ r. ⌜ now (st .exit) ≡ words ++ drop 24 (now (st .entry)) ⌝ }
+pub fn put(st: &mut [u32], words: [u32; NODE_STATE_WORDS])
+    requires { ⌜ nodeStateWords ≤ length (now st) ⌝ }
+    ensures { λ r. ⌜ now (st .exit) ≡ words ++ drop nodeStateWords (now (st .entry)) ⌝ }
 {
     let mut i = 0;
-    while i < 24 {
+    while i < NODE_STATE_WORDS {
         st[i] = words[i];
         i += 1;
     }
@@ -33,7 +38,7 @@ pub fn put(st: &mut [u32], words: [u32; 24])
 
 // A node that matches nothing stands at the end from the start.
 pub fn place_nothing(st: &mut [u32], scores: u32) -> usize
-    requires { ⌜ 24 ≤ length (now st) ⌝ }
+    requires { ⌜ nodeStateWords ≤ length (now st) ⌝ }
     ensures { λ r. ⌜ ((ix : Index) (ranges : List ℕ) (d : ℕ) → Placed ix ranges noScorer d scores r (now (st .exit))) ⌝ }
     ensures { λ r. ⌜ length (now (st .exit)) ≡ length (now (st .entry)) ⌝ }
 {
@@ -41,7 +46,7 @@ pub fn place_nothing(st: &mut [u32], scores: u32) -> usize
         st,
         [
             0,
-            24,
+            SIZE,
             2147483648,
             0,
             0,
@@ -64,14 +69,22 @@ pub fn place_nothing(st: &mut [u32], scores: u32) -> usize
             0,
             0,
             0,
+            0,
+            0,
+            0,
+            0,
+            0,
+            0,
+            0,
+            0,
         ],
     );
-    24
+    NODE_STATE_WORDS
 }
 
 // Every document, each with the same score.
 pub fn place_everything(st: &mut [u32], score: f32, scores: u32) -> usize
-    requires { ⌜ (24 ≤ length (now st)) × AtMost (2 ^ 29) score ⌝ }
+    requires { ⌜ (nodeStateWords ≤ length (now st)) × AtMost (2 ^ 29) score ⌝ }
     ensures { λ r. ⌜ ((ix : Index) (ranges : List ℕ) (d : ℕ) → Placed ix ranges (leaf everything (constant score)) d scores r (now (st .exit))) ⌝ }
     ensures { λ r. ⌜ length (now (st .exit)) ≡ length (now (st .entry)) ⌝ }
 {
@@ -80,7 +93,7 @@ pub fn place_everything(st: &mut [u32], score: f32, scores: u32) -> usize
         st,
         [
             5,
-            24,
+            SIZE,
             0,
             0,
             0,
@@ -103,14 +116,22 @@ pub fn place_everything(st: &mut [u32], score: f32, scores: u32) -> usize
             0,
             0,
             0,
+            0,
+            0,
+            0,
+            0,
+            0,
+            0,
+            0,
+            0,
         ],
     );
-    24
+    NODE_STATE_WORDS
 }
 
 // The documents of a range, which stand in the range buffer, each with the same score.
 pub fn place_range(st: &mut [u32], first: u32, number: u32, score: f32, scores: u32) -> usize
-    requires { ⌜ (24 ≤ length (now st)) × AtMost (2 ^ 29) score ⌝ }
+    requires { ⌜ (nodeStateWords ≤ length (now st)) × AtMost (2 ^ 29) score ⌝ }
     ensures { λ r. ⌜ ((ix : Index) (ranges q : List ℕ) (at d : ℕ) → RangeListed ix q ranges at first number → Placed ix ranges (leaf (range (rangeOf q at)) (constant score)) d scores r (now (st .exit))) ⌝ }
     ensures { λ r. ⌜ length (now (st .exit)) ≡ length (now (st .entry)) ⌝ }
 {
@@ -119,7 +140,7 @@ pub fn place_range(st: &mut [u32], first: u32, number: u32, score: f32, scores: 
         st,
         [
             4,
-            24,
+            SIZE,
             0,
             0,
             0,
@@ -142,9 +163,17 @@ pub fn place_range(st: &mut [u32], first: u32, number: u32, score: f32, scores: 
             0,
             0,
             0,
+            0,
+            0,
+            0,
+            0,
+            0,
+            0,
+            0,
+            0,
         ],
     );
-    24
+    NODE_STATE_WORDS
 }
 
 pub fn wide(x: u32) -> usize
@@ -182,7 +211,7 @@ fn place_term(
     score: f32,
     scores: u32,
 ) -> usize
-    requires { ⌜ (24 ≤ length (now st)) × AtMost (2 ^ 29) score ⌝ }
+    requires { ⌜ (nodeStateWords ≤ length (now st)) × AtMost (2 ^ 29) score ⌝ }
     requires { ⌜ ((ix : Index) × LeafLent ix «max_doc» (now fields) (now leaves) × (leaf < leafCount ix)) ⌝ }
     ensures { λ r. ⌜ ((ix : Index) (ranges : List ℕ) (d : ℕ) → LeafLent ix «max_doc» (now (fields .entry)) (now (leaves .entry)) → Placed ix ranges (Scorer.leaf (term leaf) (scoringOf fixed score)) d scores r (now (st .exit))) ⌝ }
     ensures { λ r. ⌜ length (now (st .exit)) ≡ length (now (st .entry)) ⌝ }
@@ -198,7 +227,7 @@ fn place_term(
         st,
         [
             1,
-            24,
+            SIZE,
             0,
             0,
             0,
@@ -221,9 +250,17 @@ fn place_term(
             0,
             0,
             0,
+            0,
+            0,
+            0,
+            0,
+            0,
+            0,
+            0,
+            0,
         ],
     );
-    24
+    NODE_STATE_WORDS
 }
 
 // A term of a phrase, with its offset.
@@ -235,7 +272,7 @@ fn place_phrase_term(
     leaf: u32,
     offset: u32,
 )
-    requires { ⌜ 24 ≤ length (now st) ⌝ }
+    requires { ⌜ nodeStateWords ≤ length (now st) ⌝ }
     requires { ⌜ ((ix : Index) × LeafLent ix «max_doc» (now fields) (now leaves) × (leaf < leafCount ix)) ⌝ }
     ensures { λ r. ⌜ ((ix : Index) → LeafLent ix «max_doc» (now (fields .entry)) (now (leaves .entry)) → PhraseTermPlaced ix (record { leaf = leaf; offset = offset }) (now (st .entry)) (now (st .exit))) ⌝ }
 {
@@ -248,7 +285,7 @@ fn place_phrase_term(
         st,
         [
             9,
-            24,
+            SIZE,
             0,
             0,
             0,
@@ -271,15 +308,23 @@ fn place_phrase_term(
             0,
             0,
             0,
+            0,
+            0,
+            0,
+            0,
+            0,
+            0,
+            0,
+            0,
         ],
     );
 }
 
 // The terms of the phrase at `at`, in record order.
 fn place_terms(st: &mut [u32], q: &[u32], max_doc: u32, fields: &[u32], leaves: &[u32], at: usize)
-    requires { ⌜ (24 * recordChildren (now q) at ≤ length (now st)) × (at + 1 + recordChildren (now q) at ≤ recordCount (now q)) × (recordChildren (now q) at ≤ 32) ⌝ }
+    requires { ⌜ (nodeStateWords * recordChildren (now q) at ≤ length (now st)) × (at + 1 + recordChildren (now q) at ≤ recordCount (now q)) × (recordChildren (now q) at ≤ 32) ⌝ }
     requires { ⌜ ((ix : Index) × LeafLent ix «max_doc» (now fields) (now leaves) × ((j : ℕ) → j < recordChildren (now q) at → recordValue (now q) (at + 1 + j) 0 < leafCount ix)) ⌝ }
-    ensures { λ r. ⌜ ((ix : Index) → LeafLent ix «max_doc» (now (fields .entry)) (now (leaves .entry)) → TermsAre ix (phraseTermsOf (now (q .entry)) at) (take (24 * recordChildren (now (q .entry)) at) (now (st .exit))) 0) ⌝ }
+    ensures { λ r. ⌜ ((ix : Index) → LeafLent ix «max_doc» (now (fields .entry)) (now (leaves .entry)) → TermsAre ix (phraseTermsOf (now (q .entry)) at) (take (nodeStateWords * recordChildren (now (q .entry)) at) (now (st .exit))) 0) ⌝ }
     ensures { λ r. ⌜ length (now (st .exit)) ≡ length (now (st .entry)) ⌝ }
 {
     let terms = wide(query::children(q, at));
@@ -287,7 +332,14 @@ fn place_terms(st: &mut [u32], q: &[u32], max_doc: u32, fields: &[u32], leaves: 
     while j < terms {
         let leaf = query::value(q, at + 1 + j, 0);
         let offset = query::value(q, at + 1 + j, 1);
-        place_phrase_term(&mut st[24 * j..], max_doc, fields, leaves, leaf, offset);
+        place_phrase_term(
+            &mut st[NODE_STATE_WORDS * j..],
+            max_doc,
+            fields,
+            leaves,
+            leaf,
+            offset,
+        );
         j += 1;
     }
 }
@@ -304,17 +356,17 @@ fn place_phrase(
     score: f32,
     scores: u32,
 ) -> usize
-    requires { ⌜ (24 + 24 * recordChildren (now q) at ≤ length (now st)) × (at + 1 + recordChildren (now q) at ≤ recordCount (now q)) × (recordChildren (now q) at ≤ 32) × AtMost (2 ^ 29) score ⌝ }
+    requires { ⌜ (nodeStateWords + nodeStateWords * recordChildren (now q) at ≤ length (now st)) × (at + 1 + recordChildren (now q) at ≤ recordCount (now q)) × (recordChildren (now q) at ≤ 32) × AtMost (2 ^ 29) score ⌝ }
     requires { ⌜ ((ix : Index) × LeafLent ix «max_doc» (now fields) (now leaves) × ((j : ℕ) → j < recordChildren (now q) at → recordValue (now q) (at + 1 + j) 0 < leafCount ix) × (recordValue (now q) at 0 < fieldCount ix)) ⌝ }
     ensures { λ r. ⌜ ((ix : Index) (ranges : List ℕ) (d : ℕ) → LeafLent ix «max_doc» (now (fields .entry)) (now (leaves .entry)) → Placed ix ranges (Scorer.leaf (phrase (recordValue (now (q .entry)) at 0) (phraseTermsOf (now (q .entry)) at)) (scoringOf fixed score)) d scores r (now (st .exit))) ⌝ }
     ensures { λ r. ⌜ length (now (st .exit)) ≡ length (now (st .entry)) ⌝ }
 {
     let field = query::value(q, at, 0);
-    let size = 24 + 24 * query::children(q, at);
+    let size = SIZE + SIZE * query::children(q, at);
     let norms = norms_word(max_doc, fields, field);
     let bits = f32::to_bits(score);
     let constant = word(fixed);
-    place_terms(&mut st[24..], q, max_doc, fields, leaves, at);
+    place_terms(&mut st[NODE_STATE_WORDS..], q, max_doc, fields, leaves, at);
     put(
         st,
         [
@@ -337,6 +389,14 @@ fn place_phrase(
             0,
             0,
             norms,
+            0,
+            0,
+            0,
+            0,
+            0,
+            0,
+            0,
+            0,
             0,
             0,
             0,
@@ -396,7 +456,7 @@ pub fn place_term_at(
     boost: f32,
     scores: u32,
 ) -> usize
-    requires { ⌜ (24 ≤ length (now st)) × (at < recordCount (now q)) × (recordKind (now q) at ≡ 1) × AtMost (2 ^ 29) kept × AtMost (2 ^ 16) boost ⌝ }
+    requires { ⌜ (nodeStateWords ≤ length (now st)) × (at < recordCount (now q)) × (recordKind (now q) at ≡ 1) × AtMost (2 ^ 29) kept × AtMost (2 ^ 16) boost ⌝ }
     requires { ⌜ ((ix : Index) × Asks ix (now q) × LeafLent ix «max_doc» (now fields) (now leaves)) ⌝ }
     ensures { λ r. ⌜ ((ix : Index) (ranges : List ℕ) (d k : ℕ) (D : Decoded) → LeafLent ix «max_doc» (now (fields .entry)) (now (leaves .entry)) → decode (now (q .entry)) k at ≡ some D → present ≡ cond (hasScorer ix (D .tree)) 1 0 → Placed ix ranges (weigh ix (D .tree) boost (keptOf fixed kept)) d scores r (now (st .exit))) ⌝ }
     ensures { λ r. ⌜ length (now (st .exit)) ≡ length (now (st .entry)) ⌝ }
@@ -424,7 +484,7 @@ pub fn place_phrase_at(
     boost: f32,
     scores: u32,
 ) -> usize
-    requires { ⌜ (24 ≤ length (now st)) × (present ≡ 1 → 24 + 24 * recordChildren (now q) at ≤ length (now st)) × (present ≤ 1) × (at < recordCount (now q)) × (recordKind (now q) at ≡ 2) × AtMost (2 ^ 29) kept × AtMost (2 ^ 16) boost ⌝ }
+    requires { ⌜ (nodeStateWords ≤ length (now st)) × (present ≡ 1 → nodeStateWords + nodeStateWords * recordChildren (now q) at ≤ length (now st)) × (present ≤ 1) × (at < recordCount (now q)) × (recordKind (now q) at ≡ 2) × AtMost (2 ^ 29) kept × AtMost (2 ^ 16) boost ⌝ }
     requires { ⌜ ((ix : Index) × Asks ix (now q) × LeafLent ix «max_doc» (now fields) (now leaves)) ⌝ }
     ensures { λ r. ⌜ ((ix : Index) (ranges : List ℕ) (d k : ℕ) (D : Decoded) → LeafLent ix «max_doc» (now (fields .entry)) (now (leaves .entry)) → decode (now (q .entry)) k at ≡ some D → present ≡ cond (hasScorer ix (D .tree)) 1 0 → Placed ix ranges (weigh ix (D .tree) boost (keptOf fixed kept)) d scores r (now (st .exit))) ⌝ }
     ensures { λ r. ⌜ length (now (st .exit)) ≡ length (now (st .entry)) ⌝ }

@@ -11,6 +11,7 @@ ghost use Rattle.meaning.specs.Query.{recordCount, recordKind, recordValue};
 ghost use Rattle.meaning.specs.CallRefusals.{rangeRecords, statesNeeded, rangesNeeded, largestIn, startsNeeded};
 ghost use Rattle.query.specs.Read.{PhraseRuns};
 use index::wide;
+use weight::NODE_STATE_WORDS;
 
 // 1 where the record at `at` is a Range.
 fn one_range(q: &[u32], at: usize) -> usize
@@ -34,11 +35,11 @@ pub fn range_records(q: &[u32]) -> usize
     found
 }
 
-// A node state of 24 words for each record.
+// A node state for each record.
 pub fn states_needed(q: &[u32]) -> u64
     ensures { λ r. ⌜ r ≡ statesNeeded (now (q .entry)) ⌝ }
 {
-    24 * query::record_count(q) as u64
+    NODE_STATE_WORDS as u64 * query::record_count(q) as u64
 }
 
 // With range records, N words for each and N more.

@@ -9,6 +9,7 @@ use lib.IntN.{pos}
 use lib.Ieee.{Float, binary32, binary64, add, round, fits}
 use lib.Ieee.Fits.{add-fits, fits-widens}
 use lib.Ieee.Positive.{num, den}
+use Rattle.meaning.specs.Limits.{nodeStateWords}
 use Rattle.meaning.specs.Lent.{Index}
 use Rattle.meaning.specs.Ieee754.{zeroFloat, narrow, sumFrom, narrowedSum}
 use Rattle.ieee754.specs.Nonneg.{nonneg, AtMost}
@@ -74,7 +75,7 @@ group-alone (oneMore (suc n)) g h p = ap narrow (zero-plus g (fits-widens g h) p
 group-alone afterwards g h p = ap narrow (ap (λ (z : Float). add binary64 z g) (sym zero-narrowed) ∙ zero-plus g (fits-widens g h) p) ∙ narrow-exact g h
 
 -- ---- parts of no words are no parts
-leaf-long : (l : Leaf) → 24 ≤ leafSize l
+leaf-long : (l : Leaf) → nodeStateWords ≤ leafSize l
 unfolding leafSize
 leaf-long nothing = omega arith
 leaf-long (term l) = omega arith

@@ -9,7 +9,7 @@ use native.Mathlib.Omega.{arith}
 use lib.Dec.{T}
 use lib.ListN.{getD, length, take, drop}
 use lib.Ieee.{Float, binary64, isNan, add}
-use Rattle.meaning.specs.Limits.{noMoreDocs, maxDocuments}
+use Rattle.meaning.specs.Limits.{noMoreDocs, maxDocuments, nodeStateWords}
 use Rattle.meaning.specs.Lent.{Index}
 use Rattle.meaning.specs.First.{First}
 use Rattle.meaning.specs.Ieee754.{zeroFloat, sumFrom}
@@ -72,7 +72,7 @@ module _ (kids₀ : List ℕ) (start : Float) (n : ℕ) (postings positions norm
           sum-there scores-word (P .0) ranges table places depth doc (P .1) (sumFrom start (counted scores-word (P .0) (P .1) doc)) (P .2 + nodesOf (P .1)) kids at sum (o .0) (o .1) (o .2) (o .3)
 
       -- where a term's part ends
-      pub required-stop : RequiredPre kids₀ start n postings positions norms ranges table places doc depth → getD kids at 0 ≡ 1 → (e : ℕ) → e ≡ at + 24 → e ≡ at + getD kids (at + 1) 0
+      pub required-stop : RequiredPre kids₀ start n postings positions norms ranges table places doc depth → getD kids at 0 ≡ 1 → (e : ℕ) → e ≡ at + nodeStateWords → e ≡ at + getD kids (at + 1) 0
       required-stop P t =
           let o = open-at (P .0) (P .1) (P .2) (P .3) (P .4) (P .5) (P .6) (P .7) in
           sum-stop scores-word (P .0) ranges table places depth doc (P .1) (sumFrom start (counted scores-word (P .0) (P .1) doc)) (P .2 + nodesOf (P .1)) kids at sum (o .0) (o .1) (o .2) (o .3) t
@@ -166,7 +166,7 @@ module _ (kids₀ : List ℕ) (n : ℕ) (postings positions norms ranges : List 
           let o = opened (P .0) (P .1) (P .2) (P .3) (P .4) in
           sum-there (matches-at (P .0) doc) (P .0) ranges table places depth doc (P .1) (sumFrom zeroFloat (counted (matches-at (P .0) doc) (P .0) (P .1) doc)) (nodesOf (P .1)) kids at sum (o .0) (o .1) (o .2) (o .3)
 
-      pub optional-stop : OptionalPre kids₀ n postings positions norms ranges table places doc depth → getD kids at 0 ≡ 1 → (e : ℕ) → e ≡ at + 24 → e ≡ at + getD kids (at + 1) 0
+      pub optional-stop : OptionalPre kids₀ n postings positions norms ranges table places doc depth → getD kids at 0 ≡ 1 → (e : ℕ) → e ≡ at + nodeStateWords → e ≡ at + getD kids (at + 1) 0
       optional-stop P t =
           let o = opened (P .0) (P .1) (P .2) (P .3) (P .4) in
           sum-stop (matches-at (P .0) doc) (P .0) ranges table places depth doc (P .1) (sumFrom zeroFloat (counted (matches-at (P .0) doc) (P .0) (P .1) doc)) (nodesOf (P .1)) kids at sum (o .0) (o .1) (o .2) (o .3) t

@@ -9,6 +9,7 @@ use lib.Dec.{T, leb}
 use lib.ListN.{length, take, drop}
 use lib.Seq.{take-length, drop-length}
 use lib.Ieee.{Float}
+use Rattle.meaning.specs.Limits.{nodeStateWords}
 use Rattle.meaning.specs.Lent.{Index}
 use Rattle.ieee754.specs.Nonneg.{AtMost}
 use Rattle.ieee754.proofs.Bounds.{atmost-more}
@@ -50,9 +51,9 @@ module _ (ix : Index) (ranges : List ℕ) (table : List Float) (places k doc : �
     pub deep : 0 < k
     pub asks : JoinAsks ix table places j rs os n doc
     pub parts : PartsAre ix ranges rs os (k - 1) doc rest kids
-    pub done : (r : Float) (kids′ : List ℕ) → length kids′ ≡ length kids → JoinIs ix j rs os doc r → PartsAre ix ranges rs os (k - 1) doc rest kids′ → ScoreIs ix T doc r × Ok ix ranges T k sc (take 24 st ++ (kids′ ++ drop (length st - 24) (drop 24 st))) doc
+    pub done : (r : Float) (kids′ : List ℕ) → length kids′ ≡ length kids → JoinIs ix j rs os doc r → PartsAre ix ranges rs os (k - 1) doc rest kids′ → ScoreIs ix T doc r × Ok ix ranges T k sc (take nodeStateWords st ++ (kids′ ++ drop (length st - nodeStateWords) (drop nodeStateWords st))) doc
 
-  pub node-at : (T : Scorer) (sc : ℕ) → Scorable ix table places T → matches ix T doc ≡ true → Ok ix ranges T k sc st doc → (n .constant ≡ 1 → ⊥) → n .kind ≡ 3 → NodeAt T sc (take (length st - 24) (drop 24 st))
+  pub node-at : (T : Scorer) (sc : ℕ) → Scorable ix table places T → matches ix T doc ≡ true → Ok ix ranges T k sc st doc → (n .constant ≡ 1 → ⊥) → n .kind ≡ 3 → NodeAt T sc (take (length st - nodeStateWords) (drop nodeStateWords st))
   unfolding Ok KeptIs scorerScore nodes matches Sound Tables
   node-at (leaf l c) sc g m p i h = let R = read st (p .1) (p .0) n (p .2) N in absurd (leaf-kind ix ranges l (p .0) (p .1) (max doc (p .0 .cached - 1)) (p .4) (sym (R .kind-is) ∙ h))
   node-at (boolean (some c) j need rs os ps) sc g m p i h = let R = read st (p .1 ++ (p .2 ++ p .3)) (p .0) n (p .4) N in absurd (i (R .constant-is ∙ p .7 .kept .0))
@@ -61,8 +62,8 @@ module _ (ix : Index) (ranges : List ℕ) (table : List Float) (places k doc : �
       let S : Scorer = boolean none j need rs os ps in
       let b : max doc (p .0 .cached - 1) ≡ doc = at-most-there (matches ix S) doc (p .0 .cached) m (p .8) in
       let w : List ℕ = p .1 ++ (p .2 ++ p .3) in
-      let q : length st - 24 ≡ length w = omega (arith, ap length (p .4)) in
-      let same : take (length st - 24) (drop 24 st) ≡ w = rw (q, p .4, take-length) in
+      let q : length st - nodeStateWords ≡ length w = omega (arith, ap length (p .4)) in
+      let same : take (length st - nodeStateWords) (drop nodeStateWords st) ≡ w = rw (q, p .4, take-length) in
       let all : allMatch ix rs doc ≡ true = both (allMatch ix rs doc) (not (anyMatches ix ps doc)) (both (allMatch ix rs doc && not (anyMatches ix ps doc)) (leb need (matching ix os doc)) m .0) .0 in
       record {
         j = j;

@@ -6,6 +6,7 @@ use Prim.Native.Nat.{ℕ, _+_, _-_, _≤_, max}
 use native.Mathlib.Omega.{arith}
 use lib.ListN.{getD, length, take, drop, length-append, length-take, length-drop, take-append-drop}
 use lib.Seq.{take-at, drop-at, getD-append-add}
+use Rattle.meaning.specs.Limits.{nodeStateWords}
 use Rattle.meaning.specs.Lent.{Index}
 use Rattle.weight.specs.ScorerTree.{Leaf, nothing, term, phrase, range, everything, Scorer, leaf, boolean, Scorers, end, more}
 use Rattle.weight.specs.State.{State, wordsOf, leafSize, sizeOf}
@@ -34,7 +35,7 @@ leaf-kind ix ranges (range r) s w b p = p .0 .kind-is
 leaf-kind ix ranges everything s w b p = p .0
 
 -- a term's part is its record
-pub term-size : (T : Scorer) → kindWord T ≡ 1 → sizeOf T ≡ 24
+pub term-size : (T : Scorer) → kindWord T ≡ 1 → sizeOf T ≡ nodeStateWords
 unfolding kindWord leafKind sizeOf leafSize
 term-size (leaf nothing c) e = refl
 term-size (leaf (term l) c) e = refl
@@ -92,7 +93,7 @@ pub record View (ix : Index) (ranges : List ℕ) (k doc : ℕ) (fs : Scorers) (f
   pub size : getD kids (at + 1) 0 ≡ length y
   pub size-of : getD kids (at + 1) 0 ≡ sizeOf T
   pub scores : getD kids (at + 15) 0 ≡ cond f 1 0
-  pub long : 24 ≤ length y
+  pub long : nodeStateWords ≤ length y
   pub fits : at + length y ≤ length kids
   pub back : (ys z′ : List ℕ) → Ok ix ranges T k (cond f 1 0) ys doc → Oks ix ranges g k z′ doc → Oks ix ranges fs k (x ++ (ys ++ z′)) doc
 

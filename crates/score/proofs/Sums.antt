@@ -7,6 +7,7 @@ use native.Mathlib.Nat.{le-trans, le-refl}
 use native.Mathlib.Omega.{arith}
 use lib.ListN.{getD, length, take, drop}
 use lib.Ieee.{Float, binary64, add}
+use Rattle.meaning.specs.Limits.{nodeStateWords}
 use Rattle.meaning.specs.Lent.{Index}
 use Rattle.meaning.specs.Ieee754.{sumFrom}
 use Rattle.ieee754.specs.Nonneg.{AtMost}
@@ -103,7 +104,7 @@ module _ (c : Bool → Scorer → Bool) (ix : Index) (ranges : List ℕ) (table 
       sum-kind = view (p .zip) .kind
 
       -- where a term's part ends
-      pub sum-stop : getD kids at 0 ≡ 1 → (e : ℕ) → e ≡ at + 24 → e ≡ at + getD kids (at + 1) 0
+      pub sum-stop : getD kids at 0 ≡ 1 → (e : ℕ) → e ≡ at + nodeStateWords → e ≡ at + getD kids (at + 1) 0
       sum-stop t e stop = omega (arith, stop, sum-size, term-size T (sym sum-kind ∙ t))
 
       pub sum-scorable : most ≤ 256 → Scorable ix table places T

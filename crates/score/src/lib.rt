@@ -9,6 +9,7 @@ use leaf_score::Node;
 use leaf_score::leaf_score;
 use leaf_score::node_at;
 use leaf_score::term_score;
+use weight::NODE_STATE_WORDS;
 
 const TERM: u32 = 1;
 
@@ -16,9 +17,6 @@ const BOOLEAN: u32 = 3;
 
 // The scores word of a Must; a Filter's is 0.
 const MUST: u32 = 1;
-
-// The words of a record: a term's part is one.
-const RECORD: usize = 24;
 
 // What the loops read of a child's record: its kind, where its part ends, and whether it is a Must.
 pub struct Child {
@@ -62,7 +60,7 @@ pub fn score(
     }
     if n.kind == BOOLEAN {
         joined(
-            &mut st[24..],
+            &mut st[NODE_STATE_WORDS..],
             n,
             max_doc,
             postings,
@@ -205,7 +203,7 @@ fn required(
     while at < kids.len() {
         let k = child_at(kids, at);
         if k.kind == TERM {
-            let end = at + RECORD;
+            let end = at + NODE_STATE_WORDS;
             if k.scores == MUST {
                 let s = term_score(&kids[at..end], postings, norms, inverses, doc);
                 sum = ieee754::add_score(sum, s);
@@ -257,7 +255,7 @@ fn optional(
     while at < kids.len() {
         let k = child_at(kids, at);
         if k.kind == TERM {
-            let end = at + RECORD;
+            let end = at + NODE_STATE_WORDS;
             if scorer::advance_term(&mut kids[at..end], postings, doc) == doc {
                 let s = term_score(&kids[at..end], postings, norms, inverses, doc);
                 sum = ieee754::add_score(sum, s);

@@ -4,13 +4,13 @@ use mathlib.Core.Path.{_≡_, refl}
 use mathlib.Core.Bool.{Bool, true, false}
 use mathlib.Core.List.{List, [], _∷_, _++_}
 use mathlib.Core.Option.{Option, none}
-use Prim.Native.Nat.{ℕ, suc, _-_, _≤_, _<_}
+use Prim.Native.Nat.{ℕ, suc, _-_, _*_, _≤_, _<_}
 use native.Mathlib.Nat.{le-refl}
 use native.Mathlib.Omega.{arith}
 use lib.Dec.{lit≤, lit<}
 use lib.Ieee.{fits, toBits, binary32}
 use Rattle.meaning.specs.Below.{anyBelow, countBelow, largestBelow}
-use Rattle.meaning.specs.Limits.{noMoreDocs}
+use Rattle.meaning.specs.Limits.{noMoreDocs, nodeStateWords}
 use Rattle.meaning.specs.Lent.{Index}
 use Rattle.meaning.specs.Ieee754.{zeroFloat}
 use Rattle.meaning.specs.Phrase.{PhraseTerm}
@@ -84,25 +84,33 @@ fresh kind size cached need re oe first number offset same scores =
       spare3 = 0;
       spare4 = 0;
       spare5 = 0;
+      spare6 = 0;
+      spare7 = 0;
+      spare8 = 0;
+      spare9 = 0;
+      spare10 = 0;
+      spare11 = 0;
+      spare12 = 0;
+      spare13 = 0;
     }
 
 abbrev root : State
-root = fresh 3 144 0 1 24 96 0 0 0 0 1
+root = fresh 3 (6 * nodeStateWords) 0 1 nodeStateWords (4 * nodeStateWords) 0 0 0 0 1
 
 abbrev required : State
-required = fresh 1 24 0 0 0 0 0 2 0 1 1
+required = fresh 1 nodeStateWords 0 0 0 0 0 2 0 1 1
 
 abbrev optional : State
-optional = fresh 2 72 0 0 0 0 0 0 0 1 1
+optional = fresh 2 (3 * nodeStateWords) 0 0 0 0 0 0 0 1 1
 
 abbrev first-term : State
-first-term = fresh 9 24 0 0 0 0 0 2 0 0 0
+first-term = fresh 9 nodeStateWords 0 0 0 0 0 2 0 0 0
 
 abbrev second-term : State
-second-term = fresh 9 24 0 0 0 0 2 1 1 0 0
+second-term = fresh 9 nodeStateWords 0 0 0 0 2 1 1 0 0
 
 abbrev prohibited : State
-prohibited = fresh 0 24 2147483648 0 0 0 0 0 0 1 0
+prohibited = fresh 0 nodeStateWords 2147483648 0 0 0 0 0 0 1 0
 
 abbrev words : List ℕ
 words = wordsOf root ++ (wordsOf required ++ ((wordsOf optional ++ (wordsOf first-term ++ wordsOf second-term)) ++ wordsOf prohibited))
@@ -111,7 +119,7 @@ score-held : FloatIs zeroFloat 0
 unfolding fits toBits
 score-held = record { held = tt; small = record { sign = tt; most = lit≤ tt }; bits-are = refl }
 
-term-held : (kind l offset same scores b : ℕ) (s : State) → s ≡ fresh kind 24 0 0 0 0 0 2 offset same scores → l ≡ 0 → TermIs index kind l s b
+term-held : (kind l offset same scores b : ℕ) (s : State) → s ≡ fresh kind nodeStateWords 0 0 0 0 0 2 offset same scores → l ≡ 0 → TermIs index kind l s b
 unfolding normsWord countBelow
 term-held kind l offset same scores b s e z = rw (e, z) (record { kind-is = refl; size-is = refl; first-is = refl; number-is = refl; field-is = refl; norms-is = refl; run = record { within = lit≤ tt; passed = λ i h. absurd (omega arith) } })
 

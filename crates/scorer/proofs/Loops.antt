@@ -9,7 +9,7 @@ use native.Mathlib.Omega.{arith}
 use lib.Dec.{ltb}
 use lib.ListN.{getD, length, take, drop}
 use borrow.Author.Tests.{lt-ltb, le-ltb}
-use Rattle.meaning.specs.Limits.{noMoreDocs}
+use Rattle.meaning.specs.Limits.{noMoreDocs, nodeStateWords}
 use Rattle.meaning.specs.Lent.{Index}
 use Rattle.meaning.specs.First.{First}
 use Rattle.weight.specs.ScorerTree.{Scorer, Scorers, end, more, matches, allMatch, matching}
@@ -54,7 +54,7 @@ module _ {E : Lent} {ix : Index} {p k : ℕ} {fs : Scorers} where
       go (more f T g) z u h = absurd (omega (arith, view z .fits, view z .long))
 
   -- one child more, which stands at d
-  least-next : {kids′ : List ℕ} {t best n at : ℕ} (f : Bool) (T : Scorer) (g : Scorers) (e d best′ n′ : ℕ) → at + 24 ≤ e → t ≤ best → best ≤ noMoreDocs → n ≤ at
+  least-next : {kids′ : List ℕ} {t best n at : ℕ} (f : Bool) (T : Scorer) (g : Scorers) (e d best′ n′ : ℕ) → at + nodeStateWords ≤ e → t ≤ best → best ≤ noMoreDocs → n ≤ at
       → ((x : ℕ) → t ≤ x → x < best → matching ix fs x ≡ matching ix (more f T g) x) → (best < noMoreDocs → matching ix fs best ≡ n + matching ix (more f T g) best) → (best < noMoreDocs → 0 < n)
       → Zip E ix p k fs g kids′ e t → First (matches ix T) t d → Tally best n d best′ n′ → LeastAt E ix p k fs kids′ t best′ n′ e
   least-next {kids′} {t} {best} {n} {at} f T g e d best′ n′ far lo top few u h so z first tally = ⊎-elim below (λ c. ⊎-elim above same (cmp best d)) (cmp d best)

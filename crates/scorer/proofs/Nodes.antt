@@ -9,7 +9,7 @@ use native.Mathlib.Omega.{arith}
 use lib.ListN.{getD, length, take, drop, set, length-append}
 use lib.Seq.{take-length, drop-length}
 use lib.Ieee.{Float}
-use Rattle.meaning.specs.Limits.{noMoreDocs}
+use Rattle.meaning.specs.Limits.{noMoreDocs, nodeStateWords}
 use Rattle.meaning.specs.Lent.{Index}
 use Rattle.meaning.specs.First.{First}
 use Rattle.weight.specs.ScorerTree.{Leaf, nothing, term, phrase, range, everything, Scoring, constant, weighted, Joining, oneMore, afterwards, Scorer, leaf, boolean, Scorers, matches, leafMatches}
@@ -50,6 +50,14 @@ cachedAt s c =
       spare3 = s .spare3;
       spare4 = s .spare4;
       spare5 = s .spare5;
+      spare6 = s .spare6;
+      spare7 = s .spare7;
+      spare8 = s .spare8;
+      spare9 = s .spare9;
+      spare10 = s .spare10;
+      spare11 = s .spare11;
+      spare12 = s .spare12;
+      spare13 = s .spare13;
     }
 
 -- ---- leaves
@@ -115,22 +123,22 @@ joining-recached (oneMore n) rs s c p = p
 joining-recached afterwards rs s c p = p
 
 -- the children's words put back behind the record, and the cached word stored
-joined-words : (s : State) (rest st w′ w : List ℕ) (c : ℕ) → st ≡ wordsOf s ++ rest → w′ ≡ w → set (take 24 st ++ (w′ ++ drop (length st - 24) (drop 24 st))) 2 c ≡ wordsOf (cachedAt s c) ++ w
-joined-words s rest st w′ w c e f = let size : length st - 24 ≡ length rest = omega (arith, ap length e) in rw (size, e, drop-length, append-nil, f)
+joined-words : (s : State) (rest st w′ w : List ℕ) (c : ℕ) → st ≡ wordsOf s ++ rest → w′ ≡ w → set (take nodeStateWords st ++ (w′ ++ drop (length st - nodeStateWords) (drop nodeStateWords st))) 2 c ≡ wordsOf (cachedAt s c) ++ w
+joined-words s rest st w′ w c e f = let size : length st - nodeStateWords ≡ length rest = omega (arith, ap length e) in rw (size, e, drop-length, append-nil, f)
 
-rejoined-words : (s : State) (rest st w′ w : List ℕ) → st ≡ wordsOf s ++ rest → w′ ≡ w → take 24 st ++ (w′ ++ drop (length st - 24) (drop 24 st)) ≡ wordsOf s ++ w
-rejoined-words s rest st w′ w e f = let size : length st - 24 ≡ length rest = omega (arith, ap length e) in rw (size, e, drop-length, append-nil, f)
+rejoined-words : (s : State) (rest st w′ w : List ℕ) → st ≡ wordsOf s ++ rest → w′ ≡ w → take nodeStateWords st ++ (w′ ++ drop (length st - nodeStateWords) (drop nodeStateWords st)) ≡ wordsOf s ++ w
+rejoined-words s rest st w′ w e f = let size : length st - nodeStateWords ≡ length rest = omega (arith, ap length e) in rw (size, e, drop-length, append-nil, f)
 
 -- ---- a Boolean's children, which can be asked up to the document where it stands
 module _ (E : Lent) (ix : Index) (p : ℕ) (k o : ℕ) (st : List ℕ) (t c : ℕ) (ec : c ≡ getD st 2 0) (near : c ≤ t + 1) where
-  pub boolean-children : (re oe : ℕ) → re ≡ getD st 4 0 → oe ≡ getD st 5 0 → (x : Option Float) (j : Joining) (need : ℕ) (rs os ps : Scorers) → NodeHeld E ix p (boolean x j need rs os ps) k o st t → BooleanHeld E ix p rs os ps (k - 1) re oe (take (length st - 24) (drop 24 st)) t
+  pub boolean-children : (re oe : ℕ) → re ≡ getD st 4 0 → oe ≡ getD st 5 0 → (x : Option Float) (j : Joining) (need : ℕ) (rs os ps : Scorers) → NodeHeld E ix p (boolean x j need rs os ps) k o st t → BooleanHeld E ix p rs os ps (k - 1) re oe (take (length st - nodeStateWords) (drop nodeStateWords st)) t
   unfolding Ok Sound
   boolean-children re oe er eo x j need rs os ps h =
       let q = h .ok in
       let rest : List ℕ = q .1 ++ (q .2 ++ q .3) in
       let d : q .0 .cached ≤ t + 1 = rw (ec, q .4) at near in
       let m : max t (q .0 .cached - 1) ≡ t = omega arith in
-      let size : length st - 24 ≡ length rest = omega (arith, ap length (q .4)) in
+      let size : length st - nodeStateWords ≡ length rest = omega (arith, ap length (q .4)) in
       let a : length (q .1) ≡ sizesOf rs = oks-length ix (E .ranges) rs (k - 1) (q .1) (max t (q .0 .cached - 1)) (q .9) in
       let b : length (q .2) ≡ sizesOf os = oks-length ix (E .ranges) os (k - 1) (q .2) (max t (q .0 .cached - 1)) (q .10) in
       let r4 : re ≡ q .0 .requiredEnd = rw (er, q .4) in
@@ -152,7 +160,7 @@ module _ (E : Lent) (ix : Index) (p : ℕ) (k o : ℕ) (st : List ℕ) (t c : �
       }
 
   -- its words with its children's put back, where they have been asked up to that document
-  pub boolean-rejoined : (re oe : ℕ) (w′ : List ℕ) (x : Option Float) (j : Joining) (need : ℕ) (rs os ps : Scorers) → NodeHeld E ix p (boolean x j need rs os ps) k o st t → BooleanHeld E ix p rs os ps (k - 1) re oe w′ t → Ok ix (E .ranges) (boolean x j need rs os ps) k o (take 24 st ++ (w′ ++ drop (length st - 24) (drop 24 st))) t
+  pub boolean-rejoined : (re oe : ℕ) (w′ : List ℕ) (x : Option Float) (j : Joining) (need : ℕ) (rs os ps : Scorers) → NodeHeld E ix p (boolean x j need rs os ps) k o st t → BooleanHeld E ix p rs os ps (k - 1) re oe w′ t → Ok ix (E .ranges) (boolean x j need rs os ps) k o (take nodeStateWords st ++ (w′ ++ drop (length st - nodeStateWords) (drop nodeStateWords st))) t
   unfolding Ok
   boolean-rejoined re oe w′ x j need rs os ps h v =
       let q = h .ok in
@@ -252,16 +260,16 @@ module _ (E : Lent) (ix : Index) (p : ℕ) (k o : ℕ) (st : List ℕ) (t c : �
     node-asked e r st′ post (boolean x j need rs os ps) h = absurd (e (rw (ek, h .ok .4) (h .ok .7 .kind-is)))
 
     module _ (is-3 : kind ≡ 3) (n : ℕ) (en : n ≡ getD st 3 0) (re oe : ℕ) (er : re ≡ getD st 4 0) (eo : oe ≡ getD st 5 0) where
-      children-held : (x : Option Float) (j : Joining) (need : ℕ) (rs os ps : Scorers) → NodeHeld E ix p (boolean x j need rs os ps) k o st t → BooleanHeld E ix p rs os ps (k - 1) re oe (take (length st - 24) (drop 24 st)) t
+      children-held : (x : Option Float) (j : Joining) (need : ℕ) (rs os ps : Scorers) → NodeHeld E ix p (boolean x j need rs os ps) k o st t → BooleanHeld E ix p rs os ps (k - 1) re oe (take (length st - nodeStateWords) (drop nodeStateWords st)) t
       children-held x j need rs os ps h = boolean-children E ix p k o st t c ec (omega arith) re oe er eo x j need rs os ps h
 
-      pub node-boolean : (T : Scorer) → NodeHeld E ix p T k o st t → (0 < k) × ((rs : Scorers) × (os : Scorers) × (ps : Scorers) × BooleanHeld E ix p rs os ps (k - 1) re oe (take (length st - 24) (drop 24 st)) t)
+      pub node-boolean : (T : Scorer) → NodeHeld E ix p T k o st t → (0 < k) × ((rs : Scorers) × (os : Scorers) × (ps : Scorers) × BooleanHeld E ix p rs os ps (k - 1) re oe (take (length st - nodeStateWords) (drop nodeStateWords st)) t)
       unfolding Ok
       node-boolean (leaf l sc) h = absurd (leaf-kind ix (E .ranges) l (h .ok .0) (h .ok .1) (max t (h .ok .0 .cached - 1)) (h .ok .4) (sym (rw (ek, h .ok .2) at (sym is-3))))
       node-boolean (boolean x j need rs os ps) h = (h .ok .6, (rs, os, ps, children-held x j need rs os ps h))
 
-      pub node-joined : (r : ℕ) (w′ : List ℕ) → BooleanPost E (take (length st - 24) (drop 24 st)) re oe n t (k - 1) r w′ → (T : Scorer) → NodeHeld E ix p T k o st t
-          → First (matches ix T) t r × Ok ix (E .ranges) T k o (set (take 24 st ++ (w′ ++ drop (length st - 24) (drop 24 st))) 2 (r + 1)) t
+      pub node-joined : (r : ℕ) (w′ : List ℕ) → BooleanPost E (take (length st - nodeStateWords) (drop nodeStateWords st)) re oe n t (k - 1) r w′ → (T : Scorer) → NodeHeld E ix p T k o st t
+          → First (matches ix T) t r × Ok ix (E .ranges) T k o (set (take nodeStateWords st ++ (w′ ++ drop (length st - nodeStateWords) (drop nodeStateWords st))) 2 (r + 1)) t
       unfolding Ok
       node-joined r w′ post (leaf l sc) h = absurd (leaf-kind ix (E .ranges) l (h .ok .0) (h .ok .1) (max t (h .ok .0 .cached - 1)) (h .ok .4) (sym (rw (ek, h .ok .2) at (sym is-3))))
       node-joined r w′ post (boolean x j need rs os ps) h =

@@ -6,7 +6,7 @@ use mathlib.Core.List.{List, [], _∷_, _++_}
 use Prim.Native.Nat.{ℕ, suc, _+_, _-_, _*_, _≤_, _<_}
 use lib.ListN.{length, getD}
 use lib.Dec.{leb, ltb}
-use Rattle.meaning.specs.Limits.{noMoreDocs}
+use Rattle.meaning.specs.Limits.{noMoreDocs, nodeStateWords}
 use Rattle.meaning.specs.Lent.{Index}
 use Rattle.meaning.specs.First.{First}
 use Rattle.weight.specs.ScorerTree.{Scorer, Scorers, matches, allMatch, anyMatches, matching}
@@ -69,7 +69,7 @@ PartsPre E a b kids target depth = (target ≤ noMoreDocs) × ((ix : Index) × (
 
 -- what a loop over the parts may read at a place, and what it reads there
 pub record ChildAt (kids : List ℕ) (at : ℕ) : Type 0 where
-  pub long : 24 ≤ getD kids (at + 1) 0
+  pub long : nodeStateWords ≤ getD kids (at + 1) 0
   pub fits : at + getD kids (at + 1) 0 ≤ length kids
 
 pub record ChildRead (kids : List ℕ) (at e c : ℕ) : Type 0 where

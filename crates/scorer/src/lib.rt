@@ -1,14 +1,13 @@
-// Scorers over a lent state: the words of a node are its record of 24 and then its children's parts, one after the other.
+// Scorers over a lent state: the words of a node are its record and then its children's parts, one after the other.
 ghost use Prim.Native.Nat.{ℕ, _+_, _≤_, _<_};
 ghost use mathlib.Core.Path.{_≡_};
 ghost use lib.ListN.{length, getD};
+ghost use Rattle.meaning.specs.Limits.{nodeStateWords};
 ghost use Rattle.scorer.specs.Contracts.{AdvancePre, AdvancePost, TermPre, TermPost, RangePre, RangePost, AskPre, AskPost, PartsPre, ChildAt, ChildRead, Tally, LeastPost, DisjunctionPost, PassPost, LeadPre, StepPost, LeadPost, BooleanPre, BooleanPost, HeadRead, BooleanRead};
 ghost use Rattle.leaf_scorer.specs.Contracts.{lent};
 use index::wide;
 use leaf_scorer::NO_MORE_DOCS;
-
-// The words of a record, where children begin.
-const RECORD: usize = 24;
+use weight::NODE_STATE_WORDS;
 
 const TERM: u32 = 1;
 
@@ -49,7 +48,7 @@ pub struct Head {
 }
 
 fn head_at(st: &[u32]) -> Head
-    requires { ⌜ 24 ≤ length (now st) ⌝ }
+    requires { ⌜ nodeStateWords ≤ length (now st) ⌝ }
     ensures { λ r. ⌜ HeadRead (now (st .entry)) (r .kind) (r .cached) ⌝ }
 {
     Head {
@@ -65,7 +64,7 @@ pub struct Boolean {
 }
 
 fn boolean_at(st: &[u32]) -> Boolean
-    requires { ⌜ 24 ≤ length (now st) ⌝ }
+    requires { ⌜ nodeStateWords ≤ length (now st) ⌝ }
     ensures { λ r. ⌜ BooleanRead (now (st .entry)) (r .need) (r .required) (r .optional) ⌝ }
 {
     Boolean {
@@ -176,7 +175,7 @@ pub fn advance(
     }
     if h.kind == BOOLEAN {
         let n = boolean_at(st);
-        let kids = &mut st[RECORD..];
+        let kids = &mut st[NODE_STATE_WORDS..];
         let d = excluding(
             kids,
             max_doc,
@@ -414,11 +413,11 @@ fn pass(
     while at < kids.len() {
         let kind = kind_at(kids, at);
         if kind == TERM {
-            let end = at + RECORD;
+            let end = at + NODE_STATE_WORDS;
             d = advance_term(&mut kids[at..end], postings, d);
             at = end;
         } else if kind == RANGE {
-            let end = at + RECORD;
+            let end = at + NODE_STATE_WORDS;
             d = advance_range(&mut kids[at..end], ranges, d);
             at = end;
         } else {
@@ -502,7 +501,7 @@ fn least(
     let mut at = 0;
     while at < kids.len() {
         if kind_at(kids, at) == TERM {
-            let end = at + RECORD;
+            let end = at + NODE_STATE_WORDS;
             let d = advance_term(&mut kids[at..end], postings, target);
             let x = tally(best, count, d);
             best = x.doc;

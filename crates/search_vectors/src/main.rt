@@ -8,6 +8,7 @@ use vectors::file::bytes_at;
 use vectors::file::list_at;
 use vectors::file::size;
 use vectors::file::word;
+use weight::NODE_STATE_WORDS;
 
 fn print_refused(number: u32) {
     io::write_all(1, b"refused ");
@@ -37,7 +38,7 @@ fn search(
     k: u32,
     t: u32,
 ) {
-    let mut states = [0xdead_beefu32; 6144];
+    let mut states = [0xdead_beefu32; 256 * NODE_STATE_WORDS];
     let mut a = [7i32; 64];
     let mut b = [-7i32; 64];
     let mut ranges = [0xdead_beefu32; 1024];
@@ -87,7 +88,7 @@ fn page(
     documents: &mut [u32],
     scores: &mut [u32],
 ) {
-    let mut states = [0xdead_beefu32; 6144];
+    let mut states = [0xdead_beefu32; 256 * NODE_STATE_WORDS];
     let mut a = [-7i32; 64];
     let mut b = [7i32; 64];
     let mut ranges = [0xdead_beefu32; 1024];

@@ -8,6 +8,7 @@ use native.Mathlib.Nat.{le-refl, le-trans, le-of-eq, mul-one, mul-add}
 use native.Mathlib.Omega.{arith}
 use lib.ListN.{length}
 use lib.Ieee.{Float, binary32, ofBits}
+use Rattle.meaning.specs.Limits.{nodeStateWords}
 use Rattle.meaning.specs.Lent.{Index, leafIdf}
 use Rattle.meaning.specs.Ieee754.{zeroFloat}
 use Rattle.meaning.specs.Bm25.{weight}
@@ -93,15 +94,15 @@ unfolding sizesOf scorersOf total
 sizes-total [] = refl
 sizes-total (r ∷ rs) = let i = sizes-total rs in omega (arith, i)
 
-leaf-size : (l : Leaf) (s : Scoring) → sizeOf (leaf l s) ≤ 24 * leafRecords l
+leaf-size : (l : Leaf) (s : Scoring) → sizeOf (leaf l s) ≤ nodeStateWords * leafRecords l
 unfolding sizeOf leafSize
-leaf-size nothing s = le-refl 24
-leaf-size (term l) s = le-refl 24
+leaf-size nothing s = le-refl nodeStateWords
+leaf-size (term l) s = le-refl nodeStateWords
 leaf-size (phrase f ts) s = omega arith
-leaf-size (range r) s = le-refl 24
-leaf-size everything s = le-refl 24
+leaf-size (range r) s = le-refl nodeStateWords
+leaf-size everything s = le-refl nodeStateWords
 
-boolean-size : (ix : Index) (msm : ℕ) (cs : Clauses) (c : Option Float) (rs : List Ready) → sizeOf (booleanOf ix msm cs c rs) ≤ 24 + total sizeOf rs
+boolean-size : (ix : Index) (msm : ℕ) (cs : Clauses) (c : Option Float) (rs : List Ready) → sizeOf (booleanOf ix msm cs c rs) ≤ nodeStateWords + total sizeOf rs
 unfolding sizeOf booleanOf
 boolean-size ix msm cs c rs =
     let a = sizes-total (cheapestFirst (chosen isRequired rs)) in
@@ -111,12 +112,12 @@ boolean-size ix msm cs c rs =
     let h = total-chosen sizeOf rs in
     omega (arith, a, s, o, p, h)
 
--- THE theorem: 24 words for each record suffice
-pub weigh-size : (ix : Index) (t : Tree) (b : Float) (c : Option Float) → sizeOf (weigh ix t b c) ≤ 24 * records t
-weigh-size = weigh-most sizeOf 24 leaf-size boolean-size
+-- THE theorem: `nodeStateWords` words for each record suffice
+pub weigh-size : (ix : Index) (t : Tree) (b : Float) (c : Option Float) → sizeOf (weigh ix t b c) ≤ nodeStateWords * records t
+weigh-size = weigh-most sizeOf nodeStateWords leaf-size boolean-size
 
-pub readied-size : (ix : Index) (cs : Clauses) (b : Float) → total sizeOf (readied ix cs b) ≤ 24 * recordsOf cs
-readied-size = readied-most sizeOf 24 leaf-size boolean-size
+pub readied-size : (ix : Index) (cs : Clauses) (b : Float) → total sizeOf (readied ix cs b) ≤ nodeStateWords * recordsOf cs
+readied-size = readied-most sizeOf nodeStateWords leaf-size boolean-size
 
 -- ---- the nodes
 nodes-total : (rs : List Ready) → nodesOf (scorersOf rs) ≡ total nodes rs

@@ -8,7 +8,7 @@ use lib.Dec.{T}
 use lib.ListN.{length, getD}
 use lib.Ieee.{Float, binary32, fits, toBits}
 use Rattle.meaning.specs.Below.{countBelow}
-use Rattle.meaning.specs.Limits.{noMoreDocs}
+use Rattle.meaning.specs.Limits.{noMoreDocs, nodeStateWords}
 use Rattle.meaning.specs.Lent.{Index, hasNorms, leafFirst, leafNumber, leafField, leafDocument}
 use Rattle.meaning.specs.Range.{NumericRange, rangeDocuments}
 use Rattle.meaning.specs.Phrase.{PhraseTerm, phraseFrequency}
@@ -33,7 +33,7 @@ normsWord ix f = cond (hasNorms ix f) (suc (countBelow f (hasNorms ix) * ix .max
 -- the words of a term, and of a phrase's term, which stands one bound with its phrase
 pub record TermIs (ix : Index) (kind l : ℕ) (s : State) (b : ℕ) : Type 0 where
   pub kind-is : s .kind ≡ kind
-  pub size-is : s .size ≡ 24
+  pub size-is : s .size ≡ nodeStateWords
   pub first-is : s .first ≡ leafFirst ix l
   pub number-is : s .number ≡ leafNumber ix l
   pub field-is : s .field ≡ leafField ix l
@@ -43,7 +43,7 @@ pub record TermIs (ix : Index) (kind l : ℕ) (s : State) (b : ℕ) : Type 0 whe
 -- the words of a range, whose documents stand in the range buffer
 pub record RangeIs (ix : Index) (ranges : List ℕ) (r : NumericRange) (s : State) (b : ℕ) : Type 0 where
   pub kind-is : s .kind ≡ 4
-  pub size-is : s .size ≡ 24
+  pub size-is : s .size ≡ nodeStateWords
   pub number-is : s .number ≡ length (rangeDocuments ix r)
   pub there : s .first + s .number ≤ length ranges
   pub listed : (i : ℕ) → i < s .number → getD ranges (s .first + i) 0 ≡ getD (rangeDocuments ix r) i 0
@@ -66,11 +66,11 @@ pub record PhraseIs (ix : Index) (f : ℕ) (ts : List PhraseTerm) (s : State) (w
 
 -- the words of a leaf, w those after its record, but for its cache and its scoring
 unfoldable pub LeafIs : Index → List ℕ → Leaf → State → List ℕ → ℕ → Type 0
-LeafIs ix ranges nothing s w b = (s .kind ≡ 0) × (s .size ≡ 24) × (s .cached ≡ suc noMoreDocs) × (w ≡ [])
+LeafIs ix ranges nothing s w b = (s .kind ≡ 0) × (s .size ≡ nodeStateWords) × (s .cached ≡ suc noMoreDocs) × (w ≡ [])
 LeafIs ix ranges (term l) s w b = TermIs ix 1 l s b × (w ≡ [])
 LeafIs ix ranges (phrase f ts) s w b = PhraseIs ix f ts s w b
 LeafIs ix ranges (range r) s w b = RangeIs ix ranges r s b × (w ≡ [])
-LeafIs ix ranges everything s w b = (s .kind ≡ 5) × (s .size ≡ 24) × (w ≡ [])
+LeafIs ix ranges everything s w b = (s .kind ≡ 5) × (s .size ≡ nodeStateWords) × (w ≡ [])
 
 -- a score in words: a binary32 value from 0 to 2^29
 pub record FloatIs (x : Float) (bits : ℕ) : Type 0 where

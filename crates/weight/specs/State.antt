@@ -1,8 +1,9 @@
--- The layout of a node state: 24 words for each scorer and each term of a phrase, a node's record first and then its children's parts, one after the other.
+-- The layout of a node state: `nodeStateWords` words for each scorer and each term of a phrase, a node's record first and then its children's parts, one after the other.
 -- Assumes nothing: these are definitions.
 use mathlib.Core.List.{List, [], _∷_}
 use Prim.Native.Nat.{ℕ, zero, suc, _+_, _*_}
 use lib.ListN.{length}
+use Rattle.meaning.specs.Limits.{nodeStateWords}
 use Rattle.weight.specs.ScorerTree.{Leaf, nothing, term, phrase, range, everything, Scorer, leaf, boolean, Scorers, end, more}
 
 pub record State : Type 0 where
@@ -44,24 +45,32 @@ pub record State : Type 0 where
   pub spare3 : ℕ
   pub spare4 : ℕ
   pub spare5 : ℕ
+  pub spare6 : ℕ
+  pub spare7 : ℕ
+  pub spare8 : ℕ
+  pub spare9 : ℕ
+  pub spare10 : ℕ
+  pub spare11 : ℕ
+  pub spare12 : ℕ
+  pub spare13 : ℕ
 
 -- the record's words, in order
 abbrev pub wordsOf : State → List ℕ
 wordsOf s =
-    s .kind ∷ s .size ∷ s .cached ∷ s .need ∷ s .requiredEnd ∷ s .optionalEnd ∷ s .first ∷ s .number ∷ s .cursor ∷ s .offset ∷ s .field ∷ s .constant ∷ s .weight ∷ s .afterwards ∷ s .groupAt ∷ s .scores ∷ s .frequencyOf ∷ s .frequency ∷ s .norms ∷ s .spare1 ∷ s .spare2 ∷ s .spare3 ∷ s .spare4 ∷ s .spare5 ∷ []
+    s .kind ∷ s .size ∷ s .cached ∷ s .need ∷ s .requiredEnd ∷ s .optionalEnd ∷ s .first ∷ s .number ∷ s .cursor ∷ s .offset ∷ s .field ∷ s .constant ∷ s .weight ∷ s .afterwards ∷ s .groupAt ∷ s .scores ∷ s .frequencyOf ∷ s .frequency ∷ s .norms ∷ s .spare1 ∷ s .spare2 ∷ s .spare3 ∷ s .spare4 ∷ s .spare5 ∷ s .spare6 ∷ s .spare7 ∷ s .spare8 ∷ s .spare9 ∷ s .spare10 ∷ s .spare11 ∷ s .spare12 ∷ s .spare13 ∷ []
 
 -- the words that a scorer takes
 unfoldable pub leafSize : Leaf → ℕ
-leafSize nothing = 24
-leafSize (term l) = 24
-leafSize (phrase f ts) = 24 + 24 * length ts
-leafSize (range r) = 24
-leafSize everything = 24
+leafSize nothing = nodeStateWords
+leafSize (term l) = nodeStateWords
+leafSize (phrase f ts) = nodeStateWords + nodeStateWords * length ts
+leafSize (range r) = nodeStateWords
+leafSize everything = nodeStateWords
 
 unfoldable mutual
   pub sizeOf : Scorer → ℕ
   sizeOf (leaf l s) = leafSize l
-  sizeOf (boolean c j need rs os ps) = 24 + (sizesOf rs + (sizesOf os + sizesOf ps))
+  sizeOf (boolean c j need rs os ps) = nodeStateWords + (sizesOf rs + (sizesOf os + sizesOf ps))
 
   pub sizesOf : Scorers → ℕ
   sizesOf end = 0

@@ -8,7 +8,7 @@ const LAST_DOCUMENT: u32 = 2_147_483_646;
 const INFINITY: u32 = 0x7f80_0000;
 
 /// Words of a node state.
-pub const STATE: usize = 24;
+pub const NODE_STATE_WORDS: usize = 32;
 
 /// Numbers that Search and Pick answer, and Page.
 pub const FOUND: usize = 3;
@@ -110,7 +110,7 @@ pub(super) fn needed(case: &Case) -> Lengths {
     let starts = frequencies.max().unwrap_or(0) as usize;
     let lists = if ranges == 0 { 0 } else { ranges + 1 };
     Lengths {
-        states: STATE * records.len(),
+        states: NODE_STATE_WORDS * records.len(),
         starts,
         other_starts: starts,
         ranges: case.n as usize * lists,

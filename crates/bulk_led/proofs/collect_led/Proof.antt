@@ -8,6 +8,7 @@ use native.Mathlib.Omega.{arith}
 use lib.IntN.{ℤ}
 use lib.Ieee.{Float}
 use lib.ListN.{length, getD, length-drop, length-take}
+use Rattle.meaning.specs.Limits.{nodeStateWords}
 use Rattle.bulk_led.proofs.LedLoop.{LedCall, Case, Fixed, LedAt, led-start, lead-there, led-done, led-ready, low-at, led-few, led-asks, led-skip, led-score-asks, led-score-fits, led-clear, led-take}
 use Rattle.bulk_led.proofs.collect_led.Statement.{statement}
 use Rattle.bulk_led.proofs.collect_led.Tie as tie
@@ -68,7 +69,7 @@ loop-holds : tie.Need-loop-holds Inv-loop μ-loop
 loop-holds c =
     let s = c .before .before .before .before .before .before .before .before .before .before .before .before .before in
     let K = call (s .args .st .now) (s .args .postings .now) (s .args .norms .now) (s .args .ranges .now) (s .args .inverses .now) (s .args .live .now) (s .args .t) (s .args .heap .now) in
-    let F : Fixed K (c .before .before .before .before .node-at .result) (getD (s .args .st .now) 39 0) (24 + c .before .wide .result) = record { words = s .pre .1 .0; node = c .before .before .before .before .node-at .ensures; scores-is = refl; at-is = ap (λ (x : ℕ). 24 + x) (c .before .wide .ensures) } in
+    let F : Fixed K (c .before .before .before .before .node-at .result) (getD (s .args .st .now) (nodeStateWords + 15) 0) (nodeStateWords + c .before .wide .result) = record { words = s .pre .1 .0; node = c .before .before .before .before .node-at .ensures; scores-is = refl; at-is = ap (λ (x : ℕ). nodeStateWords + x) (c .before .wide .ensures) } in
     (refl, refl, (F, λ k. led-start K _ _ _ F k (c .new .result) (c .new .ensures) (s .pre .0 .0) (s .pre .0 .1)))
 
 lead-document-requires : tie.Need-lead-document-requires Inv-loop μ-loop

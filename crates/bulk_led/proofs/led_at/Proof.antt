@@ -2,9 +2,10 @@
 use mathlib.Core.Path.{_≡_, refl, sym, ap, _∙_}
 use mathlib.Core.Bool.{Bool, true, false, not, _&&_, false≢true, true≢false}
 use mathlib.Core.List.{_++_}
-use Prim.Native.Nat.{_-_}
+use Prim.Native.Nat.{_-_, _*_}
 use native.Mathlib.Omega.{arith}
 use lib.ListN.{length, take, drop}
+use Rattle.meaning.specs.Limits.{nodeStateWords}
 use Rattle.meaning.specs.Live.{isLive}
 use Rattle.index.specs.Slices.{liveOnly}
 use Rattle.weight.specs.ScorerTree.{allMatch, anyMatches}
@@ -69,7 +70,7 @@ same-length : tie.Need-same-length
 same-length c =
     let s = c .before .before .before .before .before .before .before .before .before .before in
     let d = c .before .before .before .all-at in
-    back-length (s .args .st .now) (d .last .0) 48 (s .args .at) (d .kept .0)
+    back-length (s .args .st .now) (d .last .0) (2 * nodeStateWords) (s .args .at) (d .kept .0)
 
 returns-2 : tie.Need-returns-2
 returns-2 c =
@@ -83,25 +84,25 @@ mul-any-at : tie.Need-mul-any-at
 mul-any-at c =
     let s = c .before .before .before .before .before .before .before .before .before .before in
     let d = c .before .before .before .all-at in
-    omega (arith, led-fits (s .pre .2 .8), back-length (s .args .st .now) (d .last .0) 48 (s .args .at) (d .kept .0), s .good)
+    omega (arith, led-fits (s .pre .2 .8), back-length (s .args .st .now) (d .last .0) (2 * nodeStateWords) (s .args .at) (d .kept .0), s .good)
 
 sub-any-at : tie.Need-sub-any-at
 sub-any-at c =
     let s = c .before .before .before .before .before .before .before .before .before .before in
     let d = c .before .before .before .all-at in
-    omega (arith, led-fits (s .pre .2 .8), back-length (s .args .st .now) (d .last .0) 48 (s .args .at) (d .kept .0), s .good)
+    omega (arith, led-fits (s .pre .2 .8), back-length (s .args .st .now) (d .last .0) (2 * nodeStateWords) (s .args .at) (d .kept .0), s .good)
 
 part-any-at-start : tie.Need-part-any-at-start
 part-any-at-start c =
     let s = c .before .before .before .before .before .before .before .before .before .before in
     let d = c .before .before .before .all-at in
-    omega (arith, led-fits (s .pre .2 .8), back-length (s .args .st .now) (d .last .0) 48 (s .args .at) (d .kept .0), s .good)
+    omega (arith, led-fits (s .pre .2 .8), back-length (s .args .st .now) (d .last .0) (2 * nodeStateWords) (s .args .at) (d .kept .0), s .good)
 
 part-any-at-end : tie.Need-part-any-at-end
 part-any-at-end c =
     let s = c .before .before .before .before .before .before .before .before .before .before in
     let d = c .before .before .before .all-at in
-    omega (arith, led-fits (s .pre .2 .8), back-length (s .args .st .now) (d .last .0) 48 (s .args .at) (d .kept .0), s .good)
+    omega (arith, led-fits (s .pre .2 .8), back-length (s .args .st .now) (d .last .0) (2 * nodeStateWords) (s .args .at) (d .kept .0), s .good)
 
 any-at-requires : tie.Need-any-at-requires
 any-at-requires c κs =
@@ -117,8 +118,8 @@ same-length-2 c =
     let s = c .before .before .before .before .before .before .before .before .before .before .before .before .before .before in
     let d = c .before .before .before .before .before .before .before .all-at in
     let g = c .before .before .any-at in
-    let v = take 48 (s .args .st .now) ++ (d .last .0 ++ drop (s .args .at - 48) (drop 48 (s .args .st .now))) in
-    back-length v (g .last .0) (s .args .at) (length v) (g .kept .0) ∙ back-length (s .args .st .now) (d .last .0) 48 (s .args .at) (d .kept .0)
+    let v = take (2 * nodeStateWords) (s .args .st .now) ++ (d .last .0 ++ drop (s .args .at - 2 * nodeStateWords) (drop (2 * nodeStateWords) (s .args .st .now))) in
+    back-length v (g .last .0) (s .args .at) (length v) (g .kept .0) ∙ back-length (s .args .st .now) (d .last .0) (2 * nodeStateWords) (s .args .at) (d .kept .0)
 
 returns-3 : tie.Need-returns-3
 returns-3 c =

@@ -4,6 +4,7 @@ use mathlib.Core.Path.{_≡_, refl, sym, _∙_}
 use Prim.Native.Nat.{_+_, _-_}
 use native.Mathlib.Omega.{arith}
 use lib.ListN.{length}
+use Rattle.meaning.specs.Limits.{nodeStateWords}
 use Rattle.meaning.specs.Lent.{Index}
 use Rattle.weight.specs.ScorerTree.{Scorers}
 use Rattle.score.proofs.Parts.{back-length}
@@ -55,7 +56,7 @@ add-postings-requires c κs =
     let l = c .before .before .before .before .loop in
     let P = s .pre .1 in
     let v = terms-open (P .0) (s .args .inverses .now) (s .args .base) (P .1) (l .kids) (l .at) (l .least) (l .sums) (l .counts) (l .inv .3 (P .0) (P .1) (P .2)) (c .before .before .before .loop-test .taken) in
-    (record { sums-long = l .inv .1; counts-long = l .inv .2; few = view-few (P .0) (s .args .inverses .now) (s .args .base) (P .1) (l .kids) (l .at) (l .least) (l .sums) (l .counts) v }, (P .0, v .l, v .sc, P .2 .lending, view-held (P .0) (s .args .inverses .now) (s .args .base) (P .1) (l .kids) (l .at) (l .least) (l .sums) (l .counts) v (l .at + 24) refl))
+    (record { sums-long = l .inv .1; counts-long = l .inv .2; few = view-few (P .0) (s .args .inverses .now) (s .args .base) (P .1) (l .kids) (l .at) (l .least) (l .sums) (l .counts) v }, (P .0, v .l, v .sc, P .2 .lending, view-held (P .0) (s .args .inverses .now) (s .args .base) (P .1) (l .kids) (l .at) (l .least) (l .sums) (l .counts) v (l .at + nodeStateWords) refl))
 
 lesser-requires : tie.Need-lesser-requires Inv-loop μ-loop
 lesser-requires c κs = search needs
@@ -64,7 +65,7 @@ loop-less : tie.Need-loop-less Inv-loop μ-loop
 loop-less c =
     let l = c .before .before .before .before .before .before .before .before .before .before .before .before .loop in
     let a = c .before .before .before .before .before .before .before .add-postings in
-    omega (arith, c .before .before .before .before .before .before .before .before .before .before .before .loop-test .taken, back-length (l .kids) (a .last .0) (l .at) (l .at + 24) (a .kept .0))
+    omega (arith, c .before .before .before .before .before .before .before .before .before .before .before .loop-test .taken, back-length (l .kids) (a .last .0) (l .at) (l .at + nodeStateWords) (a .kept .0))
 
 loop-again : tie.Need-loop-again Inv-loop μ-loop
 loop-again c =
@@ -73,13 +74,13 @@ loop-again c =
     let a = c .before .before .before .before .before .before .before .add-postings in
     let w = c .lesser in
     let m = c .before .before .before .before .before .before .before .before .before .before .before .loop-test .taken in (
-      back-length (l .kids) (a .last .0) (l .at) (l .at + 24) (a .kept .0) ∙ l .inv .0,
+      back-length (l .kids) (a .last .0) (l .at) (l .at + nodeStateWords) (a .kept .0) ∙ l .inv .0,
       a .kept .1 .1 .1 .1 .1 .0 ∙ l .inv .1,
       a .kept .1 .1 .1 .1 .1 .1 .0 ∙ l .inv .2,
       λ ix ss K.
           let v = terms-open ix (s .args .inverses .now) (s .args .base) ss (l .kids) (l .at) (l .least) (l .sums) (l .counts) (l .inv .3 ix ss K) m in
-          terms-more ix (s .args .inverses .now) (s .args .base) ss (l .kids) (l .at) (l .least) (l .sums) (l .counts) v (l .at + 24) refl (a .last .0) (a .last .1 .1 .1 .1 .1 .0) (a .last .1 .1 .1 .1 .1 .1 .0) (a .result) (w .result)
-          (a .ensures ix (v .l) (v .sc) (K .lending) (view-held ix (s .args .inverses .now) (s .args .base) ss (l .kids) (l .at) (l .least) (l .sums) (l .counts) v (l .at + 24) refl)) (w .ensures),
+          terms-more ix (s .args .inverses .now) (s .args .base) ss (l .kids) (l .at) (l .least) (l .sums) (l .counts) v (l .at + nodeStateWords) refl (a .last .0) (a .last .1 .1 .1 .1 .1 .0) (a .last .1 .1 .1 .1 .1 .1 .0) (a .result) (w .result)
+          (a .ensures ix (v .l) (v .sc) (K .lending) (view-held ix (s .args .inverses .now) (s .args .base) ss (l .kids) (l .at) (l .least) (l .sums) (l .counts) v (l .at + nodeStateWords) refl)) (w .ensures),
     )
 
 same-length : tie.Need-same-length Inv-loop μ-loop

@@ -6,6 +6,7 @@ use Prim.Native.Nat.{ℕ, _-_}
 use native.Mathlib.Omega.{arith}
 use lib.ListN.{length, getD, drop, length-drop}
 use lib.Seq.{take-all}
+use Rattle.meaning.specs.Limits.{nodeStateWords}
 use Rattle.bulk_window.specs.Windows.{ByTerms}
 use Rattle.bulk_window.proofs.WindowRoots.{root-by-terms}
 use Rattle.bulk_window.proofs.collect_windows.Statement.{statement}
@@ -29,7 +30,7 @@ windows-requires c κs =
     let st = s .args .st .now in
     let P = s .pre .1 in
     let q = root-by-terms (P .0) (s .args .norms .now) (s .args .live .now) (s .args .inverses .now) (P .5 .0) (P .1) (P .2) (P .5 .2) st (s .args .postings .now) (P .4) (P .3) (P .5 .1) (P .5 .3) in
-    let all = take-all (length st - 24) (drop 24 st) (omega (arith, length-drop 24 st)) in
+    let all = take-all (length st - nodeStateWords) (drop nodeStateWords st) (omega (arith, length-drop nodeStateWords st)) in
     (s .pre .0, (P .5 .0, P .5 .1, q .0, subst (λ (w : List ℕ). ByTerms (P .5 .0) (P .5 .1) (q .0) (s .args .postings .now) (s .args .norms .now) (s .args .live .now) (s .args .inverses .now) (getD st 3 0) w) (sym all) (q .1)))
 
 same-length : tie.Need-same-length
@@ -43,7 +44,7 @@ returns c =
     let s = c .before .before .before .before .before .before .before .before .before .before .before .before in
     let st = s .args .st .now in
     let P = s .pre .1 in
-    let all = take-all (length st - 24) (drop 24 st) (omega (arith, length-drop 24 st)) in
+    let all = take-all (length st - nodeStateWords) (drop nodeStateWords st) (omega (arith, length-drop nodeStateWords st)) in
     λ E places depth same ix x scores H.
     let q = root-by-terms E (s .args .norms .now) (s .args .live .now) (s .args .inverses .now) ix places depth scores st (s .args .postings .now) (P .4) same x H in
     c .before .before .before .windows .ensures ix x (q .0) (subst (λ (w : List ℕ). ByTerms ix x (q .0) (s .args .postings .now) (s .args .norms .now) (s .args .live .now) (s .args .inverses .now) (getD st 3 0) w) (sym all) (q .1))

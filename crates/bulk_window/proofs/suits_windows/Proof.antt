@@ -6,6 +6,7 @@ use Prim.Native.Nat.{ℕ, _+_, _-_, _≤_}
 use native.Mathlib.Omega.{arith}
 use lib.ListN.{length, drop, length-drop}
 use lib.Seq.{take-all}
+use Rattle.meaning.specs.Limits.{nodeStateWords}
 use Rattle.bulk_window.specs.Windows.{FreshTerms}
 use Rattle.bulk_window.proofs.suits_windows.Statement.{statement}
 use Rattle.bulk_window.proofs.suits_windows.Tie as tie
@@ -68,9 +69,9 @@ returns-6 c =
       kind = c .before .before .before .before .before .before .before .before .before .before .before .if1 .left;
       some = some _ (c .before .before .before .before .before .before .before .before .before .if2 .left);
       required = c .before .before .before .before .before .before .before .if3 .left;
-      prohibited = sym (ap (λ (n : ℕ). 24 + n) (w .ensures)) ∙ c .before .before .before .before .if4 .left;
+      prohibited = sym (ap (λ (n : ℕ). nodeStateWords + n) (w .ensures)) ∙ c .before .before .before .before .if4 .left;
       scored = c .before .before .if5 .left;
-      terms = subst FreshTerms (take-all (length (s .args .st .now) - 24) (drop 24 (s .args .st .now)) (omega (arith, length-drop 24 (s .args .st .now)))) (c .terms-only .ensures e);
+      terms = subst FreshTerms (take-all (length (s .args .st .now) - nodeStateWords) (drop nodeStateWords (s .args .st .now)) (omega (arith, length-drop nodeStateWords (s .args .st .now)))) (c .terms-only .ensures e);
     }
 
 pub suits-windows-spec : {M : Type 1} → statement M

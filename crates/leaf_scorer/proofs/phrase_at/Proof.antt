@@ -4,7 +4,7 @@ use mathlib.Core.List.{_++_}
 use Prim.Native.Nat.{_+_, _-_, _<_}
 use native.Mathlib.Omega.{arith}
 use lib.ListN.{length, take, drop, length-set}
-use Rattle.meaning.specs.Limits.{noMoreDocs}
+use Rattle.meaning.specs.Limits.{noMoreDocs, nodeStateWords}
 use Rattle.leaf_scorer.proofs.PhraseLaws.{moved-start, moved-long, moved-terms, moved-leapt, moved-later, moved-worked, leapt-behind, held-there, held-frequency}
 use Rattle.leaf_scorer.proofs.Asked.{asked-beyond, asked-leapt, asked-none, asked-stands}
 use borrow.Author.Needs.{needs}
@@ -73,7 +73,7 @@ slice-write-st : tie.Need-slice-write-st
 slice-write-st c = let s = (c .before .before .before .before .before .before .before .before .before .before .before .before .before .before .before .before .before) in let P = s .pre .1 in let m = moved-start (P .8) in let g = (c .before .before .before .before .before .before .before .before .before .before .before .before) .pass-terms in let q = g .ensures (P .0) (P .3) (moved-terms m (P .8 .accepted) (P .8 .postings-are) (held-there (P .8))) in omega (arith, moved-long (moved-leapt m (g .result .doc) (g .last .0) (q .are)))
 
 slice-write-st-2 : tie.Need-slice-write-st-2
-slice-write-st-2 c = let s = (c .before .before .before .before .before .before .before .before .before .before .before .before .before .before .before .before .before) in let P = s .pre .1 in let m = moved-start (P .8) in let g = (c .before .before .before .before .before .before .before .before .before .before .before .before) .pass-terms in let q = g .ensures (P .0) (P .3) (moved-terms m (P .8 .accepted) (P .8 .postings-are) (held-there (P .8))) in let y = take 24 (s .args .st .now) ++ (g .last .0 ++ drop (length (s .args .st .now) - 24) (drop 24 (s .args .st .now))) in omega (arith, moved-long (moved-leapt m (g .result .doc) (g .last .0) (q .are)), length-set y 16 (g .result .doc + 1))
+slice-write-st-2 c = let s = (c .before .before .before .before .before .before .before .before .before .before .before .before .before .before .before .before .before) in let P = s .pre .1 in let m = moved-start (P .8) in let g = (c .before .before .before .before .before .before .before .before .before .before .before .before) .pass-terms in let q = g .ensures (P .0) (P .3) (moved-terms m (P .8 .accepted) (P .8 .postings-are) (held-there (P .8))) in let y = take nodeStateWords (s .args .st .now) ++ (g .last .0 ++ drop (length (s .args .st .now) - nodeStateWords) (drop nodeStateWords (s .args .st .now))) in omega (arith, moved-long (moved-leapt m (g .result .doc) (g .last .0) (q .are)), length-set y 16 (g .result .doc + 1))
 
 same-length-6 : tie.Need-same-length-6
 same-length-6 c = search needs

@@ -6,7 +6,7 @@ use Rattle.leaf_scorer.specs.Phrases.{PhraseHeld, PhraseMoved}
 use lib.Dec.{ltb}
 use Rattle.meaning.specs.Phrase.{PhraseTerm, phraseFrequency}
 use Rattle.meaning.specs.Lent.{Index}
-use Rattle.meaning.specs.Limits.{noMoreDocs}
+use Rattle.meaning.specs.Limits.{noMoreDocs, nodeStateWords}
 use lib.Seq.{length-take-le}
 use lib.ListN.{length, getD, take, drop, set, length-set}
 use native.Mathlib.Nat.{le-refl, le-trans}
@@ -49,7 +49,7 @@ leapfrog-requires c κs = let s = (c .before .before .before .before .before) in
 
 -- src/leaves.rt:156:13
 same-length : tie.Need-same-length Inv-loop μ-loop
-same-length c = let a = (c .before .before .before .before .before) .loop in let g = (c .before .before .before) .leapfrog in back-length (a .st) (g .last .0) 24 (length (a .st)) (g .kept .0) ∙ a .inv .0 .kids-same
+same-length c = let a = (c .before .before .before .before .before) .loop in let g = (c .before .before .before) .leapfrog in back-length (a .st) (g .last .0) nodeStateWords (length (a .st)) (g .kept .0) ∙ a .inv .0 .kids-same
 
 -- src/leaves.rt:156:13
 same-length-2 : tie.Need-same-length-2 Inv-loop μ-loop
@@ -89,7 +89,7 @@ loop-less c = let s = (c .before .before .before .before .before .before .before
 
 -- src/leaves.rt:153:5
 loop-again : tie.Need-loop-again Inv-loop μ-loop
-loop-again c = let s = (c .before .before .before .before .before .before .before .before .before .before .before .before .before .before .before .before .before) in let P = s .pre .1 in let a = (c .before .before .before .before .before .before .before .before .before .before .before .before .before) .loop in let i = a .inv .2 (P .0) (P .1) (P .2) (P .3) (P .4) (P .5) (P .8) in let g = (c .before .before .before .before .before .before .before .before .before .before .before) .leapfrog in let x = (c .before .before .before) .frequency in let q = g .ensures (P .0) (P .3) (moved-terms (i .held) (P .8 .accepted) (P .8 .postings-are) (held-there (P .8))) in let d : g .result < noMoreDocs = omega (arith, q .top, (c .before .before .before .before .before .before .before .before) .if1 .left) in (record { kids-same = back-length (a .st) (g .last .0) 24 (length (a .st)) (g .kept .0) ∙ a .inv .0 .kids-same; a-same = x .kept .1 .1 .1 .0 ∙ a .inv .0 .a-same; b-same = x .kept .1 .1 .1 .1 .0 ∙ a .inv .0 .b-same }, omega arith, λ ix p f ts v w h. let i = a .inv .2 ix p f ts v w h in let q = g .ensures ix ts (moved-terms (i .held) (h .accepted) (h .postings-are) (held-there h)) in let m = moved-leapt (i .held) (g .result) (g .last .0) (q .are) in let e = x .ensures ix p f ts (g .result) (held-frequency h (g .result) _ (rw (leapt-behind (i .held) (g .last .0) _ refl) (q .stand d))) in record { lo = omega (arith, i .lo, q .from); before = phrase-more (i .lo) (i .before) q (x .result) e (c .if2 .taken); held = moved-later m (g .result + 1) (omega arith) })
+loop-again c = let s = (c .before .before .before .before .before .before .before .before .before .before .before .before .before .before .before .before .before) in let P = s .pre .1 in let a = (c .before .before .before .before .before .before .before .before .before .before .before .before .before) .loop in let i = a .inv .2 (P .0) (P .1) (P .2) (P .3) (P .4) (P .5) (P .8) in let g = (c .before .before .before .before .before .before .before .before .before .before .before) .leapfrog in let x = (c .before .before .before) .frequency in let q = g .ensures (P .0) (P .3) (moved-terms (i .held) (P .8 .accepted) (P .8 .postings-are) (held-there (P .8))) in let d : g .result < noMoreDocs = omega (arith, q .top, (c .before .before .before .before .before .before .before .before) .if1 .left) in (record { kids-same = back-length (a .st) (g .last .0) nodeStateWords (length (a .st)) (g .kept .0) ∙ a .inv .0 .kids-same; a-same = x .kept .1 .1 .1 .0 ∙ a .inv .0 .a-same; b-same = x .kept .1 .1 .1 .1 .0 ∙ a .inv .0 .b-same }, omega arith, λ ix p f ts v w h. let i = a .inv .2 ix p f ts v w h in let q = g .ensures ix ts (moved-terms (i .held) (h .accepted) (h .postings-are) (held-there h)) in let m = moved-leapt (i .held) (g .result) (g .last .0) (q .are) in let e = x .ensures ix p f ts (g .result) (held-frequency h (g .result) _ (rw (leapt-behind (i .held) (g .last .0) _ refl) (q .stand d))) in record { lo = omega (arith, i .lo, q .from); before = phrase-more (i .lo) (i .before) q (x .result) e (c .if2 .taken); held = moved-later m (g .result + 1) (omega arith) })
 
 -- src/leaves.rt:162:22
 add-st : tie.Need-add-st Inv-loop μ-loop
@@ -101,11 +101,11 @@ slice-write-st c = let s = (c .before .before .before .before .before .before .b
 
 -- src/leaves.rt:163:13
 slice-write-st-2 : tie.Need-slice-write-st-2 Inv-loop μ-loop
-slice-write-st-2 c = let s = (c .before .before .before .before .before .before .before .before .before .before .before .before .before .before .before .before .before) in let P = s .pre .1 in let a = (c .before .before .before .before .before .before .before .before .before .before .before .before .before) .loop in let i = a .inv .2 (P .0) (P .1) (P .2) (P .3) (P .4) (P .5) (P .8) in let g = (c .before .before .before .before .before .before .before .before .before .before .before) .leapfrog in let q = g .ensures (P .0) (P .3) (moved-terms (i .held) (P .8 .accepted) (P .8 .postings-are) (held-there (P .8))) in let m = moved-leapt (i .held) (g .result) (g .last .0) (q .are) in let y = take 24 (a .st) ++ (g .last .0 ++ drop (length (a .st) - 24) (drop 24 (a .st))) in omega (arith, moved-long m, length-set y 16 (g .result + 1))
+slice-write-st-2 c = let s = (c .before .before .before .before .before .before .before .before .before .before .before .before .before .before .before .before .before) in let P = s .pre .1 in let a = (c .before .before .before .before .before .before .before .before .before .before .before .before .before) .loop in let i = a .inv .2 (P .0) (P .1) (P .2) (P .3) (P .4) (P .5) (P .8) in let g = (c .before .before .before .before .before .before .before .before .before .before .before) .leapfrog in let q = g .ensures (P .0) (P .3) (moved-terms (i .held) (P .8 .accepted) (P .8 .postings-are) (held-there (P .8))) in let m = moved-leapt (i .held) (g .result) (g .last .0) (q .are) in let y = take nodeStateWords (a .st) ++ (g .last .0 ++ drop (length (a .st) - nodeStateWords) (drop nodeStateWords (a .st))) in omega (arith, moved-long m, length-set y 16 (g .result + 1))
 
 -- src/leaves.rt:164:13
 same-length-4 : tie.Need-same-length-4 Inv-loop μ-loop
-same-length-4 c = let a = (c .before .before .before .before .before .before .before .before .before .before .before .before .before) .loop in let g = (c .before .before .before .before .before .before .before .before .before .before .before) .leapfrog in simp length-set (back-length (a .st) (g .last .0) 24 (length (a .st)) (g .kept .0) ∙ a .inv .0 .kids-same)
+same-length-4 c = let a = (c .before .before .before .before .before .before .before .before .before .before .before .before .before) .loop in let g = (c .before .before .before .before .before .before .before .before .before .before .before) .leapfrog in simp length-set (back-length (a .st) (g .last .0) nodeStateWords (length (a .st)) (g .kept .0) ∙ a .inv .0 .kids-same)
 
 -- src/leaves.rt:164:13
 same-length-5 : tie.Need-same-length-5 Inv-loop μ-loop
@@ -117,7 +117,7 @@ same-length-6 c = let a = (c .before .before .before .before .before .before .be
 
 -- src/leaves.rt:164:13
 returns-2 : tie.Need-returns-2 Inv-loop μ-loop
-returns-2 c = let s = (c .before .before .before .before .before .before .before .before .before .before .before .before .before .before .before .before .before) in let P = s .pre .1 in let a = (c .before .before .before .before .before .before .before .before .before .before .before .before .before) .loop in let i = a .inv .2 (P .0) (P .1) (P .2) (P .3) (P .4) (P .5) (P .8) in let g = (c .before .before .before .before .before .before .before .before .before .before .before) .leapfrog in let x = (c .before .before .before) .frequency in let q = g .ensures (P .0) (P .3) (moved-terms (i .held) (P .8 .accepted) (P .8 .postings-are) (held-there (P .8))) in let d : g .result < noMoreDocs = omega (arith, q .top, (c .before .before .before .before .before .before .before .before) .if1 .left) in λ ix p f ts v w h. let i = a .inv .2 ix p f ts v w h in let q = g .ensures ix ts (moved-terms (i .held) (h .accepted) (h .postings-are) (held-there h)) in let m = moved-leapt (i .held) (g .result) (g .last .0) (q .are) in let e = x .ensures ix p f ts (g .result) (held-frequency h (g .result) _ (rw (leapt-behind (i .held) (g .last .0) _ refl) (q .stand d))) in (phrase-hit (i .lo) (i .before) q (x .result) e (c .if2 .left), moved-worked m (x .result) e, λ k. stored-at (take 24 (a .st) ++ (g .last .0 ++ drop (length (a .st) - 24) (drop 24 (a .st)))) (g .result + 1) (x .result) (moved-long m))
+returns-2 c = let s = (c .before .before .before .before .before .before .before .before .before .before .before .before .before .before .before .before .before) in let P = s .pre .1 in let a = (c .before .before .before .before .before .before .before .before .before .before .before .before .before) .loop in let i = a .inv .2 (P .0) (P .1) (P .2) (P .3) (P .4) (P .5) (P .8) in let g = (c .before .before .before .before .before .before .before .before .before .before .before) .leapfrog in let x = (c .before .before .before) .frequency in let q = g .ensures (P .0) (P .3) (moved-terms (i .held) (P .8 .accepted) (P .8 .postings-are) (held-there (P .8))) in let d : g .result < noMoreDocs = omega (arith, q .top, (c .before .before .before .before .before .before .before .before) .if1 .left) in λ ix p f ts v w h. let i = a .inv .2 ix p f ts v w h in let q = g .ensures ix ts (moved-terms (i .held) (h .accepted) (h .postings-are) (held-there h)) in let m = moved-leapt (i .held) (g .result) (g .last .0) (q .are) in let e = x .ensures ix p f ts (g .result) (held-frequency h (g .result) _ (rw (leapt-behind (i .held) (g .last .0) _ refl) (q .stand d))) in (phrase-hit (i .lo) (i .before) q (x .result) e (c .if2 .left), moved-worked m (x .result) e, λ k. stored-at (take nodeStateWords (a .st) ++ (g .last .0 ++ drop (length (a .st) - nodeStateWords) (drop nodeStateWords (a .st)))) (g .result + 1) (x .result) (moved-long m))
 
 pub seek-phrase-spec : {M : Type 1} → statement M
 seek-phrase-spec =

@@ -4,6 +4,7 @@ use mathlib.Core.Bool.{true, false}
 use Prim.Native.Nat.{ℕ, _+_, _-_}
 use native.Mathlib.Omega.{arith}
 use lib.ListN.{length}
+use Rattle.meaning.specs.Limits.{nodeStateWords}
 use Rattle.meaning.specs.Lent.{Index}
 use Rattle.weight.specs.ScorerTree.{Scorers, allMatch}
 use Rattle.scorer.specs.Contracts.{Lent, PartsHeld}
@@ -78,13 +79,13 @@ advance-term-requires c κs =
     let a = c .before .before .loop in
     let l = c .before .loop-test .taken in
     let h = terms-here allMatch (P .0) (P .2) (P .3) (P .5) (P .4) (s .args .doc) (a .kids) (a .at) (a .inv .1 (P .0) (P .1) (P .2) (P .3) (P .4) (P .5) (P .6) (P .7)) l in
-    (omega (arith, s .pre .0), term-there allMatch (P .0) (P .2) (P .3) (P .5) (P .4) (s .args .doc) (a .kids) (a .at) h (a .at + 24) refl, (P .0, P .1, P .2, P .3, h .T, P .5, _, term-held allMatch (P .0) (P .2) (P .3) (P .5) (P .4) (s .args .doc) (a .kids) (a .at) h (a .at + 24) refl))
+    (omega (arith, s .pre .0), term-there allMatch (P .0) (P .2) (P .3) (P .5) (P .4) (s .args .doc) (a .kids) (a .at) h (a .at + nodeStateWords) refl, (P .0, P .1, P .2, P .3, h .T, P .5, _, term-held allMatch (P .0) (P .2) (P .3) (P .5) (P .4) (s .args .doc) (a .kids) (a .at) h (a .at + nodeStateWords) refl))
 
 same-length : tie.Need-same-length Inv-loop μ-loop
 same-length c =
     let a = c .before .before .before .before .before .before .loop in
     let d = c .before .before .before .advance-term in
-    back-length (a .kids) (d .last .0) (a .at) (a .at + 24) (d .kept .0) ∙ a .inv .0
+    back-length (a .kids) (d .last .0) (a .at) (a .at + nodeStateWords) (d .kept .0) ∙ a .inv .0
 
 returns : tie.Need-returns Inv-loop μ-loop
 returns c =
@@ -94,13 +95,13 @@ returns c =
     let d = c .before .before .before .advance-term in
     λ E e ix p ss k t z.
     let h = terms-here allMatch E ix p k ss (s .args .doc) (a .kids) (a .at) (a .inv .1 E e ix p ss k t z) l in
-    terms-decided allMatch E ix p k ss (s .args .doc) (a .kids) (a .at) h (a .at + 24) refl (d .result) (d .last .0) (d .kept .0) (d .ensures .0 E k e) false (all-miss ix (h .f) (h .T) (h .g) (s .args .doc) (term-misses allMatch E ix p k ss (s .args .doc) (a .kids) (a .at) h (a .at + 24) refl (d .result) (d .last .0) (d .kept .0) (d .ensures .0 E k e) (c .if1 .taken)))
+    terms-decided allMatch E ix p k ss (s .args .doc) (a .kids) (a .at) h (a .at + nodeStateWords) refl (d .result) (d .last .0) (d .kept .0) (d .ensures .0 E k e) false (all-miss ix (h .f) (h .T) (h .g) (s .args .doc) (term-misses allMatch E ix p k ss (s .args .doc) (a .kids) (a .at) h (a .at + nodeStateWords) refl (d .result) (d .last .0) (d .kept .0) (d .ensures .0 E k e) (c .if1 .taken)))
 
 loop-less : tie.Need-loop-less Inv-loop μ-loop
 loop-less c =
     let a = c .before .before .before .before .before .before .loop in
     let d = c .before .before .before .advance-term in
-    omega (arith, back-length (a .kids) (d .last .0) (a .at) (a .at + 24) (d .kept .0), c .before .before .before .before .before .loop-test .taken)
+    omega (arith, back-length (a .kids) (d .last .0) (a .at) (a .at + nodeStateWords) (d .kept .0), c .before .before .before .before .before .loop-test .taken)
 
 loop-again : tie.Need-loop-again Inv-loop μ-loop
 loop-again c =
@@ -108,10 +109,10 @@ loop-again c =
     let a = c .before .before .before .before .before .before .loop in
     let l = c .before .before .before .before .before .loop-test .taken in
     let d = c .before .before .before .advance-term in (
-      back-length (a .kids) (d .last .0) (a .at) (a .at + 24) (d .kept .0) ∙ a .inv .0,
+      back-length (a .kids) (d .last .0) (a .at) (a .at + nodeStateWords) (d .kept .0) ∙ a .inv .0,
       λ E e ix p ss k t z.
           let h = terms-here allMatch E ix p k ss (s .args .doc) (a .kids) (a .at) (a .inv .1 E e ix p ss k t z) l in
-          terms-next allMatch E ix p k ss (s .args .doc) (a .kids) (a .at) h (a .at + 24) refl (d .result) (d .last .0) (d .kept .0) (d .ensures .0 E k e) (all-hit ix (h .f) (h .T) (h .g) (s .args .doc) (term-hits allMatch E ix p k ss (s .args .doc) (a .kids) (a .at) h (a .at + 24) refl (d .result) (d .last .0) (d .kept .0) (d .ensures .0 E k e) (s .pre .0) (c .if1 .left))),
+          terms-next allMatch E ix p k ss (s .args .doc) (a .kids) (a .at) h (a .at + nodeStateWords) refl (d .result) (d .last .0) (d .kept .0) (d .ensures .0 E k e) (all-hit ix (h .f) (h .T) (h .g) (s .args .doc) (term-hits allMatch E ix p k ss (s .args .doc) (a .kids) (a .at) h (a .at + nodeStateWords) refl (d .result) (d .last .0) (d .kept .0) (d .ensures .0 E k e) (s .pre .0) (c .if1 .left))),
     )
 
 same-length-2 : tie.Need-same-length-2 Inv-loop μ-loop

@@ -6,6 +6,7 @@ use Prim.Native.Nat.{ℕ, _+_, _-_, _*_, _^_}
 use native.Mathlib.Omega.{arith}
 use lib.Dec.{T}
 use lib.ListN.{length, take, drop}
+use Rattle.meaning.specs.Limits.{nodeStateWords}
 use Rattle.meaning.specs.Lent.{Index}
 use Rattle.ieee754.specs.Nonneg.{AtMost}
 use Rattle.weight.specs.ScorerTree.{Scorers, allMatch}
@@ -127,7 +128,7 @@ term-score-requires c κs =
     let i = a .inv (P .0) (P .1) (P .2) (P .3) (P .4) (R .0) (R .1) (R .2) (P .6) (R .3) (R .4) (R .5) (R .6) (R .7) in
     let h = sum-here (R .0) (s .args .kids .now) (s .args .start) (P .0) (s .args .postings .now) (P .1) (s .args .norms .now) (P .2) (s .args .inverses .now) (P .3) (s .args .doc) (P .4) (R .1) (R .2) (a .at) (a .sum) i l in
     let w = c .before .if1 .taken in
-    (sum-kind (R .0) (s .args .kids .now) (s .args .start) (P .0) (s .args .postings .now) (P .1) (s .args .norms .now) (P .2) (s .args .inverses .now) (P .3) (s .args .doc) (P .4) (R .1) (R .2) (R .4 .few) (a .at) (a .sum) h (a .at + 24) refl w, (P .0, P .1, P .2, P .3, P .4, sum-asks (R .0) (s .args .kids .now) (s .args .start) (P .0) (s .args .postings .now) (P .1) (s .args .norms .now) (P .2) (s .args .inverses .now) (P .3) (s .args .doc) (P .4) (R .1) (R .2) (R .4 .few) (a .at) (a .sum) h (a .at + 24) refl w (R .3)))
+    (sum-kind (R .0) (s .args .kids .now) (s .args .start) (P .0) (s .args .postings .now) (P .1) (s .args .norms .now) (P .2) (s .args .inverses .now) (P .3) (s .args .doc) (P .4) (R .1) (R .2) (R .4 .few) (a .at) (a .sum) h (a .at + nodeStateWords) refl w, (P .0, P .1, P .2, P .3, P .4, sum-asks (R .0) (s .args .kids .now) (s .args .start) (P .0) (s .args .postings .now) (P .1) (s .args .norms .now) (P .2) (s .args .inverses .now) (P .3) (s .args .doc) (P .4) (R .1) (R .2) (R .4 .few) (a .at) (a .sum) h (a .at + nodeStateWords) refl w (R .3)))
 
 add-score-requires : tie.Need-add-score-requires Inv-loop μ-loop
 add-score-requires c κs =
@@ -139,7 +140,7 @@ add-score-requires c κs =
     let i = a .inv (P .0) (P .1) (P .2) (P .3) (P .4) (R .0) (R .1) (R .2) (P .6) (R .3) (R .4) (R .5) (R .6) (R .7) in
     let h = sum-here (R .0) (s .args .kids .now) (s .args .start) (P .0) (s .args .postings .now) (P .1) (s .args .norms .now) (P .2) (s .args .inverses .now) (P .3) (s .args .doc) (P .4) (R .1) (R .2) (a .at) (a .sum) i l in
     let w = c .before .before .if1 .taken in
-    sum-number (R .0) (s .args .kids .now) (s .args .start) (P .0) (s .args .postings .now) (P .1) (s .args .norms .now) (P .2) (s .args .inverses .now) (P .3) (s .args .doc) (P .4) (R .1) (R .2) (R .4 .few) (a .at) (a .sum) h (a .at + 24) refl w (R .3) (c .term-score .result) (take (a .at + 24 - a .at) (drop (a .at) (s .args .kids .now))) (c .term-score .ensures (P .0) (P .1) (P .2) (P .3) (P .4))
+    sum-number (R .0) (s .args .kids .now) (s .args .start) (P .0) (s .args .postings .now) (P .1) (s .args .norms .now) (P .2) (s .args .inverses .now) (P .3) (s .args .doc) (P .4) (R .1) (R .2) (R .4 .few) (a .at) (a .sum) h (a .at + nodeStateWords) refl w (R .3) (c .term-score .result) (take (a .at + nodeStateWords - a .at) (drop (a .at) (s .args .kids .now))) (c .term-score .ensures (P .0) (P .1) (P .2) (P .3) (P .4))
 
 loop-less : tie.Need-loop-less Inv-loop μ-loop
 loop-less c = omega (arith, c .before .before .before .before .before .loop-test .taken)
@@ -153,7 +154,7 @@ loop-again c =
     let d = c .before .term-score in
     λ n positions ranges places depth ix ss p t L S m o b.
     let h = sum-here ix (s .args .kids .now) (s .args .start) n (s .args .postings .now) positions (s .args .norms .now) ranges (s .args .inverses .now) places (s .args .doc) depth ss p (a .at) (a .sum) (a .inv n positions ranges places depth ix ss p t L S m o b) l in
-    sum-more ix (s .args .kids .now) (s .args .start) n (s .args .postings .now) positions (s .args .norms .now) ranges (s .args .inverses .now) places (s .args .doc) depth ss p (S .few) (a .at) (a .sum) h (a .at + 24) refl w L (d .result) (take (a .at + 24 - a .at) (drop (a .at) (s .args .kids .now))) (d .ensures n positions ranges places depth) (c .add-score .result) (c .add-score .ensures)
+    sum-more ix (s .args .kids .now) (s .args .start) n (s .args .postings .now) positions (s .args .norms .now) ranges (s .args .inverses .now) places (s .args .doc) depth ss p (S .few) (a .at) (a .sum) h (a .at + nodeStateWords) refl w L (d .result) (take (a .at + nodeStateWords - a .at) (drop (a .at) (s .args .kids .now))) (d .ensures n positions ranges places depth) (c .add-score .result) (c .add-score .ensures)
 
 loop-less-2 : tie.Need-loop-less-2 Inv-loop μ-loop
 loop-less-2 c = omega (arith, c .before .before .loop-test .taken)
@@ -165,7 +166,7 @@ loop-again-2 c =
     let l = c .before .before .loop-test .taken in
     λ n positions ranges places depth ix ss p t L S m o b.
     let h = sum-here ix (s .args .kids .now) (s .args .start) n (s .args .postings .now) positions (s .args .norms .now) ranges (s .args .inverses .now) places (s .args .doc) depth ss p (a .at) (a .sum) (a .inv n positions ranges places depth ix ss p t L S m o b) l in
-    sum-skip ix (s .args .kids .now) (s .args .start) n (s .args .postings .now) positions (s .args .norms .now) ranges (s .args .inverses .now) places (s .args .doc) depth ss p (S .few) (a .at) (a .sum) h (a .at + 24) refl (c .if1 .left)
+    sum-skip ix (s .args .kids .now) (s .args .start) n (s .args .postings .now) positions (s .args .norms .now) ranges (s .args .inverses .now) places (s .args .doc) depth ss p (S .few) (a .at) (a .sum) h (a .at + nodeStateWords) refl (c .if1 .left)
 
 returns : tie.Need-returns Inv-loop μ-loop
 returns c =

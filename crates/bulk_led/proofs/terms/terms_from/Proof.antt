@@ -6,13 +6,14 @@ use mathlib.Core.Logic.{⊎-elim}
 use Prim.Native.Nat.{ℕ, _+_, _-_, _*_, _<_}
 use native.Mathlib.Omega.{arith}
 use lib.ListN.{length, getD}
+use Rattle.meaning.specs.Limits.{nodeStateWords}
 use Rattle.meaning.proofs.Tests.{cmp}
 use Rattle.bulk_led.proofs.terms.terms_from.Statement.{statement}
 use Rattle.bulk_led.proofs.terms.terms_from.Tie as tie
 
 abbrev Inv-loop : tie.InvT-loop
 Inv-loop st from at₀ at =
-    (n : ℕ) × (at ≡ from + 24 * n) × ((i : ℕ) → i < n → from + 24 * i < length st → getD st (from + 24 * i) 0 ≡ 1)
+    (n : ℕ) × (at ≡ from + nodeStateWords * n) × ((i : ℕ) → i < n → from + nodeStateWords * i < length st → getD st (from + nodeStateWords * i) 0 ≡ 1)
 
 abbrev μ-loop : tie.MeasureT-loop
 μ-loop st from at₀ at = length st - at
@@ -40,7 +41,7 @@ loop-again c =
     let s = c .before .before .before .before in
     let a = c .before .before .before .loop in
     let n : ℕ = a .inv .0 in
-    (n + 1, omega (arith, a .inv .1), λ i l g. ⊎-elim (λ m. a .inv .2 i m g) (λ m. let e : s .args .from + 24 * i ≡ a .at = omega (arith, a .inv .1) in ap (λ (j : ℕ). getD (s .args .st .now) j 0) e ∙ c .if1 .left) (cmp i n))
+    (n + 1, omega (arith, a .inv .1), λ i l g. ⊎-elim (λ m. a .inv .2 i m g) (λ m. let e : s .args .from + nodeStateWords * i ≡ a .at = omega (arith, a .inv .1) in ap (λ (j : ℕ). getD (s .args .st .now) j 0) e ∙ c .if1 .left) (cmp i n))
 
 returns-2 : tie.Need-returns-2 Inv-loop μ-loop
 returns-2 c = λ e i g. let a = c .before .loop in a .inv .2 i (omega (arith, a .inv .1, c .loop-test .left)) g

@@ -1,4 +1,5 @@
 -- `place::place_phrase` meets its contract. Assumes nothing.
+use Rattle.meaning.specs.Limits.{nodeStateWords}
 use Rattle.node_words.proofs.PhraseParts.{phraseState, placed-phrase}
 use Rattle.node_words.proofs.Placing.{put-same, score-is}
 use Rattle.ieee754.proofs.Bounds.{atmost-number}
@@ -62,19 +63,19 @@ returns c = let s = c .before .before .before .before .before .before .before .b
     let st₀ = s .args .st .now in
     let pt = c .before .before .before .before .before .before .before .place-terms in
     let out = pt .last .0 in
-    let post = postOf 24 (length st₀ - 24) st₀ in
-    let st₁ = putMid 24 (length st₀ - 24) st₀ out in
+    let post = postOf nodeStateWords (length st₀ - nodeStateWords) st₀ in
+    let st₁ = putMid nodeStateWords (length st₀ - nodeStateWords) st₀ out in
     let st = c .before .before .before .put .last .0 in
     let e = c .before .before .before .put .ensures in
-    let size = 24 + 24 * c .before .before .before .before .before .before .before .before .before .before .before .children .result in
+    let size = nodeStateWords + nodeStateWords * c .before .before .before .before .before .before .before .before .before .before .before .children .result in
     let many = c .before .before .before .before .before .before .before .before .before .before .before .children .ensures in
     let room = s .pre .0 .0 in
-    let a = length-take (length st₀ - 24) (drop 24 st₀) in
-    let b = length-drop 24 st₀ in
+    let a = length-take (length st₀ - nodeStateWords) (drop nodeStateWords st₀) in
+    let b = length-drop nodeStateWords st₀ in
     let lo = pt .ensures .1 in
-    let mid = same-len-mid 24 (length st₀ - 24) st₀ out lo in
+    let mid = same-len-mid nodeStateWords (length st₀ - nodeStateWords) st₀ out lo in
     let whole = put-same (wordsOf (phraseState size (c .before .before .before .before .before .before .before .before .before .before .before .before .value .result) (c .before .before .before .before .before .before .before .before .before .word .result) (toBits binary32 (s .args .score)) (s .args .scores) (c .before .before .before .before .before .before .before .before .before .before .norms-word .result))) st₁ st e refl (omega (arith, mid, room)) in
-    (λ ix ranges d l. rw (c .wide .ensures) (placed-phrase ix ranges (s .args .q .now) st₀ out post st (s .args .at) d (s .args .scores) size (s .args .score) (toBits binary32 (s .args .score)) (score-is (s .args .score) (subst T (sym (s .good .1 .1 .1 .1 .1 .1 .1 .0 .1)) tt) (s .pre .0 .3)) (s .args .fixed) (c .before .before .before .before .before .before .before .before .before .word .result) (c .before .before .before .before .before .before .before .before .before .before .before .before .value .result) (c .before .before .before .before .before .before .before .before .before .before .norms-word .result) (omega (arith, room)) e (omega (arith, room, whole, mid)) (ap (λ (z : ℕ). 24 + 24 * z) many) (c .before .before .before .before .before .before .before .before .before .word .ensures) (c .before .before .before .before .before .before .before .before .before .before .before .before .value .ensures) (c .before .before .before .before .before .before .before .before .before .before .norms-word .ensures ix (l .field-lent)) (omega (arith, lo, a, b, room)) (pt .ensures .0 ix l)), whole ∙ mid)
+    (λ ix ranges d l. rw (c .wide .ensures) (placed-phrase ix ranges (s .args .q .now) st₀ out post st (s .args .at) d (s .args .scores) size (s .args .score) (toBits binary32 (s .args .score)) (score-is (s .args .score) (subst T (sym (s .good .1 .1 .1 .1 .1 .1 .1 .0 .1)) tt) (s .pre .0 .3)) (s .args .fixed) (c .before .before .before .before .before .before .before .before .before .word .result) (c .before .before .before .before .before .before .before .before .before .before .before .before .value .result) (c .before .before .before .before .before .before .before .before .before .before .norms-word .result) (omega (arith, room)) e (omega (arith, room, whole, mid)) (ap (λ (z : ℕ). nodeStateWords + nodeStateWords * z) many) (c .before .before .before .before .before .before .before .before .before .word .ensures) (c .before .before .before .before .before .before .before .before .before .before .before .before .value .ensures) (c .before .before .before .before .before .before .before .before .before .before .norms-word .ensures ix (l .field-lent)) (omega (arith, lo, a, b, room)) (pt .ensures .0 ix l)), whole ∙ mid)
 
 pub place-phrase-spec : {M : Type 1} → statement M
 place-phrase-spec =

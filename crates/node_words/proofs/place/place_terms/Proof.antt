@@ -5,6 +5,7 @@ use mathlib.Core.Path.{_≡_, refl, sym, _∙_, ap, subst}
 use Prim.Native.Nat.{ℕ, _+_, _-_, _*_, _≤_, _<_}
 use lib.ListN.{length, take, drop, length-take, length-drop}
 use borrow.Rule.Slice.PartMut.{same-len-mid, postOf}
+use Rattle.meaning.specs.Limits.{nodeStateWords}
 use Rattle.meaning.specs.Below.{listTo}
 use Rattle.meaning.specs.Lent.{Index}
 use Rattle.meaning.specs.Query.{recordChildren}
@@ -15,7 +16,7 @@ use Rattle.node_words.proofs.place.place_terms.Statement.{statement}
 use Rattle.node_words.proofs.place.place_terms.Tie as tie
 
 abbrev Inv-loop : tie.InvT-loop
-Inv-loop st₀ q max-doc fields leaves at terms j₀ st j = ((ix : Index) → LeafLent ix max-doc fields leaves → TermsAre ix (listTo j (termAt ix q at)) (take (24 * j) st) 0) × (j ≤ terms) × (terms ≡ recordChildren q at) × (length st ≡ length st₀)
+Inv-loop st₀ q max-doc fields leaves at terms j₀ st j = ((ix : Index) → LeafLent ix max-doc fields leaves → TermsAre ix (listTo j (termAt ix q at)) (take (nodeStateWords * j) st) 0) × (j ≤ terms) × (terms ≡ recordChildren q at) × (length st ≡ length st₀)
 
 abbrev μ-loop : tie.MeasureT-loop
 μ-loop st₀ q max-doc fields leaves at terms j₀ st j = terms - j
@@ -72,7 +73,7 @@ loop-less : tie.Need-loop-less Inv-loop μ-loop
 loop-less c = omega (arith, c .before .before .before .before .before .before .loop-test .taken)
 
 loop-again : tie.Need-loop-again Inv-loop μ-loop
-loop-again c = let s = c .before .before .before .before .before .before .before .before .before .before .before .before .before .before in let l = c .before .before .before .before .before .before .before .loop in let t = c .before .before .before .before .before .before .loop-test .taken in let room = s .pre .0 .0 in let here = s .pre .0 .1 in let few = s .pre .0 .2 in let is = l .inv .2 in let long = l .inv .3 in let k = c .before .before .place-phrase-term in let out = k .last .0 in let part = take (length (l .st) - 24 * l .j) (drop (24 * l .j) (l .st)) in (λ ix e. terms-more ix (s .args .q .now) (s .args .at) (l .st) out part (postOf (24 * l .j) (length (l .st) - 24 * l .j) (l .st)) (l .j) (c .before .before .before .before .before .value .result) (c .before .before .before .before .value2 .result) (omega (arith, t, is, room, long)) (c .before .before .before .before .before .value .ensures) (c .before .before .before .before .value2 .ensures) (k .ensures ix e) (l .inv .0 ix e), omega (arith, t), is, same-len-mid (24 * l .j) (length (l .st) - 24 * l .j) (l .st) out (k .kept .0) ∙ long)
+loop-again c = let s = c .before .before .before .before .before .before .before .before .before .before .before .before .before .before in let l = c .before .before .before .before .before .before .before .loop in let t = c .before .before .before .before .before .before .loop-test .taken in let room = s .pre .0 .0 in let here = s .pre .0 .1 in let few = s .pre .0 .2 in let is = l .inv .2 in let long = l .inv .3 in let k = c .before .before .place-phrase-term in let out = k .last .0 in let part = take (length (l .st) - nodeStateWords * l .j) (drop (nodeStateWords * l .j) (l .st)) in (λ ix e. terms-more ix (s .args .q .now) (s .args .at) (l .st) out part (postOf (nodeStateWords * l .j) (length (l .st) - nodeStateWords * l .j) (l .st)) (l .j) (c .before .before .before .before .before .value .result) (c .before .before .before .before .value2 .result) (omega (arith, t, is, room, long)) (c .before .before .before .before .before .value .ensures) (c .before .before .before .before .value2 .ensures) (k .ensures ix e) (l .inv .0 ix e), omega (arith, t), is, same-len-mid (nodeStateWords * l .j) (length (l .st) - nodeStateWords * l .j) (l .st) out (k .kept .0) ∙ long)
 
 same-length : tie.Need-same-length Inv-loop μ-loop
 same-length c = c .before .loop .inv .3

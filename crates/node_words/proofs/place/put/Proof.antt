@@ -1,4 +1,5 @@
 -- `place::put` meets its contract. Assumes nothing.
+use Rattle.meaning.specs.Limits.{nodeStateWords}
 use Rattle.node_words.proofs.Placing.{put-more, put-long, put-all}
 use lib.ListN.{length, getD, take, drop}
 use Prim.Native.Nat.{ℕ, _+_, _-_, _*_, _≤_, _<_}
@@ -12,12 +13,12 @@ use Rattle.node_words.proofs.place.put.Reads as reads
 use Rattle.node_words.proofs.place.put.Lts as lts
 
 abbrev Inv-loop : tie.InvT-loop
-Inv-loop st₀ words i₀ st i = (st ≡ take i words ++ drop i st₀) × (i ≤ 24)
+Inv-loop st₀ words i₀ st i = (st ≡ take i words ++ drop i st₀) × (i ≤ nodeStateWords)
 
 abbrev μ-loop : tie.MeasureT-loop
-μ-loop st₀ words i₀ st i = 24 - i
+μ-loop st₀ words i₀ st i = nodeStateWords - i
 
-words-long : (s : lts.Start reads.Pre reads.Post Inv-loop μ-loop) → length (s .args .t2) ≡ 24
+words-long : (s : lts.Start reads.Pre reads.Post Inv-loop μ-loop) → length (s .args .t2) ≡ nodeStateWords
 words-long s = s .good .1 .0 .1 .0 .1
 
 loop-holds : tie.Need-loop-holds Inv-loop μ-loop

@@ -2,6 +2,7 @@
 use mathlib.Core.Path.{refl}
 use native.Mathlib.Omega.{arith}
 use lib.ListN.{length}
+use Rattle.meaning.specs.Limits.{nodeStateWords}
 use Rattle.leaf_scorer.proofs.Bounds.{ok-long}
 use Rattle.score.proofs.Parts.{back-length}
 use Rattle.score.proofs.Nodes.{node-at}
@@ -84,7 +85,7 @@ score-same-length-2 t c =
     let s₀ = c .before .before .before .before .before .before .before .before .before .before .before .before .before .before .before .before .before .before .before .before in
     let p = s₀ .pre .1 in
     let st = s₀ .args .st .now in
-    back-length st (c .before .before .before .before .joined .last .0) 24 (length st) (c .before .before .before .before .joined .kept .0)
+    back-length st (c .before .before .before .before .joined .last .0) nodeStateWords (length st) (c .before .before .before .before .joined .kept .0)
 
 pub score-same-length-3 : (t : ℕ) → score-lts.Need-same-length-3 (score-calls t) (score-at t) score.Post
 score-same-length-3 t c = c .before .before .before .before .joined .kept .1 .1 .1 .1 .1 .1 .1 .1 .0

@@ -5,7 +5,7 @@ use mathlib.Core.List.{_++_}
 use native.Mathlib.Omega.{arith}
 use lib.ListN.{length, length-set, take, drop}
 use lib.Seq.{length-take-le, getD-set-same}
-use Rattle.meaning.specs.Limits.{noMoreDocs}
+use Rattle.meaning.specs.Limits.{noMoreDocs, nodeStateWords}
 use Rattle.leaf_scorer.specs.Contracts.{lent}
 use Rattle.leaf_scorer.proofs.Bounds.{ok-long}
 use Rattle.scorer.proofs.Firsts.{kept-top, kept-alone, kept-hit, kept-more}
@@ -54,7 +54,7 @@ pub advance-add-st : (t : ℕ) → advance-lts.Need-add-st (advance-calls t) (ad
 advance-add-st t c = let s = (c .before .before .before .before .before .before .before .before .before .before .before .before .before .before .before .before .before .before .before) in let P = s .pre .1 .1 in let h = (c .before .before .before .before .before .before .before .before .before .before .before .before .before) .head-at in let b = (c .before .before .before .before .before .before .before .before) .boolean-at in let x = (c .before .before .before .before) .excluding in let d = node-joined (lent (s .args .max-doc) (s .args .postings .now) (s .args .positions .now) (s .args .ranges .now)) (P .0) (P .1) (s .args .depth) (P .3) (s .args .st .now) (s .args .target) (h .result .cached) (h .ensures .cached) ((c .before .before .before .before .before .before .before .before .before .before .before .before) .if1 .left) (h .result .kind) (h .ensures .kind) ((c .before .before .before .before .before .before .before .before .before .before) .if2 .taken) (b .result .need) (b .ensures .need) (b .result .required) (b .result .optional) (b .ensures .required-end) (b .ensures .optional-end) (x .result) (x .last .0) (x .ensures) (P .2) (P .5) in omega (arith, d .0 .top)
 
 pub advance-slice-write-st : (t : ℕ) → advance-lts.Need-slice-write-st (advance-calls t) (advance-at t) advance.Post
-advance-slice-write-st t c = let s = (c .before .before .before .before .before .before .before .before .before .before .before .before .before .before .before .before .before .before .before) in let P = s .pre .1 .1 in let l = ok-long (P .0) (s .args .ranges .now) (P .2) (s .args .depth) (P .3) (s .args .st .now) (s .args .target) (P .5 .ok) in let x = (c .before .before .before .before) .excluding in omega (arith, l, back-length (s .args .st .now) (x .last .0) 24 (length (s .args .st .now)) (x .kept .0))
+advance-slice-write-st t c = let s = (c .before .before .before .before .before .before .before .before .before .before .before .before .before .before .before .before .before .before .before) in let P = s .pre .1 .1 in let l = ok-long (P .0) (s .args .ranges .now) (P .2) (s .args .depth) (P .3) (s .args .st .now) (s .args .target) (P .5 .ok) in let x = (c .before .before .before .before) .excluding in omega (arith, l, back-length (s .args .st .now) (x .last .0) nodeStateWords (length (s .args .st .now)) (x .kept .0))
 
 pub advance-seek-requires : (t : ℕ) → advance-lts.Need-seek-requires (advance-calls t) (advance-at t) advance.Post
 advance-seek-requires t c κs = let s = (c .before .before .before .before .before .before .before .before .before .before .before .before) in let P = s .pre .1 .1 in let h = (c .before .before .before .before .before .before) .head-at in let n = node-leaf (lent (s .args .max-doc) (s .args .postings .now) (s .args .positions .now) (s .args .ranges .now)) (P .0) (P .1) (s .args .depth) (P .3) (s .args .st .now) (s .args .target) (h .result .cached) (h .ensures .cached) ((c .before .before .before .before .before) .if1 .left) (h .result .kind) (h .ensures .kind) ((c .before .before .before) .if2 .left) (P .2) (P .5) in (s .pre .1 .0, (P .0, P .1, n .0, n .1, n .2, record { in-a = P .4 .in-a; in-b = P .4 .in-b }, n .3))
@@ -66,7 +66,7 @@ pub advance-slice-write-st-2 : (t : ℕ) → advance-lts.Need-slice-write-st-2 (
 advance-slice-write-st-2 t c = let s = (c .before .before .before .before .before .before .before .before .before .before .before .before .before .before .before .before .before) in let P = s .pre .1 .1 in let l = ok-long (P .0) (s .args .ranges .now) (P .2) (s .args .depth) (P .3) (s .args .st .now) (s .args .target) (P .5 .ok) in let y = (c .before .before .before .before) .seek in omega (arith, l, y .kept .0)
 
 pub advance-same-length-2 : (t : ℕ) → advance-lts.Need-same-length-2 (advance-calls t) (advance-at t) advance.Post
-advance-same-length-2 t c = let s = (c .before .before .before .before .before .before .before .before .before .before .before .before .before .before .before .before .before .before .before) in let x = (c .before .before .before .before) .excluding in simp length-set (back-length (s .args .st .now) (x .last .0) 24 (length (s .args .st .now)) (x .kept .0))
+advance-same-length-2 t c = let s = (c .before .before .before .before .before .before .before .before .before .before .before .before .before .before .before .before .before .before .before) in let x = (c .before .before .before .before) .excluding in simp length-set (back-length (s .args .st .now) (x .last .0) nodeStateWords (length (s .args .st .now)) (x .kept .0))
 
 pub advance-same-length-3 : (t : ℕ) → advance-lts.Need-same-length-3 (advance-calls t) (advance-at t) advance.Post
 advance-same-length-3 t c = (c .before .before .before .before) .excluding .kept .1 .1 .1 .1 .1 .0
@@ -75,7 +75,7 @@ pub advance-same-length-4 : (t : ℕ) → advance-lts.Need-same-length-4 (advanc
 advance-same-length-4 t c = (c .before .before .before .before) .excluding .kept .1 .1 .1 .1 .1 .1 .0
 
 pub advance-returns-2 : (t : ℕ) → advance-lts.Need-returns-2 (advance-calls t) (advance-at t) advance.Post
-advance-returns-2 t c = let s = (c .before .before .before .before .before .before .before .before .before .before .before .before .before .before .before .before .before .before .before) in let P = s .pre .1 .1 in let l = ok-long (P .0) (s .args .ranges .now) (P .2) (s .args .depth) (P .3) (s .args .st .now) (s .args .target) (P .5 .ok) in let h = (c .before .before .before .before .before .before .before .before .before .before .before .before .before) .head-at in let b = (c .before .before .before .before .before .before .before .before) .boolean-at in let x = (c .before .before .before .before) .excluding in ((λ ix p T o z. node-joined (lent (s .args .max-doc) (s .args .postings .now) (s .args .positions .now) (s .args .ranges .now)) ix p (s .args .depth) o (s .args .st .now) (s .args .target) (h .result .cached) (h .ensures .cached) ((c .before .before .before .before .before .before .before .before .before .before .before .before) .if1 .left) (h .result .kind) (h .ensures .kind) ((c .before .before .before .before .before .before .before .before .before .before) .if2 .taken) (b .result .need) (b .ensures .need) (b .result .required) (b .result .optional) (b .ensures .required-end) (b .ensures .optional-end) (x .result) (x .last .0) (x .ensures) T z), getD-set-same (take 24 (s .args .st .now) ++ (x .last .0 ++ drop (length (s .args .st .now) - 24) (drop 24 (s .args .st .now)))) 2 (x .result + 1) 0 (omega (arith, l, back-length (s .args .st .now) (x .last .0) 24 (length (s .args .st .now)) (x .kept .0))))
+advance-returns-2 t c = let s = (c .before .before .before .before .before .before .before .before .before .before .before .before .before .before .before .before .before .before .before) in let P = s .pre .1 .1 in let l = ok-long (P .0) (s .args .ranges .now) (P .2) (s .args .depth) (P .3) (s .args .st .now) (s .args .target) (P .5 .ok) in let h = (c .before .before .before .before .before .before .before .before .before .before .before .before .before) .head-at in let b = (c .before .before .before .before .before .before .before .before) .boolean-at in let x = (c .before .before .before .before) .excluding in ((λ ix p T o z. node-joined (lent (s .args .max-doc) (s .args .postings .now) (s .args .positions .now) (s .args .ranges .now)) ix p (s .args .depth) o (s .args .st .now) (s .args .target) (h .result .cached) (h .ensures .cached) ((c .before .before .before .before .before .before .before .before .before .before .before .before) .if1 .left) (h .result .kind) (h .ensures .kind) ((c .before .before .before .before .before .before .before .before .before .before) .if2 .taken) (b .result .need) (b .ensures .need) (b .result .required) (b .result .optional) (b .ensures .required-end) (b .ensures .optional-end) (x .result) (x .last .0) (x .ensures) T z), getD-set-same (take nodeStateWords (s .args .st .now) ++ (x .last .0 ++ drop (length (s .args .st .now) - nodeStateWords) (drop nodeStateWords (s .args .st .now)))) 2 (x .result + 1) 0 (omega (arith, l, back-length (s .args .st .now) (x .last .0) nodeStateWords (length (s .args .st .now)) (x .kept .0))))
 
 pub advance-same-length-5 : (t : ℕ) → advance-lts.Need-same-length-5 (advance-calls t) (advance-at t) advance.Post
 advance-same-length-5 t c = let y = (c .before .before .before .before) .seek in simp length-set (y .kept .0)

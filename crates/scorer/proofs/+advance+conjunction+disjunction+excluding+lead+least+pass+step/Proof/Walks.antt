@@ -1,6 +1,7 @@
 -- The loops over children. Assumes nothing.
 use mathlib.Core.Path.{refl, sym, _∙_}
 use native.Mathlib.Omega.{arith}
+use Rattle.meaning.specs.Limits.{nodeStateWords}
 use Rattle.scorer.proofs.Children.{child-facts, child-held, child-kind, child-cached, child-term, child-range, term-end, range-end}
 use Rattle.leaf_scorer.proofs.Loops.{back-length}
 use Rattle.scorer.proofs.Loops.{least-start, least-end, least-skip, least-took, pass-start, pass-end, pass-skip, pass-took, pass-asked}
@@ -34,16 +35,16 @@ pub least-part-advance-term-end : (t : ℕ) → least-lts.Need-part-advance-term
 least-part-advance-term-end t c = let s = (c .before .before .before .before .before .before .before .before .before) in let P = s .pre .1 .1 in let a = (c .before .before .before .before) .loop in let i = a .inv .1 (P .0) (P .1) (P .2) (P .4) in let l = (c .before .before .before) .loop-test .taken in let f = child-facts (i .left) (i .zip) l in let n = child-term (i .left) (i .zip) l (sym ((c .before) .kind-at .ensures) ∙ c .if1 .taken) in omega (arith, f, n, a .inv .0, s .good)
 
 pub least-advance-term-requires : (t : ℕ) → least-lts.Need-advance-term-requires (least-calls t) (least-at t) least.Post least-Inv-loop least-μ-loop
-least-advance-term-requires t c κs = let s = (c .before .before .before .before .before .before .before .before .before .before) in let P = s .pre .1 .1 in let a = (c .before .before .before .before .before) .loop in let i = a .inv .1 (P .0) (P .1) (P .2) (P .4) in let l = (c .before .before .before .before) .loop-test .taken in let f = child-facts (i .left) (i .zip) l in let v = term-end (i .left) (i .zip) l (sym ((c .before .before) .kind-at .ensures) ∙ (c .before) .if1 .taken) in let h = child-held (i .left) (i .zip) l (a .at + 24) v in (s .pre .1 .0, child-kind (a .kids) (a .at) (a .at + 24) f v ∙ (sym ((c .before .before) .kind-at .ensures) ∙ (c .before) .if1 .taken), (lent (s .args .max-doc) (s .args .postings .now) (s .args .positions .now) (s .args .ranges .now), refl, P .0, P .1, h .0, s .args .depth, h .1, h .2))
+least-advance-term-requires t c κs = let s = (c .before .before .before .before .before .before .before .before .before .before) in let P = s .pre .1 .1 in let a = (c .before .before .before .before .before) .loop in let i = a .inv .1 (P .0) (P .1) (P .2) (P .4) in let l = (c .before .before .before .before) .loop-test .taken in let f = child-facts (i .left) (i .zip) l in let v = term-end (i .left) (i .zip) l (sym ((c .before .before) .kind-at .ensures) ∙ (c .before) .if1 .taken) in let h = child-held (i .left) (i .zip) l (a .at + nodeStateWords) v in (s .pre .1 .0, child-kind (a .kids) (a .at) (a .at + nodeStateWords) f v ∙ (sym ((c .before .before) .kind-at .ensures) ∙ (c .before) .if1 .taken), (lent (s .args .max-doc) (s .args .postings .now) (s .args .positions .now) (s .args .ranges .now), refl, P .0, P .1, h .0, s .args .depth, h .1, h .2))
 
 pub least-tally-requires : (t : ℕ) → least-lts.Need-tally-requires (least-calls t) (least-at t) least.Post least-Inv-loop least-μ-loop
 least-tally-requires t c κs = let s = (c .before .before .before .before .before .before .before .before .before .before .before .before .before) in let P = s .pre .1 .1 in let a = (c .before .before .before .before .before .before .before .before) .loop in let i = a .inv .1 (P .0) (P .1) (P .2) (P .4) in let l = (c .before .before .before .before .before .before .before) .loop-test .taken in omega (arith, i .few, l, a .inv .0, s .good)
 
 pub least-loop-less : (t : ℕ) → least-lts.Need-loop-less (least-calls t) (least-at t) least.Post least-Inv-loop least-μ-loop
-least-loop-less t c = let s = (c .before .before .before .before .before .before .before .before .before .before .before .before .before .before) in let P = s .pre .1 .1 in let a = (c .before .before .before .before .before .before .before .before .before) .loop in let i = a .inv .1 (P .0) (P .1) (P .2) (P .4) in let l = (c .before .before .before .before .before .before .before .before) .loop-test .taken in let f = child-facts (i .left) (i .zip) l in let n = child-term (i .left) (i .zip) l (sym ((c .before .before .before .before .before .before) .kind-at .ensures) ∙ (c .before .before .before .before .before) .if1 .taken) in let d = (c .before .before .before) .advance-term in omega (arith, f, n, l, back-length (a .kids) (d .last .0) (a .at) (a .at + 24) (d .kept .0))
+least-loop-less t c = let s = (c .before .before .before .before .before .before .before .before .before .before .before .before .before .before) in let P = s .pre .1 .1 in let a = (c .before .before .before .before .before .before .before .before .before) .loop in let i = a .inv .1 (P .0) (P .1) (P .2) (P .4) in let l = (c .before .before .before .before .before .before .before .before) .loop-test .taken in let f = child-facts (i .left) (i .zip) l in let n = child-term (i .left) (i .zip) l (sym ((c .before .before .before .before .before .before) .kind-at .ensures) ∙ (c .before .before .before .before .before) .if1 .taken) in let d = (c .before .before .before) .advance-term in omega (arith, f, n, l, back-length (a .kids) (d .last .0) (a .at) (a .at + nodeStateWords) (d .kept .0))
 
 pub least-loop-again : (t : ℕ) → least-lts.Need-loop-again (least-calls t) (least-at t) least.Post least-Inv-loop least-μ-loop
-least-loop-again t c = let s = (c .before .before .before .before .before .before .before .before .before .before .before .before .before .before) in let a = (c .before .before .before .before .before .before .before .before .before) .loop in let l = (c .before .before .before .before .before .before .before .before) .loop-test .taken in let d = (c .before .before .before) .advance-term in let y = c .tally in (record { kids-same = back-length (a .kids) (d .last .0) (a .at) (a .at + 24) (d .kept .0) ∙ a .inv .0 .kids-same; a-same = a .inv .0 .a-same; b-same = a .inv .0 .b-same }, λ ix p ss h. let v = term-end (a .inv .1 ix p ss h .left) (a .inv .1 ix p ss h .zip) l (sym ((c .before .before .before .before .before .before) .kind-at .ensures) ∙ (c .before .before .before .before .before) .if1 .taken) in least-took (a .inv .1 ix p ss h) l (a .at + 24) v (d .result) (y .result .doc) (y .result .count) (d .last .0) (d .kept .0) (d .ensures .0 (lent (s .args .max-doc) (s .args .postings .now) (s .args .positions .now) (s .args .ranges .now)) (s .args .depth) refl) (y .ensures))
+least-loop-again t c = let s = (c .before .before .before .before .before .before .before .before .before .before .before .before .before .before) in let a = (c .before .before .before .before .before .before .before .before .before) .loop in let l = (c .before .before .before .before .before .before .before .before) .loop-test .taken in let d = (c .before .before .before) .advance-term in let y = c .tally in (record { kids-same = back-length (a .kids) (d .last .0) (a .at) (a .at + nodeStateWords) (d .kept .0) ∙ a .inv .0 .kids-same; a-same = a .inv .0 .a-same; b-same = a .inv .0 .b-same }, λ ix p ss h. let v = term-end (a .inv .1 ix p ss h .left) (a .inv .1 ix p ss h .zip) l (sym ((c .before .before .before .before .before .before) .kind-at .ensures) ∙ (c .before .before .before .before .before) .if1 .taken) in least-took (a .inv .1 ix p ss h) l (a .at + nodeStateWords) v (d .result) (y .result .doc) (y .result .count) (d .last .0) (d .kept .0) (d .ensures .0 (lent (s .args .max-doc) (s .args .postings .now) (s .args .positions .now) (s .args .ranges .now)) (s .args .depth) refl) (y .ensures))
 
 pub least-child-at-requires : (t : ℕ) → least-lts.Need-child-at-requires (least-calls t) (least-at t) least.Post least-Inv-loop least-μ-loop
 least-child-at-requires t c κs = let s = (c .before .before .before .before .before .before .before .before .before .before) in let P = s .pre .1 .1 in let a = (c .before .before .before .before .before) .loop in let i = a .inv .1 (P .0) (P .1) (P .2) (P .4) in let l = (c .before .before .before .before) .loop-test .taken in child-facts (i .left) (i .zip) l
@@ -118,13 +119,13 @@ pub pass-part-advance-term-end : (t : ℕ) → pass-lts.Need-part-advance-term-e
 pass-part-advance-term-end t c = let s = (c .before .before .before .before .before .before .before .before .before) in let P = s .pre .1 .1 in let a = (c .before .before .before .before) .loop in let i = a .inv .1 (P .0) (P .1) (P .2) (P .4) in let l = (c .before .before .before) .loop-test .taken in let f = child-facts (i .left) (i .zip) l in let n = child-term (i .left) (i .zip) l (sym ((c .before) .kind-at .ensures) ∙ c .if1 .taken) in omega (arith, f, n, a .inv .0, s .good)
 
 pub pass-advance-term-requires : (t : ℕ) → pass-lts.Need-advance-term-requires (pass-calls t) (pass-at t) pass.Post pass-Inv-loop pass-μ-loop
-pass-advance-term-requires t c κs = let s = (c .before .before .before .before .before .before .before .before .before .before) in let P = s .pre .1 .1 in let a = (c .before .before .before .before .before) .loop in let i = a .inv .1 (P .0) (P .1) (P .2) (P .4) in let l = (c .before .before .before .before) .loop-test .taken in let f = child-facts (i .left) (i .zip) l in let v = term-end (i .left) (i .zip) l (sym ((c .before .before) .kind-at .ensures) ∙ (c .before) .if1 .taken) in let h = child-held (i .left) (i .zip) l (a .at + 24) v in (i .top, child-kind (a .kids) (a .at) (a .at + 24) f v ∙ (sym ((c .before .before) .kind-at .ensures) ∙ (c .before) .if1 .taken), (lent (s .args .max-doc) (s .args .postings .now) (s .args .positions .now) (s .args .ranges .now), refl, P .0, P .1, h .0, s .args .depth, h .1, h .2))
+pass-advance-term-requires t c κs = let s = (c .before .before .before .before .before .before .before .before .before .before) in let P = s .pre .1 .1 in let a = (c .before .before .before .before .before) .loop in let i = a .inv .1 (P .0) (P .1) (P .2) (P .4) in let l = (c .before .before .before .before) .loop-test .taken in let f = child-facts (i .left) (i .zip) l in let v = term-end (i .left) (i .zip) l (sym ((c .before .before) .kind-at .ensures) ∙ (c .before) .if1 .taken) in let h = child-held (i .left) (i .zip) l (a .at + nodeStateWords) v in (i .top, child-kind (a .kids) (a .at) (a .at + nodeStateWords) f v ∙ (sym ((c .before .before) .kind-at .ensures) ∙ (c .before) .if1 .taken), (lent (s .args .max-doc) (s .args .postings .now) (s .args .positions .now) (s .args .ranges .now), refl, P .0, P .1, h .0, s .args .depth, h .1, h .2))
 
 pub pass-loop-less : (t : ℕ) → pass-lts.Need-loop-less (pass-calls t) (pass-at t) pass.Post pass-Inv-loop pass-μ-loop
-pass-loop-less t c = let s = (c .before .before .before .before .before .before .before .before .before .before .before .before .before) in let P = s .pre .1 .1 in let a = (c .before .before .before .before .before .before .before .before) .loop in let i = a .inv .1 (P .0) (P .1) (P .2) (P .4) in let l = (c .before .before .before .before .before .before .before) .loop-test .taken in let f = child-facts (i .left) (i .zip) l in let n = child-term (i .left) (i .zip) l (sym ((c .before .before .before .before .before) .kind-at .ensures) ∙ (c .before .before .before .before) .if1 .taken) in let d = (c .before .before) .advance-term in omega (arith, f, n, l, back-length (a .kids) (d .last .0) (a .at) (a .at + 24) (d .kept .0))
+pass-loop-less t c = let s = (c .before .before .before .before .before .before .before .before .before .before .before .before .before) in let P = s .pre .1 .1 in let a = (c .before .before .before .before .before .before .before .before) .loop in let i = a .inv .1 (P .0) (P .1) (P .2) (P .4) in let l = (c .before .before .before .before .before .before .before) .loop-test .taken in let f = child-facts (i .left) (i .zip) l in let n = child-term (i .left) (i .zip) l (sym ((c .before .before .before .before .before) .kind-at .ensures) ∙ (c .before .before .before .before) .if1 .taken) in let d = (c .before .before) .advance-term in omega (arith, f, n, l, back-length (a .kids) (d .last .0) (a .at) (a .at + nodeStateWords) (d .kept .0))
 
 pub pass-loop-again : (t : ℕ) → pass-lts.Need-loop-again (pass-calls t) (pass-at t) pass.Post pass-Inv-loop pass-μ-loop
-pass-loop-again t c = let s = (c .before .before .before .before .before .before .before .before .before .before .before .before .before) in let a = (c .before .before .before .before .before .before .before .before) .loop in let l = (c .before .before .before .before .before .before .before) .loop-test .taken in let d = (c .before .before) .advance-term in (record { kids-same = back-length (a .kids) (d .last .0) (a .at) (a .at + 24) (d .kept .0) ∙ a .inv .0 .kids-same; a-same = a .inv .0 .a-same; b-same = a .inv .0 .b-same }, λ ix p ss h. let v = term-end (a .inv .1 ix p ss h .left) (a .inv .1 ix p ss h .zip) l (sym ((c .before .before .before .before .before) .kind-at .ensures) ∙ (c .before .before .before .before) .if1 .taken) in pass-took (a .inv .1 ix p ss h) l (a .at + 24) v (d .result) (d .last .0) (d .kept .0) (d .ensures .0 (lent (s .args .max-doc) (s .args .postings .now) (s .args .positions .now) (s .args .ranges .now)) (s .args .depth) refl))
+pass-loop-again t c = let s = (c .before .before .before .before .before .before .before .before .before .before .before .before .before) in let a = (c .before .before .before .before .before .before .before .before) .loop in let l = (c .before .before .before .before .before .before .before) .loop-test .taken in let d = (c .before .before) .advance-term in (record { kids-same = back-length (a .kids) (d .last .0) (a .at) (a .at + nodeStateWords) (d .kept .0) ∙ a .inv .0 .kids-same; a-same = a .inv .0 .a-same; b-same = a .inv .0 .b-same }, λ ix p ss h. let v = term-end (a .inv .1 ix p ss h .left) (a .inv .1 ix p ss h .zip) l (sym ((c .before .before .before .before .before) .kind-at .ensures) ∙ (c .before .before .before .before) .if1 .taken) in pass-took (a .inv .1 ix p ss h) l (a .at + nodeStateWords) v (d .result) (d .last .0) (d .kept .0) (d .ensures .0 (lent (s .args .max-doc) (s .args .postings .now) (s .args .positions .now) (s .args .ranges .now)) (s .args .depth) refl))
 
 pub pass-add-end-2 : (t : ℕ) → pass-lts.Need-add-end-2 (pass-calls t) (pass-at t) pass.Post pass-Inv-loop pass-μ-loop
 pass-add-end-2 t c = let s = (c .before .before .before .before .before .before .before .before .before .before) in let P = s .pre .1 .1 in let a = (c .before .before .before .before .before) .loop in let i = a .inv .1 (P .0) (P .1) (P .2) (P .4) in let l = (c .before .before .before .before) .loop-test .taken in let f = child-facts (i .left) (i .zip) l in let n = child-range (i .left) (i .zip) l (sym ((c .before .before) .kind-at .ensures) ∙ c .if2 .taken) in omega (arith, f, n, a .inv .0, s .good)
@@ -142,13 +143,13 @@ pub pass-part-advance-range-end : (t : ℕ) → pass-lts.Need-part-advance-range
 pass-part-advance-range-end t c = let s = (c .before .before .before .before .before .before .before .before .before .before) in let P = s .pre .1 .1 in let a = (c .before .before .before .before .before) .loop in let i = a .inv .1 (P .0) (P .1) (P .2) (P .4) in let l = (c .before .before .before .before) .loop-test .taken in let f = child-facts (i .left) (i .zip) l in let n = child-range (i .left) (i .zip) l (sym ((c .before .before) .kind-at .ensures) ∙ c .if2 .taken) in omega (arith, f, n, a .inv .0, s .good)
 
 pub pass-advance-range-requires : (t : ℕ) → pass-lts.Need-advance-range-requires (pass-calls t) (pass-at t) pass.Post pass-Inv-loop pass-μ-loop
-pass-advance-range-requires t c κs = let s = (c .before .before .before .before .before .before .before .before .before .before .before) in let P = s .pre .1 .1 in let a = (c .before .before .before .before .before .before) .loop in let i = a .inv .1 (P .0) (P .1) (P .2) (P .4) in let l = (c .before .before .before .before .before) .loop-test .taken in let f = child-facts (i .left) (i .zip) l in let v = range-end (i .left) (i .zip) l (sym ((c .before .before .before) .kind-at .ensures) ∙ (c .before) .if2 .taken) in let h = child-held (i .left) (i .zip) l (a .at + 24) v in (i .top, child-kind (a .kids) (a .at) (a .at + 24) f v ∙ (sym ((c .before .before .before) .kind-at .ensures) ∙ (c .before) .if2 .taken), (lent (s .args .max-doc) (s .args .postings .now) (s .args .positions .now) (s .args .ranges .now), refl, P .0, P .1, h .0, s .args .depth, h .1, h .2))
+pass-advance-range-requires t c κs = let s = (c .before .before .before .before .before .before .before .before .before .before .before) in let P = s .pre .1 .1 in let a = (c .before .before .before .before .before .before) .loop in let i = a .inv .1 (P .0) (P .1) (P .2) (P .4) in let l = (c .before .before .before .before .before) .loop-test .taken in let f = child-facts (i .left) (i .zip) l in let v = range-end (i .left) (i .zip) l (sym ((c .before .before .before) .kind-at .ensures) ∙ (c .before) .if2 .taken) in let h = child-held (i .left) (i .zip) l (a .at + nodeStateWords) v in (i .top, child-kind (a .kids) (a .at) (a .at + nodeStateWords) f v ∙ (sym ((c .before .before .before) .kind-at .ensures) ∙ (c .before) .if2 .taken), (lent (s .args .max-doc) (s .args .postings .now) (s .args .positions .now) (s .args .ranges .now), refl, P .0, P .1, h .0, s .args .depth, h .1, h .2))
 
 pub pass-loop-less-2 : (t : ℕ) → pass-lts.Need-loop-less-2 (pass-calls t) (pass-at t) pass.Post pass-Inv-loop pass-μ-loop
-pass-loop-less-2 t c = let s = (c .before .before .before .before .before .before .before .before .before .before .before .before .before .before) in let P = s .pre .1 .1 in let a = (c .before .before .before .before .before .before .before .before .before) .loop in let i = a .inv .1 (P .0) (P .1) (P .2) (P .4) in let l = (c .before .before .before .before .before .before .before .before) .loop-test .taken in let f = child-facts (i .left) (i .zip) l in let n = child-range (i .left) (i .zip) l (sym ((c .before .before .before .before .before .before) .kind-at .ensures) ∙ (c .before .before .before .before) .if2 .taken) in let d = (c .before .before) .advance-range in omega (arith, f, n, l, back-length (a .kids) (d .last .0) (a .at) (a .at + 24) (d .kept .0))
+pass-loop-less-2 t c = let s = (c .before .before .before .before .before .before .before .before .before .before .before .before .before .before) in let P = s .pre .1 .1 in let a = (c .before .before .before .before .before .before .before .before .before) .loop in let i = a .inv .1 (P .0) (P .1) (P .2) (P .4) in let l = (c .before .before .before .before .before .before .before .before) .loop-test .taken in let f = child-facts (i .left) (i .zip) l in let n = child-range (i .left) (i .zip) l (sym ((c .before .before .before .before .before .before) .kind-at .ensures) ∙ (c .before .before .before .before) .if2 .taken) in let d = (c .before .before) .advance-range in omega (arith, f, n, l, back-length (a .kids) (d .last .0) (a .at) (a .at + nodeStateWords) (d .kept .0))
 
 pub pass-loop-again-2 : (t : ℕ) → pass-lts.Need-loop-again-2 (pass-calls t) (pass-at t) pass.Post pass-Inv-loop pass-μ-loop
-pass-loop-again-2 t c = let s = (c .before .before .before .before .before .before .before .before .before .before .before .before .before .before) in let a = (c .before .before .before .before .before .before .before .before .before) .loop in let l = (c .before .before .before .before .before .before .before .before) .loop-test .taken in let d = (c .before .before) .advance-range in (record { kids-same = back-length (a .kids) (d .last .0) (a .at) (a .at + 24) (d .kept .0) ∙ a .inv .0 .kids-same; a-same = a .inv .0 .a-same; b-same = a .inv .0 .b-same }, λ ix p ss h. let v = range-end (a .inv .1 ix p ss h .left) (a .inv .1 ix p ss h .zip) l (sym ((c .before .before .before .before .before .before) .kind-at .ensures) ∙ (c .before .before .before .before) .if2 .taken) in pass-took (a .inv .1 ix p ss h) l (a .at + 24) v (d .result) (d .last .0) (d .kept .0) (d .ensures (lent (s .args .max-doc) (s .args .postings .now) (s .args .positions .now) (s .args .ranges .now)) (s .args .depth) refl))
+pass-loop-again-2 t c = let s = (c .before .before .before .before .before .before .before .before .before .before .before .before .before .before) in let a = (c .before .before .before .before .before .before .before .before .before) .loop in let l = (c .before .before .before .before .before .before .before .before) .loop-test .taken in let d = (c .before .before) .advance-range in (record { kids-same = back-length (a .kids) (d .last .0) (a .at) (a .at + nodeStateWords) (d .kept .0) ∙ a .inv .0 .kids-same; a-same = a .inv .0 .a-same; b-same = a .inv .0 .b-same }, λ ix p ss h. let v = range-end (a .inv .1 ix p ss h .left) (a .inv .1 ix p ss h .zip) l (sym ((c .before .before .before .before .before .before) .kind-at .ensures) ∙ (c .before .before .before .before) .if2 .taken) in pass-took (a .inv .1 ix p ss h) l (a .at + nodeStateWords) v (d .result) (d .last .0) (d .kept .0) (d .ensures (lent (s .args .max-doc) (s .args .postings .now) (s .args .positions .now) (s .args .ranges .now)) (s .args .depth) refl))
 
 pub pass-child-at-requires : (t : ℕ) → pass-lts.Need-child-at-requires (pass-calls t) (pass-at t) pass.Post pass-Inv-loop pass-μ-loop
 pass-child-at-requires t c κs = let s = (c .before .before .before .before .before .before .before .before .before .before .before) in let P = s .pre .1 .1 in let a = (c .before .before .before .before .before .before) .loop in let i = a .inv .1 (P .0) (P .1) (P .2) (P .4) in let l = (c .before .before .before .before .before) .loop-test .taken in child-facts (i .left) (i .zip) l

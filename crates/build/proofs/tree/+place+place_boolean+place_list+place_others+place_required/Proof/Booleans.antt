@@ -5,6 +5,7 @@ use native.Mathlib.Omega.{arith}
 use lib.Dec.{T}
 use lib.ListN.{length}
 use Prim.Native.Nat.{ℕ, _+_, _-_, _≤_, _<_}
+use Rattle.meaning.specs.Limits.{nodeStateWords}
 use Rattle.meaning.specs.Query.{recordCount}
 use Rattle.node_words.specs.Prepared.{records}
 use Rattle.build.proofs.PlacingBooleans.{tree-here, tree-room, tree-deep, tree-kept, tree-present, nothing-placed, boolean-known, boolean-required, first-fits, boolean-optional, second-fits, boolean-prohibited, whole-fits, whole-small, group-within, whole-placed}
@@ -55,7 +56,7 @@ record-counted t c =
     let pre = s .pre .1 .1 in
     tree-here E at fixed kept boost words depth pre
 
-some-room : (t : ℕ) (c : place-boolean-lts.Start (place-boolean-calls t) (place-boolean-at t) place-boolean.Post) → 24 ≤ length (c .args .st .now)
+some-room : (t : ℕ) (c : place-boolean-lts.Start (place-boolean-calls t) (place-boolean-at t) place-boolean.Post) → nodeStateWords ≤ length (c .args .st .now)
 some-room t c =
     let s = c in
     let E = records (s .args .q .now) (s .args .max-doc) (s .args .fields .now) (s .args .leaves .now) (s .args .nexts .now) (s .args .presents .now) (s .args .costs .now) (s .args .places .now) (s .args .counts .now) in
@@ -70,15 +71,15 @@ some-room t c =
     tree-room E at fixed kept boost words depth pre
 
 -- the words stay as many, and so many are left after the required
-required-long : (t : ℕ) (c : place-boolean-lts.After-place-required (place-boolean-calls t) (place-boolean-at t) place-boolean.Post) → length (putMid 24 (length (c .before .before .before .before .before .before .before .before .before .before .before .before .before .before .before .args .st .now) - 24) (c .before .before .before .before .before .before .before .before .before .before .before .before .before .before .before .args .st .now) (c .place-required .last .0)) ≡ length (c .before .before .before .before .before .before .before .before .before .before .before .before .before .before .before .args .st .now)
+required-long : (t : ℕ) (c : place-boolean-lts.After-place-required (place-boolean-calls t) (place-boolean-at t) place-boolean.Post) → length (putMid nodeStateWords (length (c .before .before .before .before .before .before .before .before .before .before .before .before .before .before .before .args .st .now) - nodeStateWords) (c .before .before .before .before .before .before .before .before .before .before .before .before .before .before .before .args .st .now) (c .place-required .last .0)) ≡ length (c .before .before .before .before .before .before .before .before .before .before .before .before .before .before .before .args .st .now)
 required-long t c =
-    same-len-mid 24 (length (c .before .before .before .before .before .before .before .before .before .before .before .before .before .before .before .args .st .now) - 24) (c .before .before .before .before .before .before .before .before .before .before .before .before .before .before .before .args .st .now) (c .place-required .last .0) (c .place-required .kept .0)
+    same-len-mid nodeStateWords (length (c .before .before .before .before .before .before .before .before .before .before .before .before .before .before .before .args .st .now) - nodeStateWords) (c .before .before .before .before .before .before .before .before .before .before .before .before .before .before .before .args .st .now) (c .place-required .last .0) (c .place-required .kept .0)
 
-optional-part : (t : ℕ) (c : place-boolean-lts.After-place-required (place-boolean-calls t) (place-boolean-at t) place-boolean.Post) → length (midOf (24 + c .place-required .result .end) (length (putMid 24 (length (c .before .before .before .before .before .before .before .before .before .before .before .before .before .before .before .args .st .now) - 24) (c .before .before .before .before .before .before .before .before .before .before .before .before .before .before .before .args .st .now) (c .place-required .last .0)) - (24 + c .place-required .result .end)) (putMid 24 (length (c .before .before .before .before .before .before .before .before .before .before .before .before .before .before .before .args .st .now) - 24) (c .before .before .before .before .before .before .before .before .before .before .before .before .before .before .before .args .st .now) (c .place-required .last .0))) ≡ length (c .before .before .before .before .before .before .before .before .before .before .before .before .before .before .before .args .st .now) - (24 + c .place-required .result .end)
+optional-part : (t : ℕ) (c : place-boolean-lts.After-place-required (place-boolean-calls t) (place-boolean-at t) place-boolean.Post) → length (midOf (nodeStateWords + c .place-required .result .end) (length (putMid nodeStateWords (length (c .before .before .before .before .before .before .before .before .before .before .before .before .before .before .before .args .st .now) - nodeStateWords) (c .before .before .before .before .before .before .before .before .before .before .before .before .before .before .before .args .st .now) (c .place-required .last .0)) - (nodeStateWords + c .place-required .result .end)) (putMid nodeStateWords (length (c .before .before .before .before .before .before .before .before .before .before .before .before .before .before .before .args .st .now) - nodeStateWords) (c .before .before .before .before .before .before .before .before .before .before .before .before .before .before .before .args .st .now) (c .place-required .last .0))) ≡ length (c .before .before .before .before .before .before .before .before .before .before .before .before .before .before .before .args .st .now) - (nodeStateWords + c .place-required .result .end)
 optional-part t c =
-    mid-len (24 + c .place-required .result .end) (length (putMid 24 (length (c .before .before .before .before .before .before .before .before .before .before .before .before .before .before .before .args .st .now) - 24) (c .before .before .before .before .before .before .before .before .before .before .before .before .before .before .before .args .st .now) (c .place-required .last .0))) (putMid 24 (length (c .before .before .before .before .before .before .before .before .before .before .before .before .before .before .before .args .st .now) - 24) (c .before .before .before .before .before .before .before .before .before .before .before .before .before .before .before .args .st .now) (c .place-required .last .0)) (omega arith) ∙ ap (λ (z : ℕ). z - (24 + c .place-required .result .end)) (required-long t c)
+    mid-len (nodeStateWords + c .place-required .result .end) (length (putMid nodeStateWords (length (c .before .before .before .before .before .before .before .before .before .before .before .before .before .before .before .args .st .now) - nodeStateWords) (c .before .before .before .before .before .before .before .before .before .before .before .before .before .before .before .args .st .now) (c .place-required .last .0))) (putMid nodeStateWords (length (c .before .before .before .before .before .before .before .before .before .before .before .before .before .before .before .args .st .now) - nodeStateWords) (c .before .before .before .before .before .before .before .before .before .before .before .before .before .before .before .args .st .now) (c .place-required .last .0)) (omega arith) ∙ ap (λ (z : ℕ). z - (nodeStateWords + c .place-required .result .end)) (required-long t c)
 
-required-fits : (t : ℕ) (c : place-boolean-lts.After-place-required (place-boolean-calls t) (place-boolean-at t) place-boolean.Post) → (24 + c .place-required .result .end) ≤ length (c .before .before .before .before .before .before .before .before .before .before .before .before .before .before .before .args .st .now)
+required-fits : (t : ℕ) (c : place-boolean-lts.After-place-required (place-boolean-calls t) (place-boolean-at t) place-boolean.Post) → (nodeStateWords + c .place-required .result .end) ≤ length (c .before .before .before .before .before .before .before .before .before .before .before .before .before .before .before .args .st .now)
 required-fits t c =
     let s = c .before .before .before .before .before .before .before .before .before .before .before .before .before .before .before in
     let E = records (s .args .q .now) (s .args .max-doc) (s .args .fields .now) (s .args .leaves .now) (s .args .nexts .now) (s .args .presents .now) (s .args .costs .now) (s .args .places .now) (s .args .counts .now) in
@@ -92,21 +93,21 @@ required-fits t c =
     let kind = s .pre .1 .0 in
     let pre = s .pre .1 .1 in
     let there = c .before .before .before .before .if1 .left in
-    let part₁ = mid-len 24 words st₀ (omega arith) in
+    let part₁ = mid-len nodeStateWords words st₀ (omega arith) in
     let a = c .place-required in
     let e₁ = a .result .end in
     first-fits E at fixed kept boost words depth kind there _ part₁ (a .result .«group_at») e₁ (a .last .0) (a .ensures .0) pre
 
 -- and after the optional
-optional-long : (t : ℕ) (c : place-boolean-lts.After-place-others (place-boolean-calls t) (place-boolean-at t) place-boolean.Post) → length (putMid (24 + c .before .before .before .before .before .place-required .result .end) (length (putMid 24 (length (c .before .before .before .before .before .before .before .before .before .before .before .before .before .before .before .before .before .before .before .before .args .st .now) - 24) (c .before .before .before .before .before .before .before .before .before .before .before .before .before .before .before .before .before .before .before .before .args .st .now) (c .before .before .before .before .before .place-required .last .0)) - (24 + c .before .before .before .before .before .place-required .result .end)) (putMid 24 (length (c .before .before .before .before .before .before .before .before .before .before .before .before .before .before .before .before .before .before .before .before .args .st .now) - 24) (c .before .before .before .before .before .before .before .before .before .before .before .before .before .before .before .before .before .before .before .before .args .st .now) (c .before .before .before .before .before .place-required .last .0)) (c .place-others .last .0)) ≡ length (c .before .before .before .before .before .before .before .before .before .before .before .before .before .before .before .before .before .before .before .before .args .st .now)
+optional-long : (t : ℕ) (c : place-boolean-lts.After-place-others (place-boolean-calls t) (place-boolean-at t) place-boolean.Post) → length (putMid (nodeStateWords + c .before .before .before .before .before .place-required .result .end) (length (putMid nodeStateWords (length (c .before .before .before .before .before .before .before .before .before .before .before .before .before .before .before .before .before .before .before .before .args .st .now) - nodeStateWords) (c .before .before .before .before .before .before .before .before .before .before .before .before .before .before .before .before .before .before .before .before .args .st .now) (c .before .before .before .before .before .place-required .last .0)) - (nodeStateWords + c .before .before .before .before .before .place-required .result .end)) (putMid nodeStateWords (length (c .before .before .before .before .before .before .before .before .before .before .before .before .before .before .before .before .before .before .before .before .args .st .now) - nodeStateWords) (c .before .before .before .before .before .before .before .before .before .before .before .before .before .before .before .before .before .before .before .before .args .st .now) (c .before .before .before .before .before .place-required .last .0)) (c .place-others .last .0)) ≡ length (c .before .before .before .before .before .before .before .before .before .before .before .before .before .before .before .before .before .before .before .before .args .st .now)
 optional-long t c =
-    same-len-mid (24 + c .before .before .before .before .before .place-required .result .end) (length (putMid 24 (length (c .before .before .before .before .before .before .before .before .before .before .before .before .before .before .before .before .before .before .before .before .args .st .now) - 24) (c .before .before .before .before .before .before .before .before .before .before .before .before .before .before .before .before .before .before .before .before .args .st .now) (c .before .before .before .before .before .place-required .last .0)) - (24 + c .before .before .before .before .before .place-required .result .end)) (putMid 24 (length (c .before .before .before .before .before .before .before .before .before .before .before .before .before .before .before .before .before .before .before .before .args .st .now) - 24) (c .before .before .before .before .before .before .before .before .before .before .before .before .before .before .before .before .before .before .before .before .args .st .now) (c .before .before .before .before .before .place-required .last .0)) (c .place-others .last .0) (c .place-others .kept .0) ∙ required-long t (c .before .before .before .before .before)
+    same-len-mid (nodeStateWords + c .before .before .before .before .before .place-required .result .end) (length (putMid nodeStateWords (length (c .before .before .before .before .before .before .before .before .before .before .before .before .before .before .before .before .before .before .before .before .args .st .now) - nodeStateWords) (c .before .before .before .before .before .before .before .before .before .before .before .before .before .before .before .before .before .before .before .before .args .st .now) (c .before .before .before .before .before .place-required .last .0)) - (nodeStateWords + c .before .before .before .before .before .place-required .result .end)) (putMid nodeStateWords (length (c .before .before .before .before .before .before .before .before .before .before .before .before .before .before .before .before .before .before .before .before .args .st .now) - nodeStateWords) (c .before .before .before .before .before .before .before .before .before .before .before .before .before .before .before .before .before .before .before .before .args .st .now) (c .before .before .before .before .before .place-required .last .0)) (c .place-others .last .0) (c .place-others .kept .0) ∙ required-long t (c .before .before .before .before .before)
 
-prohibited-part : (t : ℕ) (c : place-boolean-lts.After-place-others (place-boolean-calls t) (place-boolean-at t) place-boolean.Post) → length (midOf (24 + (c .before .before .before .before .before .place-required .result .end + c .place-others .result)) (length (putMid (24 + c .before .before .before .before .before .place-required .result .end) (length (putMid 24 (length (c .before .before .before .before .before .before .before .before .before .before .before .before .before .before .before .before .before .before .before .before .args .st .now) - 24) (c .before .before .before .before .before .before .before .before .before .before .before .before .before .before .before .before .before .before .before .before .args .st .now) (c .before .before .before .before .before .place-required .last .0)) - (24 + c .before .before .before .before .before .place-required .result .end)) (putMid 24 (length (c .before .before .before .before .before .before .before .before .before .before .before .before .before .before .before .before .before .before .before .before .args .st .now) - 24) (c .before .before .before .before .before .before .before .before .before .before .before .before .before .before .before .before .before .before .before .before .args .st .now) (c .before .before .before .before .before .place-required .last .0)) (c .place-others .last .0)) - (24 + (c .before .before .before .before .before .place-required .result .end + c .place-others .result))) (putMid (24 + c .before .before .before .before .before .place-required .result .end) (length (putMid 24 (length (c .before .before .before .before .before .before .before .before .before .before .before .before .before .before .before .before .before .before .before .before .args .st .now) - 24) (c .before .before .before .before .before .before .before .before .before .before .before .before .before .before .before .before .before .before .before .before .args .st .now) (c .before .before .before .before .before .place-required .last .0)) - (24 + c .before .before .before .before .before .place-required .result .end)) (putMid 24 (length (c .before .before .before .before .before .before .before .before .before .before .before .before .before .before .before .before .before .before .before .before .args .st .now) - 24) (c .before .before .before .before .before .before .before .before .before .before .before .before .before .before .before .before .before .before .before .before .args .st .now) (c .before .before .before .before .before .place-required .last .0)) (c .place-others .last .0))) ≡ length (c .before .before .before .before .before .before .before .before .before .before .before .before .before .before .before .before .before .before .before .before .args .st .now) - (24 + (c .before .before .before .before .before .place-required .result .end + c .place-others .result))
+prohibited-part : (t : ℕ) (c : place-boolean-lts.After-place-others (place-boolean-calls t) (place-boolean-at t) place-boolean.Post) → length (midOf (nodeStateWords + (c .before .before .before .before .before .place-required .result .end + c .place-others .result)) (length (putMid (nodeStateWords + c .before .before .before .before .before .place-required .result .end) (length (putMid nodeStateWords (length (c .before .before .before .before .before .before .before .before .before .before .before .before .before .before .before .before .before .before .before .before .args .st .now) - nodeStateWords) (c .before .before .before .before .before .before .before .before .before .before .before .before .before .before .before .before .before .before .before .before .args .st .now) (c .before .before .before .before .before .place-required .last .0)) - (nodeStateWords + c .before .before .before .before .before .place-required .result .end)) (putMid nodeStateWords (length (c .before .before .before .before .before .before .before .before .before .before .before .before .before .before .before .before .before .before .before .before .args .st .now) - nodeStateWords) (c .before .before .before .before .before .before .before .before .before .before .before .before .before .before .before .before .before .before .before .before .args .st .now) (c .before .before .before .before .before .place-required .last .0)) (c .place-others .last .0)) - (nodeStateWords + (c .before .before .before .before .before .place-required .result .end + c .place-others .result))) (putMid (nodeStateWords + c .before .before .before .before .before .place-required .result .end) (length (putMid nodeStateWords (length (c .before .before .before .before .before .before .before .before .before .before .before .before .before .before .before .before .before .before .before .before .args .st .now) - nodeStateWords) (c .before .before .before .before .before .before .before .before .before .before .before .before .before .before .before .before .before .before .before .before .args .st .now) (c .before .before .before .before .before .place-required .last .0)) - (nodeStateWords + c .before .before .before .before .before .place-required .result .end)) (putMid nodeStateWords (length (c .before .before .before .before .before .before .before .before .before .before .before .before .before .before .before .before .before .before .before .before .args .st .now) - nodeStateWords) (c .before .before .before .before .before .before .before .before .before .before .before .before .before .before .before .before .before .before .before .before .args .st .now) (c .before .before .before .before .before .place-required .last .0)) (c .place-others .last .0))) ≡ length (c .before .before .before .before .before .before .before .before .before .before .before .before .before .before .before .before .before .before .before .before .args .st .now) - (nodeStateWords + (c .before .before .before .before .before .place-required .result .end + c .place-others .result))
 prohibited-part t c =
-    mid-len (24 + (c .before .before .before .before .before .place-required .result .end + c .place-others .result)) (length (putMid (24 + c .before .before .before .before .before .place-required .result .end) (length (putMid 24 (length (c .before .before .before .before .before .before .before .before .before .before .before .before .before .before .before .before .before .before .before .before .args .st .now) - 24) (c .before .before .before .before .before .before .before .before .before .before .before .before .before .before .before .before .before .before .before .before .args .st .now) (c .before .before .before .before .before .place-required .last .0)) - (24 + c .before .before .before .before .before .place-required .result .end)) (putMid 24 (length (c .before .before .before .before .before .before .before .before .before .before .before .before .before .before .before .before .before .before .before .before .args .st .now) - 24) (c .before .before .before .before .before .before .before .before .before .before .before .before .before .before .before .before .before .before .before .before .args .st .now) (c .before .before .before .before .before .place-required .last .0)) (c .place-others .last .0))) (putMid (24 + c .before .before .before .before .before .place-required .result .end) (length (putMid 24 (length (c .before .before .before .before .before .before .before .before .before .before .before .before .before .before .before .before .before .before .before .before .args .st .now) - 24) (c .before .before .before .before .before .before .before .before .before .before .before .before .before .before .before .before .before .before .before .before .args .st .now) (c .before .before .before .before .before .place-required .last .0)) - (24 + c .before .before .before .before .before .place-required .result .end)) (putMid 24 (length (c .before .before .before .before .before .before .before .before .before .before .before .before .before .before .before .before .before .before .before .before .args .st .now) - 24) (c .before .before .before .before .before .before .before .before .before .before .before .before .before .before .before .before .before .before .before .before .args .st .now) (c .before .before .before .before .before .place-required .last .0)) (c .place-others .last .0)) (omega arith) ∙ ap (λ (z : ℕ). z - (24 + (c .before .before .before .before .before .place-required .result .end + c .place-others .result))) (optional-long t c)
+    mid-len (nodeStateWords + (c .before .before .before .before .before .place-required .result .end + c .place-others .result)) (length (putMid (nodeStateWords + c .before .before .before .before .before .place-required .result .end) (length (putMid nodeStateWords (length (c .before .before .before .before .before .before .before .before .before .before .before .before .before .before .before .before .before .before .before .before .args .st .now) - nodeStateWords) (c .before .before .before .before .before .before .before .before .before .before .before .before .before .before .before .before .before .before .before .before .args .st .now) (c .before .before .before .before .before .place-required .last .0)) - (nodeStateWords + c .before .before .before .before .before .place-required .result .end)) (putMid nodeStateWords (length (c .before .before .before .before .before .before .before .before .before .before .before .before .before .before .before .before .before .before .before .before .args .st .now) - nodeStateWords) (c .before .before .before .before .before .before .before .before .before .before .before .before .before .before .before .before .before .before .before .before .args .st .now) (c .before .before .before .before .before .place-required .last .0)) (c .place-others .last .0))) (putMid (nodeStateWords + c .before .before .before .before .before .place-required .result .end) (length (putMid nodeStateWords (length (c .before .before .before .before .before .before .before .before .before .before .before .before .before .before .before .before .before .before .before .before .args .st .now) - nodeStateWords) (c .before .before .before .before .before .before .before .before .before .before .before .before .before .before .before .before .before .before .before .before .args .st .now) (c .before .before .before .before .before .place-required .last .0)) - (nodeStateWords + c .before .before .before .before .before .place-required .result .end)) (putMid nodeStateWords (length (c .before .before .before .before .before .before .before .before .before .before .before .before .before .before .before .before .before .before .before .before .args .st .now) - nodeStateWords) (c .before .before .before .before .before .before .before .before .before .before .before .before .before .before .before .before .before .before .before .before .args .st .now) (c .before .before .before .before .before .place-required .last .0)) (c .place-others .last .0)) (omega arith) ∙ ap (λ (z : ℕ). z - (nodeStateWords + (c .before .before .before .before .before .place-required .result .end + c .place-others .result))) (optional-long t c)
 
-optional-fits : (t : ℕ) (c : place-boolean-lts.After-place-others (place-boolean-calls t) (place-boolean-at t) place-boolean.Post) → (24 + (c .before .before .before .before .before .place-required .result .end + c .place-others .result)) ≤ length (c .before .before .before .before .before .before .before .before .before .before .before .before .before .before .before .before .before .before .before .before .args .st .now)
+optional-fits : (t : ℕ) (c : place-boolean-lts.After-place-others (place-boolean-calls t) (place-boolean-at t) place-boolean.Post) → (nodeStateWords + (c .before .before .before .before .before .place-required .result .end + c .place-others .result)) ≤ length (c .before .before .before .before .before .before .before .before .before .before .before .before .before .before .before .before .before .before .before .before .args .st .now)
 optional-fits t c =
     let s = c .before .before .before .before .before .before .before .before .before .before .before .before .before .before .before .before .before .before .before .before in
     let E = records (s .args .q .now) (s .args .max-doc) (s .args .fields .now) (s .args .leaves .now) (s .args .nexts .now) (s .args .presents .now) (s .args .costs .now) (s .args .places .now) (s .args .counts .now) in
@@ -120,7 +121,7 @@ optional-fits t c =
     let kind = s .pre .1 .0 in
     let pre = s .pre .1 .1 in
     let there = c .before .before .before .before .before .before .before .before .before .if1 .left in
-    let part₁ = mid-len 24 words st₀ (omega arith) in
+    let part₁ = mid-len nodeStateWords words st₀ (omega arith) in
     let a = c .before .before .before .before .before .place-required in
     let e₁ = a .result .end in
     let part₂ = optional-part t (c .before .before .before .before .before) in
@@ -129,9 +130,9 @@ optional-fits t c =
     second-fits E at fixed kept boost words depth kind there _ part₁ (a .result .«group_at») e₁ (a .last .0) (a .ensures .0) _ part₂ e₂ (b .last .0) (b .ensures .0) pre
 
 -- and after the prohibited
-prohibited-long : (t : ℕ) (c : place-boolean-lts.After-place-others2 (place-boolean-calls t) (place-boolean-at t) place-boolean.Post) → length (putMid (24 + (c .before .before .before .before .before .before .before .before .before .before .place-required .result .end + c .before .before .before .before .before .place-others .result)) (length (putMid (24 + c .before .before .before .before .before .before .before .before .before .before .place-required .result .end) (length (putMid 24 (length (c .before .before .before .before .before .before .before .before .before .before .before .before .before .before .before .before .before .before .before .before .before .before .before .before .before .args .st .now) - 24) (c .before .before .before .before .before .before .before .before .before .before .before .before .before .before .before .before .before .before .before .before .before .before .before .before .before .args .st .now) (c .before .before .before .before .before .before .before .before .before .before .place-required .last .0)) - (24 + c .before .before .before .before .before .before .before .before .before .before .place-required .result .end)) (putMid 24 (length (c .before .before .before .before .before .before .before .before .before .before .before .before .before .before .before .before .before .before .before .before .before .before .before .before .before .args .st .now) - 24) (c .before .before .before .before .before .before .before .before .before .before .before .before .before .before .before .before .before .before .before .before .before .before .before .before .before .args .st .now) (c .before .before .before .before .before .before .before .before .before .before .place-required .last .0)) (c .before .before .before .before .before .place-others .last .0)) - (24 + (c .before .before .before .before .before .before .before .before .before .before .place-required .result .end + c .before .before .before .before .before .place-others .result))) (putMid (24 + c .before .before .before .before .before .before .before .before .before .before .place-required .result .end) (length (putMid 24 (length (c .before .before .before .before .before .before .before .before .before .before .before .before .before .before .before .before .before .before .before .before .before .before .before .before .before .args .st .now) - 24) (c .before .before .before .before .before .before .before .before .before .before .before .before .before .before .before .before .before .before .before .before .before .before .before .before .before .args .st .now) (c .before .before .before .before .before .before .before .before .before .before .place-required .last .0)) - (24 + c .before .before .before .before .before .before .before .before .before .before .place-required .result .end)) (putMid 24 (length (c .before .before .before .before .before .before .before .before .before .before .before .before .before .before .before .before .before .before .before .before .before .before .before .before .before .args .st .now) - 24) (c .before .before .before .before .before .before .before .before .before .before .before .before .before .before .before .before .before .before .before .before .before .before .before .before .before .args .st .now) (c .before .before .before .before .before .before .before .before .before .before .place-required .last .0)) (c .before .before .before .before .before .place-others .last .0)) (c .place-others2 .last .0)) ≡ length (c .before .before .before .before .before .before .before .before .before .before .before .before .before .before .before .before .before .before .before .before .before .before .before .before .before .args .st .now)
+prohibited-long : (t : ℕ) (c : place-boolean-lts.After-place-others2 (place-boolean-calls t) (place-boolean-at t) place-boolean.Post) → length (putMid (nodeStateWords + (c .before .before .before .before .before .before .before .before .before .before .place-required .result .end + c .before .before .before .before .before .place-others .result)) (length (putMid (nodeStateWords + c .before .before .before .before .before .before .before .before .before .before .place-required .result .end) (length (putMid nodeStateWords (length (c .before .before .before .before .before .before .before .before .before .before .before .before .before .before .before .before .before .before .before .before .before .before .before .before .before .args .st .now) - nodeStateWords) (c .before .before .before .before .before .before .before .before .before .before .before .before .before .before .before .before .before .before .before .before .before .before .before .before .before .args .st .now) (c .before .before .before .before .before .before .before .before .before .before .place-required .last .0)) - (nodeStateWords + c .before .before .before .before .before .before .before .before .before .before .place-required .result .end)) (putMid nodeStateWords (length (c .before .before .before .before .before .before .before .before .before .before .before .before .before .before .before .before .before .before .before .before .before .before .before .before .before .args .st .now) - nodeStateWords) (c .before .before .before .before .before .before .before .before .before .before .before .before .before .before .before .before .before .before .before .before .before .before .before .before .before .args .st .now) (c .before .before .before .before .before .before .before .before .before .before .place-required .last .0)) (c .before .before .before .before .before .place-others .last .0)) - (nodeStateWords + (c .before .before .before .before .before .before .before .before .before .before .place-required .result .end + c .before .before .before .before .before .place-others .result))) (putMid (nodeStateWords + c .before .before .before .before .before .before .before .before .before .before .place-required .result .end) (length (putMid nodeStateWords (length (c .before .before .before .before .before .before .before .before .before .before .before .before .before .before .before .before .before .before .before .before .before .before .before .before .before .args .st .now) - nodeStateWords) (c .before .before .before .before .before .before .before .before .before .before .before .before .before .before .before .before .before .before .before .before .before .before .before .before .before .args .st .now) (c .before .before .before .before .before .before .before .before .before .before .place-required .last .0)) - (nodeStateWords + c .before .before .before .before .before .before .before .before .before .before .place-required .result .end)) (putMid nodeStateWords (length (c .before .before .before .before .before .before .before .before .before .before .before .before .before .before .before .before .before .before .before .before .before .before .before .before .before .args .st .now) - nodeStateWords) (c .before .before .before .before .before .before .before .before .before .before .before .before .before .before .before .before .before .before .before .before .before .before .before .before .before .args .st .now) (c .before .before .before .before .before .before .before .before .before .before .place-required .last .0)) (c .before .before .before .before .before .place-others .last .0)) (c .place-others2 .last .0)) ≡ length (c .before .before .before .before .before .before .before .before .before .before .before .before .before .before .before .before .before .before .before .before .before .before .before .before .before .args .st .now)
 prohibited-long t c =
-    same-len-mid (24 + (c .before .before .before .before .before .before .before .before .before .before .place-required .result .end + c .before .before .before .before .before .place-others .result)) (length (putMid (24 + c .before .before .before .before .before .before .before .before .before .before .place-required .result .end) (length (putMid 24 (length (c .before .before .before .before .before .before .before .before .before .before .before .before .before .before .before .before .before .before .before .before .before .before .before .before .before .args .st .now) - 24) (c .before .before .before .before .before .before .before .before .before .before .before .before .before .before .before .before .before .before .before .before .before .before .before .before .before .args .st .now) (c .before .before .before .before .before .before .before .before .before .before .place-required .last .0)) - (24 + c .before .before .before .before .before .before .before .before .before .before .place-required .result .end)) (putMid 24 (length (c .before .before .before .before .before .before .before .before .before .before .before .before .before .before .before .before .before .before .before .before .before .before .before .before .before .args .st .now) - 24) (c .before .before .before .before .before .before .before .before .before .before .before .before .before .before .before .before .before .before .before .before .before .before .before .before .before .args .st .now) (c .before .before .before .before .before .before .before .before .before .before .place-required .last .0)) (c .before .before .before .before .before .place-others .last .0)) - (24 + (c .before .before .before .before .before .before .before .before .before .before .place-required .result .end + c .before .before .before .before .before .place-others .result))) (putMid (24 + c .before .before .before .before .before .before .before .before .before .before .place-required .result .end) (length (putMid 24 (length (c .before .before .before .before .before .before .before .before .before .before .before .before .before .before .before .before .before .before .before .before .before .before .before .before .before .args .st .now) - 24) (c .before .before .before .before .before .before .before .before .before .before .before .before .before .before .before .before .before .before .before .before .before .before .before .before .before .args .st .now) (c .before .before .before .before .before .before .before .before .before .before .place-required .last .0)) - (24 + c .before .before .before .before .before .before .before .before .before .before .place-required .result .end)) (putMid 24 (length (c .before .before .before .before .before .before .before .before .before .before .before .before .before .before .before .before .before .before .before .before .before .before .before .before .before .args .st .now) - 24) (c .before .before .before .before .before .before .before .before .before .before .before .before .before .before .before .before .before .before .before .before .before .before .before .before .before .args .st .now) (c .before .before .before .before .before .before .before .before .before .before .place-required .last .0)) (c .before .before .before .before .before .place-others .last .0)) (c .place-others2 .last .0) (c .place-others2 .kept .0) ∙ optional-long t (c .before .before .before .before .before)
+    same-len-mid (nodeStateWords + (c .before .before .before .before .before .before .before .before .before .before .place-required .result .end + c .before .before .before .before .before .place-others .result)) (length (putMid (nodeStateWords + c .before .before .before .before .before .before .before .before .before .before .place-required .result .end) (length (putMid nodeStateWords (length (c .before .before .before .before .before .before .before .before .before .before .before .before .before .before .before .before .before .before .before .before .before .before .before .before .before .args .st .now) - nodeStateWords) (c .before .before .before .before .before .before .before .before .before .before .before .before .before .before .before .before .before .before .before .before .before .before .before .before .before .args .st .now) (c .before .before .before .before .before .before .before .before .before .before .place-required .last .0)) - (nodeStateWords + c .before .before .before .before .before .before .before .before .before .before .place-required .result .end)) (putMid nodeStateWords (length (c .before .before .before .before .before .before .before .before .before .before .before .before .before .before .before .before .before .before .before .before .before .before .before .before .before .args .st .now) - nodeStateWords) (c .before .before .before .before .before .before .before .before .before .before .before .before .before .before .before .before .before .before .before .before .before .before .before .before .before .args .st .now) (c .before .before .before .before .before .before .before .before .before .before .place-required .last .0)) (c .before .before .before .before .before .place-others .last .0)) - (nodeStateWords + (c .before .before .before .before .before .before .before .before .before .before .place-required .result .end + c .before .before .before .before .before .place-others .result))) (putMid (nodeStateWords + c .before .before .before .before .before .before .before .before .before .before .place-required .result .end) (length (putMid nodeStateWords (length (c .before .before .before .before .before .before .before .before .before .before .before .before .before .before .before .before .before .before .before .before .before .before .before .before .before .args .st .now) - nodeStateWords) (c .before .before .before .before .before .before .before .before .before .before .before .before .before .before .before .before .before .before .before .before .before .before .before .before .before .args .st .now) (c .before .before .before .before .before .before .before .before .before .before .place-required .last .0)) - (nodeStateWords + c .before .before .before .before .before .before .before .before .before .before .place-required .result .end)) (putMid nodeStateWords (length (c .before .before .before .before .before .before .before .before .before .before .before .before .before .before .before .before .before .before .before .before .before .before .before .before .before .args .st .now) - nodeStateWords) (c .before .before .before .before .before .before .before .before .before .before .before .before .before .before .before .before .before .before .before .before .before .before .before .before .before .args .st .now) (c .before .before .before .before .before .before .before .before .before .before .place-required .last .0)) (c .before .before .before .before .before .place-others .last .0)) (c .place-others2 .last .0) (c .place-others2 .kept .0) ∙ optional-long t (c .before .before .before .before .before)
 
 pub place-boolean-mul-if1 : (t : ℕ) → place-boolean-lts.Need-mul-if1 (place-boolean-calls t) (place-boolean-at t) place-boolean.Post
 place-boolean-mul-if1 t c =
@@ -211,7 +212,7 @@ place-boolean-place-required-requires t c κs =
     let kind = s .pre .1 .0 in
     let pre = s .pre .1 .1 in
     let there = c .before .before .before .if1 .left in
-    let part₁ = mid-len 24 words st₀ (omega arith) in
+    let part₁ = mid-len nodeStateWords words st₀ (omega arith) in
     (omega (arith, s .pre .0, some-levels t (c .before .before .before .before .before .before .before .before .before .before .before .before .before .before)), boolean-required E at fixed kept boost words depth kind there _ part₁ pre)
 
 pub place-boolean-add-place-others : (t : ℕ) → place-boolean-lts.Need-add-place-others (place-boolean-calls t) (place-boolean-at t) place-boolean.Post
@@ -251,7 +252,7 @@ place-boolean-place-others-requires t c κs =
     let kind = s .pre .1 .0 in
     let pre = s .pre .1 .1 in
     let there = c .before .before .before .before .before .before .before .before .if1 .left in
-    let part₁ = mid-len 24 words st₀ (omega arith) in
+    let part₁ = mid-len nodeStateWords words st₀ (omega arith) in
     let a = c .before .before .before .before .place-required in
     let e₁ = a .result .end in
     let part₂ = optional-part t (c .before .before .before .before) in
@@ -298,7 +299,7 @@ place-boolean-place-others-requires-2 t c κs =
     let kind = s .pre .1 .0 in
     let pre = s .pre .1 .1 in
     let there = c .before .before .before .before .before .before .before .before .before .before .before .before .before .if1 .left in
-    let part₁ = mid-len 24 words st₀ (omega arith) in
+    let part₁ = mid-len nodeStateWords words st₀ (omega arith) in
     let a = c .before .before .before .before .before .before .before .before .before .place-required in
     let e₁ = a .result .end in
     let part₂ = optional-part t (c .before .before .before .before .before .before .before .before .before) in
@@ -325,7 +326,7 @@ place-boolean-add-size-2 t c =
     let kind = s .pre .1 .0 in
     let pre = s .pre .1 .1 in
     let there = c .before .before .before .before .before .before .before .before .before .before .before .before .before .before .before .before .if1 .left in
-    let part₁ = mid-len 24 words st₀ (omega arith) in
+    let part₁ = mid-len nodeStateWords words st₀ (omega arith) in
     let a = c .before .before .before .before .before .before .before .before .before .before .before .before .place-required in
     let e₁ = a .result .end in
     let part₂ = optional-part t (c .before .before .before .before .before .before .before .before .before .before .before .before) in
@@ -356,7 +357,7 @@ place-boolean-put-boolean-requires t c κs =
     let kind = s .pre .1 .0 in
     let pre = s .pre .1 .1 in
     let there = c .before .before .before .before .before .before .before .before .before .before .before .before .before .before .before .before .before .before .before .if1 .left in
-    let part₁ = mid-len 24 words st₀ (omega arith) in
+    let part₁ = mid-len nodeStateWords words st₀ (omega arith) in
     let a = c .before .before .before .before .before .before .before .before .before .before .before .before .before .before .before .place-required in
     let e₁ = a .result .end in
     let part₂ = optional-part t (c .before .before .before .before .before .before .before .before .before .before .before .before .before .before .before) in
@@ -387,15 +388,15 @@ place-boolean-returns-2 t c =
     let kind = s .pre .1 .0 in
     let pre = s .pre .1 .1 in
     let there = c .before .before .before .before .before .before .before .before .before .before .before .before .before .before .before .before .before .before .before .before .before .before .if1 .left in
-    let part₁ = mid-len 24 words st₀ (omega arith) in
+    let part₁ = mid-len nodeStateWords words st₀ (omega arith) in
     let a = c .before .before .before .before .before .before .before .before .before .before .before .before .before .before .before .before .before .before .place-required in
     let e₁ = a .result .end in
-    let st₁ = putMid 24 (words - 24) st₀ (a .last .0) in
+    let st₁ = putMid nodeStateWords (words - nodeStateWords) st₀ (a .last .0) in
     let part₂ = optional-part t (c .before .before .before .before .before .before .before .before .before .before .before .before .before .before .before .before .before .before) in
     let b = c .before .before .before .before .before .before .before .before .before .before .before .before .before .place-others in
     let e₂ = b .result in
-    let st₂ = putMid (24 + e₁) (length st₁ - (24 + e₁)) st₁ (b .last .0) in
+    let st₂ = putMid (nodeStateWords + e₁) (length st₁ - (nodeStateWords + e₁)) st₁ (b .last .0) in
     let part₃ = prohibited-part t (c .before .before .before .before .before .before .before .before .before .before .before .before .before) in
     let d = c .before .before .before .before .before .before .before .before .place-others2 in
     let e₃ = d .result in
-    (whole-placed E at fixed kept boost words depth kind there _ part₁ (a .result .«group_at») e₁ (a .last .0) (a .ensures .0) _ part₂ e₂ (b .last .0) (b .ensures .0) _ part₃ e₃ (d .last .0) (d .ensures .0) st₀ (postOf 24 (words - 24) st₀) (postOf (24 + e₁) (length st₁ - (24 + e₁)) st₁) (postOf (24 + (e₁ + e₂)) (length st₂ - (24 + (e₁ + e₂))) st₂) (c .before .before .put-boolean .last .0) (s .args .scores) (c .before .before .before .before .before .shoulds-needed .result) (c .before .before .before .before .before .before .before .before .before .before .before .before .before .before .before .before .before .before .before .before .before .value .result) (c .before .before .before .before .before .before .before .before .before .before .before .before .before .before .before .before .before .before .before .before .has-required .result) (c .before .before .before .joins-afterwards .result) refl pre (subst T (sym (s .good .1 .1 .1 .1 .1 .1 .1 .1 .1 .1 .1 .1 .0 .1)) tt) (c .before .before .before .before .before .before .before .before .before .before .before .before .before .before .before .before .before .before .before .before .before .value .ensures) (c .before .before .before .before .before .before .before .before .before .before .before .before .before .before .before .before .before .before .before .before .has-required .ensures (s .args .presents .now) (s .args .costs .now)) (c .before .before .before .before .before .shoulds-needed .ensures) (c .before .before .before .joins-afterwards .ensures) (c .before .before .put-boolean .ensures), c .before .before .put-boolean .kept .0 ∙ prohibited-long t (c .before .before .before .before .before .before .before .before))
+    (whole-placed E at fixed kept boost words depth kind there _ part₁ (a .result .«group_at») e₁ (a .last .0) (a .ensures .0) _ part₂ e₂ (b .last .0) (b .ensures .0) _ part₃ e₃ (d .last .0) (d .ensures .0) st₀ (postOf nodeStateWords (words - nodeStateWords) st₀) (postOf (nodeStateWords + e₁) (length st₁ - (nodeStateWords + e₁)) st₁) (postOf (nodeStateWords + (e₁ + e₂)) (length st₂ - (nodeStateWords + (e₁ + e₂))) st₂) (c .before .before .put-boolean .last .0) (s .args .scores) (c .before .before .before .before .before .shoulds-needed .result) (c .before .before .before .before .before .before .before .before .before .before .before .before .before .before .before .before .before .before .before .before .before .value .result) (c .before .before .before .before .before .before .before .before .before .before .before .before .before .before .before .before .before .before .before .before .has-required .result) (c .before .before .before .joins-afterwards .result) refl pre (subst T (sym (s .good .1 .1 .1 .1 .1 .1 .1 .1 .1 .1 .1 .1 .0 .1)) tt) (c .before .before .before .before .before .before .before .before .before .before .before .before .before .before .before .before .before .before .before .before .before .value .ensures) (c .before .before .before .before .before .before .before .before .before .before .before .before .before .before .before .before .before .before .before .before .has-required .ensures (s .args .presents .now) (s .args .costs .now)) (c .before .before .before .before .before .shoulds-needed .ensures) (c .before .before .before .joins-afterwards .ensures) (c .before .before .put-boolean .ensures), c .before .before .put-boolean .kept .0 ∙ prohibited-long t (c .before .before .before .before .before .before .before .before))
