@@ -433,9 +433,7 @@ pub fn place(
             max_doc,
             fields,
             leaves,
-            nexts,
             presents,
-            costs,
             places,
             counts,
             at,
@@ -443,7 +441,6 @@ pub fn place(
             kept,
             boost,
             scores,
-            depth,
         ),
     }
 }

@@ -119,7 +119,6 @@ fn phrase_frequency(
 // The score of a leaf that scores by BM25.
 pub fn leaf_score(
     st: &mut [u32],
-    max_doc: u32,
     postings: &[u32],
     positions: &[u32],
     norms: &[u8],
@@ -128,8 +127,8 @@ pub fn leaf_score(
     b: &mut [i32],
     doc: u32,
 ) -> f32
-    requires { ⌜ LeafPre (now st) «max_doc» (now postings) (now positions) (now norms) (now inverses) (min (length (now a)) (length (now b))) doc ⌝ }
-    ensures { λ r. ⌜ LeafPost (now (st .entry)) «max_doc» (now (postings .entry)) (now (positions .entry)) (now (norms .entry)) (now (inverses .entry)) (min (length (now (a .entry))) (length (now (b .entry)))) doc r (now (st .exit)) ⌝ }
+    requires { ⌜ ((n : ℕ) × LeafPre (now st) n (now postings) (now positions) (now norms) (now inverses) (min (length (now a)) (length (now b))) doc) ⌝ }
+    ensures { λ r. ⌜ ((n : ℕ) → LeafPost (now (st .entry)) n (now (postings .entry)) (now (positions .entry)) (now (norms .entry)) (now (inverses .entry)) (min (length (now (a .entry))) (length (now (b .entry)))) doc r (now (st .exit))) ⌝ }
 {
     let n = node_at(st);
     if n.kind == 1 {

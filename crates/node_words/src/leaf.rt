@@ -1,6 +1,7 @@
 // The words of a record without trees below it: Term, Phrase, Range, MatchAll, MatchNone.
 ghost use mathlib.Core.Path.{_≡_};
 ghost use mathlib.Core.Bool.{cond};
+ghost use mathlib.Core.List.{List};
 ghost use Prim.Native.Nat.{ℕ};
 ghost use lib.ListN.{length};
 ghost use Rattle.meaning.specs.Query.{recordKind};
@@ -25,9 +26,7 @@ pub fn place_leaf(
     max_doc: u32,
     fields: &[u32],
     leaves: &[u32],
-    nexts: &[usize],
     presents: &[u32],
-    costs: &[u64],
     places: &[u32],
     counts: &[u32],
     at: usize,
@@ -35,11 +34,10 @@ pub fn place_leaf(
     kept: f32,
     boost: f32,
     scores: u32,
-    depth: u32,
 ) -> usize
     requires { ⌜ (recordKind (now q) at ≡ 3 → ⊥) × (recordKind (now q) at ≡ 6 → ⊥) × (recordKind (now q) at ≡ 7 → ⊥) ⌝ }
-    requires { ⌜ TreePre (records (now q) «max_doc» (now fields) (now leaves) (now nexts) (now presents) (now costs) (now places) (now counts)) at fixed kept boost (length (now st)) depth ⌝ }
-    ensures { λ r. ⌜ TreePost (records (now (q .entry)) «max_doc» (now (fields .entry)) (now (leaves .entry)) (now (nexts .entry)) (now (presents .entry)) (now (costs .entry)) (now (places .entry)) (now (counts .entry))) at fixed kept boost (length (now (st .entry))) depth scores r (now (st .exit)) ⌝ }
+    requires { ⌜ ((nexts : List ℕ) × (costs : List ℕ) × (depth : ℕ) × TreePre (records (now q) «max_doc» (now fields) (now leaves) nexts (now presents) costs (now places) (now counts)) at fixed kept boost (length (now st)) depth) ⌝ }
+    ensures { λ r. ⌜ ((nexts costs : List ℕ) (depth : ℕ) → TreePost (records (now (q .entry)) «max_doc» (now (fields .entry)) (now (leaves .entry)) nexts (now (presents .entry)) costs (now (places .entry)) (now (counts .entry))) at fixed kept boost (length (now (st .entry))) depth scores r (now (st .exit))) ⌝ }
     ensures { λ r. ⌜ length (now (st .exit)) ≡ length (now (st .entry)) ⌝ }
 {
     match query::kind(q, at) {

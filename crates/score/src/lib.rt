@@ -74,7 +74,7 @@ pub fn score(
             depth - 1,
         )
     } else {
-        leaf_score(st, max_doc, postings, positions, norms, inverses, a, b, doc)
+        leaf_score(st, postings, positions, norms, inverses, a, b, doc)
     }
 }
 

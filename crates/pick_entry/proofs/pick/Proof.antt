@@ -18,6 +18,7 @@ places c = length-take-le _ _ (right c .room)
 pick-refusal-requires : tie.Need-pick-refusal-requires
 pick-refusal-requires c κs = search needs
 
+-- refused at the test t; the must-fail edit that touches a buffer on this way changes the path to t and nothing else here
 returns : tie.Need-returns
 returns c =
     let t = c in

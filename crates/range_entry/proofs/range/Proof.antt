@@ -35,6 +35,7 @@ joined-requires-2 c κs = search needs
 range-refusal-requires : tie.Need-range-refusal-requires
 range-refusal-requires c κs = search needs
 
+-- refused at the test t; the must-fail edit that touches a buffer on this way changes the path to t and nothing else here
 returns : tie.Need-returns
 returns c =
     let t = c in

@@ -78,7 +78,7 @@ score-leaf-score-requires t c κs =
     let p = s₀ .pre .1 in
     let st = s₀ .args .st .now in
     let d = leaf-at (p .0) (s₀ .args .ranges .now) (s₀ .args .inverses .now) (min (length (s₀ .args .a .now)) (length (s₀ .args .b .now))) (s₀ .args .depth) (s₀ .args .doc) st (c .before .before .before .before .before .before .before .node-at .result) (c .before .before .before .before .before .before .before .node-at .ensures) (p .1) (p .2) (p .4) (p .5) (p .6) (c .before .before .before .before .before .if1 .left) (c .before .before .before .if2 .left) in
-    (p .0, s₀ .args .ranges .now, d .l, d .w, d .s, d .v, p .3, d .asks, d .is)
+    (s₀ .args .max-doc, (p .0, s₀ .args .ranges .now, d .l, d .w, d .s, d .v, p .3, d .asks, d .is))
 
 pub score-same-length-2 : (t : ℕ) → score-lts.Need-same-length-2 (score-calls t) (score-at t) score.Post
 score-same-length-2 t c =
@@ -107,10 +107,10 @@ pub score-same-length-5 : (t : ℕ) → score-lts.Need-same-length-5 (score-call
 score-same-length-5 t c = c .before .before .before .before .leaf-score .kept .0
 
 pub score-same-length-6 : (t : ℕ) → score-lts.Need-same-length-6 (score-calls t) (score-at t) score.Post
-score-same-length-6 t c = c .before .before .before .before .leaf-score .kept .1 .1 .1 .1 .1 .1 .0
+score-same-length-6 t c = c .before .before .before .before .leaf-score .kept .1 .1 .1 .1 .1 .0
 
 pub score-same-length-7 : (t : ℕ) → score-lts.Need-same-length-7 (score-calls t) (score-at t) score.Post
-score-same-length-7 t c = c .before .before .before .before .leaf-score .kept .1 .1 .1 .1 .1 .1 .1 .0
+score-same-length-7 t c = c .before .before .before .before .leaf-score .kept .1 .1 .1 .1 .1 .1 .0
 
 pub score-returns-3 : (t : ℕ) → score-lts.Need-returns-3 (score-calls t) (score-at t) score.Post
 score-returns-3 t c =
@@ -119,4 +119,4 @@ score-returns-3 t c =
     let st = s₀ .args .st .now in
     λ ix S sc L g m o.
     let d = leaf-at ix (s₀ .args .ranges .now) (s₀ .args .inverses .now) (min (length (s₀ .args .a .now)) (length (s₀ .args .b .now))) (s₀ .args .depth) (s₀ .args .doc) st (c .before .before .before .before .before .before .before .before .before .before .before .before .node-at .result) (c .before .before .before .before .before .before .before .before .before .before .before .before .node-at .ensures) S sc g m o (c .before .before .before .before .before .before .before .before .before .before .if1 .left) (c .before .before .before .before .before .before .before .before .if2 .left) in
-    d .done (c .before .before .before .before .leaf-score .result) (c .before .before .before .before .leaf-score .last .0) (c .before .before .before .before .leaf-score .ensures ix (s₀ .args .ranges .now) (d .l) (d .w) (d .s) (d .v) L (d .asks) (d .is))
+    d .done (c .before .before .before .before .leaf-score .result) (c .before .before .before .before .leaf-score .last .0) (c .before .before .before .before .leaf-score .ensures (s₀ .args .max-doc) ix (s₀ .args .ranges .now) (d .l) (d .w) (d .s) (d .v) L (d .asks) (d .is))

@@ -14,6 +14,7 @@ search-refusal-requires : tie.Need-search-refusal-requires
 search-refusal-requires c κs =
     search needs
 
+-- refused at the test t; the must-fail edit that touches a buffer on this way changes the path to t and nothing else here
 returns : tie.Need-returns
 returns c =
     let t = c in

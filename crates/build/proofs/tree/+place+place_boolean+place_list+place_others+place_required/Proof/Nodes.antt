@@ -133,7 +133,7 @@ place-place-leaf-requires t c κs =
     let pre = s .pre .1 in
     let no = c .before .match .rest in
     let is = c .before .before .kind .ensures in
-    (((λ e. no .0 .0 .1 (is ∙ e)), (λ e. no .0 .1 (is ∙ e)), (λ e. no .1 (is ∙ e))), pre)
+    (((λ e. no .0 .0 .1 (is ∙ e)), (λ e. no .0 .1 (is ∙ e)), (λ e. no .1 (is ∙ e))), (s .args .nexts .now, s .args .costs .now, s .args .depth, pre))
 
 pub place-same-length : (t : ℕ) → place-lts.Need-same-length (place-calls t) (place-at t) place.Post
 place-same-length t c = c .before .before .place-boolean .kept .0
@@ -177,4 +177,6 @@ pub place-same-length-4 : (t : ℕ) → place-lts.Need-same-length-4 (place-call
 place-same-length-4 t c = c .before .before .place-leaf .kept .0
 
 pub place-returns-4 : (t : ℕ) → place-lts.Need-returns-4 (place-calls t) (place-at t) place.Post
-place-returns-4 t c = (c .before .before .place-leaf .ensures .0, c .before .before .place-leaf .kept .0)
+place-returns-4 t c =
+    let s = c .before .before .before .before .before .before .before .before .before .before .before .before .before .before .before in
+    (c .before .before .place-leaf .ensures .0 (s .args .nexts .now) (s .args .costs .now) (s .args .depth), c .before .before .place-leaf .kept .0)
