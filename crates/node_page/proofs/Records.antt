@@ -19,7 +19,7 @@ use Rattle.order_check.proofs.Rooms.{states-room}
 use Rattle.searcher.specs.declared.page.Paged.{Paged}
 use Rattle.searcher.specs.declared.page.Paged.the-variants as Paged
 use Rattle.searcher.specs.Answers.{pagedNumbers}
-use Rattle.searcher.proofs.CallConditions.{page-lends}
+use Rattle.order_check.proofs.CallConditions.{page-lends}
 use Rattle.node_state.specs.declared.NodeState.{NodeState}
 use Rattle.node_state.specs.Records.{recordWords, held}
 use Rattle.node_state.specs.Standing.{Standing, treeOf}
