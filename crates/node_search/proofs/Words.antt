@@ -2,7 +2,7 @@
 use mathlib.Core.Path.{_≡_, refl, sym, ap, _∙_, subst}
 use mathlib.Core.Logic.{⊎-elim}
 use mathlib.Core.Bool.{Bool, true, false, _||_}
-use mathlib.Core.List.{List, [], _∷_, _++_, append-assoc}
+use mathlib.Core.List.{List, [], _∷_, _++_}
 use Prim.Native.Nat.{ℕ, zero, suc, _*_, _≤_, _<_}
 use native.Mathlib.Nat.{eq-or-lt-of-le}
 use native.Mathlib.Omega.{arith}
@@ -22,7 +22,7 @@ use Rattle.meaning.specs.Entries.{Kept, answered, written, topDocs, orderCondit
 use Rattle.collector.specs.declared.TopDocs.{TopDocs}
 use Rattle.collector.specs.Collected.{answer}
 use Rattle.query.proofs.Whole.{whole}
-use Rattle.weight.specs.State.{wordsOf, sizeOf}
+use Rattle.weight.specs.State.{sizeOf}
 use Rattle.weight.specs.Held.{Ok}
 use Rattle.node_words.specs.Placed.{Placed}
 use Rattle.order_check.specs.Lends.{work}
@@ -32,8 +32,9 @@ use Rattle.searcher.specs.declared.search.Searched.the-variants as Searched
 use Rattle.searcher.specs.Answers.{searchedNumbers}
 use Rattle.searcher.proofs.Answering.{search-refused, search-not-refused, search-found}
 use Rattle.node_state.specs.declared.NodeState.{NodeState}
-use Rattle.node_state.specs.Records.{stateOf, recordWords, held}
+use Rattle.node_state.specs.Records.{recordWords, held}
 use Rattle.node_state.specs.Standing.{Standing, treeOf}
+use Rattle.node_state.proofs.Turns.{words-append}
 use Rattle.node_search.specs.Searches.{SearchesWords, Searches, roomOf, refusalOf, used}
 
 -- as many records as there are, and no more than the most that an order has
@@ -78,11 +79,6 @@ module _ (ix : Index) (q : List ℕ) (a b ranges m : ℕ) where
         (eq-or-lt-of-le {n = 0} {m = lowest cs} (omega arith))
 
 -- ---- the tree in the words of records
-words-append : (xs ys : List NodeState) → recordWords (xs ++ ys) ≡ recordWords xs ++ recordWords ys
-unfolding recordWords
-words-append [] ys = refl
-words-append (x ∷ xs) ys = ap (λ (l : List ℕ). wordsOf (stateOf x) ++ l) (words-append xs ys) ∙ sym (append-assoc (wordsOf (stateOf x)) (recordWords xs) (recordWords ys))
-
 -- the loop's words at the front of those that `build` wrote
 pub built-stands : (ix : Index) (q ranges states out : List ℕ) (r from : ℕ) → Placed ix ranges (treeOf ix q) 16 0 r states → length out ≡ length (take r states) → Ok ix ranges (treeOf ix q) 16 0 out from → Standing ix q ranges (out ++ drop r states) from
 built-stands ix q ranges states out r from p l o =

@@ -141,11 +141,6 @@ fn used(r: Searched, n: usize) -> usize
     }
 }
 
-// Words for 256 states: no order needs more.
-fn no_states() -> [u32; 256 * NODE_STATE_WORDS] {
-    [0; 256 * NODE_STATE_WORDS]
-}
-
 // The records are the node states: an accepted call leaves the order's tree in them, a refused one leaves them as they were.
 pub fn search_nodes(
     max_doc: u32,
@@ -168,7 +163,7 @@ pub fn search_nodes(
 ) -> Searched
     ensures { λ r. ⌜ Searches (lent «max_doc» (now (fields .entry)) (now (leaves .entry)) (now (postings .entry)) (now (positions .entry)) (now (norms .entry)) (now (live .entry)) (now (columns .entry)) (now (values .entry))) (now (q .entry)) k t (now (nodes .entry)) (now (nodes .exit)) (now (a .entry)) (now (a .exit)) (now (b .entry)) (now (b .exit)) (now (ranges .entry)) (now (ranges .exit)) (now (hits .entry)) (now (hits .exit)) r ⌝ }
 {
-    let mut words = no_states();
+    let mut words = node_state::zeros();
     let n = node_state::held(nodes.len());
     let r = search_words(
         max_doc,

@@ -164,7 +164,8 @@ pub fn unpack(nodes: &[NodeState], n: usize, words: &mut [u32])
     }
 }
 
-fn zeros() -> [u32; MAX_RECORDS * NODE_STATE_WORDS] {
+// Words for as many states as an order can need.
+pub fn zeros() -> [u32; MAX_RECORDS * NODE_STATE_WORDS] {
     [0; MAX_RECORDS * NODE_STATE_WORDS]
 }
 

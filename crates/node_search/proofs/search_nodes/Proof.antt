@@ -1,4 +1,4 @@
--- `search_nodes` meets its contract: a walk of its MIR, by hand. Five calls: `no_states`, whose array is the words; `held`; the covered `search_words` on the array as a `&mut`, with the index and the query copied and the buffers at their own lifetimes; `used` on the answer; `pack` on the array as a `&` and the records at their own lifetime.
+-- `search_nodes` meets its contract: a walk of its MIR, by hand. Five calls: `zeros`, whose array is the words; `held`; the covered `search_words` on the array as a `&mut`, with the index and the query copied and the buffers at their own lifetimes; `used` on the answer; `pack` on the array as a `&` and the records at their own lifetime.
 -- All that the proof knows of the five is that they meet their contracts. Assumes nothing.
 use mathlib.Core.Path.{_≡_, refl, sym, _∙_, ap, subst}
 use Prim.Native.Nat.{ℕ}
@@ -45,6 +45,10 @@ use Rattle.searcher.specs.declared.search.Searched.{Searched}
 use Rattle.searcher.proofs.search.Searched as Sd
 use Rattle.searcher.proofs.search.Searched.Laws as Sd′
 use Rattle.node_state.specs.declared.NodeState.{NodeState}
+use Rattle.node_state.proofs.zeros as zz
+use Rattle.node_state.proofs.zeros.Symbol as z-def
+use Rattle.node_state.proofs.zeros.Symbol.{name as #z}
+use Rattle.node_state.proofs.zeros.Met as z-thm
 use Rattle.node_state.proofs.held as hh
 use Rattle.node_state.proofs.held.Symbol as h-def
 use Rattle.node_state.proofs.held.Symbol.{name as #h}
@@ -57,10 +61,6 @@ use Rattle.node_state.proofs.Arrays.{array-in, array-back, big-lit}
 use Rattle.node_search.proofs.Shares.{Lender, lends-cells, cells-back}
 use Rattle.node_search.specs.Searches.{used}
 use Rattle.node_search.proofs.Words.{used-least}
-use Rattle.node_search.proofs.no_states as zz
-use Rattle.node_search.proofs.no_states.Symbol as z-def
-use Rattle.node_search.proofs.no_states.Symbol.{name as #z}
-use Rattle.node_search.proofs.no_states.Met as z-thm
 use Rattle.node_search.proofs.used as uu
 use Rattle.node_search.proofs.used.Symbol as u-def
 use Rattle.node_search.proofs.used.Symbol.{name as #u}
@@ -109,7 +109,7 @@ module _ {M : Type 1} (𝓤 : URA M) (H : Heap 𝓤) (A : Atoms 𝓤) (W : Given
         move ! (1 ∷ []) $
         split ! $
         -- [k0; TX; TS; NODES; XS; SH; _38; _37; _36; _35; _34; _33; _32; _31; _30; _29; _28; _27; _26; _25; _24; _23; _22; _21; _20; _19; _18; _17; _16; _15; _14; _13; _12; _11; _10; _9; _8; _7; _6; _5; _4; _3; _2; _1; _0]
-        -- the array of words, as `no_states` gives it
+        -- the array of words, as `zeros` gives it
         use0 W (raw (Z 𝓤 H A mem run .pre (to-z 𝓤 H A W mem run))) (goes-z 𝓤 H A W mem run) $
         calls-at ! fm (Z 𝓤 H A mem run) known-z (to-z 𝓤 H A W mem run) (no-more !) (λ v₀.
         use1 W (later (some (λ (l : List ℕ). (‵ ftrue ⊛ ‵ (AW .own l (v₀ ∷ []))) ⊛ raw (ensured 𝓤 H A zz.ended (zz.clauses 𝓤 H A mem run) tt tt tt l)))) (id⊢ 𝓤 _) $ await ! tt $ pick ! (λ xs.
@@ -275,7 +275,7 @@ search-nodes-spec 𝓤 H 𝓜 𝓖 𝓡 =
     entered 𝓤 H (tripleOf 𝓤 H (𝓖 .A) f.signature (f.spec 𝓤 H (𝓖 .A) (𝓜 .mem) (𝓡 .run)))
     (tables 𝓤 H 𝓜 𝓡 code.env .C) (tables 𝓤 H 𝓜 𝓡 code.env .Λ) #f code.function (code.unfolded 𝓤 H 𝓜 𝓡)
     (search-nodes-meets 𝓤 H (𝓖 .A) (givenOf 𝓤 H 𝓜 𝓖) (𝓜 .mem) (𝓡 .run) (tablesOf 𝓤 H 𝓜 (tables 𝓤 H 𝓜 𝓡 code.env))
-    (cited 𝓤 H (Z 𝓤 H (𝓖 .A) (𝓜 .mem) (𝓡 .run)) 𝓜 𝓡 code.env #z z-def.routine code.calls-node-search·no-states (z-thm.met 𝓤 H 𝓜 𝓖 𝓡))
+    (cited 𝓤 H (Z 𝓤 H (𝓖 .A) (𝓜 .mem) (𝓡 .run)) 𝓜 𝓡 code.env #z z-def.routine code.calls-node-state·zeros (z-thm.met 𝓤 H 𝓜 𝓖 𝓡))
     (cited 𝓤 H (Hd 𝓤 H (𝓖 .A) (𝓜 .mem) (𝓡 .run)) 𝓜 𝓡 code.env #h h-def.routine code.calls-node-state·held (h-thm.met 𝓤 H 𝓜 𝓖 𝓡))
     (cited 𝓤 H (U 𝓤 H (𝓖 .A) (𝓜 .mem) (𝓡 .run)) 𝓜 𝓡 code.env #u u-def.routine code.calls-node-search·used (u-thm.met 𝓤 H 𝓜 𝓖 𝓡))
     (cited 𝓤 H (Kk 𝓤 H (𝓖 .A) (𝓜 .mem) (𝓡 .run)) 𝓜 𝓡 code.env #k k-def.routine code.calls-node-search·search-words (k-thm.met 𝓤 H 𝓜 𝓖 𝓡))

@@ -1,5 +1,5 @@
 -- The words of the local array: their type, the call that makes them, and what each slice of them owns. Assumes nothing.
-use mathlib.Core.Path.{_≡_, sym, ap, subst}
+use mathlib.Core.Path.{_≡_, sym, subst}
 use Prim.Native.Nat.{ℕ, _*_}
 use mathlib.Core.List.{[], _∷_, List}
 use lib.Dec.{T as Holds, lit<}
@@ -26,7 +26,7 @@ use denote.Steps.{only, nothing}
 use denote.Triple.Spec.{tripleOf}
 use denote.Triple.Statement.{Contract}
 use Rattle.meaning.specs.Limits.{nodeStateWords, maxRecords}
-use Rattle.node_search.proofs.no_states as zz
+use Rattle.node_state.proofs.zeros as zz
 
 -- as many words as an order can need
 abbrev pub size : ℕ
