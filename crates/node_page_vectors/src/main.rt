@@ -6,6 +6,8 @@ ghost use Rattle.index.specs.Slices.{lent};
 ghost use Rattle.node_state.specs.Records.{recordWords};
 ghost use Rattle.node_state.specs.Standing.{Standing};
 ghost use Rattle.node_page.specs.Pages.{Pages, workOf};
+ghost use Rattle.node_page_vectors.specs.Next.{nextOf};
+ghost use Rattle.meaning.specs.Limits.{noMoreDocs};
 use node_state::NodeState;
 use searcher::page::Paged;
 
@@ -157,7 +159,230 @@ fn step(
         documents,
         scores,
     );
-    Stepped { page: r, records: nodes }
+    Stepped {
+        page: r,
+        records: nodes,
+    }
 }
 
-fn main() {}
+// The next match, and none where the call was refused.
+fn next_of(p: Paged) -> u32
+    ensures { λ r. ⌜ r ≡ nextOf p ⌝ }
+{
+    match p {
+        Paged::Refused(_) => walk::NO_MORE_DOCS,
+        Paged::Given(l) => l.next,
+    }
+}
+
+fn print_paged(p: Paged, documents: &[u32], scores: &[u32]) {
+    match p {
+        Paged::Refused(number) => {
+            io::write_all(1, b"refused ");
+            vectors::print_number(number);
+            vectors::end_line();
+        }
+        Paged::Given(l) => vectors::print_page(documents, scores, l.given, l.next),
+    }
+}
+
+// The answer's numbers: the refusal's, or 0, how many were given and the next match.
+fn numbers(p: Paged) -> [u64; 3] {
+    match p {
+        Paged::Refused(number) => [vectors::wide(number), 0, 0],
+        Paged::Given(l) => [0, l.given as u64, vectors::wide(l.next)],
+    }
+}
+
+fn same_numbers(x: [u64; 3], y: [u64; 3]) -> bool {
+    if x[0] != y[0] {
+        return false;
+    }
+    if x[1] != y[1] {
+        return false;
+    }
+    x[2] == y[2]
+}
+
+fn same_words(x: [u32; 1], y: [u32; 1]) -> bool {
+    x[0] == y[0]
+}
+
+fn print_same(numbers: bool, documents: bool, scores: bool) {
+    if numbers {
+        if documents {
+            if scores {
+                io::write_all(1, b"same\n");
+                return;
+            }
+        }
+    }
+    io::write_all(1, b"different\n");
+}
+
+// A page of one document from the records, and the same page from words that are built anew.
+fn turn(
+    max_doc: u32,
+    fields: &[u32],
+    leaves: &[u32],
+    postings: &[u32],
+    positions: &[u32],
+    norms: &[u8],
+    live: &[u64],
+    columns: &[u32],
+    values: &[u32],
+    q: &[u32],
+    target: u32,
+    resume: bool,
+    records: [NodeState; 8],
+    a: &mut [i32],
+    b: &mut [i32],
+    ranges: &mut [u32],
+    states: &mut [u32],
+    other_ranges: &mut [u32],
+) -> Stepped
+    requires { ⌜ (resume ≡ true → Standing (lent «max_doc» (now fields) (now leaves) (now postings) (now positions) (now norms) (now live) (now columns) (now values)) (now q) (now ranges) (recordWords records) target) ⌝ }
+    ensures { λ r. ⌜ ((nextOf (r .page) ≡ noMoreDocs → ⊥) → Standing (lent «max_doc» (now (fields .entry)) (now (leaves .entry)) (now (postings .entry)) (now (positions .entry)) (now (norms .entry)) (now (live .entry)) (now (columns .entry)) (now (values .entry))) (now (q .entry)) (now (ranges .exit)) (recordWords (r .records)) (nextOf (r .page))) ⌝ }
+{
+    let mut documents = [0u32; 1];
+    let mut scores = [0u32; 1];
+    let mut more = [0u32; 1];
+    let mut more_scores = [0u32; 1];
+    let s = step(
+        max_doc,
+        fields,
+        leaves,
+        postings,
+        positions,
+        norms,
+        live,
+        columns,
+        values,
+        q,
+        target,
+        resume,
+        records,
+        a,
+        b,
+        ranges,
+        &mut documents,
+        &mut scores,
+    );
+    let p = searcher::page::page(
+        max_doc,
+        fields,
+        leaves,
+        postings,
+        positions,
+        norms,
+        live,
+        columns,
+        values,
+        q,
+        target,
+        states,
+        a,
+        b,
+        other_ranges,
+        &mut more,
+        &mut more_scores,
+    );
+    let r = s.page;
+    print_paged(r, &documents, &scores);
+    print_paged(p, &more, &more_scores);
+    print_same(
+        same_numbers(numbers(r), numbers(p)),
+        same_words(documents, more),
+        same_words(scores, more_scores),
+    );
+    s
+}
+
+// The order page by page from the first document, eight pages at most.
+fn page_through(
+    max_doc: u32,
+    fields: &[u32],
+    leaves: &[u32],
+    postings: &[u32],
+    positions: &[u32],
+    norms: &[u8],
+    live: &[u64],
+    columns: &[u32],
+    values: &[u32],
+    q: &[u32],
+    a: &mut [i32],
+    b: &mut [i32],
+    ranges: &mut [u32],
+    states: &mut [u32],
+    other_ranges: &mut [u32],
+) {
+    let mut records = [rubbish(); 8];
+    let mut target = 0;
+    let mut resume = false;
+    let mut pages: usize = 0;
+    while pages < 8 {
+        let s = turn(
+            max_doc,
+            fields,
+            leaves,
+            postings,
+            positions,
+            norms,
+            live,
+            columns,
+            values,
+            q,
+            target,
+            resume,
+            records,
+            a,
+            b,
+            ranges,
+            states,
+            other_ranges,
+        );
+        let page = s.page;
+        let next = next_of(page);
+        if next == walk::NO_MORE_DOCS {
+            return;
+        }
+        let after = s.records;
+        records = after;
+        target = next;
+        resume = true;
+        pages += 1;
+    }
+}
+
+// Words for eight states, where six are needed.
+fn whole_case() {
+    let no_words = [0u32; 0];
+    let no_bytes = [0u8; 0];
+    let no_live = [0u64; 0];
+    let mut starts = [0i32; 0];
+    let mut other_starts = [0i32; 0];
+    let mut ranges = [0u32; 0];
+    let mut other_ranges = [0u32; 0];
+    let mut states = [RUBBISH; 8 * weight::NODE_STATE_WORDS];
+    page_through(
+        4,
+        &FIELDS,
+        &LEAVES,
+        &POSTINGS,
+        &no_words,
+        &no_bytes,
+        &no_live,
+        &no_words,
+        &no_words,
+        &QUERY,
+        &mut starts,
+        &mut other_starts,
+        &mut ranges,
+        &mut states,
+        &mut other_ranges,
+    );
+}
+
+fn main() {
+    whole_case();
+}

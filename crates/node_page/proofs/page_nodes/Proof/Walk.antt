@@ -12,7 +12,7 @@ use base.Logic.{SProp, ent, id⊢}
 use base.Fml.{GName, ftrue, fat, flft, flent}
 use prog.Memory.{Memory}
 use prog.Routine.{Routine}
-use prog.Wp.{Heap, Calls, Loops, WpFn, Tables}
+use prog.Wp.{Heap, Calls, Loops, WpFn}
 use ghost.Atoms.{Atoms}
 use contract.Monad.{Fun, fact}
 use types.Kit.{Given, ‵, raw, given, some, later, _⊛_, _$_, _∵_, !, qed, by, move, keep, drop, group, use0, use1, use2, use3, learn, split, join, pick, rewrite, fsplit, feqL, await}
@@ -21,19 +21,18 @@ use types.Part.{agg, whole as all-of, sub, look-in}
 use types.SemTy.{cells, Arr}
 use types.Share.{arr-parts}
 use types.Tokens.{lft-new, lft-end, lent-back}
-use sound.WpLaws.{FmC, fmOf, WpFn-mono}
+use sound.WpLaws.{FmC}
 use denote.RattleType.{owns}
 use denote.Memory.{mem as mem-of, shares}
 use denote.Laws.{Is, shows}
-use denote.Plain.{Nothing, uint-vals, uint-tells, uint-makes, uint-lawful, bool-vals, bool-tells}
+use denote.Plain.{Nothing, uint-vals, uint-tells, uint-makes, uint-lawful}
 use denote.Builtin.{usize, u8, u32, u64, i32, bool}
-use denote.Slice.{sliceVal, slice-vals, mut-slice-tells, shr-slice-tells, MutSlice, ShrSlice, finally}
+use denote.Slice.{sliceVal, MutSlice, ShrSlice, finally}
 use denote.Array.{array-tells, array-typed}
 use denote.Lend.{Held, lends-slice, slice-back, lends-shr-slice}
 use denote.Steps.{only, peeks, heard}
 use denote.Enum.Laws as EL
 use denote.Triple.Entry.{onEntry}
-use denote.Triple.Spec.{Meets, tripleOf}
 use denote.Triple.Statement.{Triple}
 use denote.Triple.Call.{calls-at}
 use denote.Triple.Clauses.{ensured, lasts}
@@ -49,7 +48,7 @@ use Rattle.node_state.proofs.pack as bb
 use Rattle.node_state.proofs.pack.Symbol.{name as #b}
 use Rattle.node_state.proofs.Reshare.{Kept, reshares, reshared-back}
 use Rattle.node_state.proofs.Arrays.{array-in, array-back, array-part, part-back, big-lit}
-use Rattle.node_page.specs.Pages.{refusalOf, used}
+use Rattle.node_page.specs.Pages.{used}
 use Rattle.node_page.proofs.Records.{read-back}
 use Rattle.node_page.proofs.used as uu
 use Rattle.node_page.proofs.used.Symbol.{name as #u}
@@ -59,7 +58,7 @@ use Rattle.node_page.proofs.page_nodes as f
 use Rattle.node_page.proofs.page_nodes.Code as code
 use Rattle.node_page.proofs.page_nodes.Proof.Lent.{R, RP, words, AW, arr, tyA, tyM, tyS, long, room-of, Call, ix, m, Asked, n, xn, s, ON, SN, yw, MW, SW, d₀, d₁, d₂, d₃, d₄, d₅, d₆, d₇, d₈, e₀, e₁, e₂, e₃, e₄, a, vals, TS, TX, SH, XS}
 use Rattle.node_page.proofs.page_nodes.Proof.Apart.{owns-apart, tokens-apart, shared-twice}
-use Rattle.node_page.proofs.page_nodes.Proof.Ends.{stayed, Post, exits}
+use Rattle.node_page.proofs.page_nodes.Proof.Ends.{Post, exits}
 use Rattle.node_page.proofs.page_nodes.Proof.Counts.{P, U, B, to-p, goes-p, said-p, to-u, goes-u, said-u, to-b, goes-b, Packed}
 use Rattle.node_page.proofs.page_nodes.Proof.Words.{Kk, to-κ, to-a, to-k, TK, goes-k, tokens-back, Zs, Lens, FX, Found₁, said-k}
 
