@@ -105,6 +105,14 @@ fn rubbish() -> NodeState {
         spare3: RUBBISH,
         spare4: RUBBISH,
         spare5: RUBBISH,
+        spare6: RUBBISH,
+        spare7: RUBBISH,
+        spare8: RUBBISH,
+        spare9: RUBBISH,
+        spare10: RUBBISH,
+        spare11: RUBBISH,
+        spare12: RUBBISH,
+        spare13: RUBBISH,
     }
 }
 
