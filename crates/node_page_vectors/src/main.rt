@@ -76,6 +76,111 @@ const QUERY: [u32; 54] = [
     0,
 ];
 
+// One field with positions; two leaves in the documents 0, 1, 3, 4 and 5, next to each other in all of them but 1; 5 is dead.
+const PHRASE_FIELDS: [u32; 3] = [0x3f80_0000, 0, 1];
+
+const PHRASE_LEAVES: [u32; 8] = [0, 0, 5, 0x3f80_0000, 0, 5, 5, 0x3f80_0000];
+
+const PHRASE_POSTINGS: [u32; 30] = [
+    0,
+    1,
+    0,
+    1,
+    1,
+    1,
+    3,
+    1,
+    2,
+    4,
+    1,
+    3,
+    5,
+    1,
+    4,
+    0,
+    1,
+    5,
+    1,
+    1,
+    6,
+    3,
+    1,
+    7,
+    4,
+    1,
+    8,
+    5,
+    1,
+    9,
+];
+
+const PHRASE_POSITIONS: [u32; 10] = [1, 4, 7, 0, 3, 2, 9, 8, 1, 4];
+
+const PHRASE_LIVE: [u64; 1] = [31];
+
+// 17, 18, 18, 20, 18, 17.
+const RANGE_COLUMNS: [u32; 1] = [0];
+
+const RANGE_VALUES: [u32; 18] = [1, 17, 0, 1, 18, 0, 1, 18, 0, 1, 20, 0, 1, 18, 0, 1, 17, 0];
+
+// Boolean of Must ConstantScore(phrase of leaf 0 and leaf 1) and Must Range 17 to 18.
+const PHRASE_QUERY: [u32; 54] = [
+    3,
+    0,
+    2,
+    0,
+    0,
+    0,
+    0,
+    0,
+    0,
+    6,
+    1,
+    1,
+    0,
+    0,
+    0,
+    0,
+    0,
+    0,
+    2,
+    0,
+    2,
+    0,
+    0,
+    0,
+    0,
+    0,
+    0,
+    9,
+    0,
+    0,
+    0,
+    0,
+    0,
+    0,
+    0,
+    0,
+    9,
+    0,
+    0,
+    1,
+    1,
+    0,
+    0,
+    0,
+    0,
+    4,
+    1,
+    0,
+    0,
+    4,
+    17,
+    0,
+    18,
+    0,
+];
+
 // Rubbish in the records before the first step.
 const RUBBISH: u32 = 0xfeed_face;
 
@@ -391,6 +496,34 @@ fn whole_case() {
     );
 }
 
+// A phrase and a range, a record each and one for each term.
+fn phrase_and_range() {
+    let no_bytes = [0u8; 0];
+    let mut starts = [0i32; 1];
+    let mut other_starts = [0i32; 1];
+    let mut ranges = [RUBBISH; 12];
+    let mut other_ranges = [RUBBISH; 12];
+    let mut states = [RUBBISH; 8 * weight::NODE_STATE_WORDS];
+    page_through(
+        6,
+        &PHRASE_FIELDS,
+        &PHRASE_LEAVES,
+        &PHRASE_POSTINGS,
+        &PHRASE_POSITIONS,
+        &no_bytes,
+        &PHRASE_LIVE,
+        &RANGE_COLUMNS,
+        &RANGE_VALUES,
+        &PHRASE_QUERY,
+        &mut starts,
+        &mut other_starts,
+        &mut ranges,
+        &mut states,
+        &mut other_ranges,
+    );
+}
+
 fn main() {
     whole_case();
+    phrase_and_range();
 }
