@@ -174,3 +174,56 @@ fn used(r: Paged, nodes: usize) -> usize
         Paged::Given(_) => node_state::held(nodes),
     }
 }
+
+// With `resume` the walk goes on from the records as they stand, and nothing is built.
+pub fn page_nodes(
+    max_doc: u32,
+    fields: &[u32],
+    leaves: &[u32],
+    postings: &[u32],
+    positions: &[u32],
+    norms: &[u8],
+    live: &[u64],
+    columns: &[u32],
+    values: &[u32],
+    q: &[u32],
+    target: u32,
+    resume: bool,
+    nodes: &mut [NodeState],
+    a: &mut [i32],
+    b: &mut [i32],
+    ranges: &mut [u32],
+    documents: &mut [u32],
+    scores: &mut [u32],
+) -> Paged
+    requires { ⌜ (resume ≡ true → refusalOf (lent «max_doc» (now fields) (now leaves) (now postings) (now positions) (now norms) (now live) (now columns) (now values)) (now q) target (length (now nodes)) (now a) (now b) (now ranges) (now documents) (now scores) ≡ 0 → Standing (lent «max_doc» (now fields) (now leaves) (now postings) (now positions) (now norms) (now live) (now columns) (now values)) (now q) (now ranges) (recordWords (now nodes)) target) ⌝ }
+    ensures { λ r. ⌜ Pages (lent «max_doc» (now (fields .entry)) (now (leaves .entry)) (now (postings .entry)) (now (positions .entry)) (now (norms .entry)) (now (live .entry)) (now (columns .entry)) (now (values .entry))) (now (q .entry)) target (workOf (length (now (nodes .entry))) (now (a .entry)) (now (b .entry)) (now (ranges .entry))) (now (documents .entry)) (now (documents .exit)) (now (scores .entry)) (now (scores .exit)) (now (a .entry)) (now (a .exit)) (now (b .entry)) (now (b .exit)) (now (ranges .entry)) (now (ranges .exit)) (recordWords (now (nodes .exit))) r
+        × Kept (refusalOf (lent «max_doc» (now (fields .entry)) (now (leaves .entry)) (now (postings .entry)) (now (positions .entry)) (now (norms .entry)) (now (live .entry)) (now (columns .entry)) (now (values .entry))) (now (q .entry)) target (length (now (nodes .entry))) (now (a .entry)) (now (b .entry)) (now (ranges .entry)) (now (documents .entry)) (now (scores .entry))) (now (nodes .entry)) (now (nodes .exit)) ⌝ }
+{
+    let count = nodes.len();
+    let mut words = node_state::unpacked(nodes);
+    let r = page_words(
+        max_doc,
+        fields,
+        leaves,
+        postings,
+        positions,
+        norms,
+        live,
+        columns,
+        values,
+        q,
+        target,
+        resume,
+        count,
+        &mut words,
+        a,
+        b,
+        ranges,
+        documents,
+        scores,
+    );
+    let n = used(r, count);
+    node_state::pack(&words, n, nodes);
+    r
+}

@@ -1,0 +1,2 @@
+-- The plain mathematics of this program's proofs.
+pub mod Standings

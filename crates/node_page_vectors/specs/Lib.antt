@@ -1,0 +1,2 @@
+-- What the contracts of this program cite.
+pub mod Next
