@@ -1,17 +1,13 @@
 //! The texts of `lot_refusal_text` in the header are those of docs/REFUSALS.md, number by number.
+mod common;
+
+use common::text;
 use std::collections::BTreeMap;
-use std::fs;
-use std::path::Path;
 
 /// For each number its sentence.
 type Texts = BTreeMap<u32, String>;
 
 const NUMBERS: std::ops::RangeInclusive<u32> = 1..=14;
-
-fn read(path: &str) -> String {
-    let path = Path::new(env!("CARGO_MANIFEST_DIR")).join("..").join(path);
-    fs::read_to_string(&path).unwrap_or_else(|e| panic!("{}: {e}", path.display()))
-}
 
 /// No number has two texts.
 fn put(texts: &mut Texts, number: u32, text: &str) {
@@ -69,8 +65,8 @@ fn same(table: &Texts, cases: &Texts) {
 
 #[test]
 fn the_header_has_the_table_s_texts() {
-    let table = table(&read("docs/REFUSALS.md"));
-    same(&table, &cases(&read("include/lot_search.h")));
+    let table = table(&text("docs/REFUSALS.md"));
+    same(&table, &cases(&text("include/lot_search.h")));
 }
 
 /// A table and a function of the agreed forms, with the texts changed.
