@@ -10,12 +10,12 @@ lots=$3
 passes=$4
 words=${5:-} # only the workloads whose name has these words
 cd "$(dirname "$0")"
-bin=$(mktemp -d)
-trap 'rm -rf "$bin"' EXIT
-
 library=../target/staticlib/liblot_search.a
-kept=$bin/kept.a
-cp "$library" "$kept"
+bin=$(mktemp -d)
+cp "$library" "$bin/kept.a"
+# the harness links what stands in target/staticlib: it stands there again afterwards, whatever happens
+trap 'cp "$bin/kept.a" "$library"; rm -rf "$bin"' EXIT
+
 for version in before after; do
     cp "${!version}" "$library"
     for seed in 1 2 3 4 5 6 7 8; do
@@ -23,7 +23,8 @@ for version in before after; do
         cp target/release/bench "$bin/$version-$seed"
     done
 done
-cp "$kept" "$library"
+# no two binaries are the same, or there is nothing to compare
+[[ $(sha256sum "$bin"/*-? | cut -d ' ' -f 1 | sort -u | wc -l) == 16 ]] || { echo "some binaries are the same" >&2; exit 1; }
 
 for ((pass = 1; pass <= passes; pass++)); do
     for seed in 1 2 3 4 5 6 7 8; do
