@@ -136,7 +136,8 @@ extern "C" {
 #define LOT_RANGES(max_doc, range_records) ((range_records) == 0 ? (size_t)0 : (size_t)(max_doc) * ((size_t)(range_records) + 1))
 /* hits: k places, however few match */
 #define LOT_HITS(k) ((size_t)(k))
-/* live words: none (all are live), or these */
+/* live words: none (all are live), or these. To withdraw a lot between two calls clear its bit, after writing these words with
+ * every bit set where none were lent: the lot goes, the next one comes up, and no other document or score changes */
 #define LOT_LIVE_WORDS(max_doc) (((size_t)(max_doc) + 63) / 64)
 /* numbers that an entry writes to `answer` */
 #define LOT_SEARCH_ANSWER 3
