@@ -16,6 +16,15 @@ impl Hit {
     pub fn code(self) -> i64 {
         (i64::from(self.bits) << 32) | i64::from(NO_MORE_DOCS - self.document)
     }
+
+    /// The hit that has this code.
+    pub fn of(code: i64) -> Hit {
+        let document = NO_MORE_DOCS.checked_sub(code as u32);
+        Hit {
+            document: document.expect("a document"),
+            bits: (code >> 32) as u32,
+        }
+    }
 }
 
 /// The best k hits, how many documents matched, and the "at least" mark.

@@ -2,7 +2,7 @@
 use crate::border::{Page, Pick, Search, Work};
 use crate::case::Case;
 use crate::random::Random;
-use crate::refusal::calls::Lengths;
+use crate::refusal::calls::{FOUND, Lengths};
 use std::fmt::Debug;
 
 /// Elements before and after the lent part.
@@ -135,6 +135,32 @@ impl<T: Element> Buffer<T> {
     }
 }
 
+/// Lengths of buffers for which no call is refused that asks for k hits or m documents: often
+/// exactly long enough.
+pub fn enough(random: &mut Random, needed: &Lengths, k: u32, m: usize) -> Lengths {
+    let mut lent = Lengths {
+        hits: k as usize,
+        documents: m,
+        scores: m,
+        answer: FOUND,
+        ..*needed
+    };
+    if random.once_in(2) {
+        return lent;
+    }
+    for length in [
+        &mut lent.states,
+        &mut lent.starts,
+        &mut lent.other_starts,
+        &mut lent.ranges,
+        &mut lent.hits,
+        &mut lent.answer,
+    ] {
+        *length += random.pick(&[0, 0, 1, 2, 40]);
+    }
+    lent
+}
+
 /// The buffers of a call of any entry.
 #[derive(Clone)]
 pub struct Buffers {
@@ -211,6 +237,13 @@ impl Buffers {
             hits: self.hits.lent(),
             answer: self.answer.lent(),
         }
+    }
+
+    /// New outputs for a page of m documents; the rest counts as it is now.
+    pub fn for_page(&mut self, random: &mut Random, m: usize) {
+        self.documents = Buffer::new(random, m);
+        self.scores = Buffer::new(random, m);
+        self.settle();
     }
 
     /// After a refusal: every element of every buffer is as it was.

@@ -96,6 +96,24 @@ impl Case {
         let word = (document / 64) as usize;
         self.live.is_empty() || self.live[word] >> (document % 64) & 1 == 1
     }
+
+    /// Clears a document's live bit, where the words have one. Where none are lent, as many as N
+    /// asks for are written first, all ones.
+    pub fn withdraw(&mut self, document: u32) {
+        if self.live.is_empty() {
+            self.live = vec![u64::MAX; self.n.div_ceil(64) as usize];
+        }
+        if let Some(word) = self.live.get_mut((document / 64) as usize) {
+            *word &= !(1 << (document % 64));
+        }
+    }
+
+    /// The same case with a document's live bit cleared.
+    pub fn withdrawn(&self, document: u32) -> Case {
+        let mut changed = self.clone();
+        changed.withdraw(document);
+        changed
+    }
 }
 
 fn bytes(folder: &Path, name: &str) -> Result<Vec<u8>, String> {

@@ -89,10 +89,7 @@ impl Catalogue {
 
     /// Clears a document's live bit.
     pub fn kill(&mut self, document: u32) {
-        if self.case.live.is_empty() {
-            self.case.live = vec![u64::MAX; self.case.n.div_ceil(64) as usize];
-        }
-        self.case.live[(document / 64) as usize] &= !(1 << (document % 64));
+        self.case.withdraw(document);
     }
 
     /// The case of this index and a query.

@@ -4,7 +4,7 @@ mod pages;
 pub mod picks;
 
 use crate::border::Entries;
-use crate::buffer::Buffers;
+use crate::buffer::{Buffers, enough};
 use crate::case::Case;
 use crate::damage::damaged;
 use crate::expect::{self, Right};
@@ -46,29 +46,9 @@ impl<'a> Compare<'a> {
         }
     }
 
-    /// Buffers of a call that is not refused for them: often exactly long enough.
+    /// Buffers of a call that is not refused for them.
     fn enough(&mut self, k: u32, m: usize) -> Lengths {
-        let mut lent = Lengths {
-            hits: k as usize,
-            documents: m,
-            scores: m,
-            answer: FOUND,
-            ..self.right.judge.needed
-        };
-        if self.random.once_in(2) {
-            return lent;
-        }
-        for length in [
-            &mut lent.states,
-            &mut lent.starts,
-            &mut lent.other_starts,
-            &mut lent.ranges,
-            &mut lent.hits,
-            &mut lent.answer,
-        ] {
-            *length += self.random.pick(&[0, 0, 1, 2, 40]);
-        }
-        lent
+        enough(self.random, &self.right.judge.needed, k, m)
     }
 
     /// One of the buffers that Search (`k`) or Page looks at is too short.

@@ -30,10 +30,11 @@ pub enum Wrong {
     WorksRefused,
     TellsHigher,
     ScoresUp,
+    LiveBitOfNext,
 }
 
 /// Every wrong one.
-pub const WRONG: [Wrong; 20] = [
+pub const WRONG: [Wrong; 21] = [
     Wrong::FindsNothing,
     Wrong::RefusesAll,
     Wrong::LeavesOutputs,
@@ -54,6 +55,7 @@ pub const WRONG: [Wrong; 20] = [
     Wrong::WorksRefused,
     Wrong::TellsHigher,
     Wrong::ScoresUp,
+    Wrong::LiveBitOfNext,
 ];
 
 /// What a call that is not refused leaves in the states.
@@ -63,7 +65,7 @@ pub struct Double(pub Wrong);
 
 impl Entries for Double {
     fn search(&self, mut call: Search) -> u32 {
-        let right = Right::new(&case(call.index, call.query));
+        let right = Right::new(&self.case(call.index, call.query));
         let lent = self.seen(Lengths {
             hits: call.hits.len(),
             answer: call.answer.len(),
@@ -88,7 +90,7 @@ impl Entries for Double {
     fn page(&self, mut call: Page) -> u32 {
         let resumed = self.0 == Wrong::Resumes && call.work.states.first() == Some(&LEFT);
         let target = call.target + u32::from(resumed && call.target < call.index.n);
-        let right = Right::new(&case(call.index, call.query));
+        let right = Right::new(&self.case(call.index, call.query));
         let lent = self.seen(Lengths {
             documents: call.documents.len(),
             scores: call.scores.len(),
@@ -130,6 +132,17 @@ impl Entries for Double {
 }
 
 impl Double {
+    /// The case as a library sees it that asks the live bit of d + 1 for d.
+    fn case(&self, index: Index, query: &[u32]) -> Case {
+        let mut case = case(index, query);
+        if self.0 == Wrong::LiveBitOfNext {
+            let after = index.live.iter().skip(1).chain(&[u64::MAX]);
+            let words = case.live.iter_mut().zip(after);
+            words.for_each(|(word, after)| *word = *word >> 1 | after << 63);
+        }
+        case
+    }
+
     /// The lengths as a library sees them that asks for too much or too little.
     fn seen(&self, mut lent: Lengths) -> Lengths {
         match self.0 {
@@ -205,7 +218,8 @@ fn lengths(work: &Work) -> Lengths {
     }
 }
 
-fn case(index: Index, query: &[u32]) -> Case {
+/// The case that a call lends.
+pub fn case(index: Index, query: &[u32]) -> Case {
     Case {
         n: index.n,
         fields: index.fields.to_vec(),

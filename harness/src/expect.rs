@@ -108,6 +108,19 @@ pub fn page_numbers(paged: &Paged) -> [u64; 2] {
     [paged.hits.len() as u64, u64::from(paged.next)]
 }
 
+/// What an accepted call of Search or Pick wrote, as it stands in the buffers.
+pub fn told(buffers: &Buffers) -> Searched {
+    let [held, count, mark] = buffers.answer.held()[..3] else {
+        panic!("an answer of three numbers");
+    };
+    let codes = &buffers.hits.held()[..held as usize];
+    Searched {
+        hits: codes.iter().map(|code| Hit::of(*code)).collect(),
+        count,
+        mark: mark == 1,
+    }
+}
+
 /// What an accepted call of Page wrote: the page as it stands in the buffers.
 pub fn written(buffers: &Buffers) -> Paged {
     let [given, next] = buffers.answer.held()[..2] else {

@@ -24,6 +24,8 @@ pub mod random;
 #[cfg(oracle)]
 pub mod record;
 pub mod refusal;
+#[cfg(oracle)]
+pub mod withdrawn;
 
 // The source names its own modules from the crate's root, so they stand here.
 #[cfg(oracle)]

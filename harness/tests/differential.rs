@@ -4,7 +4,7 @@
 #[macro_use]
 mod common;
 
-use common::Seed;
+use common::{cases, each, each_of};
 use harness::border::Entries;
 use harness::boundary;
 use harness::case::Case;
@@ -19,45 +19,7 @@ use harness::query::{Node, RECORD};
 use harness::random::Random;
 use harness::refusal::calls::{FOUND, Lengths, PAGED};
 use std::panic::{AssertUnwindSafe, catch_unwind};
-use std::sync::atomic::{AtomicU64, Ordering};
 use std::thread;
-
-const CASES: u64 = 300_000;
-
-/// The body of a test that needs the library and the Rust source, ignored where one is absent.
-macro_rules! with_library {
-    ($library:ident, $body:block) => {
-        #[cfg(all(oracle, linked))]
-        {
-            let $library = &harness::border::Library;
-            $body
-        }
-        #[cfg(not(all(oracle, linked)))]
-        panic!("the library or the Rust source is absent");
-    };
-}
-
-/// Works on each number below `end`, on all processors.
-fn each(end: u64, work: impl Fn(u64) + Sync) {
-    let next = AtomicU64::new(0);
-    let one = || loop {
-        let at = next.fetch_add(1, Ordering::Relaxed);
-        if at >= end {
-            return;
-        }
-        let _at = Seed(at);
-        work(at);
-    };
-    let processors = thread::available_parallelism().map_or(1, |number| number.get());
-    thread::scope(|scope| (0..processors).for_each(|_| _ = scope.spawn(one)));
-}
-
-/// Works on each item.
-fn each_of<T: Sync>(items: &[T], work: impl Fn(&T, &mut Random) + Sync) {
-    each(items.len() as u64, |at| {
-        work(&items[at as usize], &mut Random::new(at));
-    });
-}
 
 #[cfg(oracle)]
 fn generated(entries: &dyn Entries, seed: u64) {
@@ -72,9 +34,7 @@ fn generated(entries: &dyn Entries, seed: u64) {
 )]
 fn generated_cases() {
     with_library!(library, {
-        let cases = std::env::var("LOT_SEARCH_CASES").map_or(CASES, |n| n.parse().unwrap());
-        assert!(cases > 0, "LOT_SEARCH_CASES leaves no case");
-        each(cases, |seed| generated(library, seed));
+        each(cases(), |seed| generated(library, seed));
     });
 }
 

@@ -116,6 +116,21 @@ fn the_whole_case() {
     }
 }
 
+/// The whole case with its best lot withdrawn; and with any document, or one that it has not.
+#[test]
+#[cfg_attr(not(hits), ignore = "the program hits is not built")]
+fn a_withdrawn_lot() {
+    let hits = Hits::find("withdrawn");
+    let case = Case::read_folder(&own_folder()).unwrap();
+    hits.write(&case);
+    fs::write(hits.file("live.rec"), b"\xfb\xff\xff\xff\xff\xff\xff\xff").unwrap();
+    assert_eq!(hits.prints(), "count 2\n0 3f800000\n3 3f800000\n");
+    assert_eq!(Case::read_folder(&hits.folder), Ok(case.withdrawn(2)));
+    for document in [0, 1, 2, 3, 4, 64] {
+        assert_eq!(hits.right(&case.withdrawn(document)), 0);
+    }
+}
+
 #[test]
 #[cfg_attr(not(hits), ignore = "the program hits is not built")]
 fn files_that_are_missing_or_unreadable() {

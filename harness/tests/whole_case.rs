@@ -5,22 +5,10 @@ mod common;
 
 use common::*;
 use harness::case::{Case, FILE_LIMIT};
-use harness::catalogue::Catalogue;
-use harness::query::*;
+use harness::query::Node;
 use std::fs;
 use std::path::Path;
 use std::process::Command;
-
-fn whole_case(t: u32) -> Case {
-    let mut catalogue = Catalogue::new(4);
-    let field = catalogue.field();
-    let first = catalogue.leaf(field, &[0, 2, 3]);
-    let second = catalogue.leaf(field, &[2]);
-    let two = 2f32.to_bits();
-    let must = constant_score(term(first)).must();
-    let should = weighted(two, term(second)).should();
-    catalogue.case(2, t, &boolean(0, [must, should]))
-}
 
 const EXPECTED: &str = "count 3\n2 40400000\n0 3f800000\n";
 

@@ -1,7 +1,7 @@
 //! Pages one after the other, refused calls among them: what they wrote, joined, is the full list.
 use super::Compare;
 use crate::answer::{Hit, NO_MORE_DOCS, Paged};
-use crate::buffer::{Buffer, Buffers};
+use crate::buffer::Buffers;
 use crate::expect::{self, written};
 use crate::refusal::calls::Lengths;
 
@@ -20,9 +20,7 @@ impl Compare<'_> {
             if self.random.once_in(4) {
                 buffers = Buffers::new(self.random, &lent);
             }
-            buffers.documents = Buffer::new(self.random, m);
-            buffers.scores = Buffer::new(self.random, m);
-            buffers.settle();
+            buffers.for_page(self.random, m);
             let number = self.entries.page(buffers.page(self.case, target));
             expect::given(&buffers, number, &Ok(self.from_list(target, m)));
             let written = written(&buffers);

@@ -7,13 +7,17 @@ pub mod model;
 pub mod plain;
 
 use harness::answer::Hit;
-#[cfg(oracle)]
 use harness::case::Case;
+use harness::catalogue::Catalogue;
 #[cfg(oracle)]
 use harness::oracle::Oracle;
+use harness::query::*;
+use harness::random::Random;
 #[cfg(oracle)]
 use harness::refusal::refusal;
 use std::path::{Path, PathBuf};
+use std::sync::atomic::{AtomicU64, Ordering};
+use std::thread;
 
 /// In f64 x + y + z narrows to 3f800001, x + z + y to 3f800000.
 pub const X: u32 = 0x3f7f_ffff;
@@ -32,6 +36,62 @@ macro_rules! with_oracle {
         #[cfg(not(oracle))]
         panic!("the Rust source is absent");
     };
+}
+
+/// The body of a test that needs the library and the Rust source, ignored where one is absent.
+macro_rules! with_library {
+    ($library:ident, $body:block) => {
+        #[cfg(all(oracle, linked))]
+        {
+            let $library = &harness::border::Library;
+            $body
+        }
+        #[cfg(not(all(oracle, linked)))]
+        panic!("the library or the Rust source is absent");
+    };
+}
+
+/// How many generated cases are run beside the library where LOT_SEARCH_CASES does not say.
+const CASES: u64 = 300_000;
+
+pub fn cases() -> u64 {
+    let cases = std::env::var("LOT_SEARCH_CASES").map_or(CASES, |n| n.parse().unwrap());
+    assert!(cases > 0, "LOT_SEARCH_CASES leaves no case");
+    cases
+}
+
+/// Works on each number below `end`, on all processors.
+pub fn each(end: u64, work: impl Fn(u64) + Sync) {
+    let next = AtomicU64::new(0);
+    let one = || loop {
+        let at = next.fetch_add(1, Ordering::Relaxed);
+        if at >= end {
+            return;
+        }
+        let _at = Seed(at);
+        work(at);
+    };
+    let processors = thread::available_parallelism().map_or(1, |number| number.get());
+    thread::scope(|scope| (0..processors).for_each(|_| _ = scope.spawn(one)));
+}
+
+/// Works on each item.
+pub fn each_of<T: Sync>(items: &[T], work: impl Fn(&T, &mut Random) + Sync) {
+    each(items.len() as u64, |at| {
+        work(&items[at as usize], &mut Random::new(at));
+    });
+}
+
+/// Document 01's whole case.
+pub fn whole_case(t: u32) -> Case {
+    let mut catalogue = Catalogue::new(4);
+    let field = catalogue.field();
+    let first = catalogue.leaf(field, &[0, 2, 3]);
+    let second = catalogue.leaf(field, &[2]);
+    let two = 2f32.to_bits();
+    let must = constant_score(term(first)).must();
+    let should = weighted(two, term(second)).should();
+    catalogue.case(2, t, &boolean(0, [must, should]))
 }
 
 /// A text file of the repository.
