@@ -29,10 +29,11 @@ lowest-same : {cs cs′ ds ds′ : List Condition} → cs ≡ cs′ → ds ≡ d
 lowest-same e f = ap₂ (λ (cs ds : List Condition). lowest (cs ++ ds)) e f
 
 module _ (ix : Index) (d : ℕ) where
+  -- 3: so many live words are right
   abbrev lengthRight : ℕ → Bool
   lengthRight n = eqb n 0 || eqb n ((ix .maxDoc + 63) / 64)
 
-  -- 3: no words and N ÷ 64 rounded up words are both right, and words of another length stay wrong
+  -- no words and N ÷ 64 rounded up words are both right, and words of another length stay wrong
   lengths-same : lengthRight (length (liveWords ix)) ≡ lengthRight (length (ix .live))
   lengths-same = elim (decided (eqb (length (ix .live)) 0)) [
     | inl e ↦

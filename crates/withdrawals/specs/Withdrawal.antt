@@ -34,7 +34,7 @@ withdrawn ix d =
 unfoldable pub liveMatch : Index → Tree → ℕ → Bool
 liveMatch ix t d = ltb d (ix .maxDoc) && isLive ix d && takes ix t d
 
--- some entries without those whose document is d
+-- a list without the entries whose document is d, by what tells an entry's document
 unfoldable pub withoutBy {ℓ} : {A : Type ℓ} → (A → ℕ) → ℕ → List A → List A
 withoutBy docOf d [] = []
 withoutBy docOf d (x ∷ xs) = cond (eqb (docOf x) d) [] (x ∷ []) ++ withoutBy docOf d xs
