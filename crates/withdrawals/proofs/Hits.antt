@@ -14,14 +14,12 @@ use Rattle.meaning.specs.Limits.{noMoreDocs}
 use Rattle.meaning.specs.FullList.{ScoreDoc}
 use Rattle.meaning.specs.Hits.{code, toDoc, descending, hits}
 use Rattle.meaning.proofs.Tests.{decided, cmp}
-use Rattle.collector.specs.Collected.{Scored}
 use Rattle.collector.proofs.Counts.{same, count, same-is}
 use Rattle.collector.proofs.Sorted.{Desc, desc-descending, count-descending, unique}
 use Rattle.collector.proofs.Best.{hits-is, length-descending}
 use Rattle.collector.proofs.Ranked.{toDoc-code}
 use Rattle.demands.proofs.Lists.{All}
-use Rattle.demands.proofs.Rising.{Rises, rises-each}
-use Rattle.demands.proofs.Ranked.{Rankable}
+use Rattle.demands.proofs.Rising.{Rises, rises-to, rises-each}
 use Rattle.withdrawals.specs.Withdrawal.{withoutBy, without, withoutCode, afterwards}
 use Rattle.withdrawals.proofs.Lists.{without-gone, without-kept, Apart, apart-same, take-without, without-map}
 
@@ -84,18 +82,18 @@ one-gone d b e (h ∷ hs) r = elim (decided (eqb (h .doc) d)) [
     apart [] p a = tt
     apart (g ∷ gs) p a = (ne-eqb (g .doc) d (λ z. omega (arith, a .0, p, z)), apart gs p (a .1))
 
--- ---- each entry's code tells its document
-told : (list : List ScoreDoc) → All (Scored noMoreDocs) list → All (λ (h : ScoreDoc). toDoc (code h) ≡ h .doc) list
-told [] s = tt
-told (h ∷ hs) s = (toDoc-code h (omega (arith, s .0 .below)), told hs (s .1))
+-- each entry's code tells its document
+told : (b : ℕ) (list : List ScoreDoc) → Rises b noMoreDocs list → All (λ (h : ScoreDoc). toDoc (code h) ≡ h .doc) list
+told b [] r = tt
+told b (h ∷ hs) r = (toDoc-code h (omega (arith, rises-to (suc (h .doc)) noMoreDocs hs (r .1))), told (suc (h .doc)) hs (r .1))
 
--- "the first k of the k + 1 hits before, that lot taken out"
-pub hits-without : (k d : ℕ) (list : List ScoreDoc) → Rankable list → hits k (without d list) ≡ afterwards k d (hits (k + 1) list)
+-- "the first k of the k + 1 hits before, that lot taken out": of every list whose documents rise below NO_MORE_DOCS, as those of a `Rankable` list do; scores are not asked
+pub hits-without : (k d : ℕ) (list : List ScoreDoc) → Rises 0 noMoreDocs list → hits k (without d list) ≡ afterwards k d (hits (k + 1) list)
 unfolding without withoutCode afterwards
 hits-without k d list r =
     let codes = map code list in
-    let coded = without-map code (λ h. h .doc) toDoc d list (told list (r .scored)) in
-    let few : length (descending codes) ≤ length (withoutBy toDoc d (descending codes)) + 1 = omega (arith, one-gone d 0 noMoreDocs list (r .rises), length-descending codes, length-map list code, ap length (descending-without d codes), length-descending (withoutBy toDoc d codes), ap length coded, length-map (without d list) code) in
+    let coded = without-map code (λ h. h .doc) toDoc d list (told 0 list r) in
+    let few : length (descending codes) ≤ length (withoutBy toDoc d (descending codes)) + 1 = omega (arith, one-gone d 0 noMoreDocs list r, length-descending codes, length-map list code, ap length (descending-without d codes), length-descending (withoutBy toDoc d codes), ap length coded, length-map (without d list) code) in
     hits-is k (without d list)
     ∙ ap (λ (l : List ℤ). take k (descending l)) (sym coded)
     ∙ ap (take k) (descending-without d codes)

@@ -24,5 +24,5 @@ withdrawn-hits ix d q k t t′ w w′ buffer buffer′ r r′ =
     let list = fullList ix (queryTree q) in
     wrote-is (withdrawn ix d) q k t′ w′ buffer′ r′
     ∙ ap (hits k) (withdrawn-list ix d (queryTree q))
-    ∙ hits-without k d list (full-rankable ix q (search-accepts ix q (k + 1) w (length buffer) r))
+    ∙ hits-without k d list (full-rankable ix q (search-accepts ix q (k + 1) w (length buffer) r) .rises)
     ∙ ap (afterwards k d) (sym (wrote-is ix q (k + 1) t w buffer r))
