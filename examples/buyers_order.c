@@ -32,10 +32,11 @@ static const struct lot LOTS[] = {
 };
 
 enum { MAX_DOC = sizeof LOTS / sizeof LOTS[0], LONGEST_TEXT = 16, BEST = 3, PAGE = 2 };
+enum { MAX_TOKEN_WORDS = LOT_TOKEN_WORDS * LONGEST_TEXT * MAX_DOC };
 
-/* The words that the orders name: each is a leaf. */
-enum { MERINO, FREE, OF, STAIN, DARK, FIBRE, LAMBS, PIECES, LEAVES };
-static const char *const WORDS[LEAVES] = {"merino", "free", "of", "stain", "dark", "fibre", "lambs", "pieces"};
+/* The words that the orders name: each is a leaf. All other words go to one leaf more, so that the norms count them. */
+enum { MERINO, FREE, OF, STAIN, DARK, FIBRE, LAMBS, PIECES, OTHERS, LEAVES };
+static const char *const WORDS[OTHERS] = {"merino", "free", "of", "stain", "dark", "fibre", "lambs", "pieces"};
 
 /* One field, the text, and one column, the micron. */
 enum { TEXT = 0, MICRON = 0 };
@@ -45,10 +46,10 @@ enum { TEXT = 0, MICRON = 0 };
 static struct {
     uint32_t field[LOT_FIELD_WORDS];
     uint32_t leaves[LOT_LEAF_WORDS * LEAVES];
-    uint32_t postings[LOT_POSTING_WORDS * LEAVES * MAX_DOC];
-    uint32_t positions[LONGEST_TEXT * MAX_DOC];
-    uint32_t postings_held, positions_held;
-    uint8_t norms[MAX_DOC];
+    uint32_t postings[LOT_WRITE_POSTINGS(MAX_TOKEN_WORDS)];
+    uint32_t positions[LOT_WRITE_POSITIONS(MAX_TOKEN_WORDS)];
+    uint64_t held[LOT_WRITE_ANSWER]; /* postings, positions */
+    uint8_t norms[LOT_WRITE_NORMS(MAX_DOC, 1)];
     uint64_t live[LOT_LIVE_WORDS(MAX_DOC)];
     uint32_t columns[1];
     uint32_t values[LOT_VALUE_WORDS * MAX_DOC];
@@ -74,75 +75,67 @@ static void put_f64(uint32_t *halves, double x) {
     halves[1] = (uint32_t)(bits >> 32);
 }
 
-/* SmallFloat's intToByte4, as lot_search.h has it */
-static uint8_t norm_byte(uint32_t tokens) {
-    if (tokens < 24 + 8) return (uint8_t)tokens;
-    uint32_t m = tokens - 24, s = 0;
-    while (m >> s >= 16) s++;
-    return (uint8_t)(24 + 8 * (s + 1) + (m >> s) % 8);
-}
-
 static float idf(uint32_t df, uint32_t count) { return (float)log(1 + (count - df + 0.5) / (df + 0.5)); }
 
-static uint32_t tokens_of(const char *text) {
-    uint32_t tokens = 1;
-    for (; *text; text++) tokens += *text == ' ';
-    return tokens;
+/* The leaf of a word of a text: the word ends at a space or with the text. */
+static uint32_t leaf_of(const char *word, size_t length) {
+    uint32_t leaf = 0;
+    while (leaf < OTHERS && !(strlen(WORDS[leaf]) == length && memcmp(WORDS[leaf], word, length) == 0)) leaf++;
+    return leaf;
 }
 
-/* Writes the positions at which a word stands in a text, and gives their number. */
-static uint32_t put_positions(const char *text, const char *word, uint32_t *positions) {
-    uint32_t number = 0;
-    size_t length = strlen(word);
-    for (uint32_t position = 0; *text; position++) {
-        size_t token = strcspn(text, " ");
-        if (token == length && memcmp(text, word, length) == 0) positions[number++] = position;
-        text += token + (text[token] == ' ');
-    }
-    return number;
-}
-
-/* A word's run: a posting for each lot that holds it, lots ascending. */
-static void add_leaf(uint32_t leaf) {
-    uint32_t first = ix.postings_held;
+/* The tokens of a leaf, lots ascending, positions ascending in each; gives the number of their words. */
+static size_t put_tokens(uint32_t leaf, uint32_t *tokens) {
+    size_t held = 0;
     for (uint32_t lot = 0; lot < MAX_DOC; lot++) {
-        uint32_t frequency = put_positions(LOTS[lot].text, WORDS[leaf], ix.positions + ix.positions_held);
-        if (frequency == 0) continue;
-        uint32_t *posting = ix.postings + LOT_POSTING_WORDS * ix.postings_held++;
-        posting[0] = lot;
-        posting[1] = frequency;
-        posting[2] = ix.positions_held;
-        ix.positions_held += frequency;
+        const char *text = LOTS[lot].text;
+        for (uint32_t position = 0; *text; position++) {
+            size_t length = strcspn(text, " ");
+            if (leaf_of(text, length) == leaf) {
+                tokens[held++] = leaf;
+                tokens[held++] = lot;
+                tokens[held++] = position;
+            }
+            text += length + (text[length] == ' ');
+        }
     }
-    uint32_t *record = ix.leaves + LOT_LEAF_WORDS * leaf, df = ix.postings_held - first;
-    record[0] = TEXT;
-    record[1] = first;
-    record[2] = df;
-    record[3] = f32_bits(idf(df, MAX_DOC));
+    return held;
 }
 
-/* A lot's norm, live bit and micron; gives its tokens. */
-static uint32_t add_lot(uint32_t lot) {
-    uint32_t tokens = tokens_of(LOTS[lot].text), *value = ix.values + LOT_VALUE_WORDS * lot;
-    ix.norms[lot] = norm_byte(tokens);
+/* Norms, postings, positions and leaf records from the texts of the lots; gives the refusal's number. */
+static uint32_t write_texts(void) {
+    static const uint32_t leaf_fields[LEAVES] = {TEXT}; /* and so are the others: TEXT is 0 */
+    static uint32_t tokens[MAX_TOKEN_WORDS], runs[LOT_WRITE_RUNS(LEAVES)];
+    size_t held = 0;
+    for (uint32_t leaf = 0; leaf < LEAVES; leaf++) held += put_tokens(leaf, tokens + held);
+    ix.field[0] = f32_bits((float)((double)(held / LOT_TOKEN_WORDS) / MAX_DOC)); /* every lot has a text */
+    ix.field[1] = 1; /* norms */
+    ix.field[2] = 1; /* positions */
+    uint32_t refusal = lot_write_index(MAX_DOC, ix.field, LOT_FIELD_WORDS, tokens, held, leaf_fields, LEAVES, ix.norms,
+        sizeof ix.norms, ix.postings, LOT_WRITE_POSTINGS(held), ix.positions, LOT_WRITE_POSITIONS(held), runs,
+        LOT_WRITE_RUNS(LEAVES), ix.held, LOT_WRITE_ANSWER);
+    for (uint32_t leaf = 0; leaf < LEAVES; leaf++) {
+        uint32_t *record = ix.leaves + LOT_LEAF_WORDS * leaf;
+        record[0] = TEXT;
+        record[1] = runs[LOT_RUN_WORDS * leaf];
+        record[2] = runs[LOT_RUN_WORDS * leaf + 1];
+        record[3] = f32_bits(idf(record[2], MAX_DOC));
+    }
+    return refusal;
+}
+
+/* A lot's live bit and micron. */
+static void add_lot(uint32_t lot) {
+    uint32_t *value = ix.values + LOT_VALUE_WORDS * lot;
     if (LOTS[lot].for_sale) ix.live[lot / 64] |= (uint64_t)1 << lot % 64;
     value[0] = LOTS[lot].micron > 0;
     put_f64(value + 1, LOTS[lot].micron);
-    return tokens;
 }
 
-static void add_lots(void) {
-    double tokens = 0;
-    for (uint32_t lot = 0; lot < MAX_DOC; lot++) tokens += add_lot(lot);
-    ix.field[0] = f32_bits((float)(tokens / MAX_DOC)); /* every lot has a text */
-    ix.field[1] = 1; /* norms */
-    ix.field[2] = 1; /* positions */
+static uint32_t build_index(void) {
     ix.columns[MICRON] = LOT_F64;
-}
-
-static void build_index(void) {
-    add_lots();
-    for (uint32_t leaf = 0; leaf < LEAVES; leaf++) add_leaf(leaf);
+    for (uint32_t lot = 0; lot < MAX_DOC; lot++) add_lot(lot);
+    return write_texts();
 }
 
 /* ---- The orders ---- */
@@ -177,9 +170,9 @@ static int64_t hits[LOT_HITS(BEST)];
 
 /* the index and the work buffers as the prototypes of Search and Page have them */
 #define INDEX \
-    MAX_DOC, ix.field, LOT_FIELD_WORDS, ix.leaves, LOT_LEAF_WORDS * LEAVES, ix.postings, LOT_POSTING_WORDS * ix.postings_held, \
-    ix.positions, ix.positions_held, ix.norms, MAX_DOC, ix.live, LOT_LIVE_WORDS(MAX_DOC), ix.columns, 1, ix.values, \
-    LOT_VALUE_WORDS * MAX_DOC
+    MAX_DOC, ix.field, LOT_FIELD_WORDS, ix.leaves, LOT_LEAF_WORDS * LEAVES, ix.postings, \
+    LOT_POSTING_WORDS * (size_t)ix.held[0], ix.positions, (size_t)ix.held[1], ix.norms, sizeof ix.norms, ix.live, \
+    LOT_LIVE_WORDS(MAX_DOC), ix.columns, 1, ix.values, LOT_VALUE_WORDS * MAX_DOC
 #define WORK \
     states, LOT_STATES(ORDER_WORDS), starts, LOT_STARTS(LONGEST_TEXT), other_starts, LOT_STARTS(LONGEST_TEXT), ranges, \
     LOT_RANGES(MAX_DOC, 1)
@@ -254,7 +247,7 @@ static int print_best_of(const struct list *list) {
 int main(void) {
     static struct list lots, other_lots, both;
     uint32_t *range = order + LOT_QUERY_WORDS * RANGE_RECORD;
-    build_index();
+    if (refused(build_index())) return 1;
     put_f64(range + 5, 17.0);
     put_f64(range + 7, 18.5);
     printf("merino AND \"free of stain\" AND 17 to 18.5 micron AND NOT \"dark fibre\": ");

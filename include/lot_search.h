@@ -1,4 +1,4 @@
-/* Ranked lot search: the proved entries Search, Page and Pick.
+/* Ranked lot search: the proved entries Search, Page and Pick, and the writer of an index made from tokens.
  *
  * Link target/staticlib/liblot_search.a (rt staticlib lot_search), for x86-64 Linux. Nothing is kept between calls and no
  * memory is allocated: calls that share no slice that is written may run at the same time. examples/buyers_order.c is a
@@ -11,8 +11,8 @@
  * - Nothing else reads what is written, or changes what is lent, while the call runs.
  *
  * Each entry returns 0, or the lowest number of docs/REFUSALS.md whose condition holds for what is lent
- * (lot_refusal_text says it in words); a slice `answer` that is too short is a buffer too short, 12. A refused call leaves
- * every buffer as it was, `answer` too. */
+ * (lot_refusal_text says it in words); a slice `answer` that is too short is a buffer too short, 12, or an output too short,
+ * 16. A refused call leaves every buffer as it was, `answer` too. */
 #ifndef LOT_SEARCH_H
 #define LOT_SEARCH_H
 
@@ -40,6 +40,7 @@ extern "C" {
 #define LOT_MAX_PHRASE_TERMS 32      /* a phrase has 1 to this many terms */
 #define LOT_MAX_CLAUSES 64           /* a Boolean has 0 to this many clauses */
 #define LOT_MAX_HITS 1024            /* k is 1 to this */
+#define LOT_MAX_TOKENS 16777216      /* an index is made from 0 to this many tokens */
 
 /* Above every document: Page's `next` where no live match is left. */
 #define LOT_NO_MORE_DOCS 2147483647u
@@ -52,6 +53,7 @@ extern "C" {
  * leaf     (a word of a field) its field; its first posting; how many postings; idf as f32 bits
  * posting  document; frequency; index of its first position, 0 in a field without positions. In a leaf's run the documents
  *          rise. A posting's positions are the next `frequency` position words, and do not fall.
+ * token    (a word of a field at one place of a document) leaf; document; position. lot_write_index takes them
  * column   LOT_I64 or LOT_F64
  * value    1 where the document has one, else 0; low half; high half. max_doc values for each column, in document order
  * query    kind; occurrence; number of direct children; six values, unused ones 0. The root comes first, and after each
@@ -59,6 +61,7 @@ extern "C" {
 #define LOT_FIELD_WORDS 3
 #define LOT_LEAF_WORDS 4
 #define LOT_POSTING_WORDS 3
+#define LOT_TOKEN_WORDS 3
 #define LOT_COLUMN_WORDS 1
 #define LOT_VALUE_WORDS 3
 #define LOT_QUERY_WORDS 9
@@ -95,6 +98,8 @@ extern "C" {
 
 /* ---- What a caller who builds the index works out ----
  *
+ * lot_write_index works out norm bytes, postings and positions from a list of tokens. What is left to the caller is the idf of
+ * each leaf and the average length of each field.
  * Norm byte of a document in a field: SmallFloat's intToByte4 of n, the field's tokens in that document.
  *   n below 24:   n
  *   m = n - 24 below 8:   24 + m
@@ -143,6 +148,14 @@ extern "C" {
 #define LOT_SEARCH_ANSWER 3
 #define LOT_PAGE_ANSWER 2
 #define LOT_PICK_ANSWER 3
+#define LOT_WRITE_ANSWER 2
+/* outputs of lot_write_index that are always long enough: a posting and a position for each token */
+#define LOT_WRITE_POSTINGS(tokens_words) ((size_t)(tokens_words) / LOT_TOKEN_WORDS * LOT_POSTING_WORDS)
+#define LOT_WRITE_POSITIONS(tokens_words) ((size_t)(tokens_words) / LOT_TOKEN_WORDS)
+#define LOT_WRITE_NORMS(max_doc, fields_with_norms) ((size_t)(max_doc) * (size_t)(fields_with_norms))
+/* words written for each leaf: first posting, number of postings */
+#define LOT_RUN_WORDS 2
+#define LOT_WRITE_RUNS(leaves) ((size_t)(leaves) * LOT_RUN_WORDS)
 
 /* ---- Refusals, in the words of docs/REFUSALS.md: whose fault it is, and what to do ---- */
 
@@ -162,6 +175,8 @@ static inline const char *lot_refusal_text(uint32_t number) {
     case 12: return "The caller lent a buffer too short, or page outputs of unequal length: size them by the macros of lot_search.h.";
     case 13: return "The caller gave a target above max_doc (Place: no such document or phrase): paging ends at LOT_NO_MORE_DOCS.";
     case 14: return "The caller lent wrong lists to Pick: check their lengths, that documents rise, and that scores are not negative.";
+    case 15: return "The loader lent wrong tokens: check their number, their order, what each names, and the field of each leaf.";
+    case 16: return "The loader lent an output too short for the index: size them by the macros of lot_search.h.";
     default: return number == 0 ? "Not refused." : "Not a number of this library.";
     }
 }
@@ -236,6 +251,32 @@ uint32_t lot_pick(
     const uint32_t *scores, size_t scores_places,
     uint32_t k, uint32_t t,
     int64_t *hits, size_t hits_places,
+    uint64_t *answer, size_t answer_places);
+
+/* Makes an index from tokens: writes norm bytes, postings, positions and runs. Reading them back gives the tokens.
+ * max_doc              the number of documents
+ * fields               as for Search. The averages are checked, not used: lend 1 (0x3f800000) where they are not known yet
+ * tokens               of LOT_TOKEN_WORDS, ascending by leaf, then document, then position; repeats are allowed, and count.
+ *                      In a field without positions a position is checked and then dropped: lend 0
+ * leaf_fields          the field of each leaf, one word each; a leaf without tokens gets an empty run
+ * norms                max_doc bytes for each field with norms, in field order
+ * postings, positions  as Search takes them, in the tokens' order
+ * runs                 LOT_RUN_WORDS for each leaf: the second and third word of its leaf record
+ * answer               how many postings, and how many position words, were written
+ * What lies beyond the written part of an output stays as it was: lend Search LOT_POSTING_WORDS * answer[0] words of
+ * postings, answer[1] of positions, and the norms cut to LOT_WRITE_NORMS.
+ * A norm counts the tokens that are given. So give every token of a field: those of words that get no leaf of their own go to
+ * one leaf more, which no order names.
+ * Refuses 1, 2, 15 and 16. */
+uint32_t lot_write_index(
+    uint32_t max_doc,
+    const uint32_t *fields, size_t fields_words,
+    const uint32_t *tokens, size_t tokens_words,
+    const uint32_t *leaf_fields, size_t leaf_fields_words,
+    uint8_t *norms, size_t norms_bytes,
+    uint32_t *postings, size_t postings_words,
+    uint32_t *positions, size_t positions_words,
+    uint32_t *runs, size_t runs_words,
     uint64_t *answer, size_t answer_places);
 
 #ifdef __cplusplus

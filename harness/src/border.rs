@@ -82,6 +82,9 @@ impl Case {
 pub use library::Library;
 
 #[cfg(linked)]
+mod write_index;
+
+#[cfg(linked)]
 mod library {
     use super::{Entries, Page, Pick, Search};
 

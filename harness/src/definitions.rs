@@ -1,9 +1,11 @@
 //! Rows for antt: what the definitions of crates/meaning, and the text of `hits`, must give for a
 //! call of an entry, as equations that the checker computes. The answers are the Rust's, a
-//! refusal's number, or, of Place, which the Rust does not have, worked out here.
+//! refusal's number, or, of what the Rust does not have, worked out here (Place) or the judge's (an
+//! index made from tokens).
 mod entries;
 mod place;
 pub mod rows;
+pub mod tokens;
 
 use crate::case::Case;
 use crate::refusal::calls::Lengths;
@@ -30,6 +32,8 @@ use Rattle.meaning.specs.Cost.{cost}
 use Rattle.meaning.specs.FullList.{ScoreDoc, fullList}
 use Rattle.meaning.specs.CallRefusals.{Work}
 use Rattle.meaning.specs.Entries.{searchAnswer, searchHits, pageAnswer, pageDocuments, pageScores, columnsOnly, rangeAnswer, rangeOutput, pickAnswer, pickHits, placeRefusal, placeRight, lengthAnswer}
+use Rattle.meaning.specs.Tokens.{Token, indexOfTokens, tokensBack}
+use Rattle.meaning.specs.TokenRefusals.{Outputs, writeRefusal, writeAnswer, writtenNorms, writtenPostings, writtenPositions, writtenRuns}
 use Rattle.meaning.specs.HitsText.{files}
 use Rattle.meaning.specs.HitsProgram.{searchText, hitsText}
 
@@ -44,6 +48,16 @@ pairs list = map (λ h. h .doc) list ++ map (λ h. toBits binary32 (h .score)) l
 
 abbrev costed : Index → List ℕ → List ℕ
 costed ix q = cond (hasScorer ix (queryTree q)) (1 ∷ cost ix (queryTree q) ∷ []) (0 ∷ [])
+
+abbrev outputs : ℕ → ℕ → ℕ → ℕ → Outputs
+outputs a b c d = record { norms = a; postings = b; positions = c; runs = d }
+
+abbrev tokenWords : List Token → List ℕ
+tokenWords [] = []
+tokenWords (t ∷ ts) = t .leaf ∷ t .document ∷ t .position ∷ tokenWords ts
+
+abbrev readBack : ℕ → List ℕ → List ℕ → List ℕ → List ℕ
+readBack n fields leafFields ws = tokenWords (tokensBack (indexOfTokens n fields ws leafFields [] [] [] []))
 ";
 
 /// The entries, with the full list and the text of the program `hits`.
@@ -57,9 +71,15 @@ pub enum Entry {
     Pick,
     Length,
     Text,
+    Write,
 }
 
+/// What an equation is about: the entry, whether the call is accepted, the definition, and which of
+/// the row's equations it is.
+pub type Kind = (Entry, bool, String, usize);
+
 /// A call, and what its definitions must give. `ix` and `q` are what the case lends.
+#[derive(Clone)]
 pub struct Row {
     pub entry: Entry,
     /// the refusal's number, or 0
@@ -80,6 +100,32 @@ impl Row {
         }
         text
     }
+
+    /// For each equation its kind, and the row with it alone but another answer.
+    pub fn changed(&self) -> impl Iterator<Item = (Kind, Row)> {
+        let equations = self.equations.iter().enumerate();
+        equations.filter_map(|(at, (call, expected))| {
+            let name = call.split_whitespace().next()?.to_string();
+            let mut row = self.clone();
+            row.equations = vec![(call.clone(), another(expected)?)];
+            Some(((self.entry, self.number == 0, name, at), row))
+        })
+    }
+}
+
+/// Another answer: its last number changed. None where it is a list without numbers.
+fn another(expected: &str) -> Option<String> {
+    match expected {
+        "true" => return Some("false".into()),
+        "false" => return Some("true".into()),
+        _ => {}
+    }
+    let end = expected.rfind(|c: char| c.is_ascii_digit())? + 1;
+    let digits = |c: char| !c.is_ascii_digit();
+    let start = expected[..end].rfind(digits).map_or(0, |before| before + 1);
+    let number: u64 = expected[start..end].parse().ok()?;
+    let [before, after] = [&expected[..start], &expected[end..]];
+    Some(format!("{before}{}{after}", number ^ 1))
 }
 
 /// The lengths of the work buffers.

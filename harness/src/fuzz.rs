@@ -1,6 +1,6 @@
 //! The fuzz run: one call for each seed, with random and changed words. A refused call gives the
 //! judge's number and leaves every buffer. An accepted one is held to the Rust where its source is
-//! there, and always to the laws.
+//! there, and always to the laws; a call that writes an index, to the judge's writer.
 pub mod input;
 mod laws;
 
@@ -10,6 +10,8 @@ use crate::case::Case;
 use crate::expect;
 use crate::random::Random;
 use crate::refusal::calls::{self, Judge, Lengths};
+use crate::tokens::outputs::Outputs;
+use crate::tokens::{Tokens, Writer, compare};
 use input::{Inputs, lengths, lists};
 
 /// What a call of Pick is given.
@@ -26,11 +28,18 @@ pub struct Lent<'a> {
     pub random: &'a mut Random,
 }
 
+/// The same of a call that writes an index.
+pub struct LentOutputs<'a> {
+    pub outputs: &'a mut Outputs,
+    pub random: &'a mut Random,
+}
+
 /// Makes calls. Afterwards the buffers hold what a call left in them.
 pub trait Lend {
     fn search(&mut self, entries: &dyn Entries, case: &Case, lent: Lent) -> u32;
     fn page(&mut self, entries: &dyn Entries, case: &Case, target: u32, lent: Lent) -> u32;
     fn pick(&mut self, entries: &dyn Entries, lists: &Lists, lent: Lent) -> u32;
+    fn write(&mut self, writer: &dyn Writer, tokens: &Tokens, lent: LentOutputs) -> u32;
 }
 
 /// Lends the buffers themselves, which have margins.
@@ -46,6 +55,9 @@ impl Lend for Plain {
     fn pick(&mut self, entries: &dyn Entries, lists: &Lists, lent: Lent) -> u32 {
         let Lists { k, t, .. } = *lists;
         entries.pick(lent.buffers.pick(&lists.documents, &lists.scores, k, t))
+    }
+    fn write(&mut self, writer: &dyn Writer, tokens: &Tokens, lent: LentOutputs) -> u32 {
+        writer.write(lent.outputs.write(tokens.given()))
     }
 }
 
@@ -65,7 +77,8 @@ impl Against {
     };
 }
 
-/// A call that was made: its entry (0 Search, 1 Page, 2 Pick) and the number that it gave.
+/// A call that was made: its entry (0 Search, 1 Page, 2 Pick, 3 the writer of an index) and the
+/// number that it gave.
 pub struct Made {
     pub entry: usize,
     pub number: u32,
@@ -76,6 +89,7 @@ pub struct Made {
 /// The calls of one library.
 pub struct Fuzz<'a> {
     pub entries: &'a dyn Entries,
+    pub writer: &'a dyn Writer,
     pub inputs: &'a Inputs,
     pub against: Against,
     pub lend: &'a mut dyn Lend,
@@ -92,13 +106,14 @@ impl Fuzz<'_> {
     /// The call of a seed; panics where it is not right.
     pub fn call(&mut self, seed: u64) -> Made {
         let mut random = Random::new(seed);
-        let entry = random.pick(&[0, 0, 0, 1, 1, 1, 2]);
+        let entry = random.pick(&[0, 0, 0, 1, 1, 1, 2, 3]);
         let number = match entry {
             0 => self.search(&self.inputs.case(&mut random), &mut random),
             1 => self.page(&self.inputs.case(&mut random), &mut random),
-            _ => self.pick(&lists(&mut random), &mut random),
+            2 => self.pick(&lists(&mut random), &mut random),
+            _ => self.write(&mut random),
         };
-        let by_rust = number == 0 && self.against == Against::Rust;
+        let by_rust = number == 0 && entry < 3 && self.against == Against::Rust;
         Made {
             entry,
             number,
@@ -161,6 +176,23 @@ impl Fuzz<'_> {
                 self.pick_laws(lists, &buffers, random);
             }
             refused => expect::found(&buffers, number, &Err(refused)),
+        }
+        number
+    }
+
+    /// Twice the same, with other rubbish.
+    pub fn write(&mut self, random: &mut Random) -> u32 {
+        let tokens = input::tokens(random);
+        let lent = input::outputs(random, &tokens);
+        let mut number = 0;
+        for _ in 0..2 {
+            let mut outputs = Outputs::new(random, &lent);
+            let own = LentOutputs {
+                outputs: &mut outputs,
+                random,
+            };
+            number = self.lend.write(self.writer, &tokens, own);
+            compare::after(&outputs, number, &tokens, &lent);
         }
         number
     }

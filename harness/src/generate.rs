@@ -28,6 +28,11 @@ pub fn cases(seed: u64, number: usize) -> Vec<Case> {
     (0..number).map(|_| asked(&mut random, &index)).collect()
 }
 
+/// An index that was made elsewhere, with a query, k and t.
+pub fn over(random: &mut Random, case: Case) -> Case {
+    asked(random, &index::of(case))
+}
+
 /// The index with a query, k and t.
 fn asked(random: &mut Random, index: &Index) -> Case {
     let query = order::query(random, index).words();

@@ -24,6 +24,7 @@ pub mod random;
 #[cfg(oracle)]
 pub mod record;
 pub mod refusal;
+pub mod tokens;
 #[cfg(oracle)]
 pub mod withdrawn;
 

@@ -29,8 +29,8 @@ pub fn refusal(case: &Case) -> u32 {
 /// where a lower one holds.
 pub fn order(case: &Case) -> u32 {
     let conditions: [fn(&Case) -> bool; 10] = [
-        too_many_documents,
-        wrong_fields,
+        |case| too_many_documents(case.n),
+        |case| wrong_fields(&case.fields),
         wrong_norms_or_live,
         wrong_leaves,
         wrong_postings,
@@ -44,14 +44,14 @@ pub fn order(case: &Case) -> u32 {
     lowest.map_or(0, |index| index as u32 + 1)
 }
 
-fn too_many_documents(case: &Case) -> bool {
-    case.n > 1_048_576
+pub fn too_many_documents(n: u32) -> bool {
+    n > 1_048_576
 }
 
-fn wrong_fields(case: &Case) -> bool {
+pub fn wrong_fields(fields: &[u32]) -> bool {
     let wrong = |f: &[u32]| !(ONE..=MOST_AVERAGE).contains(&f[0]) || f[1] > 1 || f[2] > 1;
-    let whole = case.fields.len().is_multiple_of(3) && case.fields.len() <= 3 * 16;
-    !whole || case.fields.chunks(3).any(wrong)
+    let whole = fields.len().is_multiple_of(3) && fields.len() <= 3 * 16;
+    !whole || fields.chunks(3).any(wrong)
 }
 
 fn wrong_norms_or_live(case: &Case) -> bool {

@@ -7,13 +7,13 @@ mod common;
 #[cfg(oracle)]
 mod rows {
     use harness::definitions::rows::{every_number, generated};
-    use harness::definitions::{Entry, Row, write_crate, write_rows};
+    use harness::definitions::{Entry, Row, tokens, write_crate, write_rows};
     use std::collections::BTreeMap;
     use std::path::{Path, PathBuf};
     use std::process::{Child, Command, Stdio};
 
     /// Which numbers an entry's rows must have.
-    const NUMBERS: [(Entry, &[u32]); 8] = [
+    const NUMBERS: [(Entry, &[u32]); 9] = [
         (Entry::List, &[0]),
         (Entry::Search, &[0, 1, 2, 3, 4, 5, 6, 7, 8, 9, 10, 11, 12]),
         (Entry::Page, &[0, 1, 2, 3, 4, 5, 6, 7, 8, 9, 10, 12, 13]),
@@ -22,13 +22,16 @@ mod rows {
         (Entry::Pick, &[0, 11, 12, 14]),
         (Entry::Length, &[0]),
         (Entry::Text, &[0, 1, 2, 3, 4, 5, 6, 7, 8, 9, 10, 11, 12]),
+        (Entry::Write, &[0, 1, 2, 15, 16]),
     ];
 
+    /// So many rows of searches and the like, and those of tokens beside them.
     fn all(number: usize) -> Vec<Row> {
         let mut rows = every_number();
         let wanted = number.max(rows.len() + 16);
         let more = (0..).filter_map(generated);
         rows.extend(more.take(wanted - rows.len()));
+        rows.extend(tokens::rows(number));
         rows
     }
 
@@ -50,13 +53,13 @@ mod rows {
     }
 
     /// Below the repository's own target/, where rt looks for no crate's files.
-    fn folder(part: usize) -> PathBuf {
+    fn folder(part: &str) -> PathBuf {
         let target = Path::new(env!("CARGO_MANIFEST_DIR")).join("../target");
         target.join(format!("definitions/{part}/meaning"))
     }
 
     /// Starts the check of some rows.
-    fn start(part: usize, rows: &[Row]) -> Child {
+    fn start(part: &str, rows: &[Row]) -> Child {
         let folder = folder(part);
         if folder.exists() {
             std::fs::remove_dir_all(&folder).unwrap();
@@ -75,15 +78,44 @@ mod rows {
         count(&rows);
         let processors = std::thread::available_parallelism().map_or(1, |number| number.get());
         let parts = rows.chunks(rows.len().div_ceil(processors));
-        let started: Vec<_> = (0..).zip(parts).map(|(at, part)| start(at, part)).collect();
+        let parts = (0..).zip(parts).map(|(at, part)| (format!("{at}"), part));
+        let started: Vec<_> = parts.map(|(at, part)| start(&at, part)).collect();
         for child in started {
-            let out = child.wait_with_output().unwrap();
-            let text = [out.stdout, out.stderr].concat();
-            let text = String::from_utf8_lossy(&text);
-            assert!(out.status.success(), "{text}");
+            let (proved, text) = end(child);
+            assert!(proved, "{text}");
         }
         println!("{} rows", rows.len());
     }
+
+    /// Whether a check passed, and what it said.
+    fn end(child: Child) -> (bool, String) {
+        let out = child.wait_with_output().unwrap();
+        let text = [out.stdout, out.stderr].concat();
+        let text = String::from_utf8_lossy(&text).into_owned();
+        (out.status.success(), text)
+    }
+
+    /// One equation of each kind with another answer: antt refuses every one, by its name.
+    pub fn check_changed() {
+        let mut kinds = BTreeMap::new();
+        for (kind, row) in all(0).iter().flat_map(Row::changed) {
+            kinds.entry(kind).or_insert(row);
+        }
+        let (kinds, rows): (Vec<_>, Vec<_>) = kinds.into_iter().unzip();
+        let (proved, text) = end(start("changed", &rows));
+        assert!(!proved);
+        for (place, kind) in kinds.iter().enumerate() {
+            let refused = format!("error: `row-{place}-0`");
+            assert!(text.contains(&refused), "{kind:?} is not refused");
+        }
+        println!("{} kinds of equations", kinds.len());
+    }
+}
+
+#[test]
+#[cfg_attr(not(oracle), ignore = "the Rust source is absent")]
+fn other_answers_are_refused() {
+    with_oracle!({ rows::check_changed() });
 }
 
 #[test]

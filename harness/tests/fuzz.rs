@@ -1,5 +1,5 @@
 //! The checks of the fuzz run catch each wrong library: with the Rust all, by the laws alone all but
-//! one that hangs together.
+//! one that hangs together; and each wrong writer of an index.
 #![cfg_attr(not(oracle), allow(unused))]
 #[macro_use]
 mod common;
@@ -9,6 +9,9 @@ use common::Seed;
 use harness::double::{Double, WRONG, Wrong};
 use harness::fuzz::input::Inputs;
 use harness::fuzz::{Against, Fuzz, Plain};
+use harness::random::Random;
+use harness::tokens::judge::Judge;
+use harness::tokens::wrong::{self, Wrong as WrongTo, WrongWriter};
 use std::panic::{AssertUnwindSafe, catch_unwind};
 
 #[cfg(oracle)]
@@ -27,6 +30,7 @@ fn fuzz<'a>(
 ) -> Fuzz<'a> {
     Fuzz {
         entries: double,
+        writer: &Judge,
         inputs,
         against,
         lend,
@@ -39,7 +43,7 @@ fn the_double_passes() {
     with_oracle!({
         let inputs = Inputs::new();
         for against in BOTH {
-            let mut accepted = [0; 3];
+            let mut accepted = [0; 4];
             for seed in 0..1500 {
                 let _seed = Seed(seed);
                 let made = fuzz(&Double(Wrong::Nothing), &inputs, against, &mut Plain).call(seed);
@@ -69,6 +73,30 @@ fn wrong_libraries_are_caught() {
                 println!("{wrong:?} is caught at {first:?}, {against:?}");
                 assert_eq!(first.is_none(), unseen, "{wrong:?} {against:?}");
             }
+        }
+    });
+}
+
+/// A list of too many tokens is not made here.
+const TOO_MANY: WrongTo = WrongTo::Ignores(1);
+
+#[test]
+#[cfg_attr(not(oracle), ignore = "the Rust source is absent")]
+fn wrong_writers_are_caught() {
+    with_oracle!({
+        let inputs = Inputs::new();
+        for wrong in wrong::every() {
+            let caught = |seed: &u64| {
+                let (double, mut plain) = (Double(Wrong::Nothing), Plain);
+                let right = fuzz(&double, &inputs, Against::Rust, &mut plain);
+                let writer = &WrongWriter(wrong);
+                let mut fuzz = Fuzz { writer, ..right };
+                let run = || fuzz.write(&mut Random::new(*seed));
+                catch_unwind(AssertUnwindSafe(run)).is_err()
+            };
+            let first = (0..3000).find(caught);
+            println!("{wrong:?} is caught at {first:?}");
+            assert_eq!(first.is_none(), wrong == TOO_MANY, "{wrong:?}");
         }
     });
 }

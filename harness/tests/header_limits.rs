@@ -8,7 +8,7 @@ use std::collections::BTreeMap;
 type Values = BTreeMap<String, u32>;
 
 /// A name of the header, and the limit that it has as a whole number.
-const NUMBERS: [(&str, &str); 13] = [
+const NUMBERS: [(&str, &str); 14] = [
     ("LOT_MAX_DOCUMENTS", "maxDocuments"),
     ("LOT_MAX_FIELDS", "maxFields"),
     ("LOT_MAX_LEAVES", "maxLeaves"),
@@ -22,6 +22,7 @@ const NUMBERS: [(&str, &str); 13] = [
     ("LOT_MAX_HITS", "maxHits"),
     ("LOT_NO_MORE_DOCS", "noMoreDocs"),
     ("LOT_STATE_WORDS", "nodeStateWords"),
+    ("LOT_MAX_TOKENS", "maxTokens"),
 ];
 
 /// A name of the header, and the limit that has the bits of the same number as f32.

@@ -33,19 +33,19 @@ rest [] = []
 rest (x ∷ xs) = xs
 
 -- a refusal's number alone was answered
-refused-number : (z n v : ℕ) (vs : List ℕ) → (n ∷ []) ≡ answered z (0 ∷ v ∷ vs) (λ m. m ∷ []) → (n ≡ z) × (0 < z)
+pub refused-number : (z n v : ℕ) (vs : List ℕ) → (n ∷ []) ≡ answered z (0 ∷ v ∷ vs) (λ m. m ∷ []) → (n ≡ z) × (0 < z)
 refused-number zero n v vs e = absurd (let l = ap length e in omega (arith, l))
 refused-number (suc z) n v vs e = (ap (λ (xs : List ℕ). getD xs 0 0) e, omega arith)
 
 -- 0 and numbers were answered
-found-numbers : (z v : ℕ) (vs ys : List ℕ) → (0 ∷ v ∷ vs) ≡ answered z (0 ∷ ys) (λ m. m ∷ []) → (z ≡ 0) × ((v ∷ vs) ≡ ys)
+pub found-numbers : (z v : ℕ) (vs ys : List ℕ) → (0 ∷ v ∷ vs) ≡ answered z (0 ∷ ys) (λ m. m ∷ []) → (z ≡ 0) × ((v ∷ vs) ≡ ys)
 unfolding rest
 found-numbers zero v vs ys e = (refl, ap rest e)
 found-numbers (suc z) v vs ys e = absurd (let l = ap length e in omega (arith, l))
 
 -- ---- what a buffer holds afterwards
 -- a refused call leaves what it was to write to
-refused-keeps : {A : Type 0} (n : ℕ) (accepted kept : A) → 0 < n → kept ≡ answered n accepted (λ m. kept)
+pub refused-keeps : {A : Type 0} (n : ℕ) (accepted kept : A) → 0 < n → kept ≡ answered n accepted (λ m. kept)
 refused-keeps zero accepted kept h = absurd (omega arith)
 refused-keeps (suc n) accepted kept h = refl
 
@@ -60,7 +60,7 @@ three-written a b c (x ∷ []) h = absurd (omega (arith, h))
 three-written a b c (x ∷ y ∷ []) h = absurd (omega (arith, h))
 three-written a b c (x ∷ y ∷ z ∷ xs) h = refl
 
-two-written : (a b : ℕ) (xs : List ℕ) → 2 ≤ length xs → set (set xs 0 a) 1 b ≡ written (a ∷ b ∷ []) xs
+pub two-written : (a b : ℕ) (xs : List ℕ) → 2 ≤ length xs → set (set xs 0 a) 1 b ≡ written (a ∷ b ∷ []) xs
 two-written a b [] h = absurd (omega (arith, h))
 two-written a b (x ∷ []) h = absurd (omega (arith, h))
 two-written a b (x ∷ y ∷ xs) h = refl

@@ -1,2 +1,3 @@
 -- How the entries answer at the border.
 pub mod Border
+pub mod Write

@@ -1,4 +1,6 @@
-// The border: Search, Page and Pick for callers in C and Rust. Each returns the refusal's number, or 0 and its numbers in `answer`.
+// The border: Search, Page, Pick and the token writer for callers in C and Rust. Each returns the refusal's number, or 0 and its numbers in `answer`.
+pub mod write_index;
+
 ghost use mathlib.Core.Path.{_≡_};
 ghost use mathlib.Core.Bool.{cond};
 ghost use mathlib.Core.List.{[], _∷_, map};

@@ -1,8 +1,8 @@
 -- Laws of specs/Below: what is found, counted, largest and listed among the numbers below a bound. Assumes nothing.
-use mathlib.Core.Path.{_≡_, refl, sym, ap, subst, _∙_}
+use mathlib.Core.Path.{_≡_, refl, sym, ap, ap₂, subst, _∙_}
 use mathlib.Core.Logic.{_⊎_, ⊎-elim}
 use mathlib.Core.Bool.{Bool, true, false, cond, _&&_, _||_, and-or-distrib-right, or-assoc, or-comm, or-true, false≢true}
-use mathlib.Core.List.{List, [], _∷_, _++_, append-nil}
+use mathlib.Core.List.{List, [], _∷_, _++_, append-assoc, append-nil}
 use Prim.Native.Nat.{ℕ, zero, suc, _+_, _*_, _≤_, _<_, max}
 use native.Mathlib.Nat.{le-refl, not-suc-le-zero, eq-or-lt-of-le, le-of-suc-le-suc, add-suc, add-zero}
 use native.Mathlib.Numerals.{add-one}
@@ -163,6 +163,18 @@ module _ {ℓ} {A : Type ℓ} where
       (λ g. getD-at (listTo n f) (f n) [] d i (length-listTo n f ∙ sym g) ∙ ap f (sym g))
       (λ g. List·getD-append (listTo n f) (f n ∷ []) d i (omega (arith, length-listTo n f)) ∙ getD-listTo n f d i g)
       (last-or-below i n h)
+
+  -- the first a and b more
+  pub listTo-add : (a b : ℕ) (f : ℕ → A) → listTo (a + b) f ≡ listTo a f ++ listTo b (λ j. f (a + j))
+  unfolding listTo
+  listTo-add a zero f = rw add-zero (sym (append-nil (listTo a f)))
+  listTo-add a (suc b) f = rw (add-suc, listTo-add a b f) (append-assoc (listTo a f) (listTo b (λ j. f (a + j))) (f (a + b) ∷ []))
+
+  -- two that agree below n
+  pub listTo-same : (n : ℕ) (f g : ℕ → A) → ((i : ℕ) → i < n → f i ≡ g i) → listTo n f ≡ listTo n g
+  unfolding listTo
+  listTo-same zero f g h = refl
+  listTo-same (suc n) f g h = ap₂ (λ (xs : List A) (x : A). xs ++ (x ∷ [])) (listTo-same n f g (λ i l. h i (omega arith))) (h n (le-refl _))
 
 -- ---- listBelow
 module _ (p : ℕ → Bool) where

@@ -29,6 +29,11 @@ unfoldable pub largestBelow : ℕ → (ℕ → ℕ) → ℕ
 largestBelow zero f = 0
 largestBelow (suc n) f = max (largestBelow n f) (f n)
 
+-- f 0 + f 1 and so on, n of them
+unfoldable pub sumBelow : ℕ → (ℕ → ℕ) → ℕ
+sumBelow zero f = 0
+sumBelow (suc n) f = sumBelow n f + f n
+
 -- f 0, f 1 and so on, n of them
 unfoldable pub listTo {ℓ} : {A : Type ℓ} → ℕ → (ℕ → A) → List A
 listTo zero f = []

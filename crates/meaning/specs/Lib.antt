@@ -7,6 +7,8 @@ pub mod Ieee754
 pub mod SmallFloat
 pub mod Bm25
 pub mod Postings
+pub mod Packed
+pub mod Tokens
 pub mod Range
 pub mod Phrase
 pub mod Query
@@ -23,3 +25,4 @@ pub mod IndexRefusals
 pub mod QueryRefusals
 pub mod CallRefusals
 pub mod Entries
+pub mod TokenRefusals

@@ -59,6 +59,10 @@ maxHits = 1024
 abbrev pub nodeStateWords : ℕ
 nodeStateWords = 32
 
+-- 16,777,216 tokens (request 2026-02)
+abbrev pub maxTokens : ℕ
+maxTokens = 16777216
+
 -- plus infinity: the largest pattern of a score that Pick takes
 abbrev pub plusInfinity : ℕ
 plusInfinity = 0x7f80_0000

@@ -7,6 +7,7 @@ use crate::generate;
 use crate::query::RECORD;
 use crate::random::Random;
 use crate::refusal::calls::Lengths;
+use crate::tokens::{self, Tokens, compare, make};
 
 /// Elements that a slice may have.
 pub const ROOM: usize = 200_000;
@@ -220,4 +221,51 @@ pub fn lists(random: &mut Random) -> Lists {
         k,
         t,
     }
+}
+
+/// Tokens for an index: some in order, often with words changed; and words without any sense.
+pub fn tokens(random: &mut Random) -> Tokens {
+    let mut made = match random.below(32) {
+        0 => make::large(random),
+        1 => Tokens {
+            n: random.pick(&[0, 1, 5, 1_048_576]),
+            fields: make::fields(random, 2),
+            tokens: words(random, 12),
+            leaf_fields: words(random, 3),
+        },
+        2 => make::searched(random),
+        _ => make::small(random),
+    };
+    for _ in 0..random.pick(&[0, 0, 0, 0, 0, 1, 1, 2]) {
+        change_tokens(random, &mut made);
+    }
+    made
+}
+
+/// Something changed of what an index is made from; it may still be sound.
+pub fn change_tokens(random: &mut Random, made: &mut Tokens) {
+    match random.below(8) {
+        0 => {
+            let beside = [made.n.saturating_sub(1), made.n + 1];
+            made.n = random.pick(&[beside[0], beside[1], 1_048_576, 1_048_577]);
+        }
+        1 => change(random, &mut made.fields),
+        2 | 3 => change(random, &mut made.leaf_fields),
+        4 => made.leaf_fields.resize(random.pick(&[512, 513]), 0),
+        _ => change(random, &mut made.tokens),
+    }
+}
+
+/// Outputs that are mostly exactly as long as they must be; often one alone is not.
+pub fn outputs(random: &mut Random, made: &Tokens) -> tokens::Lengths {
+    let mut lent = compare::needed(made);
+    for _ in 0..random.pick(&[0, 0, 0, 0, 1, 1, 3]) {
+        let which = random.below(5) as usize;
+        let length = &mut *lent.each()[which];
+        *length = wrong_length(random, *length);
+    }
+    for length in lent.each() {
+        *length = (*length).min(ROOM);
+    }
+    lent
 }

@@ -45,6 +45,20 @@ pub fn index(random: &mut Random) -> Index {
     }
 }
 
+/// An index that was made elsewhere: a leaf in every third document or more counts as dense.
+pub fn of(case: Case) -> Index {
+    let leaves = (0..).zip(case.leaves.chunks(4));
+    let leaves = leaves.filter(|(_, leaf)| leaf[2] > 0);
+    let (dense, sparse): (Vec<_>, Vec<_>) = leaves.partition(|(_, leaf)| 3 * leaf[2] >= case.n);
+    let numbers = |leaves: Vec<(u32, _)>| leaves.into_iter().map(|(leaf, _)| leaf).collect();
+    Index {
+        dense: numbers(dense),
+        sparse: numbers(sparse),
+        phrases: phrases(&case),
+        case,
+    }
+}
+
 fn phrases(case: &Case) -> Vec<(u32, Vec<u32>)> {
     let mut phrases = Vec::new();
     for (field, record) in (0..).zip(case.fields.chunks(3)) {

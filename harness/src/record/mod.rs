@@ -1,6 +1,6 @@
 //! What the programs of vectors (crates/*_vectors) have to print, worked out outside of our code: by
-//! the unchanged Rust where it has the function, and else by Rust's own IEEE 754 operations. Both
-//! sides make the inputs by the same short rules.
+//! the unchanged Rust where it has the function, and else by Rust's own IEEE 754 operations or by the
+//! judges that are written from the texts. Both sides make the inputs by the same short rules.
 mod collector;
 mod doc_values;
 mod ieee754;
@@ -8,6 +8,7 @@ mod phrase;
 mod refusal;
 pub mod search;
 mod sim;
+mod tokens;
 mod trees;
 
 use std::io;
@@ -25,12 +26,16 @@ pub fn all() -> Vec<Recorded> {
         ("collector_vectors", collector::text()),
         ("refusal_vectors", refusal::text()),
         ("search_vectors", search::text()),
+        ("token_vectors", tokens::text()),
     ]
 }
 
 /// The files that programs read, by their paths below the folder of crates.
 pub fn data() -> Vec<(String, Vec<u8>)> {
-    let mut files = vec![("refusal_vectors/data/cases.rec".into(), refusal::data())];
+    let mut files = vec![
+        ("refusal_vectors/data/cases.rec".into(), refusal::data()),
+        ("token_vectors/data/rows.rec".into(), tokens::data()),
+    ];
     for (i, bytes) in (1..).zip(search::data()) {
         files.push((format!("search_vectors/data/cases{i}.rec"), bytes));
     }

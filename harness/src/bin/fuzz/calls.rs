@@ -4,17 +4,23 @@ use crate::memory::Memory;
 use harness::border::Library;
 use harness::fuzz::input::Inputs;
 use harness::fuzz::{Against, Fuzz, Made};
+use harness::tokens;
 use std::sync::Mutex;
 use std::sync::atomic::{AtomicU64, Ordering};
 use std::thread;
 use std::time::{Duration, Instant};
 
-/// How often each number was given by Search, Page and Pick, and how often an accepted call of
-/// each was held to the Rust.
+const NAMES: [&str; 4] = ["search", "page", "pick", "write"];
+
+/// The entry whose calls are held to the judge alone.
+const WRITE: usize = 3;
+
+/// How often each number was given by each entry, and how often an accepted call of each was held
+/// to the Rust.
 #[derive(Default)]
 struct Counts {
-    given: [[u64; 15]; 3],
-    by_rust: [u64; 3],
+    given: [[u64; 17]; 4],
+    by_rust: [u64; 4],
 }
 
 impl Counts {
@@ -63,6 +69,7 @@ fn calls(inputs: &Inputs, next: &AtomicU64, end: Instant) -> Counts {
     let mut counts = Counts::default();
     let mut fuzz = Fuzz {
         entries: &Library,
+        writer: tokens::held(),
         inputs,
         against: Against::MOST,
         lend: &mut Memory::new(),
@@ -76,10 +83,11 @@ fn calls(inputs: &Inputs, next: &AtomicU64, end: Instant) -> Counts {
 }
 
 /// Which numbers each entry can give.
-const GIVEN: [&[usize]; 3] = [
+const GIVEN: [&[usize]; 4] = [
     &[0, 1, 2, 3, 4, 5, 6, 7, 8, 9, 10, 11, 12],
     &[0, 1, 2, 3, 4, 5, 6, 7, 8, 9, 10, 12, 13],
     &[0, 11, 12, 14],
+    &[0, 1, 2, 15, 16],
 ];
 
 /// Of so many calls of an entry at least one has to be accepted.
@@ -88,7 +96,7 @@ const ONE_IN: u64 = 4;
 /// A run of ten seconds or more has to give every number, and to accept a good share of the calls.
 fn report(counts: &Counts, seconds: u64) {
     let mut all = [0; 4];
-    for (entry, name) in ["search", "page", "pick"].iter().enumerate() {
+    for (entry, name) in NAMES.iter().enumerate() {
         let given = &counts.given[entry];
         let numbers = GIVEN[entry].iter().map(|n| format!("{n}: {}", given[*n]));
         println!("{name}: {}", numbers.collect::<Vec<_>>().join(", "));
@@ -101,8 +109,13 @@ fn report(counts: &Counts, seconds: u64) {
         let row = [calls, accepted, by_rust, accepted - by_rust];
         all.iter_mut().zip(row).for_each(|(all, own)| *all += own);
     }
-    let [calls, accepted, by_rust, by_laws] = all;
-    println!("{calls} calls, {accepted} accepted and held to the laws");
-    println!("{by_rust} of these held against the Rust, {by_laws} by laws alone");
+    let [calls, accepted, by_rust, others] = all;
+    let by_judge = counts.given[WRITE][0];
+    let by_laws = others - by_judge;
+    println!("{calls} calls, {accepted} accepted and held to the laws or the judge");
+    println!(
+        "{by_rust} of these held against the Rust, {by_judge} indexes written as the judge's, \
+         {by_laws} by laws alone"
+    );
     assert!(accepted > 0, "nothing was called");
 }

@@ -1,13 +1,14 @@
-//! `fuzz SECONDS [SEED]` hands random and changed words to the library's three entries for so long,
-//! each lent slice between two pages that nobody may touch: no crash, nothing read or written
-//! outside, the judge's number; and of accepted calls the Rust's answer where its source is there,
-//! and the laws (`harness::fuzz`).
+//! `fuzz SECONDS [SEED]` hands random and changed words to the library's entries for so long, each
+//! lent slice between two pages that nobody may touch: no crash, nothing read or written outside,
+//! the judge's number; of accepted calls the Rust's answer where its source is there, and the laws
+//! (`harness::fuzz`); and of indexes written from tokens what the judge writes.
 #![cfg_attr(not(linked), allow(dead_code, unused_imports))]
 #[cfg(linked)]
 mod calls;
 mod fault;
 mod mapping;
 mod memory;
+mod writing;
 
 use std::process::ExitCode;
 

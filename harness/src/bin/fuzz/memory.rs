@@ -1,11 +1,13 @@
 //! The mappings of everything that a call lends.
 use crate::mapping::Mapping;
+use crate::writing::Writing;
 use harness::border::{Entries, Index, Page, Pick, Search, Work};
 use harness::buffer::{Buffer, Buffers, Element};
 use harness::case::Case;
 use harness::fuzz::input::ROOM;
-use harness::fuzz::{Lend, Lent, Lists};
+use harness::fuzz::{Lend, Lent, LentOutputs, Lists};
 use harness::random::Random;
+use harness::tokens::{Tokens, Writer};
 
 /// The lists of an index, which a call may only read.
 struct IndexLists {
@@ -38,6 +40,7 @@ pub struct Memory {
     documents: Mapping<u32>,
     scores: Mapping<u32>,
     answer: Mapping<u64>,
+    writing: Writing,
 }
 
 impl IndexLists {
@@ -114,6 +117,7 @@ impl Memory {
             documents: Mapping::new(ROOM),
             scores: Mapping::new(ROOM),
             answer: Mapping::new(ROOM),
+            writing: Writing::new(),
         }
     }
 
@@ -216,9 +220,14 @@ impl Lend for Memory {
         self.take(buffers);
         number
     }
+
+    fn write(&mut self, writer: &dyn Writer, tokens: &Tokens, lent: LentOutputs) -> u32 {
+        let LentOutputs { outputs, random } = lent;
+        self.writing.call(writer, tokens, outputs, random)
+    }
 }
 
-fn take<T: Element>(mapping: &Mapping<T>, buffer: &mut Buffer<T>) {
+pub fn take<T: Element>(mapping: &Mapping<T>, buffer: &mut Buffer<T>) {
     mapping.is_kept_around();
     buffer.lent().copy_from_slice(mapping.slice());
 }

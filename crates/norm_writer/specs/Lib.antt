@@ -1,0 +1,2 @@
+-- What the contracts of this crate name beside the definitions of `meaning`.
+pub mod Lengths

@@ -1,0 +1,2 @@
+-- What it says that an index holds some runs.
+pub mod Packs

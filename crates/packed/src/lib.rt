@@ -1,0 +1,1 @@
+// Runs of postings packed into words, and read back: theorems about the definitions, see proofs/.

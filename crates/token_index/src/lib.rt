@@ -1,0 +1,1 @@
+// The index made from tokens, as theorems about the definitions: see proofs/.

@@ -1,0 +1,3 @@
+-- What the contracts of this crate name beside the definitions of `meaning`.
+pub mod Answers
+pub mod Writing

@@ -1,0 +1,4 @@
+-- The laws of the tokens' check.
+pub mod OneToken
+pub mod Counting
+pub mod Ways
