@@ -68,7 +68,7 @@ extern "C" {
 
 /* what a column holds */
 #define LOT_I64 0u /* compared as numbers */
-#define LOT_F64 1u /* compared in IEEE 754's totalOrder */
+#define LOT_F64 1u /* compared in IEEE 754's totalOrder; a value that is NaN is in no range */
 
 /* kind: its values, and its children */
 #define LOT_TERM 1u           /* leaf; no children */
@@ -90,7 +90,7 @@ extern "C" {
 #define LOT_NO_OCCURRENCE 0u
 
 /* the ends of a range: each is one of three, and a Range's second value is the lower's + 3 * the upper's. The halves of an
- * unbounded end are 0. */
+ * unbounded end are 0. An end that is NaN lists no document. */
 #define LOT_UNBOUNDED 0u
 #define LOT_INCLUDED 1u
 #define LOT_EXCLUDED 2u

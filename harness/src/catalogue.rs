@@ -77,13 +77,18 @@ impl Catalogue {
     }
 
     fn column(&mut self, kind: u32, values: &[Option<u64>]) -> u32 {
-        self.case.columns.push(kind);
-        for value in values {
+        let record = |value: &Option<u64>| {
             let bits = value.unwrap_or(0);
             let present = u32::from(value.is_some());
-            let record = [present, bits as u32, (bits >> 32) as u32];
-            self.case.values.extend(record);
-        }
+            [present, bits as u32, (bits >> 32) as u32]
+        };
+        self.column_of_words(kind, &values.iter().flat_map(record).collect::<Vec<_>>())
+    }
+
+    /// A column of a kind, given as the words of its records, so that an absent value has bits too.
+    pub fn column_of_words(&mut self, kind: u32, values: &[u32]) -> u32 {
+        self.case.columns.push(kind);
+        self.case.values.extend(values);
         (self.case.columns.len() - 1) as u32
     }
 

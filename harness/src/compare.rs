@@ -8,6 +8,7 @@ use crate::buffer::{Buffers, enough};
 use crate::case::Case;
 use crate::damage::damaged;
 use crate::expect::{self, Right};
+use crate::failed::has_failed_end;
 use crate::random::Random;
 use crate::refusal::calls::{FOUND, Lengths, PAGED};
 
@@ -30,7 +31,10 @@ pub fn all(entries: &dyn Entries, case: &Case, random: &mut Random) {
     picks::of_list(entries, &list, case, random);
     for _ in 0..2 {
         let damaged = damaged(random, case);
-        Compare::new(entries, &damaged, random).damaged(&needed);
+        // NaN ends are left out of this run
+        if !has_failed_end(&damaged) {
+            Compare::new(entries, &damaged, random).damaged(&needed);
+        }
     }
     assert!(*case == before, "an input was written");
 }

@@ -1,7 +1,8 @@
 //! Rows for antt: what the definitions of crates/meaning, and the text of `hits`, must give for a
 //! call of an entry, as equations that the checker computes. The answers are the Rust's, a
 //! refusal's number, or, of what the Rust does not have, worked out here (Place) or the judge's (an
-//! index made from tokens).
+//! index made from tokens). With a NaN end they are the Rust's for the same order with the range's
+//! ends crossed, and of Range the judge's.
 mod entries;
 mod place;
 pub mod rows;
@@ -84,6 +85,9 @@ pub struct Row {
     pub entry: Entry,
     /// the refusal's number, or 0
     pub number: u32,
+    /// an accepted call that asks for NaN values, or has a NaN end
+    pub failed_value: bool,
+    pub failed_end: bool,
     case: Option<Case>,
     equations: Vec<(String, String)>,
 }
@@ -198,7 +202,9 @@ fn opened(specs: &Path) -> io::Result<String> {
     let ieee = [
         "toBits", "round", "units", "odd", "size", "span", "climb", "add", "sub", "mul",
     ];
-    let more = ["div", "neg", "sum", "ofFields", "ofBits", "ofInt", "lt"];
+    let more = [
+        "div", "neg", "sum", "ofFields", "ofBits", "ofInt", "lt", "nanBits",
+    ];
     let mut names: Vec<_> = ieee
         .iter()
         .chain(&more)

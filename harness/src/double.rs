@@ -4,6 +4,7 @@ use crate::answer::{Hit, NO_MORE_DOCS};
 use crate::border::{Entries, Index, Page, Pick, Search, Work};
 use crate::case::Case;
 use crate::expect::{self, Found, Right, codes, found_numbers, page_numbers};
+use crate::failed::wrong::Reading;
 use crate::refusal::calls::Lengths;
 
 /// What a wrong library does.
@@ -31,6 +32,8 @@ pub enum Wrong {
     TellsHigher,
     ScoresUp,
     LiveBitOfNext,
+    /// not among the others: what catches it is asked in tests/failed_readings.rs
+    Reads(Reading),
 }
 
 /// Every wrong one.
@@ -65,7 +68,7 @@ pub struct Double(pub Wrong);
 
 impl Entries for Double {
     fn search(&self, mut call: Search) -> u32 {
-        let right = Right::new(&self.case(call.index, call.query));
+        let right = self.right(call.index, call.query);
         let lent = self.seen(Lengths {
             hits: call.hits.len(),
             answer: call.answer.len(),
@@ -90,7 +93,7 @@ impl Entries for Double {
     fn page(&self, mut call: Page) -> u32 {
         let resumed = self.0 == Wrong::Resumes && call.work.states.first() == Some(&LEFT);
         let target = call.target + u32::from(resumed && call.target < call.index.n);
-        let right = Right::new(&self.case(call.index, call.query));
+        let right = self.right(call.index, call.query);
         let lent = self.seen(Lengths {
             documents: call.documents.len(),
             scores: call.scores.len(),
@@ -132,6 +135,14 @@ impl Entries for Double {
 }
 
 impl Double {
+    fn right(&self, index: Index, query: &[u32]) -> Right {
+        let case = self.case(index, query);
+        match self.0 {
+            Wrong::Reads(reading) => Right::read(&case, |case| reading.of(case)),
+            _ => Right::new(&case),
+        }
+    }
+
     /// The case as a library sees it that asks the live bit of d + 1 for d.
     fn case(&self, index: Index, query: &[u32]) -> Case {
         let mut case = case(index, query);

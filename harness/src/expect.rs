@@ -1,9 +1,12 @@
 //! What a call must give: the judge's number, or what the Rust answers; and that it stands in the
-//! buffers, with all else as it was.
+//! buffers, with all else as it was. Of an order with a NaN end it is what the Rust answers with that
+//! range's ends crossed.
 use crate::answer::{Hit, Paged, Searched};
 use crate::buffer::Buffers;
 #[cfg(oracle)]
 use crate::case::Case;
+#[cfg(oracle)]
+use crate::failed::crossed;
 #[cfg(oracle)]
 use crate::oracle::{self, Oracle};
 #[cfg(oracle)]
@@ -25,8 +28,13 @@ pub struct Right {
 #[cfg(oracle)]
 impl Right {
     pub fn new(case: &Case) -> Right {
+        Right::read(case, crossed)
+    }
+
+    /// The Rust is asked what `reading` makes of an accepted order.
+    pub fn read(case: &Case, reading: impl FnOnce(&Case) -> Case) -> Right {
         let judge = Judge::new(case);
-        let oracle = (judge.order == 0).then(|| Oracle::new(case));
+        let oracle = (judge.order == 0).then(|| Oracle::new(&reading(case)));
         let list = oracle.as_ref().map_or(vec![], Oracle::list);
         Right {
             judge,

@@ -1,6 +1,7 @@
 //! The fuzz run: one call for each seed, with random and changed words. A refused call gives the
 //! judge's number and leaves every buffer. An accepted one is held to the Rust where its source is
-//! there, and always to the laws; a call that writes an index, to the judge's writer.
+//! there and no range has a NaN end, and always to the laws; a call that writes an index, to the
+//! judge's writer.
 pub mod input;
 mod laws;
 
@@ -8,6 +9,7 @@ use crate::border::Entries;
 use crate::buffer::Buffers;
 use crate::case::Case;
 use crate::expect;
+use crate::failed::has_failed_end;
 use crate::random::Random;
 use crate::refusal::calls::{self, Judge, Lengths};
 use crate::tokens::outputs::Outputs;
@@ -84,6 +86,8 @@ pub struct Made {
     pub number: u32,
     /// an accepted call that was compared with the Rust
     pub by_rust: bool,
+    /// an accepted call with a NaN end, which was compared with the same order crossed
+    pub crossed: bool,
 }
 
 /// The calls of one library.
@@ -107,17 +111,30 @@ impl Fuzz<'_> {
     pub fn call(&mut self, seed: u64) -> Made {
         let mut random = Random::new(seed);
         let entry = random.pick(&[0, 0, 0, 1, 1, 1, 2, 3]);
+        let mut failed_end = false;
         let number = match entry {
-            0 => self.search(&self.inputs.case(&mut random), &mut random),
-            1 => self.page(&self.inputs.case(&mut random), &mut random),
             2 => self.pick(&lists(&mut random), &mut random),
-            _ => self.write(&mut random),
+            3 => self.write(&mut random),
+            _ => {
+                let case = self.inputs.case(&mut random);
+                failed_end = has_failed_end(&case);
+                self.asked(entry, &case, &mut random)
+            }
         };
-        let by_rust = number == 0 && entry < 3 && self.against == Against::Rust;
+        let by_rust = entry < 3 && !failed_end && self.against == Against::Rust;
         Made {
             entry,
             number,
-            by_rust,
+            by_rust: number == 0 && by_rust,
+            crossed: number == 0 && failed_end,
+        }
+    }
+
+    /// Search or Page.
+    fn asked(&mut self, entry: usize, case: &Case, random: &mut Random) -> u32 {
+        match entry {
+            0 => self.search(case, random),
+            _ => self.page(case, random),
         }
     }
 
@@ -138,7 +155,7 @@ impl Fuzz<'_> {
         match judge.search(case.k, &lent) {
             0 => {
                 assert_eq!(number, 0, "the number of an accepted call");
-                self.held_to_rust(|| rust::search(case, &lent, &buffers));
+                self.asked_of_rust(case, || rust::search(case, &lent, &buffers));
                 self.search_laws(case, &judge, &buffers, random);
             }
             refused => expect::found(&buffers, number, &Err(refused)),
@@ -157,7 +174,7 @@ impl Fuzz<'_> {
         match judge.page(target, &lent) {
             0 => {
                 assert_eq!(number, 0, "the number of an accepted call");
-                self.held_to_rust(|| rust::page(case, target, &lent, &buffers));
+                self.asked_of_rust(case, || rust::page(case, target, &lent, &buffers));
                 self.page_laws(case, &judge, target, &buffers, random);
             }
             refused => expect::given(&buffers, number, &Err(refused)),
@@ -195,6 +212,13 @@ impl Fuzz<'_> {
             compare::after(&outputs, number, &tokens, &lent);
         }
         number
+    }
+
+    /// The Rust, which orders NaN, is not asked about NaN ends.
+    fn asked_of_rust(&self, case: &Case, held: impl FnOnce()) {
+        if !has_failed_end(case) {
+            self.held_to_rust(held);
+        }
     }
 
     fn held_to_rust(&self, held: impl FnOnce()) {

@@ -1,7 +1,9 @@
 //! Small valid cases from a seed: none of refusals 1 to 12 holds, and every file fits `hits`. The
-//! weights and costs are chosen so that the order of additions shows in the last bit.
+//! weights and costs are chosen so that the order of additions shows in the last bit. Readings that
+//! failed are frequent; a NaN end only stands in the cases that are made for it.
 mod index;
 mod order;
+mod planted;
 pub mod short;
 mod shown;
 mod sums;
@@ -9,12 +11,24 @@ mod sums;
 use crate::case::Case;
 use crate::random::Random;
 use index::Index;
+use std::iter::repeat_with;
 
 /// x, y and z: in f64 their sum narrows to 3f800001, but with y added last to 3f800000.
 pub const BY_ORDER: [u32; 3] = [X, Y, Z];
 pub const X: u32 = 0x3f7f_ffff;
 pub const Y: u32 = 0x3400_0000;
 pub const Z: u32 = 0x253f_ffff;
+
+/// Which failed readings are made: NaN values of f64 columns, and NaN ends of ranges over them.
+#[derive(Clone, Copy, Debug, PartialEq, Eq)]
+pub enum Readings {
+    /// what was drawn before NaN was shut out: so the recorded cases stay what they were
+    Recorded,
+    /// values, more in half of the indexes with such a column; the Rust is run beside these
+    Values,
+    /// the same values, in every index such a column, and in every order a NaN end
+    Ends,
+}
 
 /// The case of a seed.
 pub fn case(seed: u64) -> Case {
@@ -23,9 +37,25 @@ pub fn case(seed: u64) -> Case {
 
 /// Some cases of one index, the case of the seed first.
 pub fn cases(seed: u64, number: usize) -> Vec<Case> {
+    of_index(seed, Readings::Values).take(number).collect()
+}
+
+/// Some cases of one index, as they were first recorded: NaN ends are among them.
+pub fn recorded(seed: u64, number: usize) -> Vec<Case> {
+    of_index(seed, Readings::Recorded).take(number).collect()
+}
+
+/// The case of a seed that has a NaN end.
+pub fn with_failed_end(seed: u64) -> Case {
+    let mut cases = of_index(seed, Readings::Ends);
+    cases.next().expect("cases without end")
+}
+
+/// Cases of the index of a seed without end.
+fn of_index(seed: u64, readings: Readings) -> impl Iterator<Item = Case> {
     let mut random = Random::new(seed);
-    let index = index::index(&mut random);
-    (0..number).map(|_| asked(&mut random, &index)).collect()
+    let index = index::index(&mut random, readings);
+    repeat_with(move || asked(&mut random, &index))
 }
 
 /// An index that was made elsewhere, with a query, k and t.
@@ -79,11 +109,10 @@ fn value_bits(random: &mut Random, kind: u32) -> u64 {
     }
 }
 
-/// Where bits stand in the order of their column's values: as i64, or in IEEE 754's totalOrder.
-fn order_key(kind: u32, bits: u64) -> i64 {
-    let whole = bits as i64;
-    match kind {
-        0 => whole,
-        _ => whole ^ ((whole >> 63) & i64::MAX),
-    }
+/// A NaN of either sign, quiet or signalling, often with the least or the largest digits.
+fn nan_bits(random: &mut Random) -> u64 {
+    let quiet = 1 << 51;
+    let any = random.word() >> 12;
+    let digits = random.pick(&[1, quiet, quiet - 1, quiet + 1, 2 * quiet - 1, any.max(1)]);
+    random.pick(&[0x7ff0 << 48, 0xfff0 << 48]) | digits
 }

@@ -14,6 +14,7 @@ pub mod definitions;
 #[cfg(oracle)]
 pub mod double;
 pub mod expect;
+pub mod failed;
 pub mod fuzz;
 pub mod generate;
 pub mod lots;

@@ -7,6 +7,7 @@ use crate::border::Entries;
 use crate::buffer::{Buffers, enough};
 use crate::case::Case;
 use crate::expect::{self, Found, told, written};
+use crate::failed::has_failed_end;
 use crate::fuzz::Against;
 use crate::oracle::{Oracle, collect};
 use crate::random::Random;
@@ -46,7 +47,8 @@ impl Withdrawal<'_> {
 
     pub fn run<'a>(&'a self, case: &'a Case) -> Run<'a> {
         let judge = Judge::new(case);
-        let by_rust = self.against == Against::Rust && judge.order == 0;
+        let accepted = judge.order == 0 && !has_failed_end(case);
+        let by_rust = self.against == Against::Rust && accepted;
         Run {
             entries: self.entries,
             case,

@@ -52,6 +52,24 @@ mod rows {
         }
     }
 
+    /// How many rows of each entry that asks ranges have NaN values there, and NaN ends.
+    pub fn count_failed_readings(number: usize) {
+        let rows = all(number);
+        for entry in [
+            Entry::List,
+            Entry::Search,
+            Entry::Page,
+            Entry::Range,
+            Entry::Text,
+        ] {
+            let own = || rows.iter().filter(|row| row.entry == entry);
+            let values = own().filter(|row| row.failed_value).count();
+            let ends = own().filter(|row| row.failed_end).count();
+            println!("{entry:?}: {values} with NaN values, {ends} with NaN ends");
+            assert!(values > 0 && ends > 0, "{entry:?}");
+        }
+    }
+
     /// Below the repository's own target/, where rt looks for no crate's files.
     fn folder(part: &str) -> PathBuf {
         let target = Path::new(env!("CARGO_MANIFEST_DIR")).join("../target");
@@ -118,11 +136,22 @@ fn other_answers_are_refused() {
     with_oracle!({ rows::check_changed() });
 }
 
+/// How many rows are checked where DEFINITION_ROWS does not say.
+#[cfg(oracle)]
+const ROWS: usize = 480;
+
+/// NaN values and NaN ends (request 2026-03) are among the rows.
+#[test]
+#[cfg_attr(not(oracle), ignore = "the Rust source is absent")]
+fn failed_readings_are_asked() {
+    with_oracle!({ rows::count_failed_readings(ROWS) });
+}
+
 #[test]
 #[cfg_attr(not(oracle), ignore = "the Rust source is absent")]
 fn definitions_give_the_answers_of_the_rust() {
     with_oracle!({
-        let number = std::env::var("DEFINITION_ROWS").map_or(480, |n| n.parse().unwrap());
+        let number = std::env::var("DEFINITION_ROWS").map_or(ROWS, |n| n.parse().unwrap());
         rows::check(number);
     });
 }

@@ -7,6 +7,8 @@ mod common;
 use common::Seed;
 #[cfg(oracle)]
 use harness::double::{Double, WRONG, Wrong};
+#[cfg(oracle)]
+use harness::failed::wrong::{Reading, WRONG as READINGS};
 use harness::fuzz::input::Inputs;
 use harness::fuzz::{Against, Fuzz, Plain};
 use harness::random::Random;
@@ -43,14 +45,15 @@ fn the_double_passes() {
     with_oracle!({
         let inputs = Inputs::new();
         for against in BOTH {
-            let mut accepted = [0; 4];
+            let (mut accepted, mut crossed) = ([0; 4], 0);
             for seed in 0..1500 {
                 let _seed = Seed(seed);
                 let made = fuzz(&Double(Wrong::Nothing), &inputs, against, &mut Plain).call(seed);
                 accepted[made.entry] += u32::from(made.number == 0);
+                crossed += u32::from(made.crossed);
             }
-            println!("{against:?}: {accepted:?} accepted");
-            assert!(accepted.iter().all(|number| *number > 50));
+            println!("{against:?}: {accepted:?} accepted, {crossed} with a NaN end");
+            assert!(accepted.iter().all(|number| *number > 50) && crossed > 20);
         }
     });
 }
@@ -73,6 +76,44 @@ fn wrong_libraries_are_caught() {
                 println!("{wrong:?} is caught at {first:?}, {against:?}");
                 assert_eq!(first.is_none(), unseen, "{wrong:?} {against:?}");
             }
+        }
+    });
+}
+
+/// Wrong readings of request 2026-03: by the laws alone those that differ where an end is NaN.
+#[cfg(oracle)]
+const OF_ENDS: [Reading; 11] = [
+    Reading::Before,
+    Reading::Quiet,
+    Reading::Signalling,
+    Reading::Positive,
+    Reading::Negative,
+    Reading::EndsOrdered,
+    Reading::LowerOpen,
+    Reading::UpperOpen,
+    Reading::IncludedEnds,
+    Reading::EndCounted,
+    Reading::NoScorer,
+];
+
+#[test]
+#[cfg_attr(not(oracle), ignore = "the Rust source is absent")]
+fn wrong_readings_are_caught() {
+    with_oracle!({
+        let inputs = Inputs::new();
+        for reading in READINGS {
+            let against = match OF_ENDS.contains(&reading) {
+                true => Against::LawsAlone,
+                false => Against::Rust,
+            };
+            let double = Double(Wrong::Reads(reading));
+            let caught = |seed: &u64| {
+                let run = || fuzz(&double, &inputs, against, &mut Plain).call(*seed);
+                catch_unwind(AssertUnwindSafe(run)).is_err()
+            };
+            let first = (0..20_000).find(caught);
+            println!("{reading:?} is caught at {first:?}, {against:?}");
+            assert!(first.is_some(), "{reading:?}");
         }
     });
 }

@@ -9,6 +9,7 @@ use harness::boundary;
 use harness::case::{Case, FILE_LIMIT};
 use harness::catalogue::Catalogue;
 use harness::damage::damaged;
+use harness::failed::example;
 use harness::generate;
 use harness::query::*;
 use harness::random::Random;
@@ -236,7 +237,25 @@ fn the_largest_catalogue() {
     assert_eq!(hits.right(&all(0)), 0);
 }
 
-/// Generated cases, and damaged copies of them.
+/// The worked examples of request 2026-03; no mark stands, for fewer match than are asked for.
+#[test]
+#[cfg_attr(not(hits), ignore = "the program hits is not built")]
+fn failed_readings() {
+    let hits = Hits::find("failed");
+    for (case, documents) in example::ranges() {
+        let lines = documents.iter().map(|d| format!("{d} 3f800000\n"));
+        let lines: String = lines.collect();
+        hits.write(&case);
+        let expected = format!("count {}\n{lines}", documents.len());
+        assert_eq!(hits.prints(), expected, "{case:?}");
+    }
+    for (case, bits) in example::costs() {
+        hits.write(&case);
+        assert_eq!(hits.prints(), format!("count 1\n0 {bits:08x}\n"));
+    }
+}
+
+/// Generated cases, and damaged copies of them; every third with a NaN end.
 #[test]
 #[cfg_attr(not(oracle), ignore = "the Rust source is absent")]
 #[cfg_attr(not(hits), ignore = "the program hits is not built")]
@@ -245,7 +264,10 @@ fn generated_cases() {
     let mut random = Random::new(11);
     for seed in 0..300 {
         let _seed = Seed(seed);
-        let case = generate::case(seed);
+        let case = match seed % 3 {
+            0 => generate::with_failed_end(seed),
+            _ => generate::case(seed),
+        };
         assert_eq!(hits.right(&case), 0);
         hits.right(&damaged(&mut random, &case));
     }

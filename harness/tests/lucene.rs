@@ -137,14 +137,19 @@ fn row_7_the_mark_stands_above_t() {
 
 #[test]
 #[cfg_attr(not(oracle), ignore = "the Rust source is absent")]
-fn row_8_a_negative_nan_lies_below_minus_infinity() {
+fn row_8_nan_and_excluded_infinite_ends() {
     with_oracle!({
-        let mut catalogue = Catalogue::new(1);
-        let column = catalogue.column_of_f64(&[Some(0xfff8 << 48)]);
         let end = f64::NEG_INFINITY.to_bits();
-        for kinds in [3, 6] {
+        for (value, kinds, listed) in [
+            (0xfff8 << 48, 3, vec![]),
+            (0xfff8 << 48, 6, vec![]),
+            (end, 3, vec![0]),
+            (end, 6, vec![]),
+        ] {
+            let mut catalogue = Catalogue::new(1);
+            let column = catalogue.column_of_f64(&[Some(value)]);
             let case = catalogue.case(1, 1, &range(column, kinds, 0, end));
-            assert_eq!(documents(&case), [0]);
+            assert_eq!(documents(&case), listed);
         }
     });
 }

@@ -3,6 +3,7 @@ mod common;
 
 use common::{Seed, plain};
 use harness::case::{Case, FILE_LIMIT};
+use harness::failed::{asks_failed_value, failed, has_failed_end};
 use harness::generate;
 use harness::query::*;
 use harness::refusal::refusal;
@@ -248,9 +249,20 @@ fn range_node(case: &Case, node: &Node, reach: &mut Reach) {
     }
     let [lower, upper] = [[a, b], [c, d]].map(|[low, high]| u64::from(low) | u64::from(high) << 32);
     let both = kinds % 3 > 0 && kinds / 3 > 0;
-    let nan = |bits| f64::from_bits(bits).is_nan();
-    reach.note("a NaN end", float && (nan(lower) || nan(upper)));
     reach.note("equal ends", both && lower == upper);
+    let held = |document: u32| plain::in_range(case, node.values, document);
+    let ordered = |document: u32| plain::between(case, node.values, document);
+    let left_out = (0..case.n).filter(|d| ordered(*d) && !held(*d)).count();
+    reach.note("NaN between the ends", left_out > 0);
+    let lists = (0..case.n).any(held);
+    reach.note(
+        "NaN between the ends beside a number",
+        left_out > 0 && lists,
+    );
+    for (name, kinds) in [("both", 0), ("the upper", 1), ("the lower", 3)] {
+        let unbounded = node.values[1] == kinds && left_out > 0;
+        reach.note(format!("NaN in a range, {name} unbounded"), unbounded);
+    }
     let crossed = lower as i64 > upper as i64;
     reach.note("crossed ends", both && !float && crossed);
 }
@@ -279,6 +291,30 @@ fn the_generator_reaches_what_it_claims() {
         .filter(|(_, count)| **count < 3)
         .collect();
     assert!(missed.is_empty(), "{missed:?}");
+}
+
+/// NaN values in half of the cases with documents and f64 columns or more, and never a NaN end.
+#[test]
+fn failed_readings_are_frequent() {
+    let (mut of_f64, mut with, mut asked) = (0, 0, 0);
+    for seed in 0..CASES {
+        let _seed = Seed(seed);
+        let case = generate::case(seed);
+        assert!(!has_failed_end(&case));
+        let columns = (0..).zip(&case.columns).filter(|(_, kind)| **kind == 1);
+        let columns: Vec<u32> = columns.map(|(column, _)| column).collect();
+        let mut values = columns.iter().flat_map(|column| {
+            let of_column = |document| plain::value(&case, *column, document);
+            (0..case.n).filter_map(of_column)
+        });
+        of_f64 += u64::from(case.n > 0 && !columns.is_empty());
+        with += u64::from(values.any(|bits| failed(1, bits)));
+        asked += u64::from(asks_failed_value(&case));
+    }
+    println!(
+        "{CASES} cases, {of_f64} with f64 columns, {with} with NaN values, {asked} ask for them"
+    );
+    assert!(2 * with > of_f64 && 20 * asked > CASES);
 }
 
 #[test]

@@ -1,25 +1,27 @@
 -- Keys lie in the order of the values, the ends of a range become an interval of keys, and a value is tested against it. Assumes nothing.
-use mathlib.Core.Path.{_≡_, sym, ap, _∙_}
+use mathlib.Core.Path.{_≡_, refl, sym, ap, _∙_}
 use mathlib.Core.Logic.{⊎-elim}
-use mathlib.Core.Bool.{Bool, true, false, cond, _&&_, and-true}
+use mathlib.Core.Bool.{Bool, true, false, not, cond, _&&_, _||_, and-true, false≢true}
 use mathlib.Core.List.{List}
-use Prim.Native.Nat.{ℕ, _+_, _-_, _*_, _^_, _≤_, _<_, max, min}
+use Prim.Native.Nat.{ℕ, _+_, _-_, _*_, _/_, _%_, _^_, _≤_, _<_, max, min}
 use native.Mathlib.Omega.{arith}
 use native.Mathlib.Nat.{add-comm}
 use lib.Dec.{eqb, leb, ltb}
 use lib.Bits.{bitXor, xor-comm, xor-shifted, xor-block, xor-self, xor-zero-r}
+use lib.Ieee.{binary64, nanBits}
+use lib.Ieee.Bits.{nanBits-above}
 use lib.ListN.{getD}
 use lib.IntN.{pos, negsuc}
 use lib.Signed.{ltZ}
 use borrow.Author.Tests.{eq-eqb, ne-eqb, lt-ltb, le-ltb, le-leb, lt-leb}
 use Rattle.meaning.specs.Lent.{joined}
-use Rattle.meaning.specs.Range.{i64Of, valueBelow, atLower, atUpper}
+use Rattle.meaning.specs.Range.{i64Of, valueBelow, atLower, atUpper, failed, endGood}
 use Rattle.meaning.specs.Ieee754.{totalBelow}
 use Rattle.ieee754.specs.TotalOrder.{totalKey}
-use Rattle.ieee754.proofs.TotalOrder.{total-key, total-key-lt}
-use Rattle.column_keys.specs.Keys.{i64Key, valueKey, between, keyAtLower, keyAtUpper, valueIn}
+use Rattle.ieee754.proofs.TotalOrder.{total-key, total-key-lt, key-clear, key-set}
+use Rattle.column_keys.specs.Keys.{i64Key, valueKey, between, keyAtLower, keyAtUpper, numberKey, rangeKey, valueIn}
 use Rattle.meaning.proofs.Tests.{cmp, ltb-as-ltb}
-use Rattle.column_keys.proofs.Tests.{leb-as-ltb, not-ltb, and-middle}
+use Rattle.column_keys.proofs.Tests.{leb-as-ltb, leb-as-leb, not-ltb, and-middle}
 
 -- ---- i64: a pattern without the sign bit, and one with it
 i64Of-small : (a : ℕ) → a < 2 ^ 63 → i64Of a ≡ pos a
@@ -65,6 +67,32 @@ i64Key-order a b fa fb =
 pub i64Key-fits : (a : ℕ) → a < 2 ^ 64 → i64Key a < 2 ^ 64
 i64Key-fits a f = ⊎-elim (λ h. omega (arith, i64Key-small a h)) (λ h. omega (arith, i64Key-large a h)) (cmp a (2 ^ 63))
 
+-- ---- f64: the NaNs lie beyond the keys of −infinity and +infinity, the least and the largest number
+abbrev leastNumberKey : ℕ
+leastNumberKey = 0x000f_ffff_ffff_ffff
+
+abbrev largestNumberKey : ℕ
+largestNumberKey = 0xfff0_0000_0000_0000
+
+least-number : totalKey 0xfff0_0000_0000_0000 ≡ leastNumberKey
+unfolding totalKey
+least-number = refl
+
+largest-number : totalKey 0x7ff0_0000_0000_0000 ≡ largestNumberKey
+unfolding totalKey
+largest-number = refl
+
+pub nan-above : (a : ℕ) → nanBits binary64 a ≡ ltb 0x7ff0_0000_0000_0000 (a % 2 ^ 63)
+nan-above a = nanBits-above binary64 a
+
+pub nan-by-key : (a : ℕ) → a < 2 ^ 64 → not (nanBits binary64 a) ≡ between leastNumberKey largestNumberKey (totalKey a)
+nan-by-key a f =
+    rw (nan-above a, not-ltb 0x7ff0_0000_0000_0000 (a % 2 ^ 63))
+    (⊎-elim
+    (λ h. rw (← key-clear a h, le-leb leastNumberKey (a + 2 ^ 63) (omega arith)) (leb-as-leb (a % 2 ^ 63) 0x7ff0_0000_0000_0000 (a + 2 ^ 63) largestNumberKey (λ g. omega arith) (λ g. omega arith)))
+    (λ h. rw (← key-set a h, le-leb (2 ^ 64 - 1 - a) largestNumberKey (omega arith)) (leb-as-leb (a % 2 ^ 63) 0x7ff0_0000_0000_0000 leastNumberKey (2 ^ 64 - 1 - a) (λ g. omega arith) (λ g. omega arith) ∙ sym (and-true _)))
+    (cmp a (2 ^ 63)))
+
 -- ---- a value of either type
 module _ (type : ℕ) where
   pub valueKey-i64 : type ≡ 0 → (a : ℕ) → valueKey type a ≡ i64Key a
@@ -92,6 +120,15 @@ module _ (type : ℕ) where
       go true = i64Key-order a b fa fb
       go false = total-key a b fa fb
 
+  -- a value that has not failed is one with a number's key
+  pub number-by-key : (a : ℕ) → a < 2 ^ 64 → not (failed type a) ≡ numberKey type (valueKey type a)
+  unfolding numberKey valueKey
+  number-by-key a f = go (eqb type 0)
+    where
+      go : (b : Bool) → not (not b && nanBits binary64 a) ≡ (b || between (totalKey 0xfff0_0000_0000_0000) (totalKey 0x7ff0_0000_0000_0000) (cond b (i64Key a) (totalKey a)))
+      go true = refl
+      go false = rw (least-number, largest-number) (nan-by-key a f)
+
   -- ---- an end of a range against a value, by their keys
   pub lower-by-key : (kind x v : ℕ) → x < 2 ^ 64 → v < 2 ^ 64 → atLower kind type x v ≡ keyAtLower kind (valueKey type x) (valueKey type v)
   unfolding atLower keyAtLower
@@ -102,12 +139,12 @@ module _ (type : ℕ) where
   upper-by-key kind x v fx fv = rw (valueKey-order x v fx fv, valueKey-order v x fv fx, not-ltb (valueKey type x) (valueKey type v))
 
 -- ---- the keys that an end lets in, as an interval
+pub no-key : (k : ℕ) → between 1 0 k ≡ false
+no-key k = ⊎-elim (λ h. rw (lt-leb 1 k h)) (λ h. rw (le-leb 1 k h, lt-leb k 0 (omega arith))) (cmp k 1)
+
 module _ (kind end k : ℕ) (fk : k < 2 ^ 64) where
   largest : leb k (2 ^ 64 - 1) ≡ true
   largest = le-leb k (2 ^ 64 - 1) (omega arith)
-
-  none : between 1 0 k ≡ false
-  none = ⊎-elim (λ h. rw (lt-leb 1 k h)) (λ h. rw (le-leb 1 k h, lt-leb k 0 (omega arith))) (cmp k 1)
 
   pub lower-unbounded : kind ≡ 0 → between 0 (2 ^ 64 - 1) k ≡ keyAtLower kind end k
   unfolding keyAtLower
@@ -125,7 +162,7 @@ module _ (kind end k : ℕ) (fk : k < 2 ^ 64) where
 
   pub lower-nothing : (kind ≡ 0 → ⊥) → (kind ≡ 1 → ⊥) → 2 ^ 64 - 1 ≤ end → between 1 0 k ≡ keyAtLower kind end k
   unfolding keyAtLower
-  lower-nothing z o h = none ∙ rw (ne-eqb kind 0 z, ne-eqb kind 1 o, le-ltb end k (omega arith))
+  lower-nothing z o h = no-key k ∙ rw (ne-eqb kind 0 z, ne-eqb kind 1 o, le-ltb end k (omega arith))
 
   pub upper-unbounded : kind ≡ 0 → between 0 (2 ^ 64 - 1) k ≡ keyAtUpper kind end k
   unfolding keyAtUpper
@@ -142,7 +179,17 @@ module _ (kind end k : ℕ) (fk : k < 2 ^ 64) where
 
   pub upper-nothing : (kind ≡ 0 → ⊥) → (kind ≡ 1 → ⊥) → end ≤ 0 → between 1 0 k ≡ keyAtUpper kind end k
   unfolding keyAtUpper
-  upper-nothing z o h = none ∙ rw (ne-eqb kind 0 z, ne-eqb kind 1 o, le-ltb k end (omega arith))
+  upper-nothing z o h = no-key k ∙ rw (ne-eqb kind 0 z, ne-eqb kind 1 o, le-ltb k end (omega arith))
+
+-- ---- the keys of a column's numbers, as an interval
+module _ (type k : ℕ) (fk : k < 2 ^ 64) where
+  pub numbers-f64 : (type ≡ 0 → ⊥) → between leastNumberKey largestNumberKey k ≡ numberKey type k
+  unfolding numberKey
+  numbers-f64 e = rw (ne-eqb type 0 e, least-number, largest-number)
+
+  pub numbers-i64 : type ≡ 0 → between 0 (2 ^ 64 - 1) k ≡ numberKey type k
+  unfolding numberKey
+  numbers-i64 e = rw (eq-eqb type 0 e, le-leb 0 k (omega arith), le-leb k (2 ^ 64 - 1) (omega arith))
 
 -- both of two intervals
 leb-max : (a c k : ℕ) → leb (max a c) k ≡ (leb a k && leb c k)
@@ -161,6 +208,27 @@ leb-min b d k =
 
 pub between-both : (a b c d k : ℕ) → between (max a c) (min b d) k ≡ (between a b k && between c d k)
 between-both a b c d k = rw (leb-max a c k, leb-min b d k) (and-middle (leb a k) (leb c k) (leb k b) (leb k d))
+
+-- ---- a range: the numbers' interval and the ends' in common, where both ends are good, and nothing where one is not
+ends-good : (n g h l u : Bool) → (g && h) ≡ true → (n && (l && u)) ≡ (n && g && h && l && u)
+ends-good false g h l u e = refl
+ends-good true true true l u e = refl
+ends-good true true false l u e = absurd (false≢true e)
+ends-good true false h l u e = absurd (false≢true e)
+
+end-failed : (n g h l u : Bool) → (g && h) ≡ false → false ≡ (n && g && h && l && u)
+end-failed false g h l u e = refl
+end-failed true true true l u e = absurd (false≢true (sym e))
+end-failed true true false l u e = refl
+end-failed true false h l u e = refl
+
+module _ (type kinds lower upper k : ℕ) (g h : Bool) (lower-good : g ≡ endGood (kinds % 3) type lower) (upper-good : h ≡ endGood (kinds / 3) type upper) where
+  pub range-common : (g && h) ≡ true → (a b c d : ℕ) → between a b k ≡ numberKey type k → between c d k ≡ (keyAtLower (kinds % 3) (valueKey type lower) k && keyAtUpper (kinds / 3) (valueKey type upper) k) → between (max a c) (min b d) k ≡ rangeKey type kinds lower upper k
+  range-common good a b c d n e =
+      rw (← lower-good, ← upper-good) (between-both a b c d k ∙ rw (n, e) (ends-good (numberKey type k) g h _ _ good))
+
+  pub range-nothing : (g && h) ≡ false → between 1 0 k ≡ rangeKey type kinds lower upper k
+  range-nothing bad = rw (← lower-good, ← upper-good) (no-key k ∙ end-failed (numberKey type k) g h _ _ bad)
 
 -- ---- what is read of a value
 pub value-tested : (values : List ℕ) (at type from to key : ℕ) → key ≡ valueKey type (joined (getD values (at + 1) 0) (getD values (at + 2) 0)) → (eqb (getD values at 0) 1 && between from to key) ≡ valueIn values at type from to

@@ -19,6 +19,12 @@ leb-as-ltb a b c d f g = elim (cmp b a) as (λ _. leb a b ≡ ltb c d) [
   | inr h ↦ le-leb a b h ∙ sym (lt-ltb c d (f h))
 ]
 
+pub leb-as-leb : (a b c d : ℕ) → (a ≤ b → c ≤ d) → (b < a → d < c) → leb a b ≡ leb c d
+leb-as-leb a b c d f g = elim (cmp b a) as (λ _. leb a b ≡ leb c d) [
+  | inl h ↦ lt-leb a b h ∙ sym (lt-leb c d (g h))
+  | inr h ↦ le-leb a b h ∙ sym (le-leb c d (f h))
+]
+
 -- two parts of a test regrouped
 pub and-middle : (a b c d : Bool) → (a && b && (c && d)) ≡ (a && c && (b && d))
 and-middle true true c d = refl

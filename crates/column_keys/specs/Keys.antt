@@ -1,10 +1,11 @@
 -- Values of a column as numbers in their order, and the ends of a range among them. Assumes nothing: these are definitions.
-use mathlib.Core.Bool.{Bool, true, cond, _&&_}
+use mathlib.Core.Bool.{Bool, true, cond, _&&_, _||_}
 use mathlib.Core.List.{List}
-use Prim.Native.Nat.{ℕ, _+_, _-_, _^_}
+use Prim.Native.Nat.{ℕ, _+_, _-_, _/_, _%_, _^_}
 use lib.Dec.{eqb, leb, ltb}
 use lib.ListN.{getD}
 use Rattle.meaning.specs.Lent.{joined}
+use Rattle.meaning.specs.Range.{endGood}
 use Rattle.ieee754.specs.TotalOrder.{totalKey}
 
 -- the number in whose order i64 patterns lie: the sign bit turned over
@@ -26,6 +27,15 @@ keyAtLower kind end k = cond (eqb kind 0) true (cond (eqb kind 1) (leb end k) (l
 -- and against that of the upper end
 unfoldable pub keyAtUpper : ℕ → ℕ → ℕ → Bool
 keyAtUpper kind end k = cond (eqb kind 0) true (cond (eqb kind 1) (leb k end) (ltb k end))
+
+-- the keys of a column's numbers: in an f64 column those from the key of −infinity to that of +infinity, in an i64 column all
+unfoldable pub numberKey : ℕ → ℕ → Bool
+numberKey type k = eqb type 0 || between (totalKey 0xfff0_0000_0000_0000) (totalKey 0x7ff0_0000_0000_0000) k
+
+-- the keys that a range lets in: those of numbers, where no given end is NaN, within both ends
+abbrev pub rangeKey : ℕ → ℕ → ℕ → ℕ → ℕ → Bool
+rangeKey type kinds lower upper k =
+    numberKey type k && endGood (kinds % 3) type lower && endGood (kinds / 3) type upper && keyAtLower (kinds % 3) (valueKey type lower) k && keyAtUpper (kinds / 3) (valueKey type upper) k
 
 -- the value whose three words stand at `at` is present and its key lies between the two
 unfoldable pub valueIn : List ℕ → ℕ → ℕ → ℕ → ℕ → Bool

@@ -4,7 +4,8 @@ ghost use mathlib.Core.Path.{_≡_};
 ghost use mathlib.Core.Bool.{_&&_};
 ghost use lib.ListN.{length};
 ghost use Rattle.meaning.specs.Lent.{joined};
-ghost use Rattle.column_keys.specs.Keys.{i64Key, valueKey, between, keyAtLower, keyAtUpper, valueIn};
+ghost use Rattle.meaning.specs.Range.{failed, endGood};
+ghost use Rattle.column_keys.specs.Keys.{i64Key, valueKey, between, keyAtLower, keyAtUpper, numberKey, rangeKey, valueIn};
 
 // A 64-bit pattern from its low and its high half.
 pub fn joined(low: u32, high: u32) -> u64
@@ -97,7 +98,7 @@ fn smaller(a: u64, b: u64) -> u64
 }
 
 // Both ends at once: the kinds are the lower one's + 3 × the upper one's.
-pub fn range_keys(column_type: u32, kinds: u32, lower: u64, upper: u64) -> Keys
+fn end_keys(column_type: u32, kinds: u32, lower: u64, upper: u64) -> Keys
     ensures { λ r. ⌜ ((k : ℕ) → k < 2 ^ 64 → between (r .from) (r .to) k ≡ (keyAtLower (kinds % 3) (valueKey «column_type» lower) k && keyAtUpper (kinds / 3) (valueKey «column_type» upper) k)) ⌝ }
 {
     let above = lower_keys(kinds % 3, value_key(column_type, lower));
@@ -105,6 +106,56 @@ pub fn range_keys(column_type: u32, kinds: u32, lower: u64, upper: u64) -> Keys
     Keys {
         from: larger(above.from, below.from),
         to: smaller(above.to, below.to),
+    }
+}
+
+// Whether a pattern is no number of its column: a NaN of either sign, in a column that is not i64.
+fn failed(column_type: u32, bits: u64) -> bool
+    ensures { λ r. ⌜ r ≡ failed «column_type» bits ⌝ }
+{
+    (column_type != 0) & (0x7ff0_0000_0000_0000 < bits % 0x8000_0000_0000_0000)
+}
+
+// Whether an end is unbounded or a number.
+fn end_good(kind: u32, column_type: u32, bits: u64) -> bool
+    ensures { λ r. ⌜ r ≡ endGood kind «column_type» bits ⌝ }
+{
+    (kind == 0) | !failed(column_type, bits)
+}
+
+// The keys of a column's numbers: NaNs lie below that of −infinity and above that of +infinity.
+fn number_keys(column_type: u32) -> Keys
+    ensures { λ r. ⌜ ((k : ℕ) → k < 2 ^ 64 → between (r .from) (r .to) k ≡ numberKey «column_type» k) ⌝ }
+{
+    if column_type != 0 {
+        Keys {
+            from: 0x000f_ffff_ffff_ffff,
+            to: 0xfff0_0000_0000_0000,
+        }
+    } else {
+        Keys {
+            from: 0,
+            to: u64::MAX,
+        }
+    }
+}
+
+// The keys of the numbers that a range lets in: none where a given end is no number.
+// The scan is lent an interval and nothing else, so it has no test for NaN.
+pub fn range_keys(column_type: u32, kinds: u32, lower: u64, upper: u64) -> Keys
+    ensures { λ r. ⌜ ((k : ℕ) → k < 2 ^ 64 → between (r .from) (r .to) k ≡ rangeKey «column_type» kinds lower upper k) ⌝ }
+{
+    let lower_good = end_good(kinds % 3, column_type, lower);
+    let upper_good = end_good(kinds / 3, column_type, upper);
+    if lower_good & upper_good {
+        let numbers = number_keys(column_type);
+        let ends = end_keys(column_type, kinds, lower, upper);
+        Keys {
+            from: larger(numbers.from, ends.from),
+            to: smaller(numbers.to, ends.to),
+        }
+    } else {
+        Keys { from: 1, to: 0 }
     }
 }
 

@@ -1,6 +1,6 @@
 -- The documents of a range: what the list depends on and what stands in it, and the column's scan that writes it. Assumes nothing.
-use mathlib.Core.Path.{_≡_, refl, sym, ap, ap₂, _∙_}
-use mathlib.Core.Bool.{Bool, true, false, _&&_, and-assoc}
+use mathlib.Core.Path.{_≡_, refl, ap, _∙_}
+use mathlib.Core.Bool.{Bool, true, false, not, _&&_}
 use mathlib.Core.List.{List}
 use Prim.Native.Nat.{ℕ, suc, _+_, _*_, _/_, _%_, _^_, _≤_, _<_}
 use native.Mathlib.Nat.{mul-le-mul-right, suc-mul}
@@ -10,15 +10,15 @@ use lib.ListN.{length, getD}
 use borrow.Author.Tests.{leb-false, eqb-true, not-false}
 use Rattle.meaning.specs.Limits.{maxColumns}
 use Rattle.meaning.specs.Below.{listBelow, anyBelow}
-use Rattle.meaning.specs.Lent.{Index, columnType, valueBits}
-use Rattle.meaning.specs.Range.{NumericRange, comparable, atLower, atUpper, inRange, rangeDocuments}
+use Rattle.meaning.specs.Lent.{Index, columnType, valuePresent, valueBits}
+use Rattle.meaning.specs.Range.{NumericRange, failed, endGood, atLower, atUpper, inRange, rangeDocuments}
 use Rattle.meaning.specs.IndexRefusals.{wrong1, wrongColumn, wrong6}
 use Rattle.meaning.specs.QueryRefusals.{wrongRange}
 use Rattle.meaning.specs.Entries.{columnsOnly}
-use Rattle.column_keys.specs.Keys.{valueKey, between, keyAtLower, keyAtUpper, valueIn}
+use Rattle.column_keys.specs.Keys.{valueKey, between, rangeKey, valueIn}
 use Rattle.meaning.proofs.Tests.{or-left, or-right}
 use Rattle.meaning.proofs.Below.{list-length, list-same, listed-at, listed-ascends, listed-has, listed-exactly}
-use Rattle.column_keys.proofs.KeyOrder.{valueKey-fits, lower-by-key, upper-by-key}
+use Rattle.column_keys.proofs.KeyOrder.{valueKey-fits, number-by-key, lower-by-key, upper-by-key}
 
 -- ---- the list depends on N, the columns and the values alone, and so do the tests that allow it
 module _ (ix : Index) where
@@ -84,6 +84,10 @@ module _ (ix : Index) (r : NumericRange) where
       omega (arith, values-length e, suc-mul (r .column) (ix .maxDoc))
 
 -- ---- the scan of a column by keys lists the range
+and-all : (p n g h l u : Bool) → (p && (n && g && h && l && u)) ≡ (p && n && g && h && l && u)
+and-all true n g h l u = refl
+and-all false n g h l u = refl
+
 module _ (n : ℕ) (columns values : List ℕ) (r : NumericRange) (words : (i : ℕ) → getD values i 0 < 2 ^ 32) (lower : r .lower < 2 ^ 64) (upper : r .upper < 2 ^ 64) (from to : ℕ) where
   abbrev ix : Index
   ix = columnsOnly n columns values
@@ -92,7 +96,7 @@ module _ (n : ℕ) (columns values : List ℕ) (r : NumericRange) (words : (i : 
   type = columnType ix (r .column)
 
   abbrev Keyed : Type 0
-  Keyed = (k : ℕ) → k < 2 ^ 64 → between from to k ≡ (keyAtLower (r .kinds % 3) (valueKey type (r .lower)) k && keyAtUpper (r .kinds / 3) (valueKey type (r .upper)) k)
+  Keyed = (k : ℕ) → k < 2 ^ 64 → between from to k ≡ rangeKey type (r .kinds) (r .lower) (r .upper) k
 
   bits-fit : (d : ℕ) → valueBits ix (r .column) d < 2 ^ 64
   bits-fit d = let at = 3 * (r .column * n + d) in omega (arith, words (at + 1), words (at + 2))
@@ -102,11 +106,12 @@ module _ (n : ℕ) (columns values : List ℕ) (r : NumericRange) (words : (i : 
   value-as-range keyed d =
       let at : 3 * (r .column * n) + 3 * d ≡ 3 * (r .column * n + d) = omega arith in
       let v = valueBits ix (r .column) d in
+      let p = eqb (valuePresent ix (r .column) d) 1 in
       rw at
-      (ap (λ (b : Bool). comparable ix (r .column) d && b)
+      (ap (λ (b : Bool). p && b)
       (keyed (valueKey type v) (valueKey-fits type v (bits-fit d))
-      ∙ sym (ap₂ _&&_ (lower-by-key type (r .kinds % 3) (r .lower) v lower (bits-fit d)) (upper-by-key type (r .kinds / 3) (r .upper) v upper (bits-fit d))))
-      ∙ sym (and-assoc (comparable ix (r .column) d) (atLower (r .kinds % 3) type (r .lower) v) (atUpper (r .kinds / 3) type (r .upper) v)))
+      ∙ rw (← number-by-key type v (bits-fit d), ← lower-by-key type (r .kinds % 3) (r .lower) v lower (bits-fit d), ← upper-by-key type (r .kinds / 3) (r .upper) v upper (bits-fit d)) refl)
+      ∙ and-all p (not (failed type v)) (endGood (r .kinds % 3) type (r .lower)) (endGood (r .kinds / 3) type (r .upper)) (atLower (r .kinds % 3) type (r .lower) v) (atUpper (r .kinds / 3) type (r .upper) v))
 
   pub scan-is-range : Keyed → listBelow n (λ d. valueIn values (3 * (r .column * n) + 3 * d) type from to) ≡ rangeDocuments ix r
   unfolding rangeDocuments

@@ -1,5 +1,6 @@
 // The documents of ranges over columns with every kind of value, between every two ends of every kind;
-// crates/doc_values_vectors/stdout has what the unchanged Rust lists (harness, `record`).
+// crates/doc_values_vectors/stdout has what the unchanged Rust lists, to which NaN values are absent; with a NaN end nothing
+// (harness, `record`).
 ghost use mathlib.Core.Path.{_≡_};
 ghost use Prim.Native.Nat.{_<_, _≤_};
 ghost use Rattle.doc_values_vectors.specs.Columns.{Columns};

@@ -270,6 +270,12 @@ unfolding listBelow
 list-same p q zero h = refl
 list-same p q (suc n) h = rw (list-same p q n (λ d g. h d (omega arith)), h n (omega arith))
 
+-- a property that no number below the bound has lists none
+pub list-none : (p : ℕ → Bool) (n : ℕ) → ((d : ℕ) → d < n → p d ≡ false) → listBelow n p ≡ []
+unfolding listBelow
+list-none p zero h = refl
+list-none p (suc n) h = list-left p n (h n (omega arith)) ∙ list-none p n (λ d g. h d (omega arith))
+
 -- a number stands in the list exactly where it is below the bound and has the property
 pub listed-exactly : (p : ℕ → Bool) (n d : ℕ) → anyBelow (length (listBelow n p)) (λ i. eqb (getD (listBelow n p) i 0) d) ≡ (ltb d n && p d)
 listed-exactly p n d = go (ltb d n) (p d) refl refl

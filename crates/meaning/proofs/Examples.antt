@@ -1,11 +1,11 @@
--- Document 01's examples that are marked P, its whole case, and one input for each refusal: one table, one theorem over it, computed.
+-- Document 01's examples that are marked P, its whole case, one input for each refusal, and request 2026-03's examples: one table, one theorem over it, computed.
 -- Two more rows tell the order and the format of a Boolean's additions apart. Assumes nothing.
 use mathlib.Core.Path.{_≡_, refl}
 use mathlib.Core.List.{List, [], _∷_, _++_, map}
-use Prim.Native.Nat.{ℕ, _*_}
+use Prim.Native.Nat.{ℕ, _*_, _/_, _%_, _^_}
 use lib.IntN.{ℤ, pos, negsuc}
 use lib.ListN.{take, drop, getD}
-use lib.Ieee.{Float, binary32, toBits, round, units, odd, size, span, climb, add, sub, mul, div, neg, sum as ieeeSum, ofFields, ofBits, ofInt, lt, toUnsigned}
+use lib.Ieee.{Float, binary32, toBits, round, units, odd, size, span, climb, add, sub, mul, div, neg, sum as ieeeSum, ofFields, ofBits, ofInt, nanBits, lt, toUnsigned}
 use lib.Count.{trailingZeros}
 use Rattle.meaning.specs.Below.{anyBelow, countBelow, listBelow, lastBelow, largestBelow, listTo}
 use Rattle.meaning.specs.Limits.{nodeStateWords}
@@ -108,6 +108,25 @@ microns = columnsOnly 4 (0 ∷ []) (1 ∷ 17 ∷ 0 ∷ 1 ∷ 18 ∷ 0 ∷ 1 ∷ 
 abbrev ends : ℕ → ℕ → ℕ → NumericRange
 ends kinds low high = record { column = 0; kinds = kinds; lower = low; upper = high }
 
+-- ---- request 2026-03: readings that failed
+-- a present value
+abbrev value : ℕ → List ℕ
+value bits = 1 ∷ bits % 2 ^ 32 ∷ bits / 2 ^ 32 ∷ []
+
+-- 17.5, two NaNs, both infinities, 18, and an absent value with the halves of a NaN; as i64 or f64
+abbrev readings : ℕ → Index
+readings type =
+    columnsOnly 7 (type ∷ [])
+    (value 0x4031_8000_0000_0000 ++ (value 0x7ff8_0000_0000_0000 ++ (value 0xfff8_0000_0000_0000 ++ (value 0x7ff0_0000_0000_0000 ++
+    (value 0xfff0_0000_0000_0000 ++ (value 0x4032_0000_0000_0000 ++ (0 ∷ 0 ∷ 0x7ff8_0000 ∷ [])))))))
+
+-- the infinities and the NaNs next to them, the last NaN of each sign, both zeros
+abbrev borders : Index
+borders =
+    columnsOnly 8 (1 ∷ [])
+    (value 0x7ff0_0000_0000_0000 ++ (value 0x7ff0_0000_0000_0001 ++ (value 0xfff0_0000_0000_0000 ++ (value 0xfff0_0000_0000_0001 ++
+    (value 0x7fff_ffff_ffff_ffff ++ (value 0xffff_ffff_ffff_ffff ++ (value 0x8000_0000_0000_0000 ++ value 0)))))))
+
 -- ---- rows in which the order and the format of the additions show in the last bit
 -- A in document 0, B in documents 0 and 1
 abbrev two : Index
@@ -153,6 +172,7 @@ searched ix q = searchAnswer ix q 1 0 oneState 1
 -- the rows' names
 pub data Example : Type 0 where
   lengths byte224 byte223 noClauses onlyMustNot twoOfThree fourOfThree mustAndShould mustAndOneShould filterDocuments filterScores phraseTwice startBelowZero rangeNone rangeTwo tieToTheEarlier : Example
+  readingsAll readingsOver readingsUpTo readingsFromNan readingsBelowNan readingsUnread integersAll integersOver bordersAll bordersOver bordersUpToNan : Example
   ascendingCost addedInF64 : Example
   wholeAnswer wholeMarked wholeDocuments wholeScores wholeRest : Example
   refused1 refused2 refused3 refused4 refused5 refused6 refused7 refused8 refused9 refused10 refused11 refused12 refused13 refused14 : Example
@@ -186,6 +206,26 @@ table rangeNone = rangeDocuments microns (ends 7 18 18) gives []
 table rangeTwo = rangeDocuments microns (ends 5 17 18) gives 1 ∷ 2 ∷ []
 -- documents 3, 5, 9, scores 1, 2, 1, k 2
 table tieToTheEarlier = map toDoc (pickHits (3 ∷ 5 ∷ 9 ∷ []) (0x3f80_0000 ∷ 0x4000_0000 ∷ 0x3f80_0000 ∷ []) 2 (pos 0 ∷ pos 0 ∷ [])) gives 5 ∷ 3 ∷ []
+-- ---- request 2026-03
+-- both ends unbounded
+table readingsAll = rangeDocuments (readings 1) (ends 0 0 0) gives 0 ∷ 3 ∷ 4 ∷ 5 ∷ []
+-- 18 included and over
+table readingsOver = rangeDocuments (readings 1) (ends 1 0x4032_0000_0000_0000 0) gives 3 ∷ 5 ∷ []
+-- up to −infinity included
+table readingsUpTo = rangeDocuments (readings 1) (ends 3 0 0xfff0_0000_0000_0000) gives 4 ∷ []
+-- a NaN included and over
+table readingsFromNan = rangeDocuments (readings 1) (ends 1 0xfff8_0000_0000_0000 0) gives []
+-- up to a NaN excluded
+table readingsBelowNan = rangeDocuments (readings 1) (ends 6 0 0x7ff8_0000_0000_0000) gives []
+-- unbounded ends are not looked at
+table readingsUnread = rangeDocuments (readings 1) (ends 0 0x7ff8_0000_0000_0000 0xfff8_0000_0000_0000) gives 0 ∷ 3 ∷ 4 ∷ 5 ∷ []
+-- the same words as i64: unbounded; 7ff0000000000000 included and over
+table integersAll = rangeDocuments (readings 0) (ends 0 0 0) gives 0 ∷ 1 ∷ 2 ∷ 3 ∷ 4 ∷ 5 ∷ []
+table integersOver = rangeDocuments (readings 0) (ends 1 0x7ff0_0000_0000_0000 0) gives 1 ∷ 3 ∷ []
+-- the borders: unbounded; +0 included and over, −0 being below +0; up to a signalling NaN included
+table bordersAll = rangeDocuments borders (ends 0 0 0) gives 0 ∷ 2 ∷ 6 ∷ 7 ∷ []
+table bordersOver = rangeDocuments borders (ends 1 0 0) gives 0 ∷ 7 ∷ []
+table bordersUpToNan = rangeDocuments borders (ends 3 0 0x7ff0_0000_0000_0001) gives []
 -- ---- the order and the format of the additions
 -- Must x·A, z·B, y·A: in ascending cost x + y + z
 table ascendingCost = scoresOf two (boolean 0 (clause must (scored 0x3f7f_ffff a) (clause must (scored 0x253f_ffff b) (clause must (scored 0x3400_0000 a) empty)))) gives 0x3f80_0001 ∷ []
@@ -217,7 +257,7 @@ table refused14 = pickAnswer (0 ∷ []) (0x8000_0000 ∷ []) 1 0 1 gives 14 ∷ 
 
 -- every row gives what it says
 pub table-holds : (e : Example) → table e .computed ≡ table e .expected
-unfolding table toBits round units odd size span climb add sub mul div neg ieeeSum ofFields ofBits ofInt lt toUnsigned trailingZeros anyBelow countBelow listBelow lastBelow largestBelow listTo isLive narrow sumFrom narrowedSum sortableInt sortableBits longToInt4 int4ToLong maxInt4 numFreeValues byte4ToInt lengthOf i64Of valueBelow atLower atUpper inRange rangeDocuments starts termStarts multiplicity smallest distinct sumSmallest commonSize phraseFrequency hasRequired decodeClauses decodeChild decodePhrase decodeKind decode decodeQuery queryTree requiredHold someProhibited shouldsHolding shouldsNeeded booleanTakes takes allHavePostings hasScorer least costsOf sum disjunctionCost conjunctionCost cost fieldScore termScore phraseIdf phraseScore insertByCost byCost requiredScore mustScores shouldScores groupScore booleanScore score matches fullList code toDoc toScore insertDescending descending hits mark fromTarget firstDoc page lowest wrong1 wrongField wrong2 wrong3 wrongLeaf wrong4 wrongPosition wrongPositions wrongPosting wrong5 wrongColumn wrong6 wrongRecords wrong7 unusedFrom wrongRange otherField wrongKind wrongValues wrong8 aboveLimit carriesAbove wrong9 wrong10 wrong11 statesNeeded largestIn startsNeeded rangeRecords rangesNeeded startsShort workShort wrong12Search wrong12Page wrong12Pick wrong13Page wrongPicked wrong14 searchRefusal searchAnswer searchHits pageRefusal pageAnswer pickRefusal pickedList pickAnswer pickHits lengthAnswer
+unfolding table toBits round units odd size span climb add sub mul div neg ieeeSum ofFields ofBits ofInt nanBits lt toUnsigned trailingZeros anyBelow countBelow listBelow lastBelow largestBelow listTo isLive narrow sumFrom narrowedSum totalBelow sortableInt sortableBits longToInt4 int4ToLong maxInt4 numFreeValues byte4ToInt lengthOf i64Of valueBelow atLower atUpper inRange rangeDocuments starts termStarts multiplicity smallest distinct sumSmallest commonSize phraseFrequency hasRequired decodeClauses decodeChild decodePhrase decodeKind decode decodeQuery queryTree requiredHold someProhibited shouldsHolding shouldsNeeded booleanTakes takes allHavePostings hasScorer least costsOf sum disjunctionCost conjunctionCost cost fieldScore termScore phraseIdf phraseScore insertByCost byCost requiredScore mustScores shouldScores groupScore booleanScore score matches fullList code toDoc toScore insertDescending descending hits mark fromTarget firstDoc page lowest wrong1 wrongField wrong2 wrong3 wrongLeaf wrong4 wrongPosition wrongPositions wrongPosting wrong5 wrongColumn wrong6 wrongRecords wrong7 unusedFrom wrongRange otherField wrongKind wrongValues wrong8 aboveLimit carriesAbove wrong9 wrong10 wrong11 statesNeeded largestIn startsNeeded rangeRecords rangesNeeded startsShort workShort wrong12Search wrong12Page wrong12Pick wrong13Page wrongPicked wrong14 searchRefusal searchAnswer searchHits pageRefusal pageAnswer pickRefusal pickedList pickAnswer pickHits lengthAnswer
 table-holds lengths = refl
 table-holds byte224 = refl
 table-holds byte223 = refl
@@ -234,6 +274,17 @@ table-holds startBelowZero = refl
 table-holds rangeNone = refl
 table-holds rangeTwo = refl
 table-holds tieToTheEarlier = refl
+table-holds readingsAll = refl
+table-holds readingsOver = refl
+table-holds readingsUpTo = refl
+table-holds readingsFromNan = refl
+table-holds readingsBelowNan = refl
+table-holds readingsUnread = refl
+table-holds integersAll = refl
+table-holds integersOver = refl
+table-holds bordersAll = refl
+table-holds bordersOver = refl
+table-holds bordersUpToNan = refl
 table-holds ascendingCost = refl
 table-holds addedInF64 = refl
 table-holds wholeAnswer = refl

@@ -8,3 +8,4 @@ pub mod Lowest
 pub mod Examples
 pub mod Scorers
 pub mod Phrases
+pub mod FailedReadings

@@ -1,8 +1,9 @@
--- Document 01, "Meaning of the tree": the documents whose value lies in a range. Assumes nothing: these are definitions.
-use mathlib.Core.Bool.{Bool, true, false, not, cond, _&&_}
+-- Document 01, "Meaning of the tree", and request 2026-03: the documents whose value lies in a range. Assumes nothing: these are definitions.
+use mathlib.Core.Bool.{Bool, true, false, not, cond, _&&_, _||_}
 use mathlib.Core.List.{List}
 use Prim.Native.Nat.{ℕ, zero, suc, _-_, _/_, _%_, _^_}
 use lib.Dec.{eqb, ltb}
+use lib.Ieee.{binary64, nanBits}
 use lib.IntN.{ℤ, pos, negsuc}
 use lib.Signed.{ltZ}
 use Rattle.meaning.specs.Below.{listBelow}
@@ -32,16 +33,25 @@ atLower kind type x v = cond (eqb kind 0) true (cond (eqb kind 1) (not (valueBel
 unfoldable pub atUpper : ℕ → ℕ → ℕ → ℕ → Bool
 atUpper kind type x v = cond (eqb kind 0) true (cond (eqb kind 1) (not (valueBelow type x v)) (valueBelow type v x))
 
--- "an absent value is never in it": the document has a value that can be compared
+-- "The tester stores NaN where a measurement failed": in an f64 column any NaN, of either sign, quiet or signalling; in an i64 column no pattern
+abbrev pub failed : ℕ → ℕ → Bool
+failed type x = not (eqb type 0) && nanBits binary64 x
+
+-- "an absent value is never in it", and "a Range never lists a document whose f64 value is NaN"
 abbrev pub comparable : Index → ℕ → ℕ → Bool
-comparable ix c d = eqb (valuePresent ix c d) 1
+comparable ix c d = eqb (valuePresent ix c d) 1 && not (failed (columnType ix c) (valueBits ix c d))
+
+-- "A NaN given as a range end lists no document": the end is unbounded, or a number
+abbrev pub endGood : ℕ → ℕ → ℕ → Bool
+endGood kind type x = eqb kind 0 || not (failed type x)
 
 -- the document's value lies in the range
 unfoldable pub inRange : Index → NumericRange → ℕ → Bool
 inRange ix r d =
     let c = r .column in
+    let type = columnType ix c in
     let v = valueBits ix c d in
-    comparable ix c d && atLower (r .kinds % 3) (columnType ix c) (r .lower) v && atUpper (r .kinds / 3) (columnType ix c) (r .upper) v
+    comparable ix c d && endGood (r .kinds % 3) type (r .lower) && endGood (r .kinds / 3) type (r .upper) && atLower (r .kinds % 3) type (r .lower) v && atUpper (r .kinds / 3) type (r .upper) v
 
 -- "Range lists a column's documents ascending"
 unfoldable pub rangeDocuments : Index → NumericRange → List ℕ

@@ -1,9 +1,9 @@
 -- The full list of an accepted index and query, said of the scorer tree. Assumes nothing.
 use mathlib.Core.Path.{_≡_, refl, sym, ap, _∙_, fun-ext}
-use mathlib.Core.Bool.{Bool, true, false, cond, _&&_}
-use mathlib.Core.List.{List, [], _∷_, _++_, map}
+use mathlib.Core.Bool.{Bool, true, false, _&&_}
+use mathlib.Core.List.{List, [], map}
 use mathlib.Core.Option.{none}
-use Prim.Native.Nat.{ℕ, zero, suc}
+use Prim.Native.Nat.{ℕ}
 use lib.Ieee.{Float}
 use Rattle.meaning.specs.Below.{listBelow}
 use Rattle.meaning.specs.Lent.{Index}
@@ -15,16 +15,12 @@ use Rattle.meaning.specs.Scorer.{hasScorer}
 use Rattle.meaning.specs.Score.{score}
 use Rattle.meaning.specs.FullList
 use Rattle.meaning.specs.FullList.{ScoreDoc, fullList}
+use Rattle.meaning.proofs.Below.{list-none}
 use Rattle.meaning.proofs.Scorers.{no-scorer-takes-nothing}
 use Rattle.weight.specs.ScorerTree.{matches, scorerScore}
 use Rattle.weight.specs.Weigh.{weigh}
 use Rattle.weight.proofs.Matches.{weigh-matches}
 use Rattle.weight.proofs.Scores.{weigh-score}
-
-none-listed : (n : ℕ) (p : ℕ → Bool) → ((d : ℕ) → p d ≡ false) → listBelow n p ≡ []
-unfolding listBelow
-none-listed zero p h = refl
-none-listed (suc n) p h = λ i. none-listed n p h i ++ cond (h n i) (n ∷ []) []
 
 -- a list of documents, each with a score
 abbrev pub scored : (ℕ → Float) → List ℕ → List ScoreDoc
@@ -43,7 +39,7 @@ module _ (ix : Index) (t : Tree) where
       neither false = refl
 
       empty : takenBy (takes ix t) ≡ []
-      empty = none-listed (ix .maxDoc) (λ d. isLive ix d && takes ix t d) (λ d. ap (λ (z : Bool). isLive ix d && z) (no-scorer-takes-nothing ix t d h) ∙ neither (isLive ix d))
+      empty = list-none (λ d. isLive ix d && takes ix t d) (ix .maxDoc) (λ d l. ap (λ (z : Bool). isLive ix d && z) (no-scorer-takes-nothing ix t d h) ∙ neither (isLive ix d))
 
   -- THE theorem: the live documents that the scorer tree matches, each with its score
   pub scorer-list : fullList ix t ≡ map (λ d. record { doc = d; score = scorerScore ix (weigh ix t one none) d }) (listBelow (ix .maxDoc) (λ d. isLive ix d && matches ix (weigh ix t one none) d))

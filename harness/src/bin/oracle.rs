@@ -1,6 +1,8 @@
 //! `oracle hits DIR` prints what the program `hits` prints for a folder of .rec files, worked out
 //! by the Rust source; `oracle list DIR` the full list; `oracle generate SEED DIR` writes a case.
 use harness::case::Case;
+#[cfg(oracle)]
+use harness::failed::crossed;
 use harness::generate;
 use harness::refusal::refusal;
 use std::path::Path;
@@ -46,7 +48,7 @@ fn answer(folder: &Path, hits: bool) -> Result<String, String> {
 
 #[cfg(oracle)]
 fn ask(case: &Case, hits: bool) -> Result<String, String> {
-    let oracle = harness::oracle::Oracle::new(case);
+    let oracle = harness::oracle::Oracle::new(&crossed(case));
     Ok(match hits {
         true => oracle.search().text(),
         false => harness::answer::lines(&oracle.list()),

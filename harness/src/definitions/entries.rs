@@ -4,6 +4,7 @@ use super::{Entry, Row, integer, integers, words, work};
 use crate::answer::Hit;
 use crate::case::Case;
 use crate::expect::{self, Right, codes, found_numbers, page_numbers};
+use crate::failed::{asks_failed_value, crossed, has_failed_end, listed};
 use crate::fuzz::Lists;
 use crate::oracle::{self, Oracle};
 use crate::query::{PHRASE, RECORD};
@@ -15,19 +16,25 @@ use std::iter::repeat_n;
 const BEFORE: i64 = 7;
 
 fn of_case(entry: Entry, number: u32, case: &Case, equations: Vec<(String, String)>) -> Row {
-    let case = Some(case.clone());
-    Row {
-        entry,
-        number,
-        case,
-        equations,
-    }
+    let mut row = of_ranges(entry, number, case, equations);
+    row.case = Some(case.clone());
+    row
 }
 
-fn of_lists(entry: Entry, number: u32, equations: Vec<(String, String)>) -> Row {
+/// A row that has the words of a case in its equations.
+fn of_ranges(entry: Entry, number: u32, case: &Case, equations: Vec<(String, String)>) -> Row {
+    let mut row = of_lists(entry, number, equations);
+    row.failed_value = number == 0 && asks_failed_value(case);
+    row.failed_end = number == 0 && has_failed_end(case);
+    row
+}
+
+pub fn of_lists(entry: Entry, number: u32, equations: Vec<(String, String)>) -> Row {
     Row {
         entry,
         number,
+        failed_value: false,
+        failed_end: false,
         case: None,
         equations,
     }
@@ -41,7 +48,7 @@ fn filled<T: Clone>(front: Vec<T>, length: usize, before: T) -> Vec<T> {
 
 /// The full list of an accepted order, and the cost of its root.
 pub fn list(case: &Case) -> Row {
-    let oracle = Oracle::new(case);
+    let oracle = Oracle::new(&crossed(case));
     let list = oracle.list();
     let documents = list.iter().map(|hit: &Hit| u64::from(hit.document));
     let bits = list.iter().map(|hit| u64::from(hit.bits));
@@ -143,7 +150,10 @@ pub fn range(case: &Case, room: usize, output: usize) -> Row {
     let (number, answer, listed) = match order(case) {
         0 if short => (12, vec![12], vec![]),
         0 => {
-            let listed = oracle::range(case, values);
+            let listed = match has_failed_end(case) {
+                true => listed(case, values),
+                false => oracle::range(case, values),
+            };
             (0, vec![0, listed.len() as u32], listed)
         }
         number => (number, vec![number], vec![]),
@@ -164,7 +174,7 @@ pub fn range(case: &Case, room: usize, output: usize) -> Row {
             words(&filled(listed, output, 7)),
         ),
     ];
-    of_lists(Entry::Range, number, equations)
+    of_ranges(Entry::Range, number, case, equations)
 }
 
 pub fn pick(lists: &Lists, places: usize) -> Row {
@@ -214,12 +224,13 @@ pub fn text(case: &Case, spoiled: Option<usize>) -> Row {
             files[file].push(0);
             (0, "refused 0\n".to_string())
         }
-        (None, 0) => (0, Oracle::new(case).search().text()),
+        (None, 0) => (0, Oracle::new(&crossed(case)).search().text()),
         (None, number) => (number, format!("refused {number}\n")),
     };
     let lists = files.iter().map(|bytes| format!(" ({})", words(bytes)));
     let call = format!("hitsText (files{})", lists.collect::<String>());
-    of_lists(Entry::Text, number, vec![(call, words(text.as_bytes()))])
+    let equations = vec![(call, words(text.as_bytes()))];
+    of_ranges(Entry::Text, number, case, equations)
 }
 
 /// The text for an index and a query that were read already: antt takes half a minute to read the

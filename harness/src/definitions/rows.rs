@@ -5,6 +5,7 @@ use crate::boundary;
 use crate::case::Case;
 use crate::catalogue::Catalogue;
 use crate::damage::damaged;
+use crate::failed::example;
 use crate::fuzz::Lists;
 use crate::generate;
 use crate::query::{PHRASE, RANGE, RECORD, boolean, match_all, phrase, range};
@@ -65,6 +66,7 @@ pub fn every_number() -> Vec<Row> {
     wrong_places(&mut rows);
     standing(&mut rows);
     ranges(&mut rows);
+    failed_readings(&mut rows);
     picks(&mut rows);
     rows
 }
@@ -178,6 +180,19 @@ fn ranges(rows: &mut Vec<Row>) {
     rows.push(entries::range(&case, 3, 2));
 }
 
+/// The worked examples of request 2026-03 as ranges and as searches; and some of those in which a NaN
+/// bale would count in a range's cost.
+fn failed_readings(rows: &mut Vec<Row>) {
+    for (case, _) in example::ranges() {
+        let values = case.query[3..RECORD].try_into().unwrap();
+        rows.push(entries::range(&columns(&case, values), 7, 8));
+        rows.push(entries::search(&case, &enough(&case, 0)));
+    }
+    for (case, _) in example::costs().into_iter().step_by(7) {
+        rows.push(entries::list(&case));
+    }
+}
+
 /// 11, 12 and 14 of Pick.
 fn picks(rows: &mut Vec<Row>) {
     let wrong: [fn(&mut Lists); 9] = [
@@ -207,7 +222,10 @@ fn picks(rows: &mut Vec<Row>) {
 /// The row of a seed, where its case is small.
 pub fn generated(seed: u64) -> Option<Row> {
     let mut random = Random::new(!seed);
-    let mut case = generate::case(seed);
+    let mut case = match seed / 8 % 4 {
+        0 => generate::with_failed_end(seed),
+        _ => generate::case(seed),
+    };
     if random.once_in(4) {
         case = damaged(&mut random, &case);
     }

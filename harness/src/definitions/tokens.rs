@@ -1,5 +1,6 @@
 //! The rows of request 2026-02, an index made from tokens: the answer, each output afterwards, and
 //! the tokens that are read back. What they must give is the judge's.
+use super::entries::of_lists;
 use super::{Entry, Row, words};
 use crate::tokens::calls::{Call, by_hand, damaged, generated};
 use crate::tokens::judge::{self, read_back};
@@ -66,12 +67,7 @@ fn write(call: &Call) -> Row {
         let call = format!("readBack {given}");
         equations.push((call, words(&told(tokens, written))));
     }
-    Row {
-        entry: Entry::Write,
-        number,
-        case: None,
-        equations,
-    }
+    of_lists(Entry::Write, number, equations)
 }
 
 /// The outputs afterwards: what was written, then what stood there before.

@@ -38,6 +38,7 @@ impl Inputs {
                 query: records(random),
                 ..generate::case(random.word())
             },
+            3 => generate::with_failed_end(random.word()),
             _ => generate::case(random.word()),
         };
         for _ in 0..random.pick(&[0, 0, 0, 0, 0, 0, 0, 1, 1, 2, 4, 10]) {

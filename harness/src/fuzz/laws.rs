@@ -4,6 +4,7 @@ use crate::answer::{Hit, NO_MORE_DOCS, Paged, Searched};
 use crate::buffer::{Buffer, Buffers};
 use crate::case::Case;
 use crate::expect::{self, written};
+use crate::failed::{crossed, has_failed_end};
 use crate::random::Random;
 use crate::refusal::calls::{Judge, Lengths, PAGED};
 use std::cmp::Reverse;
@@ -14,7 +15,8 @@ const INFINITY: u32 = 0x7f80_0000;
 const PAGE: usize = 5000;
 
 impl Fuzz<'_> {
-    /// Search gives the best k of what the pages list, and the same again with other rubbish.
+    /// Search gives the best k of what the pages list, the same again with other rubbish, and the
+    /// same where ranges with a NaN end are crossed.
     pub(super) fn search_laws(
         &mut self,
         case: &Case,
@@ -27,7 +29,12 @@ impl Fuzz<'_> {
         expect::found(buffers, 0, &Ok(best.clone()));
         let mut again = again(buffers, random);
         let number = self.number(Call::Search(case), &mut again, random);
-        expect::found(&again, number, &Ok(best));
+        expect::found(&again, number, &Ok(best.clone()));
+        if has_failed_end(case) {
+            let mut again = self::again(buffers, random);
+            let number = self.number(Call::Search(&crossed(case)), &mut again, random);
+            expect::found(&again, number, &Ok(best));
+        }
     }
 
     /// The pages from 0 on, joined.
@@ -67,8 +74,8 @@ impl Fuzz<'_> {
         page
     }
 
-    /// A page rises, ends where the list does, is the front of a page that is one longer, and is
-    /// the same again with other rubbish.
+    /// A page rises, ends where the list does, is the front of a page that is one longer, is the
+    /// same again with other rubbish, and the same where ranges with a NaN end are crossed.
     pub(super) fn page_laws(
         &mut self,
         case: &Case,
@@ -88,7 +95,12 @@ impl Fuzz<'_> {
         assert_eq!(page, Paged { hits: front, next }, "a longer page");
         let mut again = again(buffers, random);
         let number = self.number(Call::Page(case, target), &mut again, random);
-        expect::given(&again, number, &Ok(page));
+        expect::given(&again, number, &Ok(page.clone()));
+        if has_failed_end(case) {
+            let mut again = self::again(buffers, random);
+            let number = self.number(Call::Page(&crossed(case), target), &mut again, random);
+            expect::given(&again, number, &Ok(page));
+        }
     }
 
     /// Pick gives the best k of its lists, and the same again with other rubbish.

@@ -1,5 +1,5 @@
 //! The generated index: fields, leaves, postings, positions, norms, live words and columns.
-use super::{BY_ORDER, value_bits};
+use super::{BY_ORDER, Readings, nan_bits, value_bits};
 use crate::case::Case;
 use crate::random::Random;
 
@@ -11,11 +11,12 @@ pub struct Index {
     pub sparse: Vec<u32>,
     /// fields with positions, each with its leaves
     pub phrases: Vec<(u32, Vec<u32>)>,
+    pub readings: Readings,
 }
 
 const JUNK: u32 = 0xdead_beef;
 
-pub fn index(random: &mut Random) -> Index {
+pub fn index(random: &mut Random, readings: Readings) -> Index {
     let n = match random.below(16) {
         0 => 0,
         1 => 1,
@@ -36,12 +37,14 @@ pub fn index(random: &mut Random) -> Index {
     maker.fields();
     maker.leaves();
     maker.columns();
+    maker.failed_readings(readings);
     maker.live();
     Index {
         phrases: phrases(&maker.case),
         case: maker.case,
         dense: maker.dense,
         sparse: maker.sparse,
+        readings,
     }
 }
 
@@ -56,6 +59,7 @@ pub fn of(case: Case) -> Index {
         sparse: numbers(sparse),
         phrases: phrases(&case),
         case,
+        readings: Readings::Values,
     }
 }
 
@@ -276,13 +280,40 @@ impl Maker<'_> {
         };
         for _ in 0..number {
             let kind = self.random.below(2);
-            self.case.columns.push(kind);
-            let few: Vec<_> = (0..4).map(|_| value_bits(self.random, kind)).collect();
-            for _ in 0..self.case.n {
-                let present = u32::from(!self.random.once_in(5));
-                let bits = self.random.pick(&few);
-                self.case.values.push(present);
-                self.case.values.extend([bits as u32, (bits >> 32) as u32]);
+            self.column(kind);
+        }
+    }
+
+    fn column(&mut self, kind: u32) {
+        self.case.columns.push(kind);
+        let few: Vec<_> = (0..4).map(|_| value_bits(self.random, kind)).collect();
+        for _ in 0..self.case.n {
+            let present = u32::from(!self.random.once_in(5));
+            let bits = self.random.pick(&few);
+            self.case.values.push(present);
+            self.case.values.extend([bits as u32, (bits >> 32) as u32]);
+        }
+    }
+
+    /// More NaN values, of every sort, in half of the indexes with f64 columns; where NaN ends are
+    /// asked for there is such a column.
+    fn failed_readings(&mut self, readings: Readings) {
+        if readings == Readings::Ends && !self.case.columns.contains(&1) {
+            match self.case.columns.first_mut() {
+                Some(kind) => *kind = 1,
+                None => self.column(1),
+            }
+        }
+        if readings == Readings::Recorded || self.random.once_in(2) {
+            return;
+        }
+        let one_in = self.random.within(2, 5);
+        let column = 3 * self.case.n as usize;
+        for (at, value) in self.case.values.chunks_mut(3).enumerate() {
+            let kind = self.case.columns[3 * at / column];
+            if kind == 1 && self.random.once_in(one_in) {
+                let bits = nan_bits(self.random);
+                value[1..].copy_from_slice(&[bits as u32, (bits >> 32) as u32]);
             }
         }
     }

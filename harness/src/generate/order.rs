@@ -1,6 +1,7 @@
 //! The generated query: trees of every kind, occurrence, child count and depth.
 use super::index::Index;
-use super::{order_key, value_bits};
+use super::{Readings, nan_bits, value_bits};
+use crate::failed::{failed, ordered};
 use crate::query::*;
 use crate::random::Random;
 
@@ -23,7 +24,7 @@ pub fn query(random: &mut Random, index: &Index) -> Node {
         records: 60,
         turn: 0,
     };
-    match orders.random.below(32) {
+    let root = match orders.random.below(32) {
         0 => orders.chain(MOST_LEVELS, 1.0),
         1 => orders.wide(),
         2..=8 => orders.node(5, 1.0),
@@ -34,6 +35,10 @@ pub fn query(random: &mut Random, index: &Index) -> Node {
             let shown = (0..8).find_map(|_| orders.shown());
             shown.unwrap_or_else(|| orders.sums(6, 1.0))
         }
+    };
+    match index.readings {
+        Readings::Ends => orders.with_failed_end(root),
+        _ => root,
     }
 }
 
@@ -145,7 +150,7 @@ impl Orders<'_> {
         let case = &self.index.case;
         let column = self.random.below(case.columns.len() as u32);
         let mut ends = [(); 4].map(|()| self.end(column));
-        ends.sort_by_key(|bits| order_key(case.columns[column as usize], *bits));
+        ends.sort_by(|one, other| ordered(case.columns[column as usize], *one, *other));
         match self.random.below(3) {
             0 => range(column, 1, ends[1], 0),
             1 => range(column, 3, 0, ends[2]),
@@ -153,8 +158,23 @@ impl Orders<'_> {
         }
     }
 
-    /// An end of a range: often a value of the column, so that included and excluded differ.
+    /// An end of a range; whether it may be NaN is told by the readings that are asked for.
     pub fn end(&mut self, column: u32) -> u64 {
+        let kind = self.index.case.columns[column as usize];
+        loop {
+            let bits = self.any_end(column);
+            match self.index.readings {
+                Readings::Values if failed(kind, bits) => {}
+                Readings::Ends if kind == 1 && self.random.once_in(3) => {
+                    return nan_bits(self.random);
+                }
+                _ => return bits,
+            }
+        }
+    }
+
+    /// Often a value of the column, so that included and excluded differ.
+    fn any_end(&mut self, column: u32) -> u64 {
         let case = &self.index.case;
         if case.n == 0 || self.random.once_in(4) {
             return value_bits(self.random, case.columns[column as usize]);

@@ -3,6 +3,7 @@
 use super::BY_ORDER;
 use crate::case::Case;
 use crate::catalogue::Catalogue;
+use crate::failed::has_failed_end;
 use crate::query::*;
 
 const OCCURRENCES: [u32; 4] = [MUST, SHOULD, MUST_NOT, FILTER];
@@ -120,8 +121,19 @@ fn floats() -> Vec<u64> {
     [above, below].concat()
 }
 
-/// Each range between two of the values that its column holds.
+/// Each range between two of the values that its column holds, but for NaN ends.
 pub fn ranges() -> Vec<Case> {
+    let all = all_ranges().into_iter();
+    all.filter(|case| !has_failed_end(case)).collect()
+}
+
+/// Each of them that has a NaN end.
+pub fn ranges_with_failed_ends() -> Vec<Case> {
+    let all = all_ranges().into_iter();
+    all.filter(has_failed_end).collect()
+}
+
+fn all_ranges() -> Vec<Case> {
     let mut all = Vec::new();
     for (kind, values) in [(0, whole_numbers()), (1, floats())] {
         let mut catalogue = Catalogue::new(values.len() as u32 + 1);

@@ -1,7 +1,8 @@
 //! Booleans built so that one slip, in the order of adding, in a narrowing or in a cost, flips the
 //! last bit of a score.
 use super::order::Orders;
-use super::{BY_ORDER, Y, Z, order_key};
+use super::{BY_ORDER, Readings, Y, Z};
+use crate::failed::{Range, between, listed, present};
 use crate::query::*;
 
 const ONE: u32 = 0x3f80_0000;
@@ -13,7 +14,7 @@ impl Orders<'_> {
     pub fn shown(&mut self) -> Option<Node> {
         let (msm, mut clauses) = match self.random.below(14) {
             0..=5 => {
-                let sort = self.random.below(9);
+                let sort = self.random.below(self.sorts());
                 (0, (0..20).find_map(|_| self.pivoted(sort))?)
             }
             6 | 7 => self.tied()?,
@@ -37,6 +38,15 @@ impl Orders<'_> {
             1 => boolean(0, [root.must()]),
             _ => root,
         })
+    }
+
+    /// How many sorts of pivots there are.
+    fn sorts(&self) -> u32 {
+        match self.index.readings {
+            Readings::Recorded => 9,
+            Readings::Values => 10,
+            Readings::Ends => 11,
+        }
     }
 
     /// A dense leaf, or MatchAll, whose cost is at least `from` and below `to`.
@@ -154,7 +164,7 @@ impl Orders<'_> {
         weights
     }
 
-    /// A node of a sort from 1 to 8, with its cost and what a slip would take for it.
+    /// A node of a sort from 1 on, with its cost and what a slip would take for it.
     fn pivot(&mut self, sort: u32) -> (Node, u32, u32) {
         let [a, b, c] = [(); 3].map(|()| self.dense());
         let [of_a, of_b, of_c] = [&a, &b, &c].map(|node| self.node_cost(node));
@@ -175,6 +185,8 @@ impl Orders<'_> {
                 let group = boolean(0, [a.should(), nothing.should()]);
                 (group, of_a + of_b, of_a)
             }
+            9 => self.failed_pivot().unwrap_or((a, of_a, of_a)),
+            10 => self.failed_end_pivot().unwrap_or((a, of_a, of_a)),
             _ => {
                 let never = boolean(3, [b.should(), c.should()]);
                 let group = boolean(0, [a.should(), never.should()]);
@@ -200,17 +212,65 @@ impl Orders<'_> {
         if case.columns.is_empty() {
             return None;
         }
-        let column = self.random.below(case.columns.len() as u32) as usize;
-        let end = self.end(column as u32);
-        let kind = case.columns[column];
-        let n = case.n as usize;
-        let values = case.values[3 * n * column..][..3 * n].chunks(3);
-        let inside = values.filter(|v| {
-            let bits = u64::from(v[1]) | u64::from(v[2]) << 32;
-            v[0] == 1 && order_key(kind, bits) <= order_key(kind, end)
-        });
-        let right = inside.count() as u32;
-        Some((range(column as u32, 3, 0, end), right, case.n))
+        let column = self.random.below(case.columns.len() as u32);
+        let node = range(column, 3, 0, self.end(column));
+        let right = match self.index.readings {
+            Readings::Recorded => self.counted(node.values),
+            _ => self.listed(node.values),
+        };
+        Some((node, right, case.n))
+    }
+
+    /// How many documents a range lists.
+    fn listed(&self, range: Range) -> u32 {
+        listed(&self.index.case, range).len() as u32
+    }
+
+    /// How many documents lie between a range's ends where NaN is ordered too.
+    fn counted(&self, range: Range) -> u32 {
+        let case = &self.index.case;
+        let kind = case.columns[range[0] as usize];
+        let values = present(case, range[0]);
+        let inside = values.filter(|(_, value)| between(kind, range, *value));
+        inside.count() as u32
+    }
+
+    pub fn column_of_f64(&mut self) -> Option<u32> {
+        let columns = (0..).zip(&self.index.case.columns);
+        let of_f64: Vec<u32> = columns
+            .filter(|(_, kind)| **kind == 1)
+            .map(|(column, _)| column)
+            .collect();
+        (!of_f64.is_empty()).then(|| self.random.pick(&of_f64))
+    }
+
+    /// Failed readings don't count in a range's cost; a slip counts those between its ends.
+    fn failed_pivot(&mut self) -> Option<(Node, u32, u32)> {
+        let column = self.column_of_f64()?;
+        let end = self.end(column);
+        let node = match self.random.below(3) {
+            0 => range(column, 0, 0, 0),
+            1 => range(column, 1, end, 0),
+            _ => range(column, 3, 0, end),
+        };
+        let [right, wrong] = [self.listed(node.values), self.counted(node.values)];
+        (right != wrong).then_some((node, right, wrong))
+    }
+
+    /// A range with a NaN end has a scorer and costs nothing; a slip counts what lies between its
+    /// ends, or takes it for MatchNone.
+    fn failed_end_pivot(&mut self) -> Option<(Node, u32, u32)> {
+        let node = self.failed_range()?;
+        let [a, b] = [(); 2].map(|()| self.dense());
+        let [of_a, of_b] = [&a, &b].map(|node| self.node_cost(node));
+        if self.random.once_in(2) {
+            let wrong = of_a + self.counted(node.values);
+            let group = boolean(0, [a.should(), node.should()]);
+            return (wrong != of_a).then_some((group, of_a, wrong));
+        }
+        let both = boolean(2, [node.should(), b.should()]);
+        let group = boolean(0, [a.should(), both.should()]);
+        Some((group, of_a + of_b, of_a))
     }
 
     /// How many of a leaf's documents are live.

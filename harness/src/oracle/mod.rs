@@ -1,11 +1,13 @@
 //! The oracle: what the unchanged Rust source answers for a valid case. Whether a case is valid
-//! is the business of `refusal`; the Rust answers no refusals.
+//! is the business of `refusal`; the Rust answers no refusals. It is given NaN values as absent and
+//! no NaN ends (`failed::crossed` takes them out of an order).
 #[allow(clippy::all)]
 pub mod private;
 mod tree;
 
 use crate::answer::{Hit, NO_MORE_DOCS, Paged, Searched};
 use crate::case::Case;
+use crate::failed::ends;
 use crate::index::SegmentReader;
 use crate::index::segment::{numeric_index, sort_value};
 use crate::query::{Node, PHRASE_TERM};
@@ -117,14 +119,14 @@ pub fn pick(documents: &[u32], scores: &[u32], k: u32, t: u32) -> Searched {
     collect(&list, k, t)
 }
 
-/// Range: the documents of a column that lie in a range, given as the six values of its record.
-/// Of the case only N, columns and values are looked at.
+/// Range: the documents of a column that lie in a range, given as the six values of its record; no
+/// given end is NaN. Of the case only N, columns and values are looked at.
 pub fn range(case: &Case, values: [u32; 6]) -> Vec<u32> {
-    let [column, kinds, a, b, c, d] = values;
-    let kind = case.columns[column as usize];
-    let end = |kinds, low, high| tree::bound(kinds, sort_value(kind, tree::joined(low, high)));
-    let index = numeric_index(case, column as usize);
-    index.range(&end(kinds % 3, a, b), &end(kinds / 3, c, d))
+    let column = values[0] as usize;
+    let kind = case.columns[column];
+    let [lower, upper] =
+        ends(values).map(|(end, bits)| tree::bound(end, || sort_value(kind, bits)));
+    numeric_index(case, column).range(&lower, &upper)
 }
 
 /// Length: what a norm byte decodes to.

@@ -5,6 +5,7 @@ use crate::codec::postings_reader::{Posting, PostingsEnum};
 use crate::codec::store::Out;
 use crate::document::{DocValuesType, Document, IndexOptions};
 use crate::error::Result;
+use crate::failed::{failed, joined};
 use crate::index::doc_values::{NumericIndex, SortValue};
 use crate::index::{CollectionStats, FieldInfo, FieldInfos, LiveDocs, Term, TermStats};
 use std::ops::Bound;
@@ -47,21 +48,23 @@ pub fn column_name(column: u32) -> String {
     format!("c{column}")
 }
 
-/// A value or range end of a column from its bits.
+/// A value or range end of a column from its bits. The source orders NaN as it orders numbers, so it
+/// is given none.
 pub fn sort_value(column_kind: u32, bits: u64) -> SortValue {
+    assert!(!failed(column_kind, bits), "a NaN for the Rust");
     match column_kind {
         0 => SortValue::I64(bits as i64),
         _ => SortValue::F64(f64::from_bits(bits)),
     }
 }
 
-/// A column as the source holds it.
+/// A column as the source holds it; a reading that failed is absent there (request 2026-03).
 pub fn numeric_index(case: &Case, column: usize) -> NumericIndex {
-    let n = case.n as usize;
+    let (n, kind) = (case.n as usize, case.columns[column]);
     let records = &case.values[3 * n * column..3 * n * (column + 1)];
     let value = |v: &[u32]| {
-        let bits = u64::from(v[1]) | u64::from(v[2]) << 32;
-        (v[0] == 1).then(|| sort_value(case.columns[column], bits))
+        let bits = joined(v[1], v[2]);
+        (v[0] == 1 && !failed(kind, bits)).then(|| sort_value(kind, bits))
     };
     let values: Vec<_> = records.chunks(3).map(value).collect();
     NumericIndex::new(&values)

@@ -1,5 +1,6 @@
 //! From query records to the source's own `Query`, and to the ends of its ranges.
 use crate::case::Case;
+use crate::failed::ends;
 use crate::index::segment::{column_name, leaf_term};
 use crate::query as records;
 use crate::query::Node;
@@ -7,18 +8,20 @@ use crate::search::query::{BooleanQuery, Occur, PhraseQuery, Query};
 use std::ops::Bound;
 
 /// An end of a range: 0 is unbounded, 1 included, 2 excluded.
-pub fn bound<T>(kind: u32, value: T) -> Bound<T> {
+pub fn bound<T>(kind: u32, value: impl FnOnce() -> T) -> Bound<T> {
     match kind {
         0 => Bound::Unbounded,
-        1 => Bound::Included(value),
-        2 => Bound::Excluded(value),
+        1 => Bound::Included(value()),
+        2 => Bound::Excluded(value()),
         _ => panic!("range kind {kind}"),
     }
 }
 
-/// The two halves of a 64-bit value.
-pub fn joined(low: u32, high: u32) -> u64 {
-    u64::from(low) | u64::from(high) << 32
+/// An end of a range of f64 values.
+fn number(bits: u64) -> f64 {
+    let end = f64::from_bits(bits);
+    assert!(!end.is_nan(), "a NaN end for the Rust");
+    end
 }
 
 pub fn query(case: &Case, node: &Node) -> Query {
@@ -63,19 +66,18 @@ fn boolean(case: &Case, node: &Node) -> Query {
 }
 
 fn range(case: &Case, node: &Node) -> Query {
-    let [column, kinds, a, b, c, d] = node.values;
-    let (lower, upper) = (joined(a, b), joined(c, d));
-    let field = column_name(column);
-    match case.columns[column as usize] {
+    let [(lower, low), (upper, high)] = ends(node.values);
+    let field = column_name(node.values[0]);
+    match case.columns[node.values[0] as usize] {
         0 => Query::I64Range {
             field,
-            lower: bound(kinds % 3, lower as i64),
-            upper: bound(kinds / 3, upper as i64),
+            lower: bound(lower, || low as i64),
+            upper: bound(upper, || high as i64),
         },
         _ => Query::F64Range {
             field,
-            lower: bound(kinds % 3, f64::from_bits(lower)),
-            upper: bound(kinds / 3, f64::from_bits(upper)),
+            lower: bound(lower, || number(low)),
+            upper: bound(upper, || number(high)),
         },
     }
 }

@@ -1,5 +1,7 @@
-//! The lists are the unchanged Rust's: its doc_values.rs, asked for a column's ranges.
+//! The lists are the unchanged Rust's: its doc_values.rs, asked for a column's ranges. With a NaN end
+//! they are the judge's of request 2026-03.
 use crate::case::Case;
+use crate::failed::{failed_end, listed};
 use crate::oracle;
 
 /// Values as document 01 lends them: present or not, the low half and the high half.
@@ -70,7 +72,11 @@ fn list(case: &Case, column: u32, kinds: u32, lower: [u32; 3], upper: [u32; 3]) 
     };
     let [a, b] = end(kinds % 3, lower);
     let [c, d] = end(kinds / 3, upper);
-    let documents = oracle::range(case, [column, kinds, a, b, c, d]);
+    let range = [column, kinds, a, b, c, d];
+    let documents = match failed_end(case.columns[column as usize], range) {
+        true => listed(case, range),
+        false => oracle::range(case, range),
+    };
     let text: String = documents.iter().map(|d| format!("{d} ")).collect();
     text + "\n"
 }

@@ -32,7 +32,7 @@ fn cases() -> Vec<Case> {
     let mut cases: Vec<_> = boundary::all().into_iter().map(|(_, case)| case).collect();
     let mut random = Random::new(3);
     let small = (0..)
-        .map(generate::case)
+        .flat_map(|seed| generate::recorded(seed, 1))
         .filter(|case| words(case) <= LARGEST);
     for sound in small.take(GENERATED) {
         cases.extend((0..DAMAGED).map(|_| damaged(&mut random, &sound)));

@@ -1,10 +1,12 @@
 //! What Search and Page answer is the unchanged Rust's, for small trees in which one slip shows and for a
-//! sample of generated cases. Both the cases' files and the answers are made here.
+//! sample of generated cases; where a range has a NaN end, with its ends crossed. Both the cases' files
+//! and the answers are made here.
 use super::collector::line;
 use super::{place, trees};
 use crate::answer::{NO_MORE_DOCS, Paged};
 use crate::case::Case;
 use crate::catalogue::Catalogue;
+use crate::failed::crossed;
 use crate::generate;
 use crate::oracle::Oracle;
 use crate::query::match_all;
@@ -41,7 +43,7 @@ fn index_words(case: &Case) -> usize {
 fn generated() -> Vec<Case> {
     let small = |case: &Case| case.query.len() <= QUERY_WORDS;
     let indexes = (0..)
-        .map(|seed| generate::cases(seed, 3 * QUERIES))
+        .map(|seed| generate::recorded(seed, 3 * QUERIES))
         .filter(|cases| index_words(&cases[0]) <= INDEX_WORDS);
     indexes
         .take(INDEXES)
@@ -60,7 +62,7 @@ fn whole(case: Case) -> Asked {
 
 /// Three pages at most from a target on, each a place longer than the one before.
 fn pages(case: Case, first: u32, length: usize) -> Vec<Asked> {
-    let oracle = Oracle::new(&case);
+    let oracle = Oracle::new(&crossed(&case));
     let mut pages = Vec::new();
     let mut target = first;
     for length in length..length + 3 {
@@ -118,7 +120,7 @@ fn refused(number: u32) -> String {
 
 /// Search's line, and Page's.
 fn answers(asked: &Asked) -> String {
-    let oracle = Oracle::new(&asked.case);
+    let oracle = Oracle::new(&crossed(&asked.case));
     let searched = match refusal(&asked.case) {
         0 => line(&oracle.search()),
         number => {

@@ -10,6 +10,8 @@ use harness::answer::Hit;
 use harness::case::Case;
 use harness::catalogue::Catalogue;
 #[cfg(oracle)]
+use harness::failed::crossed;
+#[cfg(oracle)]
 use harness::oracle::Oracle;
 use harness::query::*;
 use harness::random::Random;
@@ -48,6 +50,19 @@ macro_rules! with_library {
         }
         #[cfg(not(all(oracle, linked)))]
         panic!("the library or the Rust source is absent");
+    };
+}
+
+/// The body of a test that needs the library alone, ignored where that is absent.
+macro_rules! with_linked {
+    ($library:ident, $body:block) => {
+        #[cfg(linked)]
+        {
+            let $library = &harness::border::Library;
+            $body
+        }
+        #[cfg(not(linked))]
+        panic!("the library is absent");
     };
 }
 
@@ -109,11 +124,11 @@ pub fn folder(name: &str) -> PathBuf {
     folder
 }
 
-/// The oracle for a case that none of the refusals hits.
+/// The oracle for a case that none of the refusals hits; a range with a NaN end is asked crossed.
 #[cfg(oracle)]
 pub fn ask(case: &Case) -> Oracle {
     assert_eq!(refusal(case), 0, "{case:?}");
-    Oracle::new(case)
+    Oracle::new(&crossed(case))
 }
 
 /// The full list as pairs.

@@ -1,6 +1,7 @@
 //! Takes, score and cost of a tree as document 01 words them; and the slips that a port could make
 //! there. The Rust is asked only for the lengths of norm bytes.
 use super::leaves::{Scores, leaf_scores, runs};
+use super::plain::between;
 use harness::case::Case;
 use harness::query::*;
 
@@ -35,6 +36,8 @@ pub enum Slip {
     ShouldsCount,
     /// a range costs its column's documents
     RangeOfAll,
+    /// NaN values between a range's ends count in its cost
+    FailedCounted,
     /// a phrase costs the sum of its leaves' postings
     PhraseOfSum,
     /// dead documents cost nothing
@@ -56,7 +59,7 @@ pub enum Slip {
 }
 
 /// Each slip, and how many in a thousand generated cases have to show it.
-pub const SLIPS: [(Slip, u64); 23] = [
+pub const SLIPS: [(Slip, u64); 24] = [
     (Slip::ClauseOrder, 80),
     (Slip::Single, 150),
     (Slip::OneAtLeast, 200),
@@ -71,6 +74,7 @@ pub const SLIPS: [(Slip, u64); 23] = [
     (Slip::FiltersFree, 2),
     (Slip::ShouldsCount, 2),
     (Slip::RangeOfAll, 2),
+    (Slip::FailedCounted, 2),
     (Slip::PhraseOfSum, 2),
     (Slip::LiveOnly, 2),
     (Slip::NothingFree, 2),
@@ -160,6 +164,10 @@ impl<'a> Tree<'a> {
             TERM | PHRASE if runs.iter().any(Vec::is_empty) => None,
             PHRASE if slip == Slip::PhraseOfSum => Some(sizes.sum()),
             RANGE if slip == Slip::RangeOfAll => Some(self.live.len() as u64),
+            RANGE if slip == Slip::FailedCounted => {
+                let counted = |d: &u32| between(self.case, self.node.values, *d);
+                Some((0..self.case.n).filter(counted).count() as u64)
+            }
             _ => sizes.min(),
         }
     }

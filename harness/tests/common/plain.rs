@@ -37,8 +37,23 @@ pub fn value(case: &Case, column: u32, document: u32) -> Option<u64> {
     (v[0] == 1).then(|| u64::from(v[1]) | u64::from(v[2]) << 32)
 }
 
-/// Whether a range, given by the values of its record, holds a document.
+/// Whether a range, given by the values of its record, holds a document: neither its value nor a
+/// given end is NaN.
 pub fn in_range(case: &Case, range: [u32; 6], document: u32) -> bool {
+    let [column, kinds, a, b, c, d] = range;
+    let float = case.columns[column as usize] == 1;
+    let no_number = |low: u32, high: u32| {
+        let [exponent, digits] = [high >> 20 & 0x7ff, high << 12 | low];
+        float && exponent == 0x7ff && digits != 0
+    };
+    let failed = value(case, column, document)
+        .is_some_and(|bits| no_number(bits as u32, (bits >> 32) as u32));
+    let by_end = kinds % 3 > 0 && no_number(a, b) || kinds / 3 > 0 && no_number(c, d);
+    !failed && !by_end && between(case, range, document)
+}
+
+/// Whether a document's value lies between the ends of a range, NaN in its place in the order.
+pub fn between(case: &Case, range: [u32; 6], document: u32) -> bool {
     let [column, kinds, a, b, c, d] = range;
     let Some(bits) = value(case, column, document) else {
         return false;

@@ -15,18 +15,20 @@ const NAMES: [&str; 4] = ["search", "page", "pick", "write"];
 /// The entry whose calls are held to the judge alone.
 const WRITE: usize = 3;
 
-/// How often each number was given by each entry, and how often an accepted call of each was held
-/// to the Rust.
+/// How often each number was given by each entry, how often an accepted call of each was held to the
+/// Rust, and how often one with a NaN end to the same order crossed.
 #[derive(Default)]
 struct Counts {
     given: [[u64; 17]; 4],
     by_rust: [u64; 4],
+    crossed: u64,
 }
 
 impl Counts {
     fn count(&mut self, made: &Made) {
         self.given[made.entry][made.number as usize] += 1;
         self.by_rust[made.entry] += u64::from(made.by_rust);
+        self.crossed += u64::from(made.crossed);
     }
 
     fn add(&mut self, other: &Counts) {
@@ -35,6 +37,7 @@ impl Counts {
         counts.zip(given).for_each(|(all, own)| *all += own);
         let counts = self.by_rust.iter_mut().zip(other.by_rust);
         counts.for_each(|(all, own)| *all += own);
+        self.crossed += other.crossed;
     }
 }
 
@@ -110,12 +113,13 @@ fn report(counts: &Counts, seconds: u64) {
         all.iter_mut().zip(row).for_each(|(all, own)| *all += own);
     }
     let [calls, accepted, by_rust, others] = all;
-    let by_judge = counts.given[WRITE][0];
-    let by_laws = others - by_judge;
+    let (by_judge, crossed) = (counts.given[WRITE][0], counts.crossed);
+    let by_laws = others - by_judge - crossed;
     println!("{calls} calls, {accepted} accepted and held to the laws or the judge");
     println!(
-        "{by_rust} of these held against the Rust, {by_judge} indexes written as the judge's, \
-         {by_laws} by laws alone"
+        "{by_rust} of these held against the Rust, {crossed} with a NaN end to the same order with \
+         the ends crossed, {by_judge} indexes written as the judge's, {by_laws} by laws alone"
     );
+    assert!(seconds < 10 || crossed > 0, "no call with a NaN end");
     assert!(accepted > 0, "nothing was called");
 }
