@@ -4,7 +4,7 @@ ghost use Rattle.meaning.specs.Limits.{maxHits};
 ghost use Rattle.meaning.specs.Lent.{Index};
 ghost use Rattle.ieee754.specs.Nonneg.{AtMost};
 ghost use Rattle.weight.specs.ScorerTree.{everything, Scoring, leafScore};
-ghost use Rattle.scorer.specs.Contracts.{Lent};
+ghost use Rattle.scorer.specs.Calls.{Lent};
 ghost use Rattle.bulk_default.specs.Collects.{CollectPre, CollectPost};
 ghost use Rattle.bulk_term.specs.Postings.{NodeScores};
 

@@ -1,7 +1,7 @@
 // Bulk scorers: every live match of a scorer tree to the collector, by the loop that suits the root.
 ghost use Rattle.std.specs.Prelude.{◌≤◌, ◌<◌, min, length};
 ghost use Rattle.meaning.specs.Limits.{maxHits};
-ghost use Rattle.scorer.specs.Contracts.{lent};
+ghost use Rattle.scorer.specs.Calls.{lent};
 ghost use Rattle.bulk_default.specs.Collects.{CollectPre, CollectPost};
 
 use collector::TopDocs;

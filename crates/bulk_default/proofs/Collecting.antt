@@ -25,7 +25,7 @@ use Rattle.collector.specs.Collected.{Collected, Ready, Extended, Drawn, answer}
 use Rattle.collector.proofs.Beginning.{ready_at}
 use Rattle.weight.specs.ScorerTree.{Scorer, matches}
 use Rattle.weight.specs.Held.{Ok}
-use Rattle.scorer.specs.Contracts.{Lent, lent, NodeHeld}
+use Rattle.scorer.specs.Calls.{Lent, lent, NodeHeld}
 use Rattle.leaf_scorer.proofs.Bounds.{ok-mono}
 use Rattle.leaf_score.specs.Asked.{LentAt, ScoreIs, ScorePre, ScorePost}
 use Rattle.walk.specs.Walks.{liveMatch, scored, liveScored, NextPre, NextPost, PageHeld}

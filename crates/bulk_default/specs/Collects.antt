@@ -8,7 +8,7 @@ use Rattle.collector.specs.declared.TopDocs.{TopDocs}
 use Rattle.collector.specs.Collected.{answer}
 use Rattle.weight.specs.ScorerTree.{Scorer}
 use Rattle.weight.specs.Held.{Ok}
-use Rattle.scorer.specs.Contracts.{Lent}
+use Rattle.scorer.specs.Calls.{Lent}
 use Rattle.walk.specs.Walks.{PageHeld, liveScored}
 
 -- some index and tree that the words hold, not asked yet

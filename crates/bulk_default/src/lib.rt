@@ -1,7 +1,7 @@
 // The live documents that a scorer tree matches, one after the other, to the collector.
 ghost use Rattle.std.specs.Prelude.{◌≡◌, ℕ, ◌≤◌, ◌<◌, min, length};
 ghost use Rattle.meaning.specs.Limits.{maxHits};
-ghost use Rattle.scorer.specs.Contracts.{lent};
+ghost use Rattle.scorer.specs.Calls.{lent};
 ghost use Rattle.bulk_default.specs.Collects.{CollectPre, CollectPost, CollectEnd};
 
 use collector::{TopDocs, TopScoreDocCollector};

@@ -30,7 +30,7 @@ use Rattle.collector.specs.Collected.{Collected, Ready, Extended, Drawn, answer}
 use Rattle.weight.specs.ScorerTree.{Joining, Scorer, leaf, boolean, Scorers, end, more, leafMatches, matches, allMatch, anyMatches, scorerScore, requiredScores, optionalScores, joinedScore}
 use Rattle.weight.specs.Held.{LeafIs}
 use Rattle.weight.specs.Sound.{nodesOf}
-use Rattle.scorer.specs.Contracts.{Lent}
+use Rattle.scorer.specs.Calls.{Lent}
 use Rattle.meaning.proofs.Tests.{cmp}
 use Rattle.leaf_score.specs.declared.Node.{Node}
 use Rattle.leaf_score.specs.Words.{NodeIs}

@@ -14,7 +14,7 @@ use Rattle.weight.specs.ScorerTree.{Leaf, nothing, term, phrase, range, everythi
 use Rattle.weight.specs.State.{State, words_of, sizesOf}
 use Rattle.weight.specs.Held.{LeafIs, ScoringIs, KeptIs, Ok, Oks}
 use Rattle.weight.specs.Sound.{Lends, LeafSound, Sound, Sounds, LeafTable, Tables, TablesOf, nodes, nodesOf}
-use Rattle.scorer.specs.Contracts.{Lent, PartsHeld}
+use Rattle.scorer.specs.Calls.{Lent, PartsHeld}
 use Rattle.leaf_scorer.proofs.Bounds.{oks-length, ok-long}
 use Rattle.scorer.proofs.Leads.{rest_part, rest_back, parts-later}
 use Rattle.leaf_score.specs.Asked.{Scorable}

@@ -13,7 +13,7 @@ use Rattle.meaning.specs.Lent.{Index}
 use Rattle.meaning.specs.First.{First}
 use Rattle.weight.specs.ScorerTree.{nothing, term, phrase, range, everything, Scorer, leaf, boolean, Scorers, end, more, matches, anyMatches}
 use Rattle.weight.specs.Held.{LeafIs, Ok, Oks}
-use Rattle.scorer.specs.Contracts.{Lent, NodeHeld, AdvancePost, PartsHeld}
+use Rattle.scorer.specs.Calls.{Lent, NodeHeld, AdvancePost, PartsHeld}
 use Rattle.leaf_scorer.proofs.Bounds.{ok-long}
 use Rattle.scorer.proofs.Children.{Zip, View, zip_start, zip_end, zip-none, view, zip-took, held, part, of-advance}
 use Rattle.bulk_led.specs.Terms.{IsTerm, TermsOnly}

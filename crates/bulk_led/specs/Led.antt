@@ -12,7 +12,7 @@ use Rattle.weight.specs.ScorerTree.{Leaf, Scoring, Scorer, leaf, Joining, Scorer
 use Rattle.weight.specs.State.{State, words_of}
 use Rattle.weight.specs.Held.{LeafIs, ScoringIs, Oks}
 use Rattle.weight.specs.Sound.{LeafSound, LeafTable, nodesOf}
-use Rattle.scorer.specs.Contracts.{Lent, PartsHeld}
+use Rattle.scorer.specs.Calls.{Lent, PartsHeld}
 use Rattle.leaf_score.specs.declared.Node.{Node}
 use Rattle.leaf_score.specs.Words.{NodeIs}
 use Rattle.score.specs.Asked.{Scorables}

@@ -7,7 +7,7 @@ use Rattle.ieee754.specs.Nonneg.{AtMost}
 use Rattle.weight.specs.ScorerTree.{term, Scoring, Scorer, leaf, Scorers, end, more, allMatch, scoring, withGroup, requiredScores}
 use Rattle.weight.specs.Held.{Oks}
 use Rattle.weight.specs.Sound.{nodesOf}
-use Rattle.scorer.specs.Contracts.{Lent, PartsHeld}
+use Rattle.scorer.specs.Calls.{Lent, PartsHeld}
 use Rattle.score.specs.Asked.{Scorables, SumIs, RequiredPre}
 use Rattle.leaf_score.specs.Asked.{LentAt}
 

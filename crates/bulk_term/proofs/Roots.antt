@@ -11,7 +11,7 @@ use Rattle.collector.specs.declared.TopScoreDocCollector.{TopScoreDocCollector}
 use Rattle.weight.specs.ScorerTree.{Scoring, constant, weighted, Scorer, leaf, boolean}
 use Rattle.weight.specs.State.{State}
 use Rattle.weight.specs.Held.{ScoringIs, FloatIs, Ok}
-use Rattle.scorer.specs.Contracts.{Lent}
+use Rattle.scorer.specs.Calls.{Lent}
 use Rattle.leaf_score.specs.declared.Node.{Node}
 use Rattle.walk.specs.Walks.{PageHeld}
 use Rattle.leaf_score.proofs.Leaves.{words_long}

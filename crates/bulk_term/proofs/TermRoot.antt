@@ -25,7 +25,7 @@ use Rattle.index.proofs.PostingAt.{posting-at, posting-none}
 use Rattle.weight.specs.ScorerTree.{Leaf, nothing, term, phrase, range, everything, Scoring, constant, weighted, Scorer, leaf, boolean, matches, leafMatches, leafScore, scorerScore}
 use Rattle.weight.specs.Held.{normsWord, LeafIs, Ok}
 use Rattle.weight.specs.Sound.{LeafSound, Sound, LeafTable, Tables}
-use Rattle.scorer.specs.Contracts.{Lent}
+use Rattle.scorer.specs.Calls.{Lent}
 use Rattle.meaning.proofs.Tests.{cmp}
 use Rattle.leaf_score.specs.declared.Node.{Node}
 use Rattle.leaf_score.specs.Words.{NodeIs}

@@ -1,7 +1,7 @@
 // A term at the root: the postings of its run, one after the other.
 ghost use Rattle.std.specs.Prelude.{◌≡◌, ℕ, ◌≤◌, ◌<◌, length, get_or};
 ghost use Rattle.meaning.specs.Limits.{maxHits};
-ghost use Rattle.scorer.specs.Contracts.{Lent};
+ghost use Rattle.scorer.specs.Calls.{Lent};
 ghost use Rattle.bulk_default.specs.Collects.{CollectPre, CollectPost};
 
 use collector::{TopDocs, TopScoreDocCollector};

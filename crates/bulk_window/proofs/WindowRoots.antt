@@ -18,7 +18,7 @@ use Rattle.weight.specs.ScorerTree.{Leaf, nothing, term, phrase, range, everythi
 use Rattle.weight.specs.State.{State, words_of, sizesOf}
 use Rattle.weight.specs.Held.{LeafIs, KeptIs, Ok, Oks}
 use Rattle.weight.specs.Sound.{LeafSound, Sound, Sounds, LeafTable, Tables, TablesOf, nodes, nodesOf}
-use Rattle.scorer.specs.Contracts.{Lent}
+use Rattle.scorer.specs.Calls.{Lent}
 use Rattle.leaf_scorer.proofs.Bounds.{ok-length, ok-long, oks-length}
 use Rattle.scorer.proofs.Nodes.{leaf-kind}
 use Rattle.walk.specs.Walks.{PageHeld}

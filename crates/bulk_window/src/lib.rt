@@ -6,7 +6,7 @@ ghost use Rattle.meaning.specs.Hits.{hits};
 ghost use Rattle.meaning.specs.Entries.{written};
 ghost use Rattle.collector.specs.Collected.{answer};
 ghost use Rattle.weight.specs.ScorerTree.{Scorer, Scorers};
-ghost use Rattle.scorer.specs.Contracts.{Lent};
+ghost use Rattle.scorer.specs.Calls.{Lent};
 ghost use Rattle.walk.specs.Walks.{liveScored};
 ghost use Rattle.bulk_default.specs.Collects.{CollectPre, CollectPost};
 ghost use Rattle.bulk_window.specs.Windows.{FreshTerms, SuitsWindows, Room, Empty, AddPre, AddPost, TermsPre, TermsPost, PlacePre, PlacePost, WindowPre, WindowPost, ByTerms};

@@ -1,4 +1,6 @@
 // The values of a numeric column as numbers in their order, and the keys that a range lets in.
+#![tactic(auto)]
+
 ghost use Rattle.std.specs.Prelude.{ℕ, ◌+◌, ◌/◌, ◌%◌, ◌^◌, ◌≤◌, ◌<◌, max, min, ◌≡◌, ◌&&◌, length};
 ghost use Rattle.meaning.specs.Lent.{joined};
 ghost use Rattle.meaning.specs.Range.{failed, endGood};

@@ -1,4 +1,6 @@
 // The IEEE 754 operations that the machine does not have, worked out from bits.
+#![tactic(auto)]
+
 ghost use Rattle.std.specs.Prelude.{◌≡◌, not, ◌*◌, ◌<◌, ◌≤◌, ◌^◌, T, pos};
 ghost use Rattle.std.specs.Float.Ieee.Nearest.{closest};
 ghost use Rattle.std.specs.Float.{binary32, binary64};

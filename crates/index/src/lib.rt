@@ -1,4 +1,6 @@
 // The lent records of an index: readers equal to the definitions' accessors, and the loader's refusals 1 to 4 and 6.
+#![tactic(auto)]
+
 pub mod columns;
 pub mod fields;
 pub mod leaves;

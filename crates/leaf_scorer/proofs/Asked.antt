@@ -10,7 +10,7 @@ use Rattle.meaning.specs.Limits.{noMoreDocs}
 use Rattle.meaning.specs.Lent.{Index}
 use Rattle.meaning.specs.Phrase.{PhraseTerm, phraseFrequency}
 use Rattle.leaf_scorer.specs.Phrases.{TermsPassed, Leapt}
-use Rattle.leaf_scorer.specs.Contracts.{Passes}
+use Rattle.leaf_scorer.specs.Calls.{Passes}
 use Rattle.leaf_scorer.proofs.PhraseLaws.{lacking, phrase-hit, phrase-more}
 
 module _ {ix : Index} {ts : List PhraseTerm} {target d : ℕ} {hit : Bool} {terms : List ℕ} (q : TermsPassed ix ts target d hit terms) where

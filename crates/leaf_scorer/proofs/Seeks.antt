@@ -15,7 +15,7 @@ use Rattle.weight.specs.Held.{LeafIs}
 use Rattle.weight.specs.Sound.{LeafSound}
 use Rattle.leaf_scorer.specs.Search.{cursorAt, SearchPre, SearchPost, AnyDocument}
 use Rattle.leaf_scorer.specs.Phrases.{PhraseHeld, PhrasePost}
-use Rattle.leaf_scorer.specs.Contracts.{Lent, LeafHeld, LeafMoved, LeafPost}
+use Rattle.leaf_scorer.specs.Calls.{Lent, LeafHeld, LeafMoved, LeafPost}
 use Rattle.leaf_scorer.proofs.Loops.{first-like}
 use Rattle.leaf_scorer.proofs.Bounds.{leaf-mono}
 use Rattle.leaf_scorer.proofs.LeafLaws.{term-run, term_moved, term-first, range-run, range_moved, range-first, any-first}

@@ -1,4 +1,4 @@
 -- What the contracts of this crate name: a leaf's cursor in its run, the terms of a phrase, and what is lent with the words of a tree.
 pub mod Search
 pub mod Phrases
-pub mod Contracts
+pub mod Calls

@@ -10,7 +10,7 @@ use Rattle.weight.specs.ScorerTree.{phrase}
 use Rattle.weight.specs.State.{State, words_of}
 use Rattle.weight.specs.Held.{TermIs, TermsAre, PhraseIs}
 use Rattle.weight.specs.Sound.{LeafSound}
-use Rattle.leaf_scorer.specs.Contracts.{Passes}
+use Rattle.leaf_scorer.specs.Calls.{Passes}
 
 -- every term has a posting of the document
 unfoldable pub allFound : Index → List PhraseTerm → ℕ → Bool

@@ -3,7 +3,7 @@ ghost use Rattle.std.specs.Prelude.{◌≡◌, ℕ, ◌+◌, ◌*◌, ◌≤◌,
 ghost use Rattle.meaning.specs.Limits.{nodeStateWords};
 ghost use Rattle.leaf_scorer.specs.Search.{CursorRead, SearchPre, SearchPost, AnyDocument};
 ghost use Rattle.leaf_scorer.specs.Phrases.{TermsPre, PassTermsPost, LeapfrogPost, PlaceAt, PlaceRead, GatherPre, GatherPost, FrequencyPre, FrequencyPost, PhrasePre, PhrasePost, PhraseAtPost};
-ghost use Rattle.leaf_scorer.specs.Contracts.{lent, LeafPre, LeafPost};
+ghost use Rattle.leaf_scorer.specs.Calls.{lent, LeafPre, LeafPost};
 
 use index::wide;
 use run::{document, lower};

@@ -50,7 +50,7 @@ multiplicity-append s (x ∷ xs) ys = let e = multiplicity-append s xs ys in ome
 -- an entry of a list is among its different entries: of the first one, and of the rest
 distinct_head : (s x : ℤ) (xs ys : List ℤ) (b : Bool) → (T b → 0 < multiplicity x xs) → s ≡ x → (0 < multiplicity s xs → 0 < multiplicity s ys) → 0 < multiplicity s (cond b [] (x ∷ []) ++ ys)
 unfolding multiplicity
-distinct_head s x xs ys false e q more = rw q (above (eqℤ x x) (multiplicity x ys) (eqℤ-refl x))
+distinct_head s x xs ys false e q more = subst (λ (z : ℤ). 0 < cond (eqℤ z x) 1 0 + multiplicity z ys) (sym q) (above (eqℤ x x) (multiplicity x ys) (eqℤ-refl x))
   where
     above : (b : Bool) (c : ℕ) → T b → 0 < cond b 1 0 + c
     above true c h = omega arith

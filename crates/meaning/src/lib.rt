@@ -1,1 +1,2 @@
 // Document 01 as definitions, in specs/; this crate has no code.
+#![tactic(auto)]

@@ -20,7 +20,7 @@ use Rattle.node_words.specs.Placed.{Placed}
 use Rattle.leaf_scorer.proofs.Bounds.{ok-mono, ok-length, ok-long, ok-front, front-size}
 use Rattle.inverses.specs.Inverses.{fieldAt, hasField}
 use Rattle.inverses.proofs.QueryTables.{query-tables}
-use Rattle.scorer.specs.Contracts.{lent}
+use Rattle.scorer.specs.Calls.{lent}
 use Rattle.walk.specs.Walks.{PageHeld}
 use Rattle.node_state.specs.Standing.{Standing, tree_of}
 use Rattle.node_page.specs.Pages.{ListAsked}

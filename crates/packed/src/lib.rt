@@ -1,1 +1,2 @@
 // Runs of postings packed into words, and read back: theorems about the definitions, see proofs/.
+#![tactic(auto)]

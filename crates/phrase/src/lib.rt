@@ -1,5 +1,7 @@
 // A phrase's frequency in a document: the common part of its terms' starts (position − offset), equal starts counting
 // with the smallest multiplicity. A term is a record of three words: index of its first position, frequency, offset.
+#![tactic(auto)]
+
 ghost use Rattle.std.specs.Prelude.{◌≡◌, ◌≤◌, ◌<◌, ◌+◌, ◌%◌, length, take};
 ghost use Rattle.meaning.specs.Phrase.{commonSize};
 ghost use Rattle.phrase_starts.specs.Terms.{startLists, Good, Room, Rarest};

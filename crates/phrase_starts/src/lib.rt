@@ -1,5 +1,7 @@
 // The starts of a phrase's term (position − offset) in a document, and what they leave of some candidates.
 // A term is a record of three words: index of its first position, frequency, offset.
+#![tactic(auto)]
+
 ghost use Rattle.std.specs.Prelude.{◌≡◌, [], ◌∷◌, ◌≤◌, ◌<◌, ◌+◌, length, take, pos};
 ghost use Rattle.std.proofs.Math.IntN.{sub_ℕ};
 ghost use Rattle.meaning.specs.Phrase.{commonSize};

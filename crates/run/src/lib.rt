@@ -1,4 +1,6 @@
 // A search in a run of documents: records of `stride` words, the run's first record at `first`.
+#![tactic(auto)]
+
 ghost use Rattle.std.specs.Prelude.{◌≡◌, ℕ, ◌+◌, ◌*◌, ◌≤◌, ◌<◌, length};
 ghost use Rattle.run.specs.Run.{documentAt, Run, Lower, Between};
 

@@ -20,8 +20,8 @@ use Rattle.weight.specs.State.{size_of}
 use Rattle.weight.specs.Held.{Ok, Oks}
 use Rattle.weight.specs.Sound.{nodesOf}
 use Rattle.score.specs.Words.{ChildThere}
-use Rattle.scorer.specs.Contracts as scorer
-use Rattle.scorer.specs.Contracts.{lent, RoomIn, NodeHeld, AdvancePre, AdvancePost}
+use Rattle.scorer.specs.Calls as scorer
+use Rattle.scorer.specs.Calls.{lent, RoomIn, NodeHeld, AdvancePre, AdvancePost}
 use Rattle.score.specs.Asked.{Scorables, SumIs, RequiredPre, RequiredPost, OptionalPre, OptionalPost}
 use Rattle.leaf_score.specs.Asked.{LentAt, Scorable, ScoreIs, ScorePre, ScorePost, TermPre, TermPost}
 use Rattle.score.proofs.Parts.{part_same}

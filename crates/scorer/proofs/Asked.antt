@@ -13,9 +13,9 @@ use Rattle.weight.specs.ScorerTree.{Leaf, nothing, term, phrase, range, everythi
 use Rattle.weight.specs.State.{State}
 use Rattle.weight.specs.Held.{LeafIs, Ok}
 use Rattle.leaf_scorer.specs.Phrases.{PhraseHeld, PhrasePre, PhraseAtPost}
-use Rattle.leaf_scorer.specs.Contracts.{Lent, Passes}
+use Rattle.leaf_scorer.specs.Calls.{Lent, Passes}
 use Rattle.leaf_scorer.proofs.Seeks.{seek-phrase-pre}
-use Rattle.scorer.specs.Contracts.{NodeHeld, Asks}
+use Rattle.scorer.specs.Calls.{NodeHeld, Asks}
 use Rattle.scorer.proofs.Nodes.{LeafAsked, node-leaf, node-asked}
 
 module _ (ps qs st : List ℕ) (t : ℕ) (is : get_or st 0 0 ≡ 2) (due : get_or st 2 0 ≤ t) where

@@ -14,8 +14,8 @@ use Rattle.weight.specs.ScorerTree.{Scorer, Scorers, end, more, matches}
 use Rattle.weight.specs.State.{State, words_of}
 use Rattle.weight.specs.Held.{Cache, Ok, Oks}
 use Rattle.weight.specs.Sound.{Lends, Sound, Sounds}
-use Rattle.scorer.specs.Contracts.{NodeHeld, AdvancePost, PartsHeld, ChildAt, ChildRead}
-use Rattle.leaf_scorer.specs.Contracts.{Lent}
+use Rattle.scorer.specs.Calls.{NodeHeld, AdvancePost, PartsHeld, ChildAt, ChildRead}
+use Rattle.leaf_scorer.specs.Calls.{Lent}
 use Rattle.leaf_scorer.proofs.Bounds.{Front, front_long, front-size, ok-mono, oks-mono, ok-front, ok-cached, ok-single}
 
 -- g are the children that are left, whose words are z; the words before them are x. Nothing is said of those passed but how to put them back.

@@ -22,8 +22,8 @@ use Rattle.weight.specs.ScorerTree.{Leaf, nothing, term, phrase, constant, oneMo
 use Rattle.weight.specs.State.{State, words_of, leafSize, size_of, sizesOf, sizesOfFirst}
 use Rattle.weight.specs.Held.{TermIs, TermsAre, normsWord, LeafIs, ScoringIs, FloatIs, KeptIs, JoiningIs, Ok}
 use Rattle.weight.specs.Sound.{EachTerm, LeafSound, Sound}
-use Rattle.scorer.specs.Contracts.{AdvancePre}
-use Rattle.leaf_scorer.specs.Contracts.{lent}
+use Rattle.scorer.specs.Calls.{AdvancePre}
+use Rattle.leaf_scorer.specs.Calls.{lent}
 
 abbrev postings : List ℕ
 postings = 0 ∷ 1 ∷ 0 ∷ 2 ∷ 1 ∷ 1 ∷ 2 ∷ 1 ∷ 2 ∷ []

@@ -14,7 +14,7 @@ use Rattle.meaning.specs.Lent.{Index}
 use Rattle.meaning.specs.First.{First}
 use Rattle.weight.specs.ScorerTree.{Joining, Scorer, Scorers, end, more, boolean, matches, allMatch, anyMatches, matching}
 use Rattle.weight.specs.Held.{Cache}
-use Rattle.scorer.specs.Contracts.{Passes, leads, takes, LeastIs}
+use Rattle.scorer.specs.Calls.{Passes, leads, takes, LeastIs}
 use Rattle.meaning.proofs.Tests.{cmp}
 
 pub first_to : {P : ℕ → Bool} {t r : ℕ} → First P t r → (s : ℕ) → r ≡ s → First P t s

@@ -15,8 +15,8 @@ use Rattle.meaning.specs.First.{First}
 use Rattle.weight.specs.ScorerTree.{Scorer, Scorers, end, more, allMatch, matching}
 use Rattle.weight.specs.State.{sizesOf}
 use Rattle.weight.specs.Held.{Oks}
-use Rattle.scorer.specs.Contracts.{PartsHeld, LeadHeld, BooleanHeld, leads}
-use Rattle.leaf_scorer.specs.Contracts.{Lent}
+use Rattle.scorer.specs.Calls.{PartsHeld, LeadHeld, BooleanHeld, leads}
+use Rattle.leaf_scorer.specs.Calls.{Lent}
 use Rattle.leaf_scorer.proofs.Bounds.{oks-mono, oks-length, ok-long}
 use Rattle.scorer.proofs.Firsts.{all_end, matching-end}
 use Rattle.leaf_scorer.proofs.Loops.{first-like}

@@ -14,8 +14,8 @@ use Rattle.meaning.specs.Lent.{Index}
 use Rattle.meaning.specs.First.{First}
 use Rattle.weight.specs.ScorerTree.{Scorer, Scorers, end, more, matches, allMatch, matching}
 use Rattle.weight.specs.Held.{Ok}
-use Rattle.scorer.specs.Contracts.{NodeHeld, AdvancePost, PartsHeld, Tally, LeastIs, Passes, Asks}
-use Rattle.leaf_scorer.specs.Contracts.{Lent}
+use Rattle.scorer.specs.Calls.{NodeHeld, AdvancePost, PartsHeld, Tally, LeastIs, Passes, Asks}
+use Rattle.leaf_scorer.specs.Calls.{Lent}
 use Rattle.meaning.proofs.Tests.{cmp}
 use Rattle.scorer.proofs.Firsts.{matching-hit, matching-miss, matching-end, all-hit, all-miss, all_rest, all_end}
 use Rattle.scorer.proofs.Children.{Zip, View, zip_start, zip-later, zip_end, zip-none, view, zip-took, zip-skip, held, of-advance, of-cached}

@@ -16,8 +16,8 @@ use Rattle.weight.specs.ScorerTree.{Leaf, nothing, term, phrase, range, everythi
 use Rattle.weight.specs.State.{State, words_of, sizesOf}
 use Rattle.weight.specs.Held.{LeafIs, ScoringIs, KeptIs, JoiningIs, BooleanIs, Ok, Oks}
 use Rattle.weight.specs.Sound.{Sound}
-use Rattle.scorer.specs.Contracts.{NodeHeld, PartsHeld, LeadHeld, BooleanHeld, BooleanPost, takes}
-use Rattle.leaf_scorer.specs.Contracts.{Lent, LeafHeld, LeafMoved, LeafPost, Passes}
+use Rattle.scorer.specs.Calls.{NodeHeld, PartsHeld, LeadHeld, BooleanHeld, BooleanPost, takes}
+use Rattle.leaf_scorer.specs.Calls.{Lent, LeafHeld, LeafMoved, LeafPost, Passes}
 use Rattle.leaf_scorer.proofs.Bounds.{leaf-mono, oks-mono, oks-length, ok-front, ok-cached}
 use Rattle.scorer.proofs.Firsts.{cache-new, boolean-takes}
 use Rattle.leaf_scorer.proofs.Loops.{first-like}

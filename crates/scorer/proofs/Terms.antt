@@ -10,8 +10,8 @@ use Rattle.meaning.specs.First.{First}
 use Rattle.weight.specs.ScorerTree.{Scorer, matches}
 use Rattle.weight.specs.Held.{Ok}
 use Rattle.leaf_scorer.specs.Search.{SearchPre, SearchPost}
-use Rattle.scorer.specs.Contracts.{NodeHeld}
-use Rattle.leaf_scorer.specs.Contracts.{Lent}
+use Rattle.scorer.specs.Calls.{NodeHeld}
+use Rattle.leaf_scorer.specs.Calls.{Lent}
 use Rattle.scorer.proofs.Nodes.{node-leaf, node-sought}
 use Rattle.leaf_scorer.proofs.Seeks.{seek-term-pre, seek-term-done, seek-range-pre, seek-range-done}
 

@@ -1,2 +1,2 @@
 -- What the contracts of this crate name: the words of a tree that are lent with the index.
-pub mod Contracts
+pub mod Calls

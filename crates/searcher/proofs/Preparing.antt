@@ -27,7 +27,7 @@ use Rattle.weight.proofs.Queries.{query-sound, query-nodes}
 use Rattle.weight.proofs.FullList.{scorer-list}
 use Rattle.node_words.specs.Placed.{Placed, LeafLent}
 use Rattle.inverses.specs.Inverses.{fieldAt, hasField}
-use Rattle.scorer.specs.Contracts.{lent}
+use Rattle.scorer.specs.Calls.{lent}
 use Rattle.leaf_scorer.proofs.Bounds.{ok-mono}
 use Rattle.walk.specs.declared.Listed.{Listed}
 use Rattle.walk.specs.Walks.{liveScored, PageHeld, PageIs}

@@ -22,7 +22,7 @@ use Rattle.index.specs.Slices.{liveOnly}
 use Rattle.weight.specs.ScorerTree.{Scorer, matches, scorerScore}
 use Rattle.weight.specs.Held.{Ok}
 use Rattle.walk.specs.declared.Listed.{Listed}
-use Rattle.scorer.specs.Contracts.{Lent, lent, RoomIn, NodeHeld, AdvancePre, AdvancePost}
+use Rattle.scorer.specs.Calls.{Lent, lent, RoomIn, NodeHeld, AdvancePre, AdvancePost}
 use Rattle.leaf_score.specs.Asked.{LentAt, ScoreIs, ScorePre, ScorePost}
 use Rattle.walk.specs.Walks.{liveMatch, scored, liveScored, NextPre, NextPost, PageHeld, ListPre, PageIs, ListPost}
 use Rattle.meaning.proofs.Tests.{cmp}

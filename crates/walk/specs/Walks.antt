@@ -13,7 +13,7 @@ use Rattle.meaning.specs.Entries.{written}
 use Rattle.weight.specs.ScorerTree.{Scorer, matches, scorerScore}
 use Rattle.weight.specs.Held.{Ok}
 use Rattle.weight.specs.Sound.{Lends}
-use Rattle.scorer.specs.Contracts.{Lent, RoomIn, NodeHeld}
+use Rattle.scorer.specs.Calls.{Lent, RoomIn, NodeHeld}
 use Rattle.leaf_score.specs.Asked.{Scorable}
 use Rattle.walk.specs.declared.Listed.{Listed}
 

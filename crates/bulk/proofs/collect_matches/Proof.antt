@@ -4,7 +4,7 @@ use mathlib.Core.Path.{refl}
 use Prim.Native.Nat.{min}
 use native.Mathlib.Omega.{arith}
 use lib.ListN.{length}
-use Rattle.scorer.specs.Contracts.{lent}
+use Rattle.scorer.specs.Calls.{lent}
 use Rattle.bulk_term.proofs.Roots.{root-long}
 use Rattle.bulk.proofs.collect_matches.Statement.{statement}
 use Rattle.bulk.proofs.collect_matches.Tie as tie

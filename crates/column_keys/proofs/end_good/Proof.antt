@@ -10,7 +10,7 @@ failed-requires : tie.Need-failed-requires
 failed-requires c κs = search rules
 
 returns : tie.Need-returns
-returns c = ap (λ (b : Bool). eqb c.before.args.kind 0 || not b) c.failed.ensures
+returns c = ap (λ (b : Bool). eqb c.args.kind 0 || not b) c.failed.ensures
 
-pub end-good-spec : {M : Type 1} → statement M
-end-good-spec = tie.close (tie.spec failed-requires returns)
+pub end_good_spec : {M : Type 1} → statement M
+end_good_spec = tie.close (tie.spec failed-requires returns)

@@ -8,16 +8,16 @@ use Rattle.column_keys.proofs.KeyOrder.{between-both}
 use Rattle.column_keys.proofs.end_keys.Statement.{statement}
 use Rattle.column_keys.proofs.end_keys.Tie as tie
 
-value-key-requires : tie.Need-value-key-requires
+value-key-requires : tie.Need-value_key-requires
 value-key-requires c κs = search rules
 
-lower-keys-requires : tie.Need-lower-keys-requires
+lower-keys-requires : tie.Need-lower_keys-above-requires
 lower-keys-requires c κs = search rules
 
-value-key-requires-2 : tie.Need-value-key-requires-2
+value-key-requires-2 : tie.Need-value_key-requires-2
 value-key-requires-2 c κs = search rules
 
-upper-keys-requires : tie.Need-upper-keys-requires
+upper-keys-requires : tie.Need-upper_keys-below-requires
 upper-keys-requires c κs = search rules
 
 larger-requires : tie.Need-larger-requires
@@ -28,17 +28,17 @@ smaller-requires c κs = search rules
 
 returns : tie.Need-returns
 returns c = λ k h.
-    let a = c.before.before.before.before.before.before.args in
-    let above = c.before.before.before.before.lower-keys in
-    let below = c.before.before.upper-keys in
-    rw (c.before.larger.ensures, c.smaller.ensures)
+    let a = c.args in
+    let above = c.lower_keys-above in
+    let below = c.upper_keys-below in
+    rw (c.larger.ensures, c.smaller.ensures)
     (between-both above.result.from above.result.to below.result.from below.result.to k
     ∙ ap₂ ◌&&◌
-    (above.ensures k h ∙ ap (λ (e : ℕ). keyAtLower (a.kinds % 3) e k) c.before.before.before.before.before.value-key.ensures)
-    (below.ensures k h ∙ ap (λ (e : ℕ). keyAtUpper (a.kinds / 3) e k) c.before.before.before.value-key2.ensures))
+    (above.ensures k h ∙ ap (λ (e : ℕ). keyAtLower (a.kinds % 3) e k) c.value_key.ensures)
+    (below.ensures k h ∙ ap (λ (e : ℕ). keyAtUpper (a.kinds / 3) e k) c.value_key-2.ensures))
 
-pub end-keys-spec : {M : Type 1} → statement M
-end-keys-spec =
+pub end_keys_spec : {M : Type 1} → statement M
+end_keys_spec =
     tie.close
     (tie.spec
     value-key-requires

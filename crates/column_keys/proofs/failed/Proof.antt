@@ -7,7 +7,7 @@ use Rattle.column_keys.proofs.failed.Statement.{statement}
 use Rattle.column_keys.proofs.failed.Tie as tie
 
 returns : tie.Need-returns
-returns c = let a = c.args in ap (λ (b : Bool). not (eqb a.column-type 0) && b) (sym (nan-above a.bits))
+returns c = let a = c.args in ap (λ (b : Bool). not (eqb a.column_type 0) && b) (sym (nan-above a.bits))
 
-pub failed-spec : {M : Type 1} → statement M
-failed-spec = tie.close (tie.spec returns)
+pub failed_spec : {M : Type 1} → statement M
+failed_spec = tie.close (tie.spec returns)

@@ -6,5 +6,5 @@ use Rattle.column_keys.proofs.i64_key.Tie as tie
 returns : tie.Need-returns
 returns c = xor-sign c.args.bits c.ranges.bits.fits
 
-pub i64-key-spec : {M : Type 1} → statement M
-i64-key-spec = tie.close (tie.spec returns)
+pub i64_key_spec : {M : Type 1} → statement M
+i64_key_spec = tie.close (tie.spec returns)

@@ -4,20 +4,20 @@ use Rattle.column_keys.proofs.KeyOrder.{lower-unbounded, lower-included, lower-e
 use Rattle.column_keys.proofs.lower_keys.Statement.{statement}
 use Rattle.column_keys.proofs.lower_keys.Tie as tie
 
-add-t9 : tie.Need-overflow-add-t9
+add-t9 : tie.Need-overflow_add-result
 add-t9 c = search rules
 
-returns : tie.Need-returns
-returns c = λ k h. let a = c.before.args in lower-unbounded a.lower-kind a.lower k h c.if1.true
+returns : tie.Need-returns-then-lower_kind-eq0
+returns c = λ k h. let a = c.args in lower-unbounded a.lower_kind a.lower k h c.if-lower_kind-eq0.true
 
-returns-2 : tie.Need-returns-2
-returns-2 c = λ k h. let a = c.before.before.args in lower-included a.lower-kind a.lower k h c.if2.true
+returns-2 : tie.Need-returns-then-lower_kind-eq1
+returns-2 c = λ k h. let a = c.args in lower-included a.lower_kind a.lower k h c.if-lower_kind-eq1.true
 
-returns-3 : tie.Need-returns-3
-returns-3 c = λ k h. let a = c.before.before.before.args in lower-excluded a.lower-kind a.lower k h c.before.before.if1.false c.before.if2.false
+returns-3 : tie.Need-returns-then-lower-lt18446744073709551615
+returns-3 c = λ k h. let a = c.args in lower-excluded a.lower_kind a.lower k h c.if-lower_kind-eq0.false c.if-lower_kind-eq1.false
 
-returns-4 : tie.Need-returns-4
-returns-4 c = λ k h. let a = c.before.before.before.args in lower-nothing a.lower-kind a.lower k h c.before.before.if1.false c.before.if2.false c.if3.false
+returns-4 : tie.Need-returns-else-lower-lt18446744073709551615
+returns-4 c = λ k h. let a = c.args in lower-nothing a.lower_kind a.lower k h c.if-lower_kind-eq0.false c.if-lower_kind-eq1.false c.if-lower-lt18446744073709551615.false
 
-pub lower-keys-spec : {M : Type 1} → statement M
-lower-keys-spec = tie.close (tie.spec add-t9 returns returns-2 returns-3 returns-4)
+pub lower_keys_spec : {M : Type 1} → statement M
+lower_keys_spec = tie.close (tie.spec add-t9 returns returns-2 returns-3 returns-4)

@@ -4,11 +4,11 @@ use borrow.Author.Rules.{rules}
 use Rattle.ieee754.proofs.add_score.Statement.{statement}
 use Rattle.ieee754.proofs.add_score.Tie as tie
 
-to-f64-requires : tie.Need-to-f64-requires
+to-f64-requires : tie.Need-to_f64-requires
 to-f64-requires c κs = search rules
 
 returns : tie.Need-returns
-returns c = rw c.to-f64.ensures refl
+returns c = rw c.to_f64.ensures refl
 
-pub add-score-spec : {M : Type 1} → statement M
-add-score-spec = tie.close (tie.spec to-f64-requires returns)
+pub add_score_spec : {M : Type 1} → statement M
+add_score_spec = tie.close (tie.spec to-f64-requires returns)

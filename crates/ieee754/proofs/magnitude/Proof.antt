@@ -14,43 +14,43 @@ abbrev b : tie.Start → ℕ
 b c = c.args.bits
 
 small-requires : tie.Need-small-requires
-small-requires c κs = c.if1.true
+small-requires c κs = c.if-bits-lt4039728865751334912.true
 
-returns : tie.Need-returns
+returns : tie.Need-returns-then-bits-lt4039728865751334912
 returns c = c.small.ensures
 
-nearest-requires : tie.Need-nearest-requires
+nearest-requires : tie.Need-nearest-short-requires
 nearest-requires c κs = search rules
 
-sub-short : tie.Need-overflow-sub-short
+sub-short : tie.Need-overflow_sub-short
 sub-short c =
     let s = c.before.before in
-    subst (λ (z : ℕ). 896 * 2 ^ 23 ≤ z) (sym c.nearest.ensures) (short-ge (b s) c.before.if1.false)
+    subst (λ (z : ℕ). 896 * 2 ^ 23 ≤ z) (sym c.nearest-short.ensures) (short-ge (b s) c.before.if-bits-lt4039728865751334912.false)
 
-cast-result : tie.Need-overflow-cast-result
+cast-result : tie.Need-overflow_cast-result
 cast-result c = search rules
 
-float-from-bits-result : tie.Need-float-from-bits-result
-float-from-bits-result c = nan-free (c.before.nearest.result - 896 * 2 ^ 23) (le_of_lt c.if2.true)
+float-from-bits-result : tie.Need-float_from_bits-result
+float-from-bits-result c = nan-free (c.before.nearest-short.result - 896 * 2 ^ 23) (le_of_lt c.if-short-lt2139095040.true)
 
-float-from-bits-result-2 : tie.Need-float-from-bits-result-2
+float-from-bits-result-2 : tie.Need-float_from_bits-result-else-short-lt2139095040
 float-from-bits-result-2 c = nan-free 0x7f80_0000 (lit≤ tt)
 
-returns-2 : tie.Need-returns-2
+returns-2 : tie.Need-returns-then-short-lt2139095040
 returns-2 c =
     let s = c.before.before.before in
-    let e : c.before.nearest.result ≡ closest (b s) (2 ^ 29) = c.before.nearest.ensures in
+    let e : c.before.nearest-short.result ≡ closest (b s) (2 ^ 29) = c.before.nearest-short.ensures in
     ap (λ (z : ℕ). of_bits binary32 (z - 896 * 2 ^ 23)) e
-    ∙ gives-normal (b s) s.requires c.before.before.if1.false (subst (λ (z : ℕ). z - 896 * 2 ^ 23 < 255 * 2 ^ 23) e c.if2.true)
+    ∙ gives-normal (b s) s.requires c.before.before.if-bits-lt4039728865751334912.false (subst (λ (z : ℕ). z - 896 * 2 ^ 23 < 255 * 2 ^ 23) e c.if-short-lt2139095040.true)
 
-returns-3 : tie.Need-returns-3
+returns-3 : tie.Need-returns-else-short-lt2139095040
 returns-3 c =
     let s = c.before.before.before in
-    let e : c.before.nearest.result ≡ closest (b s) (2 ^ 29) = c.before.nearest.ensures in
-    gives-large (b s) s.requires c.before.before.if1.false (subst (λ (z : ℕ). 255 * 2 ^ 23 ≤ z - 896 * 2 ^ 23) e c.if2.false)
+    let e : c.before.nearest-short.result ≡ closest (b s) (2 ^ 29) = c.before.nearest-short.ensures in
+    gives-large (b s) s.requires c.before.before.if-bits-lt4039728865751334912.false (subst (λ (z : ℕ). 255 * 2 ^ 23 ≤ z - 896 * 2 ^ 23) e c.if-short-lt2139095040.false)
 
-pub magnitude-spec : {M : Type 1} → statement M
-magnitude-spec =
+pub magnitude_spec : {M : Type 1} → statement M
+magnitude_spec =
     tie.close
     (tie.spec
     small-requires

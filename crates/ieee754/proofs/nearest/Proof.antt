@@ -12,13 +12,13 @@ use Rattle.ieee754.proofs.NarrowSteps.{nearest-below, nearest-above, nearest-hal
 use Rattle.ieee754.proofs.nearest.Statement.{statement}
 use Rattle.ieee754.proofs.nearest.Tie as tie
 
-div-q : tie.Need-nonzero-div-q
+div-q : tie.Need-nonzero_div-q
 div-q c = search rules
 
-rem_below : tie.Need-nonzero-rem-below
+rem_below : tie.Need-nonzero_rem-below
 rem_below c = search rules
 
-sub-above : tie.Need-overflow-sub-above
+sub-above : tie.Need-overflow_sub-above
 sub-above c = le_of_lt (mod-lt c.args.n c.requires)
 
 -- a quotient by 2 or more leaves room for one more
@@ -72,19 +72,19 @@ module _ (n u : ℕ) (k : n % u < u) where
       same (n / u) (n / u % 2) t.1 ∙ nearest-half (n / u) (n % u) u t.0)
       (cmp (n % u) (u - n % u))
 
-add-if1 : tie.Need-overflow-add-if1
+add-if1 : tie.Need-overflow_add-below
 add-if1 c = omega (arith, mod-lt c.args.n c.requires, odd (c.args.n / c.args.u), c.ranges.u)
 
-add-result : tie.Need-overflow-add-result
+add-result : tie.Need-overflow_add-result
 add-result c =
     let s = c.before in
-    omega (arith, room s.args.n s.args.u (two (s.args.n % s.args.u) s.args.u (s.args.n / s.args.u % 2) (mod-lt s.args.n s.requires) (odd (s.args.n / s.args.u)) c.if1.true), s.ranges.n)
+    omega (arith, room s.args.n s.args.u (two (s.args.n % s.args.u) s.args.u (s.args.n / s.args.u % 2) (mod-lt s.args.n s.requires) (odd (s.args.n / s.args.u)) c.if-above-below.true), s.ranges.n)
 
-returns : tie.Need-returns
-returns c = let s = c.before in add-one (s.args.n / s.args.u) ∙ up s.args.n s.args.u (mod-lt s.args.n s.requires) c.if1.true
+returns : tie.Need-returns-then-above-below
+returns c = let s = c.before in add-one (s.args.n / s.args.u) ∙ up s.args.n s.args.u (mod-lt s.args.n s.requires) c.if-above-below.true
 
-returns-2 : tie.Need-returns-2
-returns-2 c = let s = c.before in down s.args.n s.args.u (mod-lt s.args.n s.requires) c.if1.false
+returns-2 : tie.Need-returns-else-above-below
+returns-2 c = let s = c.before in down s.args.n s.args.u (mod-lt s.args.n s.requires) c.if-above-below.false
 
-pub nearest-spec : {M : Type 1} → statement M
-nearest-spec = tie.close (tie.spec div-q rem_below sub-above add-if1 add-result returns returns-2)
+pub nearest_spec : {M : Type 1} → statement M
+nearest_spec = tie.close (tie.spec div-q rem_below sub-above add-if1 add-result returns returns-2)

@@ -9,18 +9,18 @@ use Rattle.ieee754.proofs.TotalOrder.{total-key}
 use Rattle.ieee754.proofs.total_below.Statement.{statement}
 use Rattle.ieee754.proofs.total_below.Tie as tie
 
-total-key-requires : tie.Need-total-key-requires
+total-key-requires : tie.Need-total_key-requires
 total-key-requires c κs = search rules
 
-total-key-requires-2 : tie.Need-total-key-requires-2
+total-key-requires-2 : tie.Need-total_key-requires-2
 total-key-requires-2 c κs = search rules
 
 returns : tie.Need-returns
 returns c =
     let s = c.before.before in
-    ap (λ (z : ℕ). ltb z c.total-key2.result) c.before.total-key.ensures
-    ∙ ap (λ (z : ℕ). ltb (totalKey s.args.a) z) c.total-key2.ensures
+    ap (λ (z : ℕ). ltb z c.total_key-2.result) c.before.total_key.ensures
+    ∙ ap (λ (z : ℕ). ltb (totalKey s.args.a) z) c.total_key-2.ensures
     ∙ sym (total-key s.args.a s.args.b (omega (arith, s.ranges.a)) (omega (arith, s.ranges.b)))
 
-pub total-below-spec : {M : Type 1} → statement M
-total-below-spec = tie.close (tie.spec total-key-requires total-key-requires-2 returns)
+pub total_below_spec : {M : Type 1} → statement M
+total_below_spec = tie.close (tie.spec total-key-requires total-key-requires-2 returns)

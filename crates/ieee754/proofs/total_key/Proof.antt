@@ -4,14 +4,14 @@ use Rattle.ieee754.proofs.TotalOrder.{key-clear, key_set}
 use Rattle.ieee754.proofs.total_key.Statement.{statement}
 use Rattle.ieee754.proofs.total_key.Tie as tie
 
-add-result : tie.Need-overflow-add-result
+add-result : tie.Need-overflow_add-result
 add-result c = search rules
 
-returns : tie.Need-returns
-returns c = key-clear c.before.args.bits c.if1.true
+returns : tie.Need-returns-then-bits-lt9223372036854775808
+returns c = key-clear c.before.args.bits c.if-bits-lt9223372036854775808.true
 
-returns-2 : tie.Need-returns-2
-returns-2 c = key_set c.before.args.bits c.if1.false
+returns-2 : tie.Need-returns-else-bits-lt9223372036854775808
+returns-2 c = key_set c.before.args.bits c.if-bits-lt9223372036854775808.false
 
-pub total-key-spec : {M : Type 1} → statement M
-total-key-spec = tie.close (tie.spec add-result returns returns-2)
+pub total_key_spec : {M : Type 1} → statement M
+total_key_spec = tie.close (tie.spec add-result returns returns-2)

@@ -8,5 +8,5 @@ returns : tie.Need-returns
 unfolding wrong1
 returns c = refl
 
-pub wrong-max-doc-spec : {M : Type 1} → statement M
-wrong-max-doc-spec = tie.close (tie.spec returns)
+pub wrong_max_doc_spec : {M : Type 1} → statement M
+wrong_max_doc_spec = tie.close (tie.spec returns)

@@ -1,5 +1,5 @@
 use Rattle.leaf_scorer.proofs.Seeks.{seek-long, seek-term-pre, seek-term-done, seek-range-pre, seek-range-done, seek-phrase-pre, seek-phrase-done, seek-any-done}
-use Rattle.leaf_scorer.specs.Contracts.{lent}
+use Rattle.leaf_scorer.specs.Calls.{lent}
 use Rattle.meaning.specs.Phrase.{PhraseTerm, phraseFrequency}
 use Rattle.meaning.specs.Lent.{Index}
 use Rattle.meaning.specs.Limits.{noMoreDocs}

@@ -34,47 +34,47 @@ calls t = (meet-reads.Asked, meet-reads.Learnt, survivors-below t, survivors.Pos
 counted : (n : ℕ) (cs out : List ℤ) (places : ℕ) → n ≤ length cs → length cs ≤ places → length out ≡ places → n ≡ length (take n out)
 counted n cs out places h r e = sym (length-take-le n out (omega (arith, h, r, e)))
 
-survivors-meet-requires : (t : ℕ) → survivors-lts.Need-meet-requires (calls t) (survivors-at t) survivors.Post
-survivors-meet-requires t c κs = c.before.before.before.before.requires.1
+survivors-meet-requires : (t : ℕ) → survivors-lts.Need-meet-m-requires (calls t) (survivors-at t) survivors.Post
+survivors-meet-requires t c κs = c.requires.1
 
-survivors-slice-aggregate-result : (t : ℕ) → survivors-lts.Need-slice-aggregate-result (calls t) (survivors-at t) survivors.Post
+survivors-slice-aggregate-result : (t : ℕ) → survivors-lts.Need-slice_bounds-result-end (calls t) (survivors-at t) survivors.Post
 survivors-slice-aggregate-result t c =
-    let m = c.before.before.before.meet in
-    let b = c.before.before.before.before.before.before.before.before in
+    let m = c.meet-m in
+    let b = c in
     let a = b.args in
-    counted m.result.n a.cands.now m.new.1.1.1.1.1.0 (length a.spare.now) m.ensures.0 b.requires.1.room m.auto.1.1.1.1.1.0
+    counted m.result.n a.cands.now m.new.spare (length a.spare.now) m.ensures.0 b.requires.1.room m.auto.spare
 
-survivors-returns : (t : ℕ) → survivors-lts.Need-returns (calls t) (survivors-at t) survivors.Post
+survivors-returns : (t : ℕ) → survivors-lts.Need-returns-then-next-terms (calls t) (survivors-at t) survivors.Post
 survivors-returns t c =
-    let m = c.before.before.before.meet in
-    let b = c.before.before.before.before.before.before.before.before in
+    let m = c.meet-m in
+    let b = c in
     let a = b.args in
-    left-at-end a.positions.now a.terms.now a.rarest a.at m.result.next a.cands.now (take m.result.n m.new.1.1.1.1.1.0) m.ensures.1 c.before.if1.true
+    left-at-end a.positions.now a.terms.now a.rarest a.at m.result.next a.cands.now (take m.result.n m.new.spare) m.ensures.1 c.if-next-terms.true
 
-survivors-slice-aggregate-survivors : (t : ℕ) → survivors-lts.Need-slice-aggregate-survivors (calls t) (survivors-at t) survivors.Post
+survivors-slice-aggregate-survivors : (t : ℕ) → survivors-lts.Need-slice_bounds-survivors-end (calls t) (survivors-at t) survivors.Post
 survivors-slice-aggregate-survivors t c =
-    let m = c.before.before.before.meet in
-    let b = c.before.before.before.before.before.before.before.before in
+    let m = c.meet-m in
+    let b = c in
     let a = b.args in
-    counted m.result.n a.cands.now m.new.1.1.1.1.1.0 (length a.spare.now) m.ensures.0 b.requires.1.room m.auto.1.1.1.1.1.0
+    counted m.result.n a.cands.now m.new.spare (length a.spare.now) m.ensures.0 b.requires.1.room m.auto.spare
 
 survivors-survivors-requires : (t : ℕ) → survivors-lts.Need-survivors-requires (calls t) (survivors-at t) survivors.Post
 survivors-survivors-requires t c κs =
-    let m = c.before.before.before.meet in
-    let b = c.before.before.before.before.before.before.before.before in
+    let m = c.meet-m in
+    let b = c in
     let a = b.args in
     let p = b.requires.1 in
-    (omega (arith, m.ensures.1.further, p.there, b.requires.0), m.ensures.1.ready c.before.if1.false)
+    (omega (arith, m.ensures.1.further, p.there, b.requires.0), m.ensures.1.ready c.if-next-terms.false)
 
-survivors-returns-2 : (t : ℕ) → survivors-lts.Need-returns-2 (calls t) (survivors-at t) survivors.Post
+survivors-returns-2 : (t : ℕ) → survivors-lts.Need-returns (calls t) (survivors-at t) survivors.Post
 survivors-returns-2 t c =
-    let m = c.before.before.before.before.meet in
-    let b = c.before.before.before.before.before.before.before.before.before in
+    let m = c.meet-m in
+    let b = c in
     let a = b.args in
     m.ensures.1.on c.survivors.result.now c.survivors.ensures
 
-pub +survivors-spec : {M : Type 1} → statement M
-+survivors-spec = close μ-survivors λ t. survivors-lts.spec (calls t)
+pub +survivors_spec : {M : Type 1} → statement M
++survivors_spec = close μ-survivors λ t. survivors-lts.spec (calls t)
     (survivors-at t)
     survivors.Post
     (survivors-meet-requires t)

@@ -50,144 +50,144 @@ module _ (ps ts : List ℕ) (g : Good ps ts) (r : ℕ) (h : Rarest ts r) (cs : L
       left-of-all ps ts r zs g h.record-start h.one-of-them
       (subst (λ (k : List ℤ). Left ps ts 0 k zs) e (left-unmet ps ts r cs held 0 (omega arith) (omega arith) zs (subst (λ (n : ℕ). Left ps ts n cs zs) u l)))
 
-rarest-requires : tie.Need-rarest-requires
+rarest-requires : tie.Need-rarest-best-requires
 rarest-requires c κs = search rules
 
-term-at-requires : tie.Need-term-at-requires
+term-at-requires : tie.Need-term_at-t-requires
 term-at-requires c κs = search rules
 
-write-starts-requires : tie.Need-write-starts-requires
+write-starts-requires : tie.Need-write_starts-requires
 write-starts-requires c κs =
-    let b = c.before.before.before.before.before in
-    let h = c.before.before.rarest.ensures in
-    let q = c.before.term-at.ensures in
+    let b = c in
+    let h = c.rarest-best.ensures in
+    let q = c.term_at-t.ensures in
     let ts = b.args.terms.now in
-    let g = b.requires.0.each c.before.before.rarest.result h.record-start h.one-of-them in
-    let m = enough-room ts c.before.before.rarest.result (length b.args.a.now) h b.requires.1.0 in
+    let g = b.requires.0.each c.rarest-best.result h.record-start h.one-of-them in
+    let m = enough-room ts c.rarest-best.result (length b.args.a.now) h b.requires.1.0 in
     (subst (λ x. GoodTerm b.args.positions.now x) (sym q) g, subst (λ x. x.freq ≤ length b.args.a.now) (sym q) m)
 
-unmet-requires : tie.Need-unmet-requires
+unmet-requires : tie.Need-unmet-at-requires
 unmet-requires c κs = search rules
 
-slice-aggregate-result : tie.Need-slice-aggregate-result
+slice-aggregate-result : tie.Need-slice_bounds-result-end
 slice-aggregate-result c =
-    let u = c.before.before in
-    let b = u.before.before.before.before.before.before.before.before in
-    let h = u.before.before.before.before.before.rarest in
-    let t = u.before.before.before.before.term-at in
-    let w = u.before.before.write-starts in
+    let u = c in
+    let b = u in
+    let h = u.rarest-best in
+    let t = u.term_at-t in
+    let w = u.write_starts in
     let m = enough-room b.args.terms.now h.result (length b.args.a.now) h.ensures b.requires.1.0 in
     let f = ap (λ x. x.freq) t.ensures in
-    sym (length-take-le t.result.freq w.new.1.1.0 (omega (arith, m, f, w.auto.1.1.0)))
+    sym (length-take-le t.result.freq w.new.out (omega (arith, m, f, w.auto.out)))
 
-returns : tie.Need-returns
+returns : tie.Need-returns-then-at-terms
 returns c =
-    let u = c.before.before in
-    let b = u.before.before.before.before.before.before.before.before in
-    let h = u.before.before.before.before.before.rarest in
-    let t = u.before.before.before.before.term-at in
-    let w = u.before.before.write-starts in
-    let k = u.before.before.before.before.before.before.shared-slice-known2.given (h.result + 1) in
-    let l = left_end b.args.positions.now b.args.terms.now u.unmet.result (take t.result.freq w.new.1.1.0) c.before.if1.true (held b.args.positions.now b.args.terms.now b.requires.0 h.result h.ensures (take t.result.freq w.new.1.1.0) (w.ensures ∙ ap (startsOf b.args.positions.now) t.ensures) u.unmet.result u.unmet.ensures).rising in
-    (ended b.args.positions.now b.args.terms.now b.requires.0 h.result h.ensures (take t.result.freq w.new.1.1.0) (w.ensures ∙ ap (startsOf b.args.positions.now) t.ensures) u.unmet.result u.unmet.ensures (take t.result.freq w.new.1.1.0) l, omega (arith, long b.args.positions.now b.args.terms.now b.requires.0 h.result h.ensures (take t.result.freq w.new.1.1.0) (w.ensures ∙ ap (startsOf b.args.positions.now) t.ensures) u.unmet.result u.unmet.ensures, k))
+    let u = c in
+    let b = u in
+    let h = u.rarest-best in
+    let t = u.term_at-t in
+    let w = u.write_starts in
+    let k = u.shared_slice_known-2-1.given (h.result + 1) in
+    let l = left_end b.args.positions.now b.args.terms.now u.unmet-at.result (take t.result.freq w.new.out) c.if-at-terms.true (held b.args.positions.now b.args.terms.now b.requires.0 h.result h.ensures (take t.result.freq w.new.out) (w.ensures ∙ ap (startsOf b.args.positions.now) t.ensures) u.unmet-at.result u.unmet-at.ensures).rising in
+    (ended b.args.positions.now b.args.terms.now b.requires.0 h.result h.ensures (take t.result.freq w.new.out) (w.ensures ∙ ap (startsOf b.args.positions.now) t.ensures) u.unmet-at.result u.unmet-at.ensures (take t.result.freq w.new.out) l, omega (arith, long b.args.positions.now b.args.terms.now b.requires.0 h.result h.ensures (take t.result.freq w.new.out) (w.ensures ∙ ap (startsOf b.args.positions.now) t.ensures) u.unmet-at.result u.unmet-at.ensures, k))
 
-slice-reshare-prefix-meet : tie.Need-slice-reshare-prefix-meet
+slice-reshare-prefix-meet : tie.Need-slice_bounds-meet-end
 slice-reshare-prefix-meet c =
-    let u = c.before in
-    let b = u.before.before.before.before.before.before.before.before in
-    let h = u.before.before.before.before.before.rarest in
-    let t = u.before.before.before.before.term-at in
-    let w = u.before.before.write-starts in
+    let u = c in
+    let b = u in
+    let h = u.rarest-best in
+    let t = u.term_at-t in
+    let w = u.write_starts in
     let m = enough-room b.args.terms.now h.result (length b.args.a.now) h.ensures b.requires.1.0 in
     let f = ap (λ x. x.freq) t.ensures in
-    omega (arith, m, f, w.auto.1.1.0)
+    omega (arith, m, f, w.auto.out)
 
-slice-aggregate-meet : tie.Need-slice-aggregate-meet
+slice-aggregate-meet : tie.Need-slice_bounds-meet-end-2
 slice-aggregate-meet c =
-    let u = c.before.before in
-    let b = u.before.before.before.before.before.before.before.before in
-    let h = u.before.before.before.before.before.rarest in
-    let t = u.before.before.before.before.term-at in
-    let w = u.before.before.write-starts in
+    let u = c in
+    let b = u in
+    let h = u.rarest-best in
+    let t = u.term_at-t in
+    let w = u.write_starts in
     let m = enough-room b.args.terms.now h.result (length b.args.a.now) h.ensures b.requires.1.0 in
     let f = ap (λ x. x.freq) t.ensures in
-    sym (length-take-le t.result.freq w.new.1.1.0 (omega (arith, m, f, w.auto.1.1.0)))
+    sym (length-take-le t.result.freq w.new.out (omega (arith, m, f, w.auto.out)))
 
-meet-requires : tie.Need-meet-requires
+meet-requires : tie.Need-meet-m-requires
 meet-requires c κs =
-    let u = c.before.before.before in
-    let b = u.before.before.before.before.before.before.before.before in
-    let h = u.before.before.before.before.before.rarest in
-    let t = u.before.before.before.before.term-at in
-    let w = u.before.before.write-starts in
-    begun b.args.positions.now b.args.terms.now b.requires.0 h.result h.ensures (take t.result.freq w.new.1.1.0) (w.ensures ∙ ap (startsOf b.args.positions.now) t.ensures) u.unmet.result u.unmet.ensures (length b.args.b.now) b.requires.1.1 c.before.before.if1.false
+    let u = c in
+    let b = u in
+    let h = u.rarest-best in
+    let t = u.term_at-t in
+    let w = u.write_starts in
+    begun b.args.positions.now b.args.terms.now b.requires.0 h.result h.ensures (take t.result.freq w.new.out) (w.ensures ∙ ap (startsOf b.args.positions.now) t.ensures) u.unmet-at.result u.unmet-at.ensures (length b.args.b.now) b.requires.1.1 c.if-at-terms.false
 
-slice-aggregate-result-2 : tie.Need-slice-aggregate-result-2
+slice-aggregate-result-2 : tie.Need-slice_bounds-result-end-then-next-terms
 slice-aggregate-result-2 c =
-    let u = c.before.before.before.before.before.before.before in
-    let b = u.before.before.before.before.before.before.before.before in
-    let h = u.before.before.before.before.before.rarest in
-    let t = u.before.before.before.before.term-at in
-    let w = u.before.before.write-starts in
-    let m = c.before.before.before.meet in
+    let u = c in
+    let b = u in
+    let h = u.rarest-best in
+    let t = u.term_at-t in
+    let w = u.write_starts in
+    let m = c.meet-m in
     let v = enough-room b.args.terms.now h.result (length b.args.b.now) h.ensures b.requires.1.1 in
-    let q = long b.args.positions.now b.args.terms.now b.requires.0 h.result h.ensures (take t.result.freq w.new.1.1.0) (w.ensures ∙ ap (startsOf b.args.positions.now) t.ensures) u.unmet.result u.unmet.ensures in
-    sym (length-take-le m.result.n m.new.1.1.1.1.1.0 (omega (arith, m.ensures.0, m.auto.1.1.1.1.1.0, v, q)))
+    let q = long b.args.positions.now b.args.terms.now b.requires.0 h.result h.ensures (take t.result.freq w.new.out) (w.ensures ∙ ap (startsOf b.args.positions.now) t.ensures) u.unmet-at.result u.unmet-at.ensures in
+    sym (length-take-le m.result.n m.new.spare (omega (arith, m.ensures.0, m.auto.spare, v, q)))
 
-returns-2 : tie.Need-returns-2
+returns-2 : tie.Need-returns-then-next-terms
 returns-2 c =
-    let u = c.before.before.before.before.before.before.before in
-    let b = u.before.before.before.before.before.before.before.before in
-    let h = u.before.before.before.before.before.rarest in
-    let t = u.before.before.before.before.term-at in
-    let w = u.before.before.write-starts in
-    let k = u.before.before.before.before.before.before.shared-slice-known2.given (h.result + 1) in
-    let m = c.before.before.before.meet in
-    let l = left-at-end b.args.positions.now b.args.terms.now h.result u.unmet.result m.result.next (take t.result.freq w.new.1.1.0) (take m.result.n m.new.1.1.1.1.1.0) m.ensures.1 c.before.if2.true in
-    (ended b.args.positions.now b.args.terms.now b.requires.0 h.result h.ensures (take t.result.freq w.new.1.1.0) (w.ensures ∙ ap (startsOf b.args.positions.now) t.ensures) u.unmet.result u.unmet.ensures (take m.result.n m.new.1.1.1.1.1.0) l, omega (arith, l.no_more, long b.args.positions.now b.args.terms.now b.requires.0 h.result h.ensures (take t.result.freq w.new.1.1.0) (w.ensures ∙ ap (startsOf b.args.positions.now) t.ensures) u.unmet.result u.unmet.ensures, k))
+    let u = c in
+    let b = u in
+    let h = u.rarest-best in
+    let t = u.term_at-t in
+    let w = u.write_starts in
+    let k = u.shared_slice_known-2-1.given (h.result + 1) in
+    let m = c.meet-m in
+    let l = left-at-end b.args.positions.now b.args.terms.now h.result u.unmet-at.result m.result.next (take t.result.freq w.new.out) (take m.result.n m.new.spare) m.ensures.1 c.if-next-terms.true in
+    (ended b.args.positions.now b.args.terms.now b.requires.0 h.result h.ensures (take t.result.freq w.new.out) (w.ensures ∙ ap (startsOf b.args.positions.now) t.ensures) u.unmet-at.result u.unmet-at.ensures (take m.result.n m.new.spare) l, omega (arith, l.no_more, long b.args.positions.now b.args.terms.now b.requires.0 h.result h.ensures (take t.result.freq w.new.out) (w.ensures ∙ ap (startsOf b.args.positions.now) t.ensures) u.unmet-at.result u.unmet-at.ensures, k))
 
-slice-aggregate-survivors : tie.Need-slice-aggregate-survivors
+slice-aggregate-survivors : tie.Need-slice_bounds-survivors-end
 slice-aggregate-survivors c =
-    let u = c.before.before.before.before.before.before.before in
-    let b = u.before.before.before.before.before.before.before.before in
-    let h = u.before.before.before.before.before.rarest in
-    let t = u.before.before.before.before.term-at in
-    let w = u.before.before.write-starts in
-    let m = c.before.before.before.meet in
+    let u = c in
+    let b = u in
+    let h = u.rarest-best in
+    let t = u.term_at-t in
+    let w = u.write_starts in
+    let m = c.meet-m in
     let v = enough-room b.args.terms.now h.result (length b.args.b.now) h.ensures b.requires.1.1 in
-    let q = long b.args.positions.now b.args.terms.now b.requires.0 h.result h.ensures (take t.result.freq w.new.1.1.0) (w.ensures ∙ ap (startsOf b.args.positions.now) t.ensures) u.unmet.result u.unmet.ensures in
-    sym (length-take-le m.result.n m.new.1.1.1.1.1.0 (omega (arith, m.ensures.0, m.auto.1.1.1.1.1.0, v, q)))
+    let q = long b.args.positions.now b.args.terms.now b.requires.0 h.result h.ensures (take t.result.freq w.new.out) (w.ensures ∙ ap (startsOf b.args.positions.now) t.ensures) u.unmet-at.result u.unmet-at.ensures in
+    sym (length-take-le m.result.n m.new.spare (omega (arith, m.ensures.0, m.auto.spare, v, q)))
 
-slice-aggregate-survivors-2 : tie.Need-slice-aggregate-survivors-2
+slice-aggregate-survivors-2 : tie.Need-slice_bounds-survivors-end-2
 slice-aggregate-survivors-2 c =
-    let u = c.before.before.before.before.before.before.before.before in
-    let b = u.before.before.before.before.before.before.before.before in
-    let h = u.before.before.before.before.before.rarest in
-    let t = u.before.before.before.before.term-at in
-    let w = u.before.before.write-starts in
+    let u = c in
+    let b = u in
+    let h = u.rarest-best in
+    let t = u.term_at-t in
+    let w = u.write_starts in
     let m = enough-room b.args.terms.now h.result (length b.args.a.now) h.ensures b.requires.1.0 in
     let f = ap (λ x. x.freq) t.ensures in
-    sym (length-take-le t.result.freq w.new.1.1.0 (omega (arith, m, f, w.auto.1.1.0)))
+    sym (length-take-le t.result.freq w.new.out (omega (arith, m, f, w.auto.out)))
 
 survivors-requires : tie.Need-survivors-requires
 survivors-requires c κs =
-    let m = c.before.before.before.before.meet in
-    m.ensures.1.ready c.before.before.if2.false
+    let m = c.meet-m in
+    m.ensures.1.ready c.if-next-terms.false
 
-returns-3 : tie.Need-returns-3
+returns-3 : tie.Need-returns
 returns-3 c =
-    let u = c.before.before.before.before.before.before.before.before.before in
-    let b = u.before.before.before.before.before.before.before.before in
-    let h = u.before.before.before.before.before.rarest in
-    let t = u.before.before.before.before.term-at in
-    let w = u.before.before.write-starts in
-    let k = u.before.before.before.before.before.before.shared-slice-known2.given (h.result + 1) in
-    let m = c.before.before.before.before.before.meet in
+    let u = c in
+    let b = u in
+    let h = u.rarest-best in
+    let t = u.term_at-t in
+    let w = u.write_starts in
+    let k = u.shared_slice_known-2-1.given (h.result + 1) in
+    let m = c.meet-m in
     let l = m.ensures.1.on c.survivors.result.now c.survivors.ensures in
-    (ended b.args.positions.now b.args.terms.now b.requires.0 h.result h.ensures (take t.result.freq w.new.1.1.0) (w.ensures ∙ ap (startsOf b.args.positions.now) t.ensures) u.unmet.result u.unmet.ensures c.survivors.result.now l, omega (arith, l.no_more, long b.args.positions.now b.args.terms.now b.requires.0 h.result h.ensures (take t.result.freq w.new.1.1.0) (w.ensures ∙ ap (startsOf b.args.positions.now) t.ensures) u.unmet.result u.unmet.ensures, k))
+    (ended b.args.positions.now b.args.terms.now b.requires.0 h.result h.ensures (take t.result.freq w.new.out) (w.ensures ∙ ap (startsOf b.args.positions.now) t.ensures) u.unmet-at.result u.unmet-at.ensures c.survivors.result.now l, omega (arith, l.no_more, long b.args.positions.now b.args.terms.now b.requires.0 h.result h.ensures (take t.result.freq w.new.out) (w.ensures ∙ ap (startsOf b.args.positions.now) t.ensures) u.unmet-at.result u.unmet-at.ensures, k))
 
-pub common-spec : {M : Type 1} → statement M
-common-spec =
+pub common_spec : {M : Type 1} → statement M
+common_spec =
     tie.close
     (tie.spec
     rarest-requires

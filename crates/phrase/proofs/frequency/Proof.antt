@@ -28,55 +28,55 @@ pair_size ps ts s t h es et = rw (es, et) (ap commonSize (sym (two-lists ps ts h
 pair_small : (ps : List ℕ) (s t : Term) → commonSize (startsOf ps s ∷ startsOf ps t ∷ []) ≤ s.freq
 pair_small ps s t = let a = common-size-le (startsOf ps s) (startsOf ps t ∷ []) in let b = starts-length ps s in omega (arith, a, b)
 
-term-at-requires : tie.Need-term-at-requires
+term-at-requires : tie.Need-term_at-requires
 term-at-requires c κs = search rules
 
-term-at-requires-2 : tie.Need-term-at-requires-2
+term-at-requires-2 : tie.Need-term_at-requires-then-terms-eq6
 term-at-requires-2 c κs = search rules
 
 pair-requires : tie.Need-pair-requires
 pair-requires c κs =
-    let i = c.before.before in
-    let b = i.before.before.before in
+    let i = c in
+    let b = i in
     let g = b.requires.0 in
-    let s = g.each 0 (omega arith) (omega (arith, i.if1.true)) in
-    let t = g.each 3 (omega arith) (omega (arith, i.if1.true)) in
-    (subst (λ x. GoodTerm b.args.positions.now x) (sym c.before.term-at.ensures) s, subst (λ x. GoodTerm b.args.positions.now x) (sym c.term-at2.ensures) t)
+    let s = g.each 0 (omega arith) (omega (arith, i.if-terms-eq6.true)) in
+    let t = g.each 3 (omega arith) (omega (arith, i.if-terms-eq6.true)) in
+    (subst (λ x. GoodTerm b.args.positions.now x) (sym c.term_at.ensures) s, subst (λ x. GoodTerm b.args.positions.now x) (sym c.term_at-then-terms-eq6.ensures) t)
 
-cast-result : tie.Need-overflow-cast-result
+cast-result : tie.Need-overflow_cast-result
 cast-result c =
-    let s = c.before.before.term-at in
-    let i = c.before.before.before in
-    let b = i.before.before.before in
-    let k = i.before.shared-slice-known2.given 1 in
+    let s = c.term_at in
+    let i = c in
+    let b = i in
+    let k = i.shared_slice_known-2-1.given 1 in
     let f = ap (λ x. x.freq) s.ensures in
-    let m = pair_small b.args.positions.now s.result c.before.term-at2.result in
+    let m = pair_small b.args.positions.now s.result c.term_at-then-terms-eq6.result in
     omega (arith, m, f, k, c.pair.ensures)
 
-returns : tie.Need-returns
+returns : tie.Need-returns-then-terms-eq6
 returns c =
-    let i = c.before.before.before in
-    let b = i.before.before.before in
-    c.pair.ensures ∙ pair_size b.args.positions.now b.args.terms.now c.before.before.term-at.result c.before.term-at2.result i.if1.true c.before.before.term-at.ensures c.before.term-at2.ensures
+    let i = c in
+    let b = i in
+    c.pair.ensures ∙ pair_size b.args.positions.now b.args.terms.now c.term_at.result c.term_at-then-terms-eq6.result i.if-terms-eq6.true c.term_at.ensures c.term_at-then-terms-eq6.ensures
 
-common-requires : tie.Need-common-requires
+common-requires : tie.Need-common-left-requires
 common-requires c κs = search rules
 
-cast-result-2 : tie.Need-overflow-cast-result-2
+cast-result-2 : tie.Need-overflow_cast-result-2
 cast-result-2 c = search rules
 
-same_length : tie.Need-same-length
+same_length : tie.Need-shape_of-a
 same_length c = search rules
 
-same-length-2 : tie.Need-same-length-2
+same-length-2 : tie.Need-shape_of-b
 same-length-2 c = search rules
 
-returns-2 : tie.Need-returns-2
+returns-2 : tie.Need-returns
 returns-2 c =
-    let b = c.before.before.before.before.before.before.before.before in
-    let k = c.before.before.common in
+    let b = c in
+    let k = c.common-left in
     let g = b.requires.0 in
     common-length (startLists b.args.positions.now b.args.terms.now) k.result.now (lists-some b.args.positions.now b.args.terms.now g.whole g.some) k.ensures.0.counts
 
-pub frequency-spec : {M : Type 1} → statement M
-frequency-spec = tie.close (tie.spec term-at-requires term-at-requires-2 pair-requires cast-result returns common-requires cast-result-2 same_length same-length-2 returns-2)
+pub frequency_spec : {M : Type 1} → statement M
+frequency_spec = tie.close (tie.spec term-at-requires term-at-requires-2 pair-requires cast-result returns common-requires cast-result-2 same_length same-length-2 returns-2)

@@ -24,53 +24,53 @@ few n out cs h = omega (arith, length-take n out, h)
 none : (n : ℕ) (out : List ℤ) → n ≡ 0 → length (take n out) ≡ 0
 none n out h = omega (arith, length-take n out, h)
 
-term-at-requires : tie.Need-term-at-requires
+term-at-requires : tie.Need-term_at-requires
 term-at-requires c κs = search rules
 
-intersect-requires : tie.Need-intersect-requires
+intersect-requires : tie.Need-intersect-n-requires
 intersect-requires c κs =
-    let b = c.before.before.before.before in
+    let b = c in
     let p = b.requires in
-    (subst (λ x. GoodTerm b.args.positions.now x) (sym c.before.term-at.ensures) (p.held.good.each b.args.at p.record-start p.there), (p.room, p.held.rising))
+    (subst (λ x. GoodTerm b.args.positions.now x) (sym c.term_at.ensures) (p.held.good.each b.args.at p.record-start p.there), (p.room, p.held.rising))
 
-same_length : tie.Need-same-length
+same_length : tie.Need-shape_of-spare-then-n-eq0
 same_length c = search rules
 
-returns : tie.Need-returns
+returns : tie.Need-returns-then-n-eq0
 returns c =
-    let u = c.before in
-    let a = u.before.before.before.before.before.before.args in
-    let p = u.before.before.before.before.before.before.requires in
-    let i = u.before.intersect in
-    let t = u.before.before.before.term-at in
-    let ms = take i.result i.new.1.1.1.0 in
+    let u = c in
+    let a = u.args in
+    let p = u.requires in
+    let i = u.intersect-n in
+    let t = u.term_at in
+    let ms = take i.result i.new.out in
     let m = met a.positions.now a.terms.now a.at a.cands.now ms t.result t.ensures i.ensures.1 in
-    let f = few i.result i.new.1.1.1.0 a.cands.now i.ensures.0 in
-    (i.ensures.0, meets-none a.positions.now a.terms.now a.rarest a.at a.cands.now (length a.spare.now) p ms m f (none i.result i.new.1.1.1.0 c.if1.true))
+    let f = few i.result i.new.out a.cands.now i.ensures.0 in
+    (i.ensures.0, meets-none a.positions.now a.terms.now a.rarest a.at a.cands.now (length a.spare.now) p ms m f (none i.result i.new.out c.if-n-eq0.true))
 
-add-unmet : tie.Need-overflow-add-unmet
+add-unmet : tie.Need-overflow_add-at
 add-unmet c = search rules
 
-unmet-requires : tie.Need-unmet-requires
+unmet-requires : tie.Need-unmet-next-requires
 unmet-requires c κs = search rules
 
-same-length-2 : tie.Need-same-length-2
+same-length-2 : tie.Need-shape_of-spare
 same-length-2 c = search rules
 
-returns-2 : tie.Need-returns-2
+returns-2 : tie.Need-returns
 returns-2 c =
-    let u = c.before.before in
-    let a = u.before.before.before.before.before.before.args in
-    let p = u.before.before.before.before.before.before.requires in
-    let i = u.before.intersect in
-    let t = u.before.before.before.term-at in
-    let ms = take i.result i.new.1.1.1.0 in
+    let u = c in
+    let a = u.args in
+    let p = u.requires in
+    let i = u.intersect-n in
+    let t = u.term_at in
+    let ms = take i.result i.new.out in
     let m = met a.positions.now a.terms.now a.at a.cands.now ms t.result t.ensures i.ensures.1 in
-    let f = few i.result i.new.1.1.1.0 a.cands.now i.ensures.0 in
-    (i.ensures.0, subst (λ (n : ℕ). Meets a.positions.now a.terms.now a.rarest a.at a.cands.now ms n) (sym c.unmet.ensures) (meets a.positions.now a.terms.now a.rarest a.at a.cands.now (length a.spare.now) p ms m f))
+    let f = few i.result i.new.out a.cands.now i.ensures.0 in
+    (i.ensures.0, subst (λ (n : ℕ). Meets a.positions.now a.terms.now a.rarest a.at a.cands.now ms n) (sym c.unmet-next.ensures) (meets a.positions.now a.terms.now a.rarest a.at a.cands.now (length a.spare.now) p ms m f))
 
-pub meet-spec : {M : Type 1} → statement M
-meet-spec =
+pub meet_spec : {M : Type 1} → statement M
+meet_spec =
     tie.close
     (tie.spec
     term-at-requires

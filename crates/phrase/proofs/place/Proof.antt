@@ -15,42 +15,42 @@ use Rattle.phrase.proofs.Places.{first-common}
 use Rattle.phrase.proofs.place.Statement.{statement}
 use Rattle.phrase.proofs.place.Tie as tie
 
-common-requires : tie.Need-common-requires
+common-requires : tie.Need-common-left-requires
 common-requires c κs = search rules
 
-slice-copy-out-t14 : tie.Need-slice-copy-out-t14
+slice-copy-out-t14 : tie.Need-slice_copy_out-result
 slice-copy-out-t14 c = search rules
 
-same_length : tie.Need-same-length
+same_length : tie.Need-shape_of-a-then-left-eq0
 same_length c = search rules
 
-same-length-2 : tie.Need-same-length-2
+same-length-2 : tie.Need-shape_of-b-then-left-eq0
 same-length-2 c = search rules
 
-returns : tie.Need-returns
+returns : tie.Need-returns-then-left-eq0
 unfolding PlacedIn
 returns c =
-    let b = c.before.before.before.before.before.before.before.before in
-    let k = c.before.before.before.common in
+    let b = c in
+    let k = c.common-left in
     let g = b.requires.0 in
-    sym (common-length (startLists b.args.positions.now b.args.terms.now) k.result.now (lists-some b.args.positions.now b.args.terms.now g.whole g.some) k.ensures.0.counts) ∙ c.before.before.if1.true
+    sym (common-length (startLists b.args.positions.now b.args.terms.now) k.result.now (lists-some b.args.positions.now b.args.terms.now g.whole g.some) k.ensures.0.counts) ∙ c.if-left-eq0.true
 
-same-length-3 : tie.Need-same-length-3
+same-length-3 : tie.Need-shape_of-a-else-left-eq0
 same-length-3 c = search rules
 
-same-length-4 : tie.Need-same-length-4
+same-length-4 : tie.Need-shape_of-b-else-left-eq0
 same-length-4 c = search rules
 
-returns-2 : tie.Need-returns-2
+returns-2 : tie.Need-returns-else-left-eq0
 unfolding PlacedIn
 returns-2 c =
-    let b = c.before.before.before.before.before.before.before.before.before in
-    let k = c.before.before.before.before.common in
+    let b = c in
+    let k = c.common-left in
     let xss = startLists b.args.positions.now b.args.terms.now in
-    subst (λ (s : ℤ). 0 < smallest s xss) (sym (to_z-of_z w32 (get_or k.result.now 0 (pos 0)) (record { sfits = c.before.before.t14.given }))) (first-common xss k.result.now k.ensures.0 c.before.before.before.if1.false)
+    subst (λ (s : ℤ). 0 < smallest s xss) (sym (to_z-of_z w32 (get_or k.result.now 0 (pos 0)) (record { sfits = c.result-1.given }))) (first-common xss k.result.now k.ensures.0 c.if-left-eq0.false)
 
-pub place-spec : {M : Type 1} → statement M
-place-spec =
+pub place_spec : {M : Type 1} → statement M
+place_spec =
     tie.close
     (tie.spec
     common-requires

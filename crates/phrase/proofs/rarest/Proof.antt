@@ -51,16 +51,16 @@ module _ (ts : List ℕ) (best least at : ℕ) (p : Passed ts best least at) (w 
         first = p.first;
       }
 
-abbrev invariant-loop : tie.invariant-loop
+abbrev invariant-loop : tie.invariant-loop-at
 invariant-loop terms best₀ least₀ at₀ best least at = Passed terms best least at
 
-abbrev decreases-loop : tie.decreases-loop
+abbrev decreases-loop : tie.decreases-loop-at
 decreases-loop terms best₀ least₀ at₀ best least at = length terms - at
 
-shared-slice-read-least : tie.Need-shared-slice-read-least invariant-loop decreases-loop
+shared-slice-read-least : tie.Need-bounds-terms-1 invariant-loop decreases-loop
 shared-slice-read-least c = search rules
 
-loop-holds : tie.Need-loop-init invariant-loop decreases-loop
+loop-holds : tie.Need-loop-at-init invariant-loop decreases-loop
 loop-holds c =
     record {
       whole = omega arith;
@@ -72,36 +72,36 @@ loop-holds c =
       first = λ k e l. absurd (not-suc-le-zero l);
     }
 
-add-freq : tie.Need-overflow-add-freq invariant-loop decreases-loop
+add-freq : tie.Need-overflow_add-freq invariant-loop decreases-loop
 add-freq c = search rules
 
-mul-freq : tie.Need-overflow-mul-freq invariant-loop decreases-loop
+mul-freq : tie.Need-offset_bounds-terms-at invariant-loop decreases-loop
 mul-freq c = search rules
 
-shared-slice-read-freq : tie.Need-shared-slice-read-freq invariant-loop decreases-loop
+shared-slice-read-freq : tie.Need-bounds-terms-at invariant-loop decreases-loop
 shared-slice-read-freq c = search rules
 
-add_at : tie.Need-overflow-add-at invariant-loop decreases-loop
+add_at : tie.Need-overflow_add-at invariant-loop decreases-loop
 add_at c = search rules
 
-loop-less : tie.Need-loop-smaller invariant-loop decreases-loop
+loop-less : tie.Need-loop-at-smaller invariant-loop decreases-loop
 loop-less c = search rules
 
-loop-again : tie.Need-loop-preserved invariant-loop decreases-loop
+loop-again : tie.Need-loop-at-preserved invariant-loop decreases-loop
 loop-again c =
-    let l = c.before.before.before in
-    let ts = l.before.before.args.terms.now in
-    let n = l.before.before.requires.1 in
-    let h = c.before.before.loop-test.true in
+    let l = c in
+    let ts = l.args.terms.now in
+    let n = l.requires.1 in
+    let h = c.loop-at-test.true in
     ⊎_elim
-    (λ w. rw (w.1, w.2) (better ts l.loop.best l.loop.least l.loop.at l.loop.invariant n h w.0.taken))
-    (λ w. rw (w.1, w.2) (kept ts l.loop.best l.loop.least l.loop.at l.loop.invariant n h w.0.left))
-    c.if1.branch
+    (λ w. rw (w.best-is, w.least-is) (better ts l.loop-at.best l.loop-at.least l.loop-at.at l.loop-at.invariant n h w.if-freq-least.true))
+    (λ w. rw (w.best-is, w.least-is) (kept ts l.loop-at.best l.loop-at.least l.loop-at.at l.loop-at.invariant n h w.if-freq-least.false))
+    c.if-freq-least.branch-raw
 
 returns : tie.Need-returns invariant-loop decreases-loop
 returns c =
-    let i = c.before.loop.invariant in
-    let h : c.before.loop.at ≡ length c.before.before.before.args.terms.now = omega arith in
+    let i = c.loop-at.invariant in
+    let h : c.loop-at.at ≡ length c.args.terms.now = omega arith in
     record {
       record-start = i.best-whole;
       one-of-them = omega arith;
@@ -109,8 +109,8 @@ returns c =
       first = λ k e q. (let b = i.first k e q in omega (arith, b, i.held));
     }
 
-pub rarest-spec : {M : Type 1} → statement M
-rarest-spec =
+pub rarest_spec : {M : Type 1} → statement M
+rarest_spec =
     tie.close
     (tie.spec
     invariant-loop

@@ -5,16 +5,16 @@ use Rattle.phrase.specs.Step.{unmetFrom}
 use Rattle.phrase.proofs.unmet.Statement.{statement}
 use Rattle.phrase.proofs.unmet.Tie as tie
 
-add-result : tie.Need-overflow-add-result
+add-result : tie.Need-overflow_add-result
 add-result c = search rules
 
-returns : tie.Need-returns
+returns : tie.Need-returns-then-at-rarest
 unfolding unmetFrom
-returns c = rw (eq-eqb c.before.args.at c.before.args.rarest c.if1.true)
+returns c = rw (eq-eqb c.args.at c.args.rarest c.if-at-rarest.true)
 
-returns-2 : tie.Need-returns-2
+returns-2 : tie.Need-returns-else-at-rarest
 unfolding unmetFrom
-returns-2 c = rw (ne_eqb c.before.args.at c.before.args.rarest c.if1.false)
+returns-2 c = rw (ne_eqb c.args.at c.args.rarest c.if-at-rarest.false)
 
-pub unmet-spec : {M : Type 1} → statement M
-unmet-spec = tie.close (tie.spec add-result returns returns-2)
+pub unmet_spec : {M : Type 1} → statement M
+unmet_spec = tie.close (tie.spec add-result returns returns-2)

@@ -96,13 +96,13 @@ no_start ps t cs places out i c n m h =
     starts-end cs (startsOf ps t) (take n out) (drop c cs)
     (subst (λ (xs : List ℤ). Merging cs (startsOf ps t) (take n out) (drop c cs) xs) (drop_of_length-le (startsOf ps t) {i = i} (omega (arith, h, starts-length ps t))) m.merging)
 
-abbrev invariant-loop : tie.invariant-loop
+abbrev invariant-loop : tie.invariant-loop-i
 invariant-loop positions cands out₀ first freq offset i₀ c₀ n₀ out i c n = Merged positions (record { first = first; freq = freq; offset = offset }) cands (length out₀) out i c n
 
-abbrev decreases-loop : tie.decreases-loop
+abbrev decreases-loop : tie.decreases-loop-i
 decreases-loop positions cands out₀ first freq offset i₀ c₀ n₀ out i c n = (freq - i) + (length cands - c)
 
-loop-holds : tie.Need-loop-init invariant-loop decreases-loop
+loop-holds : tie.Need-loop-i-init invariant-loop decreases-loop
 loop-holds c =
     let a = c.before.args in
     let p = c.before.requires in
@@ -114,98 +114,98 @@ loop-holds c =
       merging = merge-begins a.cands.now (startsOf a.positions.now a.t) p.1.1 (starts-ascending a.positions.now a.t p.0);
     }
 
-same_length : tie.Need-same-length invariant-loop decreases-loop
+same_length : tie.Need-shape_of-out-then-c-cands invariant-loop decreases-loop
 same_length c = search rules
 
-returns : tie.Need-returns invariant-loop decreases-loop
+returns : tie.Need-returns-then-c-cands invariant-loop decreases-loop
 returns c =
     let l = c.before.before in
     let a = l.before.before.args in
-    (omega arith, no-candidate a.positions.now a.t a.cands.now (length a.out.now) l.loop.out l.loop.i l.loop.c l.loop.n l.loop.invariant c.if1.true)
+    (omega arith, no-candidate a.positions.now a.t a.cands.now (length a.out.now) l.loop-i.out l.loop-i.i l.loop-i.c l.loop-i.n l.loop-i.invariant c.if-c-cands.true)
 
-add_start : tie.Need-overflow-add-start invariant-loop decreases-loop
+add_start : tie.Need-overflow_add-first invariant-loop decreases-loop
 add_start c = search rules
 
-mul-start : tie.Need-overflow-mul-start invariant-loop decreases-loop
+mul-start : tie.Need-offset_bounds-positions-first invariant-loop decreases-loop
 mul-start c = search rules
 
-shared-slice-read-start : tie.Need-shared-slice-read-start invariant-loop decreases-loop
+shared-slice-read-start : tie.Need-bounds-positions-first invariant-loop decreases-loop
 shared-slice-read-start c = search rules
 
-start-requires : tie.Need-start-requires invariant-loop decreases-loop
+start-requires : tie.Need-start-s-requires invariant-loop decreases-loop
 start-requires c κs =
     let l = c.before.before.before in
     let g = l.before.before.requires.0 in
-    (g.small l.loop.i c.before.before.loop-test.true, g.offset-small)
+    (g.small l.loop-i.i c.before.before.loop-i-test.true, g.offset-small)
 
-mul-cand : tie.Need-overflow-mul-cand invariant-loop decreases-loop
+mul-cand : tie.Need-offset_bounds-cands-c invariant-loop decreases-loop
 mul-cand c = search rules
 
-shared-slice-copy-out-cand : tie.Need-shared-slice-copy-out-cand invariant-loop decreases-loop
+shared-slice-copy-out-cand : tie.Need-bounds-cands-c invariant-loop decreases-loop
 shared-slice-copy-out-cand c = search rules
 
-add-c : tie.Need-overflow-add-c invariant-loop decreases-loop
+add-c : tie.Need-overflow_add-c invariant-loop decreases-loop
 add-c c = search rules
 
-loop-less : tie.Need-loop-smaller invariant-loop decreases-loop
+loop-less : tie.Need-loop-i-smaller-then-cand-s invariant-loop decreases-loop
 loop-less c = search rules
 
-loop-again : tie.Need-loop-preserved invariant-loop decreases-loop
+loop-again : tie.Need-loop-i-preserved-then-cand-s invariant-loop decreases-loop
 loop-again c =
     let k = c.before in
     let l = k.before.before.before.before.before in
     let a = l.before.before.args in
-    passed-candidate a.positions.now a.t a.cands.now (length a.out.now) l.loop.out l.loop.i l.loop.c l.loop.n l.loop.invariant l.before.before.requires.1.0 k.before.before.before.before.loop-test.true k.before.before.before.if1.false k.before.start.result k.before.start.ensures (record { sfits = k.before.start.type-inv }) (record { sfits = k.cand.given }) c.if2.true
+    passed-candidate a.positions.now a.t a.cands.now (length a.out.now) l.loop-i.out l.loop-i.i l.loop-i.c l.loop-i.n l.loop-i.invariant l.before.before.requires.1.0 k.before.before.before.before.loop-i-test.true k.before.before.before.if-c-cands.false k.before.start-s.result k.before.start-s.ensures (record { sfits = k.before.start-s.type_inv }) (record { sfits = k.cand-1.given }) c.if-cand-s.true
 
-add-i : tie.Need-overflow-add-i invariant-loop decreases-loop
+add-i : tie.Need-overflow_add-i invariant-loop decreases-loop
 add-i c = search rules
 
-loop-less-2 : tie.Need-loop-smaller-2 invariant-loop decreases-loop
+loop-less-2 : tie.Need-loop-i-smaller-then-s-cand invariant-loop decreases-loop
 loop-less-2 c = search rules
 
-loop-again-2 : tie.Need-loop-preserved-2 invariant-loop decreases-loop
+loop-again-2 : tie.Need-loop-i-preserved-then-s-cand invariant-loop decreases-loop
 loop-again-2 c =
     let k = c.before.before in
     let l = k.before.before.before.before.before in
     let a = l.before.before.args in
-    passed_start a.positions.now a.t a.cands.now (length a.out.now) l.loop.out l.loop.i l.loop.c l.loop.n l.loop.invariant l.before.before.requires.1.0 k.before.before.before.before.loop-test.true k.before.before.before.if1.false k.before.start.result k.before.start.ensures (record { sfits = k.before.start.type-inv }) (record { sfits = k.cand.given }) c.if3.true
+    passed_start a.positions.now a.t a.cands.now (length a.out.now) l.loop-i.out l.loop-i.i l.loop-i.c l.loop-i.n l.loop-i.invariant l.before.before.requires.1.0 k.before.before.before.before.loop-i-test.true k.before.before.before.if-c-cands.false k.before.start-s.result k.before.start-s.ensures (record { sfits = k.before.start-s.type_inv }) (record { sfits = k.cand-1.given }) c.if-s-cand.true
 
-mul-s : tie.Need-overflow-mul-s invariant-loop decreases-loop
+mul-s : tie.Need-offset_bounds-out-n invariant-loop decreases-loop
 mul-s c = search rules
 
-slice-set-from-s : tie.Need-slice-set-from-s invariant-loop decreases-loop
+slice-set-from-s : tie.Need-bounds-out-n invariant-loop decreases-loop
 slice-set-from-s c = search rules
 
-add-n : tie.Need-overflow-add-n invariant-loop decreases-loop
+add-n : tie.Need-overflow_add-n invariant-loop decreases-loop
 add-n c = search rules
 
-add-c-2 : tie.Need-overflow-add-c-2 invariant-loop decreases-loop
+add-c-2 : tie.Need-overflow_add-c-else-s-cand invariant-loop decreases-loop
 add-c-2 c = search rules
 
-add-i-2 : tie.Need-overflow-add-i-2 invariant-loop decreases-loop
+add-i-2 : tie.Need-overflow_add-i-else-s-cand invariant-loop decreases-loop
 add-i-2 c = search rules
 
-loop-less-3 : tie.Need-loop-smaller-3 invariant-loop decreases-loop
+loop-less-3 : tie.Need-loop-i-smaller invariant-loop decreases-loop
 loop-less-3 c = search rules
 
-loop-again-3 : tie.Need-loop-preserved-3 invariant-loop decreases-loop
+loop-again-3 : tie.Need-loop-i-preserved invariant-loop decreases-loop
 loop-again-3 c =
     let k = c.before.before in
     let l = k.before.before.before.before.before in
     let a = l.before.before.args in
-    met a.positions.now a.t a.cands.now (length a.out.now) l.loop.out l.loop.i l.loop.c l.loop.n l.loop.invariant l.before.before.requires.1.0 k.before.before.before.before.loop-test.true k.before.before.before.if1.false k.before.start.result k.before.start.ensures (record { sfits = k.before.start.type-inv }) (record { sfits = k.cand.given }) c.before.if2.false c.if3.false
+    met a.positions.now a.t a.cands.now (length a.out.now) l.loop-i.out l.loop-i.i l.loop-i.c l.loop-i.n l.loop-i.invariant l.before.before.requires.1.0 k.before.before.before.before.loop-i-test.true k.before.before.before.if-c-cands.false k.before.start-s.result k.before.start-s.ensures (record { sfits = k.before.start-s.type_inv }) (record { sfits = k.cand-1.given }) c.before.if-cand-s.false c.if-s-cand.false
 
-same-length-2 : tie.Need-same-length-2 invariant-loop decreases-loop
+same-length-2 : tie.Need-shape_of-out invariant-loop decreases-loop
 same-length-2 c = search rules
 
-returns-2 : tie.Need-returns-2 invariant-loop decreases-loop
+returns-2 : tie.Need-returns invariant-loop decreases-loop
 returns-2 c =
     let l = c.before in
     let a = l.before.before.args in
-    (omega arith, no_start a.positions.now a.t a.cands.now (length a.out.now) l.loop.out l.loop.i l.loop.c l.loop.n l.loop.invariant c.loop-test.false)
+    (omega arith, no_start a.positions.now a.t a.cands.now (length a.out.now) l.loop-i.out l.loop-i.i l.loop-i.c l.loop-i.n l.loop-i.invariant c.loop-i-test.false)
 
-pub intersect-spec : {M : Type 1} → statement M
-intersect-spec =
+pub intersect_spec : {M : Type 1} → statement M
+intersect_spec =
     tie.close
     (tie.spec
     invariant-loop

@@ -101,13 +101,13 @@ no-first ps s t i j n m h =
     (candidates-end (startsOf ps s) (startsOf ps t) m.matches (drop j (startsOf ps t))
     (subst (λ (l : List ℤ). Merging (startsOf ps s) (startsOf ps t) m.matches l (drop j (startsOf ps t))) (drop_of_length-le (startsOf ps s) {i = i} (omega (arith, h, starts-length ps s))) m.merging))
 
-abbrev invariant-loop : tie.invariant-loop
+abbrev invariant-loop : tie.invariant-loop-i
 invariant-loop positions first freq offset other-first other-freq other_Offset i₀ j₀ n₀ i j n = Paired positions (record { first = first; freq = freq; offset = offset }) (record { first = other-first; freq = other-freq; offset = other_Offset }) i j n
 
-abbrev decreases-loop : tie.decreases-loop
+abbrev decreases-loop : tie.decreases-loop-i
 decreases-loop positions first freq offset other-first other-freq other_Offset i₀ j₀ n₀ i j n = (freq - i) + (other-freq - j)
 
-loop-holds : tie.Need-loop-init invariant-loop decreases-loop
+loop-holds : tie.Need-loop-i-init invariant-loop decreases-loop
 loop-holds c =
     let a = c.before.args in
     let p = c.before.requires in
@@ -120,93 +120,93 @@ loop-holds c =
       merging = merge-begins (startsOf a.positions.now a.s) (startsOf a.positions.now a.t) (starts-ascending a.positions.now a.s p.0) (starts-ascending a.positions.now a.t p.1);
     }
 
-returns : tie.Need-returns invariant-loop decreases-loop
+returns : tie.Need-returns-then-j-other_freq invariant-loop decreases-loop
 returns c =
     let l = c.before.before in
     let a = l.before.before.args in
-    no_second a.positions.now a.s a.t l.loop.i l.loop.j l.loop.n l.loop.invariant c.if1.true
+    no_second a.positions.now a.s a.t l.loop-i.i l.loop-i.j l.loop-i.n l.loop-i.invariant c.if-j-other_freq.true
 
-add_start : tie.Need-overflow-add-start invariant-loop decreases-loop
+add_start : tie.Need-overflow_add-first invariant-loop decreases-loop
 add_start c = search rules
 
-mul-start : tie.Need-overflow-mul-start invariant-loop decreases-loop
+mul-start : tie.Need-offset_bounds-positions-first invariant-loop decreases-loop
 mul-start c = search rules
 
-shared-slice-read-start : tie.Need-shared-slice-read-start invariant-loop decreases-loop
+shared-slice-read-start : tie.Need-bounds-positions-first invariant-loop decreases-loop
 shared-slice-read-start c = search rules
 
-start-requires : tie.Need-start-requires invariant-loop decreases-loop
+start-requires : tie.Need-start-x-requires invariant-loop decreases-loop
 start-requires c κs =
     let l = c.before.before.before in
     let g = l.before.before.requires.0 in
-    (g.small l.loop.i c.before.before.loop-test.true, g.offset-small)
+    (g.small l.loop-i.i c.before.before.loop-i-test.true, g.offset-small)
 
-add-start-2 : tie.Need-overflow-add-start-2 invariant-loop decreases-loop
+add-start-2 : tie.Need-overflow_add-other_first invariant-loop decreases-loop
 add-start-2 c = search rules
 
-mul-start-2 : tie.Need-overflow-mul-start-2 invariant-loop decreases-loop
+mul-start-2 : tie.Need-offset_bounds-positions-other_first invariant-loop decreases-loop
 mul-start-2 c = search rules
 
-shared-slice-read-start-2 : tie.Need-shared-slice-read-start-2 invariant-loop decreases-loop
+shared-slice-read-start-2 : tie.Need-bounds-positions-other_first invariant-loop decreases-loop
 shared-slice-read-start-2 c = search rules
 
-start-requires-2 : tie.Need-start-requires-2 invariant-loop decreases-loop
+start-requires-2 : tie.Need-start-y-requires invariant-loop decreases-loop
 start-requires-2 c κs =
     let k = c.before.before.before in
     let l = k.before.before in
     let g = l.before.before.requires.1 in
-    (g.small l.loop.j (omega (arith, l.loop.invariant.seconds, k.if1.false)), g.offset-small)
+    (g.small l.loop-i.j (omega (arith, l.loop-i.invariant.seconds, k.if-j-other_freq.false)), g.offset-small)
 
-add-i : tie.Need-overflow-add-i invariant-loop decreases-loop
+add-i : tie.Need-overflow_add-i invariant-loop decreases-loop
 add-i c = search rules
 
-loop-less : tie.Need-loop-smaller invariant-loop decreases-loop
+loop-less : tie.Need-loop-i-smaller-then-x-y invariant-loop decreases-loop
 loop-less c = search rules
 
-loop-again : tie.Need-loop-preserved invariant-loop decreases-loop
+loop-again : tie.Need-loop-i-preserved-then-x-y invariant-loop decreases-loop
 loop-again c =
     let k = c.before in
     let l = k.before.before.before.before.before.before in
     let a = l.before.before.args in
-    passed_first a.positions.now a.s a.t l.loop.i l.loop.j l.loop.n l.loop.invariant k.before.before.before.before.before.loop-test.true k.before.before.before.before.if1.false k.before.before.start.result k.start2.result k.before.before.start.ensures k.start2.ensures (record { sfits = k.before.before.start.type-inv }) (record { sfits = k.start2.type-inv }) c.if2.true
+    passed_first a.positions.now a.s a.t l.loop-i.i l.loop-i.j l.loop-i.n l.loop-i.invariant k.before.before.before.before.before.loop-i-test.true k.before.before.before.before.if-j-other_freq.false k.before.before.start-x.result k.start-y.result k.before.before.start-x.ensures k.start-y.ensures (record { sfits = k.before.before.start-x.type_inv }) (record { sfits = k.start-y.type_inv }) c.if-x-y.true
 
-add-j : tie.Need-overflow-add-j invariant-loop decreases-loop
+add-j : tie.Need-overflow_add-j invariant-loop decreases-loop
 add-j c = search rules
 
-loop-less-2 : tie.Need-loop-smaller-2 invariant-loop decreases-loop
+loop-less-2 : tie.Need-loop-i-smaller-then-y-x invariant-loop decreases-loop
 loop-less-2 c = search rules
 
-loop-again-2 : tie.Need-loop-preserved-2 invariant-loop decreases-loop
+loop-again-2 : tie.Need-loop-i-preserved-then-y-x invariant-loop decreases-loop
 loop-again-2 c =
     let k = c.before.before in
     let l = k.before.before.before.before.before.before in
     let a = l.before.before.args in
-    passed-second a.positions.now a.s a.t l.loop.i l.loop.j l.loop.n l.loop.invariant k.before.before.before.before.before.loop-test.true k.before.before.before.before.if1.false k.before.before.start.result k.start2.result k.before.before.start.ensures k.start2.ensures (record { sfits = k.before.before.start.type-inv }) (record { sfits = k.start2.type-inv }) c.if3.true
+    passed-second a.positions.now a.s a.t l.loop-i.i l.loop-i.j l.loop-i.n l.loop-i.invariant k.before.before.before.before.before.loop-i-test.true k.before.before.before.before.if-j-other_freq.false k.before.before.start-x.result k.start-y.result k.before.before.start-x.ensures k.start-y.ensures (record { sfits = k.before.before.start-x.type_inv }) (record { sfits = k.start-y.type_inv }) c.if-y-x.true
 
-add-n : tie.Need-overflow-add-n invariant-loop decreases-loop
+add-n : tie.Need-overflow_add-n invariant-loop decreases-loop
 add-n c = search rules
 
-add-i-2 : tie.Need-overflow-add-i-2 invariant-loop decreases-loop
+add-i-2 : tie.Need-overflow_add-i-else-y-x invariant-loop decreases-loop
 add-i-2 c = search rules
 
-add-j-2 : tie.Need-overflow-add-j-2 invariant-loop decreases-loop
+add-j-2 : tie.Need-overflow_add-j-else-y-x invariant-loop decreases-loop
 add-j-2 c = search rules
 
-loop-less-3 : tie.Need-loop-smaller-3 invariant-loop decreases-loop
+loop-less-3 : tie.Need-loop-i-smaller invariant-loop decreases-loop
 loop-less-3 c = search rules
 
-loop-again-3 : tie.Need-loop-preserved-3 invariant-loop decreases-loop
+loop-again-3 : tie.Need-loop-i-preserved invariant-loop decreases-loop
 loop-again-3 c =
     let k = c.before.before in
     let l = k.before.before.before.before.before.before in
     let a = l.before.before.args in
-    met a.positions.now a.s a.t l.loop.i l.loop.j l.loop.n l.loop.invariant k.before.before.before.before.before.loop-test.true k.before.before.before.before.if1.false k.before.before.start.result k.start2.result k.before.before.start.ensures k.start2.ensures (record { sfits = k.before.before.start.type-inv }) (record { sfits = k.start2.type-inv }) _ _ (omega arith) (omega arith) c.before.if2.false c.if3.false
+    met a.positions.now a.s a.t l.loop-i.i l.loop-i.j l.loop-i.n l.loop-i.invariant k.before.before.before.before.before.loop-i-test.true k.before.before.before.before.if-j-other_freq.false k.before.before.start-x.result k.start-y.result k.before.before.start-x.ensures k.start-y.ensures (record { sfits = k.before.before.start-x.type_inv }) (record { sfits = k.start-y.type_inv }) _ _ (omega arith) (omega arith) c.before.if-x-y.false c.if-y-x.false
 
-returns-2 : tie.Need-returns-2 invariant-loop decreases-loop
+returns-2 : tie.Need-returns invariant-loop decreases-loop
 returns-2 c =
     let l = c.before in
     let a = l.before.before.args in
-    no-first a.positions.now a.s a.t l.loop.i l.loop.j l.loop.n l.loop.invariant c.loop-test.false
+    no-first a.positions.now a.s a.t l.loop-i.i l.loop-i.j l.loop-i.n l.loop-i.invariant c.loop-i-test.false
 
 pub pair_spec : {M : Type 1} → statement M
 pair_spec =

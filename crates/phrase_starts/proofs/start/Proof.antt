@@ -28,17 +28,17 @@ module _ (p o : ℕ) (x y : ℤ) (hp : p ≤ 2147483647) (ho : o ≤ 2147483647)
   same : to_z w32 (of_z w32 (to_z w32 (of_z w32 x) -ℤ to_z w32 (of_z w32 y))) ≡ sub_ℕ p o
   same = ap (λ (z : ℤ). to_z w32 (of_z w32 z)) code-difference ∙ to_z-of_z w32 (sub_ℕ p o) small
 
-signed-requires : tie.Need-signed-requires
+signed-requires : tie.Need-signed-p-requires
 signed-requires c κs = search rules
 
-signed-requires-2 : tie.Need-signed-requires-2
+signed-requires-2 : tie.Need-signed-o-requires
 signed-requires-2 c κs = search rules
 
-sub-result : tie.Need-overflow-sub-result
-sub-result c = fits c.before.before.args.position c.before.before.args.offset c.before.signed.result c.signed2.result c.before.before.requires.0 c.before.before.requires.1 c.before.signed.ensures c.signed2.ensures
+sub-result : tie.Need-overflow_sub-result
+sub-result c = fits c.before.before.args.position c.before.before.args.offset c.before.signed-p.result c.signed-o.result c.before.before.requires.0 c.before.before.requires.1 c.before.signed-p.ensures c.signed-o.ensures
 
 returns : tie.Need-returns
-returns c = same c.before.before.args.position c.before.before.args.offset c.before.signed.result c.signed2.result c.before.before.requires.0 c.before.before.requires.1 c.before.signed.ensures c.signed2.ensures
+returns c = same c.before.before.args.position c.before.before.args.offset c.before.signed-p.result c.signed-o.result c.before.before.requires.0 c.before.before.requires.1 c.before.signed-p.ensures c.signed-o.ensures
 
 pub start_spec : {M : Type 1} → statement M
 start_spec = tie.close (tie.spec signed-requires signed-requires-2 sub-result returns)

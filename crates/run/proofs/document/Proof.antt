@@ -8,25 +8,25 @@ use Rattle.run.proofs.document.Reads as reads
 use Rattle.run.proofs.document.Lts as lts
 
 -- src/run.rt:14:21
-add-result : tie.Need-overflow-add-result
-add-result c = omega (arith, factor-le c.args.stride (c.args.first + c.args.i) c.requires.0, c.well-formed)
+add-result : tie.Need-overflow_add-result
+add-result c = omega (arith, factor-le c.args.stride (c.args.first + c.args.i) c.requires.0, c.well_formed)
 
 -- src/run.rt:14:11
-mul-result : tie.Need-overflow-mul-result
+mul-result : tie.Need-overflow_mul-result
 mul-result c = search rules
 
 -- src/run.rt:14:5
-mul-result-2 : tie.Need-overflow-mul-result-2
+mul-result-2 : tie.Need-offset_bounds-words-stride
 mul-result-2 c = search rules
 
 -- src/run.rt:14:5
-shared-slice-read-result : tie.Need-shared-slice-read-result
+shared-slice-read-result : tie.Need-bounds-words-stride
 shared-slice-read-result c = search rules
 
 -- src/run.rt:10:1
 returns : tie.Need-returns
 returns c = search rules
 
-pub document-spec : {M : Type 1} → statement M
-document-spec =
+pub document_spec : {M : Type 1} → statement M
+document_spec =
     tie.close (tie.spec add-result mul-result mul-result-2 shared-slice-read-result returns)

@@ -5,7 +5,7 @@ use mathlib.Core.Bool.{true, false}
 use native.Mathlib.Omega.{arith}
 use lib.ListN.{length}
 use Rattle.meaning.specs.Limits.{noMoreDocs}
-use Rattle.scorer.specs.Contracts.{lent}
+use Rattle.scorer.specs.Calls.{lent}
 use Rattle.walk.proofs.Walking.{WalkAt, walk_start, walk-asks, walk_top, walk_from, walk-live, walk-stop, walk-found, walk_more}
 use Rattle.walk.proofs.next_match.Statement.{statement}
 use Rattle.walk.proofs.next_match.Tie as tie

@@ -7,7 +7,7 @@ use lib.ListN.{length}
 use Rattle.meaning.specs.Limits.{nodeStateWords}
 use Rattle.meaning.specs.Lent.{Index}
 use Rattle.weight.specs.ScorerTree.{Scorers, allMatch}
-use Rattle.scorer.specs.Contracts.{Lent, PartsHeld}
+use Rattle.scorer.specs.Calls.{Lent, PartsHeld}
 use Rattle.leaf_scorer.proofs.Loops.{back-length}
 use Rattle.scorer.proofs.Firsts.{all-hit, all-miss, all_end}
 use Rattle.bulk_led.specs.Terms.{TermsOnly}

@@ -7,7 +7,7 @@ use lib.ListN.{length}
 use Rattle.meaning.specs.Limits.{nodeStateWords}
 use Rattle.meaning.specs.Lent.{Index}
 use Rattle.weight.specs.ScorerTree.{Scorers, anyMatches}
-use Rattle.scorer.specs.Contracts.{Lent, PartsHeld}
+use Rattle.scorer.specs.Calls.{Lent, PartsHeld}
 use Rattle.leaf_scorer.proofs.Loops.{back-length}
 use Rattle.bulk_led.specs.Terms.{TermsOnly}
 use Rattle.bulk_led.proofs.TermParts.{TermsAt, terms-start, terms-here, term-there, term-held, term-hits, term-misses, terms-next, terms-decided, terms-end, any-hit, any-miss, any-end}

@@ -12,23 +12,23 @@ use Rattle.collector.proofs.codes.float_to_sortable_int.Statement.{statement}
 use Rattle.collector.proofs.codes.float_to_sortable_int.Tie as tie
 
 below : (c : tie.Start) → to_bits binary32 c.args.f < 2 ^ 32
-below c = to_bits-lt binary32 c.args.f (subst T (sym c.well-formed.0.1) tt)
+below c = to_bits-lt binary32 c.args.f (subst T (sym c.well_formed.0.1) tt)
 
-float-to-bits-bits : tie.Need-float-to-bits-bits
+float-to-bits-bits : tie.Need-float_to_bits-bits
 float-to-bits-bits c = search rules
 
-cast-sign : tie.Need-overflow-cast-sign
+cast-sign : tie.Need-overflow_cast-sign
 cast-sign c = record { sfits = omega (arith, below c) }
 
-sub-sign : tie.Need-overflow-sub-sign
+sub-sign : tie.Need-overflow_sub-sign
 sub-sign c = sign_fits (to_bits binary32 c.args.f) (below c)
 
-cast-result : tie.Need-overflow-cast-result
+cast-result : tie.Need-overflow_cast-result
 cast-result c = record { sfits = mask_lt (to_bits binary32 c.args.f) 31 }
 
 returns : tie.Need-returns
 returns c = turned (to_bits binary32 c.args.f) (below c)
 
-pub float-to-sortable-int-spec : {M : Type 1} → statement M
-float-to-sortable-int-spec =
+pub float_to_sortable_int_spec : {M : Type 1} → statement M
+float_to_sortable_int_spec =
     tie.close (tie.spec float-to-bits-bits cast-sign sub-sign cast-result returns)

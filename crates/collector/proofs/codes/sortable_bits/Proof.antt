@@ -25,13 +25,13 @@ pattern c =
     ∙ ap (λ (z : ℤ). bit_or (flag c.args.i * 2147483648 % 4294967296) (nat_abs z)) (lower-is c.args.i c.ranges.i)
     ∙ pattern-is c.args.i c.ranges.i
 
-cast-lower : tie.Need-overflow-cast-lower
+cast-lower : tie.Need-overflow_cast-lower
 cast-lower c = subst (λ (z : ℤ). T (non_neg z) × Fits w32 (nat_abs z)) (sym (lower-is c.args.i c.ranges.i)) (tt, record { fits = omega (arith, c.ranges.i.sfits) })
 
-sub-result : tie.Need-overflow-sub-result
+sub-result : tie.Need-overflow_sub-result
 sub-result c = subst (SFits w32) (sym (flag_is c.args.i c.ranges.i)) (record { sfits = omega (arith, flag-fits c.args.i) })
 
-cast-result : tie.Need-overflow-cast-result
+cast-result : tie.Need-overflow_cast-result
 cast-result c =
     subst (λ (z : ℤ). T (non_neg z) × Fits w32 (nat_abs z)) (sym (ap (λ (z : ℤ). to_z w32 (of_z w32 z)) (flag_is c.args.i c.ranges.i) ∙ flag_one c.args.i))
     (tt, record { fits = omega (arith, flag-fits c.args.i) })
@@ -39,6 +39,6 @@ cast-result c =
 returns : tie.Need-returns
 returns c = pattern c
 
-pub sortable-bits-spec : {M : Type 1} → statement M
-sortable-bits-spec =
+pub sortable_bits_spec : {M : Type 1} → statement M
+sortable_bits_spec =
     tie.close (tie.spec cast-lower sub-result cast-result returns)

@@ -11,17 +11,17 @@ use Rattle.meaning.specs.Ieee754.{sortableBits}
 use Rattle.collector.proofs.codes.sortable_int_to_float.Statement.{statement}
 use Rattle.collector.proofs.codes.sortable_int_to_float.Tie as tie
 
-pattern : (c : tie.After-sortable-bits) → c.sortable-bits.result ≡ sortableBits c.before.args.i
-pattern c = c.sortable-bits.ensures ∙ ap sortableBits (to_z-of_z w32 c.before.args.i c.before.ranges.i)
+pattern : (c : tie.After-sortable_bits) → c.sortable_bits.result ≡ sortableBits c.args.i
+pattern c = c.sortable_bits.ensures ∙ ap sortableBits (to_z-of_z w32 c.args.i c.ranges.i)
 
-sortable-bits-requires : tie.Need-sortable-bits-requires
+sortable-bits-requires : tie.Need-sortable_bits-requires
 sortable-bits-requires c κs = search rules
 
-float-from-bits-result : tie.Need-float-from-bits-result
-float-from-bits-result c = subst (λ (n : ℕ). T (not (nan_bits binary32 n))) (sym (pattern c)) c.before.requires
+float-from-bits-result : tie.Need-float_from_bits-result
+float-from-bits-result c = subst (λ (n : ℕ). T (not (nan_bits binary32 n))) (sym (pattern c)) c.requires
 
 returns : tie.Need-returns
 returns c = ap (of_bits binary32) (pattern c)
 
-pub sortable-int-to-float-spec : {M : Type 1} → statement M
-sortable-int-to-float-spec = tie.close (tie.spec sortable-bits-requires float-from-bits-result returns)
+pub sortable_int_to_float_spec : {M : Type 1} → statement M
+sortable_int_to_float_spec = tie.close (tie.spec sortable-bits-requires float-from-bits-result returns)

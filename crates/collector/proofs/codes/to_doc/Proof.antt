@@ -16,15 +16,15 @@ use Rattle.collector.proofs.codes.to_doc.Tie as tie
 low : (c : tie.Start) → to_z w64 (bit_and (of_z w64 c.args.code) 4294967295) ≡ pos (low_word c.args.code)
 low c = low-is c.args.code c.ranges.code
 
-cast-result : tie.Need-overflow-cast-result
+cast-result : tie.Need-overflow_cast-result
 cast-result c = subst (λ (z : ℤ). T (non_neg z) × Fits w32 (nat_abs z)) (sym (low c)) (tt, record { fits = omega (arith, c.requires) })
 
-sub-result : tie.Need-overflow-sub-result
+sub-result : tie.Need-overflow_sub-result
 sub-result c = subst (λ (z : ℤ). nat_abs z ≤ 2147483647) (sym (low c)) c.requires
 
 returns : tie.Need-returns
 unfolding toDoc
 returns c = ap (λ (z : ℤ). 2147483647 - nat_abs z) (low c)
 
-pub to-doc-spec : {M : Type 1} → statement M
-to-doc-spec = tie.close (tie.spec cast-result sub-result returns)
+pub to_doc_spec : {M : Type 1} → statement M
+to_doc_spec = tie.close (tie.spec cast-result sub-result returns)

@@ -11,5 +11,5 @@ returns : tie.Need-returns
 unfolding wrongRange
 returns c = rw c.wide.ensures
 
-pub wrong-range-spec : {M : Type 1} → statement M
-wrong-range-spec = tie.close (tie.spec wide-requires returns)
+pub wrong_range_spec : {M : Type 1} → statement M
+wrong_range_spec = tie.close (tie.spec wide-requires returns)

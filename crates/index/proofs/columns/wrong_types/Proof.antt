@@ -10,35 +10,35 @@ use borrow.Author.Rules.{rules}
 use Rattle.index.proofs.columns.wrong_types.Statement.{statement}
 use Rattle.index.proofs.columns.wrong_types.Tie as tie
 
-abbrev invariant-loop : tie.invariant-loop
+abbrev invariant-loop : tie.invariant-loop-c
 invariant-loop columns bad₀ c₀ bad c = (bad ≡ anyBelow c (λ j. ltb 1 (get_or columns j 0))) × (c ≤ length columns)
 
-abbrev decreases-loop : tie.decreases-loop
+abbrev decreases-loop : tie.decreases-loop-c
 decreases-loop columns bad₀ c₀ bad c = length columns - c
 
-loop-holds : tie.Need-loop-init invariant-loop decreases-loop
+loop-holds : tie.Need-loop-c-init invariant-loop decreases-loop
 loop-holds c = (sym (any-zero _), omega arith)
 
-mul-bad : tie.Need-overflow-mul-bad invariant-loop decreases-loop
+mul-bad : tie.Need-offset_bounds-columns-c invariant-loop decreases-loop
 mul-bad c = search rules
 
-shared-slice-read-bad : tie.Need-shared-slice-read-bad invariant-loop decreases-loop
+shared-slice-read-bad : tie.Need-bounds-columns-c invariant-loop decreases-loop
 shared-slice-read-bad c = search rules
 
-add-c : tie.Need-overflow-add-c invariant-loop decreases-loop
+add-c : tie.Need-overflow_add-c invariant-loop decreases-loop
 add-c c = search rules
 
-loop-less : tie.Need-loop-smaller invariant-loop decreases-loop
+loop-less : tie.Need-loop-c-smaller invariant-loop decreases-loop
 loop-less c = search rules
 
-loop-again : tie.Need-loop-preserved invariant-loop decreases-loop
-loop-again c = (any-more _ _ _ _ c.before.before.loop.invariant.0 refl, omega arith)
+loop-again : tie.Need-loop-c-preserved invariant-loop decreases-loop
+loop-again c = (any-more _ _ _ _ c.loop-c.invariant.0 refl, omega arith)
 
 returns : tie.Need-returns invariant-loop decreases-loop
-returns c = any-done _ _ _ _ c.before.loop.invariant.0 c.before.loop.invariant.1 c.loop-test.false
+returns c = any-done _ _ _ _ c.loop-c.invariant.0 c.loop-c.invariant.1 c.loop-c-test.false
 
-pub wrong-types-spec : {M : Type 1} → statement M
-wrong-types-spec =
+pub wrong_types_spec : {M : Type 1} → statement M
+wrong_types_spec =
     tie.close
     (tie.spec
     invariant-loop

@@ -11,38 +11,38 @@ use borrow.Author.Rules.{rules}
 use Rattle.index.proofs.fields.wrong_fields.Statement.{statement}
 use Rattle.index.proofs.fields.wrong_fields.Tie as tie
 
-abbrev invariant-loop : tie.invariant-loop
+abbrev invariant-loop : tie.invariant-loop-f
 invariant-loop fields count bad₀ f₀ bad f = (bad ≡ anyBelow f (wrongField (fieldsOnly fields))) × (f ≤ count)
 
-abbrev decreases-loop : tie.decreases-loop
+abbrev decreases-loop : tie.decreases-loop-f
 decreases-loop fields count bad₀ f₀ bad f = count - f
 
-returns : tie.Need-returns invariant-loop decreases-loop
-returns c = fields-not-whole _ c.if1.true
+returns : tie.Need-returns-then-fields-ne0 invariant-loop decreases-loop
+returns c = fields-not-whole _ c.if-fields-ne0.true
 
-returns-2 : tie.Need-returns-2 invariant-loop decreases-loop
-returns-2 c = fields-too-many _ c.before.if1.false c.if2.true
+returns-2 : tie.Need-returns-then-count-gt-MAX_FIELDS invariant-loop decreases-loop
+returns-2 c = fields-too-many _ c.if-fields-ne0.false c.if-count-gt-MAX_FIELDS.true
 
-loop-holds : tie.Need-loop-init invariant-loop decreases-loop
+loop-holds : tie.Need-loop-f-init invariant-loop decreases-loop
 loop-holds c = (sym (any-zero _), omega arith)
 
-wrong-field-requires : tie.Need-wrong-field-requires invariant-loop decreases-loop
+wrong-field-requires : tie.Need-wrong_field-bad-requires invariant-loop decreases-loop
 wrong-field-requires c κs = search rules
 
-add-f : tie.Need-overflow-add-f invariant-loop decreases-loop
+add-f : tie.Need-overflow_add-f invariant-loop decreases-loop
 add-f c = search rules
 
-loop-less : tie.Need-loop-smaller invariant-loop decreases-loop
+loop-less : tie.Need-loop-f-smaller invariant-loop decreases-loop
 loop-less c = search rules
 
-loop-again : tie.Need-loop-preserved invariant-loop decreases-loop
-loop-again c = (any-more _ _ _ _ c.before.before.loop.invariant.0 c.wrong-field.ensures, omega arith)
+loop-again : tie.Need-loop-f-preserved invariant-loop decreases-loop
+loop-again c = (any-more _ _ _ _ c.loop-f.invariant.0 c.wrong_field-bad.ensures, omega arith)
 
-returns-3 : tie.Need-returns-3 invariant-loop decreases-loop
-returns-3 c = any-done _ _ _ _ c.before.loop.invariant.0 c.before.loop.invariant.1 c.loop-test.false ∙ fields-some _ c.before.before.before.if1.false c.before.before.if2.false
+returns-3 : tie.Need-returns invariant-loop decreases-loop
+returns-3 c = any-done _ _ _ _ c.loop-f.invariant.0 c.loop-f.invariant.1 c.loop-f-test.false ∙ fields-some _ c.if-fields-ne0.false c.if-count-gt-MAX_FIELDS.false
 
-pub wrong-fields-spec : {M : Type 1} → statement M
-wrong-fields-spec =
+pub wrong_fields_spec : {M : Type 1} → statement M
+wrong_fields_spec =
     tie.close
     (tie.spec
     invariant-loop

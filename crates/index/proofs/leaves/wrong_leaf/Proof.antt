@@ -4,10 +4,10 @@ use borrow.Author.Rules.{rules}
 use Rattle.index.proofs.leaves.wrong_leaf.Statement.{statement}
 use Rattle.index.proofs.leaves.wrong_leaf.Tie as tie
 
-leaf-at-requires : tie.Need-leaf-at-requires
+leaf-at-requires : tie.Need-leaf_at-leaf-requires
 leaf-at-requires c κs = search rules
 
-sum-requires : tie.Need-sum-requires
+sum-requires : tie.Need-sum-end-requires
 sum-requires c κs = search rules
 
 wide-requires : tie.Need-wide-requires
@@ -15,7 +15,7 @@ wide-requires c κs = search rules
 
 returns : tie.Need-returns
 unfolding wrongLeaf
-returns c = rw (c.before.wide.ensures, c.before.before.sum.ensures, c.before.before.before.leaf-at.ensures)
+returns c = rw (c.wide.ensures, c.sum-end.ensures, c.leaf_at-leaf.ensures)
 
-pub wrong-leaf-spec : {M : Type 1} → statement M
-wrong-leaf-spec = tie.close (tie.spec leaf-at-requires sum-requires wide-requires returns)
+pub wrong_leaf_spec : {M : Type 1} → statement M
+wrong_leaf_spec = tie.close (tie.spec leaf-at-requires sum-requires wide-requires returns)

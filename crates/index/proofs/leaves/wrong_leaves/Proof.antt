@@ -11,38 +11,38 @@ use borrow.Author.Rules.{rules}
 use Rattle.index.proofs.leaves.wrong_leaves.Statement.{statement}
 use Rattle.index.proofs.leaves.wrong_leaves.Tie as tie
 
-abbrev invariant-loop : tie.invariant-loop
+abbrev invariant-loop : tie.invariant-loop-l
 invariant-loop fields leaves postings count bad₀ l₀ bad l = (bad ≡ anyBelow l (wrongLeaf (leavesOnly fields leaves postings))) × (l ≤ count)
 
-abbrev decreases-loop : tie.decreases-loop
+abbrev decreases-loop : tie.decreases-loop-l
 decreases-loop fields leaves postings count bad₀ l₀ bad l = count - l
 
-returns : tie.Need-returns invariant-loop decreases-loop
-returns c = leaves-not-whole _ c.if1.true
+returns : tie.Need-returns-then-leaves-ne0 invariant-loop decreases-loop
+returns c = leaves-not-whole _ c.if-leaves-ne0.true
 
-returns-2 : tie.Need-returns-2 invariant-loop decreases-loop
-returns-2 c = leaves-too-many _ c.before.if1.false c.if2.true
+returns-2 : tie.Need-returns-then-count-gt-MAX_LEAVES invariant-loop decreases-loop
+returns-2 c = leaves-too-many _ c.if-leaves-ne0.false c.if-count-gt-MAX_LEAVES.true
 
-loop-holds : tie.Need-loop-init invariant-loop decreases-loop
+loop-holds : tie.Need-loop-l-init invariant-loop decreases-loop
 loop-holds c = (sym (any-zero _), omega arith)
 
-wrong-leaf-requires : tie.Need-wrong-leaf-requires invariant-loop decreases-loop
+wrong-leaf-requires : tie.Need-wrong_leaf-bad-requires invariant-loop decreases-loop
 wrong-leaf-requires c κs = search rules
 
-add-l : tie.Need-overflow-add-l invariant-loop decreases-loop
+add-l : tie.Need-overflow_add-l invariant-loop decreases-loop
 add-l c = search rules
 
-loop-less : tie.Need-loop-smaller invariant-loop decreases-loop
+loop-less : tie.Need-loop-l-smaller invariant-loop decreases-loop
 loop-less c = search rules
 
-loop-again : tie.Need-loop-preserved invariant-loop decreases-loop
-loop-again c = (any-more _ _ _ _ c.before.before.loop.invariant.0 c.wrong-leaf.ensures, omega arith)
+loop-again : tie.Need-loop-l-preserved invariant-loop decreases-loop
+loop-again c = (any-more _ _ _ _ c.loop-l.invariant.0 c.wrong_leaf-bad.ensures, omega arith)
 
-returns-3 : tie.Need-returns-3 invariant-loop decreases-loop
-returns-3 c = any-done _ _ _ _ c.before.loop.invariant.0 c.before.loop.invariant.1 c.loop-test.false ∙ leaves-some _ c.before.before.before.if1.false c.before.before.if2.false
+returns-3 : tie.Need-returns invariant-loop decreases-loop
+returns-3 c = any-done _ _ _ _ c.loop-l.invariant.0 c.loop-l.invariant.1 c.loop-l-test.false ∙ leaves-some _ c.if-leaves-ne0.false c.if-count-gt-MAX_LEAVES.false
 
-pub wrong-leaves-spec : {M : Type 1} → statement M
-wrong-leaves-spec =
+pub wrong_leaves_spec : {M : Type 1} → statement M
+wrong_leaves_spec =
     tie.close
     (tie.spec
     invariant-loop

@@ -7,31 +7,31 @@ use borrow.Author.Rules.{rules}
 use Rattle.index.proofs.live.is_live.Statement.{statement}
 use Rattle.index.proofs.live.is_live.Tie as tie
 
-returns : tie.Need-returns
+returns : tie.Need-returns-then-live-eq0
 unfolding isLive
-returns c = rw (eq-eqb _ _ c.if1.true)
+returns c = rw (eq-eqb _ _ c.if-live-eq0.true)
 
 wide-requires : tie.Need-wide-requires
 wide-requires c κs = search rules
 
-mul-word : tie.Need-overflow-mul-word
+mul-word : tie.Need-offset_bounds-live-wide
 mul-word c = search rules
 
-shared-slice-read-word : tie.Need-shared-slice-read-word
-shared-slice-read-word c = let n = c.before.before.before.before in let h = n.requires (omega arith) in omega (arith, c.before.wide.ensures, h)
+shared-slice-read-word : tie.Need-bounds-live-wide
+shared-slice-read-word c = let n = c in let h = n.requires (omega arith) in omega (arith, c.wide.ensures, h)
 
-cast-result : tie.Need-overflow-cast-result
+cast-result : tie.Need-overflow_cast-result
 cast-result c = search rules
 
-shr-result : tie.Need-overflow-shr-result
+shr-result : tie.Need-overflow_shr-result
 shr-result c = search rules
 
-returns-2 : tie.Need-returns-2
+returns-2 : tie.Need-returns
 unfolding isLive
-returns-2 c = rw (ne_eqb _ _ c.before.before.if1.false, c.before.wide.ensures) refl
+returns-2 c = rw (ne_eqb _ _ c.if-live-eq0.false, c.wide.ensures) refl
 
-pub is-live-spec : {M : Type 1} → statement M
-is-live-spec =
+pub is_live_spec : {M : Type 1} → statement M
+is_live_spec =
     tie.close
     (tie.spec
     returns

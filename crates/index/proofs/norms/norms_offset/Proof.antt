@@ -9,17 +9,17 @@ use borrow.Author.Rules.{rules}
 use Rattle.index.proofs.norms.norms_offset.Statement.{statement}
 use Rattle.index.proofs.norms.norms_offset.Tie as tie
 
-norms-before-requires : tie.Need-norms-before-requires
+norms-before-requires : tie.Need-norms_before-requires
 norms-before-requires c κs = search rules
 
 wide-requires : tie.Need-wide-requires
 wide-requires c κs = search rules
 
-mul-result : tie.Need-overflow-mul-result
-mul-result c = let a = c.before.before.before in let h : c.before.norms-before.result ≤ 16 = omega (arith, c.before.norms-before.ensures, count-le a.args.field (hasNorms (fieldsOnly a.args.fields.now))) in let g : c.wide.result ≤ 4294967295 = omega (arith, c.wide.ensures) in omega (arith, product_le _ _ _ _ h g)
+mul-result : tie.Need-overflow_mul-result
+mul-result c = let a = c in let h : c.norms_before.result ≤ 16 = omega (arith, c.norms_before.ensures, count-le a.args.field (hasNorms (fieldsOnly a.args.fields.now))) in let g : c.wide.result ≤ 4294967295 = omega (arith, c.wide.ensures) in omega (arith, product_le _ _ _ _ h g)
 
 returns : tie.Need-returns
-returns c = rw (c.before.norms-before.ensures, c.wide.ensures)
+returns c = rw (c.norms_before.ensures, c.wide.ensures)
 
-pub norms-offset-spec : {M : Type 1} → statement M
-norms-offset-spec = tie.close (tie.spec norms-before-requires wide-requires mul-result returns)
+pub norms_offset_spec : {M : Type 1} → statement M
+norms_offset_spec = tie.close (tie.spec norms-before-requires wide-requires mul-result returns)

@@ -5,7 +5,7 @@ use lib.ListN.{length}
 use Rattle.meaning.specs.Limits.{nodeStateWords}
 use Rattle.score.proofs.Parts.{back-length}
 use Rattle.score.proofs.Loops.{places_same, put, optional-there, optional-stop, optional-term-ask, optional-kind, optional-mid, optional-left, optional-child, optional-number, optional-term-took}
-use Rattle.scorer.specs.Contracts.{lent}
+use Rattle.scorer.specs.Calls.{lent}
 use Prim.Native.Nat.{ℕ, min, ◌+◌}
 use Rattle.score.proofs.optional.Reads as optional
 use Rattle.score.proofs.+joined_optional_required_score.Lts-optional as optional-lts

@@ -6,8 +6,8 @@ use lib.Dec.{leb}
 use Rattle.meaning.specs.Limits.{noMoreDocs}
 use Rattle.meaning.specs.Lent.{Index}
 use Rattle.weight.specs.ScorerTree.{Scorers, matching}
-use Rattle.scorer.specs.Contracts.{PartsHeld, LeadHeld, BooleanHeld, leads, takes}
-use Rattle.leaf_scorer.specs.Contracts.{lent}
+use Rattle.scorer.specs.Calls.{PartsHeld, LeadHeld, BooleanHeld, leads, takes}
+use Rattle.leaf_scorer.specs.Calls.{lent}
 use Rattle.scorer.proofs.Loops.{LeastAt, PassAt}
 use Rattle.leaf_scorer.proofs.Loops.{Lengths, Going}
 use Prim.Native.Nat.{ℕ, ◌<◌}

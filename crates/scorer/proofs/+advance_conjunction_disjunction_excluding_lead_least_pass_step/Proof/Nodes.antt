@@ -6,7 +6,7 @@ use native.Mathlib.Omega.{arith}
 use lib.ListN.{length, length-set, take, drop}
 use lib.Seq.{length-take-le, get_or-set_same}
 use Rattle.meaning.specs.Limits.{noMoreDocs, nodeStateWords}
-use Rattle.leaf_scorer.specs.Contracts.{lent}
+use Rattle.leaf_scorer.specs.Calls.{lent}
 use Rattle.leaf_scorer.proofs.Bounds.{ok-long}
 use Rattle.scorer.proofs.Firsts.{kept_top, kept-alone, kept-hit, kept_more}
 use Rattle.leaf_scorer.proofs.Loops.{back-length}

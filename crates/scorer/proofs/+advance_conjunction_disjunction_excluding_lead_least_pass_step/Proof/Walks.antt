@@ -6,7 +6,7 @@ use Rattle.scorer.proofs.Children.{child-facts, child-held, child-kind, child-ca
 use Rattle.leaf_scorer.proofs.Loops.{back-length}
 use Rattle.scorer.proofs.Loops.{least_start, least-end, least_skip, least-took, pass-start, pass-end, pass-skip, pass-took, pass-asked}
 use Prim.Native.Nat.{ℕ, ◌+◌}
-use Rattle.leaf_scorer.specs.Contracts.{lent}
+use Rattle.leaf_scorer.specs.Calls.{lent}
 use Rattle.scorer.proofs.least.Reads as least
 use Rattle.scorer.proofs.+advance_conjunction_disjunction_excluding_lead_least_pass_step.Lts-least as least-lts
 use Rattle.scorer.proofs.pass.Reads as pass

@@ -20,37 +20,37 @@ use Rattle.sim.proofs.bm25.Bm25.new.Tie as tie
 abbrev entry : Float → ℕ → Float
 entry average n = inverse average (length_of n)
 
-abbrev invariant-loop : tie.invariant-loop
+abbrev invariant-loop : tie.invariant-loop-norm
 invariant-loop average cache₀ norm₀ cache norm = (norm ≤ 256) × (length cache ≡ 256) × (take norm cache ≡ listTo norm (entry average))
 
-abbrev decreases-loop : tie.decreases-loop
+abbrev decreases-loop : tie.decreases-loop-norm
 decreases-loop average cache₀ norm₀ cache norm = 256 - norm
 
-loop-holds : tie.Need-loop-init invariant-loop decreases-loop
+loop-holds : tie.Need-loop-norm-init invariant-loop decreases-loop
 loop-holds c = (lit≤ tt, refl, sym (listTo-zero (entry c.args.average)))
 
-cast-byte4-to-int : tie.Need-overflow-cast-byte4-to-int invariant-loop decreases-loop
+cast-byte4-to-int : tie.Need-overflow_cast-norm invariant-loop decreases-loop
 cast-byte4-to-int c = search rules
 
-byte4-to-int-requires : tie.Need-byte4-to-int-requires invariant-loop decreases-loop
+byte4-to-int-requires : tie.Need-byte4_to_int-requires invariant-loop decreases-loop
 byte4-to-int-requires c κs = search rules
 
-length-to-f32-requires : tie.Need-length-to-f32-requires invariant-loop decreases-loop
+length-to-f32-requires : tie.Need-length_to_f32-len-requires invariant-loop decreases-loop
 length-to-f32-requires c κs = search rules
 
-norm-inverse-requires : tie.Need-norm-inverse-requires invariant-loop decreases-loop
+norm-inverse-requires : tie.Need-norm_inverse-requires invariant-loop decreases-loop
 norm-inverse-requires c κs = search rules
 
-mul-cache : tie.Need-overflow-mul-cache invariant-loop decreases-loop
+mul-cache : tie.Need-offset_bounds-cache-norm invariant-loop decreases-loop
 mul-cache c = search rules
 
-array-write-cache : tie.Need-array-write-cache invariant-loop decreases-loop
+array-write-cache : tie.Need-bounds-cache-norm invariant-loop decreases-loop
 array-write-cache c = search rules
 
-add-norm : tie.Need-overflow-add-norm invariant-loop decreases-loop
+add-norm : tie.Need-overflow_add-norm invariant-loop decreases-loop
 add-norm c = search rules
 
-loop-less : tie.Need-loop-smaller invariant-loop decreases-loop
+loop-less : tie.Need-loop-norm-smaller invariant-loop decreases-loop
 loop-less c = search rules
 
 length-is : (n : ℕ) → of_int binary32 (pos (byte4ToInt n)) ≡ length_of n
@@ -66,24 +66,24 @@ filled f t i v h all e =
     ∙ ap (λ (z : Float). listTo i f ++ (z ∷ [])) e
     ∙ sym (listTo-next f i)
 
-loop-again : tie.Need-loop-preserved invariant-loop decreases-loop
+loop-again : tie.Need-loop-norm-preserved invariant-loop decreases-loop
 loop-again c =
-    let l = c.before.before.before.before.loop in
+    let l = c.before.before.before.before.loop-norm in
     let a = c.before.before.before.before.before.args.average in
-    let in-range = c.before.before.before.loop-test.true in
-    let v : c.norm-inverse.result ≡ entry a l.norm =
-    c.norm-inverse.ensures
-    ∙ ap (inverse a) (c.before.length-to-f32.ensures ∙ ap (λ (z : ℕ). of_int binary32 (pos z)) c.before.before.byte4-to-int.ensures ∙ length-is l.norm) in (
+    let in-range = c.before.before.before.loop-norm-test.true in
+    let v : c.norm_inverse.result ≡ entry a l.norm =
+    c.norm_inverse.ensures
+    ∙ ap (inverse a) (c.before.length_to_f32-len.ensures ∙ ap (λ (z : ℕ). of_int binary32 (pos z)) c.before.before.byte4_to_int.ensures ∙ length-is l.norm) in (
       search rules,
-      length-set l.cache l.norm c.norm-inverse.result ∙ l.invariant.1,
-      filled (entry a) l.cache l.norm c.norm-inverse.result (subst (λ (z : ℕ). l.norm < z) (sym l.invariant.1) in-range) l.invariant.2 v,
+      length-set l.cache l.norm c.norm_inverse.result ∙ l.invariant.1,
+      filled (entry a) l.cache l.norm c.norm_inverse.result (subst (λ (z : ℕ). l.norm < z) (sym l.invariant.1) in-range) l.invariant.2 v,
     )
 
 returns : tie.Need-returns invariant-loop decreases-loop
 returns c =
-    let l = c.before.loop in
+    let l = c.before.loop-norm in
     let a = c.before.before.args.average in
-    let end : l.norm ≡ 256 = le_antisymm l.invariant.0 c.loop-test.false in
+    let end : l.norm ≡ 256 = le_antisymm l.invariant.0 c.loop-norm-test.false in
     sym (take_all l.norm l.cache (le_of_eq (l.invariant.1 ∙ sym end))) ∙ l.invariant.2 ∙ ap (λ (n : ℕ). listTo n (entry a)) end
 
 pub new_spec : {M : Type 1} → statement M

@@ -6,5 +6,5 @@ use Rattle.sim.proofs.bm25.Bm25.norm_inverse.Tie as tie
 returns : tie.Need-returns
 returns c = refl
 
-pub norm-inverse-spec : {M : Type 1} → statement M
-norm-inverse-spec = tie.close (tie.spec returns)
+pub norm_inverse_spec : {M : Type 1} → statement M
+norm_inverse_spec = tie.close (tie.spec returns)

@@ -6,5 +6,5 @@ use Rattle.sim.proofs.bm25.Bm25.score.Tie as tie
 returns : tie.Need-returns
 returns c = refl
 
-pub score-spec : {M : Type 1} → statement M
-score-spec = tie.close (tie.spec returns)
+pub score_spec : {M : Type 1} → statement M
+score_spec = tie.close (tie.spec returns)
