@@ -14,4 +14,3 @@ pub mod Entering
 pub mod Popping
 pub mod Beginning
 pub mod Picked
-pub mod Lent

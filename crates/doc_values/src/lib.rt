@@ -1,4 +1,6 @@
 // Numeric columns: the documents whose value lies in a range, by one scan of the column.
+#![tactic(auto)]
+
 ghost use Rattle.std.specs.Prelude.{◌+◌, ◌*◌, ◌≤◌, ◌≡◌, false, cond, length, take};
 ghost use Rattle.meaning.specs.Below.{listBelow};
 ghost use Rattle.meaning.specs.Range.{rangeDocuments};

@@ -1,5 +1,7 @@
 // Norm bytes from the written postings: the length of a field in each document, coded. The lengths of a window of documents
 // are counted in a local array, so that no buffer is lent for them; each leaf's cursor goes over its run once.
+#![tactic(auto)]
+
 ghost use Rattle.std.specs.Prelude.{◌≡◌, ℕ, ◌+◌, ◌-◌, ◌*◌, ◌<◌, ◌≤◌, ◌^◌, min, length, get_or};
 ghost use Rattle.std.proofs.lemmas.List.Edits.{sets};
 ghost use Rattle.meaning.specs.Below.{countBelow, listTo};

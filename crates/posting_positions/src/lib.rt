@@ -1,4 +1,6 @@
 // The positions of a run's postings.
+#![tactic(auto)]
+
 ghost use Rattle.std.specs.Prelude.{◌≡◌, ℕ, ◌+◌, ◌*◌, ◌/◌, ◌<◌, ◌≤◌, true, false, length, slice_index};
 ghost use Rattle.meaning.specs.Below.{anyBelow, countBelow};
 ghost use Rattle.posting_positions.specs.Places.{wrongPlace, wrongPlaces, apartAt, seamAt, drop_at};

@@ -1,5 +1,7 @@
 // The query's records: reading them, and refusal 7.
 // A record is 9 words: kind, occurrence, number of children, six values. After it stand its children's trees.
+#![tactic(auto)]
+
 pub mod shape;
 
 ghost use Rattle.std.specs.Prelude.{◌≡◌, ◌<◌};

@@ -1,1 +1,2 @@
 // The index made from tokens, as theorems about the definitions: see proofs/.
+#![tactic(auto)]

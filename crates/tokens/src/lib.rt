@@ -1,4 +1,6 @@
 // Token records, three words each: leaf, document, position; what 15 asks of them, and how many postings and positions they fill.
+#![tactic(auto)]
+
 ghost use Rattle.std.specs.Prelude.{◌≡◌, false, ◌<◌, ◌-◌, ◌^◌, length};
 ghost use Rattle.meaning.specs.Below.{anyBelow};
 ghost use Rattle.meaning.specs.Lent.{joined};

@@ -13,53 +13,53 @@ use Rattle.doc_values.proofs.range.Statement.{statement}
 use Rattle.doc_values.proofs.range.Tie as tie
 
 abbrev lent : tie.Start → Index
-lent s = columnsOnly s.args.max-doc s.args.columns.now s.args.values.now
+lent s = columnsOnly s.args.max_doc s.args.columns.now s.args.values.now
 
 abbrev asked : tie.Start → NumericRange
 asked s = record { column = s.args.column; kinds = s.args.kinds; lower = s.args.lower; upper = s.args.upper }
 
 -- the column's values are there
-fits : (s : tie.Start) → 3 * (s.args.column * s.args.max-doc) + 3 * s.args.max-doc ≤ length s.args.values.now
+fits : (s : tie.Start) → 3 * (s.args.column * s.args.max_doc) + 3 * s.args.max_doc ≤ length s.args.values.now
 fits s = column_fits (lent s) (asked s) s.requires.1.0 s.requires.1.1.0
 
 -- the range is what the scan lists, and so the output is that of the range
 same-written : (l m out out' : List ℕ) → l ≡ m → out' ≡ written l out → out' ≡ written m out
 same-written l m out out' e h = h ∙ ap (λ (x : List ℕ). written x out) e
 
-mul-column-type : tie.Need-overflow-mul-column-type
+mul-column-type : tie.Need-offset_bounds-columns-at
 mul-column-type c = search rules
 
-shared-slice-read-column-type : tie.Need-shared-slice-read-column-type
-shared-slice-read-column-type c = column-there (lent c.before.before.before.before) (asked c.before.before.before.before) c.before.before.before.before.requires.1.1.0
+shared-slice-read-column-type : tie.Need-bounds-columns-at
+shared-slice-read-column-type c = column-there (lent c.before.before.before.before) (asked c.before.before.before.before) c.requires.1.1.0
 
-mul-start : tie.Need-overflow-mul-start
-mul-start c = let s = c.before.before.before.before in omega (arith, fits s, s.well-formed)
+mul-start : tie.Need-overflow_mul-start
+mul-start c = let s = c.before.before.before.before in omega (arith, fits s, s.well_formed)
 
-mul-start-2 : tie.Need-overflow-mul-start-2
-mul-start-2 c = let s = c.before.before.before.before in omega (arith, fits s, s.well-formed)
+mul-start-2 : tie.Need-overflow_mul-start-2
+mul-start-2 c = let s = c.before.before.before.before in omega (arith, fits s, s.well_formed)
 
-range-keys-requires : tie.Need-range-keys-requires
+range-keys-requires : tie.Need-range_keys-keys-requires
 range-keys-requires c κs = search rules
 
 scan-requires : tie.Need-scan-requires
 scan-requires c κs = let s = c.before.before.before.before.before.before in (fits s, s.requires.1.1.1)
 
-same_length : tie.Need-same-length
+same_length : tie.Need-shape_of-output
 same_length c = search rules
 
 returns : tie.Need-returns
 returns c =
     let s = c.before.before.before.before.before.before.before.before.before in
     let a = s.args in
-    let keys = c.before.before.before.before.range-keys in
+    let keys = c.range_keys-keys in
     let same =
-    scan-is-range a.max-doc a.columns.now a.values.now (asked s)
-    (λ i. (c.before.before.before.before.before.before.before.shared-slice-known2.given i).fits) s.ranges.lower.fits s.ranges.upper.fits
+    scan-is-range a.max_doc a.columns.now a.values.now (asked s)
+    (λ i. (c.shared_slice_known-2-1.given i).fits) s.ranges.lower.fits s.ranges.upper.fits
     keys.result.from keys.result.to keys.ensures in
-    (c.before.before.scan.ensures.0 ∙ ap length same, same-written _ _ a.output.now _ same c.before.before.scan.ensures.1)
+    (c.scan.ensures.0 ∙ ap length same, same-written _ _ a.output.now _ same c.scan.ensures.1)
 
-pub range-spec : {M : Type 1} → statement M
-range-spec =
+pub range_spec : {M : Type 1} → statement M
+range_spec =
     tie.close
     (tie.spec
     mul-column-type

@@ -13,10 +13,10 @@ use Rattle.norm_writer.proofs.Leaves.{Added, added-start, cursors-long, counts-l
 use Rattle.norm_writer.proofs.add_leaves.Statement.{statement}
 use Rattle.norm_writer.proofs.add_leaves.Tie as tie
 
-abbrev invariant-loop : tie.invariant-loop
+abbrev invariant-loop : tie.invariant-loop-l
 invariant-loop leaf_fields field postings runs base cursors₀ counts₀ l₀ cursors counts l = Added leaf_fields postings runs field base (length counts₀) l cursors counts
 
-abbrev decreases-loop : tie.decreases-loop
+abbrev decreases-loop : tie.decreases-loop-l
 decreases-loop leaf_fields field postings runs base cursors₀ counts₀ l₀ cursors counts l = length leaf_fields - l
 
 -- the leaves before l are added
@@ -32,97 +32,97 @@ counts-kept s l cursors counts added = counts-long s.args.leaf_fields.now s.args
 done : (s : tie.Start invariant-loop decreases-loop) (l : ℕ) (cursors counts : List ℕ) → AddedTo s l cursors counts → length s.args.leaf_fields.now ≤ l → (cursors ≡ listTo 512 (cursorsAt s.args.leaf_fields.now s.args.postings.now s.args.runs.now s.args.field (s.args.base + length s.args.counts.now))) × (counts ≡ listTo (length s.args.counts.now) (λ j. lengthIn s.args.leaf_fields.now s.args.postings.now s.args.runs.now s.args.field (s.args.base + j)))
 done s l cursors counts added all = (cursors-done s.args.leaf_fields.now s.args.postings.now s.args.runs.now s.requires.0.0 s.args.field s.args.base (length s.args.counts.now) l cursors counts added all, counts-done s.args.leaf_fields.now s.args.postings.now s.args.runs.now s.requires.0.0 s.args.field s.args.base (length s.args.counts.now) l cursors counts added all)
 
-loop-holds : tie.Need-loop-init invariant-loop decreases-loop
-loop-holds c = let s = c.before.before.before.before.before in added-start s.args.leaf_fields.now s.args.postings.now s.args.runs.now s.requires.0.0 s.args.field s.args.base (length s.args.counts.now) s.args.cursors.now s.args.counts.now s.requires.1.0 s.requires.1.1
+loop-holds : tie.Need-loop-l-init invariant-loop decreases-loop
+loop-holds c = let s = c in added-start s.args.leaf_fields.now s.args.postings.now s.args.runs.now s.requires.0.0 s.args.field s.args.base (length s.args.counts.now) s.args.cursors.now s.args.counts.now s.requires.1.0 s.requires.1.1
 
-mul-if1 : tie.Need-overflow-mul-if1 invariant-loop decreases-loop
+mul-if1 : tie.Need-offset_bounds-leaf_fields-l invariant-loop decreases-loop
 mul-if1 c = search rules
 
-shared-slice-read-if1 : tie.Need-shared-slice-read-if1 invariant-loop decreases-loop
+shared-slice-read-if1 : tie.Need-bounds-leaf_fields-l invariant-loop decreases-loop
 shared-slice-read-if1 c = search rules
 
-mul_wide : tie.Need-overflow-mul-wide invariant-loop decreases-loop
+mul_wide : tie.Need-overflow_mul-l invariant-loop decreases-loop
 mul_wide c = search rules
 
-mul-wide-2 : tie.Need-overflow-mul-wide-2 invariant-loop decreases-loop
+mul-wide-2 : tie.Need-offset_bounds-runs-l invariant-loop decreases-loop
 mul-wide-2 c = search rules
 
-shared-slice-read-wide : tie.Need-shared-slice-read-wide invariant-loop decreases-loop
+shared-slice-read-wide : tie.Need-bounds-runs-l invariant-loop decreases-loop
 shared-slice-read-wide c = search rules
 
 wide-requires : tie.Need-wide-requires invariant-loop decreases-loop
 wide-requires c κs = tt
 
-mul-wide-3 : tie.Need-overflow-mul-wide-3 invariant-loop decreases-loop
+mul-wide-3 : tie.Need-overflow_mul-l-then-leaf_fields-l invariant-loop decreases-loop
 mul-wide-3 c = search rules
 
-add_wide : tie.Need-overflow-add-wide invariant-loop decreases-loop
+add_wide : tie.Need-overflow_add-l invariant-loop decreases-loop
 add_wide c = search rules
 
-mul-wide-4 : tie.Need-overflow-mul-wide-4 invariant-loop decreases-loop
+mul-wide-4 : tie.Need-offset_bounds-runs-l-then-leaf_fields-l invariant-loop decreases-loop
 mul-wide-4 c = search rules
 
-shared-slice-read-wide-2 : tie.Need-shared-slice-read-wide-2 invariant-loop decreases-loop
+shared-slice-read-wide-2 : tie.Need-bounds-runs-l-then-leaf_fields-l invariant-loop decreases-loop
 shared-slice-read-wide-2 c = search rules
 
-wide-requires-2 : tie.Need-wide-requires-2 invariant-loop decreases-loop
+wide-requires-2 : tie.Need-wide-requires-then-leaf_fields-l invariant-loop decreases-loop
 wide-requires-2 c κs = tt
 
-mul-add-run : tie.Need-overflow-mul-add-run invariant-loop decreases-loop
+mul-add-run : tie.Need-offset_bounds-cursors-l invariant-loop decreases-loop
 mul-add-run c = search rules
 
-slice-read-add-run : tie.Need-slice-read-add-run invariant-loop decreases-loop
+slice-read-add-run : tie.Need-bounds-cursors-l invariant-loop decreases-loop
 slice-read-add-run c =
-    let s = c.before.before.before.before.before.before.before.before.before.before.before.before.before.before in
-    let l = c.before.before.before.before.before.before.before.before.loop in
-    omega (arith, s.requires.0.0.few, c.before.before.before.before.before.before.before.loop-test.true, cursors-long s.args.leaf_fields.now s.args.postings.now s.args.runs.now s.requires.0.0 s.args.field s.args.base (length s.args.counts.now) l.l l.cursors l.counts l.invariant)
+    let s = c in
+    let l = c.loop-l in
+    omega (arith, s.requires.0.0.few, c.loop-l-test.true, cursors-long s.args.leaf_fields.now s.args.postings.now s.args.runs.now s.requires.0.0 s.args.field s.args.base (length s.args.counts.now) l.l l.cursors l.counts l.invariant)
 
-add-run-requires : tie.Need-add-run-requires invariant-loop decreases-loop
+add-run-requires : tie.Need-add_run-requires invariant-loop decreases-loop
 add-run-requires c κs =
-    let s = c.before.before.before.before.before.before.before.before.before.before.before.before.before.before.before in
-    let l = c.before.before.before.before.before.before.before.before.before.loop in
-    ((run_ok s.args.leaf_fields.now s.args.postings.now s.args.runs.now s.requires.0.0 s.args.field s.args.base (length s.args.counts.now) l.l l.cursors l.counts l.invariant c.before.before.before.before.before.before.before.before.loop-test.true c.before.before.before.before.before.before.if1.true c.before.before.before.before.wide.result c.before.before.wide2.result c.before.before.before.before.wide.ensures c.before.before.wide2.ensures, cursor-here s.args.leaf_fields.now s.args.postings.now s.args.runs.now s.requires.0.0 s.args.field s.args.base (length s.args.counts.now) l.l l.cursors l.counts l.invariant c.before.before.before.before.before.before.before.before.loop-test.true c.before.before.before.before.before.before.if1.true c.before.before.before.before.wide.result c.before.before.wide2.result c.before.before.before.before.wide.ensures c.before.before.wide2.ensures, omega (arith, s.requires.0.1, counts-long s.args.leaf_fields.now s.args.postings.now s.args.runs.now s.requires.0.0 s.args.field s.args.base (length s.args.counts.now) l.l l.cursors l.counts l.invariant)), room-here s.args.leaf_fields.now s.args.postings.now s.args.runs.now s.requires.0.0 s.args.field s.args.base (length s.args.counts.now) l.l l.cursors l.counts l.invariant c.before.before.before.before.before.before.before.before.loop-test.true c.before.before.before.before.before.before.if1.true c.before.before.before.before.wide.result c.before.before.wide2.result c.before.before.before.before.wide.ensures c.before.before.wide2.ensures)
+    let s = c in
+    let l = c.loop-l in
+    ((run_ok s.args.leaf_fields.now s.args.postings.now s.args.runs.now s.requires.0.0 s.args.field s.args.base (length s.args.counts.now) l.l l.cursors l.counts l.invariant c.loop-l-test.true c.if-leaf_fields-l.true c.wide.result c.wide-then-leaf_fields-l.result c.wide.ensures c.wide-then-leaf_fields-l.ensures, cursor-here s.args.leaf_fields.now s.args.postings.now s.args.runs.now s.requires.0.0 s.args.field s.args.base (length s.args.counts.now) l.l l.cursors l.counts l.invariant c.loop-l-test.true c.if-leaf_fields-l.true c.wide.result c.wide-then-leaf_fields-l.result c.wide.ensures c.wide-then-leaf_fields-l.ensures, omega (arith, s.requires.0.1, counts-long s.args.leaf_fields.now s.args.postings.now s.args.runs.now s.requires.0.0 s.args.field s.args.base (length s.args.counts.now) l.l l.cursors l.counts l.invariant)), room-here s.args.leaf_fields.now s.args.postings.now s.args.runs.now s.requires.0.0 s.args.field s.args.base (length s.args.counts.now) l.l l.cursors l.counts l.invariant c.loop-l-test.true c.if-leaf_fields-l.true c.wide.result c.wide-then-leaf_fields-l.result c.wide.ensures c.wide-then-leaf_fields-l.ensures)
 
-mul-cursors : tie.Need-overflow-mul-cursors invariant-loop decreases-loop
+mul-cursors : tie.Need-offset_bounds-cursors-l-then-leaf_fields-l invariant-loop decreases-loop
 mul-cursors c = search rules
 
-slice-write-cursors : tie.Need-slice-write-cursors invariant-loop decreases-loop
+slice-write-cursors : tie.Need-bounds-cursors-l-then-leaf_fields-l invariant-loop decreases-loop
 slice-write-cursors c =
-    let s = c.before.before.before.before.before.before.before.before.before.before.before.before.before.before.before.before.before.before in
-    let l = c.before.before.before.before.before.before.before.before.before.before.before.before.loop in
-    omega (arith, s.requires.0.0.few, c.before.before.before.before.before.before.before.before.before.before.before.loop-test.true, cursors-long s.args.leaf_fields.now s.args.postings.now s.args.runs.now s.requires.0.0 s.args.field s.args.base (length s.args.counts.now) l.l l.cursors l.counts l.invariant)
+    let s = c in
+    let l = c.loop-l in
+    omega (arith, s.requires.0.0.few, c.loop-l-test.true, cursors-long s.args.leaf_fields.now s.args.postings.now s.args.runs.now s.requires.0.0 s.args.field s.args.base (length s.args.counts.now) l.l l.cursors l.counts l.invariant)
 
-add-l : tie.Need-overflow-add-l invariant-loop decreases-loop
+add-l : tie.Need-overflow_add-l-in-loop-l invariant-loop decreases-loop
 add-l c = search rules
 
-loop-less : tie.Need-loop-smaller invariant-loop decreases-loop
+loop-less : tie.Need-loop-l-smaller invariant-loop decreases-loop
 loop-less c = search rules
 
 -- leaf l is added too
-next : (c : tie.Joined1 invariant-loop decreases-loop) → AddedTo c.before.before.before.before.before.before.before.before.before (c.before.before.before.loop.l + 1) c.if1.cursors c.if1.counts
+next : (c : tie.Joined-leaf_fields-l invariant-loop decreases-loop) → AddedTo c.before.before.before.before.before.before.before.before.before (c.loop-l.l + 1) c.if-leaf_fields-l.cursors c.if-leaf_fields-l.counts-1
 next c =
-    let s = c.before.before.before.before.before.before.before.before.before in
-    let l = c.before.before.before.loop in
-    let m = c.before.before.loop-test.true in
+    let s = c in
+    let l = c.loop-l in
+    let m = c.loop-l-test.true in
     ⊎_elim
-    (λ w. added-leaf s.args.leaf_fields.now s.args.postings.now s.args.runs.now s.requires.0.0 s.args.field s.args.base (length s.args.counts.now) l.l l.cursors l.counts l.invariant m w.0.taken w.2.result w.4.result w.2.ensures w.4.ensures w.7.result c.if1.cursors c.if1.counts w.7.ensures.0 w.10 (w.11 ∙ w.7.ensures.1))
-    (λ w. added-other s.args.leaf_fields.now s.args.postings.now s.args.runs.now s.requires.0.0 s.args.field s.args.base (length s.args.counts.now) l.l l.cursors l.counts l.invariant m w.0.left c.if1.cursors c.if1.counts w.1 w.2)
-    c.if1.branch
+    (λ w. added-leaf s.args.leaf_fields.now s.args.postings.now s.args.runs.now s.requires.0.0 s.args.field s.args.base (length s.args.counts.now) l.l l.cursors l.counts l.invariant m w.0.true w.2.result w.4.result w.2.ensures w.4.ensures w.7.result c.if-leaf_fields-l.cursors c.if-leaf_fields-l.counts-1 w.7.ensures.0 w.10 (w.11 ∙ w.7.ensures.1))
+    (λ w. added-other s.args.leaf_fields.now s.args.postings.now s.args.runs.now s.requires.0.0 s.args.field s.args.base (length s.args.counts.now) l.l l.cursors l.counts l.invariant m w.0.false c.if-leaf_fields-l.cursors c.if-leaf_fields-l.counts-1 w.1 w.2)
+    c.if-leaf_fields-l.branch-raw
 
-loop-again : tie.Need-loop-preserved invariant-loop decreases-loop
+loop-again : tie.Need-loop-l-preserved invariant-loop decreases-loop
 loop-again c = next c
 
-same_length : tie.Need-same-length invariant-loop decreases-loop
-same_length c = cursors-kept c.before.before.before.before.before.before.before c.before.loop.l c.before.loop.cursors c.before.loop.counts c.before.loop.invariant
+same_length : tie.Need-shape_of-cursors invariant-loop decreases-loop
+same_length c = cursors-kept c.before.before.before.before.before.before.before c.loop-l.l c.loop-l.cursors c.loop-l.counts c.loop-l.invariant
 
-same-length-2 : tie.Need-same-length-2 invariant-loop decreases-loop
-same-length-2 c = counts-kept c.before.before.before.before.before.before.before c.before.loop.l c.before.loop.cursors c.before.loop.counts c.before.loop.invariant
+same-length-2 : tie.Need-shape_of-counts invariant-loop decreases-loop
+same-length-2 c = counts-kept c.before.before.before.before.before.before.before c.loop-l.l c.loop-l.cursors c.loop-l.counts c.loop-l.invariant
 
 returns : tie.Need-returns invariant-loop decreases-loop
-returns c = done c.before.before.before.before.before.before.before c.before.loop.l c.before.loop.cursors c.before.loop.counts c.before.loop.invariant c.loop-test.false
+returns c = done c.before.before.before.before.before.before.before c.loop-l.l c.loop-l.cursors c.loop-l.counts c.loop-l.invariant c.loop-l-test.false
 
-pub add-leaves-spec : {M : Type 1} → statement M
-add-leaves-spec =
+pub add_leaves_spec : {M : Type 1} → statement M
+add_leaves_spec =
     tie.close
     (tie.spec
     invariant-loop

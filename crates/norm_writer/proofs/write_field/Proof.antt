@@ -17,54 +17,54 @@ use Rattle.norm_writer.proofs.write_field.Tie as tie
 abbrev byte : List ℕ → List ℕ → List ℕ → ℕ → ℕ → ℕ
 byte leaf_fields postings runs field d = intToByte4 (lengthIn leaf_fields postings runs field d)
 
-abbrev invariant-loop : tie.invariant-loop
+abbrev invariant-loop : tie.invariant-loop-base
 invariant-loop max-doc leaf_fields field postings runs norms₀ at cursors₀ base₀ norms cursors base =
     (cursors ≡ listTo 512 (cursorsAt leaf_fields postings runs field base)) × (norms ≡ sets norms₀ at (listTo (min base max-doc) (byte leaf_fields postings runs field)))
 
-abbrev decreases-loop : tie.decreases-loop
+abbrev decreases-loop : tie.decreases-loop-base
 decreases-loop max-doc leaf_fields field postings runs norms₀ at cursors₀ base₀ norms cursors base = max-doc - base
 
-loop-holds : tie.Need-loop-init invariant-loop decreases-loop
+loop-holds : tie.Need-loop-base-init invariant-loop decreases-loop
 loop-holds c =
-    let s = c.before.before.before.before in
-    (zeros 512 (cursorsAt s.args.leaf_fields.now s.args.postings.now s.args.runs.now s.args.field 0) (λ i l. cursors-none s.args.leaf_fields.now s.args.postings.now s.args.runs.now s.args.field i), windows-none s.args.norms.now s.args.at s.args.max-doc (byte s.args.leaf_fields.now s.args.postings.now s.args.runs.now s.args.field))
+    let s = c in
+    (zeros 512 (cursorsAt s.args.leaf_fields.now s.args.postings.now s.args.runs.now s.args.field 0) (λ i l. cursors-none s.args.leaf_fields.now s.args.postings.now s.args.runs.now s.args.field i), windows-none s.args.norms.now s.args.at s.args.max_doc (byte s.args.leaf_fields.now s.args.postings.now s.args.runs.now s.args.field))
 
-slice-aggregate-write-window : tie.Need-slice-aggregate-write-window invariant-loop decreases-loop
-slice-aggregate-write-window c = sym (ap length c.before.before.loop.invariant.0 ∙ length-listTo 512 _)
+slice-aggregate-write-window : tie.Need-slice_bounds-write_window-end invariant-loop decreases-loop
+slice-aggregate-write-window c = sym (ap length c.loop-base.invariant.0 ∙ length-listTo 512 _)
 
-write-window-requires : tie.Need-write-window-requires invariant-loop decreases-loop
+write-window-requires : tie.Need-write_window-requires invariant-loop decreases-loop
 write-window-requires c κs =
-    let s = c.before.before.before.before.before.before.before.before in
-    let l = c.before.before.before.loop in
-    ((s.requires.0, c.before.before.loop-test.true, s.requires.1, omega (arith, s.requires.2, ap length l.invariant.1, length-sets s.args.norms.now s.args.at (listTo (min l.base s.args.max-doc) (byte s.args.leaf_fields.now s.args.postings.now s.args.runs.now s.args.field)))), l.invariant.0)
+    let s = c in
+    let l = c.loop-base in
+    ((s.requires.0, c.loop-base-test.true, s.requires.1, omega (arith, s.requires.2, ap length l.invariant.1, length-sets s.args.norms.now s.args.at (listTo (min l.base s.args.max_doc) (byte s.args.leaf_fields.now s.args.postings.now s.args.runs.now s.args.field)))), l.invariant.0)
 
-add-base : tie.Need-overflow-add-base invariant-loop decreases-loop
-add-base c = omega (arith, c.before.before.before.before.before.before.loop-test.true, c.before.before.before.before.before.before.before.before.before.before.before.before.requires.1)
+add-base : tie.Need-overflow_add-base invariant-loop decreases-loop
+add-base c = omega (arith, c.loop-base-test.true, c.requires.1)
 
-loop-less : tie.Need-loop-smaller invariant-loop decreases-loop
-loop-less c = omega (arith, c.before.before.before.before.before.before.loop-test.true)
+loop-less : tie.Need-loop-base-smaller invariant-loop decreases-loop
+loop-less c = omega (arith, c.loop-base-test.true)
 
-loop-again : tie.Need-loop-preserved invariant-loop decreases-loop
+loop-again : tie.Need-loop-base-preserved invariant-loop decreases-loop
 loop-again c =
-    let s = c.before.before.before.before.before.before.before.before.before.before.before.before in
-    let l = c.before.before.before.before.before.before.before.loop in
-    let w = c.before.before.before.write-window in
-    (w.ensures.0, window_more s.args.norms.now l.norms _ s.args.at l.base s.args.max-doc (byte s.args.leaf_fields.now s.args.postings.now s.args.runs.now s.args.field) l.invariant.1 c.before.before.before.before.before.before.loop-test.true w.ensures.1)
+    let s = c in
+    let l = c.loop-base in
+    let w = c.write_window in
+    (w.ensures.0, window_more s.args.norms.now l.norms _ s.args.at l.base s.args.max_doc (byte s.args.leaf_fields.now s.args.postings.now s.args.runs.now s.args.field) l.invariant.1 c.loop-base-test.true w.ensures.1)
 
-same_length : tie.Need-same-length invariant-loop decreases-loop
+same_length : tie.Need-shape_of-norms invariant-loop decreases-loop
 same_length c =
-    let s = c.before.before.before.before.before.before in
-    let l = c.before.loop in
-    ap length l.invariant.1 ∙ length-sets s.args.norms.now s.args.at (listTo (min l.base s.args.max-doc) (byte s.args.leaf_fields.now s.args.postings.now s.args.runs.now s.args.field))
+    let s = c in
+    let l = c.loop-base in
+    ap length l.invariant.1 ∙ length-sets s.args.norms.now s.args.at (listTo (min l.base s.args.max_doc) (byte s.args.leaf_fields.now s.args.postings.now s.args.runs.now s.args.field))
 
 returns : tie.Need-returns invariant-loop decreases-loop
 returns c =
-    let s = c.before.before.before.before.before.before in
-    let l = c.before.loop in
-    windows-done s.args.norms.now l.norms s.args.at l.base s.args.max-doc (byte s.args.leaf_fields.now s.args.postings.now s.args.runs.now s.args.field) l.invariant.1 c.loop-test.false
+    let s = c in
+    let l = c.loop-base in
+    windows-done s.args.norms.now l.norms s.args.at l.base s.args.max_doc (byte s.args.leaf_fields.now s.args.postings.now s.args.runs.now s.args.field) l.invariant.1 c.loop-base-test.false
 
-pub write-field-spec : {M : Type 1} → statement M
-write-field-spec =
+pub write_field_spec : {M : Type 1} → statement M
+write_field_spec =
     tie.close
     (tie.spec
     invariant-loop

@@ -16,73 +16,73 @@ use Rattle.tokens.proofs.count_tokens.Statement.{statement}
 use Rattle.tokens.proofs.count_tokens.Tie as tie
 
 -- none of the tokens passed is wrong, and the numbers are theirs
-abbrev invariant-loop : tie.invariant-loop
+abbrev invariant-loop : tie.invariant-loop-i
 invariant-loop max-doc fields tokens leaf_fields postings₀ positions₀ i₀ postings positions i =
     (false ≡ anyBelow i (wrongToken max-doc leaf_fields tokens)) × (postings ≡ countBelow i (beginsPosting tokens)) × (positions ≡ countBelow i (placed fields leaf_fields tokens)) × (i ≤ tokenCount tokens)
 
-abbrev decreases-loop : tie.decreases-loop
+abbrev decreases-loop : tie.decreases-loop-i
 decreases-loop max-doc fields tokens leaf_fields postings₀ positions₀ i₀ postings positions i = tokenCount tokens - i
 
-loop-holds : tie.Need-loop-init invariant-loop decreases-loop
+loop-holds : tie.Need-loop-i-init invariant-loop decreases-loop
 loop-holds c = (sym (any-zero _), sym (count-zero _), sym (count-zero _), omega arith)
 
-wrong-token-requires : tie.Need-wrong-token-requires invariant-loop decreases-loop
+wrong-token-requires : tie.Need-wrong_token-requires invariant-loop decreases-loop
 wrong-token-requires c κs = search rules
 
-returns : tie.Need-returns invariant-loop decreases-loop
-returns c = let t = c.before in told-wrong _ _ _ _ _ t.before.before.loop.i _ (omega (arith, t.before.loop-test.true)) t.wrong-token.ensures c.if1.true refl
+returns : tie.Need-returns-then-wrong_token invariant-loop decreases-loop
+returns c = let t = c in told-wrong _ _ _ _ _ t.loop-i.i _ (omega (arith, t.loop-i-test.true)) t.wrong_token.ensures c.if-wrong_token.true refl
 
-begins-posting-requires : tie.Need-begins-posting-requires invariant-loop decreases-loop
+begins-posting-requires : tie.Need-begins_posting-requires invariant-loop decreases-loop
 begins-posting-requires c κs = search rules
 
-add-postings : tie.Need-overflow-add-postings invariant-loop decreases-loop
+add-postings : tie.Need-overflow_add-postings invariant-loop decreases-loop
 add-postings c =
-    let a = c.before.before.before.before.before in
-    omega (arith, a.loop.invariant.1, count-le a.loop.i (beginsPosting a.before.before.before.before.args.tokens.now))
+    let a = c in
+    omega (arith, a.loop-i.invariant.1, count-le a.loop-i.i (beginsPosting a.args.tokens.now))
 
-token-at-requires : tie.Need-token-at-requires invariant-loop decreases-loop
+token-at-requires : tie.Need-token_at-requires invariant-loop decreases-loop
 token-at-requires c κs = search rules
 
 wide-requires : tie.Need-wide-requires invariant-loop decreases-loop
 wide-requires c κs = search rules
 
-is-positional-requires : tie.Need-is-positional-requires invariant-loop decreases-loop
+is-positional-requires : tie.Need-is_positional-requires invariant-loop decreases-loop
 is-positional-requires c κs =
-    let t = c.before.before.before.before in
-    rw (c.wide.ensures, c.before.token-at.ensures) (named-leaf _ _ _ _ _ _ t.before.before.before.before.before.before.before.requires t.before.wrong-token.ensures t.if1.false)
+    let t = c in
+    rw (c.wide.ensures, c.token_at.ensures) (named-leaf _ _ _ _ _ _ t.requires t.wrong_token.ensures t.if-wrong_token.false)
 
-add-positions : tie.Need-overflow-add-positions invariant-loop decreases-loop
+add-positions : tie.Need-overflow_add-positions invariant-loop decreases-loop
 add-positions c =
-    let a = c.before.before.before.before.before.before.before.before.before in
-    let s = a.before.before.before.before.args in
-    omega (arith, a.loop.invariant.2, count-le a.loop.i (placed s.fields.now s.leaf_fields.now s.tokens.now))
+    let a = c in
+    let s = a.args in
+    omega (arith, a.loop-i.invariant.2, count-le a.loop-i.i (placed s.fields.now s.leaf_fields.now s.tokens.now))
 
-add-i : tie.Need-overflow-add-i invariant-loop decreases-loop
+add-i : tie.Need-overflow_add-i invariant-loop decreases-loop
 add-i c = search rules
 
-loop-less : tie.Need-loop-smaller invariant-loop decreases-loop
+loop-less : tie.Need-loop-i-smaller invariant-loop decreases-loop
 loop-less c = search rules
 
-loop-again : tie.Need-loop-preserved invariant-loop decreases-loop
+loop-again : tie.Need-loop-i-preserved invariant-loop decreases-loop
 loop-again c =
-    let p = c.before in
-    let j = p.before.before.before in
-    let q = j.before in
-    let t = q.before in
-    let a = t.before.before.before in
-    let s = a.before.before.before.before.args in
-    let here = placed-is s.fields.now s.leaf_fields.now s.tokens.now a.loop.i _ _ _ p.before.before.token-at.ensures p.before.wide.ensures p.is-positional.ensures in (
-      one_more _ _ _ _ _ a.loop.invariant.0 t.before.wrong-token.ensures t.if1.false,
-      ⊎_elim (λ w. w.1 ∙ count-one _ _ _ a.loop.invariant.1 (sym q.begins-posting.ensures ∙ w.0.taken)) (λ w. w.1 ∙ count_same _ _ _ a.loop.invariant.1 (sym q.begins-posting.ensures ∙ w.0.left)) j.if2.branch,
-      ⊎_elim (λ w. w.1 ∙ count-one _ _ _ a.loop.invariant.2 (here ∙ w.0.taken)) (λ w. w.1 ∙ count_same _ _ _ a.loop.invariant.2 (here ∙ w.0.left)) c.if3.branch,
+    let p = c in
+    let j = p in
+    let q = j in
+    let t = q in
+    let a = t in
+    let s = a.args in
+    let here = placed-is s.fields.now s.leaf_fields.now s.tokens.now a.loop-i.i _ _ _ p.token_at.ensures p.wide.ensures p.is_positional.ensures in (
+      one_more _ _ _ _ _ a.loop-i.invariant.0 t.wrong_token.ensures t.if-wrong_token.false,
+      ⊎_elim (λ w. w.1 ∙ count-one _ _ _ a.loop-i.invariant.1 (sym q.begins_posting.ensures ∙ w.0.true)) (λ w. w.1 ∙ count_same _ _ _ a.loop-i.invariant.1 (sym q.begins_posting.ensures ∙ w.0.false)) j.if-begins_posting.branch-raw,
+      ⊎_elim (λ w. w.1 ∙ count-one _ _ _ a.loop-i.invariant.2 (here ∙ w.0.true)) (λ w. w.1 ∙ count_same _ _ _ a.loop-i.invariant.2 (here ∙ w.0.false)) c.if-is_positional.branch-raw,
       omega arith,
     )
 
-returns-2 : tie.Need-returns-2 invariant-loop decreases-loop
-returns-2 c = let v = c.before.loop.invariant in told-all _ _ _ _ _ _ v.0 v.1 v.2 v.3 (omega (arith, c.loop-test.false))
+returns-2 : tie.Need-returns invariant-loop decreases-loop
+returns-2 c = let v = c.loop-i.invariant in told-all _ _ _ _ _ _ v.0 v.1 v.2 v.3 (omega (arith, c.loop-i-test.false))
 
-pub count-tokens-spec : {M : Type 1} → statement M
-count-tokens-spec =
+pub count_tokens_spec : {M : Type 1} → statement M
+count_tokens_spec =
     tie.close
     (tie.spec
     invariant-loop

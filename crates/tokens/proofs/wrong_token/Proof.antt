@@ -4,21 +4,21 @@ use Rattle.tokens.proofs.OneToken.{wrong_first, wrong-later}
 use Rattle.tokens.proofs.wrong_token.Statement.{statement}
 use Rattle.tokens.proofs.wrong_token.Tie as tie
 
-token-at-requires : tie.Need-token-at-requires
+token-at-requires : tie.Need-token_at-here-requires
 token-at-requires c κs = search rules
 
 wide-requires : tie.Need-wide-requires
 wide-requires c κs = search rules
 
-returns : tie.Need-returns
-returns c = let t = c.before.before.before in rw (t.wide.ensures, t.before.token-at.ensures) (wrong_first _ _ _ _ c.if1.true)
+returns : tie.Need-returns-then-i-eq0
+returns c = let t = c in rw (t.wide.ensures, t.token_at-here.ensures) (wrong_first _ _ _ _ c.if-i-eq0.true)
 
-in-order-requires : tie.Need-in-order-requires
+in-order-requires : tie.Need-in_order-requires
 in-order-requires c κs = search rules
 
-returns-2 : tie.Need-returns-2
-returns-2 c = let t = c.before.before.before.before in rw (c.in_order.ensures, t.wide.ensures, t.before.token-at.ensures) (wrong-later _ _ _ _ c.before.if1.false)
+returns-2 : tie.Need-returns
+returns-2 c = let t = c in rw (c.in_order.ensures, t.wide.ensures, t.token_at-here.ensures) (wrong-later _ _ _ _ c.if-i-eq0.false)
 
-pub wrong-token-spec : {M : Type 1} → statement M
-wrong-token-spec =
+pub wrong_token_spec : {M : Type 1} → statement M
+wrong_token_spec =
     tie.close (tie.spec token-at-requires wide-requires returns in-order-requires returns-2)

@@ -71,210 +71,210 @@ tree-end-calls t = (record-count-reads.Asked, record-count-reads.Learnt, kind-re
 child-end-children-requires : (t : ℕ) → child-end-lts.Need-children-requires (child-end-calls t) (child-end-at t) child-end.Post
 child-end-children-requires t c κs = search rules
 
-child-end-returns : (t : ℕ) → child-end-lts.Need-returns (child-end-calls t) (child-end-at t) child-end.Post
+child-end-returns : (t : ℕ) → child-end-lts.Need-returns-then-children-ne1 (child-end-calls t) (child-end-at t) child-end.Post
 child-end-returns t c =
-    let s = c.before.before.before in let q = s.args.q.now in let at = s.args.at in
-    fit-no aBoost q at _ (ne_eqb (recordChildren q at) 1 (λ e. c.if1.true (c.before.children.ensures ∙ e)))
+    let s = c in let q = s.args.q.now in let at = s.args.at in
+    fit-no aBoost q at _ (ne_eqb (recordChildren q at) 1 (λ e. c.if-children-ne1.true (c.children.ensures ∙ e)))
 
-child-end-record-count-requires : (t : ℕ) → child-end-lts.Need-record-count-requires (child-end-calls t) (child-end-at t) child-end.Post
+child-end-record-count-requires : (t : ℕ) → child-end-lts.Need-record_count-requires (child-end-calls t) (child-end-at t) child-end.Post
 child-end-record-count-requires t c κs = search rules
 
-child-end-add-if2 : (t : ℕ) → child-end-lts.Need-overflow-add-if2 (child-end-calls t) (child-end-at t) child-end.Post
+child-end-add-if2 : (t : ℕ) → child-end-lts.Need-overflow_add-at (child-end-calls t) (child-end-at t) child-end.Post
 child-end-add-if2 t c = search rules
 
-child-end-returns-2 : (t : ℕ) → child-end-lts.Need-returns-2 (child-end-calls t) (child-end-at t) child-end.Post
+child-end-returns-2 : (t : ℕ) → child-end-lts.Need-returns-then-record_count-at (child-end-calls t) (child-end-at t) child-end.Post
 child-end-returns-2 t c =
-    let s = c.before.before.before.before.before in let q = s.args.q.now in let at = s.args.at in let depth = s.args.depth in
+    let s = c in let q = s.args.q.now in let at = s.args.at in let depth = s.args.depth in
     fit-zero aBoost q at _ (child-missing q depth at (omega arith))
 
-child-end-add-occurrence : (t : ℕ) → child-end-lts.Need-overflow-add-occurrence (child-end-calls t) (child-end-at t) child-end.Post
+child-end-add-occurrence : (t : ℕ) → child-end-lts.Need-overflow_add-at-2 (child-end-calls t) (child-end-at t) child-end.Post
 child-end-add-occurrence t c = search rules
 
 child-end-occurrence-requires : (t : ℕ) → child-end-lts.Need-occurrence-requires (child-end-calls t) (child-end-at t) child-end.Post
 child-end-occurrence-requires t c κs = search rules
 
-child-end-returns-3 : (t : ℕ) → child-end-lts.Need-returns-3 (child-end-calls t) (child-end-at t) child-end.Post
+child-end-returns-3 : (t : ℕ) → child-end-lts.Need-returns-then-occurrence-ne0 (child-end-calls t) (child-end-at t) child-end.Post
 child-end-returns-3 t c =
-    let s = c.before.before.before.before.before.before.before in let q = s.args.q.now in let at = s.args.at in let depth = s.args.depth in
-    fit-zero aBoost q at _ (child-placed q depth at (λ e. c.if3.true (c.before.occurrence.ensures ∙ e)))
+    let s = c in let q = s.args.q.now in let at = s.args.at in let depth = s.args.depth in
+    fit-zero aBoost q at _ (child-placed q depth at (λ e. c.if-occurrence-ne0.true (c.occurrence.ensures ∙ e)))
 
-child-end-add-tree-end : (t : ℕ) → child-end-lts.Need-overflow-add-tree-end (child-end-calls t) (child-end-at t) child-end.Post
+child-end-add-tree-end : (t : ℕ) → child-end-lts.Need-overflow_add-at-3 (child-end-calls t) (child-end-at t) child-end.Post
 child-end-add-tree-end t c = search rules
 
-child-end-tree-end-requires : (t : ℕ) → child-end-lts.Need-tree-end-requires (child-end-calls t) (child-end-at t) child-end.Post
+child-end-tree-end-requires : (t : ℕ) → child-end-lts.Need-tree_end-requires (child-end-calls t) (child-end-at t) child-end.Post
 child-end-tree-end-requires t c κs = search rules
 
-child-end-returns-4 : (t : ℕ) → child-end-lts.Need-returns-4 (child-end-calls t) (child-end-at t) child-end.Post
+child-end-returns-4 : (t : ℕ) → child-end-lts.Need-returns (child-end-calls t) (child-end-at t) child-end.Post
 child-end-returns-4 t c =
-    let s = c.before.before.before.before.before.before.before.before in let q = s.args.q.now in let at = s.args.at in let depth = s.args.depth in
-    fit-yes aBoost q at _ _ (eq-eqb (recordChildren q at) 1 (sym c.before.before.before.before.before.before.children.ensures ∙ c.before.before.before.before.before.if1.false)) (c.tree-end.ensures ∙ child-there q depth at (sym c.before.before.occurrence.ensures ∙ c.before.if3.false))
+    let s = c in let q = s.args.q.now in let at = s.args.at in let depth = s.args.depth in
+    fit-yes aBoost q at _ _ (eq-eqb (recordChildren q at) 1 (sym c.children.ensures ∙ c.if-children-ne1.false)) (c.tree_end.ensures ∙ child-there q depth at (sym c.occurrence.ensures ∙ c.if-occurrence-ne0.false))
 
-abbrev clauses-end-Inv-loop : clauses-end-lts.invariant-loop
+abbrev clauses-end-Inv-loop : clauses-end-lts.invariant-loop-left
 clauses-end-Inv-loop q depth at left₀ next₀ left next = endOfClauses (decodeClauses q (decode q depth) left next) ≡ endOfClauses (decodeClauses q (decode q depth) (recordChildren q at) (at + 1))
 
-abbrev clauses-end-μ-loop : clauses-end-lts.decreases-loop
+abbrev clauses-end-μ-loop : clauses-end-lts.decreases-loop-left
 clauses-end-μ-loop q depth at left₀ next₀ left next = left
 
-clauses-end-children-requires : (t : ℕ) → clauses-end-lts.Need-children-requires (clauses-end-calls t) (clauses-end-at t) clauses-end.Post clauses-end-Inv-loop clauses-end-μ-loop
+clauses-end-children-requires : (t : ℕ) → clauses-end-lts.Need-children-left-requires (clauses-end-calls t) (clauses-end-at t) clauses-end.Post clauses-end-Inv-loop clauses-end-μ-loop
 clauses-end-children-requires t c κs = search rules
 
-clauses-end-returns : (t : ℕ) → clauses-end-lts.Need-returns (clauses-end-calls t) (clauses-end-at t) clauses-end.Post clauses-end-Inv-loop clauses-end-μ-loop
+clauses-end-returns : (t : ℕ) → clauses-end-lts.Need-returns-then-left-gt64 (clauses-end-calls t) (clauses-end-at t) clauses-end.Post clauses-end-Inv-loop clauses-end-μ-loop
 clauses-end-returns t c =
-    let s = c.before.before.before in let q = s.args.q.now in let at = s.args.at in
+    let s = c in let q = s.args.q.now in let at = s.args.at in
     fit-no aBoolean q at _ (lt-leb (recordChildren q at) 64 (omega arith))
 
-clauses-end-add-next : (t : ℕ) → clauses-end-lts.Need-overflow-add-next (clauses-end-calls t) (clauses-end-at t) clauses-end.Post clauses-end-Inv-loop clauses-end-μ-loop
+clauses-end-add-next : (t : ℕ) → clauses-end-lts.Need-overflow_add-next (clauses-end-calls t) (clauses-end-at t) clauses-end.Post clauses-end-Inv-loop clauses-end-μ-loop
 clauses-end-add-next t c = search rules
 
-clauses-end-loop-holds : (t : ℕ) → clauses-end-lts.Need-loop-init (clauses-end-calls t) (clauses-end-at t) clauses-end.Post clauses-end-Inv-loop clauses-end-μ-loop
-clauses-end-loop-holds t c = rw c.before.children.ensures
+clauses-end-loop-holds : (t : ℕ) → clauses-end-lts.Need-loop-left-init (clauses-end-calls t) (clauses-end-at t) clauses-end.Post clauses-end-Inv-loop clauses-end-μ-loop
+clauses-end-loop-holds t c = rw c.children.ensures
 
-clauses-end-record-count-requires : (t : ℕ) → clauses-end-lts.Need-record-count-requires (clauses-end-calls t) (clauses-end-at t) clauses-end.Post clauses-end-Inv-loop clauses-end-μ-loop
+clauses-end-record-count-requires : (t : ℕ) → clauses-end-lts.Need-record_count-requires (clauses-end-calls t) (clauses-end-at t) clauses-end.Post clauses-end-Inv-loop clauses-end-μ-loop
 clauses-end-record-count-requires t c κs = search rules
 
-clauses-end-returns-2 : (t : ℕ) → clauses-end-lts.Need-returns-2 (clauses-end-calls t) (clauses-end-at t) clauses-end.Post clauses-end-Inv-loop clauses-end-μ-loop
+clauses-end-returns-2 : (t : ℕ) → clauses-end-lts.Need-returns-then-record_count-next (clauses-end-calls t) (clauses-end-at t) clauses-end.Post clauses-end-Inv-loop clauses-end-μ-loop
 clauses-end-returns-2 t c =
-    let s = c.before.before.before.before.before.before.before in let q = s.args.q.now in let at = s.args.at in let depth = s.args.depth in
-    fit-zero aBoolean q at _ (sym (ap endOfClauses (clause-missing q depth c.before.before.before.loop.left c.before.before.before.loop.next (omega arith) (omega arith))) ∙ c.before.before.before.loop.invariant)
+    let s = c in let q = s.args.q.now in let at = s.args.at in let depth = s.args.depth in
+    fit-zero aBoolean q at _ (sym (ap endOfClauses (clause-missing q depth c.loop-left.left c.loop-left.next (omega arith) (omega arith))) ∙ c.loop-left.invariant)
 
-clauses-end-occurrence-requires : (t : ℕ) → clauses-end-lts.Need-occurrence-requires (clauses-end-calls t) (clauses-end-at t) clauses-end.Post clauses-end-Inv-loop clauses-end-μ-loop
+clauses-end-occurrence-requires : (t : ℕ) → clauses-end-lts.Need-occurrence-o-requires (clauses-end-calls t) (clauses-end-at t) clauses-end.Post clauses-end-Inv-loop clauses-end-μ-loop
 clauses-end-occurrence-requires t c κs = search rules
 
-clauses-end-returns-3 : (t : ℕ) → clauses-end-lts.Need-returns-3 (clauses-end-calls t) (clauses-end-at t) clauses-end.Post clauses-end-Inv-loop clauses-end-μ-loop
+clauses-end-returns-3 : (t : ℕ) → clauses-end-lts.Need-returns-then-o-eq0 (clauses-end-calls t) (clauses-end-at t) clauses-end.Post clauses-end-Inv-loop clauses-end-μ-loop
 clauses-end-returns-3 t c =
-    let s = c.before.before.before.before.before.before.before.before.before in let q = s.args.q.now in let at = s.args.at in let depth = s.args.depth in
-    fit-zero aBoolean q at _ (sym (ap endOfClauses (clause-unknown q depth c.before.before.before.before.before.loop.left c.before.before.before.before.before.loop.next (omega arith) (ap occurOf (sym c.before.occurrence.ensures ∙ c.if3.true)))) ∙ c.before.before.before.before.before.loop.invariant)
+    let s = c in let q = s.args.q.now in let at = s.args.at in let depth = s.args.depth in
+    fit-zero aBoolean q at _ (sym (ap endOfClauses (clause-unknown q depth c.loop-left.left c.loop-left.next (omega arith) (ap occurOf (sym c.occurrence.ensures ∙ c.if-occurrence-ne0.true)))) ∙ c.loop-left.invariant)
 
-clauses-end-returns-4 : (t : ℕ) → clauses-end-lts.Need-returns-4 (clauses-end-calls t) (clauses-end-at t) clauses-end.Post clauses-end-Inv-loop clauses-end-μ-loop
+clauses-end-returns-4 : (t : ℕ) → clauses-end-lts.Need-returns-then-o-gt4 (clauses-end-calls t) (clauses-end-at t) clauses-end.Post clauses-end-Inv-loop clauses-end-μ-loop
 clauses-end-returns-4 t c =
-    let s = c.before.before.before.before.before.before.before.before.before.before in let q = s.args.q.now in let at = s.args.at in let depth = s.args.depth in
-    fit-zero aBoolean q at _ (sym (ap endOfClauses (clause-unknown q depth c.before.before.before.before.before.before.loop.left c.before.before.before.before.before.before.loop.next (omega arith) (no-occur-high (recordOccurrence q c.before.before.before.before.before.before.loop.next) (omega arith)))) ∙ c.before.before.before.before.before.before.loop.invariant)
+    let s = c in let q = s.args.q.now in let at = s.args.at in let depth = s.args.depth in
+    fit-zero aBoolean q at _ (sym (ap endOfClauses (clause-unknown q depth c.loop-left.left c.loop-left.next (omega arith) (no-occur-high (recordOccurrence q c.loop-left.next) (omega arith)))) ∙ c.loop-left.invariant)
 
-clauses-end-tree-end-requires : (t : ℕ) → clauses-end-lts.Need-tree-end-requires (clauses-end-calls t) (clauses-end-at t) clauses-end.Post clauses-end-Inv-loop clauses-end-μ-loop
+clauses-end-tree-end-requires : (t : ℕ) → clauses-end-lts.Need-tree_end-next-requires (clauses-end-calls t) (clauses-end-at t) clauses-end.Post clauses-end-Inv-loop clauses-end-μ-loop
 clauses-end-tree-end-requires t c κs = search rules
 
-clauses-end-returns-5 : (t : ℕ) → clauses-end-lts.Need-returns-5 (clauses-end-calls t) (clauses-end-at t) clauses-end.Post clauses-end-Inv-loop clauses-end-μ-loop
+clauses-end-returns-5 : (t : ℕ) → clauses-end-lts.Need-returns-then-next-eq0 (clauses-end-calls t) (clauses-end-at t) clauses-end.Post clauses-end-Inv-loop clauses-end-μ-loop
 clauses-end-returns-5 t c =
-    let s = c.before.before.before.before.before.before.before.before.before.before.before.before in let q = s.args.q.now in let at = s.args.at in let depth = s.args.depth in
-    fit-zero aBoolean q at _ (sym (ap endOfClauses (clause-none q depth c.before.before.before.before.before.before.before.before.loop.left c.before.before.before.before.before.before.before.before.loop.next (omega arith) (end-zero q depth c.before.before.before.before.before.before.before.before.loop.next (sym c.before.tree-end.ensures ∙ c.if5.true)))) ∙ c.before.before.before.before.before.before.before.before.loop.invariant)
+    let s = c in let q = s.args.q.now in let at = s.args.at in let depth = s.args.depth in
+    fit-zero aBoolean q at _ (sym (ap endOfClauses (clause-none q depth c.loop-left.left c.loop-left.next (omega arith) (end-zero q depth c.loop-left.next (sym c.tree_end.ensures ∙ c.if-next-eq0.true)))) ∙ c.loop-left.invariant)
 
-clauses-end-sub-left : (t : ℕ) → clauses-end-lts.Need-overflow-sub-left (clauses-end-calls t) (clauses-end-at t) clauses-end.Post clauses-end-Inv-loop clauses-end-μ-loop
+clauses-end-sub-left : (t : ℕ) → clauses-end-lts.Need-overflow_sub-left (clauses-end-calls t) (clauses-end-at t) clauses-end.Post clauses-end-Inv-loop clauses-end-μ-loop
 clauses-end-sub-left t c = search rules
 
-clauses-end-loop-less : (t : ℕ) → clauses-end-lts.Need-loop-smaller (clauses-end-calls t) (clauses-end-at t) clauses-end.Post clauses-end-Inv-loop clauses-end-μ-loop
+clauses-end-loop-less : (t : ℕ) → clauses-end-lts.Need-loop-left-smaller (clauses-end-calls t) (clauses-end-at t) clauses-end.Post clauses-end-Inv-loop clauses-end-μ-loop
 clauses-end-loop-less t c = search rules
 
-clauses-end-loop-again : (t : ℕ) → clauses-end-lts.Need-loop-preserved (clauses-end-calls t) (clauses-end-at t) clauses-end.Post clauses-end-Inv-loop clauses-end-μ-loop
+clauses-end-loop-again : (t : ℕ) → clauses-end-lts.Need-loop-left-preserved (clauses-end-calls t) (clauses-end-at t) clauses-end.Post clauses-end-Inv-loop clauses-end-μ-loop
 clauses-end-loop-again t c =
-    let s = c.before.before.before.before.before.before.before.before.before.before.before.before in let q = s.args.q.now in let depth = s.args.depth in
-    let o = occur-known (recordOccurrence q c.before.before.before.before.before.before.before.before.loop.next) (λ e. c.before.before.before.if3.false (c.before.before.before.before.occurrence.ensures ∙ e)) (omega arith) in
-    clause-more q depth c.before.before.before.before.before.before.before.before.loop.left c.before.before.before.before.before.before.before.before.loop.next c.before.tree-end.result o.0 (omega arith) o.1 c.before.tree-end.ensures c.if5.false ∙ c.before.before.before.before.before.before.before.before.loop.invariant
+    let s = c in let q = s.args.q.now in let depth = s.args.depth in
+    let o = occur-known (recordOccurrence q c.loop-left.next) (λ e. c.if-occurrence-ne0.false (c.occurrence.ensures ∙ e)) (omega arith) in
+    clause-more q depth c.loop-left.left c.loop-left.next c.tree_end.result o.0 (omega arith) o.1 c.tree_end.ensures c.if-next-eq0.false ∙ c.loop-left.invariant
 
-clauses-end-returns-6 : (t : ℕ) → clauses-end-lts.Need-returns-6 (clauses-end-calls t) (clauses-end-at t) clauses-end.Post clauses-end-Inv-loop clauses-end-μ-loop
+clauses-end-returns-6 : (t : ℕ) → clauses-end-lts.Need-returns (clauses-end-calls t) (clauses-end-at t) clauses-end.Post clauses-end-Inv-loop clauses-end-μ-loop
 clauses-end-returns-6 t c =
-    let s = c.before.before.before.before.before in let q = s.args.q.now in let at = s.args.at in let depth = s.args.depth in
-    fit-yes aBoolean q at _ _ (le-leb (recordChildren q at) 64 (omega arith)) (no-clauses q (decode q depth) c.before.loop.left c.before.loop.next (omega arith) ∙ c.before.loop.invariant)
+    let s = c in let q = s.args.q.now in let at = s.args.at in let depth = s.args.depth in
+    fit-yes aBoolean q at _ _ (le-leb (recordChildren q at) 64 (omega arith)) (no-clauses q (decode q depth) c.loop-left.left c.loop-left.next (omega arith) ∙ c.loop-left.invariant)
 
-tree-end-returns : (t : ℕ) → tree-end-lts.Need-returns (tree-end-calls t) (tree-end-at t) tree-end.Post
+tree-end-returns : (t : ℕ) → tree-end-lts.Need-returns-then-depth-eq0 (tree-end-calls t) (tree-end-at t) tree-end.Post
 tree-end-returns t c =
-    let s = c.before.before in let q = s.args.q.now in let at = s.args.at in let depth = s.args.depth in
-    end-root q at depth c.if1.true
+    let s = c in let q = s.args.q.now in let at = s.args.at in let depth = s.args.depth in
+    end-root q at depth c.if-children-ne1.true
 
-tree-end-record-count-requires : (t : ℕ) → tree-end-lts.Need-record-count-requires (tree-end-calls t) (tree-end-at t) tree-end.Post
+tree-end-record-count-requires : (t : ℕ) → tree-end-lts.Need-record_count-requires (tree-end-calls t) (tree-end-at t) tree-end.Post
 tree-end-record-count-requires t c κs = search rules
 
-tree-end-returns-2 : (t : ℕ) → tree-end-lts.Need-returns-2 (tree-end-calls t) (tree-end-at t) tree-end.Post
+tree-end-returns-2 : (t : ℕ) → tree-end-lts.Need-returns-then-record_count-at (tree-end-calls t) (tree-end-at t) tree-end.Post
 tree-end-returns-2 t c =
-    let s = c.before.before.before.before in let q = s.args.q.now in let at = s.args.at in let depth = s.args.depth in
+    let s = c in let q = s.args.q.now in let at = s.args.at in let depth = s.args.depth in
     end-missing q at depth (omega arith)
 
 tree-end-kind-requires : (t : ℕ) → tree-end-lts.Need-kind-requires (tree-end-calls t) (tree-end-at t) tree-end.Post
 tree-end-kind-requires t c κs = search rules
 
-tree-end-leaf-end-requires : (t : ℕ) → tree-end-lts.Need-leaf-end-requires (tree-end-calls t) (tree-end-at t) tree-end.Post
+tree-end-leaf-end-requires : (t : ℕ) → tree-end-lts.Need-leaf_end-requires (tree-end-calls t) (tree-end-at t) tree-end.Post
 tree-end-leaf-end-requires t c κs = search rules
 
-tree-end-sub-phrase-end : (t : ℕ) → tree-end-lts.Need-overflow-sub-phrase-end (tree-end-calls t) (tree-end-at t) tree-end.Post
+tree-end-sub-phrase-end : (t : ℕ) → tree-end-lts.Need-overflow_sub-depth (tree-end-calls t) (tree-end-at t) tree-end.Post
 tree-end-sub-phrase-end t c = search rules
 
-tree-end-phrase-end-requires : (t : ℕ) → tree-end-lts.Need-phrase-end-requires (tree-end-calls t) (tree-end-at t) tree-end.Post
+tree-end-phrase-end-requires : (t : ℕ) → tree-end-lts.Need-phrase_end-requires (tree-end-calls t) (tree-end-at t) tree-end.Post
 tree-end-phrase-end-requires t c κs = search rules
 
-tree-end-sub-clauses-end : (t : ℕ) → tree-end-lts.Need-overflow-sub-clauses-end (tree-end-calls t) (tree-end-at t) tree-end.Post
+tree-end-sub-clauses-end : (t : ℕ) → tree-end-lts.Need-overflow_sub-depth-in-3 (tree-end-calls t) (tree-end-at t) tree-end.Post
 tree-end-sub-clauses-end t c = search rules
 
-tree-end-clauses-end-requires : (t : ℕ) → tree-end-lts.Need-clauses-end-requires (tree-end-calls t) (tree-end-at t) tree-end.Post
+tree-end-clauses-end-requires : (t : ℕ) → tree-end-lts.Need-clauses_end-requires (tree-end-calls t) (tree-end-at t) tree-end.Post
 tree-end-clauses-end-requires t c κs = search rules
 
-tree-end-leaf-end-requires-2 : (t : ℕ) → tree-end-lts.Need-leaf-end-requires-2 (tree-end-calls t) (tree-end-at t) tree-end.Post
+tree-end-leaf-end-requires-2 : (t : ℕ) → tree-end-lts.Need-leaf_end-requires-in-4 (tree-end-calls t) (tree-end-at t) tree-end.Post
 tree-end-leaf-end-requires-2 t c κs = search rules
 
-tree-end-leaf-end-requires-3 : (t : ℕ) → tree-end-lts.Need-leaf-end-requires-3 (tree-end-calls t) (tree-end-at t) tree-end.Post
+tree-end-leaf-end-requires-3 : (t : ℕ) → tree-end-lts.Need-leaf_end-requires-in-5 (tree-end-calls t) (tree-end-at t) tree-end.Post
 tree-end-leaf-end-requires-3 t c κs = search rules
 
-tree-end-sub-child-end : (t : ℕ) → tree-end-lts.Need-overflow-sub-child-end (tree-end-calls t) (tree-end-at t) tree-end.Post
+tree-end-sub-child-end : (t : ℕ) → tree-end-lts.Need-overflow_sub-depth-in-6 (tree-end-calls t) (tree-end-at t) tree-end.Post
 tree-end-sub-child-end t c = search rules
 
-tree-end-child-end-requires : (t : ℕ) → tree-end-lts.Need-child-end-requires (tree-end-calls t) (tree-end-at t) tree-end.Post
+tree-end-child-end-requires : (t : ℕ) → tree-end-lts.Need-child_end-requires (tree-end-calls t) (tree-end-at t) tree-end.Post
 tree-end-child-end-requires t c κs = search rules
 
-tree-end-sub-child-end-2 : (t : ℕ) → tree-end-lts.Need-overflow-sub-child-end-2 (tree-end-calls t) (tree-end-at t) tree-end.Post
+tree-end-sub-child-end-2 : (t : ℕ) → tree-end-lts.Need-overflow_sub-depth-in-7 (tree-end-calls t) (tree-end-at t) tree-end.Post
 tree-end-sub-child-end-2 t c = search rules
 
-tree-end-child-end-requires-2 : (t : ℕ) → tree-end-lts.Need-child-end-requires-2 (tree-end-calls t) (tree-end-at t) tree-end.Post
+tree-end-child-end-requires-2 : (t : ℕ) → tree-end-lts.Need-child_end-requires-in-7 (tree-end-calls t) (tree-end-at t) tree-end.Post
 tree-end-child-end-requires-2 t c κs = search rules
 
-tree-end-leaf-end-requires-4 : (t : ℕ) → tree-end-lts.Need-leaf-end-requires-4 (tree-end-calls t) (tree-end-at t) tree-end.Post
+tree-end-leaf-end-requires-4 : (t : ℕ) → tree-end-lts.Need-leaf_end-requires-in-8 (tree-end-calls t) (tree-end-at t) tree-end.Post
 tree-end-leaf-end-requires-4 t c κs = search rules
 
-tree-end-returns-3 : (t : ℕ) → tree-end-lts.Need-returns-3 (tree-end-calls t) (tree-end-at t) tree-end.Post
+tree-end-returns-3 : (t : ℕ) → tree-end-lts.Need-returns-in-1 (tree-end-calls t) (tree-end-at t) tree-end.Post
 tree-end-returns-3 t c =
-    let s = c.before.before.before.before.before.before.before in let q = s.args.q.now in let at = s.args.at in let depth = s.args.depth in
-    c.leaf-end.ensures ∙ end-term q at depth c.before.before.before.before.before.if1.false (omega arith) (sym c.before.before.kind.ensures ∙ c.before.match.keys1)
+    let s = c in let q = s.args.q.now in let at = s.args.at in let depth = s.args.depth in
+    c.leaf_end.ensures ∙ end-term q at depth c.if-children-ne1.false (omega arith) (sym c.kind.ensures ∙ c.in-1.keys1)
 
-tree-end-returns-4 : (t : ℕ) → tree-end-lts.Need-returns-4 (tree-end-calls t) (tree-end-at t) tree-end.Post
+tree-end-returns-4 : (t : ℕ) → tree-end-lts.Need-returns-in-2 (tree-end-calls t) (tree-end-at t) tree-end.Post
 tree-end-returns-4 t c =
-    let s = c.before.before.before.before.before.before.before in let q = s.args.q.now in let at = s.args.at in let depth = s.args.depth in
-    c.phrase-end.ensures ∙ end-phrase q at depth c.before.before.before.before.before.if1.false (omega arith) (sym c.before.before.kind.ensures ∙ c.before.match.keys2)
+    let s = c in let q = s.args.q.now in let at = s.args.at in let depth = s.args.depth in
+    c.phrase_end.ensures ∙ end-phrase q at depth c.if-children-ne1.false (omega arith) (sym c.kind.ensures ∙ c.in-1.keys2)
 
-tree-end-returns-5 : (t : ℕ) → tree-end-lts.Need-returns-5 (tree-end-calls t) (tree-end-at t) tree-end.Post
+tree-end-returns-5 : (t : ℕ) → tree-end-lts.Need-returns-in-3 (tree-end-calls t) (tree-end-at t) tree-end.Post
 tree-end-returns-5 t c =
-    let s = c.before.before.before.before.before.before.before in let q = s.args.q.now in let at = s.args.at in let depth = s.args.depth in
-    c.clauses-end.ensures ∙ end-clauses q at depth c.before.before.before.before.before.if1.false (omega arith) (sym c.before.before.kind.ensures ∙ c.before.match.keys3)
+    let s = c in let q = s.args.q.now in let at = s.args.at in let depth = s.args.depth in
+    c.clauses_end.ensures ∙ end-clauses q at depth c.if-children-ne1.false (omega arith) (sym c.kind.ensures ∙ c.in-1.keys3)
 
-tree-end-returns-6 : (t : ℕ) → tree-end-lts.Need-returns-6 (tree-end-calls t) (tree-end-at t) tree-end.Post
+tree-end-returns-6 : (t : ℕ) → tree-end-lts.Need-returns-in-4 (tree-end-calls t) (tree-end-at t) tree-end.Post
 tree-end-returns-6 t c =
-    let s = c.before.before.before.before.before.before.before in let q = s.args.q.now in let at = s.args.at in let depth = s.args.depth in
-    c.leaf-end2.ensures ∙ end-range q at depth c.before.before.before.before.before.if1.false (omega arith) (sym c.before.before.kind.ensures ∙ c.before.match.keys4)
+    let s = c in let q = s.args.q.now in let at = s.args.at in let depth = s.args.depth in
+    c.leaf_end-in-4.ensures ∙ end-range q at depth c.if-children-ne1.false (omega arith) (sym c.kind.ensures ∙ c.in-1.keys4)
 
-tree-end-returns-7 : (t : ℕ) → tree-end-lts.Need-returns-7 (tree-end-calls t) (tree-end-at t) tree-end.Post
+tree-end-returns-7 : (t : ℕ) → tree-end-lts.Need-returns-in-5 (tree-end-calls t) (tree-end-at t) tree-end.Post
 tree-end-returns-7 t c =
-    let s = c.before.before.before.before.before.before.before in let q = s.args.q.now in let at = s.args.at in let depth = s.args.depth in
-    c.leaf-end3.ensures ∙ end-all q at depth c.before.before.before.before.before.if1.false (omega arith) (sym c.before.before.kind.ensures ∙ c.before.match.keys5)
+    let s = c in let q = s.args.q.now in let at = s.args.at in let depth = s.args.depth in
+    c.leaf_end-in-5.ensures ∙ end-all q at depth c.if-children-ne1.false (omega arith) (sym c.kind.ensures ∙ c.in-1.keys5)
 
-tree-end-returns-8 : (t : ℕ) → tree-end-lts.Need-returns-8 (tree-end-calls t) (tree-end-at t) tree-end.Post
+tree-end-returns-8 : (t : ℕ) → tree-end-lts.Need-returns-in-6 (tree-end-calls t) (tree-end-at t) tree-end.Post
 tree-end-returns-8 t c =
-    let s = c.before.before.before.before.before.before.before in let q = s.args.q.now in let at = s.args.at in let depth = s.args.depth in
-    c.child-end.ensures ∙ end-constant q at depth c.before.before.before.before.before.if1.false (omega arith) (sym c.before.before.kind.ensures ∙ c.before.match.keys6)
+    let s = c in let q = s.args.q.now in let at = s.args.at in let depth = s.args.depth in
+    c.child_end.ensures ∙ end-constant q at depth c.if-children-ne1.false (omega arith) (sym c.kind.ensures ∙ c.in-1.keys6)
 
-tree-end-returns-9 : (t : ℕ) → tree-end-lts.Need-returns-9 (tree-end-calls t) (tree-end-at t) tree-end.Post
+tree-end-returns-9 : (t : ℕ) → tree-end-lts.Need-returns-in-7 (tree-end-calls t) (tree-end-at t) tree-end.Post
 tree-end-returns-9 t c =
-    let s = c.before.before.before.before.before.before.before in let q = s.args.q.now in let at = s.args.at in let depth = s.args.depth in
-    c.child-end2.ensures ∙ end-boost q at depth c.before.before.before.before.before.if1.false (omega arith) (sym c.before.before.kind.ensures ∙ c.before.match.keys7)
+    let s = c in let q = s.args.q.now in let at = s.args.at in let depth = s.args.depth in
+    c.child_end-in-7.ensures ∙ end-boost q at depth c.if-children-ne1.false (omega arith) (sym c.kind.ensures ∙ c.in-1.keys7)
 
-tree-end-returns-10 : (t : ℕ) → tree-end-lts.Need-returns-10 (tree-end-calls t) (tree-end-at t) tree-end.Post
+tree-end-returns-10 : (t : ℕ) → tree-end-lts.Need-returns-in-8 (tree-end-calls t) (tree-end-at t) tree-end.Post
 tree-end-returns-10 t c =
-    let s = c.before.before.before.before.before.before.before in let q = s.args.q.now in let at = s.args.at in let depth = s.args.depth in
-    c.leaf-end4.ensures ∙ end_none q at depth c.before.before.before.before.before.if1.false (omega arith) (sym c.before.before.kind.ensures ∙ c.before.match.keys8)
+    let s = c in let q = s.args.q.now in let at = s.args.at in let depth = s.args.depth in
+    c.leaf_end-in-8.ensures ∙ end_none q at depth c.if-children-ne1.false (omega arith) (sym c.kind.ensures ∙ c.in-1.keys8)
 
-tree-end-returns-11 : (t : ℕ) → tree-end-lts.Need-returns-11 (tree-end-calls t) (tree-end-at t) tree-end.Post
+tree-end-returns-11 : (t : ℕ) → tree-end-lts.Need-returns-in_default (tree-end-calls t) (tree-end-at t) tree-end.Post
 tree-end-returns-11 t c =
-    let s = c.before.before.before.before.before.before in let q = s.args.q.now in let at = s.args.at in let depth = s.args.depth in
-    let no = c.match.rest in let is = c.before.kind.ensures in
+    let s = c in let q = s.args.q.now in let at = s.args.at in let depth = s.args.depth in
+    let no = c.in-1.rest in let is = c.kind.ensures in
     end-other q at depth (λ e. no.0.0.0.0.0.0.0.1 (is ∙ e)) (λ e. no.0.0.0.0.0.0.1 (is ∙ e)) (λ e. no.0.0.0.0.0.1 (is ∙ e)) (λ e. no.0.0.0.0.1 (is ∙ e)) (λ e. no.0.0.0.1 (is ∙ e)) (λ e. no.0.0.1 (is ∙ e)) (λ e. no.0.1 (is ∙ e)) (λ e. no.1 (is ∙ e))
 
-pub +child-end-clauses-end-tree-end-spec : {M : Type 1} → statement M
-+child-end-clauses-end-tree-end-spec =
+pub +child_end_clauses_end_tree_end_spec : {M : Type 1} → statement M
++child_end_clauses_end_tree_end_spec =
     close μ-child-end μ-clauses-end μ-tree-end (λ t. child-end-lts.spec (
       children-reads.Asked,
       children-reads.Learnt,

@@ -7,14 +7,14 @@ use Rattle.query.proofs.shape.leaf_end.Tie as tie
 children-requires : tie.Need-children-requires
 children-requires c κs = search rules
 
-returns : tie.Need-returns
-returns c = rw (← c.before.children.ensures, ne_eqb c.before.children.result 0 c.if1.true)
+returns : tie.Need-returns-then-children-ne0
+returns c = rw (← c.children.ensures, ne_eqb c.children.result 0 c.if-children-ne0.true)
 
-add-result : tie.Need-overflow-add-result
+add-result : tie.Need-overflow_add-result
 add-result c = search rules
 
-returns-2 : tie.Need-returns-2
-returns-2 c = rw (← c.before.children.ensures, eq-eqb c.before.children.result 0 c.if1.false)
+returns-2 : tie.Need-returns
+returns-2 c = rw (← c.children.ensures, eq-eqb c.children.result 0 c.if-children-ne0.false)
 
-pub leaf-end-spec : {M : Type 1} → statement M
-leaf-end-spec = tie.close (tie.spec children-requires returns add-result returns-2)
+pub leaf_end_spec : {M : Type 1} → statement M
+leaf_end_spec = tie.close (tie.spec children-requires returns add-result returns-2)

@@ -11,89 +11,89 @@ use Rattle.query.proofs.Steps.{phrase-shallow, phrase-missing, phrase-wrong, phr
 use Rattle.query.proofs.shape.phrase_end.Statement.{statement}
 use Rattle.query.proofs.shape.phrase_end.Tie as tie
 
-abbrev invariant-loop : tie.invariant-loop
+abbrev invariant-loop : tie.invariant-loop-j
 invariant-loop q depth at terms j₀ j = (j ≤ terms) × ((i : ℕ) → i < j → isPhraseTerm q (at + 1 + i) ≡ true)
 
-abbrev decreases-loop : tie.decreases-loop
+abbrev decreases-loop : tie.decreases-loop-j
 decreases-loop q depth at terms j₀ j = terms - j
 
 children-requires : tie.Need-children-requires invariant-loop decreases-loop
 children-requires c κs = search rules
 
-wide-requires : tie.Need-wide-requires invariant-loop decreases-loop
+wide-requires : tie.Need-wide-terms-requires invariant-loop decreases-loop
 wide-requires c κs = search rules
 
-returns : tie.Need-returns invariant-loop decreases-loop
+returns : tie.Need-returns-then-terms-eq0 invariant-loop decreases-loop
 returns c =
-    let s = c.before.before.before.before in let q = s.args.q.now in let at = s.args.at in
+    let s = c in let q = s.args.q.now in let at = s.args.at in
     fit-no aPhrase q at _ (no-terms (recordChildren q at) (omega arith))
 
-returns-2 : tie.Need-returns-2 invariant-loop decreases-loop
+returns-2 : tie.Need-returns-then-terms-gt32 invariant-loop decreases-loop
 returns-2 c =
-    let s = c.before.before.before.before.before in let q = s.args.q.now in let at = s.args.at in
+    let s = c in let q = s.args.q.now in let at = s.args.at in
     fit-no aPhrase q at _ (many-terms (recordChildren q at) (omega arith))
 
-returns-3 : tie.Need-returns-3 invariant-loop decreases-loop
+returns-3 : tie.Need-returns-then-depth-eq0 invariant-loop decreases-loop
 returns-3 c =
-    let s = c.before.before.before.before.before.before in let q = s.args.q.now in let at = s.args.at in let depth = s.args.depth in
-    fit-zero aPhrase q at _ (phrase-shallow q at depth c.if3.true)
+    let s = c in let q = s.args.q.now in let at = s.args.at in let depth = s.args.depth in
+    fit-zero aPhrase q at _ (phrase-shallow q at depth c.if-depth-eq0.true)
 
-record-count-requires : tie.Need-record-count-requires invariant-loop decreases-loop
+record-count-requires : tie.Need-record_count-requires invariant-loop decreases-loop
 record-count-requires c κs = search rules
 
-add-if4 : tie.Need-overflow-add-if4 invariant-loop decreases-loop
+add-if4 : tie.Need-overflow_add-at invariant-loop decreases-loop
 add-if4 c = search rules
 
-add-if4-2 : tie.Need-overflow-add-if4-2 invariant-loop decreases-loop
+add-if4-2 : tie.Need-overflow_add-at-2 invariant-loop decreases-loop
 add-if4-2 c = search rules
 
-returns-4 : tie.Need-returns-4 invariant-loop decreases-loop
+returns-4 : tie.Need-returns-then-record_count-at invariant-loop decreases-loop
 returns-4 c =
-    let s = c.before.before.before.before.before.before.before.before in let q = s.args.q.now in let at = s.args.at in let depth = s.args.depth in
+    let s = c in let q = s.args.q.now in let at = s.args.at in let depth = s.args.depth in
     fit-zero aPhrase q at _ (phrase-missing q at depth (omega arith))
 
-loop-holds : tie.Need-loop-init invariant-loop decreases-loop
+loop-holds : tie.Need-loop-j-init invariant-loop decreases-loop
 loop-holds c = (omega arith, λ i h. absurd (omega (arith, h)))
 
-add-is-phrase-term : tie.Need-overflow-add-is-phrase-term invariant-loop decreases-loop
+add-is-phrase-term : tie.Need-overflow_add-at-in-loop-j invariant-loop decreases-loop
 add-is-phrase-term c = search rules
 
-add-is-phrase-term-2 : tie.Need-overflow-add-is-phrase-term-2 invariant-loop decreases-loop
+add-is-phrase-term-2 : tie.Need-overflow_add-at-in-loop-j-2 invariant-loop decreases-loop
 add-is-phrase-term-2 c = search rules
 
-is-phrase-term-requires : tie.Need-is-phrase-term-requires invariant-loop decreases-loop
+is-phrase-term-requires : tie.Need-is_phrase_term-requires invariant-loop decreases-loop
 is-phrase-term-requires c κs = search rules
 
-returns-5 : tie.Need-returns-5 invariant-loop decreases-loop
+returns-5 : tie.Need-returns-then-not-is_phrase_term invariant-loop decreases-loop
 returns-5 c =
-    let s = c.before.before.before.before.before.before.before.before.before.before.before.before in let q = s.args.q.now in let at = s.args.at in let depth = s.args.depth in
-    fit-zero aPhrase q at _ (phrase-wrong q at depth c.before.before.before.loop.j (omega arith) (sym c.before.is-phrase-term.ensures ∙ not-true _ c.if5.true))
+    let s = c in let q = s.args.q.now in let at = s.args.at in let depth = s.args.depth in
+    fit-zero aPhrase q at _ (phrase-wrong q at depth c.loop-j.j (omega arith) (sym c.is_phrase_term.ensures ∙ not-true _ c.if-not-is_phrase_term.true))
 
-add-j : tie.Need-overflow-add-j invariant-loop decreases-loop
+add-j : tie.Need-overflow_add-j invariant-loop decreases-loop
 add-j c = search rules
 
-loop-less : tie.Need-loop-smaller invariant-loop decreases-loop
+loop-less : tie.Need-loop-j-smaller invariant-loop decreases-loop
 loop-less c = search rules
 
-loop-again : tie.Need-loop-preserved invariant-loop decreases-loop
-loop-again c = (omega arith, below_more _ _ c.before.before.before.loop.invariant.1 (sym c.before.is-phrase-term.ensures ∙ not-false _ c.if5.false))
+loop-again : tie.Need-loop-j-preserved invariant-loop decreases-loop
+loop-again c = (omega arith, below_more _ _ c.loop-j.invariant.1 (sym c.is_phrase_term.ensures ∙ not-false _ c.if-not-is_phrase_term.false))
 
-add-result : tie.Need-overflow-add-result invariant-loop decreases-loop
+add-result : tie.Need-overflow_add-result invariant-loop decreases-loop
 add-result c = search rules
 
-add-result-2 : tie.Need-overflow-add-result-2 invariant-loop decreases-loop
+add-result-2 : tie.Need-overflow_add-result-2 invariant-loop decreases-loop
 add-result-2 c = search rules
 
-returns-6 : tie.Need-returns-6 invariant-loop decreases-loop
+returns-6 : tie.Need-returns invariant-loop decreases-loop
 returns-6 c =
-    let s = c.before.before.before.before.before.before.before.before.before.before in let q = s.args.q.now in let at = s.args.at in let depth = s.args.depth in
-    let q = q in let at = at in let terms : c.before.before.before.before.before.before.before.wide.result ≡ recordChildren q at = c.before.before.before.before.before.before.before.wide.ensures ∙ c.before.before.before.before.before.before.before.before.children.ensures in
+    let s = c in let q = s.args.q.now in let at = s.args.at in let depth = s.args.depth in
+    let q = q in let at = at in let terms : c.wide-terms.result ≡ recordChildren q at = c.wide-terms.ensures ∙ c.children.ensures in
     rw terms
-    (fit-yes aPhrase q at _ _ (terms-fit (recordChildren q at) (λ e. c.before.before.before.before.before.before.if1.false (terms ∙ e)) (omega arith))
-    (phrase-right q at depth (omega (arith, one_less depth c.before.before.before.before.if3.false)) (omega arith) (λ j h. c.before.loop.invariant.1 j (omega (arith, h)))))
+    (fit-yes aPhrase q at _ _ (terms-fit (recordChildren q at) (λ e. c.if-terms-eq0.false (terms ∙ e)) (omega arith))
+    (phrase-right q at depth (omega (arith, one_less depth c.if-depth-eq0.false)) (omega arith) (λ j h. c.loop-j.invariant.1 j (omega (arith, h)))))
 
-pub phrase-end-spec : {M : Type 1} → statement M
-phrase-end-spec =
+pub phrase_end_spec : {M : Type 1} → statement M
+phrase_end_spec =
     tie.close
     (tie.spec
     invariant-loop
