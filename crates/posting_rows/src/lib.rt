@@ -1,4 +1,6 @@
 // The records of postings whose positions follow one another, as a writer lays them: word by word, in rows of four records.
+#![tactic(auto)]
+
 ghost use Rattle.std.specs.Prelude.{◌≡◌, ℕ, ◌+◌, ◌-◌, ◌/◌, ◌<◌, ◌≤◌, length, slice_index};
 ghost use Rattle.posting_rows.specs.Rows.{Lane, Over, laneDocuments, laneIndexes, joinedOf};
 
