@@ -75,7 +75,7 @@ array-read-rises c = search rules
 
 -- src/laid.rt:30:24
 add-rises : tie.Need-overflow_add-rises invariant-loop2 decreases-loop2 invariant-loop decreases-loop
-add-rises c = let b = c in let v = b.loop-j.invariant in omega (arith, lane_count b.args.part.now (6 + b.loop-j.j) v.0 _ _ _ (v.1.3.false b.loop-j.j (omega arith) c.loop-j-test.true), v.1.0, v.1.1, b.requires, c.wrapping_sub_u32-step.type_inv)
+add-rises c = let b = c in let v = b.loop-j.invariant in omega (arith, lane_count b.args.part.now (6 + b.loop-j.j) v.0 _ _ _ (v.1.3.left b.loop-j.j (omega arith) c.loop-j-test.true), v.1.0, v.1.1, b.requires, c.wrapping_sub_u32-step.type_inv)
 
 -- src/laid.rt:30:13
 mul-rises-2 : tie.Need-offset_bounds-rises-j-in-loop-j invariant-loop2 decreases-loop2 invariant-loop decreases-loop
