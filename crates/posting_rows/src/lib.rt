@@ -15,7 +15,7 @@ pub struct Lanes {
 }
 
 // What is gathered of records.
-#[derive(Drop)]
+#[derive(Clone, Copy)]
 pub struct Tally {
     pub ascents: u32,
     pub advances: u32,
