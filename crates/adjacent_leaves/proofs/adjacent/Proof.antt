@@ -45,7 +45,7 @@ begun c = c.before.before.before.before
 first-end : (c : tie.After-leaf_end-last invariant-loop decreases-loop) → (1 ≤ c.leaf_end-last.result) × (c.leaf_end-last.result ≤ length (begun c).args.postings.now / 3)
 first-end c =
     let s = begun c in
-    (omega (arith, c.leaf_end-last.ensures, s.pre.1), omega (arith, c.leaf_end-last.ensures, (ok s s.args.l (omega (arith, s.pre.1))).run))
+    (omega (arith, c.leaf_end-last.ensures, s.requires.1), omega (arith, c.leaf_end-last.ensures, (ok s s.args.l (omega (arith, s.requires.1))).run))
 
 abbrev start : tie.At-loop-end invariant-loop decreases-loop → tie.Start invariant-loop decreases-loop
 start a = a.before.before.before.before.before.before
@@ -59,10 +59,10 @@ module _ (c : tie.Else-not-follows invariant-loop decreases-loop) where
   end = at.loop-end.end
 
   here : end < length (start at).args.leaves.now / 4
-  here = omega (arith, c.loop-end-test.true, (start at).pre.1)
+  here = omega (arith, c.loop-end-test.true, (start at).requires.1)
 
   yes-follows : ((eqb (leafFirst (ix (start at)) end) at.loop-end.last && not (eqb (leafNumber (ix (start at)) end) 0)) && hasPositions (ix (start at)) (leafField (ix (start at)) end)) ≡ true
-  yes-follows = sym c.follows.ensures ∙ not-false _ c.if-not-follows.false
+  yes-follows = sym c.follows.ensures ∙ c.if-not-follows.false
 
   first-here : leafFirst (ix (start at)) end ≡ at.loop-end.last
   first-here = eqb-true _ _ (and_left (eqb (leafFirst (ix (start at)) end) at.loop-end.last) (not (eqb (leafNumber (ix (start at)) end) 0)) (and_left (eqb (leafFirst (ix (start at)) end) at.loop-end.last && not (eqb (leafNumber (ix (start at)) end) 0)) (hasPositions (ix (start at)) (leafField (ix (start at)) end)) yes-follows))
@@ -91,7 +91,7 @@ leaf-end-requires c κs = search rules
 
 -- src/adjacent.rt:59:29
 mul-high : tie.Need-overflow_mul-high invariant-loop decreases-loop
-mul-high c = omega (arith, first-end c, (begun c).well-formed)
+mul-high c = omega (arith, first-end c, (begun c).well_formed)
 
 -- src/adjacent.rt:59:29
 sub-high : tie.Need-overflow_sub-high invariant-loop decreases-loop
@@ -99,7 +99,7 @@ sub-high c = omega (arith, first-end c)
 
 -- src/adjacent.rt:59:20
 mul-high-2 : tie.Need-offset_bounds-postings-last invariant-loop decreases-loop
-mul-high-2 c = omega (arith, first-end c, (begun c).well-formed)
+mul-high-2 c = omega (arith, first-end c, (begun c).well_formed)
 
 -- src/adjacent.rt:59:20
 shared-slice-read-high : tie.Need-bounds-postings-last invariant-loop decreases-loop
@@ -111,11 +111,11 @@ add-end c = search rules
 
 -- src/adjacent.rt:62:5
 loop-holds : tie.Need-loop-end-init invariant-loop decreases-loop
-loop-holds c = let b = c.before in let s = begun b in (1, (omega arith, omega arith, omega (arith, s.pre.1), (first-end b).0, (first-end b).1, together-one (ix s) s.args.l _ s.pre.1.2 b.leaf_end-last.ensures))
+loop-holds c = let b = c.before in let s = begun b in (1, (omega arith, omega arith, omega (arith, s.requires.1), (first-end b).0, (first-end b).1, together-one (ix s) s.args.l _ s.requires.1.2 b.leaf_end-last.ensures))
 
 -- src/adjacent.rt:63:13
 follows-requires : tie.Need-follows-requires invariant-loop decreases-loop
-follows-requires c κs = let s = start c.before in let h : c.loop-end.end < length s.args.leaves.now / 4 = omega (arith, c.loop-end-test.true, s.pre.1) in (h, (ok s c.loop-end.end h).field)
+follows-requires c κs = let s = start c.before in let h : c.loop-end.end < length s.args.leaves.now / 4 = omega (arith, c.loop-end-test.true, s.requires.1) in (h, (ok s c.loop-end.end h).field)
 
 -- src/adjacent.rt:64:13
 returns : tie.Need-returns-then-not-follows invariant-loop decreases-loop
@@ -151,7 +151,7 @@ shared-slice-read-if2-2 c = search rules
 
 -- src/adjacent.rt:72:13
 add-falls : tie.Need-overflow_add-falls invariant-loop decreases-loop
-add-falls c = let a = c.before.before.before.before.before.before in let v = a.loop-end.invariant in let s = start a in omega (arith, v.1.5.fallen, count-le v.0 (borderFall (ix s) s.args.l), v.1.2, s.pre.1, s.good)
+add-falls c = let a = c.before.before.before.before.before.before in let v = a.loop-end.invariant in let s = start a in omega (arith, v.1.5.fallen, count-le v.0 (borderFall (ix s) s.args.l), v.1.2, s.requires.1, s.well_formed)
 
 -- src/adjacent.rt:74:9
 leaf-end-requires-2 : tie.Need-leaf_end-last-requires-in-loop-end invariant-loop decreases-loop
@@ -159,7 +159,7 @@ leaf-end-requires-2 c κs = search rules
 
 -- src/adjacent.rt:75:33
 mul-high-3 : tie.Need-overflow_mul-high-in-loop-end invariant-loop decreases-loop
-mul-high-3 c = omega (arith, second-end c, (start (at (else_of c))).good)
+mul-high-3 c = omega (arith, second-end c, (start (at (else_of c))).well_formed)
 
 -- src/adjacent.rt:75:33
 sub-high-2 : tie.Need-overflow_sub-high-in-loop-end invariant-loop decreases-loop
@@ -167,7 +167,7 @@ sub-high-2 c = omega (arith, second-end c)
 
 -- src/adjacent.rt:75:24
 mul-high-4 : tie.Need-offset_bounds-postings-last-in-loop-end-3 invariant-loop decreases-loop
-mul-high-4 c = omega (arith, second-end c, (start (at (else_of c))).good)
+mul-high-4 c = omega (arith, second-end c, (start (at (else_of c))).well_formed)
 
 -- src/adjacent.rt:75:24
 shared-slice-read-high-2 : tie.Need-bounds-postings-last-in-loop-end-3 invariant-loop decreases-loop
@@ -183,7 +183,7 @@ loop-less c = search rules
 
 -- src/adjacent.rt:62:5
 loop-again : tie.Need-loop-end-preserved invariant-loop decreases-loop
-loop-again c = let b = c.before in let e = else_of b in let a = at e in let v = a.loop-end.inv in let s = start a in let g = border-is (ix s) s.args.l v.0 a.loop-end.end a.loop-end.last v.1.0 v.1.1 (first-here e) in (v.0 + 1, (omega (arith, v.1.0), omega arith, omega (arith, v.1.0, e.loop-end-test.true), (second-end b).0, (second-end b).1, together-more (ix s) s.args.l v.0 a.loop-end.last a.loop-end.falls a.loop-end.high v.1.5 v.1.1 a.loop-end.end v.1.0 (first-here e) (some-here e) (with-here e) _ _ b.leaf_end-last-in-loop-end.ensures (⊎_elim (λ w. w.1 ∙ count-one _ _ _ v.1.5.fallen (sym g ∙ le-leb _ _ w.0.true)) (λ w. w.1 ∙ count_same _ _ _ v.1.5.fallen (sym g ∙ lt-leb _ _ w.0.false)) b.if-postings-last.branch-raw)))
+loop-again c = let b = c.before in let e = else_of b in let a = at e in let v = a.loop-end.invariant in let s = start a in let g = border-is (ix s) s.args.l v.0 a.loop-end.end a.loop-end.last v.1.0 v.1.1 (first-here e) in (v.0 + 1, (omega (arith, v.1.0), omega arith, omega (arith, v.1.0, e.loop-end-test.true), (second-end b).0, (second-end b).1, together-more (ix s) s.args.l v.0 a.loop-end.last a.loop-end.falls a.loop-end.high v.1.5 v.1.1 a.loop-end.end v.1.0 (first-here e) (some-here e) (with-here e) _ _ b.leaf_end-last-in-loop-end.ensures (⊎_elim (λ w. w.falls-is ∙ count-one _ _ _ v.1.5.fallen (sym g ∙ le-leb _ _ w.if-postings-last.true)) (λ w. w.falls-is ∙ count_same _ _ _ v.1.5.fallen (sym g ∙ lt-leb _ _ w.if-postings-last.false)) b.if-postings-last.branch-raw)))
 
 -- src/adjacent.rt:46:1
 returns-2 : tie.Need-returns invariant-loop decreases-loop

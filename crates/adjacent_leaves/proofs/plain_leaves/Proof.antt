@@ -70,16 +70,16 @@ module _ (c : tie.Else-s) where
   m = c.adjacent-s.ensures.0
 
   joined : Together (ix (begun first_leaf)) (l first_leaf) m c.adjacent-s.result.last c.adjacent-s.result.falls false
-  joined = subst (λ (b : Bool). Together (ix (begun first_leaf)) (l first_leaf) m c.adjacent-s.result.last c.adjacent-s.result.falls b) c.if-s.false (together-with (begun first_leaf).args.max-doc (begun first_leaf).args.fields.now (begun first_leaf).args.leaves.now (begun first_leaf).args.postings.now (begun first_leaf).args.positions.now _ _ _ _ _ c.adjacent-s.ensures.1.3)
+  joined = subst (λ (b : Bool). Together (ix (begun first_leaf)) (l first_leaf) m c.adjacent-s.result.last c.adjacent-s.result.falls b) c.if-s.false (together-with (begun first_leaf).args.max_doc (begun first_leaf).args.fields.now (begun first_leaf).args.leaves.now (begun first_leaf).args.postings.now (begun first_leaf).args.positions.now _ _ _ _ _ c.adjacent-s.ensures.1.3)
 
   within : (0 < m) × (l first_leaf + m ≤ (begun first_leaf).args.limit) × ((begun first_leaf).args.limit ≤ length (begun first_leaf).args.leaves.now / 4)
-  within = (c.adjacent-s.ensures.1.1, c.adjacent-s.ensures.1.2, (begun first_leaf).pre.1.1)
+  within = (c.adjacent-s.ensures.1.1, c.adjacent-s.ensures.1.2, (begun first_leaf).requires.1.1)
 
   fits : 3 * c.adjacent-s.result.last ≤ length (begun first_leaf).args.postings.now
   fits = omega (arith, joined.ends, (ok (begun first_leaf) (l first_leaf + (m - 1)) (omega (arith, within))).words)
 
   few : c.adjacent-s.result.falls ≤ 512
-  few = omega (arith, joined.fallen, count-le m (borderFall (ix (begun first_leaf)) (l first_leaf)), within, leaves-few (ix (begun first_leaf)) (wrong4-of (ix (begun first_leaf)) ∙ (begun first_leaf).pre.0))
+  few = omega (arith, joined.fallen, count-le m (borderFall (ix (begun first_leaf)) (l first_leaf)), within, leaves-few (ix (begun first_leaf)) (wrong4-of (ix (begun first_leaf)) ∙ (begun first_leaf).requires.0))
 
 -- where the first run begins
 module _ (c : tie.After-struct_known-3-1) where
@@ -110,11 +110,11 @@ add-t20 c = search rules
 
 -- src/adjacent.rt:113:9
 returns : tie.Need-returns-then-field-leaf
-returns c = let s = start c.before in ((omega arith, omega (arith, s.pre.1)), λ e. absurd (false≢true e))
+returns c = let s = start c.before in ((omega arith, omega (arith, s.requires.1)), λ e. absurd (false≢true e))
 
 -- src/adjacent.rt:118:9
 adjacent-requires : tie.Need-adjacent-s-requires
-adjacent-requires c κs = let s = begun c in (s.pre.0, (s.pre.1.0, s.pre.1.1, some c))
+adjacent-requires c κs = let s = begun c in (s.requires.0, (s.requires.1.0, s.requires.1.1, some c))
 
 -- src/adjacent.rt:121:9
 returns-2 : tie.Need-returns-then-s
@@ -130,7 +130,7 @@ mul-from c = search rules
 
 -- src/adjacent.rt:124:14
 mul-to : tie.Need-overflow_mul-to
-mul-to c = omega (arith, fits (then c), (begun (first_leaf (then c))).good)
+mul-to c = omega (arith, fits (then c), (begun (first_leaf (then c))).well_formed)
 
 -- src/adjacent.rt:125:15
 mul-run : tie.Need-offset_bounds-postings-from
