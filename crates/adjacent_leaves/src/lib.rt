@@ -1,4 +1,6 @@
 // Leaves whose runs follow one another, as a writer lays them: whether nothing in them is wrong, where that shows at once.
+#![tactic(auto)]
+
 ghost use Rattle.std.specs.Prelude.{◌≡◌, [], true, false, not, ◌&&◌, ℕ, ◌<◌, ◌≤◌, ◌+◌, ◌/◌, eqb, length};
 ghost use Rattle.meaning.specs.Below.{anyBelow};
 ghost use Rattle.meaning.specs.Lent.{hasPositions, leafField, leafFirst, leafNumber};

@@ -1,4 +1,6 @@
 // The loader's refusals 1 to 6 of an index.
+#![tactic(auto)]
+
 ghost use Rattle.std.specs.Prelude.{◌≡◌};
 ghost use Rattle.index.specs.Slices.{lent};
 ghost use Rattle.index.specs.Refusal.{indexRefusal};

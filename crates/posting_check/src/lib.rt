@@ -1,4 +1,6 @@
 // Refusal 5: the posting records of each leaf's run and their positions.
+#![tactic(auto)]
+
 ghost use Rattle.std.specs.Prelude.{◌≡◌, ◌+◌, ◌-◌, ◌/◌, ◌<◌, ◌≤◌, false, [], length};
 ghost use Rattle.meaning.specs.Below.{anyBelow};
 ghost use Rattle.meaning.specs.Lent.{leafNumber};

@@ -1,4 +1,6 @@
 // The records of postings whose positions follow one another, as a writer lays them: word by word, in rows of four records.
+#![tactic(auto)]
+
 ghost use Rattle.std.specs.Prelude.{◌≡◌, ℕ, ◌+◌, ◌-◌, ◌/◌, ◌<◌, ◌≤◌, length, slice_index};
 ghost use Rattle.posting_rows.specs.Rows.{Lane, Over, laneDocuments, laneIndexes, joinedOf};
 
@@ -13,7 +15,7 @@ pub struct Lanes {
 }
 
 // What is gathered of records.
-#[derive(Drop)]
+#[derive(Clone, Copy)]
 pub struct Tally {
     pub ascents: u32,
     pub advances: u32,

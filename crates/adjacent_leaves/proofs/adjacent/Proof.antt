@@ -25,172 +25,172 @@ use Rattle.adjacent_leaves.proofs.adjacent.Lts as lts
 use Rattle.adjacent_leaves.proofs.follows.Reads as follows-reads
 use Rattle.adjacent_leaves.proofs.leaf_end.Reads as leaf-end-reads
 
-abbrev invariant-loop : tie.invariant-loop
+abbrev invariant-loop : tie.invariant-loop-end
 invariant-loop max-doc fields leaves postings l limit last₀ high₀ falls₀ end₀ last high falls end = (m : ℕ) × ((end ≡ l + m) × (0 < m) × (l + m ≤ limit) × (1 ≤ last) × (last ≤ length postings / 3) × Together (runsOnly max-doc fields leaves postings []) l m last falls high)
 
-abbrev decreases-loop : tie.decreases-loop
+abbrev decreases-loop : tie.decreases-loop-end
 decreases-loop max-doc fields leaves postings l limit last₀ high₀ falls₀ end₀ last high falls end = limit - end
 
 -- what is lent, and what is known of a leaf
 abbrev ix : tie.Start invariant-loop decreases-loop → Index
-ix s = runsOnly s.args.max-doc s.args.fields.now s.args.leaves.now s.args.postings.now []
+ix s = runsOnly s.args.max_doc s.args.fields.now s.args.leaves.now s.args.postings.now []
 
 ok : (s : tie.Start invariant-loop decreases-loop) (k : ℕ) → k < length s.args.leaves.now / 4 → LeafOk (ix s) k
 ok s k h = leaf-ok (ix s) (wrong4-of (ix s) ∙ s.requires.0) k h
 
 -- where the first run ends
-abbrev begun : tie.After-leaf-end invariant-loop decreases-loop → tie.Start invariant-loop decreases-loop
+abbrev begun : tie.After-leaf_end-last invariant-loop decreases-loop → tie.Start invariant-loop decreases-loop
 begun c = c.before.before.before.before
 
-first-end : (c : tie.After-leaf-end invariant-loop decreases-loop) → (1 ≤ c.leaf-end.result) × (c.leaf-end.result ≤ length (begun c).args.postings.now / 3)
+first-end : (c : tie.After-leaf_end-last invariant-loop decreases-loop) → (1 ≤ c.leaf_end-last.result) × (c.leaf_end-last.result ≤ length (begun c).args.postings.now / 3)
 first-end c =
     let s = begun c in
-    (omega (arith, c.leaf-end.ensures, s.pre.1), omega (arith, c.leaf-end.ensures, (ok s s.args.l (omega (arith, s.pre.1))).run))
+    (omega (arith, c.leaf_end-last.ensures, s.requires.1), omega (arith, c.leaf_end-last.ensures, (ok s s.args.l (omega (arith, s.requires.1))).run))
 
-abbrev start : tie.At-loop invariant-loop decreases-loop → tie.Start invariant-loop decreases-loop
+abbrev start : tie.At-loop-end invariant-loop decreases-loop → tie.Start invariant-loop decreases-loop
 start a = a.before.before.before.before.before.before
 
 -- the leaf at the end follows
-module _ (c : tie.Else1 invariant-loop decreases-loop) where
-  abbrev at : tie.At-loop invariant-loop decreases-loop
+module _ (c : tie.Else-not-follows invariant-loop decreases-loop) where
+  abbrev at : tie.At-loop-end invariant-loop decreases-loop
   at = c.before.before.before
 
   abbrev end : ℕ
-  end = at.loop.end
+  end = at.loop-end.end
 
   here : end < length (start at).args.leaves.now / 4
-  here = omega (arith, c.before.before.loop-test.true, (start at).pre.1)
+  here = omega (arith, c.loop-end-test.true, (start at).requires.1)
 
-  yes-follows : ((eqb (leafFirst (ix (start at)) end) at.loop.last && not (eqb (leafNumber (ix (start at)) end) 0)) && hasPositions (ix (start at)) (leafField (ix (start at)) end)) ≡ true
-  yes-follows = sym c.before.follows.ensures ∙ not-false _ c.if1.false
+  yes-follows : ((eqb (leafFirst (ix (start at)) end) at.loop-end.last && not (eqb (leafNumber (ix (start at)) end) 0)) && hasPositions (ix (start at)) (leafField (ix (start at)) end)) ≡ true
+  yes-follows = sym c.follows.ensures ∙ c.if-not-follows.false
 
-  first-here : leafFirst (ix (start at)) end ≡ at.loop.last
-  first-here = eqb-true _ _ (and_left (eqb (leafFirst (ix (start at)) end) at.loop.last) (not (eqb (leafNumber (ix (start at)) end) 0)) (and_left (eqb (leafFirst (ix (start at)) end) at.loop.last && not (eqb (leafNumber (ix (start at)) end) 0)) (hasPositions (ix (start at)) (leafField (ix (start at)) end)) yes-follows))
+  first-here : leafFirst (ix (start at)) end ≡ at.loop-end.last
+  first-here = eqb-true _ _ (and_left (eqb (leafFirst (ix (start at)) end) at.loop-end.last) (not (eqb (leafNumber (ix (start at)) end) 0)) (and_left (eqb (leafFirst (ix (start at)) end) at.loop-end.last && not (eqb (leafNumber (ix (start at)) end) 0)) (hasPositions (ix (start at)) (leafField (ix (start at)) end)) yes-follows))
 
   some-here : 0 < leafNumber (ix (start at)) end
   some-here =
-      let z : leafNumber (ix (start at)) end ≡ 0 → ⊥ = eqb-false _ _ (not-true _ (and_right (eqb (leafFirst (ix (start at)) end) at.loop.last) (not (eqb (leafNumber (ix (start at)) end) 0)) (and_left (eqb (leafFirst (ix (start at)) end) at.loop.last && not (eqb (leafNumber (ix (start at)) end) 0)) (hasPositions (ix (start at)) (leafField (ix (start at)) end)) yes-follows))) in
+      let z : leafNumber (ix (start at)) end ≡ 0 → ⊥ = eqb-false _ _ (not-true _ (and_right (eqb (leafFirst (ix (start at)) end) at.loop-end.last) (not (eqb (leafNumber (ix (start at)) end) 0)) (and_left (eqb (leafFirst (ix (start at)) end) at.loop-end.last && not (eqb (leafNumber (ix (start at)) end) 0)) (hasPositions (ix (start at)) (leafField (ix (start at)) end)) yes-follows))) in
       omega (arith, z)
 
   with-here : hasPositions (ix (start at)) (leafField (ix (start at)) end) ≡ true
-  with-here = and_right (eqb (leafFirst (ix (start at)) end) at.loop.last && not (eqb (leafNumber (ix (start at)) end) 0)) (hasPositions (ix (start at)) (leafField (ix (start at)) end)) yes-follows
+  with-here = and_right (eqb (leafFirst (ix (start at)) end) at.loop-end.last && not (eqb (leafNumber (ix (start at)) end) 0)) (hasPositions (ix (start at)) (leafField (ix (start at)) end)) yes-follows
 
   fits-here : leafFirst (ix (start at)) end + leafNumber (ix (start at)) end ≤ length (start at).args.postings.now / 3
   fits-here = (ok (start at) end here).run
 
 -- where its run ends
-abbrev else_of : tie.After-leaf-end2 invariant-loop decreases-loop → tie.Else1 invariant-loop decreases-loop
+abbrev else_of : tie.After-leaf_end-last-in-loop-end invariant-loop decreases-loop → tie.Else-not-follows invariant-loop decreases-loop
 else_of c = c.before.before.before.before
 
-second-end : (c : tie.After-leaf-end2 invariant-loop decreases-loop) → (1 ≤ c.leaf-end2.result) × (c.leaf-end2.result ≤ length (start (at (else_of c))).args.postings.now / 3)
-second-end c = (omega (arith, c.leaf-end2.ensures, some-here (else_of c)), omega (arith, c.leaf-end2.ensures, fits-here (else_of c)))
+second-end : (c : tie.After-leaf_end-last-in-loop-end invariant-loop decreases-loop) → (1 ≤ c.leaf_end-last-in-loop-end.result) × (c.leaf_end-last-in-loop-end.result ≤ length (start (at (else_of c))).args.postings.now / 3)
+second-end c = (omega (arith, c.leaf_end-last-in-loop-end.ensures, some-here (else_of c)), omega (arith, c.leaf_end-last-in-loop-end.ensures, fits-here (else_of c)))
 
 -- src/adjacent.rt:58:9
-leaf-end-requires : tie.Need-leaf-end-requires invariant-loop decreases-loop
+leaf-end-requires : tie.Need-leaf_end-last-requires invariant-loop decreases-loop
 leaf-end-requires c κs = search rules
 
 -- src/adjacent.rt:59:29
-mul-high : tie.Need-overflow-mul-high invariant-loop decreases-loop
-mul-high c = omega (arith, first-end c, (begun c).well-formed)
+mul-high : tie.Need-overflow_mul-high invariant-loop decreases-loop
+mul-high c = omega (arith, first-end c, (begun c).well_formed)
 
 -- src/adjacent.rt:59:29
-sub-high : tie.Need-overflow-sub-high invariant-loop decreases-loop
+sub-high : tie.Need-overflow_sub-high invariant-loop decreases-loop
 sub-high c = omega (arith, first-end c)
 
 -- src/adjacent.rt:59:20
-mul-high-2 : tie.Need-overflow-mul-high-2 invariant-loop decreases-loop
-mul-high-2 c = omega (arith, first-end c, (begun c).well-formed)
+mul-high-2 : tie.Need-offset_bounds-postings-last invariant-loop decreases-loop
+mul-high-2 c = omega (arith, first-end c, (begun c).well_formed)
 
 -- src/adjacent.rt:59:20
-shared-slice-read-high : tie.Need-shared-slice-read-high invariant-loop decreases-loop
+shared-slice-read-high : tie.Need-bounds-postings-last invariant-loop decreases-loop
 shared-slice-read-high c = omega (arith, first-end c.before)
 
 -- src/adjacent.rt:61:19
-add-end : tie.Need-overflow-add-end invariant-loop decreases-loop
+add-end : tie.Need-overflow_add-end invariant-loop decreases-loop
 add-end c = search rules
 
 -- src/adjacent.rt:62:5
-loop-holds : tie.Need-loop-init invariant-loop decreases-loop
-loop-holds c = let b = c.before in let s = begun b in (1, (omega arith, omega arith, omega (arith, s.pre.1), (first-end b).0, (first-end b).1, together-one (ix s) s.args.l _ s.pre.1.2 b.leaf-end.ensures))
+loop-holds : tie.Need-loop-end-init invariant-loop decreases-loop
+loop-holds c = let b = c.before in let s = begun b in (1, (omega arith, omega arith, omega (arith, s.requires.1), (first-end b).0, (first-end b).1, together-one (ix s) s.args.l _ s.requires.1.2 b.leaf_end-last.ensures))
 
 -- src/adjacent.rt:63:13
 follows-requires : tie.Need-follows-requires invariant-loop decreases-loop
-follows-requires c κs = let s = start c.before in let h : c.before.loop.end < length s.args.leaves.now / 4 = omega (arith, c.loop-test.true, s.pre.1) in (h, (ok s c.before.loop.end h).field)
+follows-requires c κs = let s = start c.before in let h : c.loop-end.end < length s.args.leaves.now / 4 = omega (arith, c.loop-end-test.true, s.requires.1) in (h, (ok s c.loop-end.end h).field)
 
 -- src/adjacent.rt:64:13
-returns : tie.Need-returns invariant-loop decreases-loop
-returns c = let v = c.before.before.before.loop.invariant in (v.0, (v.1.0, v.1.1, v.1.2, v.1.5))
+returns : tie.Need-returns-then-not-follows invariant-loop decreases-loop
+returns c = let v = c.loop-end.invariant in (v.0, (v.1.0, v.1.1, v.1.2, v.1.5))
 
 -- src/adjacent.rt:71:21
-mul-if2 : tie.Need-overflow-mul-if2 invariant-loop decreases-loop
+mul-if2 : tie.Need-overflow_mul-last invariant-loop decreases-loop
 mul-if2 c = search rules
 
 -- src/adjacent.rt:71:12
-mul-if2-2 : tie.Need-overflow-mul-if2-2 invariant-loop decreases-loop
+mul-if2-2 : tie.Need-offset_bounds-postings-last-in-loop-end invariant-loop decreases-loop
 mul-if2-2 c = search rules
 
 -- src/adjacent.rt:71:12
-shared-slice-read-if2 : tie.Need-shared-slice-read-if2 invariant-loop decreases-loop
+shared-slice-read-if2 : tie.Need-bounds-postings-last-in-loop-end invariant-loop decreases-loop
 shared-slice-read-if2 c = let e = c.before in omega (arith, first-here e, some-here e, fits-here e)
 
 -- src/adjacent.rt:71:43
-mul-if2-3 : tie.Need-overflow-mul-if2-3 invariant-loop decreases-loop
+mul-if2-3 : tie.Need-overflow_mul-last-in-loop-end invariant-loop decreases-loop
 mul-if2-3 c = search rules
 
 -- src/adjacent.rt:71:43
-sub-if2 : tie.Need-overflow-sub-if2 invariant-loop decreases-loop
+sub-if2 : tie.Need-overflow_sub-last invariant-loop decreases-loop
 sub-if2 c = search rules
 
 -- src/adjacent.rt:71:34
-mul-if2-4 : tie.Need-overflow-mul-if2-4 invariant-loop decreases-loop
+mul-if2-4 : tie.Need-offset_bounds-postings-last-in-loop-end-2 invariant-loop decreases-loop
 mul-if2-4 c = search rules
 
 -- src/adjacent.rt:71:34
-shared-slice-read-if2-2 : tie.Need-shared-slice-read-if2-2 invariant-loop decreases-loop
+shared-slice-read-if2-2 : tie.Need-bounds-postings-last-in-loop-end-2 invariant-loop decreases-loop
 shared-slice-read-if2-2 c = search rules
 
 -- src/adjacent.rt:72:13
-add-falls : tie.Need-overflow-add-falls invariant-loop decreases-loop
-add-falls c = let a = c.before.before.before.before.before.before in let v = a.loop.invariant in let s = start a in omega (arith, v.1.5.fallen, count-le v.0 (borderFall (ix s) s.args.l), v.1.2, s.pre.1, s.good)
+add-falls : tie.Need-overflow_add-falls invariant-loop decreases-loop
+add-falls c = let a = c.before.before.before.before.before.before in let v = a.loop-end.invariant in let s = start a in omega (arith, v.1.5.fallen, count-le v.0 (borderFall (ix s) s.args.l), v.1.2, s.requires.1, s.well_formed)
 
 -- src/adjacent.rt:74:9
-leaf-end-requires-2 : tie.Need-leaf-end-requires-2 invariant-loop decreases-loop
+leaf-end-requires-2 : tie.Need-leaf_end-last-requires-in-loop-end invariant-loop decreases-loop
 leaf-end-requires-2 c κs = search rules
 
 -- src/adjacent.rt:75:33
-mul-high-3 : tie.Need-overflow-mul-high-3 invariant-loop decreases-loop
-mul-high-3 c = omega (arith, second-end c, (start (at (else_of c))).good)
+mul-high-3 : tie.Need-overflow_mul-high-in-loop-end invariant-loop decreases-loop
+mul-high-3 c = omega (arith, second-end c, (start (at (else_of c))).well_formed)
 
 -- src/adjacent.rt:75:33
-sub-high-2 : tie.Need-overflow-sub-high-2 invariant-loop decreases-loop
+sub-high-2 : tie.Need-overflow_sub-high-in-loop-end invariant-loop decreases-loop
 sub-high-2 c = omega (arith, second-end c)
 
 -- src/adjacent.rt:75:24
-mul-high-4 : tie.Need-overflow-mul-high-4 invariant-loop decreases-loop
-mul-high-4 c = omega (arith, second-end c, (start (at (else_of c))).good)
+mul-high-4 : tie.Need-offset_bounds-postings-last-in-loop-end-3 invariant-loop decreases-loop
+mul-high-4 c = omega (arith, second-end c, (start (at (else_of c))).well_formed)
 
 -- src/adjacent.rt:75:24
-shared-slice-read-high-2 : tie.Need-shared-slice-read-high-2 invariant-loop decreases-loop
+shared-slice-read-high-2 : tie.Need-bounds-postings-last-in-loop-end-3 invariant-loop decreases-loop
 shared-slice-read-high-2 c = omega (arith, second-end c.before)
 
 -- src/adjacent.rt:76:9
-add-end-2 : tie.Need-overflow-add-end-2 invariant-loop decreases-loop
+add-end-2 : tie.Need-overflow_add-end-in-loop-end invariant-loop decreases-loop
 add-end-2 c = search rules
 
 -- src/adjacent.rt:62:5
-loop-less : tie.Need-loop-smaller invariant-loop decreases-loop
+loop-less : tie.Need-loop-end-smaller invariant-loop decreases-loop
 loop-less c = search rules
 
 -- src/adjacent.rt:62:5
-loop-again : tie.Need-loop-preserved invariant-loop decreases-loop
-loop-again c = let b = c.before in let e = else_of b in let a = at e in let v = a.loop.inv in let s = start a in let g = border-is (ix s) s.args.l v.0 a.loop.end a.loop.last v.1.0 v.1.1 (first-here e) in (v.0 + 1, (omega (arith, v.1.0), omega arith, omega (arith, v.1.0, e.before.before.loop-test.taken), (second-end b).0, (second-end b).1, together-more (ix s) s.args.l v.0 a.loop.last a.loop.falls a.loop.high v.1.5 v.1.1 a.loop.end v.1.0 (first-here e) (some-here e) (with-here e) _ _ b.leaf-end2.ensures (⊎_elim (λ w. w.1 ∙ count-one _ _ _ v.1.5.fallen (sym g ∙ le-leb _ _ w.0.taken)) (λ w. w.1 ∙ count_same _ _ _ v.1.5.fallen (sym g ∙ lt-leb _ _ w.0.left)) b.before.if2.branch)))
+loop-again : tie.Need-loop-end-preserved invariant-loop decreases-loop
+loop-again c = let b = c.before in let e = else_of b in let a = at e in let v = a.loop-end.invariant in let s = start a in let g = border-is (ix s) s.args.l v.0 a.loop-end.end a.loop-end.last v.1.0 v.1.1 (first-here e) in (v.0 + 1, (omega (arith, v.1.0), omega arith, omega (arith, v.1.0, e.loop-end-test.true), (second-end b).0, (second-end b).1, together-more (ix s) s.args.l v.0 a.loop-end.last a.loop-end.falls a.loop-end.high v.1.5 v.1.1 a.loop-end.end v.1.0 (first-here e) (some-here e) (with-here e) _ _ b.leaf_end-last-in-loop-end.ensures (⊎_elim (λ w. w.falls-is ∙ count-one _ _ _ v.1.5.fallen (sym g ∙ le-leb _ _ w.if-postings-last.true)) (λ w. w.falls-is ∙ count_same _ _ _ v.1.5.fallen (sym g ∙ lt-leb _ _ w.if-postings-last.false)) b.if-postings-last.branch-raw)))
 
 -- src/adjacent.rt:46:1
-returns-2 : tie.Need-returns-2 invariant-loop decreases-loop
-returns-2 c = let v = c.before.loop.invariant in (v.0, (v.1.0, v.1.1, v.1.2, v.1.5))
+returns-2 : tie.Need-returns invariant-loop decreases-loop
+returns-2 c = let v = c.loop-end.invariant in (v.0, (v.1.0, v.1.1, v.1.2, v.1.5))
 
-pub adjacent-spec : {M : Type 1} → statement M
-adjacent-spec =
+pub adjacent_spec : {M : Type 1} → statement M
+adjacent_spec =
     tie.close
     (tie.spec
     invariant-loop

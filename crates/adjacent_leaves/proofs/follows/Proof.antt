@@ -13,7 +13,7 @@ use Rattle.index.proofs.leaves.leaf_at.Reads as leaf-at-reads
 use Rattle.index.proofs.wide.Reads as wide-reads
 
 -- src/adjacent.rt:40:9
-leaf-at-requires : tie.Need-leaf-at-requires
+leaf-at-requires : tie.Need-leaf_at-leaf-requires
 leaf-at-requires c κs = search rules
 
 -- src/adjacent.rt:41:34
@@ -21,8 +21,8 @@ wide-requires : tie.Need-wide-requires
 wide-requires c κs = search rules
 
 -- src/adjacent.rt:41:9
-field-at-requires : tie.Need-field-at-requires
-field-at-requires c κs = let s = c.before.before.before.before in omega (arith, c.wide.ensures, leaf-field (leavesOnly [] s.args.leaves.now []) _ _ c.before.leaf-at.ensures, s.requires)
+field-at-requires : tie.Need-field_at-field-requires
+field-at-requires c κs = let s = c in omega (arith, c.wide.ensures, leaf-field (leavesOnly [] s.args.leaves.now []) _ _ c.leaf_at-leaf.ensures, s.requires)
 
 -- src/adjacent.rt:42:6
 wide-requires-2 : tie.Need-wide-requires-2
@@ -30,8 +30,8 @@ wide-requires-2 c κs = search rules
 
 -- src/adjacent.rt:36:1
 returns : tie.Need-returns
-returns c = let w = c.before.before in rw (w.wide2.ensures, w.before.field_at.ensures, w.before.before.wide.ensures, w.before.before.before.leaf-at.ensures)
+returns c = let w = c in rw (w.wide-2.ensures, w.field_at-field.ensures, w.wide.ensures, w.leaf_at-leaf.ensures)
 
-pub follows-spec : {M : Type 1} → statement M
-follows-spec =
+pub follows_spec : {M : Type 1} → statement M
+follows_spec =
     tie.close (tie.spec leaf-at-requires wide-requires field-at-requires wide-requires-2 returns)

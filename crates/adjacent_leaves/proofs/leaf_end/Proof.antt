@@ -8,7 +8,7 @@ use Rattle.index.proofs.leaves.leaf_at.Reads as leaf-at-reads
 use Rattle.index.proofs.sum.Reads as sum-reads
 
 -- src/adjacent.rt:31:9
-leaf-at-requires : tie.Need-leaf-at-requires
+leaf-at-requires : tie.Need-leaf_at-leaf-requires
 leaf-at-requires c κs = search rules
 
 -- src/adjacent.rt:32:5
@@ -17,7 +17,7 @@ sum-requires c κs = search rules
 
 -- src/adjacent.rt:27:1
 returns : tie.Need-returns
-returns c = rw (c.sum.ensures, c.before.leaf-at.ensures)
+returns c = rw (c.sum.ensures, c.leaf_at-leaf.ensures)
 
-pub leaf-end-spec : {M : Type 1} → statement M
-leaf-end-spec = tie.close (tie.spec leaf-at-requires sum-requires returns)
+pub leaf_end_spec : {M : Type 1} → statement M
+leaf_end_spec = tie.close (tie.spec leaf-at-requires sum-requires returns)

@@ -20,15 +20,15 @@ wide-requires : tie.Need-wide-requires
 wide-requires c κs = search rules
 
 -- src/laid.rt:132:8
-add-if1 : tie.Need-overflow-add-if1
+add-if1 : tie.Need-overflow_add-wide
 add-if1 c = search rules
 
 -- src/laid.rt:132:35
-sub-if1 : tie.Need-overflow-sub-if1
+sub-if1 : tie.Need-overflow_sub-count
 sub-if1 c = search rules
 
 -- src/laid.rt:133:9
-returns : tie.Need-returns
+returns : tie.Need-returns-then-wide-falls
 returns c = λ e. absurd (false≢true e)
 
 -- src/laid.rt:135:9
@@ -36,43 +36,43 @@ wide-requires-2 : tie.Need-wide-requires-2
 wide-requires-2 c κs = search rules
 
 -- src/laid.rt:135:29
-sub-if2 : tie.Need-overflow-sub-if2
+sub-if2 : tie.Need-overflow_sub-count-2
 sub-if2 c = search rules
 
 -- src/laid.rt:136:9
-returns-2 : tie.Need-returns-2
+returns-2 : tie.Need-returns-then-wide-count
 returns-2 c = λ e. absurd (false≢true e)
 
 -- src/laid.rt:139:9
-returns-3 : tie.Need-returns-3
+returns-3 : tie.Need-returns-then-t
 returns-3 c = λ e. absurd (false≢true e)
 
 -- src/laid.rt:142:9
-returns-4 : tie.Need-returns-4
+returns-4 : tie.Need-returns-then-t-ge-LARGEST_FREQUENCY
 returns-4 c = λ e. absurd (false≢true e)
 
 -- src/laid.rt:144:16
-mul-last : tie.Need-overflow-mul-last
+mul-last : tie.Need-overflow_mul-last
 mul-last c = search rules
 
 -- src/laid.rt:144:16
-sub-last : tie.Need-overflow-sub-last
+sub-last : tie.Need-overflow_sub-last
 sub-last c = search rules
 
 -- src/laid.rt:145:5
-mul-result : tie.Need-overflow-mul-result
+mul-result : tie.Need-offset_bounds-run-last
 mul-result c = search rules
 
 -- src/laid.rt:145:5
-shared-slice-read-result : tie.Need-shared-slice-read-result
+shared-slice-read-result : tie.Need-bounds-run-last
 shared-slice-read-result c = search rules
 
 -- src/laid.rt:127:1
-returns-5 : tie.Need-returns-5
-returns-5 c = let d = c.before.before.before in let b = d.before.before.before in let w = b.before.before in let a = w.before in let s = a.before.before.before in let t = s.args.t in let n = length s.args.run.now / 3 in let two = b.if2.false in let three = d.if3.false in λ e. plain-all s.args.run.now n t s.requires.2 s.requires.0 (ltb-false _ _ (or_left (ltb 2147483647 t.docs) (ltb 2147483647 t.indexes) three)) c.before.if4.false (ltb-false _ _ (or_right (ltb 2147483647 t.docs) (ltb 2147483647 t.indexes) three)) (sym w.wide2.ensures ∙ eqb-true _ _ (not-false _ (or_left (not (eqb w.wide2.result (n - 1))) (not (eqb t.apart 0)) two))) (eqb-true _ _ (not-false _ (or_right (not (eqb w.wide2.result (n - 1))) (not (eqb t.apart 0)) two))) _ (omega (arith, a.if1.false, a.before.wide.ensures)) (ltb-true _ _ e)
+returns-5 : tie.Need-returns
+returns-5 c = let d = c in let b = d in let w = b in let a = w in let s = a in let t = s.args.t in let n = length s.args.run.now / 3 in let two = b.if-wide-count.false in let three = d.if-t.false in λ e. plain-all s.args.run.now n t s.requires.2 s.requires.0 (ltb-false _ _ (or_left (ltb 2147483647 t.docs) (ltb 2147483647 t.indexes) three)) c.if-t-ge-LARGEST_FREQUENCY.false (ltb-false _ _ (or_right (ltb 2147483647 t.docs) (ltb 2147483647 t.indexes) three)) (sym w.wide-2.ensures ∙ eqb-true _ _ (not-false _ (or_left (not (eqb w.wide-2.result (n - 1))) (not (eqb t.apart 0)) two))) (eqb-true _ _ (not-false _ (or_right (not (eqb w.wide-2.result (n - 1))) (not (eqb t.apart 0)) two))) _ (omega (arith, a.if-wide-falls.false, a.wide.ensures)) (ltb-true _ _ e)
 
-pub plain-spec : {M : Type 1} → statement M
-plain-spec =
+pub plain_spec : {M : Type 1} → statement M
+plain_spec =
     tie.close
     (tie.spec
     wide-requires

@@ -14,70 +14,70 @@ use Rattle.index_check.proofs.check_index.Tie as tie
 
 -- what is lent
 abbrev ix : tie.Start → Index
-ix s = lent s.args.max-doc s.args.fields.now s.args.leaves.now s.args.postings.now s.args.positions.now s.args.norms.now s.args.live.now s.args.columns.now s.args.values.now
+ix s = lent s.args.max_doc s.args.fields.now s.args.leaves.now s.args.postings.now s.args.positions.now s.args.norms.now s.args.live.now s.args.columns.now s.args.values.now
 
-abbrev start : tie.Else1 → tie.Start
+abbrev start : tie.Else-wrong_max_doc → tie.Start
 start c = c.before.before.before.before.before.before.before.before.before.before
 
-n1 : (c : tie.Else1) → wrong1 (ix (start c)) ≡ false
-n1 c = wrong1-of (ix (start c)) ∙ sym c.before.wrong-max-doc.ensures ∙ c.if1.false
+n1 : (c : tie.Else-wrong_max_doc) → wrong1 (ix (start c)) ≡ false
+n1 c = wrong1-of (ix (start c)) ∙ sym c.wrong_max_doc.ensures ∙ c.if-wrong_max_doc.false
 
-n2 : (c : tie.Else2) → wrong2 (ix (start c.before.before)) ≡ false
-n2 c = wrong2-of (ix (start c.before.before)) ∙ sym c.before.wrong-fields.ensures ∙ c.if2.false
+n2 : (c : tie.Else-wrong_fields) → wrong2 (ix (start c.before.before)) ≡ false
+n2 c = wrong2-of (ix (start c.before.before)) ∙ sym c.wrong_fields.ensures ∙ c.if-wrong_fields.false
 
-n3 : (c : tie.Else3) → wrong3 (ix (start c.before.before.before.before)) ≡ false
-n3 c = wrong3-of (ix (start c.before.before.before.before)) ∙ sym c.before.wrong-lengths.ensures ∙ c.if3.false
+n3 : (c : tie.Else-wrong_lengths) → wrong3 (ix (start c.before.before.before.before)) ≡ false
+n3 c = wrong3-of (ix (start c.before.before.before.before)) ∙ sym c.wrong_lengths.ensures ∙ c.if-wrong_lengths.false
 
-n4 : (c : tie.Else4) → wrong4 (ix (start c.before.before.before.before.before.before)) ≡ false
-n4 c = wrong4-of (ix (start c.before.before.before.before.before.before)) ∙ sym c.before.wrong-leaves.ensures ∙ c.if4.false
+n4 : (c : tie.Else-wrong_leaves) → wrong4 (ix (start c.before.before.before.before.before.before)) ≡ false
+n4 c = wrong4-of (ix (start c.before.before.before.before.before.before)) ∙ sym c.wrong_leaves.ensures ∙ c.if-wrong_leaves.false
 
-n5 : (c : tie.Else5) → wrong5 (ix (start c.before.before.before.before.before.before.before.before)) ≡ false
-n5 c = wrong5-of (ix (start c.before.before.before.before.before.before.before.before)) ∙ sym c.before.wrong-postings.ensures ∙ c.if5.false
+n5 : (c : tie.Else-wrong_postings) → wrong5 (ix (start c.before.before.before.before.before.before.before.before)) ≡ false
+n5 c = wrong5-of (ix (start c.before.before.before.before.before.before.before.before)) ∙ sym c.wrong_postings.ensures ∙ c.if-wrong_postings.false
 
-n6 : (c : tie.Else6) → wrong6 (ix (start c.before.before.before.before.before.before.before.before.before.before)) ≡ false
-n6 c = wrong6-of (ix (start c.before.before.before.before.before.before.before.before.before.before)) ∙ sym c.before.wrong-columns.ensures ∙ c.if6.false
+n6 : (c : tie.Else-wrong_columns) → wrong6 (ix (start c.before.before.before.before.before.before.before.before.before.before)) ≡ false
+n6 c = wrong6-of (ix (start c.before.before.before.before.before.before.before.before.before.before)) ∙ sym c.wrong_columns.ensures ∙ c.if-wrong_columns.false
 
-wrong-max-doc-requires : tie.Need-wrong-max-doc-requires
+wrong-max-doc-requires : tie.Need-wrong_max_doc-requires
 wrong-max-doc-requires c κs = search rules
 
-returns : tie.Need-returns
-returns c = let s = c.before.before.before.before.before.before.before.before.before.before in refused-1 (ix s) (wrong1-of (ix s) ∙ sym c.before.wrong-max-doc.ensures ∙ c.if1.true)
+returns : tie.Need-returns-then-wrong_max_doc
+returns c = let s = c.before.before.before.before.before.before.before.before.before.before in refused-1 (ix s) (wrong1-of (ix s) ∙ sym c.wrong_max_doc.ensures ∙ c.if-wrong_max_doc.true)
 
-wrong-fields-requires : tie.Need-wrong-fields-requires
+wrong-fields-requires : tie.Need-wrong_fields-requires
 wrong-fields-requires c κs = search rules
 
-returns-2 : tie.Need-returns-2
-returns-2 c = let s = (start c.before.before) in refused-2 (ix s) (n1 c.before.before) (wrong2-of (ix s) ∙ sym c.before.wrong-fields.ensures ∙ c.if2.true)
+returns-2 : tie.Need-returns-then-wrong_fields
+returns-2 c = let s = (start c.before.before) in refused-2 (ix s) (n1 c.before.before) (wrong2-of (ix s) ∙ sym c.wrong_fields.ensures ∙ c.if-wrong_fields.true)
 
-wrong-lengths-requires : tie.Need-wrong-lengths-requires
+wrong-lengths-requires : tie.Need-wrong_lengths-requires
 wrong-lengths-requires c κs = sym (wrong2-of (ix (start c.before.before))) ∙ n2 c
 
-returns-3 : tie.Need-returns-3
-returns-3 c = let s = (start c.before.before.before.before) in refused-3 (ix s) (n1 c.before.before.before.before) (n2 c.before.before) (wrong3-of (ix s) ∙ sym c.before.wrong-lengths.ensures ∙ c.if3.true)
+returns-3 : tie.Need-returns-then-wrong_lengths
+returns-3 c = let s = (start c.before.before.before.before) in refused-3 (ix s) (n1 c.before.before.before.before) (n2 c.before.before) (wrong3-of (ix s) ∙ sym c.wrong_lengths.ensures ∙ c.if-wrong_lengths.true)
 
-wrong-leaves-requires : tie.Need-wrong-leaves-requires
+wrong-leaves-requires : tie.Need-wrong_leaves-requires
 wrong-leaves-requires c κs = search rules
 
-returns-4 : tie.Need-returns-4
-returns-4 c = let s = (start c.before.before.before.before.before.before) in refused-4 (ix s) (n1 c.before.before.before.before.before.before) (n2 c.before.before.before.before) (n3 c.before.before) (wrong4-of (ix s) ∙ sym c.before.wrong-leaves.ensures ∙ c.if4.true)
+returns-4 : tie.Need-returns-then-wrong_leaves
+returns-4 c = let s = (start c.before.before.before.before.before.before) in refused-4 (ix s) (n1 c.before.before.before.before.before.before) (n2 c.before.before.before.before) (n3 c.before.before) (wrong4-of (ix s) ∙ sym c.wrong_leaves.ensures ∙ c.if-wrong_leaves.true)
 
-wrong-postings-requires : tie.Need-wrong-postings-requires
+wrong-postings-requires : tie.Need-wrong_postings-requires
 wrong-postings-requires c κs = let a = c.before.before.before.before.before.before in (documents-few (ix (start a)) (n1 a), sym (wrong4-of (ix (start a))) ∙ n4 c)
 
-returns-5 : tie.Need-returns-5
-returns-5 c = let s = (start c.before.before.before.before.before.before.before.before) in refused-5 (ix s) (n1 c.before.before.before.before.before.before.before.before) (n2 c.before.before.before.before.before.before) (n3 c.before.before.before.before) (n4 c.before.before) (wrong5-of (ix s) ∙ sym c.before.wrong-postings.ensures ∙ c.if5.true)
+returns-5 : tie.Need-returns-then-wrong_postings
+returns-5 c = let s = (start c.before.before.before.before.before.before.before.before) in refused-5 (ix s) (n1 c.before.before.before.before.before.before.before.before) (n2 c.before.before.before.before.before.before) (n3 c.before.before.before.before) (n4 c.before.before) (wrong5-of (ix s) ∙ sym c.wrong_postings.ensures ∙ c.if-wrong_postings.true)
 
-wrong-columns-requires : tie.Need-wrong-columns-requires
+wrong-columns-requires : tie.Need-wrong_columns-requires
 wrong-columns-requires c κs = let a = c.before.before.before.before.before.before.before.before in sym (wrong1-columns (ix (start a))) ∙ n1 a
 
-returns-6 : tie.Need-returns-6
-returns-6 c = let s = (start c.before.before.before.before.before.before.before.before.before.before) in refused-6 (ix s) (n1 c.before.before.before.before.before.before.before.before.before.before) (n2 c.before.before.before.before.before.before.before.before) (n3 c.before.before.before.before.before.before) (n4 c.before.before.before.before) (n5 c.before.before) (wrong6-of (ix s) ∙ sym c.before.wrong-columns.ensures ∙ c.if6.true)
+returns-6 : tie.Need-returns-then-wrong_columns
+returns-6 c = let s = (start c.before.before.before.before.before.before.before.before.before.before) in refused-6 (ix s) (n1 c.before.before.before.before.before.before.before.before.before.before) (n2 c.before.before.before.before.before.before.before.before) (n3 c.before.before.before.before.before.before) (n4 c.before.before.before.before) (n5 c.before.before) (wrong6-of (ix s) ∙ sym c.wrong_columns.ensures ∙ c.if-wrong_columns.true)
 
-returns-7 : tie.Need-returns-7
+returns-7 : tie.Need-returns
 returns-7 c = let s = (start c.before.before.before.before.before.before.before.before.before.before) in not-refused (ix s) (n1 c.before.before.before.before.before.before.before.before.before.before) (n2 c.before.before.before.before.before.before.before.before) (n3 c.before.before.before.before.before.before) (n4 c.before.before.before.before) (n5 c.before.before) (n6 c)
 
-pub check-index-spec : {M : Type 1} → statement M
-check-index-spec =
+pub check_index_spec : {M : Type 1} → statement M
+check_index_spec =
     tie.close
     (tie.spec
     wrong-max-doc-requires

@@ -96,7 +96,7 @@ returns-2 c = λ e. absurd (false≢true e)
 
 -- src/positions.rt:125:23
 mul-or-all : tie.Need-offset_bounds-positions-from
-mul-or-all c = omega (arith, from-below c.before.before.before, c.if-end-positions.false, (start c.before.before.before).well-formed)
+mul-or-all c = omega (arith, from-below c.before.before.before, c.if-end-positions.false, (start c.before.before.before).well_formed)
 
 -- src/positions.rt:125:23
 sub-or-all : tie.Need-slice_bounds-or_all-count
@@ -120,7 +120,7 @@ returns-3 c = let a = c.before.before.before.before.before in λ e. ones-right (
 
 -- src/positions.rt:127:24
 mul-seen-in : tie.Need-offset_bounds-positions-from-2
-mul-seen-in c = omega (arith, from-below c.before.before.before, c.if-end-positions.false, (start c.before.before.before).well-formed)
+mul-seen-in c = omega (arith, from-below c.before.before.before, c.if-end-positions.false, (start c.before.before.before).well_formed)
 
 -- src/positions.rt:127:24
 sub-seen-in : tie.Need-slice_bounds-seen_in-count

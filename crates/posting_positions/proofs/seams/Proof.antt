@@ -56,7 +56,7 @@ loop-less : tie.Need-loop-i-smaller invariant-loop decreases-loop
 loop-less c = search rules
 
 loop-again : tie.Need-loop-i-preserved invariant-loop decreases-loop
-loop-again c = let a = c in let s = a in let g = seam-turn s.args.run.now s.args.positions.now a.loop-i.i _ a.loop-i.invariant.1 c.wide-index.ensures in (⊎_elim (λ w. w.1 ∙ count-one _ _ _ a.loop-i.invariant.0 (sym g ∙ lt-ltb _ _ w.0.true)) (λ w. w.1 ∙ count_same _ _ _ a.loop-i.invariant.0 (sym g ∙ le-ltb _ _ w.0.false)) c.if-positions-index.branch-raw, omega arith, omega arith)
+loop-again c = let a = c in let s = a in let g = seam-turn s.args.run.now s.args.positions.now a.loop-i.i _ a.loop-i.invariant.1 c.wide-index.ensures in (⊎_elim (λ w. w.falls-is ∙ count-one _ _ _ a.loop-i.invariant.0 (sym g ∙ lt-ltb _ _ w.if-positions-index.true)) (λ w. w.falls-is ∙ count_same _ _ _ a.loop-i.invariant.0 (sym g ∙ le-ltb _ _ w.if-positions-index.false)) c.if-positions-index.branch-raw, omega arith, omega arith)
 
 returns : tie.Need-returns invariant-loop decreases-loop
 returns c = let s = c in let e : c.loop-i.i ≡ length s.args.run.now / 3 = omega arith in c.loop-i.invariant.0 ∙ ap (λ (n : ℕ). countBelow n (seamAt s.args.run.now s.args.positions.now)) e

@@ -19,8 +19,8 @@ lines run = (length run / 3 - 2) / 4
 abbrev first : List ℕ → ℕ
 first run = length run / 3 - 4 * lines run
 
-abbrev run_of : tie.After-shared-slice-known → List ℕ
-run_of c = c.before.args.run.now
+abbrev run_of : tie.After-shared_slice_known-1 → List ℕ
+run_of c = c.args.run.now
 
 two : (run : List ℕ) → 2 ≤ length run / 3 → 2 ≤ first run
 two run l = omega arith
@@ -29,72 +29,72 @@ whole : (run : List ℕ) → 2 ≤ length run / 3 → first run + 4 * (lines run
 whole run l = omega arith
 
 -- the first half of the rows
-half_over : (c : tie.After-rows) → Over (run_of c.before.before.before) (first (run_of c.before.before.before) + 4 * (lines (run_of c.before.before.before) / 2)) (joinedOf c.before.before.head.result c.rows.result)
+half_over : (c : tie.After-rows) → Over (run_of c.before.before.before) (first (run_of c.before.before.before) + 4 * (lines (run_of c.before.before.before) / 2)) (joinedOf c.head.result c.rows.result)
 half_over c =
     let run = run_of c.before.before.before in
-    let l = c.before.before.before.before.requires.0 in
-    over-rows run (first run) (lines run / 2) (3 * first run - 6) (3 * (first run + 4 * (lines run / 2))) c.before.before.head.result c.rows.result (two run l) refl (omega arith) (omega arith) c.before.before.head.ensures c.rows.ensures
+    let l = c.requires.0 in
+    over-rows run (first run) (lines run / 2) (3 * first run - 6) (3 * (first run + 4 * (lines run / 2))) c.head.result c.rows.result (two run l) refl (omega arith) (omega arith) c.head.ensures c.rows.ensures
 
-module _ (c : tie.After-rows2) where
+module _ (c : tie.After-rows-2) where
   abbrev run : List ℕ
   run = run_of c.before.before.before.before.before.before
 
-  done : Over run (first run + 4 * (lines run / 2)) c.before.before.joined.result
-  done = subst (λ (t : Tally). Over run (first run + 4 * (lines run / 2)) t) (sym c.before.before.joined.ensures) (half_over c.before.before.before)
+  done : Over run (first run + 4 * (lines run / 2)) c.joined-t.result
+  done = subst (λ (t : Tally). Over run (first run + 4 * (lines run / 2)) t) (sym c.joined-t.ensures) (half_over c.before.before.before)
 
   limits : (2 ≤ length run / 3) × (length run ≤ 4294967295)
-  limits = c.before.before.before.before.before.before.before.requires
+  limits = c.requires
 
   enough : 2 ≤ first run + 4 * (lines run / 2)
   enough = omega (arith, two run limits.0)
 
-  all-over : Over run (first run + 4 * (lines run / 2) + 4 * (lines run - lines run / 2)) (joinedOf c.before.before.joined.result c.rows2.result)
+  all-over : Over run (first run + 4 * (lines run / 2) + 4 * (lines run - lines run / 2)) (joinedOf c.joined-t.result c.rows-2.result)
   all-over =
-      over-rows run (first run + 4 * (lines run / 2)) (lines run - lines run / 2) (3 * (first run + 4 * (lines run / 2)) - 6) (3 * (length run / 3)) c.before.before.joined.result c.rows2.result enough refl (omega (arith, limits)) (omega arith) done c.rows2.ensures
+      over-rows run (first run + 4 * (lines run / 2)) (lines run - lines run / 2) (3 * (first run + 4 * (lines run / 2)) - 6) (3 * (length run / 3)) c.joined-t.result c.rows-2.result enough refl (omega (arith, limits)) (omega arith) done c.rows-2.ensures
 
-  all-few : (c.before.before.joined.result.ascents + laneDocuments c.rows2.result ≤ 4294967295) × (c.before.before.joined.result.advances + laneIndexes c.rows2.result ≤ 4294967295)
+  all-few : (c.joined-t.result.ascents + laneDocuments c.rows-2.result ≤ 4294967295) × (c.joined-t.result.advances + laneIndexes c.rows-2.result ≤ 4294967295)
   all-few =
-      let b = rows_few run (first run + 4 * (lines run / 2)) (lines run - lines run / 2) (3 * (first run + 4 * (lines run / 2)) - 6) (3 * (length run / 3)) c.before.before.joined.result c.rows2.result enough refl (omega (arith, limits)) (omega arith) done c.rows2.ensures in
+      let b = rows_few run (first run + 4 * (lines run / 2)) (lines run - lines run / 2) (3 * (first run + 4 * (lines run / 2)) - 6) (3 * (length run / 3)) c.joined-t.result c.rows-2.result enough refl (omega (arith, limits)) (omega arith) done c.rows-2.ensures in
       (omega (arith, b.0, limits), omega (arith, b.1, limits))
 
 -- src/laid.rt:111:18
-sub-lines : tie.Need-overflow-sub-lines
+sub-lines : tie.Need-overflow_sub-lines
 sub-lines c = search rules
 
 -- src/laid.rt:112:25
-mul-first : tie.Need-overflow-mul-first
+mul-first : tie.Need-overflow_mul-first
 mul-first c = search rules
 
 -- src/laid.rt:112:17
-sub-first : tie.Need-overflow-sub-first
+sub-first : tie.Need-overflow_sub-first
 sub-first c = search rules
 
 -- src/laid.rt:113:17
-mul-start : tie.Need-overflow-mul-start
+mul-start : tie.Need-overflow_mul-start
 mul-start c = search rules
 
 -- src/laid.rt:113:17
-sub-start : tie.Need-overflow-sub-start
+sub-start : tie.Need-overflow_sub-start
 sub-start c = search rules
 
 -- src/laid.rt:114:29
-mul-half : tie.Need-overflow-mul-half
+mul-half : tie.Need-overflow_mul-half
 mul-half c = search rules
 
 -- src/laid.rt:114:21
-add_half : tie.Need-overflow-add-half
+add_half : tie.Need-overflow_add-half
 add_half c = search rules
 
 -- src/laid.rt:114:16
-mul-half-2 : tie.Need-overflow-mul-half-2
+mul-half-2 : tie.Need-overflow_mul-half-2
 mul-half-2 c = search rules
 
 -- src/laid.rt:115:16
-sub_back : tie.Need-overflow-sub-back
+sub_back : tie.Need-overflow_sub-back
 sub_back c = search rules
 
 -- src/laid.rt:116:15
-mul-end : tie.Need-overflow-mul-end
+mul-end : tie.Need-overflow_mul-end
 mul-end c = search rules
 
 -- src/laid.rt:117:20
@@ -102,19 +102,19 @@ head-requires : tie.Need-head-requires
 head-requires c κs = search rules
 
 -- src/laid.rt:117:43
-mul-rows : tie.Need-overflow-mul-rows
+mul-rows : tie.Need-offset_bounds-run-start
 mul-rows c = search rules
 
 -- src/laid.rt:117:43
-sub-rows : tie.Need-overflow-sub-rows
+sub-rows : tie.Need-slice_bounds-rows-count
 sub-rows c = search rules
 
 -- src/laid.rt:117:43
-part-rows-start : tie.Need-slice-bounds-rows-start
+part-rows-start : tie.Need-slice_bounds-rows-start
 part-rows-start c = search rules
 
 -- src/laid.rt:117:43
-part-rows-end : tie.Need-slice-bounds-rows-end
+part-rows-end : tie.Need-slice_bounds-rows-end
 part-rows-end c = search rules
 
 -- src/laid.rt:117:38
@@ -122,23 +122,23 @@ rows-requires : tie.Need-rows-requires
 rows-requires c κs = search rules
 
 -- src/laid.rt:117:9
-joined-requires : tie.Need-joined-requires
-joined-requires c κs = let run = run_of c.before.before.before in let l = c.before.before.before.before.requires in let b = rows_few run (first run) (lines run / 2) (3 * first run - 6) (3 * (first run + 4 * (lines run / 2))) c.before.before.head.result c.rows.result (two run l.0) refl (omega arith) (omega arith) c.before.before.head.ensures c.rows.ensures in (omega (arith, b.0, l), omega (arith, b.1, l))
+joined-requires : tie.Need-joined-t-requires
+joined-requires c κs = let run = run_of c.before.before.before in let l = c.requires in let b = rows_few run (first run) (lines run / 2) (3 * first run - 6) (3 * (first run + 4 * (lines run / 2))) c.head.result c.rows.result (two run l.0) refl (omega arith) (omega arith) c.head.ensures c.rows.ensures in (omega (arith, b.0, l), omega (arith, b.1, l))
 
 -- src/laid.rt:118:20
-mul-rows-2 : tie.Need-overflow-mul-rows-2
+mul-rows-2 : tie.Need-offset_bounds-run-back
 mul-rows-2 c = search rules
 
 -- src/laid.rt:118:20
-sub-rows-2 : tie.Need-overflow-sub-rows-2
+sub-rows-2 : tie.Need-slice_bounds-rows-count-2
 sub-rows-2 c = search rules
 
 -- src/laid.rt:118:20
-part-rows-start-2 : tie.Need-slice-bounds-rows-start-2
+part-rows-start-2 : tie.Need-slice_bounds-rows-start-2
 part-rows-start-2 c = search rules
 
 -- src/laid.rt:118:20
-part-rows-end-2 : tie.Need-slice-bounds-rows-end-2
+part-rows-end-2 : tie.Need-slice_bounds-rows-end-2
 part-rows-end-2 c = search rules
 
 -- src/laid.rt:118:15
@@ -146,15 +146,15 @@ rows-requires-2 : tie.Need-rows-requires-2
 rows-requires-2 c κs = search rules
 
 -- src/laid.rt:118:5
-joined-requires-2 : tie.Need-joined-requires-2
+joined-requires-2 : tie.Need-joined-requires
 joined-requires-2 c κs = all-few c
 
 -- src/laid.rt:106:1
 returns : tie.Need-returns
-returns c = let b = c.before in let l = (limits b).0 in subst (λ (t : Tally). Over (run b) (length (run b) / 3) t) (sym c.joined2.ensures) (over-end (run b) _ _ _ (all-over b) (whole (run b) l))
+returns c = let b = c.before in let l = (limits b).0 in subst (λ (t : Tally). Over (run b) (length (run b) / 3) t) (sym c.joined.ensures) (over-end (run b) _ _ _ (all-over b) (whole (run b) l))
 
-pub gathered-spec : {M : Type 1} → statement M
-gathered-spec =
+pub gathered_spec : {M : Type 1} → statement M
+gathered_spec =
     tie.close
     (tie.spec
     sub-lines

@@ -73,8 +73,8 @@ loop-again c =
     let s = a.args in
     let here = placed-is s.fields.now s.leaf_fields.now s.tokens.now a.loop-i.i _ _ _ p.token_at.ensures p.wide.ensures p.is_positional.ensures in (
       one_more _ _ _ _ _ a.loop-i.invariant.0 t.wrong_token.ensures t.if-wrong_token.false,
-      ⊎_elim (λ w. w.1 ∙ count-one _ _ _ a.loop-i.invariant.1 (sym q.begins_posting.ensures ∙ w.0.true)) (λ w. w.1 ∙ count_same _ _ _ a.loop-i.invariant.1 (sym q.begins_posting.ensures ∙ w.0.false)) j.if-begins_posting.branch-raw,
-      ⊎_elim (λ w. w.1 ∙ count-one _ _ _ a.loop-i.invariant.2 (here ∙ w.0.true)) (λ w. w.1 ∙ count_same _ _ _ a.loop-i.invariant.2 (here ∙ w.0.false)) c.if-is_positional.branch-raw,
+      ⊎_elim (λ w. w.postings-is ∙ count-one _ _ _ a.loop-i.invariant.1 (sym q.begins_posting.ensures ∙ w.if-begins_posting.true)) (λ w. w.postings-is ∙ count_same _ _ _ a.loop-i.invariant.1 (sym q.begins_posting.ensures ∙ w.if-begins_posting.false)) j.if-begins_posting.branch-raw,
+      ⊎_elim (λ w. w.positions-is ∙ count-one _ _ _ a.loop-i.invariant.2 (here ∙ w.if-is_positional.true)) (λ w. w.positions-is ∙ count_same _ _ _ a.loop-i.invariant.2 (here ∙ w.if-is_positional.false)) c.if-is_positional.branch-raw,
       omega arith,
     )
 
