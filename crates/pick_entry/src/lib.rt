@@ -1,4 +1,6 @@
 // Pick: the best k of lent documents and scores.
+#![tactic(auto)]
+
 ghost use Rattle.std.specs.Prelude.{◌≡◌, length, ℕ, ◌<◌};
 ghost use Rattle.meaning.specs.CallRefusals.{wrongPicked, wrong14};
 ghost use Rattle.meaning.specs.Entries.{pickRefusal, pickAnswer, pickHits};

@@ -1,4 +1,6 @@
 // Range: the documents of a column whose value lies in a range, ascending.
+#![tactic(auto)]
+
 ghost use Rattle.std.specs.Prelude.{◌≡◌, ℕ, length};
 ghost use Rattle.meaning.specs.Lent.{joined};
 ghost use Rattle.meaning.specs.Entries.{Kept, columnsOnly, rangeRefusal, rangeAnswer, rangeOutput};

@@ -77,8 +77,8 @@ loop-again c =
     let p = listed a.values.now a.start a.column_type a.from a.to in
     let here = sym c.value_in.ensures in
     ⊎_elim
-    (λ w. let t = turn-taken p a.output.now at.output at.d at.held at.invariant.1.0 at.invariant.1.1 (here ∙ w.0.true) (omega arith) in (omega arith, (w.2 ∙ t.0, w.1 ∙ t.1)))
-    (λ w. let t = turn-left p a.output.now at.output at.d at.held at.invariant.1.0 at.invariant.1.1 (here ∙ w.0.false) in (omega arith, (w.2 ∙ t.0, w.1 ∙ t.1)))
+    (λ w. let t = turn-taken p a.output.now at.output at.d at.held at.invariant.1.0 at.invariant.1.1 (here ∙ w.if-value_in.true) (omega arith) in (omega arith, (w.held-is ∙ t.0, w.output-is ∙ t.1)))
+    (λ w. let t = turn-left p a.output.now at.output at.d at.held at.invariant.1.0 at.invariant.1.1 (here ∙ w.if-value_in.false) in (omega arith, (w.held-is ∙ t.0, w.output-is ∙ t.1)))
     c.if-value_in.branch-raw
 
 cast-result : tie.Need-overflow_cast-result invariant-loop decreases-loop

@@ -99,14 +99,14 @@ loop-less : tie.Need-loop-l-smaller invariant-loop decreases-loop
 loop-less c = search rules
 
 -- leaf l is added too
-next : (c : tie.Joined-leaf_fields-l invariant-loop decreases-loop) → AddedTo c.before.before.before.before.before.before.before.before.before (c.loop-l.l + 1) c.if-leaf_fields-l.cursors c.if-leaf_fields-l.counts-1
+next : (c : tie.Joined-leaf_fields-l invariant-loop decreases-loop) → AddedTo c.before.before.before.before.before.before.before.before.before (c.loop-l.l + 1) c.if-leaf_fields-l.cursors c.if-leaf_fields-l.counts
 next c =
     let s = c in
     let l = c.loop-l in
     let m = c.loop-l-test.true in
     ⊎_elim
-    (λ w. added-leaf s.args.leaf_fields.now s.args.postings.now s.args.runs.now s.requires.0.0 s.args.field s.args.base (length s.args.counts.now) l.l l.cursors l.counts l.invariant m w.0.true w.2.result w.4.result w.2.ensures w.4.ensures w.7.result c.if-leaf_fields-l.cursors c.if-leaf_fields-l.counts-1 w.7.ensures.0 w.10 (w.11 ∙ w.7.ensures.1))
-    (λ w. added-other s.args.leaf_fields.now s.args.postings.now s.args.runs.now s.requires.0.0 s.args.field s.args.base (length s.args.counts.now) l.l l.cursors l.counts l.invariant m w.0.false c.if-leaf_fields-l.cursors c.if-leaf_fields-l.counts-1 w.1 w.2)
+    (λ w. added-leaf s.args.leaf_fields.now s.args.postings.now s.args.runs.now s.requires.0.0 s.args.field s.args.base (length s.args.counts.now) l.l l.cursors l.counts l.invariant m w.if-leaf_fields-l.true w.wide.result w.wide-then-leaf_fields-l.result w.wide.ensures w.wide-then-leaf_fields-l.ensures w.add_run.result c.if-leaf_fields-l.cursors c.if-leaf_fields-l.counts w.add_run.ensures.0 w.cursors-is (w.counts-is ∙ w.add_run.ensures.1))
+    (λ w. added-other s.args.leaf_fields.now s.args.postings.now s.args.runs.now s.requires.0.0 s.args.field s.args.base (length s.args.counts.now) l.l l.cursors l.counts l.invariant m w.if-leaf_fields-l.false c.if-leaf_fields-l.cursors c.if-leaf_fields-l.counts w.cursors-is w.counts-is)
     c.if-leaf_fields-l.branch-raw
 
 loop-again : tie.Need-loop-l-preserved invariant-loop decreases-loop

@@ -39,7 +39,7 @@ f-below : (c : tie.After-struct_known-1 invariant-loop decreases-loop) → c.loo
 f-below c = omega (arith, c.wide.ensures, c.loop-norms-test.true)
 
 flag_is : (c : tie.After-struct_known-1 invariant-loop decreases-loop) → fieldNorms (fieldsOnly c.args.fields.now) c.loop-norms.f ≡ c.field_at.result.norms
-flag_is c = sym (ap (λ (r : Field). r.norms-1) c.field_at.ensures ∙ ap (λ (f : ℕ). fieldNorms (fieldsOnly c.args.fields.now) f) c.wide-in-loop-norms.ensures)
+flag_is c = sym (ap (λ (r : Field). r.norms) c.field_at.ensures ∙ ap (λ (f : ℕ). fieldNorms (fieldsOnly c.args.fields.now) f) c.wide-in-loop-norms.ensures)
 
 with-norms : (c : tie.Then-field_at-eq1 invariant-loop decreases-loop) → hasNorms (fieldsOnly c.args.fields.now) c.loop-norms.f ≡ true
 with-norms c = let e : c.field_at.result.norms ≡ 1 = omega (arith, c.if-field_at-eq1.true) in eq-eqb _ 1 (flag_is c.before ∙ e)
@@ -77,8 +77,8 @@ loop-again c =
     let s = c in
     let l = c.loop-norms in
     ⊎_elim
-    (λ w. coded-with s.args.max_doc s.args.fields.now s.args.leaf_fields.now s.args.postings.now s.args.runs.now s.args.norms.now s.requires.1 l.f l.at l.norms l.invariant (f-below c.before) (with-norms (record { before = c.before; if2 = w.0 })) c.if-field_at-eq1.at c.if-field_at-eq1.norms-1 (w.8 ∙ ap (λ (n : ℕ). l.at + n) w.6.ensures) (w.7 ∙ w.3.ensures ∙ ap (λ (n : ℕ). sets l.norms l.at (listTo n (λ d. intToByte4 (lengthIn s.args.leaf_fields.now s.args.postings.now s.args.runs.now l.f d)))) w.1.ensures))
-    (λ w. coded-without s.args.max_doc s.args.fields.now s.args.leaf_fields.now s.args.postings.now s.args.runs.now s.args.norms.now s.requires.1 l.f l.at l.norms l.invariant (f-below c.before) (without-norms (record { before = c.before; if2 = w.0 })) c.if-field_at-eq1.at c.if-field_at-eq1.norms-1 w.2 w.1)
+    (λ w. coded-with s.args.max_doc s.args.fields.now s.args.leaf_fields.now s.args.postings.now s.args.runs.now s.args.norms.now s.requires.1 l.f l.at l.norms l.invariant (f-below c.before) (with-norms (record { before = c.before; if-field_at-eq1 = w.if-field_at-eq1 })) c.if-field_at-eq1.at c.if-field_at-eq1.norms (w.at-is ∙ ap (λ (n : ℕ). l.at + n) w.wide-at.ensures) (w.norms-is ∙ w.write_field.ensures ∙ ap (λ (n : ℕ). sets l.norms l.at (listTo n (λ d. intToByte4 (lengthIn s.args.leaf_fields.now s.args.postings.now s.args.runs.now l.f d)))) w.wide-then-field_at-eq1.ensures))
+    (λ w. coded-without s.args.max_doc s.args.fields.now s.args.leaf_fields.now s.args.postings.now s.args.runs.now s.args.norms.now s.requires.1 l.f l.at l.norms l.invariant (f-below c.before) (without-norms (record { before = c.before; if-field_at-eq1 = w.if-field_at-eq1 })) c.if-field_at-eq1.at c.if-field_at-eq1.norms w.at-is w.norms-is)
     c.if-field_at-eq1.branch-raw
 
 same_length : tie.Need-shape_of-norms invariant-loop decreases-loop

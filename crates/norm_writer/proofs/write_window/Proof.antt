@@ -24,7 +24,7 @@ sub-width : tie.Need-overflow_sub-width
 sub-width c = search rules
 
 width_is : (c : tie.Joined-max_doc-base-lt-WINDOW) → c.if-max_doc-base-lt-WINDOW.width ≡ min 4096 (c.args.max_doc - c.args.base)
-width_is c = ⊎_elim (λ w. omega (arith, w.0.true, w.1)) (λ w. omega (arith, w.0.false, w.1)) c.if-max_doc-base-lt-WINDOW.branch-raw
+width_is c = ⊎_elim (λ w. omega (arith, w.if-max_doc-base-lt-WINDOW.true, w.width-is)) (λ w. omega (arith, w.if-max_doc-base-lt-WINDOW.false, w.width-is)) c.if-max_doc-base-lt-WINDOW.branch-raw
 
 array-share-prefix-counts : tie.Need-slice_bounds-counts-end
 array-share-prefix-counts c = let s = c in omega (arith, width_is c, window-long s.args.leaf_fields.now s.args.postings.now s.args.runs.now s.requires.0.0 s.args.field s.args.base s.args.max_doc _ c.add_leaves.ensures.1 c.if-max_doc-base-lt-WINDOW.width (width_is (c)))

@@ -9,25 +9,25 @@ use Rattle.pick_entry.proofs.pick.Statement.{statement}
 use Rattle.pick_entry.proofs.pick.Tie as tie
 
 -- what a call that is not refused knows
-right : (c : tie.Else1) → let s = c.before.before.before.before in PickRight s.args.documents.now s.args.scores.now s.args.k (length s.args.hits.now)
-right c = pick-right _ _ _ _ _ c.before.pick-refusal.ensures c.if1.false
+right : (c : tie.Else-refusal-ne0) → let s = c in PickRight s.args.documents.now s.args.scores.now s.args.k (length s.args.hits.now)
+right c = pick-right _ _ _ _ _ c.pick_refusal-refusal.ensures c.if-refusal-ne0.false
 
-places : (c : tie.Else1) → let s = c.before.before.before.before in length (take s.args.k s.args.hits.now) ≡ s.args.k
+places : (c : tie.Else-refusal-ne0) → let s = c in length (take s.args.k s.args.hits.now) ≡ s.args.k
 places c = length-take-le _ _ (right c).room
 
-pick-refusal-requires : tie.Need-pick-refusal-requires
+pick-refusal-requires : tie.Need-pick_refusal-refusal-requires
 pick-refusal-requires c κs = search rules
 
 -- refused at the test t; the must-fail edit that touches a buffer on this way changes the path to t and nothing else here
-returns : tie.Need-returns
+returns : tie.Need-returns-then-refusal-ne0
 returns c =
     let t = c in
-    pick-refused _ _ _ _ _ _ t.before.pick-refusal.ensures t.if1.true
+    pick-refused _ _ _ _ _ _ t.pick_refusal-refusal.ensures t.if-refusal-ne0.true
 
-slice-relend-prefix-pick : tie.Need-slice-relend-prefix-pick
+slice-relend-prefix-pick : tie.Need-slice_bounds-pick-end
 slice-relend-prefix-pick c = (right c).room
 
-slice-aggregate-pick : tie.Need-slice-aggregate-pick
+slice-aggregate-pick : tie.Need-slice_bounds-pick-end-2
 slice-aggregate-pick c = sym (places c.before)
 
 pick-requires : tie.Need-pick-requires
@@ -36,13 +36,13 @@ pick-requires c κs =
     let n = places c.before in
     (r.lists, (omega (arith, n, r.low), omega (arith, n, r.high)))
 
-same_length : tie.Need-same-length
+same_length : tie.Need-shape_of-hits
 same_length c = search rules
 
-returns-2 : tie.Need-returns-2
+returns-2 : tie.Need-returns
 returns-2 c =
     let e = c.before.before.before in
-    pick-done _ _ _ _ _ _ e.before.pick-refusal.ensures e.if1.false _ (places e) (right e).room _ _ c.before.pick.ensures.0 c.before.pick.ensures.1
+    pick-done _ _ _ _ _ _ e.pick_refusal-refusal.ensures e.if-refusal-ne0.false _ (places e) (right e).room _ _ c.pick.ensures.0 c.pick.ensures.1
 
 pub pick_spec : {M : Type 1} → statement M
 pick_spec =

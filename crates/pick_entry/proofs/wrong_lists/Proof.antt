@@ -12,46 +12,46 @@ use Rattle.pick_entry.proofs.wrong_lists.Statement.{statement}
 use Rattle.pick_entry.proofs.wrong_lists.Tie as tie
 
 -- the flag says whether one of those passed is wrong, the first among them
-abbrev invariant-loop : tie.invariant-loop
+abbrev invariant-loop : tie.invariant-loop-i
 invariant-loop documents scores bad₀ i₀ bad i = (bad ≡ anyBelow i (wrongPicked documents scores)) × (1 ≤ i) × (i ≤ length documents)
 
-abbrev decreases-loop : tie.decreases-loop
+abbrev decreases-loop : tie.decreases-loop-i
 decreases-loop documents scores bad₀ i₀ bad i = length documents - i
 
-returns : tie.Need-returns invariant-loop decreases-loop
-returns c = lists-unequal _ _ c.if1.true
+returns : tie.Need-returns-then-documents-scores invariant-loop decreases-loop
+returns c = lists-unequal _ _ c.if-documents-scores.true
 
-returns-2 : tie.Need-returns-2 invariant-loop decreases-loop
-returns-2 c = lists-empty _ _ c.before.if1.false c.if2.true
+returns-2 : tie.Need-returns-then-documents-eq0 invariant-loop decreases-loop
+returns-2 c = lists-empty _ _ c.if-documents-scores.false c.if-documents-eq0.true
 
-shared-slice-read-bad : tie.Need-shared-slice-read-bad invariant-loop decreases-loop
+shared-slice-read-bad : tie.Need-bounds-documents-0 invariant-loop decreases-loop
 shared-slice-read-bad c = search rules
 
-shared-slice-read-bad-2 : tie.Need-shared-slice-read-bad-2 invariant-loop decreases-loop
+shared-slice-read-bad-2 : tie.Need-bounds-scores-0 invariant-loop decreases-loop
 shared-slice-read-bad-2 c = search rules
 
-loop-holds : tie.Need-loop-init invariant-loop decreases-loop
+loop-holds : tie.Need-loop-i-init invariant-loop decreases-loop
 loop-holds c = (picked_first _ _, omega arith, omega arith)
 
-wrong-picked-requires : tie.Need-wrong-picked-requires invariant-loop decreases-loop
+wrong-picked-requires : tie.Need-wrong_picked-bad-requires invariant-loop decreases-loop
 wrong-picked-requires c κs = search rules
 
-add-i : tie.Need-overflow-add-i invariant-loop decreases-loop
+add-i : tie.Need-overflow_add-i invariant-loop decreases-loop
 add-i c = search rules
 
-loop-less : tie.Need-loop-smaller invariant-loop decreases-loop
+loop-less : tie.Need-loop-i-smaller invariant-loop decreases-loop
 loop-less c = search rules
 
-loop-again : tie.Need-loop-preserved invariant-loop decreases-loop
-loop-again c = (any-more _ _ _ _ c.before.before.loop.invariant.0 c.wrong-picked.ensures, omega arith, omega arith)
+loop-again : tie.Need-loop-i-preserved invariant-loop decreases-loop
+loop-again c = (any-more _ _ _ _ c.loop-i.invariant.0 c.wrong_picked-bad.ensures, omega arith, omega arith)
 
-returns-3 : tie.Need-returns-3 invariant-loop decreases-loop
+returns-3 : tie.Need-returns invariant-loop decreases-loop
 returns-3 c =
-    any-done _ _ _ _ c.before.loop.invariant.0 c.before.loop.invariant.2 c.loop-test.false
-    ∙ lists-equal _ _ c.before.before.before.before.before.if1.false
+    any-done _ _ _ _ c.loop-i.invariant.0 c.loop-i.invariant.2 c.loop-i-test.false
+    ∙ lists-equal _ _ c.if-documents-scores.false
 
-pub wrong-lists-spec : {M : Type 1} → statement M
-wrong-lists-spec =
+pub wrong_lists_spec : {M : Type 1} → statement M
+wrong_lists_spec =
     tie.close
     (tie.spec
     invariant-loop
