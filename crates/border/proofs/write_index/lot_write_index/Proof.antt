@@ -1,10 +1,10 @@
 -- `lot_write_index` meets its contract: one law for each way through it, over the writer's own contract. Assumes nothing.
 use mathlib.Core.Path.{refl}
 use borrow.Author.Rules.{rules}
-use Rattle.lot_search.proofs.Told.{two-written}
-use Rattle.lot_search.proofs.WriteTold.{write-told-short, write-told-sixteen, write-told-refused, write-told-done}
-use Rattle.lot_search.proofs.write_index.lot_write_index.Statement.{statement}
-use Rattle.lot_search.proofs.write_index.lot_write_index.Tie as tie
+use Rattle.border.proofs.Told.{two-written}
+use Rattle.border.proofs.WriteTold.{write-told-short, write-told-sixteen, write-told-refused, write-told-done}
+use Rattle.border.proofs.write_index.lot_write_index.Statement.{statement}
+use Rattle.border.proofs.write_index.lot_write_index.Tie as tie
 
 accept-requires : tie.Need-accept-requires
 accept-requires c κs = search rules

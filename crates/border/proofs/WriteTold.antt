@@ -14,8 +14,8 @@ use Rattle.token_writer.specs.declared.Numbers.{Numbers}
 use Rattle.token_writer.specs.declared.Written.{Written}
 use Rattle.token_writer.specs.declared.Written.TheVariants as Written
 use Rattle.token_writer.specs.Answers.{writtenNumbers, outputs, WritesIndex}
-use Rattle.lot_search.specs.Write.{writeNumbers, borderWrite, LotWritesIndex}
-use Rattle.lot_search.proofs.Told.{refused-number, found-numbers, refused-keeps}
+use Rattle.border.specs.Write.{writeNumbers, borderWrite, LotWritesIndex}
+use Rattle.border.proofs.Told.{refused-number, found-numbers, refused-keeps}
 
 -- 16 held by a slice that is too short: a lower number stays, and 16 is what is left
 sixteen : (a b c d : Bool) → lowest ((1 when a) ∷ (2 when b) ∷ (15 when c) ∷ (16 when (d || true)) ∷ []) ≡ answered (lowest ((1 when a) ∷ (2 when b) ∷ (15 when c) ∷ (16 when d) ∷ [])) 16 (λ m. m)

@@ -5,9 +5,9 @@ use mathlib.Core.Logic.{inl, inr}
 use mathlib.Core.Bool.{cond}
 use native.Mathlib.Omega.{arith}
 use lib.ListN.{length-set}
-use Rattle.lot_search.proofs.Told.{three-written}
-use Rattle.lot_search.proofs.write_top_docs.Statement.{statement}
-use Rattle.lot_search.proofs.write_top_docs.Tie as tie
+use Rattle.border.proofs.Told.{three-written}
+use Rattle.border.proofs.write_top_docs.Statement.{statement}
+use Rattle.border.proofs.write_top_docs.Tie as tie
 
 cast-answer : tie.Need-overflow-cast-answer
 cast-answer c = search rules

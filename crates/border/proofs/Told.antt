@@ -23,8 +23,8 @@ use Rattle.pick_entry.specs.declared.Picked.{Picked}
 use Rattle.pick_entry.specs.declared.Picked.TheVariants as Picked
 use Rattle.searcher.specs.Answers.{searchedNumbers, pagedNumbers}
 use Rattle.pick_entry.specs.Answers.{pickedNumbers}
-use Rattle.lot_search.specs.Border.{shortAnswer, borderSearch, borderPage, borderPick, topNumbers, pageNumbers}
-use Rattle.lot_search.proofs.Short.{short-refuses, search-short, search-long, page-short, page-long, pick-short, pick-long}
+use Rattle.border.specs.Border.{shortAnswer, borderSearch, borderPage, borderPick, topNumbers, pageNumbers}
+use Rattle.border.proofs.Short.{short-refuses, search-short, search-long, page-short, page-long, pick-short, pick-long}
 
 -- ---- an answer as a list of numbers
 -- the numbers after the first

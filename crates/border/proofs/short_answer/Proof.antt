@@ -1,8 +1,8 @@
 -- `short_answer` meets its contract, by the three ways that a refusal's number can stand to 12. Assumes nothing.
 use mathlib.Core.Path.{sym}
-use Rattle.lot_search.proofs.Short.{short-of-none, short-above, short-stays}
-use Rattle.lot_search.proofs.short_answer.Statement.{statement}
-use Rattle.lot_search.proofs.short_answer.Tie as tie
+use Rattle.border.proofs.Short.{short-of-none, short-above, short-stays}
+use Rattle.border.proofs.short_answer.Statement.{statement}
+use Rattle.border.proofs.short_answer.Tie as tie
 
 returns : tie.Need-returns
 returns c = sym (short-of-none c.before.args.refusal c.if1.true)

@@ -3,9 +3,9 @@ use borrow.Author.Rules.{rules}
 use lib.ListN.{length}
 use Rattle.index.specs.Slices.{lent}
 use Rattle.order_check.specs.Lends.{work}
-use Rattle.lot_search.proofs.Told.{page-told-short, page-told-refused, page-told-given}
-use Rattle.lot_search.proofs.lot_page.Statement.{statement}
-use Rattle.lot_search.proofs.lot_page.Tie as tie
+use Rattle.border.proofs.Told.{page-told-short, page-told-refused, page-told-given}
+use Rattle.border.proofs.lot_page.Statement.{statement}
+use Rattle.border.proofs.lot_page.Tie as tie
 
 page-refusal-requires : tie.Need-page-refusal-requires
 page-refusal-requires c κs = search rules

@@ -3,9 +3,9 @@ use borrow.Author.Rules.{rules}
 use lib.ListN.{length}
 use Rattle.index.specs.Slices.{lent}
 use Rattle.order_check.specs.Lends.{work}
-use Rattle.lot_search.proofs.Told.{search-told-short, search-told-refused, search-told-found}
-use Rattle.lot_search.proofs.lot_search.Statement.{statement}
-use Rattle.lot_search.proofs.lot_search.Tie as tie
+use Rattle.border.proofs.Told.{search-told-short, search-told-refused, search-told-found}
+use Rattle.border.proofs.lot_search.Statement.{statement}
+use Rattle.border.proofs.lot_search.Tie as tie
 
 search-refusal-requires : tie.Need-search-refusal-requires
 search-refusal-requires c κs = search rules

@@ -11,7 +11,7 @@ use Rattle.meaning.specs.Refusals.{Condition, ◌when◌, lowest}
 use Rattle.meaning.specs.CallRefusals.{Work, wrong11, wrong12Search, wrong12Page, wrong12Pick, wrong13Page, wrong14}
 use Rattle.meaning.specs.Entries.{orderConditions, searchRefusal, pageRefusal, pickRefusal}
 use Rattle.meaning.proofs.Tests.{or_left}
-use Rattle.lot_search.specs.Border.{shortAnswer, borderSearch, borderPage, borderPick}
+use Rattle.border.specs.Border.{shortAnswer, borderSearch, borderPage, borderPick}
 
 -- ---- what a refusal becomes where the slice is too short
 pub short-of-none : (n : ℕ) → n ≡ 0 → shortAnswer n ≡ 12
