@@ -4,12 +4,12 @@ use borrow.Fn.Kinds.{Dens, res_t, ended_of}
 use denote.Triple.Clauses.{AtExit}
 use Rattle.meaning.specs.Lent.{Index}
 use Rattle.index.specs.Slices.{lent}
-use Rattle.lot_search.proofs.lot_search.Kinds as search-kinds
-use Rattle.lot_search.proofs.lot_search.Reads as search-contract
-use Rattle.lot_search.proofs.lot_page.Kinds as page-kinds
-use Rattle.lot_search.proofs.lot_page.Reads as page-contract
-use Rattle.lot_search.proofs.lot_pick.Kinds as pick-kinds
-use Rattle.lot_search.proofs.lot_pick.Reads as pick-contract
+use Rattle.border.proofs.lot_search.Kinds as search-kinds
+use Rattle.border.proofs.lot_search.Reads as search-contract
+use Rattle.border.proofs.lot_page.Kinds as page-kinds
+use Rattle.border.proofs.lot_page.Reads as page-contract
+use Rattle.border.proofs.lot_pick.Kinds as pick-kinds
+use Rattle.border.proofs.lot_pick.Reads as pick-contract
 use Rattle.border_demands.specs.Calls.{SearchCall, PageCall, PickCall}
 
 -- ---- lot_search

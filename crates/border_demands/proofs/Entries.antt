@@ -9,8 +9,8 @@ use Rattle.meaning.specs.Lent.{Index}
 use Rattle.meaning.specs.CallRefusals.{Work}
 use Rattle.meaning.specs.Entries.{searchRefusal, pageRefusal, pickRefusal}
 use Rattle.order_check.specs.Lends.{work}
-use Rattle.lot_search.specs.Border.{shortAnswer}
-use Rattle.lot_search.proofs.Short.{short-of-none, short-refuses, search-short, search-long, page-short, page-long, pick-short, pick-long}
+use Rattle.border.specs.Border.{shortAnswer}
+use Rattle.border.proofs.Short.{short-of-none, short-refuses, search-short, search-long, page-short, page-long, pick-short, pick-long}
 use Rattle.border_demands.specs.Calls.{SearchCall, PageCall, PickCall}
 
 -- ---- by an entry's refusal z: r is what the border returns for an `answer` of some length, of which it needs the least

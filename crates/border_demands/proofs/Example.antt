@@ -23,7 +23,7 @@ use Rattle.meaning.specs.Pages.{firstDoc, fromTarget, page}
 use Rattle.meaning.specs.Entries.{answered, written, page_of, pageRefusal, pickedList}
 use Rattle.meaning.specs.Lent.{Index}
 use Rattle.order_check.specs.Lends.{work}
-use Rattle.lot_search.specs.Border.{borderSearch, borderPage, borderPick, topNumbers, pageNumbers}
+use Rattle.border.specs.Border.{borderSearch, borderPage, borderPick, topNumbers, pageNumbers}
 use Rattle.border_demands.specs.Calls.{SearchCall, PageCall, PickCall, hitsGiven, Begin}
 use Rattle.border_demands.specs.Pages.{documentsGiven, scoresGiven, goesOn, Follow, joinedDocuments, joinedScores, goesOnAfter, AnswerAlone}
 use Rattle.border_demands.proofs.Pages.{PagesJoined, lot-pages-joined}

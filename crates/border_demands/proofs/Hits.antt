@@ -18,7 +18,7 @@ use Rattle.demands.proofs.Search.{hits-length, hits-begin, answer-is, held-is, w
 use Rattle.demands.proofs.Ranked.{hits-are}
 use Rattle.demands.proofs.Rankable.{picked-rankable}
 use Rattle.demands.proofs.Hits.{FirstHits, search-hits}
-use Rattle.lot_search.specs.Border.{topNumbers}
+use Rattle.border.specs.Border.{topNumbers}
 use Rattle.border_demands.specs.Calls.{SearchCall, PickCall, hitsGiven, Begin}
 use Rattle.border_demands.proofs.Entries.{search-work, search-entry, pick-entry}
 

@@ -16,8 +16,8 @@ use Rattle.meaning.proofs.Lowest.{answered-accepted}
 use Rattle.demands.specs.Demands as demands
 use Rattle.demands.proofs.Accepting.{page-accepts}
 use Rattle.demands.proofs.Pages as entry
-use Rattle.lot_search.specs.Border.{pageNumbers}
-use Rattle.lot_search.proofs.Told.{documents-written, scores-written}
+use Rattle.border.specs.Border.{pageNumbers}
+use Rattle.border.proofs.Told.{documents-written, scores-written}
 use Rattle.border_demands.specs.Calls.{PageCall}
 use Rattle.border_demands.specs.Pages.{given, next, documentsGiven, scoresGiven, placesLent, goesOn, Follow, joinedDocuments, joinedScores, joinedPlaces, acceptedCalls, goesOnAfter}
 use Rattle.border_demands.proofs.Entries.{page-work, page-entry}

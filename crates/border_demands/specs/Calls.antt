@@ -9,7 +9,7 @@ use Rattle.meaning.specs.FullList.{fullList}
 use Rattle.meaning.specs.Hits.{hits as hitsOf}
 use Rattle.meaning.specs.Entries.{written, answered, Kept, page_of, pickedList}
 use Rattle.order_check.specs.Lends.{work}
-use Rattle.lot_search.specs.Border.{borderSearch, borderPage, borderPick, topNumbers, pageNumbers}
+use Rattle.border.specs.Border.{borderSearch, borderPage, borderPick, topNumbers, pageNumbers}
 
 -- "Search gives hits, count and the "at least" mark": a call of lot_search on an index and a query, with k and t
 pub record SearchCall (ix : Index) (q : List ℕ) (k t : ℕ) : Type 0 where

@@ -1,7 +1,9 @@
-// The border: Search, Page, Pick and the token writer for callers in C and Rust. Each returns the refusal's number, or 0 and its numbers in `answer`.
+// The functions that C and Rust call, made into liblot_search.a: each is the function of `border` that has its name, and states its clauses again.
+#![tactic(auto)]
+
 pub mod write_index;
 
-ghost use Rattle.std.specs.Prelude.{◌≡◌, cond, [], ◌∷◌, map, ◌≤◌, length};
+ghost use Rattle.std.specs.Prelude.{◌≡◌, map, length};
 ghost use Rattle.std.specs.Float.{binary32};
 ghost use Rattle.std.specs.Float.Ieee.{to_bits};
 ghost use Rattle.meaning.specs.Query.{queryTree};
@@ -10,32 +12,7 @@ ghost use Rattle.meaning.specs.Hits.{hits as hitsOf};
 ghost use Rattle.meaning.specs.Entries.{written, answered, Kept, page_of, pickedList};
 ghost use Rattle.index.specs.Slices.{lent};
 ghost use Rattle.order_check.specs.Lends.{work};
-ghost use Rattle.lot_search.specs.Border.{shortAnswer, borderSearch, borderPage, borderPick, topNumbers, pageNumbers};
-
-use collector::TopDocs;
-
-// A slice for the answer that is too short is a buffer too short.
-fn short_answer(refusal: u32) -> u32
-    ensures { result ≡ shortAnswer refusal }
-{
-    if refusal == 0 {
-        return 12;
-    }
-    if 12 < refusal {
-        return 12;
-    }
-    refusal
-}
-
-// Hits held, count, and 1 for the mark.
-fn write_top_docs(top: TopDocs, answer: &mut [u64])
-    requires { 3 ≤ length answer.old }
-    ensures { answer.new ≡ written (top.held ∷ top.count ∷ cond top.mark 1 0 ∷ []) answer.old }
-{
-    answer[0] = top.held as u64;
-    answer[1] = top.count;
-    answer[2] = if top.mark { 1 } else { 0 };
-}
+ghost use Rattle.border.specs.Border.{borderSearch, borderPage, borderPick, topNumbers, pageNumbers};
 
 #[unsafe(no_mangle)]
 pub extern "C" fn lot_search(
@@ -66,36 +43,10 @@ pub extern "C" fn lot_search(
     ensures kept_3 { Kept result b.old b.new }
     ensures kept_4 { Kept result ranges.old ranges.new }
 {
-    if answer.len() < 3 {
-        return short_answer(order_check::search_refusal(
-            max_doc,
-            fields,
-            leaves,
-            postings,
-            positions,
-            norms,
-            live,
-            columns,
-            values,
-            q,
-            k,
-            states.len(),
-            a.len(),
-            b.len(),
-            ranges.len(),
-            hits.len(),
-        ));
-    }
-    match searcher::search::search(
+    border::lot_search(
         max_doc, fields, leaves, postings, positions, norms, live, columns, values, q, k, t,
-        states, a, b, ranges, hits,
-    ) {
-        searcher::search::Searched::Refused(n) => n,
-        searcher::search::Searched::Found(top) => {
-            write_top_docs(top, answer);
-            0
-        }
-    }
+        states, a, b, ranges, hits, answer,
+    )
 }
 
 #[unsafe(no_mangle)]
@@ -128,38 +79,10 @@ pub extern "C" fn lot_page(
     ensures kept_3 { Kept result b.old b.new }
     ensures kept_4 { Kept result ranges.old ranges.new }
 {
-    if answer.len() < 2 {
-        return short_answer(order_check::page_refusal(
-            max_doc,
-            fields,
-            leaves,
-            postings,
-            positions,
-            norms,
-            live,
-            columns,
-            values,
-            q,
-            target,
-            states.len(),
-            a.len(),
-            b.len(),
-            ranges.len(),
-            documents.len(),
-            scores.len(),
-        ));
-    }
-    match searcher::page::page(
+    border::lot_page(
         max_doc, fields, leaves, postings, positions, norms, live, columns, values, q, target,
-        states, a, b, ranges, documents, scores,
-    ) {
-        searcher::page::Paged::Refused(n) => n,
-        searcher::page::Paged::Given(listed) => {
-            answer[0] = listed.given as u64;
-            answer[1] = listed.next as u64;
-            0
-        }
-    }
+        states, a, b, ranges, documents, scores, answer,
+    )
 }
 
 #[unsafe(no_mangle)]
@@ -175,14 +98,5 @@ pub extern "C" fn lot_pick(
     ensures hits_after { hits.new ≡ answered result (written (hitsOf k (pickedList documents.now scores.now)) hits.old) (λ n. hits.old) }
     ensures answer_after { answer.new ≡ answered result (written (topNumbers k t (pickedList documents.now scores.now)) answer.old) (λ n. answer.old) }
 {
-    if answer.len() < 3 {
-        return short_answer(pick_entry::pick_refusal(documents, scores, k, hits.len()));
-    }
-    match pick_entry::pick(documents, scores, k, t, hits) {
-        pick_entry::Picked::Refused(n) => n,
-        pick_entry::Picked::Found(top) => {
-            write_top_docs(top, answer);
-            0
-        }
-    }
+    border::lot_pick(documents, scores, k, t, hits, answer)
 }

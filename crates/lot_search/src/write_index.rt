@@ -1,7 +1,5 @@
-// The border's token writer.
-ghost use Rattle.lot_search.specs.Write.{LotWritesIndex};
-
-use token_writer::Written;
+// The token writer, as the functions of lib.rt.
+ghost use Rattle.border.specs.Write.{LotWritesIndex};
 
 #[unsafe(no_mangle)]
 pub extern "C" fn lot_write_index(
@@ -17,22 +15,7 @@ pub extern "C" fn lot_write_index(
 ) -> u32
     ensures { LotWritesIndex max_doc fields.now leaf_fields.now tokens.now norms.old postings.old positions.old runs.old answer.old norms.new postings.new positions.new runs.new answer.new result }
 {
-    if answer.len() < 2 {
-        match token_writer::accept(
-            max_doc,
-            fields,
-            tokens,
-            leaf_fields,
-            norms.len(),
-            postings.len(),
-            positions.len(),
-            runs.len(),
-        ) {
-            Written::Refused(n) => return n,
-            Written::Done(numbers) => return 16,
-        }
-    }
-    match token_writer::write_index(
+    border::write_index::lot_write_index(
         max_doc,
         fields,
         tokens,
@@ -41,12 +24,6 @@ pub extern "C" fn lot_write_index(
         postings,
         positions,
         runs,
-    ) {
-        Written::Refused(n) => n,
-        Written::Done(numbers) => {
-            answer[0] = numbers.postings as u64;
-            answer[1] = numbers.positions as u64;
-            0
-        }
-    }
+        answer,
+    )
 }

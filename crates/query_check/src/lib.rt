@@ -1,4 +1,6 @@
 // The refusals 7 to 10 of a query beside an index.
+#![tactic(auto)]
+
 pub mod boosts;
 pub mod buffers;
 pub mod positions;

@@ -1,3 +1,2 @@
--- The laws that the proofs of this crate cite.
+-- The law that the proofs of this crate cite.
 pub mod Patterns
-pub mod Signed

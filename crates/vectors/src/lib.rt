@@ -1,7 +1,12 @@
 // What the programs of vectors share: values from patterns, what a value or a list prints as, and numbers from a seed.
+#![tactic(auto)]
+
 pub mod file;
 
 ghost use Rattle.std.specs.Prelude.{◌≤◌};
+
+use std::io;
+use std::io::Write;
 
 // The value of a pattern; every pattern of a NaN gives a NaN.
 pub fn f64_of(bits: u64) -> f64 {
@@ -26,117 +31,122 @@ pub fn wide(x: u32) -> u64 {
 }
 
 // The pattern, or `nan`, on a line of its own.
-pub fn print_f32(x: f32) {
+pub fn print_f32(out: &mut impl Write, x: f32) -> io::Result<()> {
     if x != x {
-        io::write_all(1, b"nan\n");
+        writeln!(out, "nan")
     } else {
-        io::print_hex(1, wide(f32::to_bits(x)), 8);
-        io::write_all(1, b"\n");
+        writeln!(out, "{:08x}", f32::to_bits(x))
     }
 }
 
-pub fn print_f64(x: f64) {
+pub fn print_f64(out: &mut impl Write, x: f64) -> io::Result<()> {
     if x != x {
-        io::write_all(1, b"nan\n");
+        writeln!(out, "nan")
     } else {
-        io::print_hex(1, f64::to_bits(x), 16);
-        io::write_all(1, b"\n");
+        writeln!(out, "{:016x}", f64::to_bits(x))
     }
 }
 
 // A number and a space.
-pub fn print_number(n: u32) {
-    io::print_decimal(1, n as u64);
-    io::write_all(1, b" ");
+pub fn print_number(out: &mut impl Write, n: u32) -> io::Result<()> {
+    write!(out, "{n} ")
 }
 
 // A code's sixteen hexadecimal digits and a space; `-` where it is below 0.
-pub fn print_code(code: i64) {
+pub fn print_code(out: &mut impl Write, code: i64) -> io::Result<()> {
     if code >= 0 {
-        io::print_hex(1, code as u64, 16);
-        io::write_all(1, b" ");
+        write!(out, "{:016x} ", code as u64)
     } else {
-        io::write_all(1, b"- ");
+        write!(out, "- ")
     }
 }
 
-fn print_mark(mark: bool) {
+fn print_mark(out: &mut impl Write, mark: bool) -> io::Result<()> {
     if mark {
-        io::write_all(1, b"+ ");
+        write!(out, "+ ")
     } else {
-        io::write_all(1, b"= ");
+        write!(out, "= ")
     }
 }
 
-fn print_codes(codes: &[i64], n: u32) {
+fn print_codes(out: &mut impl Write, codes: &[i64], n: u32) -> io::Result<()> {
     let mut i = 0;
     while i < codes.len() {
         if i < n as usize {
-            print_code(codes[i]);
+            print_code(out, codes[i])?;
         }
         i += 1;
     }
-    end_line();
+    end_line(out)
 }
 
 // The count, its mark, and the codes of the best hits.
-pub fn print_hits(count: u64, mark: bool, codes: &[i64], held: u32) {
-    io::print_decimal(1, count);
-    print_mark(mark);
-    print_codes(codes, held);
+pub fn print_hits(
+    out: &mut impl Write,
+    count: u64,
+    mark: bool,
+    codes: &[i64],
+    held: u32,
+) -> io::Result<()> {
+    write!(out, "{count}")?;
+    print_mark(out, mark)?;
+    print_codes(out, codes, held)
 }
 
 // Each document with its score's bits.
-fn print_pairs(documents: &[u32], scores: &[u32], given: usize) {
+fn print_pairs(
+    out: &mut impl Write,
+    documents: &[u32],
+    scores: &[u32],
+    given: usize,
+) -> io::Result<()> {
     let mut i = 0;
     while i < given {
         if documents.len() <= i {
-            return;
+            return Ok(());
         }
         if scores.len() <= i {
-            return;
+            return Ok(());
         }
-        print_number(documents[i]);
-        io::print_hex(1, wide(scores[i]), 8);
-        io::write_all(1, b" ");
+        print_number(out, documents[i])?;
+        write!(out, "{:08x} ", scores[i])?;
         i += 1;
     }
+    Ok(())
 }
 
 // A page: each document with its score's bits, and the next match.
-pub fn print_page(documents: &[u32], scores: &[u32], given: usize, next: u32) {
-    io::write_all(1, b"page ");
-    print_pairs(documents, scores, given);
-    io::write_all(1, b"next ");
-    io::print_decimal(1, wide(next));
-    end_line();
+pub fn print_page(
+    out: &mut impl Write,
+    documents: &[u32],
+    scores: &[u32],
+    given: usize,
+    next: u32,
+) -> io::Result<()> {
+    write!(out, "page ")?;
+    print_pairs(out, documents, scores, given)?;
+    writeln!(out, "next {next}")
 }
 
 // A signed number.
-pub fn print_signed(n: i32) {
-    let x = n as i64;
-    if x >= 0 {
-        io::print_decimal(1, x as u64);
-    } else {
-        io::write_all(1, b"-");
-        io::print_decimal(1, (0 - x) as u64);
-    }
+pub fn print_signed(out: &mut impl Write, n: i32) -> io::Result<()> {
+    write!(out, "{n}")
 }
 
-pub fn end_line() {
-    io::write_all(1, b"\n");
+pub fn end_line(out: &mut impl Write) -> io::Result<()> {
+    writeln!(out)
 }
 
 // The first n numbers of a list, or all of it, on one line.
-pub fn print_list(list: &[u32], n: u32) {
+pub fn print_list(out: &mut impl Write, list: &[u32], n: u32) -> io::Result<()> {
     let mut i = 0;
     while i < list.len() {
         if i < n as usize {
-            print_number(list[i]);
+            print_number(out, list[i])?;
         }
         i += 1;
     }
-    end_line();
+    end_line(out)
 }
 
 // Marsaglia's xorshift: the next number of a sequence that began with one other than 0.

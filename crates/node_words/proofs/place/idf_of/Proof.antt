@@ -11,26 +11,26 @@ use Rattle.node_words.proofs.place.idf_of.Tie as tie
 wide-requires : tie.Need-wide-requires
 wide-requires c κs = search rules
 
-mul-result : tie.Need-overflow-mul-result
+mul-result : tie.Need-overflow_mul-result
 mul-result c = search rules
 
-add-result : tie.Need-overflow-add-result
+add-result : tie.Need-overflow_add-result
 add-result c = search rules
 
-mul-result-2 : tie.Need-overflow-mul-result-2
+mul-result-2 : tie.Need-offset_bounds-leaves-wide
 mul-result-2 c = search rules
 
-shared-slice-read-result : tie.Need-shared-slice-read-result
-shared-slice-read-result c = let s = c.before.before.before in let a = s.requires in let h = idf-there a.0 s.args.leaves.now s.args.leaf c.before.wide.result a.2 c.before.wide.ensures a.3 in omega (arith, h)
+shared-slice-read-result : tie.Need-bounds-leaves-wide
+shared-slice-read-result c = let s = c in let a = s.requires in let h = idf-there a.0 s.args.leaves.now s.args.leaf c.wide.result a.2 c.wide.ensures a.3 in omega (arith, h)
 
-float-from-bits-result : tie.Need-float-from-bits-result
-float-from-bits-result c = let s = c.before.before.before in let a = s.requires in idf-number a.0 s.args.leaves.now s.args.leaf c.before.wide.result a.2 c.before.wide.ensures a.1 a.3
+float-from-bits-result : tie.Need-float_from_bits-result
+float-from-bits-result c = let s = c in let a = s.requires in idf-number a.0 s.args.leaves.now s.args.leaf c.wide.result a.2 c.wide.ensures a.1 a.3
 
 returns : tie.Need-returns
-returns c = let s = c.before.before.before in λ ix are. ap (of_bits binary32) (idf-word ix s.args.leaves.now s.args.leaf c.before.wide.result are c.before.wide.ensures)
+returns c = let s = c in λ ix are. ap (of_bits binary32) (idf-word ix s.args.leaves.now s.args.leaf c.wide.result are c.wide.ensures)
 
-pub idf-of-spec : {M : Type 1} → statement M
-idf-of-spec =
+pub idf_of_spec : {M : Type 1} → statement M
+idf_of_spec =
     tie.close
     (tie.spec
     wide-requires

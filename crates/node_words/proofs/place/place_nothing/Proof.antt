@@ -13,11 +13,11 @@ use Rattle.node_words.proofs.place.place_nothing.Tie as tie
 put-requires : tie.Need-put-requires
 put-requires c κs = search rules
 
-same_length : tie.Need-same-length
+same_length : tie.Need-shape_of-st
 same_length c = search rules
 
 returns : tie.Need-returns
-returns c = let s = c.before.before.before.before.before in let st₀ = s.args.st.now in let st = c.before.before.put.new.0 in let e = c.before.before.put.ensures in (λ ix ranges d. placed-nothing ix ranges st₀ st d s.args.scores s.requires e, put_same (words_of (leafState 0 2147483648 0 0 0 0 1 0 s.args.scores 0)) st₀ st e refl s.requires)
+returns c = let s = c in let st₀ = s.args.st.now in let st = c.put.new.st in let e = c.put.ensures in (λ ix ranges d. placed-nothing ix ranges st₀ st d s.args.scores s.requires e, put_same (words_of (leafState 0 2147483648 0 0 0 0 1 0 s.args.scores 0)) st₀ st e refl s.requires)
 
-pub place-nothing-spec : {M : Type 1} → statement M
-place-nothing-spec = tie.close (tie.spec put-requires same_length returns)
+pub place_nothing_spec : {M : Type 1} → statement M
+place_nothing_spec = tie.close (tie.spec put-requires same_length returns)

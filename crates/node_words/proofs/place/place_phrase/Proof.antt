@@ -16,37 +16,37 @@ use borrow.Author.Rules.{rules}
 use Rattle.node_words.proofs.place.place_phrase.Statement.{statement}
 use Rattle.node_words.proofs.place.place_phrase.Tie as tie
 
-value-requires : tie.Need-value-requires
+value-requires : tie.Need-value-field-requires
 value-requires c κs = search rules
 
 children-requires : tie.Need-children-requires
 children-requires c κs = search rules
 
-mul-size : tie.Need-overflow-mul-size
+mul-size : tie.Need-overflow_mul-size
 mul-size c = search rules
 
-add-size : tie.Need-overflow-add-size
+add-size : tie.Need-overflow_add-size
 add-size c = search rules
 
-norms-word-requires : tie.Need-norms-word-requires
-norms-word-requires c κs = let s = c.before.before.before.before.before.before in let a = s.requires.1 in (a.0, a.1.field-lent, subst (λ (z : ℕ). z < fieldCount a.0) (sym c.before.value.ensures) a.3)
+norms-word-requires : tie.Need-norms_word-norms-requires
+norms-word-requires c κs = let s = c in let a = s.requires.1 in (a.0, a.1.field-lent, subst (λ (z : ℕ). z < fieldCount a.0) (sym c.value-field.ensures) a.3)
 
-float-to-bits-bits : tie.Need-float-to-bits-bits
-float-to-bits-bits c = atmost-number c.before.before.before.before.before.before.before.requires.0.3
+float-to-bits-bits : tie.Need-float_to_bits-bits
+float-to-bits-bits c = atmost-number c.requires.0.3
 
-word-requires : tie.Need-word-requires
+word-requires : tie.Need-word-constant-requires
 word-requires c κs = search rules
 
-sub-place-terms : tie.Need-overflow-sub-place-terms
+sub-place-terms : tie.Need-slice_bounds-place_terms-count
 sub-place-terms c = search rules
 
-part-place-terms-start : tie.Need-slice-bounds-place-terms-start
+part-place-terms-start : tie.Need-slice_bounds-place_terms-start
 part-place-terms-start c = search rules
 
-part-place-terms-end : tie.Need-slice-bounds-place-terms-end
+part-place-terms-end : tie.Need-slice_bounds-place_terms-end
 part-place-terms-end c = search rules
 
-place-terms-requires : tie.Need-place-terms-requires
+place-terms-requires : tie.Need-place_terms-requires
 place-terms-requires c κs = search rules
 
 put-requires : tie.Need-put-requires
@@ -55,30 +55,30 @@ put-requires c κs = search rules
 wide-requires : tie.Need-wide-requires
 wide-requires c κs = search rules
 
-same_length : tie.Need-same-length
+same_length : tie.Need-shape_of-st
 same_length c = search rules
 
 returns : tie.Need-returns
-returns c = let s = c.before.before.before.before.before.before.before.before.before.before.before.before.before.before.before.before.before in
+returns c = let s = c in
     let st₀ = s.args.st.now in
-    let pt = c.before.before.before.before.before.before.before.place-terms in
-    let out = pt.new.0 in
+    let pt = c.place_terms in
+    let out = pt.new.st in
     let post = post_of nodeStateWords (length st₀ - nodeStateWords) st₀ in
     let st₁ = put_mid nodeStateWords (length st₀ - nodeStateWords) st₀ out in
-    let st = c.before.before.before.put.new.0 in
-    let e = c.before.before.before.put.ensures in
-    let size = nodeStateWords + nodeStateWords * c.before.before.before.before.before.before.before.before.before.before.before.children.result in
-    let many = c.before.before.before.before.before.before.before.before.before.before.before.children.ensures in
+    let st = c.put.new.st in
+    let e = c.put.ensures in
+    let size = nodeStateWords + nodeStateWords * c.children.result in
+    let many = c.children.ensures in
     let room = s.requires.0.0 in
     let a = length-take (length st₀ - nodeStateWords) (drop nodeStateWords st₀) in
     let b = length-drop nodeStateWords st₀ in
     let lo = pt.ensures.1 in
     let mid = same_len_mid nodeStateWords (length st₀ - nodeStateWords) st₀ out lo in
-    let whole = put_same (words_of (phraseState size c.before.before.before.before.before.before.before.before.before.before.before.before.value.result c.before.before.before.before.before.before.before.before.before.word.result (to_bits binary32 s.args.score) s.args.scores c.before.before.before.before.before.before.before.before.before.before.norms-word.result)) st₁ st e refl (omega (arith, mid, room)) in
-    (λ ix ranges d l. rw c.wide.ensures (placed-phrase ix ranges s.args.q.now st₀ out post st s.args.at d s.args.scores size s.args.score (to_bits binary32 s.args.score) (score-is s.args.score (subst T (sym s.well-formed.1.1.1.1.1.1.1.0.1) tt) s.requires.0.3) s.args.fixed c.before.before.before.before.before.before.before.before.before.word.result c.before.before.before.before.before.before.before.before.before.before.before.before.value.result c.before.before.before.before.before.before.before.before.before.before.norms-word.result (omega (arith, room)) e (omega (arith, room, whole, mid)) (ap (λ (z : ℕ). nodeStateWords + nodeStateWords * z) many) c.before.before.before.before.before.before.before.before.before.word.ensures c.before.before.before.before.before.before.before.before.before.before.before.before.value.ensures (c.before.before.before.before.before.before.before.before.before.before.norms-word.ensures ix l.field-lent) (omega (arith, lo, a, b, room)) (pt.ensures.0 ix l)), whole ∙ mid)
+    let whole = put_same (words_of (phraseState size c.value-field.result c.word-constant.result (to_bits binary32 s.args.score) s.args.scores c.norms_word-norms.result)) st₁ st e refl (omega (arith, mid, room)) in
+    (λ ix ranges d l. rw c.wide.ensures (placed-phrase ix ranges s.args.q.now st₀ out post st s.args.at d s.args.scores size s.args.score (to_bits binary32 s.args.score) (score-is s.args.score (subst T (sym s.well_formed.1.1.1.1.1.1.1.0.1) tt) s.requires.0.3) s.args.fixed c.word-constant.result c.value-field.result c.norms_word-norms.result (omega (arith, room)) e (omega (arith, room, whole, mid)) (ap (λ (z : ℕ). nodeStateWords + nodeStateWords * z) many) c.word-constant.ensures c.value-field.ensures (c.norms_word-norms.ensures ix l.field-lent) (omega (arith, lo, a, b, room)) (pt.ensures.0 ix l)), whole ∙ mid)
 
-pub place-phrase-spec : {M : Type 1} → statement M
-place-phrase-spec =
+pub place_phrase_spec : {M : Type 1} → statement M
+place_phrase_spec =
     tie.close
     (tie.spec
     value-requires

@@ -11,50 +11,50 @@ use borrow.Author.Rules.{rules}
 use Rattle.node_words.proofs.place.place_phrase_at.Statement.{statement}
 use Rattle.node_words.proofs.place.place_phrase_at.Tie as tie
 
-place-nothing-requires : tie.Need-place-nothing-requires
+place-nothing-requires : tie.Need-place_nothing-requires
 place-nothing-requires c κs = search rules
 
-same_length : tie.Need-same-length
+same_length : tie.Need-shape_of-st-then-present-eq0
 same_length c = search rules
 
-returns : tie.Need-returns
+returns : tie.Need-returns-then-present-eq0
 returns c =
-    let s = c.before.before.before.before.before.before.before.before.before in
-    let p = c.before.before.place-nothing in
-    (λ ix ranges d k D l e is. rw (phrase-nothing ix s.args.q.now k s.args.at D e s.requires.0.4 s.args.boost s.args.kept s.args.fixed s.args.present is c.before.before.before.before.if1.true) (p.ensures.0 ix ranges d), p.ensures.1)
+    let s = c in
+    let p = c.place_nothing in
+    (λ ix ranges d k D l e is. rw (phrase-nothing ix s.args.q.now k s.args.at D e s.requires.0.4 s.args.boost s.args.kept s.args.fixed s.args.present is c.if-present-eq0.true) (p.ensures.0 ix ranges d), p.ensures.1)
 
-phrase-idf-requires : tie.Need-phrase-idf-requires
+phrase-idf-requires : tie.Need-phrase_idf-idf-requires
 phrase-idf-requires c κs =
-    let s = c.before.before.before.before.before in
+    let s = c in
     let a = s.requires.1 in
     let t = terms-here a.0 s.args.q.now a.0.leaves s.args.at a.1.records-right a.1.values-right s.requires.0.3 s.requires.0.4 refl in
     ((t.room, t.few-terms), (a.0, a.1.accepted, a.2.leaves-are, t.leaves-there))
 
-scored-by-requires : tie.Need-scored-by-requires
+scored-by-requires : tie.Need-scored_by-score-requires
 scored-by-requires c κs = search rules
 
-place-phrase-requires : tie.Need-place-phrase-requires
+place-phrase-requires : tie.Need-place_phrase-requires
 place-phrase-requires c κs =
-    let s = c.before.before.before.before.before.before.before.before in
+    let s = c in
     let a = s.requires.1 in
     let q = s.args.q.now in
     let at = s.args.at in
     let t = terms-here a.0 q a.0.leaves at a.1.records-right a.1.values-right s.requires.0.3 s.requires.0.4 refl in
-    let idf = subst (λ (z : Float). AtMost (2 ^ 11) z) (sym (c.before.before.phrase-idf.ensures a.0 a.2.leaves-are)) (phrase-idf-small a.0 q at a.1.accepted t.few-terms t.leaves-there) in
-    let small = subst (λ (z : Float). AtMost (2 ^ 29) z) (sym c.before.scored-by.ensures) (phrase-small s.args.fixed s.args.kept s.args.boost c.before.before.phrase-idf.result s.requires.0.5 s.requires.0.6 idf) in
-    ((s.requires.0.1 (only_one s.args.present s.requires.0.2 c.before.before.before.if1.false), t.room, t.few-terms, small), (a.0, a.2, t.leaves-there, (phrase-right a.0 q a.1.values-right at s.requires.0.3 s.requires.0.4).field-present))
+    let idf = subst (λ (z : Float). AtMost (2 ^ 11) z) (sym (c.phrase_idf-idf.ensures a.0 a.2.leaves-are)) (phrase-idf-small a.0 q at a.1.accepted t.few-terms t.leaves-there) in
+    let small = subst (λ (z : Float). AtMost (2 ^ 29) z) (sym c.scored_by-score.ensures) (phrase-small s.args.fixed s.args.kept s.args.boost c.phrase_idf-idf.result s.requires.0.5 s.requires.0.6 idf) in
+    ((s.requires.0.1 (only_one s.args.present s.requires.0.2 c.if-present-eq0.false), t.room, t.few-terms, small), (a.0, a.2, t.leaves-there, (phrase-right a.0 q a.1.values-right at s.requires.0.3 s.requires.0.4).field-present))
 
-same-length-2 : tie.Need-same-length-2
+same-length-2 : tie.Need-shape_of-st
 same-length-2 c = search rules
 
-returns-2 : tie.Need-returns-2
+returns-2 : tie.Need-returns
 returns-2 c =
-    let s = c.before.before.before.before.before.before.before.before.before.before.before in
-    let p = c.before.before.place-phrase in
-    (λ ix ranges d k D l e is. rw (phrase-there ix s.args.q.now k s.args.at D e s.requires.0.4 s.args.boost s.args.kept s.args.fixed s.args.present is c.before.before.before.before.before.phrase-idf.result c.before.before.before.before.scored-by.result c.before.before.before.before.before.before.if1.false (c.before.before.before.before.before.phrase-idf.ensures ix l.leaves-are) c.before.before.before.before.scored-by.ensures) (p.ensures.0 ix ranges d l), p.ensures.1)
+    let s = c in
+    let p = c.place_phrase in
+    (λ ix ranges d k D l e is. rw (phrase-there ix s.args.q.now k s.args.at D e s.requires.0.4 s.args.boost s.args.kept s.args.fixed s.args.present is c.phrase_idf-idf.result c.scored_by-score.result c.if-present-eq0.false (c.phrase_idf-idf.ensures ix l.leaves-are) c.scored_by-score.ensures) (p.ensures.0 ix ranges d l), p.ensures.1)
 
-pub place-phrase-at-spec : {M : Type 1} → statement M
-place-phrase-at-spec =
+pub place_phrase_at_spec : {M : Type 1} → statement M
+place_phrase_at_spec =
     tie.close
     (tie.spec
     place-nothing-requires

@@ -17,29 +17,29 @@ use Rattle.node_words.proofs.place.place_term.Tie as tie
 wide-requires : tie.Need-wide-requires
 wide-requires c κs = search rules
 
-leaf-at-requires : tie.Need-leaf-at-requires
-leaf-at-requires c κs = let s = c.before.before.before.before in let a = s.requires.1 in leaf-there a.0 s.args.max-doc s.args.fields.now s.args.leaves.now s.args.leaf c.wide.result a.1 c.wide.ensures a.2
+leaf-at-requires : tie.Need-leaf_at-l-requires
+leaf-at-requires c κs = let s = c in let a = s.requires.1 in leaf-there a.0 s.args.max_doc s.args.fields.now s.args.leaves.now s.args.leaf c.wide.result a.1 c.wide.ensures a.2
 
-norms-word-requires : tie.Need-norms-word-requires
-norms-word-requires c κs = let s = c.before.before.before.before.before in let a = s.requires.1 in (a.0, a.1.field-lent, field-known a.0 s.args.max-doc s.args.fields.now s.args.leaves.now s.args.leaf c.before.wide.result a.1 c.before.wide.ensures c.leaf-at.result.field (ap Leaf.field c.leaf-at.ensures) a.2)
+norms-word-requires : tie.Need-norms_word-norms-requires
+norms-word-requires c κs = let s = c in let a = s.requires.1 in (a.0, a.1.field-lent, field-known a.0 s.args.max_doc s.args.fields.now s.args.leaves.now s.args.leaf c.wide.result a.1 c.wide.ensures c.leaf_at-l.result.field (ap Leaf.field c.leaf_at-l.ensures) a.2)
 
-float-to-bits-bits : tie.Need-float-to-bits-bits
-float-to-bits-bits c = atmost-number c.before.before.before.before.before.before.requires.0.1
+float-to-bits-bits : tie.Need-float_to_bits-bits
+float-to-bits-bits c = atmost-number c.requires.0.1
 
-word-requires : tie.Need-word-requires
+word-requires : tie.Need-word-constant-requires
 word-requires c κs = search rules
 
 put-requires : tie.Need-put-requires
 put-requires c κs = search rules
 
-same_length : tie.Need-same-length
+same_length : tie.Need-shape_of-st
 same_length c = search rules
 
 returns : tie.Need-returns
-returns c = let s = c.before.before.before.before.before.before.before.before.before.before.before in let st₀ = s.args.st.now in let st = c.before.before.put.new.0 in let e = c.before.before.put.ensures in let room = s.requires.0.0 in (λ ix ranges d l. placed-term ix ranges st₀ st d s.args.scores room s.args.score (to_bits binary32 s.args.score) (score-is s.args.score (subst T (sym s.well-formed.1.1.1.1.1.1.0.1) tt) s.requires.0.1) s.args.fixed s.args.leaf c.before.before.before.before.word.result c.before.before.before.before.before.before.leaf-at.result.first c.before.before.before.before.before.before.leaf-at.result.number c.before.before.before.before.before.before.leaf-at.result.field c.before.before.before.before.before.norms-word.result c.before.before.before.before.word.ensures (first_of ix s.args.max-doc s.args.fields.now s.args.leaves.now s.args.leaf c.before.before.before.before.before.before.before.wide.result l c.before.before.before.before.before.before.before.wide.ensures c.before.before.before.before.before.before.leaf-at.result.first (ap Leaf.first c.before.before.before.before.before.before.leaf-at.ensures)) (number_of ix s.args.max-doc s.args.fields.now s.args.leaves.now s.args.leaf c.before.before.before.before.before.before.before.wide.result l c.before.before.before.before.before.before.before.wide.ensures c.before.before.before.before.before.before.leaf-at.result.number (ap Leaf.number c.before.before.before.before.before.before.leaf-at.ensures)) (field_of ix s.args.max-doc s.args.fields.now s.args.leaves.now s.args.leaf c.before.before.before.before.before.before.before.wide.result l c.before.before.before.before.before.before.before.wide.ensures c.before.before.before.before.before.before.leaf-at.result.field (ap Leaf.field c.before.before.before.before.before.before.leaf-at.ensures)) (c.before.before.before.before.before.norms-word.ensures ix l.field-lent) e, put_same (words_of (leafState 1 0 c.before.before.before.before.before.before.leaf-at.result.first c.before.before.before.before.before.before.leaf-at.result.number 0 c.before.before.before.before.before.before.leaf-at.result.field c.before.before.before.before.word.result (to_bits binary32 s.args.score) s.args.scores c.before.before.before.before.before.norms-word.result)) st₀ st e refl room)
+returns c = let s = c in let st₀ = s.args.st.now in let st = c.put.new.st in let e = c.put.ensures in let room = s.requires.0.0 in (λ ix ranges d l. placed-term ix ranges st₀ st d s.args.scores room s.args.score (to_bits binary32 s.args.score) (score-is s.args.score (subst T (sym s.well_formed.1.1.1.1.1.1.0.1) tt) s.requires.0.1) s.args.fixed s.args.leaf c.word-constant.result c.leaf_at-l.result.first c.leaf_at-l.result.number c.leaf_at-l.result.field c.norms_word-norms.result c.word-constant.ensures (first_of ix s.args.max_doc s.args.fields.now s.args.leaves.now s.args.leaf c.wide.result l c.wide.ensures c.leaf_at-l.result.first (ap Leaf.first c.leaf_at-l.ensures)) (number_of ix s.args.max_doc s.args.fields.now s.args.leaves.now s.args.leaf c.wide.result l c.wide.ensures c.leaf_at-l.result.number (ap Leaf.number c.leaf_at-l.ensures)) (field_of ix s.args.max_doc s.args.fields.now s.args.leaves.now s.args.leaf c.wide.result l c.wide.ensures c.leaf_at-l.result.field (ap Leaf.field c.leaf_at-l.ensures)) (c.norms_word-norms.ensures ix l.field-lent) e, put_same (words_of (leafState 1 0 c.leaf_at-l.result.first c.leaf_at-l.result.number 0 c.leaf_at-l.result.field c.word-constant.result (to_bits binary32 s.args.score) s.args.scores c.norms_word-norms.result)) st₀ st e refl room)
 
-pub place-term-spec : {M : Type 1} → statement M
-place-term-spec =
+pub place_term_spec : {M : Type 1} → statement M
+place_term_spec =
     tie.close
     (tie.spec
     wide-requires

@@ -15,74 +15,74 @@ use Rattle.node_words.proofs.PhraseParts.{termAt, terms-begin, terms-more, terms
 use Rattle.node_words.proofs.place.place_terms.Statement.{statement}
 use Rattle.node_words.proofs.place.place_terms.Tie as tie
 
-abbrev invariant-loop : tie.invariant-loop
+abbrev invariant-loop : tie.invariant-loop-j
 invariant-loop st₀ q max-doc fields leaves at terms j₀ st j = ((ix : Index) → LeafLent ix max-doc fields leaves → TermsAre ix (listTo j (termAt ix q at)) (take (nodeStateWords * j) st) 0) × (j ≤ terms) × (terms ≡ recordChildren q at) × (length st ≡ length st₀)
 
-abbrev decreases-loop : tie.decreases-loop
+abbrev decreases-loop : tie.decreases-loop-j
 decreases-loop st₀ q max-doc fields leaves at terms j₀ st j = terms - j
 
 children-requires : tie.Need-children-requires invariant-loop decreases-loop
-children-requires c κs = let s = c.before.before.before.before in omega (arith, s.requires.0.1)
+children-requires c κs = let s = c in omega (arith, s.requires.0.1)
 
-wide-requires : tie.Need-wide-requires invariant-loop decreases-loop
+wide-requires : tie.Need-wide-terms-requires invariant-loop decreases-loop
 wide-requires c κs = search rules
 
-loop-holds : tie.Need-loop-init invariant-loop decreases-loop
-loop-holds c = let s = c.before.before.before.before.before.before in (λ ix e. terms-begin ix s.args.q.now s.args.at s.args.st.now, omega arith, c.wide.ensures ∙ c.before.children.ensures, refl)
+loop-holds : tie.Need-loop-j-init invariant-loop decreases-loop
+loop-holds c = let s = c in (λ ix e. terms-begin ix s.args.q.now s.args.at s.args.st.now, omega arith, c.wide-terms.ensures ∙ c.children.ensures, refl)
 
-add-value : tie.Need-overflow-add-value invariant-loop decreases-loop
-add-value c = let s = c.before.before.before.before.before.before.before.before in let l = c.before.loop in let t = c.loop-test.true in let room = s.requires.0.0 in let here = s.requires.0.1 in let few = s.requires.0.2 in let is = l.invariant.2 in let long = l.invariant.3 in omega (arith, here, t, is, s.well-formed)
+add-value : tie.Need-overflow_add-at invariant-loop decreases-loop
+add-value c = let s = c in let l = c.loop-j in let t = c.loop-j-test.true in let room = s.requires.0.0 in let here = s.requires.0.1 in let few = s.requires.0.2 in let is = l.invariant.2 in let long = l.invariant.3 in omega (arith, here, t, is, s.well_formed)
 
-add-value-2 : tie.Need-overflow-add-value-2 invariant-loop decreases-loop
-add-value-2 c = let s = c.before.before.before.before.before.before.before.before in let l = c.before.loop in let t = c.loop-test.true in let room = s.requires.0.0 in let here = s.requires.0.1 in let few = s.requires.0.2 in let is = l.invariant.2 in let long = l.invariant.3 in omega (arith, here, t, is, s.well-formed)
+add-value-2 : tie.Need-overflow_add-at-in-loop-j invariant-loop decreases-loop
+add-value-2 c = let s = c in let l = c.loop-j in let t = c.loop-j-test.true in let room = s.requires.0.0 in let here = s.requires.0.1 in let few = s.requires.0.2 in let is = l.invariant.2 in let long = l.invariant.3 in omega (arith, here, t, is, s.well_formed)
 
-value-requires : tie.Need-value-requires invariant-loop decreases-loop
-value-requires c κs = let s = c.before.before.before.before.before.before.before.before in let l = c.before.loop in let t = c.loop-test.true in let room = s.requires.0.0 in let here = s.requires.0.1 in let few = s.requires.0.2 in let is = l.invariant.2 in let long = l.invariant.3 in (omega (arith, here, t, is), omega arith)
+value-requires : tie.Need-value-leaf-requires invariant-loop decreases-loop
+value-requires c κs = let s = c in let l = c.loop-j in let t = c.loop-j-test.true in let room = s.requires.0.0 in let here = s.requires.0.1 in let few = s.requires.0.2 in let is = l.invariant.2 in let long = l.invariant.3 in (omega (arith, here, t, is), omega arith)
 
-add-value-3 : tie.Need-overflow-add-value-3 invariant-loop decreases-loop
-add-value-3 c = let s = c.before.before.before.before.before.before.before.before.before in let l = c.before.before.loop in let t = c.before.loop-test.true in let room = s.requires.0.0 in let here = s.requires.0.1 in let few = s.requires.0.2 in let is = l.invariant.2 in let long = l.invariant.3 in omega (arith, here, t, is, s.well-formed)
+add-value-3 : tie.Need-overflow_add-at-in-loop-j-2 invariant-loop decreases-loop
+add-value-3 c = let s = c in let l = c.loop-j in let t = c.loop-j-test.true in let room = s.requires.0.0 in let here = s.requires.0.1 in let few = s.requires.0.2 in let is = l.invariant.2 in let long = l.invariant.3 in omega (arith, here, t, is, s.well_formed)
 
-add-value-4 : tie.Need-overflow-add-value-4 invariant-loop decreases-loop
-add-value-4 c = let s = c.before.before.before.before.before.before.before.before.before in let l = c.before.before.loop in let t = c.before.loop-test.true in let room = s.requires.0.0 in let here = s.requires.0.1 in let few = s.requires.0.2 in let is = l.invariant.2 in let long = l.invariant.3 in omega (arith, here, t, is, s.well-formed)
+add-value-4 : tie.Need-overflow_add-at-in-loop-j-3 invariant-loop decreases-loop
+add-value-4 c = let s = c in let l = c.loop-j in let t = c.loop-j-test.true in let room = s.requires.0.0 in let here = s.requires.0.1 in let few = s.requires.0.2 in let is = l.invariant.2 in let long = l.invariant.3 in omega (arith, here, t, is, s.well_formed)
 
-value-requires-2 : tie.Need-value-requires-2 invariant-loop decreases-loop
-value-requires-2 c κs = let s = c.before.before.before.before.before.before.before.before.before in let l = c.before.before.loop in let t = c.before.loop-test.true in let room = s.requires.0.0 in let here = s.requires.0.1 in let few = s.requires.0.2 in let is = l.invariant.2 in let long = l.invariant.3 in (omega (arith, here, t, is), omega arith)
+value-requires-2 : tie.Need-value-offset-requires invariant-loop decreases-loop
+value-requires-2 c κs = let s = c in let l = c.loop-j in let t = c.loop-j-test.true in let room = s.requires.0.0 in let here = s.requires.0.1 in let few = s.requires.0.2 in let is = l.invariant.2 in let long = l.invariant.3 in (omega (arith, here, t, is), omega arith)
 
-mul-place-phrase-term : tie.Need-overflow-mul-place-phrase-term invariant-loop decreases-loop
-mul-place-phrase-term c = let s = c.before.before.before.before.before.before.before.before.before.before in let l = c.before.before.before.loop in let t = c.before.before.loop-test.true in let room = s.requires.0.0 in let here = s.requires.0.1 in let few = s.requires.0.2 in let is = l.invariant.2 in let long = l.invariant.3 in omega (arith, t, is, few)
+mul-place-phrase-term : tie.Need-overflow_mul-j invariant-loop decreases-loop
+mul-place-phrase-term c = let s = c in let l = c.loop-j in let t = c.loop-j-test.true in let room = s.requires.0.0 in let here = s.requires.0.1 in let few = s.requires.0.2 in let is = l.invariant.2 in let long = l.invariant.3 in omega (arith, t, is, few)
 
-mul-place-phrase-term-2 : tie.Need-overflow-mul-place-phrase-term-2 invariant-loop decreases-loop
-mul-place-phrase-term-2 c = let s = c.before.before.before.before.before.before.before.before.before.before in let l = c.before.before.before.loop in let t = c.before.before.loop-test.true in let room = s.requires.0.0 in let here = s.requires.0.1 in let few = s.requires.0.2 in let is = l.invariant.2 in let long = l.invariant.3 in omega (arith, t, is, few)
+mul-place-phrase-term-2 : tie.Need-offset_bounds-st-j invariant-loop decreases-loop
+mul-place-phrase-term-2 c = let s = c in let l = c.loop-j in let t = c.loop-j-test.true in let room = s.requires.0.0 in let here = s.requires.0.1 in let few = s.requires.0.2 in let is = l.invariant.2 in let long = l.invariant.3 in omega (arith, t, is, few)
 
-sub-place-phrase-term : tie.Need-overflow-sub-place-phrase-term invariant-loop decreases-loop
-sub-place-phrase-term c = let s = c.before.before.before.before.before.before.before.before.before.before in let l = c.before.before.before.loop in let t = c.before.before.loop-test.true in let room = s.requires.0.0 in let here = s.requires.0.1 in let few = s.requires.0.2 in let is = l.invariant.2 in let long = l.invariant.3 in omega (arith, t, is, room, long)
+sub-place-phrase-term : tie.Need-slice_bounds-place_phrase_term-count invariant-loop decreases-loop
+sub-place-phrase-term c = let s = c in let l = c.loop-j in let t = c.loop-j-test.true in let room = s.requires.0.0 in let here = s.requires.0.1 in let few = s.requires.0.2 in let is = l.invariant.2 in let long = l.invariant.3 in omega (arith, t, is, room, long)
 
-part-place-phrase-term-start : tie.Need-slice-bounds-place-phrase-term-start invariant-loop decreases-loop
-part-place-phrase-term-start c = let s = c.before.before.before.before.before.before.before.before.before.before in let l = c.before.before.before.loop in let t = c.before.before.loop-test.true in let room = s.requires.0.0 in let here = s.requires.0.1 in let few = s.requires.0.2 in let is = l.invariant.2 in let long = l.invariant.3 in omega (arith, t, is, room, long)
+part-place-phrase-term-start : tie.Need-slice_bounds-place_phrase_term-start invariant-loop decreases-loop
+part-place-phrase-term-start c = let s = c in let l = c.loop-j in let t = c.loop-j-test.true in let room = s.requires.0.0 in let here = s.requires.0.1 in let few = s.requires.0.2 in let is = l.invariant.2 in let long = l.invariant.3 in omega (arith, t, is, room, long)
 
-part-place-phrase-term-end : tie.Need-slice-bounds-place-phrase-term-end invariant-loop decreases-loop
+part-place-phrase-term-end : tie.Need-slice_bounds-place_phrase_term-end invariant-loop decreases-loop
 part-place-phrase-term-end c = search rules
 
-place-phrase-term-requires : tie.Need-place-phrase-term-requires invariant-loop decreases-loop
-place-phrase-term-requires c κs = let s = c.before.before.before.before.before.before.before.before.before.before.before in let l = c.before.before.before.before.loop in let t = c.before.before.before.loop-test.true in let room = s.requires.0.0 in let here = s.requires.0.1 in let few = s.requires.0.2 in let is = l.invariant.2 in let long = l.invariant.3 in let a = s.requires.1 in (rw (length-take, length-drop) (omega (arith, t, is, room, long)), (a.0, a.1, rw c.before.before.value.ensures (a.2 l.j (omega (arith, t, is)))))
+place-phrase-term-requires : tie.Need-place_phrase_term-requires invariant-loop decreases-loop
+place-phrase-term-requires c κs = let s = c in let l = c.loop-j in let t = c.loop-j-test.true in let room = s.requires.0.0 in let here = s.requires.0.1 in let few = s.requires.0.2 in let is = l.invariant.2 in let long = l.invariant.3 in let a = s.requires.1 in (rw (length-take, length-drop) (omega (arith, t, is, room, long)), (a.0, a.1, rw c.value-leaf.ensures (a.2 l.j (omega (arith, t, is)))))
 
-add-j : tie.Need-overflow-add-j invariant-loop decreases-loop
-add-j c = let s = c.before.before.before.before.before.before.before.before.before.before.before.before.before.before in let l = c.before.before.before.before.before.before.before.loop in let t = c.before.before.before.before.before.before.loop-test.true in let room = s.requires.0.0 in let here = s.requires.0.1 in let few = s.requires.0.2 in let is = l.invariant.2 in let long = l.invariant.3 in omega (arith, t, is, few)
+add-j : tie.Need-overflow_add-j invariant-loop decreases-loop
+add-j c = let s = c in let l = c.loop-j in let t = c.loop-j-test.true in let room = s.requires.0.0 in let here = s.requires.0.1 in let few = s.requires.0.2 in let is = l.invariant.2 in let long = l.invariant.3 in omega (arith, t, is, few)
 
-loop-less : tie.Need-loop-smaller invariant-loop decreases-loop
-loop-less c = omega (arith, c.before.before.before.before.before.before.loop-test.true)
+loop-less : tie.Need-loop-j-smaller invariant-loop decreases-loop
+loop-less c = omega (arith, c.loop-j-test.true)
 
-loop-again : tie.Need-loop-preserved invariant-loop decreases-loop
-loop-again c = let s = c.before.before.before.before.before.before.before.before.before.before.before.before.before.before in let l = c.before.before.before.before.before.before.before.loop in let t = c.before.before.before.before.before.before.loop-test.true in let room = s.requires.0.0 in let here = s.requires.0.1 in let few = s.requires.0.2 in let is = l.invariant.2 in let long = l.invariant.3 in let k = c.before.before.place-phrase-term in let out = k.new.0 in let part = take (length l.st - nodeStateWords * l.j) (drop (nodeStateWords * l.j) l.st) in (λ ix e. terms-more ix s.args.q.now s.args.at l.st out part (post_of (nodeStateWords * l.j) (length l.st - nodeStateWords * l.j) l.st) l.j c.before.before.before.before.before.value.result c.before.before.before.before.value2.result (omega (arith, t, is, room, long)) c.before.before.before.before.before.value.ensures c.before.before.before.before.value2.ensures (k.ensures ix e) (l.invariant.0 ix e), omega (arith, t), is, same_len_mid (nodeStateWords * l.j) (length l.st - nodeStateWords * l.j) l.st out k.auto.0 ∙ long)
+loop-again : tie.Need-loop-j-preserved invariant-loop decreases-loop
+loop-again c = let s = c in let l = c.loop-j in let t = c.loop-j-test.true in let room = s.requires.0.0 in let here = s.requires.0.1 in let few = s.requires.0.2 in let is = l.invariant.2 in let long = l.invariant.3 in let k = c.place_phrase_term in let out = k.new.st in let part = take (length l.st - nodeStateWords * l.j) (drop (nodeStateWords * l.j) l.st) in (λ ix e. terms-more ix s.args.q.now s.args.at l.st out part (post_of (nodeStateWords * l.j) (length l.st - nodeStateWords * l.j) l.st) l.j c.value-leaf.result c.value-offset.result (omega (arith, t, is, room, long)) c.value-leaf.ensures c.value-offset.ensures (k.ensures ix e) (l.invariant.0 ix e), omega (arith, t), is, same_len_mid (nodeStateWords * l.j) (length l.st - nodeStateWords * l.j) l.st out k.auto.st ∙ long)
 
-same_length : tie.Need-same-length invariant-loop decreases-loop
-same_length c = c.before.loop.invariant.3
+same_length : tie.Need-shape_of-st invariant-loop decreases-loop
+same_length c = c.loop-j.invariant.3
 
 returns : tie.Need-returns invariant-loop decreases-loop
-returns c = let s = c.before.before.before.before.before.before.before.before in let l = c.before.loop in (λ ix e. terms-all ix s.args.q.now s.args.at l.st l.j 0 (omega (arith, l.invariant.1, l.invariant.2, c.loop-test.false)) (l.invariant.0 ix e), l.invariant.3)
+returns c = let s = c in let l = c.loop-j in (λ ix e. terms-all ix s.args.q.now s.args.at l.st l.j 0 (omega (arith, l.invariant.1, l.invariant.2, c.loop-j-test.false)) (l.invariant.0 ix e), l.invariant.3)
 
-pub place-terms-spec : {M : Type 1} → statement M
-place-terms-spec =
+pub place_terms_spec : {M : Type 1} → statement M
+place_terms_spec =
     tie.close
     (tie.spec
     invariant-loop

@@ -9,11 +9,11 @@ use Rattle.node_words.proofs.place.scored_by.Tie as tie
 weight-requires : tie.Need-weight-requires
 weight-requires c κs = search rules
 
-returns : tie.Need-returns
+returns : tie.Need-returns-then-fixed
 returns c = search rules
 
-returns-2 : tie.Need-returns-2
-returns-2 c = rw c.before.if1.false c.weight.ensures
+returns-2 : tie.Need-returns-else-fixed
+returns-2 c = rw c.if-fixed.false c.weight.ensures
 
-pub scored-by-spec : {M : Type 1} → statement M
-scored-by-spec = tie.close (tie.spec weight-requires returns returns-2)
+pub scored_by_spec : {M : Type 1} → statement M
+scored_by_spec = tie.close (tie.spec weight-requires returns returns-2)

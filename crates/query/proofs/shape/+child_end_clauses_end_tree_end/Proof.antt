@@ -127,7 +127,7 @@ clauses-end-add-next : (t : ℕ) → clauses-end-lts.Need-overflow_add-next (cla
 clauses-end-add-next t c = search rules
 
 clauses-end-loop-holds : (t : ℕ) → clauses-end-lts.Need-loop-left-init (clauses-end-calls t) (clauses-end-at t) clauses-end.Post clauses-end-Inv-loop clauses-end-μ-loop
-clauses-end-loop-holds t c = rw c.children.ensures
+clauses-end-loop-holds t c = rw c.children-left.ensures
 
 clauses-end-record-count-requires : (t : ℕ) → clauses-end-lts.Need-record_count-requires (clauses-end-calls t) (clauses-end-at t) clauses-end.Post clauses-end-Inv-loop clauses-end-μ-loop
 clauses-end-record-count-requires t c κs = search rules
@@ -143,7 +143,7 @@ clauses-end-occurrence-requires t c κs = search rules
 clauses-end-returns-3 : (t : ℕ) → clauses-end-lts.Need-returns-then-o-eq0 (clauses-end-calls t) (clauses-end-at t) clauses-end.Post clauses-end-Inv-loop clauses-end-μ-loop
 clauses-end-returns-3 t c =
     let s = c in let q = s.args.q.now in let at = s.args.at in let depth = s.args.depth in
-    fit-zero aBoolean q at _ (sym (ap endOfClauses (clause-unknown q depth c.loop-left.left c.loop-left.next (omega arith) (ap occurOf (sym c.occurrence.ensures ∙ c.if-occurrence-ne0.true)))) ∙ c.loop-left.invariant)
+    fit-zero aBoolean q at _ (sym (ap endOfClauses (clause-unknown q depth c.loop-left.left c.loop-left.next (omega arith) (ap occurOf (sym c.occurrence-o.ensures ∙ c.if-o-eq0.true)))) ∙ c.loop-left.invariant)
 
 clauses-end-returns-4 : (t : ℕ) → clauses-end-lts.Need-returns-then-o-gt4 (clauses-end-calls t) (clauses-end-at t) clauses-end.Post clauses-end-Inv-loop clauses-end-μ-loop
 clauses-end-returns-4 t c =
@@ -156,7 +156,7 @@ clauses-end-tree-end-requires t c κs = search rules
 clauses-end-returns-5 : (t : ℕ) → clauses-end-lts.Need-returns-then-next-eq0 (clauses-end-calls t) (clauses-end-at t) clauses-end.Post clauses-end-Inv-loop clauses-end-μ-loop
 clauses-end-returns-5 t c =
     let s = c in let q = s.args.q.now in let at = s.args.at in let depth = s.args.depth in
-    fit-zero aBoolean q at _ (sym (ap endOfClauses (clause-none q depth c.loop-left.left c.loop-left.next (omega arith) (end-zero q depth c.loop-left.next (sym c.tree_end.ensures ∙ c.if-next-eq0.true)))) ∙ c.loop-left.invariant)
+    fit-zero aBoolean q at _ (sym (ap endOfClauses (clause-none q depth c.loop-left.left c.loop-left.next (omega arith) (end-zero q depth c.loop-left.next (sym c.tree_end-next.ensures ∙ c.if-next-eq0.true)))) ∙ c.loop-left.invariant)
 
 clauses-end-sub-left : (t : ℕ) → clauses-end-lts.Need-overflow_sub-left (clauses-end-calls t) (clauses-end-at t) clauses-end.Post clauses-end-Inv-loop clauses-end-μ-loop
 clauses-end-sub-left t c = search rules
@@ -167,8 +167,8 @@ clauses-end-loop-less t c = search rules
 clauses-end-loop-again : (t : ℕ) → clauses-end-lts.Need-loop-left-preserved (clauses-end-calls t) (clauses-end-at t) clauses-end.Post clauses-end-Inv-loop clauses-end-μ-loop
 clauses-end-loop-again t c =
     let s = c in let q = s.args.q.now in let depth = s.args.depth in
-    let o = occur-known (recordOccurrence q c.loop-left.next) (λ e. c.if-occurrence-ne0.false (c.occurrence.ensures ∙ e)) (omega arith) in
-    clause-more q depth c.loop-left.left c.loop-left.next c.tree_end.result o.0 (omega arith) o.1 c.tree_end.ensures c.if-next-eq0.false ∙ c.loop-left.invariant
+    let o = occur-known (recordOccurrence q c.loop-left.next) (λ e. c.if-o-eq0.false (c.occurrence-o.ensures ∙ e)) (omega arith) in
+    clause-more q depth c.loop-left.left c.loop-left.next c.tree_end-next.result o.0 (omega arith) o.1 c.tree_end-next.ensures c.if-next-eq0.false ∙ c.loop-left.invariant
 
 clauses-end-returns-6 : (t : ℕ) → clauses-end-lts.Need-returns (clauses-end-calls t) (clauses-end-at t) clauses-end.Post clauses-end-Inv-loop clauses-end-μ-loop
 clauses-end-returns-6 t c =
@@ -178,7 +178,7 @@ clauses-end-returns-6 t c =
 tree-end-returns : (t : ℕ) → tree-end-lts.Need-returns-then-depth-eq0 (tree-end-calls t) (tree-end-at t) tree-end.Post
 tree-end-returns t c =
     let s = c in let q = s.args.q.now in let at = s.args.at in let depth = s.args.depth in
-    end-root q at depth c.if-children-ne1.true
+    end-root q at depth c.if-depth-eq0.true
 
 tree-end-record-count-requires : (t : ℕ) → tree-end-lts.Need-record_count-requires (tree-end-calls t) (tree-end-at t) tree-end.Post
 tree-end-record-count-requires t c κs = search rules
@@ -230,47 +230,47 @@ tree-end-leaf-end-requires-4 t c κs = search rules
 tree-end-returns-3 : (t : ℕ) → tree-end-lts.Need-returns-in-1 (tree-end-calls t) (tree-end-at t) tree-end.Post
 tree-end-returns-3 t c =
     let s = c in let q = s.args.q.now in let at = s.args.at in let depth = s.args.depth in
-    c.leaf_end.ensures ∙ end-term q at depth c.if-children-ne1.false (omega arith) (sym c.kind.ensures ∙ c.in-1.keys1)
+    c.leaf_end.ensures ∙ end-term q at depth c.if-depth-eq0.false (omega arith) (sym c.kind.ensures ∙ c.in-1.is)
 
 tree-end-returns-4 : (t : ℕ) → tree-end-lts.Need-returns-in-2 (tree-end-calls t) (tree-end-at t) tree-end.Post
 tree-end-returns-4 t c =
     let s = c in let q = s.args.q.now in let at = s.args.at in let depth = s.args.depth in
-    c.phrase_end.ensures ∙ end-phrase q at depth c.if-children-ne1.false (omega arith) (sym c.kind.ensures ∙ c.in-1.keys2)
+    c.phrase_end.ensures ∙ end-phrase q at depth c.if-depth-eq0.false (omega arith) (sym c.kind.ensures ∙ c.in-2.is)
 
 tree-end-returns-5 : (t : ℕ) → tree-end-lts.Need-returns-in-3 (tree-end-calls t) (tree-end-at t) tree-end.Post
 tree-end-returns-5 t c =
     let s = c in let q = s.args.q.now in let at = s.args.at in let depth = s.args.depth in
-    c.clauses_end.ensures ∙ end-clauses q at depth c.if-children-ne1.false (omega arith) (sym c.kind.ensures ∙ c.in-1.keys3)
+    c.clauses_end.ensures ∙ end-clauses q at depth c.if-depth-eq0.false (omega arith) (sym c.kind.ensures ∙ c.in-3.is)
 
 tree-end-returns-6 : (t : ℕ) → tree-end-lts.Need-returns-in-4 (tree-end-calls t) (tree-end-at t) tree-end.Post
 tree-end-returns-6 t c =
     let s = c in let q = s.args.q.now in let at = s.args.at in let depth = s.args.depth in
-    c.leaf_end-in-4.ensures ∙ end-range q at depth c.if-children-ne1.false (omega arith) (sym c.kind.ensures ∙ c.in-1.keys4)
+    c.leaf_end-in-4.ensures ∙ end-range q at depth c.if-depth-eq0.false (omega arith) (sym c.kind.ensures ∙ c.in-4.is)
 
 tree-end-returns-7 : (t : ℕ) → tree-end-lts.Need-returns-in-5 (tree-end-calls t) (tree-end-at t) tree-end.Post
 tree-end-returns-7 t c =
     let s = c in let q = s.args.q.now in let at = s.args.at in let depth = s.args.depth in
-    c.leaf_end-in-5.ensures ∙ end-all q at depth c.if-children-ne1.false (omega arith) (sym c.kind.ensures ∙ c.in-1.keys5)
+    c.leaf_end-in-5.ensures ∙ end-all q at depth c.if-depth-eq0.false (omega arith) (sym c.kind.ensures ∙ c.in-5.is)
 
 tree-end-returns-8 : (t : ℕ) → tree-end-lts.Need-returns-in-6 (tree-end-calls t) (tree-end-at t) tree-end.Post
 tree-end-returns-8 t c =
     let s = c in let q = s.args.q.now in let at = s.args.at in let depth = s.args.depth in
-    c.child_end.ensures ∙ end-constant q at depth c.if-children-ne1.false (omega arith) (sym c.kind.ensures ∙ c.in-1.keys6)
+    c.child_end.ensures ∙ end-constant q at depth c.if-depth-eq0.false (omega arith) (sym c.kind.ensures ∙ c.in-6.is)
 
 tree-end-returns-9 : (t : ℕ) → tree-end-lts.Need-returns-in-7 (tree-end-calls t) (tree-end-at t) tree-end.Post
 tree-end-returns-9 t c =
     let s = c in let q = s.args.q.now in let at = s.args.at in let depth = s.args.depth in
-    c.child_end-in-7.ensures ∙ end-boost q at depth c.if-children-ne1.false (omega arith) (sym c.kind.ensures ∙ c.in-1.keys7)
+    c.child_end-in-7.ensures ∙ end-boost q at depth c.if-depth-eq0.false (omega arith) (sym c.kind.ensures ∙ c.in-7.is)
 
 tree-end-returns-10 : (t : ℕ) → tree-end-lts.Need-returns-in-8 (tree-end-calls t) (tree-end-at t) tree-end.Post
 tree-end-returns-10 t c =
     let s = c in let q = s.args.q.now in let at = s.args.at in let depth = s.args.depth in
-    c.leaf_end-in-8.ensures ∙ end_none q at depth c.if-children-ne1.false (omega arith) (sym c.kind.ensures ∙ c.in-1.keys8)
+    c.leaf_end-in-8.ensures ∙ end_none q at depth c.if-depth-eq0.false (omega arith) (sym c.kind.ensures ∙ c.in-8.is)
 
 tree-end-returns-11 : (t : ℕ) → tree-end-lts.Need-returns-in_default (tree-end-calls t) (tree-end-at t) tree-end.Post
 tree-end-returns-11 t c =
     let s = c in let q = s.args.q.now in let at = s.args.at in let depth = s.args.depth in
-    let no = c.in-1.rest in let is = c.kind.ensures in
+    let no = c.in_default.in_default-own.rest in let is = c.kind.ensures in
     end-other q at depth (λ e. no.0.0.0.0.0.0.0.1 (is ∙ e)) (λ e. no.0.0.0.0.0.0.1 (is ∙ e)) (λ e. no.0.0.0.0.0.1 (is ∙ e)) (λ e. no.0.0.0.0.1 (is ∙ e)) (λ e. no.0.0.0.1 (is ∙ e)) (λ e. no.0.0.1 (is ∙ e)) (λ e. no.0.1 (is ∙ e)) (λ e. no.1 (is ∙ e))
 
 pub +child_end_clauses_end_tree_end_spec : {M : Type 1} → statement M

@@ -5,7 +5,6 @@ use mathlib.Core.Path.{◌≡◌, sym, ◌∙◌}
 use mathlib.Core.Bool.{true}
 use native.Mathlib.Omega.{arith}
 use borrow.Author.Count.{below_more}
-use borrow.Author.Tests.{not-true, not-false}
 use Rattle.meaning.specs.Query.{aPhrase, recordChildren, isPhraseTerm}
 use Rattle.query.proofs.Steps.{phrase-shallow, phrase-missing, phrase-wrong, phrase-right, fit-no, fit-zero, fit-yes, terms-fit, no-terms, many-terms, one_less}
 use Rattle.query.proofs.shape.phrase_end.Statement.{statement}
@@ -67,7 +66,7 @@ is-phrase-term-requires c κs = search rules
 returns-5 : tie.Need-returns-then-not-is_phrase_term invariant-loop decreases-loop
 returns-5 c =
     let s = c in let q = s.args.q.now in let at = s.args.at in let depth = s.args.depth in
-    fit-zero aPhrase q at _ (phrase-wrong q at depth c.loop-j.j (omega arith) (sym c.is_phrase_term.ensures ∙ not-true _ c.if-not-is_phrase_term.true))
+    fit-zero aPhrase q at _ (phrase-wrong q at depth c.loop-j.j (omega arith) (sym c.is_phrase_term.ensures ∙ c.if-not-is_phrase_term.true))
 
 add-j : tie.Need-overflow_add-j invariant-loop decreases-loop
 add-j c = search rules
@@ -76,7 +75,7 @@ loop-less : tie.Need-loop-j-smaller invariant-loop decreases-loop
 loop-less c = search rules
 
 loop-again : tie.Need-loop-j-preserved invariant-loop decreases-loop
-loop-again c = (omega arith, below_more _ _ c.loop-j.invariant.1 (sym c.is_phrase_term.ensures ∙ not-false _ c.if-not-is_phrase_term.false))
+loop-again c = (omega arith, below_more _ _ c.loop-j.invariant.1 (sym c.is_phrase_term.ensures ∙ c.if-not-is_phrase_term.false))
 
 add-result : tie.Need-overflow_add-result invariant-loop decreases-loop
 add-result c = search rules

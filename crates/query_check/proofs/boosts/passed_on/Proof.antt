@@ -3,20 +3,20 @@ use Rattle.query.proofs.Above.{passed-must, passed-should, passed_none}
 use Rattle.query_check.proofs.boosts.passed_on.Statement.{statement}
 use Rattle.query_check.proofs.boosts.passed_on.Tie as tie
 
-returns : tie.Need-returns
+returns : tie.Need-returns-then-o-eq1
 returns c =
-    let s = c.before in let o = s.args.o in let boost = s.args.boost in
-    λ x e. passed-must o boost x c.if1.true e
+    let s = c in let o = s.args.o in let boost = s.args.boost in
+    λ x e. passed-must o boost x c.if-o-eq1.true e
 
-returns-2 : tie.Need-returns-2
+returns-2 : tie.Need-returns-then-o-eq2
 returns-2 c =
-    let s = c.before.before in let o = s.args.o in let boost = s.args.boost in
-    λ x e. passed-should o boost x c.if2.true e
+    let s = c in let o = s.args.o in let boost = s.args.boost in
+    λ x e. passed-should o boost x c.if-o-eq2.true e
 
-returns-3 : tie.Need-returns-3
+returns-3 : tie.Need-returns
 returns-3 c =
-    let s = c.before.before in let o = s.args.o in let boost = s.args.boost in
-    λ x e. passed_none o boost x c.before.if1.false c.if2.false e
+    let s = c in let o = s.args.o in let boost = s.args.boost in
+    λ x e. passed_none o boost x c.if-o-eq1.false c.if-o-eq2.false e
 
-pub passed-on-spec : {M : Type 1} → statement M
-passed-on-spec = tie.close (tie.spec returns returns-2 returns-3)
+pub passed_on_spec : {M : Type 1} → statement M
+passed_on_spec = tie.close (tie.spec returns returns-2 returns-3)

@@ -10,53 +10,53 @@ use Rattle.meaning.proofs.Below.{largest-zero, largest-more}
 use Rattle.query_check.proofs.buffers.largest_in.Statement.{statement}
 use Rattle.query_check.proofs.buffers.largest_in.Tie as tie
 
-abbrev invariant-loop : tie.invariant-loop
+abbrev invariant-loop : tie.invariant-loop-i
 invariant-loop postings first number largest₀ i₀ largest i = (i ≤ number) × (largest ≡ largestBelow i (λ k. get_or postings (3 * (first + k) + 1) 0))
 
-abbrev decreases-loop : tie.decreases-loop
+abbrev decreases-loop : tie.decreases-loop-i
 decreases-loop postings first number largest₀ i₀ largest i = number - i
 
-loop-holds : tie.Need-loop-init invariant-loop decreases-loop
+loop-holds : tie.Need-loop-i-init invariant-loop decreases-loop
 loop-holds c =
-    let s = c.before in let postings = s.args.postings.now in let first = s.args.first in
+    let s = c in let postings = s.args.postings.now in let first = s.args.first in
     (omega arith, sym (largest-zero (λ k. get_or postings (3 * (first + k) + 1) 0)))
 
-add-larger : tie.Need-overflow-add-larger invariant-loop decreases-loop
+add-larger : tie.Need-overflow_add-first invariant-loop decreases-loop
 add-larger c = search rules
 
-mul-larger : tie.Need-overflow-mul-larger invariant-loop decreases-loop
+mul-larger : tie.Need-overflow_mul-first invariant-loop decreases-loop
 mul-larger c = search rules
 
-add-larger-2 : tie.Need-overflow-add-larger-2 invariant-loop decreases-loop
+add-larger-2 : tie.Need-overflow_add-first-in-loop-i invariant-loop decreases-loop
 add-larger-2 c = search rules
 
-mul-larger-2 : tie.Need-overflow-mul-larger-2 invariant-loop decreases-loop
+mul-larger-2 : tie.Need-offset_bounds-postings-first invariant-loop decreases-loop
 mul-larger-2 c = search rules
 
-shared-slice-read-larger : tie.Need-shared-slice-read-larger invariant-loop decreases-loop
+shared-slice-read-larger : tie.Need-bounds-postings-first invariant-loop decreases-loop
 shared-slice-read-larger c = search rules
 
-larger-requires : tie.Need-larger-requires invariant-loop decreases-loop
+larger-requires : tie.Need-larger-largest-requires invariant-loop decreases-loop
 larger-requires c κs = search rules
 
-add-i : tie.Need-overflow-add-i invariant-loop decreases-loop
+add-i : tie.Need-overflow_add-i invariant-loop decreases-loop
 add-i c = search rules
 
-loop-less : tie.Need-loop-smaller invariant-loop decreases-loop
+loop-less : tie.Need-loop-i-smaller invariant-loop decreases-loop
 loop-less c = search rules
 
-loop-again : tie.Need-loop-preserved invariant-loop decreases-loop
+loop-again : tie.Need-loop-i-preserved invariant-loop decreases-loop
 loop-again c =
-    let s = c.before.before.before.before.before in let postings = s.args.postings.now in let first = s.args.first in
-    (omega arith, c.larger.ensures ∙ ap (λ (z : ℕ). max z (get_or postings (3 * (first + c.before.before.before.loop.i) + 1) 0)) c.before.before.before.loop.invariant.1 ∙ sym (largest-more c.before.before.before.loop.i (λ k. get_or postings (3 * (first + k) + 1) 0)))
+    let s = c in let postings = s.args.postings.now in let first = s.args.first in
+    (omega arith, c.larger-largest.ensures ∙ ap (λ (z : ℕ). max z (get_or postings (3 * (first + c.loop-i.i) + 1) 0)) c.loop-i.invariant.1 ∙ sym (largest-more c.loop-i.i (λ k. get_or postings (3 * (first + k) + 1) 0)))
 
 returns : tie.Need-returns invariant-loop decreases-loop
 returns c =
-    let s = c.before.before.before in let postings = s.args.postings.now in let first = s.args.first in let number = s.args.number in
-    c.before.loop.invariant.1 ∙ ap (λ (z : ℕ). largestBelow z (λ k. get_or postings (3 * (first + k) + 1) 0)) (le_antisymm {n = c.before.loop.i} {m = number} c.before.loop.invariant.0 c.loop-test.false)
+    let s = c in let postings = s.args.postings.now in let first = s.args.first in let number = s.args.number in
+    c.loop-i.invariant.1 ∙ ap (λ (z : ℕ). largestBelow z (λ k. get_or postings (3 * (first + k) + 1) 0)) (le_antisymm {n = c.loop-i.i} {m = number} c.loop-i.invariant.0 c.loop-i-test.false)
 
-pub largest-in-spec : {M : Type 1} → statement M
-largest-in-spec =
+pub largest_in_spec : {M : Type 1} → statement M
+largest_in_spec =
     tie.close
     (tie.spec
     invariant-loop

@@ -9,15 +9,15 @@ use Rattle.query_check.proofs.buffers.one_range.Tie as tie
 kind-requires : tie.Need-kind-requires
 kind-requires c κs = search rules
 
-returns : tie.Need-returns
+returns : tie.Need-returns-then-kind-eq4
 returns c =
-    let s = c.before.before.before in let q = s.args.q.now in let at = s.args.at in
-    rw (eq-eqb (recordKind q at) 4 (sym c.before.kind.ensures ∙ c.if1.true))
+    let s = c in let q = s.args.q.now in let at = s.args.at in
+    rw (eq-eqb (recordKind q at) 4 (sym c.kind.ensures ∙ c.if-kind-eq4.true))
 
-returns-2 : tie.Need-returns-2
+returns-2 : tie.Need-returns-else-kind-eq4
 returns-2 c =
-    let s = c.before.before.before in let q = s.args.q.now in let at = s.args.at in
-    rw (ne_eqb (recordKind q at) 4 (λ e. c.if1.false (c.before.kind.ensures ∙ e)))
+    let s = c in let q = s.args.q.now in let at = s.args.at in
+    rw (ne_eqb (recordKind q at) 4 (λ e. c.if-kind-eq4.false (c.kind.ensures ∙ e)))
 
-pub one-range-spec : {M : Type 1} → statement M
-one-range-spec = tie.close (tie.spec kind-requires returns returns-2)
+pub one_range_spec : {M : Type 1} → statement M
+one_range_spec = tie.close (tie.spec kind-requires returns returns-2)

@@ -12,47 +12,47 @@ use Rattle.meaning.proofs.Below.{count-zero, count-more, cond-le}
 use Rattle.query_check.proofs.buffers.range_records.Statement.{statement}
 use Rattle.query_check.proofs.buffers.range_records.Tie as tie
 
-abbrev invariant-loop : tie.invariant-loop
+abbrev invariant-loop : tie.invariant-loop-at
 invariant-loop q count found₀ at₀ found at = (at ≤ count) × (found ≡ countBelow at (λ r. eqb (recordKind q r) 4)) × (found ≤ at)
 
-abbrev decreases-loop : tie.decreases-loop
+abbrev decreases-loop : tie.decreases-loop-at
 decreases-loop q count found₀ at₀ found at = count - at
 
-record-count-requires : tie.Need-record-count-requires invariant-loop decreases-loop
+record-count-requires : tie.Need-record_count-count-requires invariant-loop decreases-loop
 record-count-requires c κs = search rules
 
-loop-holds : tie.Need-loop-init invariant-loop decreases-loop
+loop-holds : tie.Need-loop-at-init invariant-loop decreases-loop
 loop-holds c =
-    let s = c.before.before in let q = s.args.q.now in
+    let s = c in let q = s.args.q.now in
     (omega arith, sym (count-zero (λ r. eqb (recordKind q r) 4)), omega arith)
 
-one-range-requires : tie.Need-one-range-requires invariant-loop decreases-loop
+one-range-requires : tie.Need-one_range-found-requires invariant-loop decreases-loop
 one-range-requires c κs = search rules
 
-add-found : tie.Need-overflow-add-found invariant-loop decreases-loop
+add-found : tie.Need-overflow_add-found invariant-loop decreases-loop
 add-found c =
-    let s = c.before.before.before.before.before in let q = s.args.q.now in
-    omega (arith, c.one-range.ensures, cond-le (eqb (recordKind q c.before.before.loop.at) 4))
+    let s = c in let q = s.args.q.now in
+    omega (arith, c.one_range-found.ensures, cond-le (eqb (recordKind q c.loop-at.at) 4))
 
-add_at : tie.Need-overflow-add-at invariant-loop decreases-loop
+add_at : tie.Need-overflow_add-at invariant-loop decreases-loop
 add_at c = search rules
 
-loop-less : tie.Need-loop-smaller invariant-loop decreases-loop
+loop-less : tie.Need-loop-at-smaller invariant-loop decreases-loop
 loop-less c = search rules
 
-loop-again : tie.Need-loop-preserved invariant-loop decreases-loop
+loop-again : tie.Need-loop-at-preserved invariant-loop decreases-loop
 loop-again c =
-    let s = c.before.before.before.before.before in let q = s.args.q.now in
-    (omega arith, rw (count-more c.before.before.loop.at (λ r. eqb (recordKind q r) 4), ← c.before.before.loop.invariant.1, ← c.one-range.ensures), omega (arith, c.before.before.loop.invariant.2, c.one-range.ensures, cond-le (eqb (recordKind q c.before.before.loop.at) 4)))
+    let s = c in let q = s.args.q.now in
+    (omega arith, rw (count-more c.loop-at.at (λ r. eqb (recordKind q r) 4), ← c.loop-at.invariant.1, ← c.one_range-found.ensures), omega (arith, c.loop-at.invariant.2, c.one_range-found.ensures, cond-le (eqb (recordKind q c.loop-at.at) 4)))
 
 returns : tie.Need-returns invariant-loop decreases-loop
 unfolding rangeRecords
 returns c =
-    let s = c.before.before.before.before in let q = s.args.q.now in
-    c.before.loop.invariant.1 ∙ ap (λ (z : ℕ). countBelow z (λ r. eqb (recordKind q r) 4)) (le_antisymm {n = c.before.loop.at} {m = c.before.before.record-count.result} c.before.loop.invariant.0 c.loop-test.false ∙ c.before.before.record-count.ensures)
+    let s = c in let q = s.args.q.now in
+    c.loop-at.invariant.1 ∙ ap (λ (z : ℕ). countBelow z (λ r. eqb (recordKind q r) 4)) (le_antisymm {n = c.loop-at.at} {m = c.record_count-count.result} c.loop-at.invariant.0 c.loop-at-test.false ∙ c.record_count-count.ensures)
 
-pub range-records-spec : {M : Type 1} → statement M
-range-records-spec =
+pub range_records_spec : {M : Type 1} → statement M
+range_records_spec =
     tie.close
     (tie.spec
     invariant-loop

@@ -11,46 +11,46 @@ use Rattle.query_check.proofs.Needs.{startsAt, starts-all}
 use Rattle.query_check.proofs.buffers.starts_needed.Statement.{statement}
 use Rattle.query_check.proofs.buffers.starts_needed.Tie as tie
 
-abbrev invariant-loop : tie.invariant-loop
+abbrev invariant-loop : tie.invariant-loop-at
 invariant-loop q leaves postings count needed₀ at₀ needed at = (at ≤ count) × ((ix : Index) → ix.leaves ≡ leaves → ix.postings ≡ postings → needed ≡ largestBelow at (startsAt ix q))
 
-abbrev decreases-loop : tie.decreases-loop
+abbrev decreases-loop : tie.decreases-loop-at
 decreases-loop q leaves postings count needed₀ at₀ needed at = count - at
 
-record-count-requires : tie.Need-record-count-requires invariant-loop decreases-loop
+record-count-requires : tie.Need-record_count-count-requires invariant-loop decreases-loop
 record-count-requires c κs = search rules
 
-loop-holds : tie.Need-loop-init invariant-loop decreases-loop
+loop-holds : tie.Need-loop-at-init invariant-loop decreases-loop
 loop-holds c =
-    let s = c.before.before.before.before in let q = s.args.q.now in
+    let s = c in let q = s.args.q.now in
     (omega arith, λ ix l p. sym (largest-zero (startsAt ix q)))
 
-term-starts-requires : tie.Need-term-starts-requires invariant-loop decreases-loop
+term-starts-requires : tie.Need-term_starts-requires invariant-loop decreases-loop
 term-starts-requires c κs =
-    let s = c.before.before.before.before.before.before in
+    let s = c in
     (s.requires, omega arith)
 
-larger-requires : tie.Need-larger-requires invariant-loop decreases-loop
+larger-requires : tie.Need-larger-needed-requires invariant-loop decreases-loop
 larger-requires c κs = search rules
 
-add_at : tie.Need-overflow-add-at invariant-loop decreases-loop
+add_at : tie.Need-overflow_add-at invariant-loop decreases-loop
 add_at c = search rules
 
-loop-less : tie.Need-loop-smaller invariant-loop decreases-loop
+loop-less : tie.Need-loop-at-smaller invariant-loop decreases-loop
 loop-less c = search rules
 
-loop-again : tie.Need-loop-preserved invariant-loop decreases-loop
+loop-again : tie.Need-loop-at-preserved invariant-loop decreases-loop
 loop-again c =
-    let s = c.before.before.before.before.before.before.before.before in let q = s.args.q.now in
-    (omega arith, λ ix l p. rw (largest-more c.before.before.before.loop.at (startsAt ix q), ← c.before.before.before.loop.invariant.1 ix l p, ← c.before.term-starts.ensures ix l p) c.larger.ensures)
+    let s = c in let q = s.args.q.now in
+    (omega arith, λ ix l p. rw (largest-more c.loop-at.at (startsAt ix q), ← c.loop-at.invariant.1 ix l p, ← c.term_starts.ensures ix l p) c.larger-needed.ensures)
 
 returns : tie.Need-returns invariant-loop decreases-loop
 returns c =
-    let s = c.before.before.before.before.before.before in let q = s.args.q.now in
-    λ ix l p. c.before.loop.invariant.1 ix l p ∙ starts-all ix q c.before.loop.at (le_antisymm {n = c.before.loop.at} {m = c.before.before.record-count.result} c.before.loop.invariant.0 c.loop-test.false ∙ c.before.before.record-count.ensures)
+    let s = c in let q = s.args.q.now in
+    λ ix l p. c.loop-at.invariant.1 ix l p ∙ starts-all ix q c.loop-at.at (le_antisymm {n = c.loop-at.at} {m = c.record_count-count.result} c.loop-at.invariant.0 c.loop-at-test.false ∙ c.record_count-count.ensures)
 
-pub starts-needed-spec : {M : Type 1} → statement M
-starts-needed-spec =
+pub starts_needed_spec : {M : Type 1} → statement M
+starts_needed_spec =
     tie.close
     (tie.spec
     invariant-loop

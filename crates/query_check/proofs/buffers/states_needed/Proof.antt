@@ -7,15 +7,15 @@ use borrow.Author.Rules.{rules}
 use Rattle.query_check.proofs.buffers.states_needed.Statement.{statement}
 use Rattle.query_check.proofs.buffers.states_needed.Tie as tie
 
-record-count-requires : tie.Need-record-count-requires
+record-count-requires : tie.Need-record_count-requires
 record-count-requires c κs = search rules
 
-mul-result : tie.Need-overflow-mul-result
+mul-result : tie.Need-overflow_mul-result
 mul-result c = search rules
 
 returns : tie.Need-returns
 unfolding statesNeeded
-returns c = ap (λ (z : ℕ). nodeStateWords * z) c.record-count.ensures
+returns c = ap (λ (z : ℕ). nodeStateWords * z) c.record_count.ensures
 
-pub states-needed-spec : {M : Type 1} → statement M
-states-needed-spec = tie.close (tie.spec record-count-requires mul-result returns)
+pub states_needed_spec : {M : Type 1} → statement M
+states_needed_spec = tie.close (tie.spec record-count-requires mul-result returns)

@@ -11,44 +11,44 @@ use Rattle.query_check.proofs.Records.{some-positions, no-positions}
 use Rattle.query_check.proofs.positions.wrong_positions.Statement.{statement}
 use Rattle.query_check.proofs.positions.wrong_positions.Tie as tie
 
-abbrev invariant-loop : tie.invariant-loop
+abbrev invariant-loop : tie.invariant-loop-at
 invariant-loop q fields count at₀ at = (at ≤ count) × ((i : ℕ) → i < at → withoutPositions fields q i ≡ false)
 
-abbrev decreases-loop : tie.decreases-loop
+abbrev decreases-loop : tie.decreases-loop-at
 decreases-loop q fields count at₀ at = count - at
 
-record-count-requires : tie.Need-record-count-requires invariant-loop decreases-loop
+record-count-requires : tie.Need-record_count-count-requires invariant-loop decreases-loop
 record-count-requires c κs = search rules
 
-loop-holds : tie.Need-loop-init invariant-loop decreases-loop
+loop-holds : tie.Need-loop-at-init invariant-loop decreases-loop
 loop-holds c = (omega arith, λ i h. absurd (omega (arith, h)))
 
-without-positions-requires : tie.Need-without-positions-requires invariant-loop decreases-loop
+without-positions-requires : tie.Need-without_positions-requires invariant-loop decreases-loop
 without-positions-requires c κs =
-    let s = c.before.before.before.before.before in
-    (omega arith, s.requires.present c.before.loop.at (omega arith))
+    let s = c in
+    (omega arith, s.requires.present c.loop-at.at (omega arith))
 
-returns : tie.Need-returns invariant-loop decreases-loop
+returns : tie.Need-returns-then-without_positions invariant-loop decreases-loop
 returns c =
-    let s = c.before.before.before.before.before.before.before in let q = s.args.q.now in
-    λ ix are. some-positions ix q c.before.before.before.loop.at (omega arith) (subst (λ (z : List ℕ). true ≡ withoutPositions z q c.before.before.before.loop.at) (sym are) (sym c.if1.true ∙ c.before.without-positions.ensures))
+    let s = c in let q = s.args.q.now in
+    λ ix are. some-positions ix q c.loop-at.at (omega arith) (subst (λ (z : List ℕ). true ≡ withoutPositions z q c.loop-at.at) (sym are) (sym c.if-without_positions.true ∙ c.without_positions.ensures))
 
-add_at : tie.Need-overflow-add-at invariant-loop decreases-loop
+add_at : tie.Need-overflow_add-at invariant-loop decreases-loop
 add_at c = search rules
 
-loop-less : tie.Need-loop-smaller invariant-loop decreases-loop
+loop-less : tie.Need-loop-at-smaller invariant-loop decreases-loop
 loop-less c = search rules
 
-loop-again : tie.Need-loop-preserved invariant-loop decreases-loop
-loop-again c = (omega arith, below_more _ _ c.before.before.before.loop.invariant.1 (sym c.before.without-positions.ensures ∙ c.if1.false))
+loop-again : tie.Need-loop-at-preserved invariant-loop decreases-loop
+loop-again c = (omega arith, below_more _ _ c.loop-at.invariant.1 (sym c.without_positions.ensures ∙ c.if-without_positions.false))
 
-returns-2 : tie.Need-returns-2 invariant-loop decreases-loop
+returns-2 : tie.Need-returns invariant-loop decreases-loop
 returns-2 c =
-    let s = c.before.before.before.before.before in let q = s.args.q.now in
-    λ ix are. no-positions ix q (λ i h. subst (λ (z : List ℕ). withoutPositions z q i ≡ false) (sym are) (c.before.loop.invariant.1 i (omega (arith, h))))
+    let s = c in let q = s.args.q.now in
+    λ ix are. no-positions ix q (λ i h. subst (λ (z : List ℕ). withoutPositions z q i ≡ false) (sym are) (c.loop-at.invariant.1 i (omega (arith, h))))
 
-pub wrong-positions-spec : {M : Type 1} → statement M
-wrong-positions-spec =
+pub wrong_positions_spec : {M : Type 1} → statement M
+wrong_positions_spec =
     tie.close
     (tie.spec
     invariant-loop

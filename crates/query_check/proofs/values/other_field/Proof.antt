@@ -11,65 +11,65 @@ use Rattle.meaning.proofs.Below.{any_none, any_some}
 use Rattle.query_check.proofs.values.other_field.Statement.{statement}
 use Rattle.query_check.proofs.values.other_field.Tie as tie
 
-abbrev invariant-loop : tie.invariant-loop
+abbrev invariant-loop : tie.invariant-loop-j
 invariant-loop q leaves at field terms j₀ j = (j ≤ terms) × ((i : ℕ) → i < j → fieldOther leaves q at i ≡ false)
 
-abbrev decreases-loop : tie.decreases-loop
+abbrev decreases-loop : tie.decreases-loop-j
 decreases-loop q leaves at field terms j₀ j = terms - j
 
-value-requires : tie.Need-value-requires invariant-loop decreases-loop
+value-requires : tie.Need-value-field-requires invariant-loop decreases-loop
 value-requires c κs = search rules
 
 children-requires : tie.Need-children-requires invariant-loop decreases-loop
 children-requires c κs = search rules
 
-wide-requires : tie.Need-wide-requires invariant-loop decreases-loop
+wide-requires : tie.Need-wide-terms-requires invariant-loop decreases-loop
 wide-requires c κs = search rules
 
-loop-holds : tie.Need-loop-init invariant-loop decreases-loop
+loop-holds : tie.Need-loop-j-init invariant-loop decreases-loop
 loop-holds c = (omega arith, λ i h. absurd (omega (arith, h)))
 
-add-value : tie.Need-overflow-add-value invariant-loop decreases-loop
+add-value : tie.Need-overflow_add-at invariant-loop decreases-loop
 add-value c = search rules
 
-add-value-2 : tie.Need-overflow-add-value-2 invariant-loop decreases-loop
+add-value-2 : tie.Need-overflow_add-at-in-loop-j invariant-loop decreases-loop
 add-value-2 c = search rules
 
-value-requires-2 : tie.Need-value-requires-2 invariant-loop decreases-loop
+value-requires-2 : tie.Need-value-requires invariant-loop decreases-loop
 value-requires-2 c κs = search rules
 
-wide-requires-2 : tie.Need-wide-requires-2 invariant-loop decreases-loop
+wide-requires-2 : tie.Need-wide-leaf-requires invariant-loop decreases-loop
 wide-requires-2 c κs = search rules
 
-mul-word-or-zero : tie.Need-overflow-mul-word-or-zero invariant-loop decreases-loop
-mul-word-or-zero c = omega (arith, c.before.value2.type-inv)
+mul-word-or-zero : tie.Need-overflow_mul-leaf invariant-loop decreases-loop
+mul-word-or-zero c = omega (arith, c.value.type_inv)
 
-word-or-zero-requires : tie.Need-word-or-zero-requires invariant-loop decreases-loop
+word-or-zero-requires : tie.Need-word_or_zero-requires invariant-loop decreases-loop
 word-or-zero-requires c κs = search rules
 
-returns : tie.Need-returns invariant-loop decreases-loop
+returns : tie.Need-returns-then-word_or_zero-field invariant-loop decreases-loop
 returns c =
-    let s = c.before.before.before.before.before.before.before.before.before.before.before in let q = s.args.q.now in let at = s.args.at in let leaves = s.args.leaves.now in
-    sym (any_some (recordChildren q at) (fieldOther leaves q at) c.before.before.before.before.before.loop.j (omega arith) (other-other leaves q at c.before.before.before.before.before.loop.j c.before.before.wide2.result (c.before.before.wide2.ensures ∙ c.before.before.before.value2.ensures) (λ e. c.if1.true (c.before.word-or-zero.ensures ∙ e ∙ sym c.before.before.before.before.before.before.before.before.value.ensures))))
+    let s = c in let q = s.args.q.now in let at = s.args.at in let leaves = s.args.leaves.now in
+    sym (any_some (recordChildren q at) (fieldOther leaves q at) c.loop-j.j (omega arith) (other-other leaves q at c.loop-j.j c.wide-leaf.result (c.wide-leaf.ensures ∙ c.value.ensures) (λ e. c.if-word_or_zero-field.true (c.word_or_zero.ensures ∙ e ∙ sym c.value-field.ensures))))
 
-add-j : tie.Need-overflow-add-j invariant-loop decreases-loop
+add-j : tie.Need-overflow_add-j invariant-loop decreases-loop
 add-j c = search rules
 
-loop-less : tie.Need-loop-smaller invariant-loop decreases-loop
+loop-less : tie.Need-loop-j-smaller invariant-loop decreases-loop
 loop-less c = search rules
 
-loop-again : tie.Need-loop-preserved invariant-loop decreases-loop
+loop-again : tie.Need-loop-j-preserved invariant-loop decreases-loop
 loop-again c =
-    let s = c.before.before.before.before.before.before.before.before.before.before.before in let leaves = s.args.leaves.now in let q = s.args.q.now in let at = s.args.at in
-    (omega arith, below_more _ _ c.before.before.before.before.before.loop.invariant.1 (other-same leaves q at c.before.before.before.before.before.loop.j c.before.before.wide2.result (c.before.before.wide2.ensures ∙ c.before.before.before.value2.ensures) (sym c.before.word-or-zero.ensures ∙ c.if1.false ∙ c.before.before.before.before.before.before.before.before.value.ensures)))
+    let s = c in let leaves = s.args.leaves.now in let q = s.args.q.now in let at = s.args.at in
+    (omega arith, below_more _ _ c.loop-j.invariant.1 (other-same leaves q at c.loop-j.j c.wide-leaf.result (c.wide-leaf.ensures ∙ c.value.ensures) (sym c.word_or_zero.ensures ∙ c.if-word_or_zero-field.false ∙ c.value-field.ensures)))
 
-returns-2 : tie.Need-returns-2 invariant-loop decreases-loop
+returns-2 : tie.Need-returns invariant-loop decreases-loop
 returns-2 c =
-    let s = c.before.before.before.before.before.before.before in let q = s.args.q.now in let at = s.args.at in let leaves = s.args.leaves.now in
-    sym (any_none (recordChildren q at) (fieldOther leaves q at) (λ i h. c.before.loop.invariant.1 i (omega (arith, h))))
+    let s = c in let q = s.args.q.now in let at = s.args.at in let leaves = s.args.leaves.now in
+    sym (any_none (recordChildren q at) (fieldOther leaves q at) (λ i h. c.loop-j.invariant.1 i (omega (arith, h))))
 
-pub other-field-spec : {M : Type 1} → statement M
-other-field-spec =
+pub other_field_spec : {M : Type 1} → statement M
+other_field_spec =
     tie.close
     (tie.spec
     invariant-loop

@@ -9,18 +9,18 @@ use Rattle.query_check.proofs.values.wrong_boost_value.Tie as tie
 value-requires : tie.Need-value-requires
 value-requires c κs = search rules
 
-returns : tie.Need-returns
+returns : tie.Need-returns-then-value-gt1199570944
 returns c =
-    let s = c.before.before.before in let q = s.args.q.now in let at = s.args.at in
+    let s = c in let q = s.args.q.now in let at = s.args.at in
     rw (lt-ltb 0x4780_0000 (recordValue q at 0) (omega arith))
 
-unused-from-requires : tie.Need-unused-from-requires
+unused-from-requires : tie.Need-unused_from-requires
 unused-from-requires c κs = search rules
 
-returns-2 : tie.Need-returns-2
+returns-2 : tie.Need-returns
 returns-2 c =
-    let s = c.before.before.before.before in let q = s.args.q.now in let at = s.args.at in
-    rw (le-ltb 0x4780_0000 (recordValue q at 0) (omega arith)) c.unused-from.ensures
+    let s = c in let q = s.args.q.now in let at = s.args.at in
+    rw (le-ltb 0x4780_0000 (recordValue q at 0) (omega arith)) c.unused_from.ensures
 
-pub wrong-boost-value-spec : {M : Type 1} → statement M
-wrong-boost-value-spec = tie.close (tie.spec value-requires returns unused-from-requires returns-2)
+pub wrong_boost_value_spec : {M : Type 1} → statement M
+wrong_boost_value_spec = tie.close (tie.spec value-requires returns unused-from-requires returns-2)

@@ -14,29 +14,29 @@ value-requires c κs = search rules
 wide-requires : tie.Need-wide-requires
 wide-requires c κs = search rules
 
-returns : tie.Need-returns
+returns : tie.Need-returns-then-fields-wide
 returns c =
-    let s = c.before.before.before.before.before.before in let fields = s.args.fields.now in let q = s.args.q.now in let at = s.args.at in
+    let s = c in let fields = s.args.fields.now in let q = s.args.q.now in let at = s.args.at in
     rw (le-leb (length fields / 3) (recordValue q at 0) (omega arith))
 
-unused-from-requires : tie.Need-unused-from-requires
+unused-from-requires : tie.Need-unused_from-requires
 unused-from-requires c κs = search rules
 
-returns-2 : tie.Need-returns-2
+returns-2 : tie.Need-returns-then-unused_from
 returns-2 c =
-    let s = c.before.before.before.before.before.before.before.before in let fields = s.args.fields.now in let q = s.args.q.now in let at = s.args.at in
-    rw (lt-leb (length fields / 3) (recordValue q at 0) (omega arith), ← c.before.unused-from.ensures, c.if2.true)
+    let s = c in let fields = s.args.fields.now in let q = s.args.q.now in let at = s.args.at in
+    rw (lt-leb (length fields / 3) (recordValue q at 0) (omega arith), ← c.unused_from.ensures, c.if-unused_from.true)
 
-other-field-requires : tie.Need-other-field-requires
+other-field-requires : tie.Need-other_field-requires
 other-field-requires c κs = search rules
 
-returns-3 : tie.Need-returns-3
+returns-3 : tie.Need-returns
 returns-3 c =
-    let s = c.before.before.before.before.before.before.before.before.before in let fields = s.args.fields.now in let q = s.args.q.now in let at = s.args.at in
-    rw (lt-leb (length fields / 3) (recordValue q at 0) (omega arith), ← c.before.before.unused-from.ensures, c.before.if2.false) c.other-field.ensures
+    let s = c in let fields = s.args.fields.now in let q = s.args.q.now in let at = s.args.at in
+    rw (lt-leb (length fields / 3) (recordValue q at 0) (omega arith), ← c.unused_from.ensures, c.if-unused_from.false) c.other_field.ensures
 
-pub wrong-phrase-spec : {M : Type 1} → statement M
-wrong-phrase-spec =
+pub wrong_phrase_spec : {M : Type 1} → statement M
+wrong_phrase_spec =
     tie.close
     (tie.spec
     value-requires

@@ -28,18 +28,18 @@ value-requires-6 c κs = search rules
 joined-requires-2 : tie.Need-joined-requires-2
 joined-requires-2 c κs = search rules
 
-wrong-range-requires : tie.Need-wrong-range-requires
+wrong-range-requires : tie.Need-wrong_range-requires
 wrong-range-requires c κs = search rules
 
 returns : tie.Need-returns
 returns c =
-    let six = c.before.before in let four = six.before.before.before in let two = four.before.before in
+    let six = c in let four = six in let two = four in
     λ ix are.
-    rw (wrongRange-of ix, are, ← two.before.value.ensures, ← two.value2.ensures, ← four.before.value3.ensures, ← four.value4.ensures, ← six.before.value5.ensures, ← six.value6.ensures, ← six.before.before.joined.ensures, ← c.before.joined2.ensures)
-    c.wrong-range.ensures
+    rw (wrongRange-of ix, are, ← two.value.ensures, ← two.value-2.ensures, ← four.value-3.ensures, ← four.value-4.ensures, ← six.value-5.ensures, ← six.value-6.ensures, ← six.joined.ensures, ← c.joined-2.ensures)
+    c.wrong_range.ensures
 
-pub wrong-range-record-spec : {M : Type 1} → statement M
-wrong-range-record-spec =
+pub wrong_range_record_spec : {M : Type 1} → statement M
+wrong_range_record_spec =
     tie.close
     (tie.spec
     value-requires

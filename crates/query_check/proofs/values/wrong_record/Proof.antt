@@ -10,89 +10,89 @@ use Rattle.query_check.proofs.values.wrong_record.Tie as tie
 kind-requires : tie.Need-kind-requires
 kind-requires c κs = search rules
 
-wrong-term-requires : tie.Need-wrong-term-requires
+wrong-term-requires : tie.Need-wrong_term-requires
 wrong-term-requires c κs = search rules
 
-wrong-phrase-requires : tie.Need-wrong-phrase-requires
+wrong-phrase-requires : tie.Need-wrong_phrase-requires
 wrong-phrase-requires c κs =
-    let s = c.before.before.before.before.before.before in
-    (s.requires.0, s.requires.1 (sym c.before.kind.ensures ∙ c.match.keys2))
+    let s = c in
+    (s.requires.0, s.requires.1 (sym c.kind.ensures ∙ c.in-2.is))
 
-unused-from-requires : tie.Need-unused-from-requires
+unused-from-requires : tie.Need-unused_from-requires
 unused-from-requires c κs = search rules
 
-wrong-range-record-requires : tie.Need-wrong-range-record-requires
+wrong-range-record-requires : tie.Need-wrong_range_record-requires
 wrong-range-record-requires c κs = search rules
 
-unused-from-requires-2 : tie.Need-unused-from-requires-2
+unused-from-requires-2 : tie.Need-unused_from-requires-in-5
 unused-from-requires-2 c κs = search rules
 
-unused-from-requires-3 : tie.Need-unused-from-requires-3
+unused-from-requires-3 : tie.Need-unused_from-requires-in-6
 unused-from-requires-3 c κs = search rules
 
-wrong-boost-value-requires : tie.Need-wrong-boost-value-requires
+wrong-boost-value-requires : tie.Need-wrong_boost_value-requires
 wrong-boost-value-requires c κs = search rules
 
-unused-from-requires-4 : tie.Need-unused-from-requires-4
+unused-from-requires-4 : tie.Need-unused_from-requires-in-8
 unused-from-requires-4 c κs = search rules
 
-wrong-phrase-term-requires : tie.Need-wrong-phrase-term-requires
+wrong-phrase-term-requires : tie.Need-wrong_phrase_term-requires
 wrong-phrase-term-requires c κs = search rules
 
-returns : tie.Need-returns
+returns : tie.Need-returns-in-1
 returns c =
-    let s = c.before.before.before.before.before.before.before in let fields = s.args.fields.now in let leaves = s.args.leaves.now in let columns = s.args.columns.now in let q = s.args.q.now in let at = s.args.at in
-    λ ix l. c.wrong-term.ensures ∙ value-term ix fields leaves columns q at l (sym c.before.before.kind.ensures ∙ c.before.match.keys1)
+    let s = c in let fields = s.args.fields.now in let leaves = s.args.leaves.now in let columns = s.args.columns.now in let q = s.args.q.now in let at = s.args.at in
+    λ ix l. c.wrong_term.ensures ∙ value-term ix fields leaves columns q at l (sym c.kind.ensures ∙ c.in-1.is)
 
-returns-2 : tie.Need-returns-2
+returns-2 : tie.Need-returns-in-2
 returns-2 c =
-    let s = c.before.before.before.before.before.before.before in let fields = s.args.fields.now in let leaves = s.args.leaves.now in let columns = s.args.columns.now in let q = s.args.q.now in let at = s.args.at in
-    λ ix l. c.wrong-phrase.ensures ∙ value-phrase ix fields leaves columns q at l (sym c.before.before.kind.ensures ∙ c.before.match.keys2)
+    let s = c in let fields = s.args.fields.now in let leaves = s.args.leaves.now in let columns = s.args.columns.now in let q = s.args.q.now in let at = s.args.at in
+    λ ix l. c.wrong_phrase.ensures ∙ value-phrase ix fields leaves columns q at l (sym c.kind.ensures ∙ c.in-2.is)
 
-returns-3 : tie.Need-returns-3
+returns-3 : tie.Need-returns-in-3
 returns-3 c =
-    let s = c.before.before.before.before.before.before.before in let fields = s.args.fields.now in let leaves = s.args.leaves.now in let columns = s.args.columns.now in let q = s.args.q.now in let at = s.args.at in
-    λ ix l. c.unused-from.ensures ∙ value-boolean ix fields leaves columns q at l (sym c.before.before.kind.ensures ∙ c.before.match.keys3)
+    let s = c in let fields = s.args.fields.now in let leaves = s.args.leaves.now in let columns = s.args.columns.now in let q = s.args.q.now in let at = s.args.at in
+    λ ix l. c.unused_from.ensures ∙ value-boolean ix fields leaves columns q at l (sym c.kind.ensures ∙ c.in-3.is)
 
-returns-4 : tie.Need-returns-4
+returns-4 : tie.Need-returns-in-4
 returns-4 c =
-    let s = c.before.before.before.before.before.before.before in let fields = s.args.fields.now in let leaves = s.args.leaves.now in let columns = s.args.columns.now in let q = s.args.q.now in let at = s.args.at in
-    λ ix l. c.wrong-range-record.ensures ix l.columns-are ∙ value-range ix fields leaves columns q at l (sym c.before.before.kind.ensures ∙ c.before.match.keys4)
+    let s = c in let fields = s.args.fields.now in let leaves = s.args.leaves.now in let columns = s.args.columns.now in let q = s.args.q.now in let at = s.args.at in
+    λ ix l. c.wrong_range_record.ensures ix l.columns-are ∙ value-range ix fields leaves columns q at l (sym c.kind.ensures ∙ c.in-4.is)
 
-returns-5 : tie.Need-returns-5
+returns-5 : tie.Need-returns-in-5
 returns-5 c =
-    let s = c.before.before.before.before.before.before.before in let fields = s.args.fields.now in let leaves = s.args.leaves.now in let columns = s.args.columns.now in let q = s.args.q.now in let at = s.args.at in
-    λ ix l. c.unused-from2.ensures ∙ value-all ix fields leaves columns q at l (sym c.before.before.kind.ensures ∙ c.before.match.keys5)
+    let s = c in let fields = s.args.fields.now in let leaves = s.args.leaves.now in let columns = s.args.columns.now in let q = s.args.q.now in let at = s.args.at in
+    λ ix l. c.unused_from-in-5.ensures ∙ value-all ix fields leaves columns q at l (sym c.kind.ensures ∙ c.in-5.is)
 
-returns-6 : tie.Need-returns-6
+returns-6 : tie.Need-returns-in-6
 returns-6 c =
-    let s = c.before.before.before.before.before.before.before in let fields = s.args.fields.now in let leaves = s.args.leaves.now in let columns = s.args.columns.now in let q = s.args.q.now in let at = s.args.at in
-    λ ix l. c.unused-from3.ensures ∙ value-constant ix fields leaves columns q at l (sym c.before.before.kind.ensures ∙ c.before.match.keys6)
+    let s = c in let fields = s.args.fields.now in let leaves = s.args.leaves.now in let columns = s.args.columns.now in let q = s.args.q.now in let at = s.args.at in
+    λ ix l. c.unused_from-in-6.ensures ∙ value-constant ix fields leaves columns q at l (sym c.kind.ensures ∙ c.in-6.is)
 
-returns-7 : tie.Need-returns-7
+returns-7 : tie.Need-returns-in-7
 returns-7 c =
-    let s = c.before.before.before.before.before.before.before in let fields = s.args.fields.now in let leaves = s.args.leaves.now in let columns = s.args.columns.now in let q = s.args.q.now in let at = s.args.at in
-    λ ix l. c.wrong-boost-value.ensures ∙ value-boost ix fields leaves columns q at l (sym c.before.before.kind.ensures ∙ c.before.match.keys7)
+    let s = c in let fields = s.args.fields.now in let leaves = s.args.leaves.now in let columns = s.args.columns.now in let q = s.args.q.now in let at = s.args.at in
+    λ ix l. c.wrong_boost_value.ensures ∙ value-boost ix fields leaves columns q at l (sym c.kind.ensures ∙ c.in-7.is)
 
-returns-8 : tie.Need-returns-8
+returns-8 : tie.Need-returns-in-8
 returns-8 c =
-    let s = c.before.before.before.before.before.before.before in let fields = s.args.fields.now in let leaves = s.args.leaves.now in let columns = s.args.columns.now in let q = s.args.q.now in let at = s.args.at in
-    λ ix l. c.unused-from4.ensures ∙ value_none ix fields leaves columns q at l (sym c.before.before.kind.ensures ∙ c.before.match.keys8)
+    let s = c in let fields = s.args.fields.now in let leaves = s.args.leaves.now in let columns = s.args.columns.now in let q = s.args.q.now in let at = s.args.at in
+    λ ix l. c.unused_from-in-8.ensures ∙ value_none ix fields leaves columns q at l (sym c.kind.ensures ∙ c.in-8.is)
 
-returns-9 : tie.Need-returns-9
+returns-9 : tie.Need-returns-in-9
 returns-9 c =
-    let s = c.before.before.before.before.before.before.before in let fields = s.args.fields.now in let leaves = s.args.leaves.now in let columns = s.args.columns.now in let q = s.args.q.now in let at = s.args.at in
-    λ ix l. c.wrong-phrase-term.ensures ∙ value-phrase-term ix fields leaves columns q at l (sym c.before.before.kind.ensures ∙ c.before.match.keys9)
+    let s = c in let fields = s.args.fields.now in let leaves = s.args.leaves.now in let columns = s.args.columns.now in let q = s.args.q.now in let at = s.args.at in
+    λ ix l. c.wrong_phrase_term.ensures ∙ value-phrase-term ix fields leaves columns q at l (sym c.kind.ensures ∙ c.in-9.is)
 
-returns-10 : tie.Need-returns-10
+returns-10 : tie.Need-returns-in_default
 returns-10 c =
-    let s = c.before.before.before.before.before.before in let fields = s.args.fields.now in let leaves = s.args.leaves.now in let columns = s.args.columns.now in let q = s.args.q.now in let at = s.args.at in
-    let no = c.match.rest in let is = c.before.kind.ensures in λ ix l.
+    let s = c in let fields = s.args.fields.now in let leaves = s.args.leaves.now in let columns = s.args.columns.now in let q = s.args.q.now in let at = s.args.at in
+    let no = c.in_default.in_default-own.rest in let is = c.kind.ensures in λ ix l.
     value-other ix fields leaves columns q at l
     (no_kind (recordKind q at) (λ e. no.0.0.0.0.0.0.0.0.1 (is ∙ e)) (λ e. no.0.0.0.0.0.0.0.1 (is ∙ e)) (λ e. no.0.0.0.0.0.0.1 (is ∙ e)) (λ e. no.0.0.0.0.0.1 (is ∙ e)) (λ e. no.0.0.0.0.1 (is ∙ e)) (λ e. no.0.0.0.1 (is ∙ e)) (λ e. no.0.0.1 (is ∙ e)) (λ e. no.0.1 (is ∙ e)) (λ e. no.1 (is ∙ e)))
 
-pub wrong-record-spec : {M : Type 1} → statement M
-wrong-record-spec =
+pub wrong_record_spec : {M : Type 1} → statement M
+wrong_record_spec =
     tie.close
     (tie.spec
     kind-requires

@@ -14,19 +14,19 @@ value-requires c κs = search rules
 wide-requires : tie.Need-wide-requires
 wide-requires c κs = search rules
 
-returns : tie.Need-returns
+returns : tie.Need-returns-then-leaves-wide
 returns c =
-    let s = c.before.before.before.before.before in let leaves = s.args.leaves.now in let q = s.args.q.now in let at = s.args.at in
+    let s = c in let leaves = s.args.leaves.now in let q = s.args.q.now in let at = s.args.at in
     rw (le-leb (length leaves / 4) (recordValue q at 0) (omega arith))
 
-unused-from-requires : tie.Need-unused-from-requires
+unused-from-requires : tie.Need-unused_from-requires
 unused-from-requires c κs = search rules
 
-returns-2 : tie.Need-returns-2
+returns-2 : tie.Need-returns
 returns-2 c =
-    let s = c.before.before.before.before.before.before in let leaves = s.args.leaves.now in let q = s.args.q.now in let at = s.args.at in
-    rw (lt-leb (length leaves / 4) (recordValue q at 0) (omega arith)) c.unused-from.ensures
+    let s = c in let leaves = s.args.leaves.now in let q = s.args.q.now in let at = s.args.at in
+    rw (lt-leb (length leaves / 4) (recordValue q at 0) (omega arith)) c.unused_from.ensures
 
-pub wrong-term-spec : {M : Type 1} → statement M
-wrong-term-spec =
+pub wrong_term_spec : {M : Type 1} → statement M
+wrong_term_spec =
     tie.close (tie.spec value-requires wide-requires returns unused-from-requires returns-2)

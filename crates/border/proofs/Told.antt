@@ -1,0 +1,169 @@
+-- What an entry's answer says of its refusal and of its numbers, and what follows at the border. Assumes nothing.
+use mathlib.Core.Path.{◌≡◌, refl, sym, ap, ◌∙◌}
+use mathlib.Core.Bool.{cond}
+use mathlib.Core.List.{List, [], ◌∷◌, ◌++◌, map}
+use Prim.Native.Nat.{ℕ, zero, suc, ◌≤◌, ◌<◌}
+use native.Mathlib.Omega.{arith}
+use lib.ListN.{length, get_or, set, drop}
+use lib.IntN.{ℤ}
+use lib.Ieee.{binary32, to_bits}
+use Rattle.meaning.specs.Lent.{Index}
+use Rattle.meaning.specs.Query.{queryTree}
+use Rattle.meaning.specs.FullList.{fullList}
+use Rattle.meaning.specs.Hits.{hits}
+use Rattle.meaning.specs.CallRefusals.{Work}
+use Rattle.meaning.specs.Entries.{answered, written, Kept, searchRefusal, searchAnswer, searchHits, page_of, pageRefusal, pageAnswer, pageDocuments, pageScores, pickedList, pickRefusal, pickAnswer, pickHits}
+use Rattle.collector.specs.declared.TopDocs.{TopDocs}
+use Rattle.walk.specs.declared.Listed.{Listed}
+use Rattle.searcher.specs.declared.search.Searched.{Searched}
+use Rattle.searcher.specs.declared.search.Searched.TheVariants as Searched
+use Rattle.searcher.specs.declared.page.Paged.{Paged}
+use Rattle.searcher.specs.declared.page.Paged.TheVariants as Paged
+use Rattle.pick_entry.specs.declared.Picked.{Picked}
+use Rattle.pick_entry.specs.declared.Picked.TheVariants as Picked
+use Rattle.searcher.specs.Answers.{searchedNumbers, pagedNumbers}
+use Rattle.pick_entry.specs.Answers.{pickedNumbers}
+use Rattle.border.specs.Border.{shortAnswer, borderSearch, borderPage, borderPick, topNumbers, pageNumbers}
+use Rattle.border.proofs.Short.{short-refuses, search-short, search-long, page-short, page-long, pick-short, pick-long}
+
+-- ---- an answer as a list of numbers
+-- the numbers after the first
+rest : List ℕ → List ℕ
+rest [] = []
+rest (x ∷ xs) = xs
+
+-- a refusal's number alone was answered
+pub refused-number : (z n v : ℕ) (vs : List ℕ) → (n ∷ []) ≡ answered z (0 ∷ v ∷ vs) (λ m. m ∷ []) → (n ≡ z) × (0 < z)
+refused-number zero n v vs e = absurd (let l = ap length e in omega (arith, l))
+refused-number (suc z) n v vs e = (ap (λ (xs : List ℕ). get_or xs 0 0) e, omega arith)
+
+-- 0 and numbers were answered
+pub found-numbers : (z v : ℕ) (vs ys : List ℕ) → (0 ∷ v ∷ vs) ≡ answered z (0 ∷ ys) (λ m. m ∷ []) → (z ≡ 0) × ((v ∷ vs) ≡ ys)
+unfolding rest
+found-numbers zero v vs ys e = (refl, ap rest e)
+found-numbers (suc z) v vs ys e = absurd (let l = ap length e in omega (arith, l))
+
+-- ---- what a buffer holds afterwards
+-- a refused call leaves what it was to write to
+pub refused-keeps : {A : Type 0} (n : ℕ) (accepted kept : A) → 0 < n → kept ≡ answered n accepted (λ m. kept)
+refused-keeps zero accepted kept h = absurd (omega arith)
+refused-keeps (suc n) accepted kept h = refl
+
+-- a work buffer that one refusal keeps, an equal one keeps
+kept_by : {A : Type 0} (b z : ℕ) (before after : List A) → b ≡ z → Kept z before after → Kept b before after
+kept_by b z before after e k = λ h. k (rw e at h)
+
+-- numbers stored at the first places
+pub three-written : (a b c : ℕ) (xs : List ℕ) → 3 ≤ length xs → set (set (set xs 0 a) 1 b) 2 c ≡ written (a ∷ b ∷ c ∷ []) xs
+three-written a b c [] h = absurd (omega (arith, h))
+three-written a b c (x ∷ []) h = absurd (omega (arith, h))
+three-written a b c (x ∷ y ∷ []) h = absurd (omega (arith, h))
+three-written a b c (x ∷ y ∷ z ∷ xs) h = refl
+
+pub two-written : (a b : ℕ) (xs : List ℕ) → 2 ≤ length xs → set (set xs 0 a) 1 b ≡ written (a ∷ b ∷ []) xs
+two-written a b [] h = absurd (omega (arith, h))
+two-written a b (x ∷ []) h = absurd (omega (arith, h))
+two-written a b (x ∷ y ∷ xs) h = refl
+
+-- ---- Pick: what the border's entry is to answer and to leave
+abbrev PickTold : (documents scores : List ℕ) (k t : ℕ) (heap : List ℤ) (answer : List ℕ) (r : ℕ) (heap' : List ℤ) (answer' : List ℕ) → Type 0
+PickTold documents scores k t heap answer r heap' answer' =
+    let b = borderPick documents scores k (length heap) (length answer) in
+    let list = pickedList documents scores in
+    (r ≡ b) × ((heap' ≡ answered r (written (hits k list) heap) (λ n. heap)) × (answer' ≡ answered r (written (topNumbers k t list) answer) (λ n. answer)))
+
+pub pick-told-short : (documents scores : List ℕ) (k t : ℕ) (heap : List ℤ) (answer : List ℕ) (z r : ℕ) → length answer < 3 → z ≡ pickRefusal documents scores k (length heap) → r ≡ shortAnswer z → PickTold documents scores k t heap answer r heap answer
+pick-told-short documents scores k t heap answer z r h e f =
+    let s = pick-short documents scores k (length heap) (length answer) h in
+    let i = f ∙ ap shortAnswer e ∙ sym s in
+    let p : 0 < r = rw (f ∙ ap shortAnswer e) (short-refuses (pickRefusal documents scores k (length heap))) in
+    (i, (refused-keeps _ _ heap p, refused-keeps _ _ answer p))
+
+pub pick-written : (documents scores : List ℕ) (k b : ℕ) (heap : List ℤ) → b ≡ pickRefusal documents scores k (length heap) → pickHits documents scores k heap ≡ answered b (written (hits k (pickedList documents scores)) heap) (λ n. heap)
+unfolding pickHits
+pick-written documents scores k b heap e = rw e refl
+
+pub pick-told-refused : (documents scores : List ℕ) (k t : ℕ) (heap heap' : List ℤ) (answer : List ℕ) (a : Picked) (n : ℕ) → 3 ≤ length answer → a ≡ Picked.Refused n → pickedNumbers a ≡ pickAnswer documents scores k t (length heap) → heap' ≡ pickHits documents scores k heap → PickTold documents scores k t heap answer n heap' answer
+unfolding pickedNumbers pickAnswer
+pick-told-refused documents scores k t heap heap' answer a n h e f g =
+    let l = pick-long documents scores k (length heap) (length answer) h in
+    let z = refused-number (pickRefusal documents scores k (length heap)) n _ _ (sym (ap pickedNumbers e) ∙ f) in
+    let p : 0 < n = rw z.0 z.1 in
+    (z.0 ∙ sym l, (g ∙ pick-written documents scores k _ heap z.0, refused-keeps _ _ answer p))
+
+pub pick-told-found : (documents scores : List ℕ) (k t : ℕ) (heap heap' : List ℤ) (answer answer' : List ℕ) (a : Picked) (top : TopDocs) → 3 ≤ length answer → a ≡ Picked.Found top → pickedNumbers a ≡ pickAnswer documents scores k t (length heap) → heap' ≡ pickHits documents scores k heap → answer' ≡ written (top.held ∷ top.count ∷ cond top.mark 1 0 ∷ []) answer → PickTold documents scores k t heap answer 0 heap' answer'
+unfolding pickedNumbers pickAnswer
+pick-told-found documents scores k t heap heap' answer answer' a top h e f g w =
+    let l = pick-long documents scores k (length heap) (length answer) h in
+    let z = found-numbers (pickRefusal documents scores k (length heap)) top.held _ _ (sym (ap pickedNumbers e) ∙ f) in
+    (sym (l ∙ z.0), (g ∙ pick-written documents scores k _ heap (sym z.0), w ∙ ap (λ (xs : List ℕ). written xs answer) z.1))
+
+-- ---- Search: what the border's entry is to answer and to leave, with the four work buffers before and after
+abbrev SearchTold : (ix : Index) (q : List ℕ) (k t : ℕ) (w : Work) (heap : List ℤ) (answer states : List ℕ) (starts others : List ℤ) (ranges : List ℕ) (r : ℕ) (heap' : List ℤ) (answer' states' : List ℕ) (starts' others' : List ℤ) (ranges' : List ℕ) → Type 0
+SearchTold ix q k t w heap answer states starts others ranges r heap' answer' states' starts' others' ranges' =
+    let b = borderSearch ix q k w (length heap) (length answer) in
+    let list = fullList ix (queryTree q) in
+    (r ≡ b) × ((heap' ≡ answered r (written (hits k list) heap) (λ n. heap)) × ((answer' ≡ answered r (written (topNumbers k t list) answer) (λ n. answer)) × (Kept r states states' × (Kept r starts starts' × (Kept r others others' × Kept r ranges ranges')))))
+
+pub search-told-short : (ix : Index) (q : List ℕ) (k t : ℕ) (w : Work) (heap : List ℤ) (answer states : List ℕ) (starts others : List ℤ) (ranges : List ℕ) (z r : ℕ) → length answer < 3 → z ≡ searchRefusal ix q k w (length heap) → r ≡ shortAnswer z → SearchTold ix q k t w heap answer states starts others ranges r heap answer states starts others ranges
+search-told-short ix q k t w heap answer states starts others ranges z r h e f =
+    let s = search-short ix q k w (length heap) (length answer) h in
+    let i = f ∙ ap shortAnswer e ∙ sym s in
+    let p : 0 < r = rw (f ∙ ap shortAnswer e) (short-refuses (searchRefusal ix q k w (length heap))) in
+    (i, (refused-keeps _ _ heap p, (refused-keeps _ _ answer p, ((λ u. refl), ((λ u. refl), ((λ u. refl), λ u. refl))))))
+
+pub search-written : (ix : Index) (q : List ℕ) (k : ℕ) (w : Work) (b : ℕ) (heap : List ℤ) → b ≡ searchRefusal ix q k w (length heap) → searchHits ix q k w heap ≡ answered b (written (hits k (fullList ix (queryTree q))) heap) (λ n. heap)
+unfolding searchHits
+search-written ix q k w b heap e = rw e refl
+
+pub search-told-refused : (ix : Index) (q : List ℕ) (k t : ℕ) (w : Work) (heap heap' : List ℤ) (answer states states' : List ℕ) (starts starts' others others' : List ℤ) (ranges ranges' : List ℕ) (a : Searched) (n : ℕ) → 3 ≤ length answer → a ≡ Searched.Refused n → searchedNumbers a ≡ searchAnswer ix q k t w (length heap) → heap' ≡ searchHits ix q k w heap → Kept (searchRefusal ix q k w (length heap)) states states' → Kept (searchRefusal ix q k w (length heap)) starts starts' → Kept (searchRefusal ix q k w (length heap)) others others' → Kept (searchRefusal ix q k w (length heap)) ranges ranges' → SearchTold ix q k t w heap answer states starts others ranges n heap' answer states' starts' others' ranges'
+unfolding searchedNumbers searchAnswer
+search-told-refused ix q k t w heap heap' answer states states' starts starts' others others' ranges ranges' a n h e f g ks ka kb kr =
+    let l = search-long ix q k w (length heap) (length answer) h in
+    let z = refused-number (searchRefusal ix q k w (length heap)) n _ _ (sym (ap searchedNumbers e) ∙ f) in
+    let p : 0 < n = rw z.0 z.1 in
+    (z.0 ∙ sym l, (g ∙ search-written ix q k w _ heap z.0, (refused-keeps _ _ answer p, (kept_by _ _ states states' z.0 ks, (kept_by _ _ starts starts' z.0 ka, (kept_by _ _ others others' z.0 kb, kept_by _ _ ranges ranges' z.0 kr))))))
+
+pub search-told-found : (ix : Index) (q : List ℕ) (k t : ℕ) (w : Work) (heap heap' : List ℤ) (answer answer' states states' : List ℕ) (starts starts' others others' : List ℤ) (ranges ranges' : List ℕ) (a : Searched) (top : TopDocs) → 3 ≤ length answer → a ≡ Searched.Found top → searchedNumbers a ≡ searchAnswer ix q k t w (length heap) → heap' ≡ searchHits ix q k w heap → answer' ≡ written (top.held ∷ top.count ∷ cond top.mark 1 0 ∷ []) answer → Kept (searchRefusal ix q k w (length heap)) states states' → Kept (searchRefusal ix q k w (length heap)) starts starts' → Kept (searchRefusal ix q k w (length heap)) others others' → Kept (searchRefusal ix q k w (length heap)) ranges ranges' → SearchTold ix q k t w heap answer states starts others ranges 0 heap' answer' states' starts' others' ranges'
+unfolding searchedNumbers searchAnswer
+search-told-found ix q k t w heap heap' answer answer' states states' starts starts' others others' ranges ranges' a top h e f g v ks ka kb kr =
+    let l = search-long ix q k w (length heap) (length answer) h in
+    let z = found-numbers (searchRefusal ix q k w (length heap)) top.held _ _ (sym (ap searchedNumbers e) ∙ f) in
+    (sym (l ∙ z.0), (g ∙ search-written ix q k w _ heap (sym z.0), (v ∙ ap (λ (xs : List ℕ). written xs answer) z.1, (kept_by _ _ states states' (sym z.0) ks, (kept_by _ _ starts starts' (sym z.0) ka, (kept_by _ _ others others' (sym z.0) kb, kept_by _ _ ranges ranges' (sym z.0) kr))))))
+
+-- ---- Page, in the same way, with its two outputs
+abbrev PageTold : (ix : Index) (q : List ℕ) (target : ℕ) (w : Work) (documents scores answer states : List ℕ) (starts others : List ℤ) (ranges : List ℕ) (r : ℕ) (documents' scores' answer' states' : List ℕ) (starts' others' : List ℤ) (ranges' : List ℕ) → Type 0
+PageTold ix q target w documents scores answer states starts others ranges r documents' scores' answer' states' starts' others' ranges' =
+    let b = borderPage ix q target w (length documents) (length scores) (length answer) in
+    let p = page_of ix q target (length documents) in
+    (r ≡ b) × ((documents' ≡ answered r (written (map (λ h. h.doc) p.given) documents) (λ n. documents)) × ((scores' ≡ answered r (written (map (λ h. to_bits binary32 h.score) p.given) scores) (λ n. scores)) × ((answer' ≡ answered r (written (pageNumbers p) answer) (λ n. answer)) × (Kept r states states' × (Kept r starts starts' × (Kept r others others' × Kept r ranges ranges'))))))
+
+pub page-told-short : (ix : Index) (q : List ℕ) (target : ℕ) (w : Work) (documents scores answer states : List ℕ) (starts others : List ℤ) (ranges : List ℕ) (z r : ℕ) → length answer < 2 → z ≡ pageRefusal ix q target w (length documents) (length scores) → r ≡ shortAnswer z → PageTold ix q target w documents scores answer states starts others ranges r documents scores answer states starts others ranges
+page-told-short ix q target w documents scores answer states starts others ranges z r h e f =
+    let s = page-short ix q target w (length documents) (length scores) (length answer) h in
+    let i = f ∙ ap shortAnswer e ∙ sym s in
+    let p : 0 < r = rw (f ∙ ap shortAnswer e) (short-refuses (pageRefusal ix q target w (length documents) (length scores))) in
+    (i, (refused-keeps _ _ documents p, (refused-keeps _ _ scores p, (refused-keeps _ _ answer p, ((λ u. refl), ((λ u. refl), ((λ u. refl), λ u. refl)))))))
+
+pub documents-written : (ix : Index) (q : List ℕ) (target : ℕ) (w : Work) (b : ℕ) (documents scores : List ℕ) → b ≡ pageRefusal ix q target w (length documents) (length scores) → pageDocuments ix q target w documents scores ≡ answered b (written (map (λ h. h.doc) (page_of ix q target (length documents)).given) documents) (λ n. documents)
+unfolding pageDocuments
+documents-written ix q target w b documents scores e = rw e refl
+
+pub scores-written : (ix : Index) (q : List ℕ) (target : ℕ) (w : Work) (b : ℕ) (documents scores : List ℕ) → b ≡ pageRefusal ix q target w (length documents) (length scores) → pageScores ix q target w documents scores ≡ answered b (written (map (λ h. to_bits binary32 h.score) (page_of ix q target (length documents)).given) scores) (λ n. scores)
+unfolding pageScores
+scores-written ix q target w b documents scores e = rw e refl
+
+pub page-told-refused : (ix : Index) (q : List ℕ) (target : ℕ) (w : Work) (documents documents' scores scores' answer states states' : List ℕ) (starts starts' others others' : List ℤ) (ranges ranges' : List ℕ) (a : Paged) (n : ℕ) → 2 ≤ length answer → a ≡ Paged.Refused n → pagedNumbers a ≡ pageAnswer ix q target w (length documents) (length scores) → documents' ≡ pageDocuments ix q target w documents scores → scores' ≡ pageScores ix q target w documents scores → Kept (pageRefusal ix q target w (length documents) (length scores)) states states' → Kept (pageRefusal ix q target w (length documents) (length scores)) starts starts' → Kept (pageRefusal ix q target w (length documents) (length scores)) others others' → Kept (pageRefusal ix q target w (length documents) (length scores)) ranges ranges' → PageTold ix q target w documents scores answer states starts others ranges n documents' scores' answer states' starts' others' ranges'
+unfolding pagedNumbers pageAnswer
+page-told-refused ix q target w documents documents' scores scores' answer states states' starts starts' others others' ranges ranges' a n h e f g i ks ka kb kr =
+    let l = page-long ix q target w (length documents) (length scores) (length answer) h in
+    let z = refused-number (pageRefusal ix q target w (length documents) (length scores)) n _ _ (sym (ap pagedNumbers e) ∙ f) in
+    let p : 0 < n = rw z.0 z.1 in
+    (z.0 ∙ sym l, (g ∙ documents-written ix q target w _ documents scores z.0, (i ∙ scores-written ix q target w _ documents scores z.0, (refused-keeps _ _ answer p, (kept_by _ _ states states' z.0 ks, (kept_by _ _ starts starts' z.0 ka, (kept_by _ _ others others' z.0 kb, kept_by _ _ ranges ranges' z.0 kr)))))))
+
+pub page-told-given : (ix : Index) (q : List ℕ) (target : ℕ) (w : Work) (documents documents' scores scores' answer states states' : List ℕ) (starts starts' others others' : List ℤ) (ranges ranges' : List ℕ) (a : Paged) (listed : Listed) → 2 ≤ length answer → a ≡ Paged.Given listed → pagedNumbers a ≡ pageAnswer ix q target w (length documents) (length scores) → documents' ≡ pageDocuments ix q target w documents scores → scores' ≡ pageScores ix q target w documents scores → Kept (pageRefusal ix q target w (length documents) (length scores)) states states' → Kept (pageRefusal ix q target w (length documents) (length scores)) starts starts' → Kept (pageRefusal ix q target w (length documents) (length scores)) others others' → Kept (pageRefusal ix q target w (length documents) (length scores)) ranges ranges' → PageTold ix q target w documents scores answer states starts others ranges 0 documents' scores' (set (set answer 0 listed.given) 1 listed.next) states' starts' others' ranges'
+unfolding pagedNumbers pageAnswer
+page-told-given ix q target w documents documents' scores scores' answer states states' starts starts' others others' ranges ranges' a listed h e f g i ks ka kb kr =
+    let l = page-long ix q target w (length documents) (length scores) (length answer) h in
+    let z = found-numbers (pageRefusal ix q target w (length documents) (length scores)) listed.given _ _ (sym (ap pagedNumbers e) ∙ f) in
+    (sym (l ∙ z.0), (g ∙ documents-written ix q target w _ documents scores (sym z.0), (i ∙ scores-written ix q target w _ documents scores (sym z.0), (two-written listed.given listed.next answer h ∙ ap (λ (xs : List ℕ). written xs answer) z.1, (kept_by _ _ states states' (sym z.0) ks, (kept_by _ _ starts starts' (sym z.0) ka, (kept_by _ _ others others' (sym z.0) kb, kept_by _ _ ranges ranges' (sym z.0) kr)))))))

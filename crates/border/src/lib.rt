@@ -1,0 +1,187 @@
+// The border: Search, Page, Pick and the token writer for callers in C and Rust. Each returns the refusal's number, or 0 and its numbers in `answer`.
+#![tactic(auto)]
+
+pub mod write_index;
+
+ghost use Rattle.std.specs.Prelude.{◌≡◌, cond, [], ◌∷◌, map, ◌≤◌, length};
+ghost use Rattle.std.specs.Float.{binary32};
+ghost use Rattle.std.specs.Float.Ieee.{to_bits};
+ghost use Rattle.meaning.specs.Query.{queryTree};
+ghost use Rattle.meaning.specs.FullList.{fullList};
+ghost use Rattle.meaning.specs.Hits.{hits as hitsOf};
+ghost use Rattle.meaning.specs.Entries.{written, answered, Kept, page_of, pickedList};
+ghost use Rattle.index.specs.Slices.{lent};
+ghost use Rattle.order_check.specs.Lends.{work};
+ghost use Rattle.border.specs.Border.{shortAnswer, borderSearch, borderPage, borderPick, topNumbers, pageNumbers};
+
+use collector::TopDocs;
+
+// A slice for the answer that is too short is a buffer too short.
+fn short_answer(refusal: u32) -> u32
+    ensures { result ≡ shortAnswer refusal }
+{
+    if refusal == 0 {
+        return 12;
+    }
+    if 12 < refusal {
+        return 12;
+    }
+    refusal
+}
+
+// Hits held, count, and 1 for the mark.
+fn write_top_docs(top: TopDocs, answer: &mut [u64])
+    requires { 3 ≤ length answer.old }
+    ensures { answer.new ≡ written (top.held ∷ top.count ∷ cond top.mark 1 0 ∷ []) answer.old }
+{
+    answer[0] = top.held as u64;
+    answer[1] = top.count;
+    answer[2] = if top.mark { 1 } else { 0 };
+}
+
+pub fn lot_search(
+    max_doc: u32,
+    fields: &[u32],
+    leaves: &[u32],
+    postings: &[u32],
+    positions: &[u32],
+    norms: &[u8],
+    live: &[u64],
+    columns: &[u32],
+    values: &[u32],
+    q: &[u32],
+    k: u32,
+    t: u32,
+    states: &mut [u32],
+    a: &mut [i32],
+    b: &mut [i32],
+    ranges: &mut [u32],
+    hits: &mut [i64],
+    answer: &mut [u64],
+) -> u32
+    ensures value { result ≡ borderSearch (lent max_doc fields.now leaves.now postings.now positions.now norms.now live.now columns.now values.now) q.now k (work (length states.old) (length a.old) (length b.old) (length ranges.old)) (length hits.old) (length answer.old) }
+    ensures hits_after { hits.new ≡ answered result (written (hitsOf k (fullList (lent max_doc fields.now leaves.now postings.now positions.now norms.now live.now columns.now values.now) (queryTree q.now))) hits.old) (λ n. hits.old) }
+    ensures answer_after { answer.new ≡ answered result (written (topNumbers k t (fullList (lent max_doc fields.now leaves.now postings.now positions.now norms.now live.now columns.now values.now) (queryTree q.now))) answer.old) (λ n. answer.old) }
+    ensures kept { Kept result states.old states.new }
+    ensures kept_2 { Kept result a.old a.new }
+    ensures kept_3 { Kept result b.old b.new }
+    ensures kept_4 { Kept result ranges.old ranges.new }
+{
+    if answer.len() < 3 {
+        return short_answer(order_check::search_refusal(
+            max_doc,
+            fields,
+            leaves,
+            postings,
+            positions,
+            norms,
+            live,
+            columns,
+            values,
+            q,
+            k,
+            states.len(),
+            a.len(),
+            b.len(),
+            ranges.len(),
+            hits.len(),
+        ));
+    }
+    match searcher::search::search(
+        max_doc, fields, leaves, postings, positions, norms, live, columns, values, q, k, t,
+        states, a, b, ranges, hits,
+    ) {
+        searcher::search::Searched::Refused(n) => n,
+        searcher::search::Searched::Found(top) => {
+            write_top_docs(top, answer);
+            0
+        }
+    }
+}
+
+pub fn lot_page(
+    max_doc: u32,
+    fields: &[u32],
+    leaves: &[u32],
+    postings: &[u32],
+    positions: &[u32],
+    norms: &[u8],
+    live: &[u64],
+    columns: &[u32],
+    values: &[u32],
+    q: &[u32],
+    target: u32,
+    states: &mut [u32],
+    a: &mut [i32],
+    b: &mut [i32],
+    ranges: &mut [u32],
+    documents: &mut [u32],
+    scores: &mut [u32],
+    answer: &mut [u64],
+) -> u32
+    ensures value { result ≡ borderPage (lent max_doc fields.now leaves.now postings.now positions.now norms.now live.now columns.now values.now) q.now target (work (length states.old) (length a.old) (length b.old) (length ranges.old)) (length documents.old) (length scores.old) (length answer.old) }
+    ensures documents_after { documents.new ≡ answered result (written (map (λ h. h.doc) (page_of (lent max_doc fields.now leaves.now postings.now positions.now norms.now live.now columns.now values.now) q.now target (length documents.old)).given) documents.old) (λ n. documents.old) }
+    ensures scores_after { scores.new ≡ answered result (written (map (λ h. to_bits binary32 h.score) (page_of (lent max_doc fields.now leaves.now postings.now positions.now norms.now live.now columns.now values.now) q.now target (length documents.old)).given) scores.old) (λ n. scores.old) }
+    ensures answer_after { answer.new ≡ answered result (written (pageNumbers (page_of (lent max_doc fields.now leaves.now postings.now positions.now norms.now live.now columns.now values.now) q.now target (length documents.old))) answer.old) (λ n. answer.old) }
+    ensures kept { Kept result states.old states.new }
+    ensures kept_2 { Kept result a.old a.new }
+    ensures kept_3 { Kept result b.old b.new }
+    ensures kept_4 { Kept result ranges.old ranges.new }
+{
+    if answer.len() < 2 {
+        return short_answer(order_check::page_refusal(
+            max_doc,
+            fields,
+            leaves,
+            postings,
+            positions,
+            norms,
+            live,
+            columns,
+            values,
+            q,
+            target,
+            states.len(),
+            a.len(),
+            b.len(),
+            ranges.len(),
+            documents.len(),
+            scores.len(),
+        ));
+    }
+    match searcher::page::page(
+        max_doc, fields, leaves, postings, positions, norms, live, columns, values, q, target,
+        states, a, b, ranges, documents, scores,
+    ) {
+        searcher::page::Paged::Refused(n) => n,
+        searcher::page::Paged::Given(listed) => {
+            answer[0] = listed.given as u64;
+            answer[1] = listed.next as u64;
+            0
+        }
+    }
+}
+
+pub fn lot_pick(
+    documents: &[u32],
+    scores: &[u32],
+    k: u32,
+    t: u32,
+    hits: &mut [i64],
+    answer: &mut [u64],
+) -> u32
+    ensures value { result ≡ borderPick documents.now scores.now k (length hits.old) (length answer.old) }
+    ensures hits_after { hits.new ≡ answered result (written (hitsOf k (pickedList documents.now scores.now)) hits.old) (λ n. hits.old) }
+    ensures answer_after { answer.new ≡ answered result (written (topNumbers k t (pickedList documents.now scores.now)) answer.old) (λ n. answer.old) }
+{
+    if answer.len() < 3 {
+        return short_answer(pick_entry::pick_refusal(documents, scores, k, hits.len()));
+    }
+    match pick_entry::pick(documents, scores, k, t, hits) {
+        pick_entry::Picked::Refused(n) => n,
+        pick_entry::Picked::Found(top) => {
+            write_top_docs(top, answer);
+            0
+        }
+    }
+}
