@@ -1,4 +1,6 @@
 // The index made from tokens: postings, positions, runs and norm bytes, written to lent outputs.
+#![tactic(auto)]
+
 pub mod postings;
 
 ghost use Rattle.std.specs.Prelude.{◌≡◌, false};

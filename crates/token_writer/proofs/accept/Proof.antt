@@ -10,54 +10,54 @@ use Rattle.token_writer.proofs.accept.Statement.{statement}
 use Rattle.token_writer.proofs.accept.Tie as tie
 
 -- what the code knows behind each test
-few : (c : tie.Else1) → let s = c.before.before.before.before.before in wrong1 (fieldsLent s.args.max-doc s.args.fields.now) ≡ false
-few c = sym (c.before.wrong-max-doc.ensures ∙ one-is _ _) ∙ c.if1.false
+few : (c : tie.Else-wrong_max_doc) → let s = c in wrong1 (fieldsLent s.args.max_doc s.args.fields.now) ≡ false
+few c = sym (c.wrong_max_doc.ensures ∙ one-is _ _) ∙ c.if-wrong_max_doc.false
 
-fields-right : (c : tie.Else2) → let s = c.before.before.before.before.before.before.before in wrong2 (fieldsLent s.args.max-doc s.args.fields.now) ≡ false
-fields-right c = sym (c.before.wrong-fields.ensures ∙ two_is _ _) ∙ c.if2.false
+fields-right : (c : tie.Else-wrong_fields) → let s = c in wrong2 (fieldsLent s.args.max_doc s.args.fields.now) ≡ false
+fields-right c = sym (c.wrong_fields.ensures ∙ two_is _ _) ∙ c.if-wrong_fields.false
 
-tokens-right : (c : tie.Else3) → let s = c.before.before.before.before.before.before.before.before.before in wrong15 s.args.max-doc s.args.fields.now s.args.leaf_fields.now s.args.tokens.now ≡ false
-tokens-right c = sym c.before.check.ensures.0 ∙ c.if3.false
+tokens-right : (c : tie.Else-counted) → let s = c in wrong15 s.args.max_doc s.args.fields.now s.args.leaf_fields.now s.args.tokens.now ≡ false
+tokens-right c = sym c.check-counted.ensures.0 ∙ c.if-counted.false
 
-wrong-max-doc-requires : tie.Need-wrong-max-doc-requires
+wrong-max-doc-requires : tie.Need-wrong_max_doc-requires
 wrong-max-doc-requires c κs = search rules
 
-returns : tie.Need-returns
-returns c = refused-1 _ _ _ _ _ _ _ _ (sym (c.before.wrong-max-doc.ensures ∙ one-is _ _) ∙ c.if1.true)
+returns : tie.Need-returns-then-wrong_max_doc
+returns c = refused-1 _ _ _ _ _ _ _ _ (sym (c.wrong_max_doc.ensures ∙ one-is _ _) ∙ c.if-wrong_max_doc.true)
 
-wrong-fields-requires : tie.Need-wrong-fields-requires
+wrong-fields-requires : tie.Need-wrong_fields-requires
 wrong-fields-requires c κs = search rules
 
-returns-2 : tie.Need-returns-2
-returns-2 c = refused-2 _ _ _ _ _ _ _ _ (few c.before.before) (sym (c.before.wrong-fields.ensures ∙ two_is _ _) ∙ c.if2.true)
+returns-2 : tie.Need-returns-then-wrong_fields
+returns-2 c = refused-2 _ _ _ _ _ _ _ _ (few c.before.before) (sym (c.wrong_fields.ensures ∙ two_is _ _) ∙ c.if-wrong_fields.true)
 
-check-requires : tie.Need-check-requires
+check-requires : tie.Need-check-counted-requires
 check-requires c κs = search rules
 
-returns-3 : tie.Need-returns-3
+returns-3 : tie.Need-returns-then-counted
 returns-3 c =
     let t = c.before.before in
-    refused-15 _ _ _ _ _ _ _ _ (few t.before.before) (fields-right t) _ c.before.check.ensures.0 c.if3.true
+    refused-15 _ _ _ _ _ _ _ _ (few t.before.before) (fields-right t) _ c.check-counted.ensures.0 c.if-counted.true
 
-outputs-short-requires : tie.Need-outputs-short-requires
+outputs-short-requires : tie.Need-outputs_short-requires
 outputs-short-requires c κs =
     let t = c.before.before in
-    ((few t.before.before, fields-right t, tokens-right c), (c.before.check.ensures.1, c.if3.false))
+    ((few t.before.before, fields-right t, tokens-right c), (c.check-counted.ensures.1, c.if-counted.false))
 
-returns-4 : tie.Need-returns-4
+returns-4 : tie.Need-returns-then-outputs_short
 returns-4 c =
     let e = c.before.before in
     let t = e.before.before in
-    refused-16 _ _ _ _ _ _ _ _ (few t.before.before) (fields-right t) (tokens-right e) _ c.before.outputs-short.ensures c.if4.true
+    refused-16 _ _ _ _ _ _ _ _ (few t.before.before) (fields-right t) (tokens-right e) _ c.outputs_short.ensures c.if-outputs_short.true
 
-returns-5 : tie.Need-returns-5
+returns-5 : tie.Need-returns
 returns-5 c =
     let e = c.before.before in
     let t = e.before.before in
-    accepted _ _ _ _ _ _ _ _ (few t.before.before) (fields-right t) (tokens-right e) _ c.before.outputs-short.ensures c.if4.false _ e.before.check.ensures.1 e.if3.false
+    accepted _ _ _ _ _ _ _ _ (few t.before.before) (fields-right t) (tokens-right e) _ c.outputs_short.ensures c.if-outputs_short.false _ e.check-counted.ensures.1 e.if-counted.false
 
-pub accept-spec : {M : Type 1} → statement M
-accept-spec =
+pub accept_spec : {M : Type 1} → statement M
+accept_spec =
     tie.close
     (tie.spec
     wrong-max-doc-requires

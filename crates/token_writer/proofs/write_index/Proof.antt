@@ -10,94 +10,94 @@ use Rattle.token_writer.proofs.write_index.Statement.{statement}
 use Rattle.token_writer.proofs.write_index.Tie as tie
 
 -- a call that is not refused, and where it began
-abbrev start : tie.After-numbers → tie.Start
-start c = c.before.before.before.before.before.before.before.before.before.before
+abbrev start : tie.In-Done → tie.Start
+start c = c.before.before.before.before.before.before.before.before.before
 
-known : (c : tie.After-numbers)
+known : (c : tie.In-Done)
     → let a = (start c).args in
-    Accepted a.max-doc a.fields.now a.leaf_fields.now a.tokens.now a.norms.now a.postings.now a.positions.now a.runs.now c.numbers.given.0.0
-known c = accepted-call _ _ _ _ _ _ _ _ _ (ap writtenNumbers (sym c.numbers.given.1) ∙ c.before.before.accept.ensures)
+    Accepted a.max_doc a.fields.now a.leaf_fields.now a.tokens.now a.norms.now a.postings.now a.positions.now a.runs.now c.in-Done.numbers
+known c = accepted-call _ _ _ _ _ _ _ _ _ (ap writtenNumbers (sym c.in-Done.is) ∙ c.accept.ensures)
 
 -- the runs are written
-abbrev called : tie.After-write-runs → tie.After-numbers
-called c = c.before.before.before.before.before
+abbrev called : tie.After-write_runs → tie.In-Done
+called c = c.before.before.before.before
 
-post : (c : tie.After-write-runs)
+post : (c : tie.After-write_runs)
     → let a = (start (called c)).args in
-    RunsPost a.max-doc a.fields.now a.leaf_fields.now a.tokens.now a.postings.now a.positions.now a.runs.now
-    c.write-runs.new.1.1.1.0 c.write-runs.new.1.1.1.1.0 c.write-runs.new.1.1.1.1.1.0
-post c = c.write-runs.ensures _ (known (called c)).runsPre
+    RunsPost a.max_doc a.fields.now a.leaf_fields.now a.tokens.now a.postings.now a.positions.now a.runs.now
+    c.write_runs.new.postings c.write_runs.new.positions c.write_runs.new.runs
+post c = c.write_runs.ensures _ (known (called c)).runsPre
 
 accept-requires : tie.Need-accept-requires
 accept-requires c κs = search rules
 
-enum-known-n : tie.Need-enum-known-n
+enum-known-n : tie.Need-enum_known-n
 enum-known-n c = search rules
 
-enum-known-numbers : tie.Need-enum-known-numbers
+enum-known-numbers : tie.Need-enum_known-numbers
 enum-known-numbers c = search rules
 
-write-runs-requires : tie.Need-write-runs-requires
-write-runs-requires c κs = let d = c.before.before.before.before in (_, (known d).runsPre)
+write-runs-requires : tie.Need-write_runs-requires
+write-runs-requires c κs = let d = c.before.before.before in (_, (known d).runsPre)
 
-mul-write-norms : tie.Need-overflow-mul-write-norms
+mul-write-norms : tie.Need-overflow_mul-numbers
 mul-write-norms c =
     let d = called c.before.before.before.before.before.before.before in
-    record { fits = omega (arith, postings-room _ _ _ _ _ _ _ _ _ (known d), (start d).good) }
+    record { fits = omega (arith, postings-room _ _ _ _ _ _ _ _ _ (known d), (start d).well_formed) }
 
-slice-reshare-prefix-write-norms : tie.Need-slice-reshare-prefix-write-norms
+slice-reshare-prefix-write-norms : tie.Need-slice_bounds-write_norms-end
 slice-reshare-prefix-write-norms c =
     let w = c.before.before.before.before.before.before.before in
     postings-inside _ _ _ _ _ _ _ _ _ (known (called w)) _ _ _ (post w)
 
-slice-aggregate-write-norms : tie.Need-slice-aggregate-write-norms
+slice-aggregate-write-norms : tie.Need-slice_bounds-write_norms-end-in-Done
 slice-aggregate-write-norms c =
-    let w = c.before.before.before.before.before.before.before.before in
+    let w = c.before.before.before.before.before.before.before in
     sym (length-take-le _ _ (postings-inside _ _ _ _ _ _ _ _ _ (known (called w)) _ _ _ (post w)))
 
-mul-write-norms-2 : tie.Need-overflow-mul-write-norms-2
+mul-write-norms-2 : tie.Need-overflow_mul-leaf_fields
 mul-write-norms-2 c =
-    let d = called c.before.before.before.before.before.before.before.before in
-    record { fits = omega (arith, (known d).runsPre.runsFit, (start d).good) }
+    let d = called c.before.before.before.before.before.before.before in
+    record { fits = omega (arith, (known d).runsPre.runsFit, (start d).well_formed) }
 
-slice-reshare-prefix-write-norms-2 : tie.Need-slice-reshare-prefix-write-norms-2
+slice-reshare-prefix-write-norms-2 : tie.Need-slice_bounds-write_norms-end-in-Done-2
 slice-reshare-prefix-write-norms-2 c =
-    let w = c.before.before.before.before.before.before.before.before in
+    let w = c.before.before.before.before.before.before.before in
     runs-inside _ _ _ _ _ _ _ _ _ (known (called w)) _ _ _ (post w)
 
-slice-aggregate-write-norms-2 : tie.Need-slice-aggregate-write-norms-2
+slice-aggregate-write-norms-2 : tie.Need-slice_bounds-write_norms-end-in-Done-3
 slice-aggregate-write-norms-2 c =
-    let w = c.before.before.before.before.before.before.before.before.before in
+    let w = c.before.before.before.before.before.before.before in
     sym (length-take-le _ _ (runs-inside _ _ _ _ _ _ _ _ _ (known (called w)) _ _ _ (post w)))
 
-write-norms-requires : tie.Need-write-norms-requires
+write-norms-requires : tie.Need-write_norms-requires
 write-norms-requires c κs =
-    let w = c.before.before.before.before.before.before.before.before.before.before in
+    let w = c.before.before.before.before.before.before.before.before in
     let k = known (called w) in
     ((parts-ok _ _ _ _ _ _ _ _ _ k _ _ _ (post w), k.fewDocuments, k.fewFields), k.normsFit)
 
-returns : tie.Need-returns
-returns c = entry-refused _ _ _ _ _ _ _ _ _ (ap writtenNumbers (sym c.before.n.given.1) ∙ c.before.before.before.accept.ensures)
+returns : tie.Need-returns-in-Refused
+returns c = entry-refused _ _ _ _ _ _ _ _ _ (ap writtenNumbers (sym c.in-Refused.is) ∙ c.accept.ensures)
 
-same_length : tie.Need-same-length
+same_length : tie.Need-shape_of-norms
 same_length c = search rules
 
-same-length-2 : tie.Need-same-length-2
+same-length-2 : tie.Need-shape_of-postings
 same-length-2 c = search rules
 
-same-length-3 : tie.Need-same-length-3
+same-length-3 : tie.Need-shape_of-positions
 same-length-3 c = search rules
 
-same-length-4 : tie.Need-same-length-4
+same-length-4 : tie.Need-shape_of-runs
 same-length-4 c = search rules
 
-returns-2 : tie.Need-returns-2
+returns-2 : tie.Need-returns-in-Done
 returns-2 c =
-    let w = c.before.before.before.before.before.before.before.before.before.before.before.before.before in
-    entry_done _ _ _ _ _ _ _ _ _ (known (called w)) _ _ _ (post w) _ c.before.before.write-norms.ensures
+    let w = c.before.before.before.before.before.before.before.before.before.before.before in
+    entry_done _ _ _ _ _ _ _ _ _ (known (called w)) _ _ _ (post w) _ c.write_norms.ensures
 
-pub write-index-spec : {M : Type 1} → statement M
-write-index-spec =
+pub write_index_spec : {M : Type 1} → statement M
+write_index_spec =
     tie.close
     (tie.spec
     accept-requires

@@ -18,47 +18,47 @@ use Rattle.token_writer.proofs.postings.copy_positions.Tie as tie
 abbrev position : List ℕ → ℕ → ℕ → ℕ
 position tokens from k = (tokenAt tokens (from + k)).position
 
-abbrev invariant-loop : tie.invariant-loop
+abbrev invariant-loop : tie.invariant-loop-j
 invariant-loop tokens from number positions₀ at j₀ positions j = (positions ≡ sets positions₀ at (listTo j (position tokens from))) × (j ≤ number)
 
-abbrev decreases-loop : tie.decreases-loop
+abbrev decreases-loop : tie.decreases-loop-j
 decreases-loop tokens from number positions₀ at j₀ positions j = number - j
 
-loop-holds : tie.Need-loop-init invariant-loop decreases-loop
-loop-holds c = (ap (sets c.before.before.args.positions.now c.before.before.args.at) (sym (listTo-zero _)), omega arith)
+loop-holds : tie.Need-loop-j-init invariant-loop decreases-loop
+loop-holds c = (ap (sets c.args.positions.now c.args.at) (sym (listTo-zero _)), omega arith)
 
-add-token-at : tie.Need-overflow-add-token-at invariant-loop decreases-loop
+add-token-at : tie.Need-overflow_add-from invariant-loop decreases-loop
 add-token-at c = search rules
 
-token-at-requires : tie.Need-token-at-requires invariant-loop decreases-loop
+token-at-requires : tie.Need-token_at-requires invariant-loop decreases-loop
 token-at-requires c κs = search rules
 
-add-positions : tie.Need-overflow-add-positions invariant-loop decreases-loop
+add-positions : tie.Need-overflow_add-positions invariant-loop decreases-loop
 add-positions c = search rules
 
-mul-positions : tie.Need-overflow-mul-positions invariant-loop decreases-loop
+mul-positions : tie.Need-offset_bounds-positions-at invariant-loop decreases-loop
 mul-positions c = search rules
 
-slice-write-positions : tie.Need-slice-write-positions invariant-loop decreases-loop
-slice-write-positions c = let l = c.before.before.loop in let s = c.before.before.before.before.before in omega (arith, ap length l.invariant.0, length-sets s.args.positions.now s.args.at (listTo l.j (position s.args.tokens.now s.args.from)), s.requires.1, c.before.loop-test.true)
+slice-write-positions : tie.Need-bounds-positions-at invariant-loop decreases-loop
+slice-write-positions c = let l = c.loop-j in let s = c in omega (arith, ap length l.invariant.0, length-sets s.args.positions.now s.args.at (listTo l.j (position s.args.tokens.now s.args.from)), s.requires.1, c.loop-j-test.true)
 
-add-j : tie.Need-overflow-add-j invariant-loop decreases-loop
+add-j : tie.Need-overflow_add-j invariant-loop decreases-loop
 add-j c = search rules
 
-loop-less : tie.Need-loop-smaller invariant-loop decreases-loop
+loop-less : tie.Need-loop-j-smaller invariant-loop decreases-loop
 loop-less c = search rules
 
-loop-again : tie.Need-loop-preserved invariant-loop decreases-loop
-loop-again c = let l = c.before.before.loop in let a = c.before.before.before.before.before.args in (sets-next (position a.tokens.now a.from) a.positions.now _ _ _ _ l.invariant.0 (ap (λ (t : Token). t.position) c.token-at.ensures), omega arith)
+loop-again : tie.Need-loop-j-preserved invariant-loop decreases-loop
+loop-again c = let l = c.loop-j in let a = c.args in (sets-next (position a.tokens.now a.from) a.positions.now _ _ _ _ l.invariant.0 (ap (λ (t : Token). t.position) c.token_at.ensures), omega arith)
 
-same_length : tie.Need-same-length invariant-loop decreases-loop
-same_length c = let a = c.before.before.before.before.args in let l = c.before.loop in ap length l.invariant.0 ∙ length-sets a.positions.now a.at (listTo l.j (position a.tokens.now a.from))
+same_length : tie.Need-shape_of-positions invariant-loop decreases-loop
+same_length c = let a = c.args in let l = c.loop-j in ap length l.invariant.0 ∙ length-sets a.positions.now a.at (listTo l.j (position a.tokens.now a.from))
 
 returns : tie.Need-returns invariant-loop decreases-loop
-returns c = let l = c.before.loop in let a = c.before.before.before.before.args in let e : l.j ≡ a.number = omega (arith, l.invariant.1, c.loop-test.false) in l.invariant.0 ∙ ap (λ (k : ℕ). sets a.positions.now a.at (listTo k (position a.tokens.now a.from))) e
+returns c = let l = c.loop-j in let a = c.args in let e : l.j ≡ a.number = omega (arith, l.invariant.1, c.loop-j-test.false) in l.invariant.0 ∙ ap (λ (k : ℕ). sets a.positions.now a.at (listTo k (position a.tokens.now a.from))) e
 
-pub copy-positions-spec : {M : Type 1} → statement M
-copy-positions-spec =
+pub copy_positions_spec : {M : Type 1} → statement M
+copy_positions_spec =
     tie.close
     (tie.spec
     invariant-loop

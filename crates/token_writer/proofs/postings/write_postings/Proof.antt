@@ -13,157 +13,157 @@ use Rattle.token_writer.proofs.LeafRun.{Upto, Turn, upto-length, number-le, upto
 use Rattle.token_writer.proofs.postings.write_postings.Statement.{statement}
 use Rattle.token_writer.proofs.postings.write_postings.Tie as tie
 
-abbrev invariant-loop : tie.invariant-loop
+abbrev invariant-loop : tie.invariant-loop-token
 invariant-loop tokens from leaf positional postings₀ posting position token₀ next₀ start₀ before₀ postings token next start before =
     (n m : ℕ) → PostingsPre n m tokens leaf positional from posting position (length postings₀) → Upto n tokens leaf positional from posting position postings₀ postings token next start before
 
-abbrev decreases-loop : tie.decreases-loop
+abbrev decreases-loop : tie.decreases-loop-token
 decreases-loop tokens from leaf positional postings₀ posting position token₀ next₀ start₀ before₀ postings token next start before =
     tokenCount tokens - token
 
 -- the call's start, and the head of the loop before a token of the leaf
-abbrev start : tie.At-loop invariant-loop decreases-loop → tie.Start invariant-loop decreases-loop
+abbrev start : tie.At-loop-token invariant-loop decreases-loop → tie.Start invariant-loop decreases-loop
 start a = a.before.before.before
 
-abbrev head : tie.Else1 invariant-loop decreases-loop → tie.At-loop invariant-loop decreases-loop
+abbrev head : tie.Else-here-leaf invariant-loop decreases-loop → tie.At-loop-token invariant-loop decreases-loop
 head c = c.before.before.before.before
 
 -- what is known at the loop's head, of the call's own documents and leaves
-at_head : (a : tie.At-loop invariant-loop decreases-loop) → let s = start a in let v = a.loop in Upto s.pre.0 s.args.tokens.now s.args.leaf s.args.positional s.args.from s.args.posting s.args.position s.args.postings.now v.postings v.token v.next v.start v.before
-at_head a = a.loop.invariant (start a).requires.0 (start a).requires.1 (start a).requires.2
+at_head : (a : tie.At-loop-token invariant-loop decreases-loop) → let s = start a in let v = a.loop-token in Upto s.requires.0 s.args.tokens.now s.args.leaf s.args.positional s.args.from s.args.posting s.args.position s.args.postings.now v.postings v.token v.next v.start v.before
+at_head a = a.loop-token.invariant (start a).requires.0 (start a).requires.1 (start a).requires.2
 
-same_size : (a : tie.At-loop invariant-loop decreases-loop) → length a.loop.postings ≡ length (start a).args.postings.now
+same_size : (a : tie.At-loop-token invariant-loop decreases-loop) → length a.loop-token.postings ≡ length (start a).args.postings.now
 same_size a = upto-length _ _ _ _ _ _ _ _ _ _ _ _ _ (at_head a)
 
 -- the positions are no more than the tokens passed, which are few
-few : (a : tie.At-loop invariant-loop decreases-loop) → ((start a).args.from ≤ a.loop.token) × ((start a).args.position ≤ (start a).args.from) × (a.loop.token ≤ maxTokens)
+few : (a : tie.At-loop-token invariant-loop decreases-loop) → ((start a).args.from ≤ a.loop-token.token) × ((start a).args.position ≤ (start a).args.from) × (a.loop-token.token ≤ maxTokens)
 few a =
     let h = at_head a in
     let pre = (start a).requires.2 in
     (omega (arith, h.first, h.order), pre.fewPositions, omega (arith, h.within, pre.tokens.few))
 
 -- the token read is of the leaf
-own : (c : tie.Else1 invariant-loop decreases-loop) → (tokenAt (start (head c)).args.tokens.now (head c).loop.token).leaf ≡ (start (head c)).args.leaf
-own c = sym (ap (λ (t : Token). t.leaf) c.before.before.token-at.ensures) ∙ c.if1.false
+own : (c : tie.Else-here-leaf invariant-loop decreases-loop) → (tokenAt (start (head c)).args.tokens.now (head c).loop-token.token).leaf ≡ (start (head c)).args.leaf
+own c = sym (ap (λ (t : Token). t.leaf) c.token_at-here.ensures) ∙ c.if-here-leaf.false
 
 -- where its posting begins, and the number of that posting
-turned : (c : tie.Joined2 invariant-loop decreases-loop) (n m : ℕ) → let a = head c.before.before in let s = start a in let v = a.loop in
+turned : (c : tie.Joined-here-before invariant-loop decreases-loop) (n m : ℕ) → let a = head c.before.before in let s = start a in let v = a.loop-token in
     PostingsPre n m s.args.tokens.now s.args.leaf s.args.positional s.args.from s.args.posting s.args.position (length s.args.postings.now) →
-    Turn n s.args.tokens.now s.args.leaf s.args.positional s.args.from s.args.posting s.args.position s.args.postings.now v.postings v.token c.if2.next c.if2.start
+    Turn n s.args.tokens.now s.args.leaf s.args.positional s.args.from s.args.posting s.args.position s.args.postings.now v.postings v.token c.if-here-before.next c.if-here-before.start
 turned c n m h =
     let e = c.before.before in
     let a = head e in
-    turn n m _ _ _ _ _ _ _ h _ _ _ _ _ _ (a.loop.inv n m h) (omega (arith, e.before.before.before.loop-test.true)) (own e) _ _ _ e.before.before.token-at.ensures
-    (⊎_elim (λ w. inl (w.0.taken, w.1, w.2)) (λ w. inr (w.0.left, w.1, w.2)) c.if2.branch)
+    turn n m _ _ _ _ _ _ _ h _ _ _ _ _ _ (a.loop-token.invariant n m h) (omega (arith, e.loop-token-test.true)) (own e) _ _ _ e.token_at-here.ensures
+    (⊎_elim (λ w. inl (w.if-here-before.true, w.next-is, w.start-is)) (λ w. inr (w.if-here-before.false, w.next-is, w.start-is)) c.if-here-before.branch-raw)
 
-turn-here : (c : tie.Joined2 invariant-loop decreases-loop) → let a = head c.before.before in let s = start a in let v = a.loop in Turn s.pre.0 s.args.tokens.now s.args.leaf s.args.positional s.args.from s.args.posting s.args.position s.args.postings.now v.postings v.token c.if2.next c.if2.start
-turn-here c = let s = start (head c.before.before) in turned c s.pre.0 s.pre.1 s.pre.2
+turn-here : (c : tie.Joined-here-before invariant-loop decreases-loop) → let a = head c.before.before in let s = start a in let v = a.loop-token in Turn s.requires.0 s.args.tokens.now s.args.leaf s.args.positional s.args.from s.args.posting s.args.position s.args.postings.now v.postings v.token c.if-here-before.next c.if-here-before.start
+turn-here c = let s = start (head c.before.before) in turned c s.requires.0 s.requires.1 s.requires.2
 
-loop-holds : tie.Need-loop-init invariant-loop decreases-loop
+loop-holds : tie.Need-loop-token-init invariant-loop decreases-loop
 loop-holds c = λ n m h. upto-start n m _ _ _ _ _ _ _ h _
 
-token-at-requires : tie.Need-token-at-requires invariant-loop decreases-loop
+token-at-requires : tie.Need-token_at-here-requires invariant-loop decreases-loop
 token-at-requires c κs = search rules
 
-sub-where-positional : tie.Need-overflow-sub-where-positional invariant-loop decreases-loop
+sub-where-positional : tie.Need-overflow_sub-token invariant-loop decreases-loop
 sub-where-positional c = (few c.before.before.before.before).0
 
-where-positional-requires : tie.Need-where-positional-requires invariant-loop decreases-loop
+where-positional-requires : tie.Need-where_positional-requires invariant-loop decreases-loop
 where-positional-requires c κs = search rules
 
-add-t20 : tie.Need-overflow-add-t20 invariant-loop decreases-loop
+add-t20 : tie.Need-overflow_add-result invariant-loop decreases-loop
 add-t20 c =
     let a = c.before.before.before.before.before in
     let f = few a in
-    omega (arith, c.where-positional.ensures, number-le (start a).args.positional (a.loop.token - (start a).args.from), f.0, f.1, f.2)
+    omega (arith, c.where_positional.ensures, number-le (start a).args.positional (a.loop-token.token - (start a).args.from), f.0, f.1, f.2)
 
-same_length : tie.Need-same-length invariant-loop decreases-loop
+same_length : tie.Need-shape_of-postings-then-here-leaf invariant-loop decreases-loop
 same_length c = same_size c.before.before.before.before.before
 
-returns : tie.Need-returns invariant-loop decreases-loop
+returns : tie.Need-returns-then-here-leaf invariant-loop decreases-loop
 returns c =
-    let i = c.before in
-    let a = i.before.before.before.before in
-    λ n m h. upto-end n m _ _ _ _ _ _ _ h _ _ _ _ _ _ (a.loop.invariant n m h) (λ _ e. i.if1.true (ap (λ (t : Token). t.leaf) i.before.before.token-at.ensures ∙ e)) _ _ c.where-positional.ensures refl refl refl
+    let i = c in
+    let a = i in
+    λ n m h. upto-end n m _ _ _ _ _ _ _ h _ _ _ _ _ _ (a.loop-token.invariant n m h) (λ _ e. i.if-here-leaf.true (ap (λ (t : Token). t.leaf) i.token_at-here.ensures ∙ e)) _ _ c.where_positional.ensures refl refl refl
 
-add-next : tie.Need-overflow-add-next invariant-loop decreases-loop
+add-next : tie.Need-overflow_add-next invariant-loop decreases-loop
 add-next c = let a = head c.before.before in omega (arith, (at_head a).fewNext, (few a).2)
 
-sub-frequency : tie.Need-overflow-sub-frequency invariant-loop decreases-loop
+sub-frequency : tie.Need-overflow_sub-frequency invariant-loop decreases-loop
 sub-frequency c = (turn-here c.before).order
 
-add-frequency : tie.Need-overflow-add-frequency invariant-loop decreases-loop
+add-frequency : tie.Need-overflow_add-frequency invariant-loop decreases-loop
 add-frequency c = omega (arith, (few (head c.before.before.before)).2)
 
-sub-where-positional-2 : tie.Need-overflow-sub-where-positional-2 invariant-loop decreases-loop
+sub-where-positional-2 : tie.Need-overflow_sub-start invariant-loop decreases-loop
 sub-where-positional-2 c = (turn-here c.before).first
 
-add-where-positional : tie.Need-overflow-add-where-positional invariant-loop decreases-loop
+add-where-positional : tie.Need-overflow_add-position invariant-loop decreases-loop
 add-where-positional c =
     let f = few (head c.before.before.before) in
     let t = turn-here c.before in
     omega (arith, f.0, f.1, f.2, t.first, t.order)
 
-where-positional-requires-2 : tie.Need-where-positional-requires-2 invariant-loop decreases-loop
+where-positional-requires-2 : tie.Need-where_positional-index-requires invariant-loop decreases-loop
 where-positional-requires-2 c κs = search rules
 
-sub-write-posting : tie.Need-overflow-sub-write-posting invariant-loop decreases-loop
+sub-write-posting : tie.Need-overflow_sub-next invariant-loop decreases-loop
 sub-write-posting c = let t = turn-here c.before.before.before.before in omega (arith, t.nextIs)
 
-cast-write-posting : tie.Need-overflow-cast-write-posting invariant-loop decreases-loop
+cast-write-posting : tie.Need-overflow_cast-frequency invariant-loop decreases-loop
 cast-write-posting c = omega (arith, (few (head c.before.before.before.before.before.before)).2)
 
-cast-write-posting-2 : tie.Need-overflow-cast-write-posting-2 invariant-loop decreases-loop
+cast-write-posting-2 : tie.Need-overflow_cast-index invariant-loop decreases-loop
 cast-write-posting-2 c =
     let w = c.before.before in
     let j = w.before.before in
     let a = head j.before.before in
     let f = few a in
     let t = turn-here j in
-    omega (arith, w.where-positional2.ensures, number-le (start a).args.positional ((start a).args.position + (j.if2.start - (start a).args.from)), f.0, f.1, f.2, t.first, t.order)
+    omega (arith, w.where_positional-index.ensures, number-le (start a).args.positional ((start a).args.position + (j.if-here-before.start - (start a).args.from)), f.0, f.1, f.2, t.first, t.order)
 
-write-posting-requires : tie.Need-write-posting-requires invariant-loop decreases-loop
+write-posting-requires : tie.Need-write_posting-requires invariant-loop decreases-loop
 write-posting-requires c κs =
     let j = c.before.before.before.before in
     let a = head j.before.before in
-    omega (arith, same_size a, room _ _ _ _ _ _ _ _ _ (start a).pre.2 _ _ _ _ _ (turn-here j))
+    omega (arith, same_size a, room _ _ _ _ _ _ _ _ _ (start a).requires.2 _ _ _ _ _ (turn-here j))
 
-add-token : tie.Need-overflow-add-token invariant-loop decreases-loop
+add-token : tie.Need-overflow_add-token invariant-loop decreases-loop
 add-token c = omega (arith, (few (head c.before.before.before.before.before.before.before.before.before)).2)
 
-loop-less : tie.Need-loop-smaller invariant-loop decreases-loop
+loop-less : tie.Need-loop-token-smaller invariant-loop decreases-loop
 loop-less c = omega (arith, (turn-here c.before.before.before.before.before.before.before).within)
 
-loop-again : tie.Need-loop-preserved invariant-loop decreases-loop
+loop-again : tie.Need-loop-token-preserved invariant-loop decreases-loop
 loop-again c =
     let w = c.before.before in
     let x = w.before.before.before in
     let j = x.before.before in
-    λ n m h. upto_next n m _ _ _ _ _ _ _ h _ _ _ _ _ (turned j n m h) _ _ _ j.before.before.before.before.token-at.ensures x.where-positional2.ensures w.write-posting.ensures
+    λ n m h. upto_next n m _ _ _ _ _ _ _ h _ _ _ _ _ (turned j n m h) _ _ _ j.token_at-here.ensures x.where_positional-index.ensures w.write_posting.ensures
 
-sub-where-positional-3 : tie.Need-overflow-sub-where-positional-3 invariant-loop decreases-loop
+sub-where-positional-3 : tie.Need-overflow_sub-token-2 invariant-loop decreases-loop
 sub-where-positional-3 c = (few c.before).0
 
-where-positional-requires-3 : tie.Need-where-positional-requires-3 invariant-loop decreases-loop
+where-positional-requires-3 : tie.Need-where_positional-requires-2 invariant-loop decreases-loop
 where-positional-requires-3 c κs = search rules
 
-add-t28 : tie.Need-overflow-add-t28 invariant-loop decreases-loop
+add-t28 : tie.Need-overflow_add-result-2 invariant-loop decreases-loop
 add-t28 c =
     let a = c.before.before in
     let f = few a in
-    omega (arith, c.where-positional3.ensures, number-le (start a).args.positional (a.loop.token - (start a).args.from), f.0, f.1, f.2)
+    omega (arith, c.where_positional-2.ensures, number-le (start a).args.positional (a.loop-token.token - (start a).args.from), f.0, f.1, f.2)
 
-same-length-2 : tie.Need-same-length-2 invariant-loop decreases-loop
+same-length-2 : tie.Need-shape_of-postings invariant-loop decreases-loop
 same-length-2 c = same_size c.before.before
 
-returns-2 : tie.Need-returns-2 invariant-loop decreases-loop
+returns-2 : tie.Need-returns invariant-loop decreases-loop
 returns-2 c =
-    let i = c.before in
-    let a = i.before in
-    λ n m h. upto-end n m _ _ _ _ _ _ _ h _ _ _ _ _ _ (a.loop.invariant n m h) (λ g _. absurd (omega (arith, g, i.loop-test.false))) _ _ c.where-positional3.ensures refl refl refl
+    let i = c in
+    let a = i in
+    λ n m h. upto-end n m _ _ _ _ _ _ _ h _ _ _ _ _ _ (a.loop-token.invariant n m h) (λ g _. absurd (omega (arith, g, i.loop-token-test.false))) _ _ c.where_positional-2.ensures refl refl refl
 
-pub write-postings-spec : {M : Type 1} → statement M
-write-postings-spec =
+pub write_postings_spec : {M : Type 1} → statement M
+write_postings_spec =
     tie.close
     (tie.spec
     invariant-loop
