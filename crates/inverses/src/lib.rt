@@ -1,4 +1,6 @@
 // The inverses of BM25 for the fields that a query's terms and phrases are in, 256 for each field.
+#![tactic(auto)]
+
 ghost use Rattle.std.specs.Prelude.{◌≡◌, true, ◌++◌, ℕ, ◌<◌, ◌≤◌, length, drop};
 ghost use Rattle.std.specs.Float.{binary32};
 ghost use Rattle.std.specs.Float.Ieee.{of_bits};

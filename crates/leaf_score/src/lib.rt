@@ -1,4 +1,6 @@
 // The score of a document at a leaf in the lent words: BM25 at a term's or a phrase's frequency.
+#![tactic(auto)]
+
 ghost use Rattle.std.specs.Prelude.{◌≡◌, not, ℕ, ◌+◌, ◌-◌, ◌*◌, ◌/◌, ◌≤◌, ◌<◌, min, T, pos, length, get_or};
 ghost use Rattle.std.specs.Float.{nan, binary32};
 ghost use Rattle.std.specs.Float.Ieee.{nan_bits, of_bits, of_int};

@@ -1,4 +1,6 @@
 // Scorers over a lent state: the words of a node are its record and then its children's parts, one after the other.
+#![tactic(auto)]
+
 ghost use Rattle.std.specs.Prelude.{ℕ, ◌+◌, ◌≤◌, ◌<◌, ◌≡◌, length, get_or};
 ghost use Rattle.meaning.specs.Limits.{nodeStateWords};
 ghost use Rattle.scorer.specs.Calls.{AdvancePre, AdvancePost, TermPre, TermPost, RangePre, RangePost, AskPre, AskPost, PartsPre, ChildAt, ChildRead, Tally, LeastPost, DisjunctionPost, PassPost, LeadPre, StepPost, LeadPost, BooleanPre, BooleanPost, HeadRead, BooleanRead};

@@ -11,44 +11,44 @@ use borrow.Author.Rules.{rules}
 use Rattle.inverses.proofs.field_at.Statement.{statement}
 use Rattle.inverses.proofs.field_at.Tie as tie
 
-value-requires : tie.Need-value-requires
+value-requires : tie.Need-value-v-requires
 value-requires c κs = search rules
 
 kind-requires : tie.Need-kind-requires
 kind-requires c κs = search rules
 
-cast-result : tie.Need-overflow-cast-result
+cast-result : tie.Need-overflow_cast-result
 cast-result c = search rules
 
-mul-result : tie.Need-overflow-mul-result
+mul-result : tie.Need-overflow_mul-result
 mul-result c = search rules
 
-mul-result-2 : tie.Need-overflow-mul-result-2
+mul-result-2 : tie.Need-offset_bounds-leaves-v
 mul-result-2 c = search rules
 
-shared-slice-read-result : tie.Need-shared-slice-read-result
+shared-slice-read-result : tie.Need-bounds-leaves-v
 shared-slice-read-result c =
-    let s = c.before.before.before.before.before.before in
+    let s = c in
     let a = s.requires in
-    let term = sym c.before.before.kind.ensures ∙ c.before.if1.true in
+    let term = sym c.kind.ensures ∙ c.if-kind-eq1.true in
     let there = subst (λ (z : List ℕ). recordValue s.args.q.now s.args.at 0 < length z / 4) a.2 (term-leaf a.0 s.args.q.now a.1.values-right s.args.at a.3 term) in
-    omega (arith, there, c.before.before.before.value.ensures)
+    omega (arith, there, c.value-v.ensures)
 
-returns : tie.Need-returns
+returns : tie.Need-returns-then-kind-eq1
 returns c =
-    let s = c.before.before.before.before.before.before in
-    let v = c.before.before.before.value in
-    let term = sym c.before.before.kind.ensures ∙ c.before.if1.true in
+    let s = c in
+    let v = c.value-v in
+    let term = sym c.kind.ensures ∙ c.if-kind-eq1.true in
     λ ix are. ap (λ (z : List ℕ). get_or z (4 * v.result) 0) (sym are) ∙ field-of-term ix s.args.q.now s.args.at v.result term v.ensures
 
-returns-2 : tie.Need-returns-2
+returns-2 : tie.Need-returns-else-kind-eq1
 returns-2 c =
-    let s = c.before.before.before.before.before in
-    let v = c.before.before.value in
-    λ ix are. field-of-phrase ix s.args.q.now s.args.at v.result (λ e. c.if1.false (c.before.kind.ensures ∙ e)) v.ensures
+    let s = c in
+    let v = c.value-v in
+    λ ix are. field-of-phrase ix s.args.q.now s.args.at v.result (λ e. c.if-kind-eq1.false (c.kind.ensures ∙ e)) v.ensures
 
-pub field-at-spec : {M : Type 1} → statement M
-field-at-spec =
+pub field_at_spec : {M : Type 1} → statement M
+field_at_spec =
     tie.close
     (tie.spec
     value-requires

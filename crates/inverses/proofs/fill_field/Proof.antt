@@ -18,47 +18,47 @@ use Rattle.inverses.proofs.fill_field.Tie as tie
 abbrev entry : ℕ → ℕ → Float
 entry average n = inverse (of_bits binary32 average) (length_of n)
 
-abbrev invariant-loop : tie.invariant-loop
+abbrev invariant-loop : tie.invariant-loop-n
 invariant-loop average table₀ bm25 n₀ table n = (n ≤ 256) × (length table ≡ length table₀) × (table ≡ listTo n (entry average) ++ drop n table₀)
 
-abbrev decreases-loop : tie.decreases-loop
+abbrev decreases-loop : tie.decreases-loop-n
 decreases-loop average table₀ bm25 n₀ table n = 256 - n
 
-float-from-bits-new : tie.Need-float-from-bits-new invariant-loop decreases-loop
-float-from-bits-new c = pattern_number c.before.args.average (omega (arith, c.before.requires.2))
+float-from-bits-new : tie.Need-float_from_bits-average invariant-loop decreases-loop
+float-from-bits-new c = pattern_number c.args.average (omega (arith, c.requires.2))
 
-new-requires : tie.Need-new-requires invariant-loop decreases-loop
+new-requires : tie.Need-new-bm25-requires invariant-loop decreases-loop
 new-requires c κs = search rules
 
-loop-holds : tie.Need-loop-init invariant-loop decreases-loop
-loop-holds c = let s = c.before.before in (omega arith, refl, ap (λ (z : List Float). z ++ s.args.table.now) (sym (listTo-zero (entry s.args.average))))
+loop-holds : tie.Need-loop-n-init invariant-loop decreases-loop
+loop-holds c = let s = c in (omega arith, refl, ap (λ (z : List Float). z ++ s.args.table.now) (sym (listTo-zero (entry s.args.average))))
 
-mul-table : tie.Need-overflow-mul-table invariant-loop decreases-loop
-mul-table c = omega (arith, c.loop-test.true)
+mul-table : tie.Need-offset_bounds-bm25-n invariant-loop decreases-loop
+mul-table c = omega (arith, c.loop-n-test.true)
 
-element-copy-out-table : tie.Need-element-copy-out-table invariant-loop decreases-loop
-element-copy-out-table c = c.loop-test.true
+element-copy-out-table : tie.Need-bounds-bm25-n invariant-loop decreases-loop
+element-copy-out-table c = c.loop-n-test.true
 
-mul-table-2 : tie.Need-overflow-mul-table-2 invariant-loop decreases-loop
-mul-table-2 c = omega (arith, c.before.loop-test.true)
+mul-table-2 : tie.Need-offset_bounds-table-n invariant-loop decreases-loop
+mul-table-2 c = omega (arith, c.loop-n-test.true)
 
-slice-write-table : tie.Need-slice-write-table invariant-loop decreases-loop
+slice-write-table : tie.Need-bounds-table-n invariant-loop decreases-loop
 slice-write-table c =
-    omega (arith, c.before.loop-test.true, c.before.before.loop.invariant.1, c.before.before.before.before.before.requires.0)
+    omega (arith, c.loop-n-test.true, c.loop-n.invariant.1, c.requires.0)
 
-add-n : tie.Need-overflow-add-n invariant-loop decreases-loop
-add-n c = omega (arith, c.before.loop-test.true)
+add-n : tie.Need-overflow_add-n invariant-loop decreases-loop
+add-n c = omega (arith, c.loop-n-test.true)
 
-loop-less : tie.Need-loop-smaller invariant-loop decreases-loop
-loop-less c = omega (arith, c.before.loop-test.true)
+loop-less : tie.Need-loop-n-smaller invariant-loop decreases-loop
+loop-less c = omega (arith, c.loop-n-test.true)
 
-loop-again : tie.Need-loop-preserved invariant-loop decreases-loop
+loop-again : tie.Need-loop-n-preserved invariant-loop decreases-loop
 loop-again c =
-    let s = c.before.before.before.before.before in
-    let l = c.before.before.loop in
-    let low = c.before.loop-test.true in
+    let s = c in
+    let l = c.loop-n in
+    let low = c.loop-n-test.true in
     let e = entry s.args.average in
-    let new = c.before.before.before.new in
+    let new = c.new-bm25 in
     let v = get_or new.result.cache l.n nan in
     let is : v ≡ e l.n = ap (λ (z : List Float). get_or z l.n nan) new.ensures ∙ getD-listTo 256 e nan l.n low in (
       omega (arith, low),
@@ -66,18 +66,18 @@ loop-again c =
       entry_more e s.args.table.now l.table l.n v (omega (arith, low, s.requires.0)) l.invariant.2 is,
     )
 
-same_length : tie.Need-same-length invariant-loop decreases-loop
-same_length c = c.before.loop.invariant.1
+same_length : tie.Need-shape_of-table invariant-loop decreases-loop
+same_length c = c.loop-n.invariant.1
 
 returns : tie.Need-returns invariant-loop decreases-loop
 returns c =
-    let s = c.before.before.before.before in
-    let l = c.before.loop in
-    let end : l.n ≡ 256 = le_antisymm l.invariant.0 c.loop-test.false in
+    let s = c in
+    let l = c.loop-n in
+    let end : l.n ≡ 256 = le_antisymm l.invariant.0 c.loop-n-test.false in
     l.invariant.2 ∙ ap (λ (n : ℕ). listTo n (entry s.args.average) ++ drop n s.args.table.now) end
 
-pub fill-field-spec : {M : Type 1} → statement M
-fill-field-spec =
+pub fill_field_spec : {M : Type 1} → statement M
+fill_field_spec =
     tie.close
     (tie.spec
     invariant-loop

@@ -11,132 +11,131 @@ use native.Mathlib.Omega.{arith}
 use mathlib.Core.Bool.{true}
 use mathlib.Core.Logic.{⊎_elim}
 use mathlib.Core.Path.{◌≡◌, refl, sym, ◌∙◌, ap}
-use borrow.Author.Tests.{not-false}
 use borrow.Author.Rules.{rules}
 use Rattle.inverses.proofs.fill_inverses.Statement.{statement}
 use Rattle.inverses.proofs.fill_inverses.Tie as tie
 
-abbrev invariant-loop : tie.invariant-loop
+abbrev invariant-loop : tie.invariant-loop-at
 invariant-loop fields leaves q table₀ count filled₀ at₀ table filled at =
     ((ix : Index) (n : ℕ) → Asks ix q → LeafLent ix n fields leaves → Filled ix q table filled at) × (at ≤ count) × (count ≡ recordCount q) × (length table ≡ 4096) × (length filled ≡ 16)
 
-abbrev decreases-loop : tie.decreases-loop
+abbrev decreases-loop : tie.decreases-loop-at
 decreases-loop fields leaves q table₀ count filled₀ at₀ table filled at = count - at
 
-record-count-requires : tie.Need-record-count-requires invariant-loop decreases-loop
+record-count-requires : tie.Need-record_count-count-requires invariant-loop decreases-loop
 record-count-requires c κs = search rules
 
-loop-holds : tie.Need-loop-init invariant-loop decreases-loop
+loop-holds : tie.Need-loop-at-init invariant-loop decreases-loop
 loop-holds c =
-    let s = c.before.before.before.before.before in
-    (λ ix n a lent. none_filled ix s.args.q.now s.args.table.now, omega arith, c.record-count.ensures, s.requires.1, refl)
+    let s = c in
+    (λ ix n a lent. none_filled ix s.args.q.now s.args.table.now, omega arith, c.record_count-count.ensures, s.requires.1, refl)
 
-has-field-requires : tie.Need-has-field-requires invariant-loop decreases-loop
-has-field-requires c κs = omega (arith, c.loop-test.true, c.before.loop.invariant.2)
+has-field-requires : tie.Need-has_field-requires invariant-loop decreases-loop
+has-field-requires c κs = omega (arith, c.loop-at-test.true, c.loop-at.invariant.2)
 
-field-at-requires : tie.Need-field-at-requires invariant-loop decreases-loop
+field-at-requires : tie.Need-field_at-f-requires invariant-loop decreases-loop
 field-at-requires c κs =
-    let s = c.before.before.before.before.before.before.before.before.before in
+    let s = c in
     let a = s.requires.0 in
-    (a.0, a.2, a.3.leaves-are, omega (arith, c.before.before.loop-test.true, c.before.before.before.loop.invariant.2), sym c.before.has-field.ensures ∙ c.if1.true)
+    (a.0, a.2, a.3.leaves-are, omega (arith, c.loop-at-test.true, c.loop-at.invariant.2), sym c.has_field.ensures ∙ c.if-has_field.true)
 
-cast_f : tie.Need-overflow-cast-f invariant-loop decreases-loop
-cast_f c = omega (arith, c.field_at.type-inv)
+cast_f : tie.Need-overflow_cast-f invariant-loop decreases-loop
+cast_f c = omega (arith, c.field_at-f.type_inv)
 
 -- what is read of the field of the record at `at`
-read : (c : tie.After-field-at invariant-loop decreases-loop) → FieldRead c.before.before.before.before.before.before.before.before.before.before.args.fields.now c.field_at.result
+read : (c : tie.After-field_at-f invariant-loop decreases-loop) → FieldRead c.args.fields.now c.field_at-f.result
 read c =
-    let s = c.before.before.before.before.before.before.before.before.before.before in
+    let s = c in
     let a = s.requires.0 in
-    let low = c.before.before.before.loop-test.true in
-    let is = c.before.before.before.before.loop.invariant.2 in
-    field-read a.0 a.1 s.args.q.now s.args.fields.now s.args.leaves.now c.before.before.before.before.loop.at c.field_at.result a.2 a.3 (omega (arith, low, is)) (sym c.before.before.has-field.ensures ∙ c.before.if1.true) (c.field_at.ensures a.0 a.3.leaves-are)
+    let low = c.loop-at-test.true in
+    let is = c.loop-at.invariant.2 in
+    field-read a.0 a.1 s.args.q.now s.args.fields.now s.args.leaves.now c.loop-at.at c.field_at-f.result a.2 a.3 (omega (arith, low, is)) (sym c.has_field.ensures ∙ c.if-has_field.true) (c.field_at-f.ensures a.0 a.3.leaves-are)
 
-array-read-if2 : tie.Need-array-read-if2 invariant-loop decreases-loop
+array-read-if2 : tie.Need-bounds-filled-f invariant-loop decreases-loop
 array-read-if2 c = (read c).few
 
-mul-fill-field : tie.Need-overflow-mul-fill-field invariant-loop decreases-loop
+mul-fill-field : tie.Need-overflow_mul-f invariant-loop decreases-loop
 mul-fill-field c = let few = (read c.before).few in omega (arith, few)
 
-mul-fill-field-2 : tie.Need-overflow-mul-fill-field-2 invariant-loop decreases-loop
+mul-fill-field-2 : tie.Need-offset_bounds-fields-f invariant-loop decreases-loop
 mul-fill-field-2 c = let few = (read c.before).few in omega (arith, few)
 
-shared-slice-read-fill-field : tie.Need-shared-slice-read-fill-field invariant-loop decreases-loop
+shared-slice-read-fill-field : tie.Need-bounds-fields-f invariant-loop decreases-loop
 shared-slice-read-fill-field c = (read c.before.before).there
 
-mul-fill-field-3 : tie.Need-overflow-mul-fill-field-3 invariant-loop decreases-loop
+mul-fill-field-3 : tie.Need-overflow_mul-f-then-not-filled-f invariant-loop decreases-loop
 mul-fill-field-3 c = let few = (read c.before.before).few in omega (arith, few)
 
-mul-fill-field-4 : tie.Need-overflow-mul-fill-field-4 invariant-loop decreases-loop
+mul-fill-field-4 : tie.Need-offset_bounds-table-f invariant-loop decreases-loop
 mul-fill-field-4 c = let few = (read c.before.before).few in omega (arith, few)
 
-sub-fill-field : tie.Need-overflow-sub-fill-field invariant-loop decreases-loop
-sub-fill-field c = let few = (read c.before.before).few in omega (arith, few, c.before.before.before.before.before.before.loop.invariant.3)
+sub-fill-field : tie.Need-slice_bounds-fill_field-count invariant-loop decreases-loop
+sub-fill-field c = let few = (read c.before.before).few in omega (arith, few, c.loop-at.invariant.3)
 
-part-fill-field-start : tie.Need-slice-bounds-fill-field-start invariant-loop decreases-loop
-part-fill-field-start c = let few = (read c.before.before).few in omega (arith, few, c.before.before.before.before.before.before.loop.invariant.3)
+part-fill-field-start : tie.Need-slice_bounds-fill_field-start invariant-loop decreases-loop
+part-fill-field-start c = let few = (read c.before.before).few in omega (arith, few, c.loop-at.invariant.3)
 
-part-fill-field-end : tie.Need-slice-bounds-fill-field-end invariant-loop decreases-loop
+part-fill-field-end : tie.Need-slice_bounds-fill_field-end invariant-loop decreases-loop
 part-fill-field-end c = search rules
 
-fill-field-requires : tie.Need-fill-field-requires invariant-loop decreases-loop
+fill-field-requires : tie.Need-fill_field-requires invariant-loop decreases-loop
 fill-field-requires c κs =
     let field = read c.before.before.before in
     let few = field.few in
-    let long = c.before.before.before.before.before.before.before.loop.invariant.3 in
+    let long = c.loop-at.invariant.3 in
     (simp (length-take, length-drop) (omega (arith, few, long)), field.least, field.largest)
 
-array-write-filled : tie.Need-array-write-filled invariant-loop decreases-loop
+array-write-filled : tie.Need-bounds-filled-f-then-not-filled-f invariant-loop decreases-loop
 array-write-filled c = (read c.before.before.before.before.before.before).few
 
-add_at : tie.Need-overflow-add-at invariant-loop decreases-loop
-add_at c = omega (arith, c.before.before.loop-test.true)
+add_at : tie.Need-overflow_add-at invariant-loop decreases-loop
+add_at c = omega (arith, c.loop-at-test.true)
 
-loop-less : tie.Need-loop-smaller invariant-loop decreases-loop
-loop-less c = omega (arith, c.before.before.loop-test.true)
+loop-less : tie.Need-loop-at-smaller invariant-loop decreases-loop
+loop-less c = omega (arith, c.loop-at-test.true)
 
-loop-again : tie.Need-loop-preserved invariant-loop decreases-loop
+loop-again : tie.Need-loop-at-preserved invariant-loop decreases-loop
 loop-again c =
-    let s = c.before.before.before.before.before.before.before.before.before in
-    let l = c.before.before.before.loop in
-    let low = c.before.before.loop-test.true in
-    let has = c.before.has-field.ensures in
+    let s = c in
+    let l = c.loop-at in
+    let low = c.loop-at-test.true in
+    let has = c.has_field.ensures in
     let q = s.args.q.now in
     let fields = s.args.fields.now in
     let leaves = s.args.leaves.now in
     ⊎_elim
     (λ w.
-    let f = w.1.result in
-    let field = read (record { before = record { before = c.before; if1 = w.0 }; field_at = w.1 }) in
+    let f = w.field_at-f.result in
+    let field = read (record { before = record { before = c.before; if-has_field = w.if-has_field }; field_at-f = w.field_at-f }) in
     let few = field.few in
     let long = l.invariant.3 in
     let wide = l.invariant.4 in (
-      λ ix n a lent. rw (w.8, w.9) (filled-new ix q l.table l.filled l.at (l.invariant.0 ix n a lent) fields f w.5.last.1.0 lent.field-lent.fields-are (w.1.ensures ix lent.leaves-are) (omega (arith, few, wide)) (omega (arith, few, long)) w.5.ensures),
+      λ ix n a lent. rw (w.table-is, w.filled-is) (filled-new ix q l.table l.filled l.at (l.invariant.0 ix n a lent) fields f w.fill_field.new.table lent.field-lent.fields-are (w.field_at-f.ensures ix lent.leaves-are) (omega (arith, few, wide)) (omega (arith, few, long)) w.fill_field.ensures),
       omega (arith, low),
       l.invariant.2,
-      ap length w.8 ∙ w.6.given.1 ∙ long,
-      ap length w.9 ∙ length-set l.filled f true ∙ wide,
+      ap length w.table-is ∙ w.table-1.given.1 ∙ long,
+      ap length w.filled-is ∙ length-set l.filled f true ∙ wide,
     ))
     (⊎_elim
-    (λ w. (λ ix n a lent. rw (w.3, w.4) (filled-again ix q l.table l.filled l.at (l.invariant.0 ix n a lent) w.1.result (w.1.ensures ix lent.leaves-are) (not-false _ w.2.left)), omega (arith, low), l.invariant.2, ap length w.3 ∙ l.invariant.3, ap length w.4 ∙ l.invariant.4))
-    (λ w. (λ ix n a lent. rw (w.1, w.2) (filled-skip ix q l.table l.filled l.at (l.invariant.0 ix n a lent) (sym has ∙ w.0.left)), omega (arith, low), l.invariant.2, ap length w.1 ∙ l.invariant.3, ap length w.2 ∙ l.invariant.4)))
-    c.if1.branch
+    (λ w. (λ ix n a lent. rw (w.table-is, w.filled-is) (filled-again ix q l.table l.filled l.at (l.invariant.0 ix n a lent) w.field_at-f.result (w.field_at-f.ensures ix lent.leaves-are) (w.if-not-filled-f.false)), omega (arith, low), l.invariant.2, ap length w.table-is ∙ l.invariant.3, ap length w.filled-is ∙ l.invariant.4))
+    (λ w. (λ ix n a lent. rw (w.table-is, w.filled-is) (filled-skip ix q l.table l.filled l.at (l.invariant.0 ix n a lent) (sym has ∙ w.if-has_field.false)), omega (arith, low), l.invariant.2, ap length w.table-is ∙ l.invariant.3, ap length w.filled-is ∙ l.invariant.4)))
+    c.if-has_field.branch-raw
 
-same_length : tie.Need-same-length invariant-loop decreases-loop
+same_length : tie.Need-shape_of-table invariant-loop decreases-loop
 same_length c =
-    let s = c.before.before.before.before.before.before.before in
-    c.before.loop.invariant.3 ∙ sym s.requires.1
+    let s = c in
+    c.loop-at.invariant.3 ∙ sym s.requires.1
 
 returns : tie.Need-returns invariant-loop decreases-loop
 returns c =
-    let s = c.before.before.before.before.before.before.before in
-    let l = c.before.loop in
-    let end = c.loop-test.false in
+    let s = c in
+    let l = c.loop-at in
+    let end = c.loop-at-test.false in
     let is = l.invariant.2 in
     (λ ix n a lent at h has. let known = l.invariant.0 ix n a lent in known.tables (fieldAt ix s.args.q.now at) (known.met at (omega (arith, h, end, is)) has), l.invariant.3)
 
-pub fill-inverses-spec : {M : Type 1} → statement M
-fill-inverses-spec =
+pub fill_inverses_spec : {M : Type 1} → statement M
+fill_inverses_spec =
     tie.close
     (tie.spec
     invariant-loop

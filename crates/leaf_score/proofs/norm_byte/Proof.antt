@@ -18,25 +18,25 @@ byte_one norms begin doc e = rw (eq-eqb begin 0 e)
 byte-read : (norms : List ℕ) (begin doc d : ℕ) → (begin ≡ 0 → ⊥) → d ≡ doc → get_or norms (begin - 1 + d) 0 ≡ byte_at norms begin doc
 byte-read norms begin doc d n e = rw (ne_eqb begin 0 n, e)
 
-sub-result : tie.Need-overflow-sub-result
+sub-result : tie.Need-overflow_sub-result
 sub-result c = search rules
 
 wide-requires : tie.Need-wide-requires
 wide-requires c κs = search rules
 
-add-result : tie.Need-overflow-add-result
-add-result c = let h = c.before.before.before.requires (omega arith) in omega (arith, h, c.wide.ensures)
+add-result : tie.Need-overflow_add-result
+add-result c = let h = c.requires (omega arith) in omega (arith, h, c.wide.ensures)
 
-shared-slice-read-result : tie.Need-shared-slice-read-result
-shared-slice-read-result c = let h = c.before.before.before.before.requires (omega arith) in omega (arith, h, c.before.wide.ensures)
+shared-slice-read-result : tie.Need-bounds-norms-begin
+shared-slice-read-result c = let h = c.requires (omega arith) in omega (arith, h, c.wide.ensures)
 
-returns : tie.Need-returns
-returns c = byte_one c.before.before.args.norms.now c.before.before.args.begin c.before.before.args.doc c.if1.true
+returns : tie.Need-returns-then-begin-eq0
+returns c = byte_one c.args.norms.now c.args.begin c.args.doc c.if-begin-eq0.true
 
-returns-2 : tie.Need-returns-2
-returns-2 c = byte-read c.before.before.before.before.args.norms.now c.before.before.before.before.args.begin c.before.before.before.before.args.doc c.before.wide.result c.before.before.if1.false c.before.wide.ensures
+returns-2 : tie.Need-returns-else-begin-eq0
+returns-2 c = byte-read c.args.norms.now c.args.begin c.args.doc c.wide.result c.if-begin-eq0.false c.wide.ensures
 
-pub norm-byte-spec : {M : Type 1} → statement M
-norm-byte-spec =
+pub norm_byte_spec : {M : Type 1} → statement M
+norm_byte_spec =
     tie.close
     (tie.spec sub-result wide-requires add-result shared-slice-read-result returns returns-2)

@@ -43,8 +43,8 @@ worked-out-now st st' postings positions doc r few post ix places f ts s w H m =
 top : (d : ℕ) → d < noMoreDocs → d ≤ noMoreDocs
 top d h = omega arith
 
-slice-read-wide : tie.Need-slice-read-wide
-slice-read-wide c = let p = c.before.before.before.before.requires in omega (arith, words_long _ p.1.5 p.1.4 p.1.8.words)
+slice-read-wide : tie.Need-bounds-st-16
+slice-read-wide c = let p = c.requires in omega (arith, words_long _ p.1.5 p.1.4 p.1.8.words)
 
 wide-requires : tie.Need-wide-requires
 wide-requires c κs = search rules
@@ -52,35 +52,35 @@ wide-requires c κs = search rules
 wide-requires-2 : tie.Need-wide-requires-2
 wide-requires-2 c κs = search rules
 
-add-if1 : tie.Need-overflow-add-if1
+add-if1 : tie.Need-overflow_add-wide
 add-if1 c = search rules
 
-slice-read-result : tie.Need-slice-read-result
-slice-read-result c = let p = c.before.before.before.before.before.before.before.before.requires in omega (arith, words_long _ p.1.5 p.1.4 p.1.8.words)
+slice-read-result : tie.Need-bounds-st-17
+slice-read-result c = let p = c.requires in omega (arith, words_long _ p.1.5 p.1.4 p.1.8.words)
 
-returns : tie.Need-returns
-returns c = same-there c.before.before.before.before.before.before.before.before.args.st.now c.before.before.before.before.before.before.before.before.args.postings.now c.before.before.before.before.before.before.before.before.args.positions.now c.before.before.before.before.before.before.before.before.args.doc (sym c.before.before.before.wide.ensures ∙ c.before.if1.true ∙ ap (λ (i : ℕ). i + 1) c.before.before.wide2.ensures)
+returns : tie.Need-returns-then-wide
+returns c = same-there c.args.st.now c.args.postings.now c.args.positions.now c.args.doc (sym c.wide.ensures ∙ c.if-wide.true ∙ ap (λ (i : ℕ). i + 1) c.wide-2.ensures)
 
-seek-phrase-requires : tie.Need-seek-phrase-requires
-seek-phrase-requires c κs = let p = c.before.before.before.before.before.before.before.before.before.before.requires in (top _ p.0, (p.1.0, p.1.1, p.1.2, p.1.3, p.1.4, p.1.5, p.1.6, p.1.7, p.1.8))
+seek-phrase-requires : tie.Need-seek_phrase-d-requires
+seek-phrase-requires c κs = let p = c.requires in (top _ p.0, (p.1.0, p.1.1, p.1.2, p.1.3, p.1.4, p.1.5, p.1.6, p.1.7, p.1.8))
 
-slice-read-result-2 : tie.Need-slice-read-result-2
-slice-read-result-2 c = let p = c.before.before.before.before.before.before.before.before.before.before.before.before.before.before.before.before.requires in omega (arith, words_long _ p.1.5 p.1.4 p.1.8.words, c.before.before.before.before.before.seek-phrase.auto.0)
+slice-read-result-2 : tie.Need-bounds-st-17-2
+slice-read-result-2 c = let p = c.requires in omega (arith, words_long _ p.1.5 p.1.4 p.1.8.words, c.seek_phrase-d.auto.st)
 
-same_length : tie.Need-same-length
+same_length : tie.Need-shape_of-st
 same_length c = search rules
 
-same-length-2 : tie.Need-same-length-2
+same-length-2 : tie.Need-shape_of-a
 same-length-2 c = search rules
 
-same-length-3 : tie.Need-same-length-3
+same-length-3 : tie.Need-shape_of-b
 same-length-3 c = search rules
 
-returns-2 : tie.Need-returns-2
-returns-2 c = worked-out-now c.before.before.before.before.before.before.before.before.before.before.before.before.before.before.before.before.args.st.now c.before.before.before.before.before.seek-phrase.new.0 c.before.before.before.before.before.before.before.before.before.before.before.before.before.before.before.before.args.postings.now c.before.before.before.before.before.before.before.before.before.before.before.before.before.before.before.before.args.positions.now c.before.before.before.before.before.before.before.before.before.before.before.before.before.before.before.before.args.doc c.before.before.before.before.before.seek-phrase.result c.before.before.before.before.before.before.before.before.before.before.before.before.before.before.before.before.requires.0 c.before.before.before.before.before.seek-phrase.ensures
+returns-2 : tie.Need-returns
+returns-2 c = worked-out-now c.args.st.now c.seek_phrase-d.new.st c.args.postings.now c.args.positions.now c.args.doc c.seek_phrase-d.result c.requires.0 c.seek_phrase-d.ensures
 
-pub phrase-frequency-spec : {M : Type 1} → statement M
-phrase-frequency-spec =
+pub phrase_frequency_spec : {M : Type 1} → statement M
+phrase_frequency_spec =
     tie.close
     (tie.spec
     slice-read-wide

@@ -10,45 +10,45 @@ use Rattle.meaning.proofs.Tests.{cmp}
 use Rattle.leaf_score.proofs.term_frequency.Statement.{statement}
 use Rattle.leaf_score.proofs.term_frequency.Tie as tie
 
-abbrev invariant-loop : tie.invariant-loop
+abbrev invariant-loop : tie.invariant-loop-i
 invariant-loop postings first number cursor doc i₀ i = (k : ℕ) → k < i → cursor ≤ k → postingDocument postings first k ≡ doc → ⊥
 
-abbrev decreases-loop : tie.decreases-loop
+abbrev decreases-loop : tie.decreases-loop-i
 decreases-loop postings first number cursor doc i₀ i = number - i
 
-loop-holds : tie.Need-loop-init invariant-loop decreases-loop
+loop-holds : tie.Need-loop-i-init invariant-loop decreases-loop
 loop-holds c = λ k h g e. omega arith
 
-posting-document-requires : tie.Need-posting-document-requires invariant-loop decreases-loop
+posting-document-requires : tie.Need-posting_document-requires invariant-loop decreases-loop
 posting-document-requires c κs = omega arith
 
-posting-frequency-requires : tie.Need-posting-frequency-requires invariant-loop decreases-loop
+posting-frequency-requires : tie.Need-posting_frequency-requires invariant-loop decreases-loop
 posting-frequency-requires c κs = omega arith
 
-returns : tie.Need-returns invariant-loop decreases-loop
+returns : tie.Need-returns-then-posting_document-doc invariant-loop decreases-loop
 returns c = λ i a b e h.
-    let j : ℕ = c.before.before.before.before.loop.i in
-    let p = c.before.before.before.before.before.before.args.postings.now in
-    let f : ℕ = c.before.before.before.before.before.before.args.first in
+    let j : ℕ = c.loop-i.i in
+    let p = c.args.postings.now in
+    let f : ℕ = c.args.first in
     ⊎_elim
-    (λ l. absurd (h j l (sym c.before.before.posting-document.ensures ∙ c.before.if1.true)))
-    (λ l. ⊎_elim (λ q. c.posting-frequency.ensures ∙ ap (λ (n : ℕ). postingFrequency p f n) (sym q)) (λ q. absurd (c.before.before.before.before.loop.invariant i q a e)) (eq-or-lt_of_le l))
+    (λ l. absurd (h j l (sym c.posting_document.ensures ∙ c.if-posting_document-doc.true)))
+    (λ l. ⊎_elim (λ q. c.posting_frequency.ensures ∙ ap (λ (n : ℕ). postingFrequency p f n) (sym q)) (λ q. absurd (c.loop-i.invariant i q a e)) (eq-or-lt_of_le l))
     (cmp j i)
 
-add-i : tie.Need-overflow-add-i invariant-loop decreases-loop
+add-i : tie.Need-overflow_add-i invariant-loop decreases-loop
 add-i c = omega arith
 
-loop-less : tie.Need-loop-smaller invariant-loop decreases-loop
+loop-less : tie.Need-loop-i-smaller invariant-loop decreases-loop
 loop-less c = omega arith
 
-loop-again : tie.Need-loop-preserved invariant-loop decreases-loop
-loop-again c = below_more _ _ c.before.before.before.loop.invariant (λ g e. c.if1.false (c.before.posting-document.ensures ∙ e))
+loop-again : tie.Need-loop-i-preserved invariant-loop decreases-loop
+loop-again c = below_more _ _ c.loop-i.invariant (λ g e. c.if-posting_document-doc.false (c.posting_document.ensures ∙ e))
 
-returns-2 : tie.Need-returns-2 invariant-loop decreases-loop
-returns-2 c = λ i a b e h. absurd (c.before.loop.invariant i (omega arith) a e)
+returns-2 : tie.Need-returns invariant-loop decreases-loop
+returns-2 c = λ i a b e h. absurd (c.loop-i.invariant i (omega arith) a e)
 
-pub term-frequency-spec : {M : Type 1} → statement M
-term-frequency-spec =
+pub term_frequency_spec : {M : Type 1} → statement M
+term_frequency_spec =
     tie.close
     (tie.spec
     invariant-loop

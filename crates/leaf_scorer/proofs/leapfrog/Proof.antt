@@ -18,32 +18,32 @@ use Rattle.leaf_scorer.proofs.leapfrog.Reads as reads
 use Rattle.leaf_scorer.proofs.leapfrog.Lts as lts
 use Rattle.leaf_scorer.proofs.pass_terms.Reads as pass-terms-reads
 
-abbrev invariant-loop : tie.invariant-loop
+abbrev invariant-loop : tie.invariant-loop-p
 invariant-loop terms₀ postings target d₀ terms d = (length terms ≡ length terms₀) × (d ≤ noMoreDocs) × ((ix : Index) (ts : List PhraseTerm) → TermsHeld postings ix ts terms₀ target → Going (allFound ix ts) target d (TermsHeld postings ix ts terms d))
 
-abbrev decreases-loop : tie.decreases-loop
+abbrev decreases-loop : tie.decreases-loop-p
 decreases-loop terms₀ postings target d₀ terms d = noMoreDocs - d
 
-loop-holds : tie.Need-loop-init invariant-loop decreases-loop
-loop-holds c = let s = c.before.before in (refl, s.requires.0, λ ix ts h. going_start h)
+loop-holds : tie.Need-loop-p-init invariant-loop decreases-loop
+loop-holds c = let s = c in (refl, s.requires.0, λ ix ts h. going_start h)
 
-pass-terms-requires : tie.Need-pass-terms-requires invariant-loop decreases-loop
-pass-terms-requires c κs = let s = c.before.before.before.before in let P = s.requires.1 in let a = c.before.loop in let i = a.invariant.2 P.0 P.1 P.2 in (a.invariant.1, (P.0, P.1, i.held))
+pass-terms-requires : tie.Need-pass_terms-p-requires invariant-loop decreases-loop
+pass-terms-requires c κs = let s = c in let P = s.requires.1 in let a = c.loop-p in let i = a.invariant.2 P.0 P.1 P.2 in (a.invariant.1, (P.0, P.1, i.held))
 
-same_length : tie.Need-same-length invariant-loop decreases-loop
-same_length c = let a = c.before.before.before.before.before.loop in let g = c.before.before.before.pass-terms in g.auto.0 ∙ a.invariant.0
+same_length : tie.Need-shape_of-terms-then-p invariant-loop decreases-loop
+same_length c = let a = c.loop-p in let g = c.pass_terms-p in g.auto.terms ∙ a.invariant.0
 
-returns : tie.Need-returns invariant-loop decreases-loop
-returns c = let a = c.before.before.before.before.before.loop in let g = c.before.before.before.pass-terms in λ ix ts h. let i = a.invariant.2 ix ts h in leap-done i.lo i.before (g.ensures ix ts i.held) c.if1.true
+returns : tie.Need-returns-then-p invariant-loop decreases-loop
+returns c = let a = c.loop-p in let g = c.pass_terms-p in λ ix ts h. let i = a.invariant.2 ix ts h in leap-done i.lo i.before (g.ensures ix ts i.held) c.if-p.true
 
-loop-less : tie.Need-loop-smaller invariant-loop decreases-loop
-loop-less c = let s = c.before.before.before.before.before.before.before.before in let P = s.requires.1 in let a = c.before.before.before.before.before.loop in let i = a.invariant.2 P.0 P.1 P.2 in let g = c.before.before.before.pass-terms in let q = g.ensures P.0 P.1 i.held in omega (arith, q.top, q.moved c.if1.false)
+loop-less : tie.Need-loop-p-smaller invariant-loop decreases-loop
+loop-less c = let s = c in let P = s.requires.1 in let a = c.loop-p in let i = a.invariant.2 P.0 P.1 P.2 in let g = c.pass_terms-p in let q = g.ensures P.0 P.1 i.held in omega (arith, q.top, q.moved c.if-p.false)
 
-loop-again : tie.Need-loop-preserved invariant-loop decreases-loop
-loop-again c = let s = c.before.before.before.before.before.before.before.before in let P = s.requires.1 in let a = c.before.before.before.before.before.loop in let i = a.invariant.2 P.0 P.1 P.2 in let g = c.before.before.before.pass-terms in let q = g.ensures P.0 P.1 i.held in (g.auto.0 ∙ a.invariant.0, q.top, λ ix ts h. let i = a.invariant.2 ix ts h in let q = g.ensures ix ts i.held in record { lo = le_trans i.lo q.from; before = leap-more i.lo i.before q; held = leap-held i.held q.are })
+loop-again : tie.Need-loop-p-preserved invariant-loop decreases-loop
+loop-again c = let s = c in let P = s.requires.1 in let a = c.loop-p in let i = a.invariant.2 P.0 P.1 P.2 in let g = c.pass_terms-p in let q = g.ensures P.0 P.1 i.held in (g.auto.terms ∙ a.invariant.0, q.top, λ ix ts h. let i = a.invariant.2 ix ts h in let q = g.ensures ix ts i.held in record { lo = le_trans i.lo q.from; before = leap-more i.lo i.before q; held = leap-held i.held q.are })
 
-pub leapfrog-spec : {M : Type 1} → statement M
-leapfrog-spec =
+pub leapfrog_spec : {M : Type 1} → statement M
+leapfrog_spec =
     tie.close
     (tie.spec
     invariant-loop

@@ -20,59 +20,59 @@ use Rattle.leaf_scorer.proofs.pass_terms.Reads as reads
 use Rattle.leaf_scorer.proofs.pass_terms.Lts as lts
 use Rattle.leaf_scorer.proofs.search.Reads as search-reads
 
-abbrev invariant-loop : tie.invariant-loop
+abbrev invariant-loop : tie.invariant-loop-at
 invariant-loop terms₀ postings target d₀ last₀ at₀ terms d last at = (length terms ≡ length terms₀) × ((ix : Index) (ts : List PhraseTerm) → TermsHeld postings ix ts terms₀ target → TermsZip postings ix ts target terms d last at)
 
-abbrev decreases-loop : tie.decreases-loop
+abbrev decreases-loop : tie.decreases-loop-at
 decreases-loop terms₀ postings target d₀ last₀ at₀ terms d last at = length terms - at
 
-loop-holds : tie.Need-loop-init invariant-loop decreases-loop
-loop-holds c = let s = c.before.before in (refl, λ ix ts h. terms-start s.requires.0 h)
+loop-holds : tie.Need-loop-at-init invariant-loop decreases-loop
+loop-holds c = let s = c in (refl, λ ix ts h. terms-start s.requires.0 h)
 
-add-end : tie.Need-overflow-add-end invariant-loop decreases-loop
-add-end c = let s = c.before.before.before.before in let P = s.requires.1 in let a = c.before.loop in let i = a.invariant.1 P.0 P.1 P.2 in let z : length s.args.postings.now < 9223372036854775808 = omega (arith, s.well-formed) in let l = c.loop-test.true in let n = terms-next i l (a.at + nodeStateWords) refl z in omega (arith, n.0, a.invariant.0, s.well-formed)
+add-end : tie.Need-overflow_add-end invariant-loop decreases-loop
+add-end c = let s = c in let P = s.requires.1 in let a = c.loop-at in let i = a.invariant.1 P.0 P.1 P.2 in let z : length s.args.postings.now < 9223372036854775808 = omega (arith, s.well_formed) in let l = c.loop-at-test.true in let n = terms-next i l (a.at + nodeStateWords) refl z in omega (arith, n.0, a.invariant.0, s.well_formed)
 
-mul-search : tie.Need-overflow-mul-search invariant-loop decreases-loop
-mul-search c = let s = c.before.before.before.before in let P = s.requires.1 in let a = c.before.loop in let i = a.invariant.1 P.0 P.1 P.2 in let z : length s.args.postings.now < 9223372036854775808 = omega (arith, s.well-formed) in let l = c.loop-test.true in let n = terms-next i l (a.at + nodeStateWords) refl z in omega (arith, n.0, a.invariant.0, s.well-formed)
+mul-search : tie.Need-offset_bounds-terms-at invariant-loop decreases-loop
+mul-search c = let s = c in let P = s.requires.1 in let a = c.loop-at in let i = a.invariant.1 P.0 P.1 P.2 in let z : length s.args.postings.now < 9223372036854775808 = omega (arith, s.well_formed) in let l = c.loop-at-test.true in let n = terms-next i l (a.at + nodeStateWords) refl z in omega (arith, n.0, a.invariant.0, s.well_formed)
 
-sub-search : tie.Need-overflow-sub-search invariant-loop decreases-loop
+sub-search : tie.Need-slice_bounds-search-count invariant-loop decreases-loop
 sub-search c = omega arith
 
-part-search-start : tie.Need-slice-bounds-search-start invariant-loop decreases-loop
-part-search-start c = let s = c.before.before.before.before in let P = s.requires.1 in let a = c.before.loop in let i = a.invariant.1 P.0 P.1 P.2 in let z : length s.args.postings.now < 9223372036854775808 = omega (arith, s.well-formed) in let l = c.loop-test.true in let n = terms-next i l (a.at + nodeStateWords) refl z in omega (arith, n.0, a.invariant.0, s.well-formed)
+part-search-start : tie.Need-slice_bounds-search-start invariant-loop decreases-loop
+part-search-start c = let s = c in let P = s.requires.1 in let a = c.loop-at in let i = a.invariant.1 P.0 P.1 P.2 in let z : length s.args.postings.now < 9223372036854775808 = omega (arith, s.well_formed) in let l = c.loop-at-test.true in let n = terms-next i l (a.at + nodeStateWords) refl z in omega (arith, n.0, a.invariant.0, s.well_formed)
 
-part-search-end : tie.Need-slice-bounds-search-end invariant-loop decreases-loop
-part-search-end c = let s = c.before.before.before.before in let P = s.requires.1 in let a = c.before.loop in let i = a.invariant.1 P.0 P.1 P.2 in let z : length s.args.postings.now < 9223372036854775808 = omega (arith, s.well-formed) in let l = c.loop-test.true in let n = terms-next i l (a.at + nodeStateWords) refl z in omega (arith, n.0, a.invariant.0, s.well-formed)
+part-search-end : tie.Need-slice_bounds-search-end invariant-loop decreases-loop
+part-search-end c = let s = c in let P = s.requires.1 in let a = c.loop-at in let i = a.invariant.1 P.0 P.1 P.2 in let z : length s.args.postings.now < 9223372036854775808 = omega (arith, s.well_formed) in let l = c.loop-at-test.true in let n = terms-next i l (a.at + nodeStateWords) refl z in omega (arith, n.0, a.invariant.0, s.well_formed)
 
-search-requires : tie.Need-search-requires invariant-loop decreases-loop
-search-requires c κs = let s = c.before.before.before.before.before in let P = s.requires.1 in let a = c.before.before.loop in let i = a.invariant.1 P.0 P.1 P.2 in let z : length s.args.postings.now < 9223372036854775808 = omega (arith, s.well-formed) in let l = c.before.loop-test.true in let n = terms-next i l (a.at + nodeStateWords) refl z in n.1
+search-requires : tie.Need-search-e-requires invariant-loop decreases-loop
+search-requires c κs = let s = c in let P = s.requires.1 in let a = c.loop-at in let i = a.invariant.1 P.0 P.1 P.2 in let z : length s.args.postings.now < 9223372036854775808 = omega (arith, s.well_formed) in let l = c.loop-at-test.true in let n = terms-next i l (a.at + nodeStateWords) refl z in n.1
 
-loop-less : tie.Need-loop-smaller invariant-loop decreases-loop
-loop-less c = let s = c.before.before.before.before.before.before.before.before.before in let P = s.requires.1 in let a = c.before.before.before.before.before.before.loop in let i = a.invariant.1 P.0 P.1 P.2 in let z : length s.args.postings.now < 9223372036854775808 = omega (arith, s.well-formed) in let l = c.before.before.before.before.before.loop-test.true in let n = terms-next i l (a.at + nodeStateWords) refl z in let g = c.before.before.before.search in omega (arith, n.0, back-length a.terms g.new.0 a.at (a.at + nodeStateWords) g.auto.0)
+loop-less : tie.Need-loop-at-smaller-then-e-d invariant-loop decreases-loop
+loop-less c = let s = c in let P = s.requires.1 in let a = c.loop-at in let i = a.invariant.1 P.0 P.1 P.2 in let z : length s.args.postings.now < 9223372036854775808 = omega (arith, s.well_formed) in let l = c.loop-at-test.true in let n = terms-next i l (a.at + nodeStateWords) refl z in let g = c.search-e in omega (arith, n.0, back-length a.terms g.new.st a.at (a.at + nodeStateWords) g.auto.st)
 
-loop-again : tie.Need-loop-preserved invariant-loop decreases-loop
-loop-again c = let s = c.before.before.before.before.before.before.before.before.before in let z : length s.args.postings.now < 9223372036854775808 = omega (arith, s.well-formed) in let a = c.before.before.before.before.before.before.loop in let g = c.before.before.before.search in (back-length a.terms g.new.0 a.at (a.at + nodeStateWords) g.auto.0 ∙ a.invariant.0, λ ix ts h. subst (λ (y : ℕ). TermsZip s.args.postings.now ix ts s.args.target (take a.at a.terms ++ (g.new.0 ++ drop (a.at + nodeStateWords - a.at) (drop a.at a.terms))) y a.last (a.at + nodeStateWords)) c.if1.true (terms-took (a.invariant.1 ix ts h) c.before.before.before.before.before.loop-test.true (a.at + nodeStateWords) refl z g.result a.last (inl (refl, c.if1.true)) g.new.0 g.auto.0 g.ensures))
+loop-again : tie.Need-loop-at-preserved-then-e-d invariant-loop decreases-loop
+loop-again c = let s = c in let z : length s.args.postings.now < 9223372036854775808 = omega (arith, s.well_formed) in let a = c.loop-at in let g = c.search-e in (back-length a.terms g.new.st a.at (a.at + nodeStateWords) g.auto.st ∙ a.invariant.0, λ ix ts h. subst (λ (y : ℕ). TermsZip s.args.postings.now ix ts s.args.target (take a.at a.terms ++ (g.new.st ++ drop (a.at + nodeStateWords - a.at) (drop a.at a.terms))) y a.last (a.at + nodeStateWords)) c.if-e-d.true (terms-took (a.invariant.1 ix ts h) c.loop-at-test.true (a.at + nodeStateWords) refl z g.result a.last (inl (refl, c.if-e-d.true)) g.new.st g.auto.st g.ensures))
 
-loop-less-2 : tie.Need-loop-smaller-2 invariant-loop decreases-loop
-loop-less-2 c = let s = c.before.before.before.before.before.before.before.before.before in let P = s.requires.1 in let a = c.before.before.before.before.before.before.loop in let i = a.invariant.1 P.0 P.1 P.2 in let z : length s.args.postings.now < 9223372036854775808 = omega (arith, s.well-formed) in let l = c.before.before.before.before.before.loop-test.true in let n = terms-next i l (a.at + nodeStateWords) refl z in let g = c.before.before.before.search in omega (arith, n.0, back-length a.terms g.new.0 a.at (a.at + nodeStateWords) g.auto.0)
+loop-less-2 : tie.Need-loop-at-smaller invariant-loop decreases-loop
+loop-less-2 c = let s = c in let P = s.requires.1 in let a = c.loop-at in let i = a.invariant.1 P.0 P.1 P.2 in let z : length s.args.postings.now < 9223372036854775808 = omega (arith, s.well_formed) in let l = c.loop-at-test.true in let n = terms-next i l (a.at + nodeStateWords) refl z in let g = c.search-e in omega (arith, n.0, back-length a.terms g.new.st a.at (a.at + nodeStateWords) g.auto.st)
 
-loop-again-2 : tie.Need-loop-preserved-2 invariant-loop decreases-loop
-loop-again-2 c = let s = c.before.before.before.before.before.before.before.before.before in let z : length s.args.postings.now < 9223372036854775808 = omega (arith, s.well-formed) in let a = c.before.before.before.before.before.before.loop in let g = c.before.before.before.search in (back-length a.terms g.new.0 a.at (a.at + nodeStateWords) g.auto.0 ∙ a.invariant.0, λ ix ts h. terms-took (a.invariant.1 ix ts h) c.before.before.before.before.before.loop-test.true (a.at + nodeStateWords) refl z g.result a.at (inr (refl, c.if1.false)) g.new.0 g.auto.0 g.ensures)
+loop-again-2 : tie.Need-loop-at-preserved invariant-loop decreases-loop
+loop-again-2 c = let s = c in let z : length s.args.postings.now < 9223372036854775808 = omega (arith, s.well_formed) in let a = c.loop-at in let g = c.search-e in (back-length a.terms g.new.st a.at (a.at + nodeStateWords) g.auto.st ∙ a.invariant.0, λ ix ts h. terms-took (a.invariant.1 ix ts h) c.loop-at-test.true (a.at + nodeStateWords) refl z g.result a.at (inr (refl, c.if-e-d.false)) g.new.st g.auto.st g.ensures)
 
-same_length : tie.Need-same-length invariant-loop decreases-loop
-same_length c = c.before.before.loop.invariant.0
+same_length : tie.Need-shape_of-terms-then-last-eq0 invariant-loop decreases-loop
+same_length c = c.loop-at.invariant.0
 
-returns : tie.Need-returns invariant-loop decreases-loop
-returns c = let a = c.before.before.loop in λ ix ts h. terms-end (a.invariant.1 ix ts h) c.before.loop-test.false true (λ e. c.if2.true) (λ e. absurd (false≢true (sym e)))
+returns : tie.Need-returns-then-last-eq0 invariant-loop decreases-loop
+returns c = let a = c.loop-at in λ ix ts h. terms-end (a.invariant.1 ix ts h) c.loop-at-test.false true (λ e. c.if-last-eq0.true) (λ e. absurd (false≢true (sym e)))
 
-same-length-2 : tie.Need-same-length-2 invariant-loop decreases-loop
-same-length-2 c = c.before.before.loop.invariant.0
+same-length-2 : tie.Need-shape_of-terms-else-last-eq0 invariant-loop decreases-loop
+same-length-2 c = c.loop-at.invariant.0
 
-returns-2 : tie.Need-returns-2 invariant-loop decreases-loop
-returns-2 c = let a = c.before.before.loop in λ ix ts h. terms-end (a.invariant.1 ix ts h) c.before.loop-test.false false (λ e. absurd (false≢true e)) (λ e. omega (arith, c.if2.false))
+returns-2 : tie.Need-returns-else-last-eq0 invariant-loop decreases-loop
+returns-2 c = let a = c.loop-at in λ ix ts h. terms-end (a.invariant.1 ix ts h) c.loop-at-test.false false (λ e. absurd (false≢true e)) (λ e. omega (arith, c.if-last-eq0.false))
 
-pub pass-terms-spec : {M : Type 1} → statement M
-pass-terms-spec =
+pub pass_terms_spec : {M : Type 1} → statement M
+pass_terms_spec =
     tie.close
     (tie.spec
     invariant-loop

@@ -15,80 +15,80 @@ use Rattle.leaf_scorer.proofs.phrase_at.Lts as lts
 use Rattle.leaf_scorer.proofs.frequency.Reads as frequency-reads
 use Rattle.leaf_scorer.proofs.pass_terms.Reads as pass-terms-reads
 
-sub-pass-terms : tie.Need-overflow-sub-pass-terms
-sub-pass-terms c = let s = c.before.before.before in let P = s.requires.1 in let m = moved-start P.8 in moved-long m
+sub-pass-terms : tie.Need-slice_bounds-pass_terms-count
+sub-pass-terms c = let s = c in let P = s.requires.1 in let m = moved-start P.8 in moved-long m
 
-part-pass-terms-start : tie.Need-slice-bounds-pass-terms-start
-part-pass-terms-start c = let s = c.before.before.before in let P = s.requires.1 in let m = moved-start P.8 in omega (arith, moved-long m)
+part-pass-terms-start : tie.Need-slice_bounds-pass_terms-start
+part-pass-terms-start c = let s = c in let P = s.requires.1 in let m = moved-start P.8 in omega (arith, moved-long m)
 
-part-pass-terms-end : tie.Need-slice-bounds-pass-terms-end
+part-pass-terms-end : tie.Need-slice_bounds-pass_terms-end
 part-pass-terms-end c = search rules
 
-pass-terms-requires : tie.Need-pass-terms-requires
-pass-terms-requires c κs = let s = c.before.before.before.before in let P = s.requires.1 in let m = moved-start P.8 in (s.requires.0, (P.0, P.3, moved-terms m P.8.accepted P.8.postings-are (held-there P.8)))
+pass-terms-requires : tie.Need-pass_terms-p-requires
+pass-terms-requires c κs = let s = c in let P = s.requires.1 in let m = moved-start P.8 in (s.requires.0, (P.0, P.3, moved-terms m P.8.accepted P.8.postings-are (held-there P.8)))
 
-same_length : tie.Need-same-length
+same_length : tie.Need-shape_of-st-then-d-target
 same_length c = search rules
 
-returns : tie.Need-returns
-returns c = let g = c.before.before.before.pass-terms in λ ix p f ts v w h. let m = moved-start h in let q = g.ensures ix ts (moved-terms m h.accepted h.postings-are (held-there h)) in let m' = moved-leapt m g.result.doc g.new.0 q.are in (asked-beyond q (λ e l. c.if1.true e), m')
+returns : tie.Need-returns-then-d-target
+returns c = let g = c.pass_terms-p in λ ix p f ts v w h. let m = moved-start h in let q = g.ensures ix ts (moved-terms m h.accepted h.postings-are (held-there h)) in let m' = moved-leapt m g.result.doc g.new.terms q.are in (asked-beyond q (λ e l. c.if-d-target.true e), m')
 
-same-length-2 : tie.Need-same-length-2
+same-length-2 : tie.Need-shape_of-st-then-d-eq-NO_MORE_DOCS
 same-length-2 c = search rules
 
-returns-2 : tie.Need-returns-2
-returns-2 c = let g = c.before.before.before.before.pass-terms in λ ix p f ts v w h. let m = moved-start h in let q = g.ensures ix ts (moved-terms m h.accepted h.postings-are (held-there h)) in let m' = moved-leapt m g.result.doc g.new.0 q.are in (asked-beyond q (λ e l. omega (arith, c.if2.true)), m')
+returns-2 : tie.Need-returns-then-d-eq-NO_MORE_DOCS
+returns-2 c = let g = c.pass_terms-p in λ ix p f ts v w h. let m = moved-start h in let q = g.ensures ix ts (moved-terms m h.accepted h.postings-are (held-there h)) in let m' = moved-leapt m g.result.doc g.new.terms q.are in (asked-beyond q (λ e l. omega (arith, c.if-d-eq-NO_MORE_DOCS.true)), m')
 
-sub-frequency : tie.Need-overflow-sub-frequency
-sub-frequency c = let s = c.before.before.before.before.before.before.before.before.before in let P = s.requires.1 in let m = moved-start P.8 in let g = c.before.before.before.before.pass-terms in let q = g.ensures P.0 P.3 (moved-terms m P.8.accepted P.8.postings-are (held-there P.8)) in moved-long (moved-leapt m g.result.doc g.new.0 q.are)
+sub-frequency : tie.Need-slice_bounds-frequency-count
+sub-frequency c = let s = c in let P = s.requires.1 in let m = moved-start P.8 in let g = c.pass_terms-p in let q = g.ensures P.0 P.3 (moved-terms m P.8.accepted P.8.postings-are (held-there P.8)) in moved-long (moved-leapt m g.result.doc g.new.terms q.are)
 
-part-frequency-start : tie.Need-slice-bounds-frequency-start
-part-frequency-start c = let s = c.before.before.before.before.before.before.before.before.before.before in let P = s.requires.1 in let m = moved-start P.8 in let g = c.before.before.before.before.before.pass-terms in let q = g.ensures P.0 P.3 (moved-terms m P.8.accepted P.8.postings-are (held-there P.8)) in omega (arith, moved-long (moved-leapt m g.result.doc g.new.0 q.are))
+part-frequency-start : tie.Need-slice_bounds-frequency-start
+part-frequency-start c = let s = c in let P = s.requires.1 in let m = moved-start P.8 in let g = c.pass_terms-p in let q = g.ensures P.0 P.3 (moved-terms m P.8.accepted P.8.postings-are (held-there P.8)) in omega (arith, moved-long (moved-leapt m g.result.doc g.new.terms q.are))
 
-part-frequency-end : tie.Need-slice-bounds-frequency-end
+part-frequency-end : tie.Need-slice_bounds-frequency-end
 part-frequency-end c = search rules
 
-frequency-requires : tie.Need-frequency-requires
-frequency-requires c κs = let s = c.before.before.before.before.before.before.before.before.before.before.before.before.before in let P = s.requires.1 in let m = moved-start P.8 in let g = c.before.before.before.before.before.before.before.before.pass-terms in let q = g.ensures P.0 P.3 (moved-terms m P.8.accepted P.8.postings-are (held-there P.8)) in let d : g.result.doc < noMoreDocs = omega (arith, q.top, c.before.before.before.before.if2.false) in (P.0, P.1, P.2, P.3, g.result.doc, P.6, P.7, held-frequency P.8 g.result.doc _ (rw (leapt-behind m g.new.0 _ refl) ((asked-leapt q c.before.before.before.before.before.if1.false).stand d)))
+frequency-requires : tie.Need-frequency-n-requires
+frequency-requires c κs = let s = c in let P = s.requires.1 in let m = moved-start P.8 in let g = c.pass_terms-p in let q = g.ensures P.0 P.3 (moved-terms m P.8.accepted P.8.postings-are (held-there P.8)) in let d : g.result.doc < noMoreDocs = omega (arith, q.top, c.if-d-eq-NO_MORE_DOCS.false) in (P.0, P.1, P.2, P.3, g.result.doc, P.6, P.7, held-frequency P.8 g.result.doc _ (rw (leapt-behind m g.new.terms _ refl) ((asked-leapt q c.if-d-target.false).stand d)))
 
-add-result : tie.Need-overflow-add-result
+add-result : tie.Need-overflow_add-result
 add-result c = search rules
 
-same-length-3 : tie.Need-same-length-3
+same-length-3 : tie.Need-shape_of-st-then-n-eq0
 same-length-3 c = search rules
 
-same-length-4 : tie.Need-same-length-4
+same-length-4 : tie.Need-shape_of-a-then-n-eq0
 same-length-4 c = search rules
 
-same-length-5 : tie.Need-same-length-5
+same-length-5 : tie.Need-shape_of-b-then-n-eq0
 same-length-5 c = search rules
 
-returns-3 : tie.Need-returns-3
-returns-3 c = let g = c.before.before.before.before.before.before.before.before.before.before.before.before.pass-terms in λ ix p f ts v w h. let m = moved-start h in let q = g.ensures ix ts (moved-terms m h.accepted h.postings-are (held-there h)) in let m' = moved-leapt m g.result.doc g.new.0 q.are in let x = c.before.before.before.frequency in let d : g.result.doc < noMoreDocs = omega (arith, q.top, c.before.before.before.before.before.before.before.before.if2.false) in let e = x.ensures ix p f ts g.result.doc (held-frequency h g.result.doc _ (rw (leapt-behind m g.new.0 _ refl) ((asked-leapt q c.before.before.before.before.before.before.before.before.before.if1.false).stand d))) in (asked-none q c.before.before.before.before.before.before.before.before.before.if1.false d x.result e c.if3.true, moved_later m' (g.result.doc + 1) (omega arith))
+returns-3 : tie.Need-returns-then-n-eq0
+returns-3 c = let g = c.pass_terms-p in λ ix p f ts v w h. let m = moved-start h in let q = g.ensures ix ts (moved-terms m h.accepted h.postings-are (held-there h)) in let m' = moved-leapt m g.result.doc g.new.terms q.are in let x = c.frequency-n in let d : g.result.doc < noMoreDocs = omega (arith, q.top, c.if-d-eq-NO_MORE_DOCS.false) in let e = x.ensures ix p f ts g.result.doc (held-frequency h g.result.doc _ (rw (leapt-behind m g.new.terms _ refl) ((asked-leapt q c.if-d-target.false).stand d))) in (asked-none q c.if-d-target.false d x.result e c.if-n-eq0.true, moved_later m' (g.result.doc + 1) (omega arith))
 
-add-st : tie.Need-overflow-add-st
+add-st : tie.Need-overflow_add-st
 add-st c = search rules
 
-slice-write-st : tie.Need-slice-write-st
-slice-write-st c = let s = c.before.before.before.before.before.before.before.before.before.before.before.before.before.before.before.before.before in let P = s.requires.1 in let m = moved-start P.8 in let g = c.before.before.before.before.before.before.before.before.before.before.before.before.pass-terms in let q = g.ensures P.0 P.3 (moved-terms m P.8.accepted P.8.postings-are (held-there P.8)) in omega (arith, moved-long (moved-leapt m g.result.doc g.new.0 q.are))
+slice-write-st : tie.Need-bounds-st-16
+slice-write-st c = let s = c in let P = s.requires.1 in let m = moved-start P.8 in let g = c.pass_terms-p in let q = g.ensures P.0 P.3 (moved-terms m P.8.accepted P.8.postings-are (held-there P.8)) in omega (arith, moved-long (moved-leapt m g.result.doc g.new.terms q.are))
 
-slice-write-st-2 : tie.Need-slice-write-st-2
-slice-write-st-2 c = let s = c.before.before.before.before.before.before.before.before.before.before.before.before.before.before.before.before.before in let P = s.requires.1 in let m = moved-start P.8 in let g = c.before.before.before.before.before.before.before.before.before.before.before.before.pass-terms in let q = g.ensures P.0 P.3 (moved-terms m P.8.accepted P.8.postings-are (held-there P.8)) in let y = take nodeStateWords s.args.st.now ++ (g.new.0 ++ drop (length s.args.st.now - nodeStateWords) (drop nodeStateWords s.args.st.now)) in omega (arith, moved-long (moved-leapt m g.result.doc g.new.0 q.are), length-set y 16 (g.result.doc + 1))
+slice-write-st-2 : tie.Need-bounds-st-17
+slice-write-st-2 c = let s = c in let P = s.requires.1 in let m = moved-start P.8 in let g = c.pass_terms-p in let q = g.ensures P.0 P.3 (moved-terms m P.8.accepted P.8.postings-are (held-there P.8)) in let y = take nodeStateWords s.args.st.now ++ (g.new.terms ++ drop (length s.args.st.now - nodeStateWords) (drop nodeStateWords s.args.st.now)) in omega (arith, moved-long (moved-leapt m g.result.doc g.new.terms q.are), length-set y 16 (g.result.doc + 1))
 
-same-length-6 : tie.Need-same-length-6
+same-length-6 : tie.Need-shape_of-st
 same-length-6 c = search rules
 
-same-length-7 : tie.Need-same-length-7
+same-length-7 : tie.Need-shape_of-a
 same-length-7 c = search rules
 
-same-length-8 : tie.Need-same-length-8
+same-length-8 : tie.Need-shape_of-b
 same-length-8 c = search rules
 
-returns-4 : tie.Need-returns-4
-returns-4 c = let g = c.before.before.before.before.before.before.before.before.before.before.before.before.pass-terms in λ ix p f ts v w h. let m = moved-start h in let q = g.ensures ix ts (moved-terms m h.accepted h.postings-are (held-there h)) in let m' = moved-leapt m g.result.doc g.new.0 q.are in let x = c.before.before.before.frequency in let d : g.result.doc < noMoreDocs = omega (arith, q.top, c.before.before.before.before.before.before.before.before.if2.false) in let e = x.ensures ix p f ts g.result.doc (held-frequency h g.result.doc _ (rw (leapt-behind m g.new.0 _ refl) ((asked-leapt q c.before.before.before.before.before.before.before.before.before.if1.false).stand d))) in (asked-stands q c.before.before.before.before.before.before.before.before.before.if1.false x.result e c.if3.false, moved-worked m' x.result e)
+returns-4 : tie.Need-returns
+returns-4 c = let g = c.pass_terms-p in λ ix p f ts v w h. let m = moved-start h in let q = g.ensures ix ts (moved-terms m h.accepted h.postings-are (held-there h)) in let m' = moved-leapt m g.result.doc g.new.terms q.are in let x = c.frequency-n in let d : g.result.doc < noMoreDocs = omega (arith, q.top, c.if-d-eq-NO_MORE_DOCS.false) in let e = x.ensures ix p f ts g.result.doc (held-frequency h g.result.doc _ (rw (leapt-behind m g.new.terms _ refl) ((asked-leapt q c.if-d-target.false).stand d))) in (asked-stands q c.if-d-target.false x.result e c.if-n-eq0.false, moved-worked m' x.result e)
 
-pub phrase-at-spec : {M : Type 1} → statement M
-phrase-at-spec =
+pub phrase_at_spec : {M : Type 1} → statement M
+phrase_at_spec =
     tie.close
     (tie.spec
     sub-pass-terms

@@ -19,43 +19,43 @@ use Rattle.run.proofs.document.Reads as document-reads
 use Rattle.run.proofs.lower.Reads as lower-reads
 
 -- src/leaves.rt:47:9
-cursor-at-requires : tie.Need-cursor-at-requires
-cursor-at-requires c κs = let s = c.before.before.before in omega (arith, ap length s.requires.2.words_are)
+cursor-at-requires : tie.Need-cursor_at-c-requires
+cursor-at-requires c κs = let s = c in omega (arith, ap length s.requires.2.words_are)
 
 -- src/leaves.rt:50:9
-lower-requires : tie.Need-lower-requires
-lower-requires c κs = let s = c.before.before.before.before in let k = c.cursor-at in search-run s.args.words.now s.args.stride s.args.st.now s.args.target k.result.first k.result.number k.result.cursor k.ensures.first k.ensures.number k.ensures.cursor s.requires.0 s.requires.1 s.requires.2
+lower-requires : tie.Need-lower-at-requires
+lower-requires c κs = let s = c in let k = c.cursor_at-c in search-run s.args.words.now s.args.stride s.args.st.now s.args.target k.result.first k.result.number k.result.cursor k.ensures.first k.ensures.number k.ensures.cursor s.requires.0 s.requires.1 s.requires.2
 
 -- src/leaves.rt:51:13
-cast-st : tie.Need-overflow-cast-st
-cast-st c = let s = c.before.before.before.before.before in let k = c.before.cursor-at in let w = c.lower in omega (arith, w.ensures.within, k.ensures.number, c.before.before.before.before.slice-known.given 7)
+cast-st : tie.Need-overflow_cast-st
+cast-st c = let s = c in let k = c.cursor_at-c in let w = c.lower-at in omega (arith, w.ensures.within, k.ensures.number, c.slice_known-1.given 7)
 
 -- src/leaves.rt:51:5
-slice-write-st : tie.Need-slice-write-st
-slice-write-st c = let s = c.before.before.before.before.before in omega (arith, ap length s.requires.2.words_are)
+slice-write-st : tie.Need-bounds-st-8
+slice-write-st c = let s = c in omega (arith, ap length s.requires.2.words_are)
 
 -- src/leaves.rt:53:9
 document-requires : tie.Need-document-requires
-document-requires c κs = let s = c.before.before.before.before.before.before in let k = c.before.before.cursor-at in let w = c.before.lower in let r = search-run s.args.words.now s.args.stride s.args.st.now s.args.target k.result.first k.result.number k.result.cursor k.ensures.first k.ensures.number k.ensures.cursor s.requires.0 s.requires.1 s.requires.2 in (r.0.step, r.0.within w.result c.if1.true)
+document-requires c κs = let s = c in let k = c.cursor_at-c in let w = c.lower-at in let r = search-run s.args.words.now s.args.stride s.args.st.now s.args.target k.result.first k.result.number k.result.cursor k.ensures.first k.ensures.number k.ensures.cursor s.requires.0 s.requires.1 s.requires.2 in (r.0.step, r.0.within w.result c.if-at-number.true)
 
 -- src/leaves.rt:43:1
-same_length : tie.Need-same-length
+same_length : tie.Need-shape_of-st-then-at-number
 same_length c = search rules
 
 -- src/leaves.rt:43:1
-returns : tie.Need-returns
-returns c = let s = c.before.before.before.before.before.before.before in let k = c.before.before.before.cursor-at in let w = c.before.before.lower in search-hit s.args.words.now s.args.stride s.args.st.now s.args.target k.result.first k.result.number k.result.cursor k.ensures.first k.ensures.number k.ensures.cursor w.result c.document.result w.ensures c.before.if1.true c.document.ensures
+returns : tie.Need-returns-then-at-number
+returns c = let s = c in let k = c.cursor_at-c in let w = c.lower-at in search-hit s.args.words.now s.args.stride s.args.st.now s.args.target k.result.first k.result.number k.result.cursor k.ensures.first k.ensures.number k.ensures.cursor w.result c.document.result w.ensures c.if-at-number.true c.document.ensures
 
 -- src/leaves.rt:43:1
-same-length-2 : tie.Need-same-length-2
+same-length-2 : tie.Need-shape_of-st-else-at-number
 same-length-2 c = search rules
 
 -- src/leaves.rt:43:1
-returns-2 : tie.Need-returns-2
-returns-2 c = let s = c.before.before.before.before.before.before in let k = c.before.before.cursor-at in let w = c.before.lower in search-end s.args.words.now s.args.stride s.args.st.now s.args.target k.result.first k.result.number k.result.cursor k.ensures.first k.ensures.number k.ensures.cursor w.result noMoreDocs w.ensures c.if1.false refl
+returns-2 : tie.Need-returns-else-at-number
+returns-2 c = let s = c in let k = c.cursor_at-c in let w = c.lower-at in search-end s.args.words.now s.args.stride s.args.st.now s.args.target k.result.first k.result.number k.result.cursor k.ensures.first k.ensures.number k.ensures.cursor w.result noMoreDocs w.ensures c.if-at-number.false refl
 
-pub search-spec : {M : Type 1} → statement M
-search-spec =
+pub search_spec : {M : Type 1} → statement M
+search_spec =
     tie.close
     (tie.spec
     cursor-at-requires

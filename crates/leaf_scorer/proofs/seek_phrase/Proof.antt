@@ -21,106 +21,106 @@ use Rattle.leaf_scorer.proofs.seek_phrase.Lts as lts
 use Rattle.leaf_scorer.proofs.frequency.Reads as frequency-reads
 use Rattle.leaf_scorer.proofs.leapfrog.Reads as leapfrog-reads
 
-abbrev invariant-loop : tie.invariant-loop
+abbrev invariant-loop : tie.invariant-loop-target
 invariant-loop st₀ postings positions a₀ b₀ target t₀ st a b t = Lengths (length st) (length st₀) (length a) (length a₀) (length b) (length b₀) × (t ≤ noMoreDocs) × ((ix : Index) (p f : ℕ) (ts : List PhraseTerm) (s : State) (w : List ℕ) → PhraseHeld postings positions ix p f ts s w st₀ target → Going (λ d. ltb 0 (phraseFrequency ix ts d)) target t (PhraseMoved ix f ts s st t))
 
-abbrev decreases-loop : tie.decreases-loop
+abbrev decreases-loop : tie.decreases-loop-target
 decreases-loop st₀ postings positions a₀ b₀ target t₀ st a b t = noMoreDocs - t
 
 -- src/leaves.rt:153:5
-loop-holds : tie.Need-loop-init invariant-loop decreases-loop
-loop-holds c = let s = c.before.before.before in (record { kids-same = refl; a-same = refl; b-same = refl }, s.requires.0, λ ix p f ts v w h. going_start (moved-start h))
+loop-holds : tie.Need-loop-target-init invariant-loop decreases-loop
+loop-holds c = let s = c in (record { kids-same = refl; a-same = refl; b-same = refl }, s.requires.0, λ ix p f ts v w h. going_start (moved-start h))
 
 -- src/leaves.rt:154:26
-sub-leapfrog : tie.Need-overflow-sub-leapfrog invariant-loop decreases-loop
-sub-leapfrog c = let s = c.before.before.before.before in let P = s.requires.1 in let a = c.loop in let i = a.invariant.2 P.0 P.1 P.2 P.3 P.4 P.5 P.8 in moved-long i.held
+sub-leapfrog : tie.Need-slice_bounds-leapfrog-count invariant-loop decreases-loop
+sub-leapfrog c = let s = c in let P = s.requires.1 in let a = c.loop-target in let i = a.invariant.2 P.0 P.1 P.2 P.3 P.4 P.5 P.8 in moved-long i.held
 
 -- src/leaves.rt:154:26
-part-leapfrog-start : tie.Need-slice-bounds-leapfrog-start invariant-loop decreases-loop
-part-leapfrog-start c = let s = c.before.before.before.before in let P = s.requires.1 in let a = c.loop in let i = a.invariant.2 P.0 P.1 P.2 P.3 P.4 P.5 P.8 in omega (arith, moved-long i.held)
+part-leapfrog-start : tie.Need-slice_bounds-leapfrog-start invariant-loop decreases-loop
+part-leapfrog-start c = let s = c in let P = s.requires.1 in let a = c.loop-target in let i = a.invariant.2 P.0 P.1 P.2 P.3 P.4 P.5 P.8 in omega (arith, moved-long i.held)
 
 -- src/leaves.rt:154:26
-part-leapfrog-end : tie.Need-slice-bounds-leapfrog-end invariant-loop decreases-loop
-part-leapfrog-end c = let s = c.before.before.before.before in let P = s.requires.1 in let a = c.loop in let i = a.invariant.2 P.0 P.1 P.2 P.3 P.4 P.5 P.8 in omega (arith, moved-long i.held)
+part-leapfrog-end : tie.Need-slice_bounds-leapfrog-end invariant-loop decreases-loop
+part-leapfrog-end c = let s = c in let P = s.requires.1 in let a = c.loop-target in let i = a.invariant.2 P.0 P.1 P.2 P.3 P.4 P.5 P.8 in omega (arith, moved-long i.held)
 
 -- src/leaves.rt:154:13
-leapfrog-requires : tie.Need-leapfrog-requires invariant-loop decreases-loop
-leapfrog-requires c κs = let s = c.before.before.before.before.before in let P = s.requires.1 in let a = c.before.loop in let i = a.invariant.2 P.0 P.1 P.2 P.3 P.4 P.5 P.8 in (a.invariant.1, (P.0, P.3, moved-terms i.held P.8.accepted P.8.postings-are (held-there P.8)))
+leapfrog-requires : tie.Need-leapfrog-d-requires invariant-loop decreases-loop
+leapfrog-requires c κs = let s = c in let P = s.requires.1 in let a = c.loop-target in let i = a.invariant.2 P.0 P.1 P.2 P.3 P.4 P.5 P.8 in (a.invariant.1, (P.0, P.3, moved-terms i.held P.8.accepted P.8.postings-are (held-there P.8)))
 
 -- src/leaves.rt:156:13
-same_length : tie.Need-same-length invariant-loop decreases-loop
-same_length c = let a = c.before.before.before.before.before.loop in let g = c.before.before.before.leapfrog in back-length a.st g.new.0 nodeStateWords (length a.st) g.auto.0 ∙ a.invariant.0.kids-same
+same_length : tie.Need-shape_of-st-then-d-eq-NO_MORE_DOCS invariant-loop decreases-loop
+same_length c = let a = c.loop-target in let g = c.leapfrog-d in back-length a.st g.new.terms nodeStateWords (length a.st) g.auto.terms ∙ a.invariant.0.kids-same
 
 -- src/leaves.rt:156:13
-same-length-2 : tie.Need-same-length-2 invariant-loop decreases-loop
-same-length-2 c = c.before.before.before.before.before.loop.invariant.0.a-same
+same-length-2 : tie.Need-shape_of-a-then-d-eq-NO_MORE_DOCS invariant-loop decreases-loop
+same-length-2 c = c.loop-target.invariant.0.a-same
 
 -- src/leaves.rt:156:13
-same-length-3 : tie.Need-same-length-3 invariant-loop decreases-loop
-same-length-3 c = c.before.before.before.before.before.loop.invariant.0.b-same
+same-length-3 : tie.Need-shape_of-b-then-d-eq-NO_MORE_DOCS invariant-loop decreases-loop
+same-length-3 c = c.loop-target.invariant.0.b-same
 
 -- src/leaves.rt:156:13
-returns : tie.Need-returns invariant-loop decreases-loop
-returns c = let a = c.before.before.before.before.before.loop in let g = c.before.before.before.leapfrog in λ ix p f ts v w h. let i = a.invariant.2 ix p f ts v w h in let q = g.ensures ix ts (moved-terms i.held h.accepted h.postings-are (held-there h)) in (phrase-top i.lo i.before q c.if1.true, moved-leapt i.held g.result g.new.0 q.are, λ k. absurd (omega (arith, c.if1.true)))
+returns : tie.Need-returns-then-d-eq-NO_MORE_DOCS invariant-loop decreases-loop
+returns c = let a = c.loop-target in let g = c.leapfrog-d in λ ix p f ts v w h. let i = a.invariant.2 ix p f ts v w h in let q = g.ensures ix ts (moved-terms i.held h.accepted h.postings-are (held-there h)) in (phrase-top i.lo i.before q c.if-d-eq-NO_MORE_DOCS.true, moved-leapt i.held g.result g.new.terms q.are, λ k. absurd (omega (arith, c.if-d-eq-NO_MORE_DOCS.true)))
 
 -- src/leaves.rt:158:27
-sub-frequency : tie.Need-overflow-sub-frequency invariant-loop decreases-loop
-sub-frequency c = let s = c.before.before.before.before.before.before.before.before.before in let P = s.requires.1 in let a = c.before.before.before.before.before.loop in let i = a.invariant.2 P.0 P.1 P.2 P.3 P.4 P.5 P.8 in let g = c.before.before.before.leapfrog in let q = g.ensures P.0 P.3 (moved-terms i.held P.8.accepted P.8.postings-are (held-there P.8)) in let m = moved-leapt i.held g.result g.new.0 q.are in moved-long m
+sub-frequency : tie.Need-slice_bounds-frequency-count invariant-loop decreases-loop
+sub-frequency c = let s = c in let P = s.requires.1 in let a = c.loop-target in let i = a.invariant.2 P.0 P.1 P.2 P.3 P.4 P.5 P.8 in let g = c.leapfrog-d in let q = g.ensures P.0 P.3 (moved-terms i.held P.8.accepted P.8.postings-are (held-there P.8)) in let m = moved-leapt i.held g.result g.new.terms q.are in moved-long m
 
 -- src/leaves.rt:158:27
-part-frequency-start : tie.Need-slice-bounds-frequency-start invariant-loop decreases-loop
-part-frequency-start c = let s = c.before.before.before.before.before.before.before.before.before.before in let P = s.requires.1 in let a = c.before.before.before.before.before.before.loop in let i = a.invariant.2 P.0 P.1 P.2 P.3 P.4 P.5 P.8 in let g = c.before.before.before.before.leapfrog in let q = g.ensures P.0 P.3 (moved-terms i.held P.8.accepted P.8.postings-are (held-there P.8)) in let m = moved-leapt i.held g.result g.new.0 q.are in omega (arith, moved-long m)
+part-frequency-start : tie.Need-slice_bounds-frequency-start invariant-loop decreases-loop
+part-frequency-start c = let s = c in let P = s.requires.1 in let a = c.loop-target in let i = a.invariant.2 P.0 P.1 P.2 P.3 P.4 P.5 P.8 in let g = c.leapfrog-d in let q = g.ensures P.0 P.3 (moved-terms i.held P.8.accepted P.8.postings-are (held-there P.8)) in let m = moved-leapt i.held g.result g.new.terms q.are in omega (arith, moved-long m)
 
 -- src/leaves.rt:158:27
-part-frequency-end : tie.Need-slice-bounds-frequency-end invariant-loop decreases-loop
-part-frequency-end c = let s = c.before.before.before.before.before.before.before.before.before.before in let P = s.requires.1 in let a = c.before.before.before.before.before.before.loop in let i = a.invariant.2 P.0 P.1 P.2 P.3 P.4 P.5 P.8 in let g = c.before.before.before.before.leapfrog in let q = g.ensures P.0 P.3 (moved-terms i.held P.8.accepted P.8.postings-are (held-there P.8)) in let m = moved-leapt i.held g.result g.new.0 q.are in omega (arith, moved-long m)
+part-frequency-end : tie.Need-slice_bounds-frequency-end invariant-loop decreases-loop
+part-frequency-end c = let s = c in let P = s.requires.1 in let a = c.loop-target in let i = a.invariant.2 P.0 P.1 P.2 P.3 P.4 P.5 P.8 in let g = c.leapfrog-d in let q = g.ensures P.0 P.3 (moved-terms i.held P.8.accepted P.8.postings-are (held-there P.8)) in let m = moved-leapt i.held g.result g.new.terms q.are in omega (arith, moved-long m)
 
 -- src/leaves.rt:158:13
-frequency-requires : tie.Need-frequency-requires invariant-loop decreases-loop
-frequency-requires c κs = let s = c.before.before.before.before.before.before.before.before.before.before.before.before.before in let P = s.requires.1 in let a = c.before.before.before.before.before.before.before.before.before.loop in let i = a.invariant.2 P.0 P.1 P.2 P.3 P.4 P.5 P.8 in let g = c.before.before.before.before.before.before.before.leapfrog in let q = g.ensures P.0 P.3 (moved-terms i.held P.8.accepted P.8.postings-are (held-there P.8)) in let m = moved-leapt i.held g.result g.new.0 q.are in let d : g.result < noMoreDocs = omega (arith, q.top, c.before.before.before.before.if1.false) in (P.0, P.1, P.2, P.3, g.result, omega (arith, P.6, a.invariant.0), omega (arith, P.7, a.invariant.0), held-frequency P.8 g.result _ (rw (leapt-behind i.held g.new.0 _ refl) (q.stand d)))
+frequency-requires : tie.Need-frequency-n-requires invariant-loop decreases-loop
+frequency-requires c κs = let s = c in let P = s.requires.1 in let a = c.loop-target in let i = a.invariant.2 P.0 P.1 P.2 P.3 P.4 P.5 P.8 in let g = c.leapfrog-d in let q = g.ensures P.0 P.3 (moved-terms i.held P.8.accepted P.8.postings-are (held-there P.8)) in let m = moved-leapt i.held g.result g.new.terms q.are in let d : g.result < noMoreDocs = omega (arith, q.top, c.if-d-eq-NO_MORE_DOCS.false) in (P.0, P.1, P.2, P.3, g.result, omega (arith, P.6, a.invariant.0), omega (arith, P.7, a.invariant.0), held-frequency P.8 g.result _ (rw (leapt-behind i.held g.new.terms _ refl) (q.stand d)))
 
 -- src/leaves.rt:160:17
-add-t : tie.Need-overflow-add-t invariant-loop decreases-loop
-add-t c = let s = c.before.before.before.before.before.before.before.before.before.before.before.before.before.before.before.before.before in let P = s.requires.1 in let a = c.before.before.before.before.before.before.before.before.before.before.before.before.before.loop in let i = a.invariant.2 P.0 P.1 P.2 P.3 P.4 P.5 P.8 in let g = c.before.before.before.before.before.before.before.before.before.before.before.leapfrog in let q = g.ensures P.0 P.3 (moved-terms i.held P.8.accepted P.8.postings-are (held-there P.8)) in omega (arith, q.top)
+add-t : tie.Need-overflow_add-t invariant-loop decreases-loop
+add-t c = let s = c in let P = s.requires.1 in let a = c.loop-target in let i = a.invariant.2 P.0 P.1 P.2 P.3 P.4 P.5 P.8 in let g = c.leapfrog-d in let q = g.ensures P.0 P.3 (moved-terms i.held P.8.accepted P.8.postings-are (held-there P.8)) in omega (arith, q.top)
 
 -- src/leaves.rt:153:5
-loop-less : tie.Need-loop-smaller invariant-loop decreases-loop
-loop-less c = let s = c.before.before.before.before.before.before.before.before.before.before.before.before.before.before.before.before.before in let P = s.requires.1 in let a = c.before.before.before.before.before.before.before.before.before.before.before.before.before.loop in let i = a.invariant.2 P.0 P.1 P.2 P.3 P.4 P.5 P.8 in let g = c.before.before.before.before.before.before.before.before.before.before.before.leapfrog in let q = g.ensures P.0 P.3 (moved-terms i.held P.8.accepted P.8.postings-are (held-there P.8)) in let d : g.result < noMoreDocs = omega (arith, q.top, c.before.before.before.before.before.before.before.before.if1.false) in omega (arith, q.from)
+loop-less : tie.Need-loop-target-smaller invariant-loop decreases-loop
+loop-less c = let s = c in let P = s.requires.1 in let a = c.loop-target in let i = a.invariant.2 P.0 P.1 P.2 P.3 P.4 P.5 P.8 in let g = c.leapfrog-d in let q = g.ensures P.0 P.3 (moved-terms i.held P.8.accepted P.8.postings-are (held-there P.8)) in let d : g.result < noMoreDocs = omega (arith, q.top, c.if-d-eq-NO_MORE_DOCS.false) in omega (arith, q.from)
 
 -- src/leaves.rt:153:5
-loop-again : tie.Need-loop-preserved invariant-loop decreases-loop
-loop-again c = let s = c.before.before.before.before.before.before.before.before.before.before.before.before.before.before.before.before.before in let P = s.requires.1 in let a = c.before.before.before.before.before.before.before.before.before.before.before.before.before.loop in let i = a.invariant.2 P.0 P.1 P.2 P.3 P.4 P.5 P.8 in let g = c.before.before.before.before.before.before.before.before.before.before.before.leapfrog in let x = c.before.before.before.frequency in let q = g.ensures P.0 P.3 (moved-terms i.held P.8.accepted P.8.postings-are (held-there P.8)) in let d : g.result < noMoreDocs = omega (arith, q.top, c.before.before.before.before.before.before.before.before.if1.false) in (record { kids-same = back-length a.st g.new.0 nodeStateWords (length a.st) g.auto.0 ∙ a.invariant.0.kids-same; a-same = x.auto.1.1.1.0 ∙ a.invariant.0.a-same; b-same = x.auto.1.1.1.1.0 ∙ a.invariant.0.b-same }, omega arith, λ ix p f ts v w h. let i = a.invariant.2 ix p f ts v w h in let q = g.ensures ix ts (moved-terms i.held h.accepted h.postings-are (held-there h)) in let m = moved-leapt i.held g.result g.new.0 q.are in let e = x.ensures ix p f ts g.result (held-frequency h g.result _ (rw (leapt-behind i.held g.new.0 _ refl) (q.stand d))) in record { lo = omega (arith, i.lo, q.from); before = phrase-more i.lo i.before q x.result e c.if2.true; held = moved_later m (g.result + 1) (omega arith) })
+loop-again : tie.Need-loop-target-preserved invariant-loop decreases-loop
+loop-again c = let s = c in let P = s.requires.1 in let a = c.loop-target in let i = a.invariant.2 P.0 P.1 P.2 P.3 P.4 P.5 P.8 in let g = c.leapfrog-d in let x = c.frequency-n in let q = g.ensures P.0 P.3 (moved-terms i.held P.8.accepted P.8.postings-are (held-there P.8)) in let d : g.result < noMoreDocs = omega (arith, q.top, c.if-d-eq-NO_MORE_DOCS.false) in (record { kids-same = back-length a.st g.new.terms nodeStateWords (length a.st) g.auto.terms ∙ a.invariant.0.kids-same; a-same = x.auto.a ∙ a.invariant.0.a-same; b-same = x.auto.b ∙ a.invariant.0.b-same }, omega arith, λ ix p f ts v w h. let i = a.invariant.2 ix p f ts v w h in let q = g.ensures ix ts (moved-terms i.held h.accepted h.postings-are (held-there h)) in let m = moved-leapt i.held g.result g.new.terms q.are in let e = x.ensures ix p f ts g.result (held-frequency h g.result _ (rw (leapt-behind i.held g.new.terms _ refl) (q.stand d))) in record { lo = omega (arith, i.lo, q.from); before = phrase-more i.lo i.before q x.result e c.if-n-eq0.true; held = moved_later m (g.result + 1) (omega arith) })
 
 -- src/leaves.rt:162:22
-add-st : tie.Need-overflow-add-st invariant-loop decreases-loop
-add-st c = let s = c.before.before.before.before.before.before.before.before.before.before.before.before.before.before.before.before.before in let P = s.requires.1 in let a = c.before.before.before.before.before.before.before.before.before.before.before.before.before.loop in let i = a.invariant.2 P.0 P.1 P.2 P.3 P.4 P.5 P.8 in let g = c.before.before.before.before.before.before.before.before.before.before.before.leapfrog in let q = g.ensures P.0 P.3 (moved-terms i.held P.8.accepted P.8.postings-are (held-there P.8)) in omega (arith, q.top)
+add-st : tie.Need-overflow_add-st invariant-loop decreases-loop
+add-st c = let s = c in let P = s.requires.1 in let a = c.loop-target in let i = a.invariant.2 P.0 P.1 P.2 P.3 P.4 P.5 P.8 in let g = c.leapfrog-d in let q = g.ensures P.0 P.3 (moved-terms i.held P.8.accepted P.8.postings-are (held-there P.8)) in omega (arith, q.top)
 
 -- src/leaves.rt:162:13
-slice-write-st : tie.Need-slice-write-st invariant-loop decreases-loop
-slice-write-st c = let s = c.before.before.before.before.before.before.before.before.before.before.before.before.before.before.before.before.before in let P = s.requires.1 in let a = c.before.before.before.before.before.before.before.before.before.before.before.before.before.loop in let i = a.invariant.2 P.0 P.1 P.2 P.3 P.4 P.5 P.8 in let g = c.before.before.before.before.before.before.before.before.before.before.before.leapfrog in let q = g.ensures P.0 P.3 (moved-terms i.held P.8.accepted P.8.postings-are (held-there P.8)) in let m = moved-leapt i.held g.result g.new.0 q.are in omega (arith, moved-long m)
+slice-write-st : tie.Need-bounds-st-16 invariant-loop decreases-loop
+slice-write-st c = let s = c in let P = s.requires.1 in let a = c.loop-target in let i = a.invariant.2 P.0 P.1 P.2 P.3 P.4 P.5 P.8 in let g = c.leapfrog-d in let q = g.ensures P.0 P.3 (moved-terms i.held P.8.accepted P.8.postings-are (held-there P.8)) in let m = moved-leapt i.held g.result g.new.terms q.are in omega (arith, moved-long m)
 
 -- src/leaves.rt:163:13
-slice-write-st-2 : tie.Need-slice-write-st-2 invariant-loop decreases-loop
-slice-write-st-2 c = let s = c.before.before.before.before.before.before.before.before.before.before.before.before.before.before.before.before.before in let P = s.requires.1 in let a = c.before.before.before.before.before.before.before.before.before.before.before.before.before.loop in let i = a.invariant.2 P.0 P.1 P.2 P.3 P.4 P.5 P.8 in let g = c.before.before.before.before.before.before.before.before.before.before.before.leapfrog in let q = g.ensures P.0 P.3 (moved-terms i.held P.8.accepted P.8.postings-are (held-there P.8)) in let m = moved-leapt i.held g.result g.new.0 q.are in let y = take nodeStateWords a.st ++ (g.new.0 ++ drop (length a.st - nodeStateWords) (drop nodeStateWords a.st)) in omega (arith, moved-long m, length-set y 16 (g.result + 1))
+slice-write-st-2 : tie.Need-bounds-st-17 invariant-loop decreases-loop
+slice-write-st-2 c = let s = c in let P = s.requires.1 in let a = c.loop-target in let i = a.invariant.2 P.0 P.1 P.2 P.3 P.4 P.5 P.8 in let g = c.leapfrog-d in let q = g.ensures P.0 P.3 (moved-terms i.held P.8.accepted P.8.postings-are (held-there P.8)) in let m = moved-leapt i.held g.result g.new.terms q.are in let y = take nodeStateWords a.st ++ (g.new.terms ++ drop (length a.st - nodeStateWords) (drop nodeStateWords a.st)) in omega (arith, moved-long m, length-set y 16 (g.result + 1))
 
 -- src/leaves.rt:164:13
-same-length-4 : tie.Need-same-length-4 invariant-loop decreases-loop
-same-length-4 c = let a = c.before.before.before.before.before.before.before.before.before.before.before.before.before.loop in let g = c.before.before.before.before.before.before.before.before.before.before.before.leapfrog in simp length-set (back-length a.st g.new.0 nodeStateWords (length a.st) g.auto.0 ∙ a.invariant.0.kids-same)
+same-length-4 : tie.Need-shape_of-st-else-n-eq0 invariant-loop decreases-loop
+same-length-4 c = let a = c.loop-target in let g = c.leapfrog-d in simp length-set (back-length a.st g.new.terms nodeStateWords (length a.st) g.auto.terms ∙ a.invariant.0.kids-same)
 
 -- src/leaves.rt:164:13
-same-length-5 : tie.Need-same-length-5 invariant-loop decreases-loop
-same-length-5 c = let a = c.before.before.before.before.before.before.before.before.before.before.before.before.before.loop in let x = c.before.before.before.frequency in x.auto.1.1.1.0 ∙ a.invariant.0.a-same
+same-length-5 : tie.Need-shape_of-a-else-n-eq0 invariant-loop decreases-loop
+same-length-5 c = let a = c.loop-target in let x = c.frequency-n in x.auto.a ∙ a.invariant.0.a-same
 
 -- src/leaves.rt:164:13
-same-length-6 : tie.Need-same-length-6 invariant-loop decreases-loop
-same-length-6 c = let a = c.before.before.before.before.before.before.before.before.before.before.before.before.before.loop in let x = c.before.before.before.frequency in x.auto.1.1.1.1.0 ∙ a.invariant.0.b-same
+same-length-6 : tie.Need-shape_of-b-else-n-eq0 invariant-loop decreases-loop
+same-length-6 c = let a = c.loop-target in let x = c.frequency-n in x.auto.b ∙ a.invariant.0.b-same
 
 -- src/leaves.rt:164:13
-returns-2 : tie.Need-returns-2 invariant-loop decreases-loop
-returns-2 c = let s = c.before.before.before.before.before.before.before.before.before.before.before.before.before.before.before.before.before in let P = s.requires.1 in let a = c.before.before.before.before.before.before.before.before.before.before.before.before.before.loop in let i = a.invariant.2 P.0 P.1 P.2 P.3 P.4 P.5 P.8 in let g = c.before.before.before.before.before.before.before.before.before.before.before.leapfrog in let x = c.before.before.before.frequency in let q = g.ensures P.0 P.3 (moved-terms i.held P.8.accepted P.8.postings-are (held-there P.8)) in let d : g.result < noMoreDocs = omega (arith, q.top, c.before.before.before.before.before.before.before.before.if1.false) in λ ix p f ts v w h. let i = a.invariant.2 ix p f ts v w h in let q = g.ensures ix ts (moved-terms i.held h.accepted h.postings-are (held-there h)) in let m = moved-leapt i.held g.result g.new.0 q.are in let e = x.ensures ix p f ts g.result (held-frequency h g.result _ (rw (leapt-behind i.held g.new.0 _ refl) (q.stand d))) in (phrase-hit i.lo i.before q x.result e c.if2.false, moved-worked m x.result e, λ k. stored_at (take nodeStateWords a.st ++ (g.new.0 ++ drop (length a.st - nodeStateWords) (drop nodeStateWords a.st))) (g.result + 1) x.result (moved-long m))
+returns-2 : tie.Need-returns-else-n-eq0 invariant-loop decreases-loop
+returns-2 c = let s = c in let P = s.requires.1 in let a = c.loop-target in let i = a.invariant.2 P.0 P.1 P.2 P.3 P.4 P.5 P.8 in let g = c.leapfrog-d in let x = c.frequency-n in let q = g.ensures P.0 P.3 (moved-terms i.held P.8.accepted P.8.postings-are (held-there P.8)) in let d : g.result < noMoreDocs = omega (arith, q.top, c.if-d-eq-NO_MORE_DOCS.false) in λ ix p f ts v w h. let i = a.invariant.2 ix p f ts v w h in let q = g.ensures ix ts (moved-terms i.held h.accepted h.postings-are (held-there h)) in let m = moved-leapt i.held g.result g.new.terms q.are in let e = x.ensures ix p f ts g.result (held-frequency h g.result _ (rw (leapt-behind i.held g.new.terms _ refl) (q.stand d))) in (phrase-hit i.lo i.before q x.result e c.if-n-eq0.false, moved-worked m x.result e, λ k. stored_at (take nodeStateWords a.st ++ (g.new.terms ++ drop (length a.st - nodeStateWords) (drop nodeStateWords a.st))) (g.result + 1) x.result (moved-long m))
 
-pub seek-phrase-spec : {M : Type 1} → statement M
-seek-phrase-spec =
+pub seek_phrase_spec : {M : Type 1} → statement M
+seek_phrase_spec =
     tie.close
     (tie.spec
     invariant-loop

@@ -26,8 +26,8 @@ mod Nodes
 mod Leads
 mod Walks
 
-pub +advance-conjunction-disjunction-excluding-lead-least-pass-step-spec : {M : Type 1} → statement M
-+advance-conjunction-disjunction-excluding-lead-least-pass-step-spec =
+pub +advance_conjunction_disjunction_excluding_lead_least_pass_step_spec : {M : Type 1} → statement M
++advance_conjunction_disjunction_excluding_lead_least_pass_step_spec =
     close μ-advance μ-conjunction μ-disjunction μ-excluding μ-lead μ-least μ-pass μ-step
     (λ t. advance-lts.spec (advance-calls t) (advance-at t) advance.Post (advance-head-at-requires t) (advance-sub-result t) (advance-same-length t) (advance-returns t) (advance-boolean-at-requires t) (advance-sub-kids t) (advance-part-kids-start t) (advance-part-kids-end t) (advance-sub-excluding t) (advance-excluding-requires t) (advance-add-st t) (advance-slice-write-st t) (advance-seek-requires t) (advance-add-st-2 t) (advance-slice-write-st-2 t) (advance-same-length-2 t) (advance-same-length-3 t) (advance-same-length-4 t) (advance-returns-2 t) (advance-same-length-5 t) (advance-same-length-6 t) (advance-same-length-7 t) (advance-returns-3 t))
     (λ t. conjunction-lts.spec (conjunction-calls t) (conjunction-at t) conjunction.Post conjunction-Inv-loop conjunction-μ-loop (conjunction-loop-holds t) (conjunction-step-requires t) (conjunction-same-length t) (conjunction-same-length-2 t) (conjunction-same-length-3 t) (conjunction-returns t) (conjunction-loop-less t) (conjunction-loop-again t))

@@ -11,44 +11,44 @@ use Rattle.scorer.proofs.ask_phrase.Reads as reads
 use Rattle.scorer.proofs.ask_phrase.Lts as lts
 use Rattle.leaf_scorer.proofs.phrase_at.Reads as phrase-at-reads
 
-returns : tie.Need-returns
-returns c = let s = c.before.before.before.before in λ E k pe qe ix p T o h. (record { from = le_refl _; top = s.requires.0; before = λ x a b. absurd (omega arith); hit = λ e l. absurd (c.if1.true (sym e)) }, h.ok)
+returns : tie.Need-returns-then-from-target
+returns c = let s = c in λ E k pe qe ix p T o h. (record { from = le_refl _; top = s.requires.0; before = λ x a b. absurd (omega arith); hit = λ e l. absurd (c.if-from-target.true (sym e)) }, h.ok)
 
-phrase-at-requires : tie.Need-phrase-at-requires
-phrase-at-requires c κs = let s = c.before.before.before.before.before.before.before in let P = s.requires.3 in phrase-asks s.args.postings.now s.args.positions.now s.args.st.now s.args.target s.requires.1 s.requires.2 P.0 P.1 P.2 s.requires.0 _ _ P.3 P.4 P.5 P.6 P.7 P.8.in-a P.8.in_b P.9
+phrase-at-requires : tie.Need-phrase_at-d-requires
+phrase-at-requires c κs = let s = c in let P = s.requires.3 in phrase-asks s.args.postings.now s.args.positions.now s.args.st.now s.args.target s.requires.1 s.requires.2 P.0 P.1 P.2 s.requires.0 _ _ P.3 P.4 P.5 P.6 P.7 P.8.in-a P.8.in_b P.9
 
-same_length : tie.Need-same-length
+same_length : tie.Need-shape_of-st-then-d-target
 same_length c = search rules
 
-same-length-2 : tie.Need-same-length-2
+same-length-2 : tie.Need-shape_of-a-then-d-target
 same-length-2 c = search rules
 
-same-length-3 : tie.Need-same-length-3
+same-length-3 : tie.Need-shape_of-b-then-d-target
 same-length-3 c = search rules
 
-returns-2 : tie.Need-returns-2
-returns-2 c = let s = c.before.before.before.before.before.before.before.before.before.before.before.before.before in let y = c.before.before.before.before.before.phrase-at in λ E k pe qe ix p T o h. asked-moved s.args.postings.now s.args.positions.now s.args.st.now s.args.target s.requires.1 s.requires.2 E pe qe y.result y.new.0 y.ensures ix p T k o h s.args.from c.before.before.before.before.before.before.before.before.before.if1.false c.if2.true
+returns-2 : tie.Need-returns-then-d-target
+returns-2 c = let s = c in let y = c.phrase_at-d in λ E k pe qe ix p T o h. asked-moved s.args.postings.now s.args.positions.now s.args.st.now s.args.target s.requires.1 s.requires.2 E pe qe y.result y.new.st y.ensures ix p T k o h s.args.from c.if-from-target.false c.if-d-target.true
 
-add-st : tie.Need-overflow-add-st
+add-st : tie.Need-overflow_add-st
 add-st c = search rules
 
-slice-write-st : tie.Need-slice-write-st
-slice-write-st c = let s = c.before.before.before.before.before.before.before.before.before.before.before.before.before in let P = s.requires.3 in let y = c.before.before.before.before.before.phrase-at in omega (arith, ok-long P.3 P.0.ranges P.5 P.6 P.7 s.args.st.now s.args.target P.9.ok, y.auto.0)
+slice-write-st : tie.Need-bounds-st-2
+slice-write-st c = let s = c in let P = s.requires.3 in let y = c.phrase_at-d in omega (arith, ok-long P.3 P.0.ranges P.5 P.6 P.7 s.args.st.now s.args.target P.9.ok, y.auto.st)
 
-same-length-4 : tie.Need-same-length-4
+same-length-4 : tie.Need-shape_of-st
 same-length-4 c = search rules
 
-same-length-5 : tie.Need-same-length-5
+same-length-5 : tie.Need-shape_of-a
 same-length-5 c = search rules
 
-same-length-6 : tie.Need-same-length-6
+same-length-6 : tie.Need-shape_of-b
 same-length-6 c = search rules
 
-returns-3 : tie.Need-returns-3
-returns-3 c = let s = c.before.before.before.before.before.before.before.before.before.before.before.before.before in let y = c.before.before.before.before.before.phrase-at in λ E k pe qe ix p T o h. asked-there s.args.postings.now s.args.positions.now s.args.st.now s.args.target s.requires.1 s.requires.2 E pe qe y.result y.new.0 y.ensures ix p T k o h s.args.from c.before.before.before.before.before.before.before.before.before.if1.false c.if2.false
+returns-3 : tie.Need-returns
+returns-3 c = let s = c in let y = c.phrase_at-d in λ E k pe qe ix p T o h. asked-there s.args.postings.now s.args.positions.now s.args.st.now s.args.target s.requires.1 s.requires.2 E pe qe y.result y.new.st y.ensures ix p T k o h s.args.from c.if-from-target.false c.if-d-target.false
 
-pub ask-phrase-spec : {M : Type 1} → statement M
-ask-phrase-spec =
+pub ask_phrase_spec : {M : Type 1} → statement M
+ask_phrase_spec =
     tie.close
     (tie.spec
     returns

@@ -149,32 +149,32 @@ pass-calls t = (kind-at-reads.Asked, kind-at-reads.Learnt, advance-term-reads.As
 abbrev pub step-calls : ℕ → step-lts.Claims
 step-calls t = (pass_below t, pass.Post, disjunction-below t, disjunction.Post)
 
-abbrev pub conjunction-Inv-loop : conjunction-lts.invariant-loop
+abbrev pub conjunction-Inv-loop : conjunction-lts.invariant-loop-d
 conjunction-Inv-loop kids₀ max-doc postings positions ranges a₀ b₀ required-end need target depth d₀ kids a b d = Lengths (length kids) (length kids₀) (length a) (length a₀) (length b) (length b₀) × (d ≤ noMoreDocs) × ((ix : Index) (p : ℕ) (rs os : Scorers) → LeadHeld (lent max-doc postings positions ranges) ix p rs os depth required-end kids₀ target → Going (leads ix rs os need) target d (LeadHeld (lent max-doc postings positions ranges) ix p rs os depth required-end kids d))
 
-abbrev pub conjunction-μ-loop : conjunction-lts.decreases-loop
+abbrev pub conjunction-μ-loop : conjunction-lts.decreases-loop-d
 conjunction-μ-loop kids₀ max-doc postings positions ranges a₀ b₀ required-end need target depth d₀ kids a b d = noMoreDocs - d
 
-abbrev pub disjunction-Inv-loop : disjunction-lts.invariant-loop
+abbrev pub disjunction-Inv-loop : disjunction-lts.invariant-loop-x
 disjunction-Inv-loop kids₀ max-doc postings positions ranges a₀ b₀ need target depth enough t₀ kids a b t = Lengths (length kids) (length kids₀) (length a) (length a₀) (length b) (length b₀) × (t ≤ noMoreDocs) × (enough ≡ need) × ((ix : Index) (p : ℕ) (ss : Scorers) → PartsHeld (lent max-doc postings positions ranges) ix p ss depth kids₀ target → Going (λ x. leb need (matching ix ss x)) target t (PartsHeld (lent max-doc postings positions ranges) ix p ss depth kids t))
 
-abbrev pub disjunction-μ-loop : disjunction-lts.decreases-loop
+abbrev pub disjunction-μ-loop : disjunction-lts.decreases-loop-x
 disjunction-μ-loop kids₀ max-doc postings positions ranges a₀ b₀ need target depth enough t₀ kids a b t = noMoreDocs - t
 
-abbrev pub excluding-Inv-loop : excluding-lts.invariant-loop
+abbrev pub excluding-Inv-loop : excluding-lts.invariant-loop-max_doc
 excluding-Inv-loop kids₀ max-doc postings positions ranges a₀ b₀ required-end optional-end need target depth t₀ kids a b t = Lengths (length kids) (length kids₀) (length a) (length a₀) (length b) (length b₀) × (t ≤ noMoreDocs) × ((ix : Index) (p : ℕ) (rs os ps : Scorers) → BooleanHeld (lent max-doc postings positions ranges) ix p rs os ps depth required-end optional-end kids₀ target → Going (takes ix rs os ps need) target t (BooleanHeld (lent max-doc postings positions ranges) ix p rs os ps depth required-end optional-end kids t))
 
-abbrev pub excluding-μ-loop : excluding-lts.decreases-loop
+abbrev pub excluding-μ-loop : excluding-lts.decreases-loop-max_doc
 excluding-μ-loop kids₀ max-doc postings positions ranges a₀ b₀ required-end optional-end need target depth t₀ kids a b t = noMoreDocs - t
 
-abbrev pub least-Inv-loop : least-lts.invariant-loop
+abbrev pub least-Inv-loop : least-lts.invariant-loop-at
 least-Inv-loop kids₀ max-doc postings positions ranges a₀ b₀ target depth best₀ count₀ at₀ kids a b best count at = Lengths (length kids) (length kids₀) (length a) (length a₀) (length b) (length b₀) × ((ix : Index) (p : ℕ) (ss : Scorers) → PartsHeld (lent max-doc postings positions ranges) ix p ss depth kids₀ target → LeastAt (lent max-doc postings positions ranges) ix p depth ss kids target best count at)
 
-abbrev pub least-μ-loop : least-lts.decreases-loop
+abbrev pub least-μ-loop : least-lts.decreases-loop-at
 least-μ-loop kids₀ max-doc postings positions ranges a₀ b₀ target depth best₀ count₀ at₀ kids a b best count at = length kids - at
 
-abbrev pub pass-Inv-loop : pass-lts.invariant-loop
+abbrev pub pass-Inv-loop : pass-lts.invariant-loop-at
 pass-Inv-loop kids₀ max-doc postings positions ranges a₀ b₀ target depth d₀ at₀ kids a b d at = Lengths (length kids) (length kids₀) (length a) (length a₀) (length b) (length b₀) × ((ix : Index) (p : ℕ) (ss : Scorers) → PartsHeld (lent max-doc postings positions ranges) ix p ss depth kids₀ target → PassAt (lent max-doc postings positions ranges) ix p depth ss target kids d at)
 
-abbrev pub pass-μ-loop : pass-lts.decreases-loop
+abbrev pub pass-μ-loop : pass-lts.decreases-loop-at
 pass-μ-loop kids₀ max-doc postings positions ranges a₀ b₀ target depth d₀ at₀ kids a b d at = length kids - at
