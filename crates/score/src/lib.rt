@@ -1,4 +1,6 @@
 // The score of a document at the scorers in the lent words.
+#![tactic(auto)]
+
 ghost use Rattle.std.specs.Prelude.{min, length};
 ghost use Rattle.score.specs.Words.{ChildIs, ChildThere};
 ghost use Rattle.score.specs.Asked.{RequiredPre, RequiredPost, OptionalPre, OptionalPost, JoinPre, JoinPost};

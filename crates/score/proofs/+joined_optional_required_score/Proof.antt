@@ -26,8 +26,8 @@ mod RequiredTerms
 mod Required
 mod Nodes
 
-pub +joined-optional-required-score-spec : {M : Type 1} → statement M
-+joined-optional-required-score-spec =
+pub +joined_optional_required_score_spec : {M : Type 1} → statement M
++joined_optional_required_score_spec =
     close μ-joined μ-optional μ-required μ-score (λ t. joined-lts.spec (joined-calls t)
     (joined_at t)
     joined.Post

@@ -76,18 +76,18 @@ required-calls t = (child-at-reads.Asked, child-at-reads.Learnt, term-score-read
 abbrev pub score-calls : ℕ → score-lts.Claims
 score-calls t = (node-at-reads.Asked, node-at-reads.Learnt, joined-below t, joined.Post, leaf-score-reads.Asked, leaf-score-reads.Learnt)
 
-abbrev pub optional-Inv-loop : optional-lts.invariant-loop
+abbrev pub optional-Inv-loop : optional-lts.invariant-loop-at
 optional-Inv-loop kids₀ max-doc postings positions norms ranges inverses a₀ b₀ doc depth sum₀ at₀ kids a b sum at =
     (length kids ≡ length kids₀) × (length a ≡ length a₀) × (length b ≡ length b₀) × OptionalAt kids₀ max-doc postings positions norms ranges inverses (min (length a₀) (length b₀)) doc depth kids at sum
 
-abbrev pub optional-μ-loop : optional-lts.decreases-loop
+abbrev pub optional-μ-loop : optional-lts.decreases-loop-at
 optional-μ-loop kids₀ max-doc postings positions norms ranges inverses a₀ b₀ doc depth sum₀ at₀ kids a b sum at =
     length kids - at
 
-abbrev pub required-Inv-loop : required-lts.invariant-loop
+abbrev pub required-Inv-loop : required-lts.invariant-loop-at
 required-Inv-loop kids₀ start max-doc postings positions norms ranges inverses a₀ b₀ doc depth sum₀ at₀ kids a b sum at =
     (length kids ≡ length kids₀) × (length a ≡ length a₀) × (length b ≡ length b₀) × RequiredAt kids₀ start max-doc postings positions norms ranges inverses (min (length a₀) (length b₀)) doc depth kids at sum
 
-abbrev pub required-μ-loop : required-lts.decreases-loop
+abbrev pub required-μ-loop : required-lts.decreases-loop-at
 required-μ-loop kids₀ start max-doc postings positions norms ranges inverses a₀ b₀ doc depth sum₀ at₀ kids a b sum at =
     length kids - at
