@@ -1,4 +1,6 @@
 // The numbers of Search and Page, and those that they share with Place: 1 to 10 of what is lent, and work buffers too short.
+#![tactic(auto)]
+
 ghost use Rattle.std.specs.Prelude.{◌≡◌, ℕ};
 ghost use Rattle.meaning.specs.Lent.{Index};
 ghost use Rattle.meaning.specs.Refusals.{lowest};

@@ -10,60 +10,60 @@ use Rattle.order_check.proofs.CallConditions.{page-order, page-short, page-unequ
 use Rattle.order_check.proofs.page_refusal.Statement.{statement}
 use Rattle.order_check.proofs.page_refusal.Tie as tie
 
-check-order-requires : tie.Need-check-order-requires
+check-order-requires : tie.Need-check_order-refusal-requires
 check-order-requires c κs =
     search rules
 
-returns : tie.Need-returns
+returns : tie.Need-returns-then-refusal-ne0
 returns c =
-    let a = c.before.before.before.before.before.before.before.before.before.before.before.args in
-    let ix : Index = record { maxDoc = a.max-doc; fields = a.fields.now; leaves = a.leaves.now; postings = a.postings.now; positions = a.positions.now; norms = a.norms.now; live = a.live.now; columns = a.columns.now; values = a.values.now } in
-    let w : Work = work a.states a.starts a.other-starts a.ranges in
-    let o = c.before.check-order in
-    page-order ix a.q.now a.target w a.documents a.scores o.result o.ensures c.if1.true
+    let a = c.args in
+    let ix : Index = record { maxDoc = a.max_doc; fields = a.fields.now; leaves = a.leaves.now; postings = a.postings.now; positions = a.positions.now; norms = a.norms.now; live = a.live.now; columns = a.columns.now; values = a.values.now } in
+    let w : Work = work a.states a.starts a.other_starts a.ranges in
+    let o = c.check_order-refusal in
+    page-order ix a.q.now a.target w a.documents a.scores o.result o.ensures c.if-refusal-ne0.true
 
-work-short-requires : tie.Need-work-short-requires
+work-short-requires : tie.Need-work_short-requires
 work-short-requires c κs =
-    let a = c.before.before.before.before.before.before.before.before.before.before.before.args in
-    let ix : Index = record { maxDoc = a.max-doc; fields = a.fields.now; leaves = a.leaves.now; postings = a.postings.now; positions = a.positions.now; norms = a.norms.now; live = a.live.now; columns = a.columns.now; values = a.values.now } in
-    let o = c.before.check-order in
-    (ix, record { asks = order-checked ix a.q.now o.result o.ensures c.if1.false; documents = refl; leaves-are = refl; postings-are = refl })
+    let a = c.args in
+    let ix : Index = record { maxDoc = a.max_doc; fields = a.fields.now; leaves = a.leaves.now; postings = a.postings.now; positions = a.positions.now; norms = a.norms.now; live = a.live.now; columns = a.columns.now; values = a.values.now } in
+    let o = c.check_order-refusal in
+    (ix, record { asks = order-checked ix a.q.now o.result o.ensures c.if-refusal-ne0.false; documents = refl; leaves-are = refl; postings-are = refl })
 
-returns-2 : tie.Need-returns-2
+returns-2 : tie.Need-returns-then-work_short
 returns-2 c =
-    let a = c.before.before.before.before.before.before.before.before.before.before.before.before.before.args in
-    let ix : Index = record { maxDoc = a.max-doc; fields = a.fields.now; leaves = a.leaves.now; postings = a.postings.now; positions = a.positions.now; norms = a.norms.now; live = a.live.now; columns = a.columns.now; values = a.values.now } in
-    let w : Work = work a.states a.starts a.other-starts a.ranges in
-    let o = c.before.before.before.check-order in
-    let b = c.before.work-short in
-    page-short ix a.q.now a.target w a.documents a.scores o.result o.ensures c.before.before.if1.false b.result (b.ensures ix (record { asks = order-checked ix a.q.now o.result o.ensures c.before.before.if1.false; documents = refl; leaves-are = refl; postings-are = refl })) c.if2.true
+    let a = c.args in
+    let ix : Index = record { maxDoc = a.max_doc; fields = a.fields.now; leaves = a.leaves.now; postings = a.postings.now; positions = a.positions.now; norms = a.norms.now; live = a.live.now; columns = a.columns.now; values = a.values.now } in
+    let w : Work = work a.states a.starts a.other_starts a.ranges in
+    let o = c.check_order-refusal in
+    let b = c.work_short in
+    page-short ix a.q.now a.target w a.documents a.scores o.result o.ensures c.if-refusal-ne0.false b.result (b.ensures ix (record { asks = order-checked ix a.q.now o.result o.ensures c.if-refusal-ne0.false; documents = refl; leaves-are = refl; postings-are = refl })) c.if-work_short.true
 
-returns-3 : tie.Need-returns-3
+returns-3 : tie.Need-returns-then-documents-scores
 returns-3 c =
-    let a = c.before.before.before.before.before.before.before.before.before.before.before.before.before.before.args in
-    let ix : Index = record { maxDoc = a.max-doc; fields = a.fields.now; leaves = a.leaves.now; postings = a.postings.now; positions = a.positions.now; norms = a.norms.now; live = a.live.now; columns = a.columns.now; values = a.values.now } in
-    let w : Work = work a.states a.starts a.other-starts a.ranges in
-    let o = c.before.before.before.before.check-order in
-    let b = c.before.before.work-short in
-    page-unequal ix a.q.now a.target w a.documents a.scores o.result o.ensures c.before.before.before.if1.false b.result (b.ensures ix (record { asks = order-checked ix a.q.now o.result o.ensures c.before.before.before.if1.false; documents = refl; leaves-are = refl; postings-are = refl })) c.before.if2.false c.if3.true
+    let a = c.args in
+    let ix : Index = record { maxDoc = a.max_doc; fields = a.fields.now; leaves = a.leaves.now; postings = a.postings.now; positions = a.positions.now; norms = a.norms.now; live = a.live.now; columns = a.columns.now; values = a.values.now } in
+    let w : Work = work a.states a.starts a.other_starts a.ranges in
+    let o = c.check_order-refusal in
+    let b = c.work_short in
+    page-unequal ix a.q.now a.target w a.documents a.scores o.result o.ensures c.if-refusal-ne0.false b.result (b.ensures ix (record { asks = order-checked ix a.q.now o.result o.ensures c.if-refusal-ne0.false; documents = refl; leaves-are = refl; postings-are = refl })) c.if-work_short.false c.if-documents-scores.true
 
-returns-4 : tie.Need-returns-4
+returns-4 : tie.Need-returns-then-max_doc-target
 returns-4 c =
-    let a = c.before.before.before.before.before.before.before.before.before.before.before.before.before.before.before.args in
-    let ix : Index = record { maxDoc = a.max-doc; fields = a.fields.now; leaves = a.leaves.now; postings = a.postings.now; positions = a.positions.now; norms = a.norms.now; live = a.live.now; columns = a.columns.now; values = a.values.now } in
-    let w : Work = work a.states a.starts a.other-starts a.ranges in
-    let o = c.before.before.before.before.before.check-order in
-    let b = c.before.before.before.work-short in
-    page-above ix a.q.now a.target w a.documents a.scores o.result o.ensures c.before.before.before.before.if1.false b.result (b.ensures ix (record { asks = order-checked ix a.q.now o.result o.ensures c.before.before.before.before.if1.false; documents = refl; leaves-are = refl; postings-are = refl })) c.before.before.if2.false c.before.if3.false (omega (arith, c.if4.true))
+    let a = c.args in
+    let ix : Index = record { maxDoc = a.max_doc; fields = a.fields.now; leaves = a.leaves.now; postings = a.postings.now; positions = a.positions.now; norms = a.norms.now; live = a.live.now; columns = a.columns.now; values = a.values.now } in
+    let w : Work = work a.states a.starts a.other_starts a.ranges in
+    let o = c.check_order-refusal in
+    let b = c.work_short in
+    page-above ix a.q.now a.target w a.documents a.scores o.result o.ensures c.if-refusal-ne0.false b.result (b.ensures ix (record { asks = order-checked ix a.q.now o.result o.ensures c.if-refusal-ne0.false; documents = refl; leaves-are = refl; postings-are = refl })) c.if-work_short.false c.if-documents-scores.false (omega (arith, c.if-max_doc-target.true))
 
-returns-5 : tie.Need-returns-5
+returns-5 : tie.Need-returns
 returns-5 c =
-    let a = c.before.before.before.before.before.before.before.before.before.before.before.before.before.before.before.args in
-    let ix : Index = record { maxDoc = a.max-doc; fields = a.fields.now; leaves = a.leaves.now; postings = a.postings.now; positions = a.positions.now; norms = a.norms.now; live = a.live.now; columns = a.columns.now; values = a.values.now } in
-    let w : Work = work a.states a.starts a.other-starts a.ranges in
-    let o = c.before.before.before.before.before.check-order in
-    let b = c.before.before.before.work-short in
-    page-accepted ix a.q.now a.target w a.documents a.scores o.result o.ensures c.before.before.before.before.if1.false b.result (b.ensures ix (record { asks = order-checked ix a.q.now o.result o.ensures c.before.before.before.before.if1.false; documents = refl; leaves-are = refl; postings-are = refl })) c.before.before.if2.false c.before.if3.false (omega (arith, c.if4.false))
+    let a = c.args in
+    let ix : Index = record { maxDoc = a.max_doc; fields = a.fields.now; leaves = a.leaves.now; postings = a.postings.now; positions = a.positions.now; norms = a.norms.now; live = a.live.now; columns = a.columns.now; values = a.values.now } in
+    let w : Work = work a.states a.starts a.other_starts a.ranges in
+    let o = c.check_order-refusal in
+    let b = c.work_short in
+    page-accepted ix a.q.now a.target w a.documents a.scores o.result o.ensures c.if-refusal-ne0.false b.result (b.ensures ix (record { asks = order-checked ix a.q.now o.result o.ensures c.if-refusal-ne0.false; documents = refl; leaves-are = refl; postings-are = refl })) c.if-work_short.false c.if-documents-scores.false (omega (arith, c.if-max_doc-target.false))
 
-pub page-refusal-spec : {M : Type 1} → statement M
-page-refusal-spec = tie.close (tie.spec check-order-requires returns work-short-requires returns-2 returns-3 returns-4 returns-5)
+pub page_refusal_spec : {M : Type 1} → statement M
+page_refusal_spec = tie.close (tie.spec check-order-requires returns work-short-requires returns-2 returns-3 returns-4 returns-5)

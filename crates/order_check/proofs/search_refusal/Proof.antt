@@ -9,67 +9,67 @@ use Rattle.order_check.proofs.CallConditions.{search-order, search-no-hits, sear
 use Rattle.order_check.proofs.search_refusal.Statement.{statement}
 use Rattle.order_check.proofs.search_refusal.Tie as tie
 
-check-order-requires : tie.Need-check-order-requires
+check-order-requires : tie.Need-check_order-refusal-requires
 check-order-requires c κs =
     search rules
 
-returns : tie.Need-returns
+returns : tie.Need-returns-then-refusal-ne0
 returns c =
-    let a = c.before.before.before.before.before.before.before.before.before.before.before.args in
-    let ix : Index = record { maxDoc = a.max-doc; fields = a.fields.now; leaves = a.leaves.now; postings = a.postings.now; positions = a.positions.now; norms = a.norms.now; live = a.live.now; columns = a.columns.now; values = a.values.now } in
-    let w : Work = work a.states a.starts a.other-starts a.ranges in
-    let o = c.before.check-order in
-    search-order ix a.q.now a.k w a.places o.result o.ensures c.if1.true
+    let a = c.args in
+    let ix : Index = record { maxDoc = a.max_doc; fields = a.fields.now; leaves = a.leaves.now; postings = a.postings.now; positions = a.positions.now; norms = a.norms.now; live = a.live.now; columns = a.columns.now; values = a.values.now } in
+    let w : Work = work a.states a.starts a.other_starts a.ranges in
+    let o = c.check_order-refusal in
+    search-order ix a.q.now a.k w a.places o.result o.ensures c.if-refusal-ne0.true
 
-returns-2 : tie.Need-returns-2
+returns-2 : tie.Need-returns-then-k-lt1
 returns-2 c =
-    let a = c.before.before.before.before.before.before.before.before.before.before.before.before.args in
-    let ix : Index = record { maxDoc = a.max-doc; fields = a.fields.now; leaves = a.leaves.now; postings = a.postings.now; positions = a.positions.now; norms = a.norms.now; live = a.live.now; columns = a.columns.now; values = a.values.now } in
-    let w : Work = work a.states a.starts a.other-starts a.ranges in
-    let o = c.before.before.check-order in
-    search-no-hits ix a.q.now a.k w a.places o.result o.ensures c.before.if1.false c.if2.true
+    let a = c.args in
+    let ix : Index = record { maxDoc = a.max_doc; fields = a.fields.now; leaves = a.leaves.now; postings = a.postings.now; positions = a.positions.now; norms = a.norms.now; live = a.live.now; columns = a.columns.now; values = a.values.now } in
+    let w : Work = work a.states a.starts a.other_starts a.ranges in
+    let o = c.check_order-refusal in
+    search-no-hits ix a.q.now a.k w a.places o.result o.ensures c.if-refusal-ne0.false c.if-k-lt1.true
 
-returns-3 : tie.Need-returns-3
+returns-3 : tie.Need-returns-then-k-gt1024
 returns-3 c =
-    let a = c.before.before.before.before.before.before.before.before.before.before.before.before.before.args in
-    let ix : Index = record { maxDoc = a.max-doc; fields = a.fields.now; leaves = a.leaves.now; postings = a.postings.now; positions = a.positions.now; norms = a.norms.now; live = a.live.now; columns = a.columns.now; values = a.values.now } in
-    let w : Work = work a.states a.starts a.other-starts a.ranges in
-    let o = c.before.before.before.check-order in
-    search-many-hits ix a.q.now a.k w a.places o.result o.ensures c.before.before.if1.false c.before.if2.false c.if3.true
+    let a = c.args in
+    let ix : Index = record { maxDoc = a.max_doc; fields = a.fields.now; leaves = a.leaves.now; postings = a.postings.now; positions = a.positions.now; norms = a.norms.now; live = a.live.now; columns = a.columns.now; values = a.values.now } in
+    let w : Work = work a.states a.starts a.other_starts a.ranges in
+    let o = c.check_order-refusal in
+    search-many-hits ix a.q.now a.k w a.places o.result o.ensures c.if-refusal-ne0.false c.if-k-lt1.false c.if-k-gt1024.true
 
-work-short-requires : tie.Need-work-short-requires
+work-short-requires : tie.Need-work_short-requires
 work-short-requires c κs =
-    let a = c.before.before.before.before.before.before.before.before.before.before.before.before.before.args in
-    let ix : Index = record { maxDoc = a.max-doc; fields = a.fields.now; leaves = a.leaves.now; postings = a.postings.now; positions = a.positions.now; norms = a.norms.now; live = a.live.now; columns = a.columns.now; values = a.values.now } in
-    let o = c.before.before.before.check-order in
-    (ix, record { asks = order-checked ix a.q.now o.result o.ensures c.before.before.if1.false; documents = refl; leaves-are = refl; postings-are = refl })
+    let a = c.args in
+    let ix : Index = record { maxDoc = a.max_doc; fields = a.fields.now; leaves = a.leaves.now; postings = a.postings.now; positions = a.positions.now; norms = a.norms.now; live = a.live.now; columns = a.columns.now; values = a.values.now } in
+    let o = c.check_order-refusal in
+    (ix, record { asks = order-checked ix a.q.now o.result o.ensures c.if-refusal-ne0.false; documents = refl; leaves-are = refl; postings-are = refl })
 
-returns-4 : tie.Need-returns-4
+returns-4 : tie.Need-returns-then-work_short
 returns-4 c =
-    let a = c.before.before.before.before.before.before.before.before.before.before.before.before.before.before.before.args in
-    let ix : Index = record { maxDoc = a.max-doc; fields = a.fields.now; leaves = a.leaves.now; postings = a.postings.now; positions = a.positions.now; norms = a.norms.now; live = a.live.now; columns = a.columns.now; values = a.values.now } in
-    let w : Work = work a.states a.starts a.other-starts a.ranges in
-    let o = c.before.before.before.before.before.check-order in
-    let b = c.before.work-short in
-    search-short ix a.q.now a.k w a.places o.result o.ensures c.before.before.before.before.if1.false c.before.before.before.if2.false c.before.before.if3.false b.result (b.ensures ix (record { asks = order-checked ix a.q.now o.result o.ensures c.before.before.before.before.if1.false; documents = refl; leaves-are = refl; postings-are = refl })) c.if4.true
+    let a = c.args in
+    let ix : Index = record { maxDoc = a.max_doc; fields = a.fields.now; leaves = a.leaves.now; postings = a.postings.now; positions = a.positions.now; norms = a.norms.now; live = a.live.now; columns = a.columns.now; values = a.values.now } in
+    let w : Work = work a.states a.starts a.other_starts a.ranges in
+    let o = c.check_order-refusal in
+    let b = c.work_short in
+    search-short ix a.q.now a.k w a.places o.result o.ensures c.if-refusal-ne0.false c.if-k-lt1.false c.if-k-gt1024.false b.result (b.ensures ix (record { asks = order-checked ix a.q.now o.result o.ensures c.if-refusal-ne0.false; documents = refl; leaves-are = refl; postings-are = refl })) c.if-work_short.true
 
-returns-5 : tie.Need-returns-5
+returns-5 : tie.Need-returns-then-places-k
 returns-5 c =
-    let a = c.before.before.before.before.before.before.before.before.before.before.before.before.before.before.before.before.args in
-    let ix : Index = record { maxDoc = a.max-doc; fields = a.fields.now; leaves = a.leaves.now; postings = a.postings.now; positions = a.positions.now; norms = a.norms.now; live = a.live.now; columns = a.columns.now; values = a.values.now } in
-    let w : Work = work a.states a.starts a.other-starts a.ranges in
-    let o = c.before.before.before.before.before.before.check-order in
-    let b = c.before.before.work-short in
-    search-few-places ix a.q.now a.k w a.places o.result o.ensures c.before.before.before.before.before.if1.false c.before.before.before.before.if2.false c.before.before.before.if3.false b.result (b.ensures ix (record { asks = order-checked ix a.q.now o.result o.ensures c.before.before.before.before.before.if1.false; documents = refl; leaves-are = refl; postings-are = refl })) c.before.if4.false c.if5.true
+    let a = c.args in
+    let ix : Index = record { maxDoc = a.max_doc; fields = a.fields.now; leaves = a.leaves.now; postings = a.postings.now; positions = a.positions.now; norms = a.norms.now; live = a.live.now; columns = a.columns.now; values = a.values.now } in
+    let w : Work = work a.states a.starts a.other_starts a.ranges in
+    let o = c.check_order-refusal in
+    let b = c.work_short in
+    search-few-places ix a.q.now a.k w a.places o.result o.ensures c.if-refusal-ne0.false c.if-k-lt1.false c.if-k-gt1024.false b.result (b.ensures ix (record { asks = order-checked ix a.q.now o.result o.ensures c.if-refusal-ne0.false; documents = refl; leaves-are = refl; postings-are = refl })) c.if-work_short.false c.if-places-k.true
 
-returns-6 : tie.Need-returns-6
+returns-6 : tie.Need-returns
 returns-6 c =
-    let a = c.before.before.before.before.before.before.before.before.before.before.before.before.before.before.before.before.args in
-    let ix : Index = record { maxDoc = a.max-doc; fields = a.fields.now; leaves = a.leaves.now; postings = a.postings.now; positions = a.positions.now; norms = a.norms.now; live = a.live.now; columns = a.columns.now; values = a.values.now } in
-    let w : Work = work a.states a.starts a.other-starts a.ranges in
-    let o = c.before.before.before.before.before.before.check-order in
-    let b = c.before.before.work-short in
-    search-accepted ix a.q.now a.k w a.places o.result o.ensures c.before.before.before.before.before.if1.false c.before.before.before.before.if2.false c.before.before.before.if3.false b.result (b.ensures ix (record { asks = order-checked ix a.q.now o.result o.ensures c.before.before.before.before.before.if1.false; documents = refl; leaves-are = refl; postings-are = refl })) c.before.if4.false c.if5.false
+    let a = c.args in
+    let ix : Index = record { maxDoc = a.max_doc; fields = a.fields.now; leaves = a.leaves.now; postings = a.postings.now; positions = a.positions.now; norms = a.norms.now; live = a.live.now; columns = a.columns.now; values = a.values.now } in
+    let w : Work = work a.states a.starts a.other_starts a.ranges in
+    let o = c.check_order-refusal in
+    let b = c.work_short in
+    search-accepted ix a.q.now a.k w a.places o.result o.ensures c.if-refusal-ne0.false c.if-k-lt1.false c.if-k-gt1024.false b.result (b.ensures ix (record { asks = order-checked ix a.q.now o.result o.ensures c.if-refusal-ne0.false; documents = refl; leaves-are = refl; postings-are = refl })) c.if-work_short.false c.if-places-k.false
 
-pub search-refusal-spec : {M : Type 1} → statement M
-search-refusal-spec = tie.close (tie.spec check-order-requires returns returns-2 returns-3 work-short-requires returns-4 returns-5 returns-6)
+pub search_refusal_spec : {M : Type 1} → statement M
+search_refusal_spec = tie.close (tie.spec check-order-requires returns returns-2 returns-3 work-short-requires returns-4 returns-5 returns-6)
