@@ -1,7 +1,11 @@
 // What ieee754's functions give at the ends of their ranges; crates/ieee754_vectors/stdout has what Rust's own operations
 // and the unchanged next_up give there (harness, `record`).
+#![tactic(auto)]
+
 ghost use Rattle.std.specs.Prelude.{◌<◌, ◌≤◌};
 
+use std::io;
+use std::io::{BufWriter, Write};
 use vectors::{f32_of, f64_of, print_f32, print_f64};
 
 // The sign's bit of a binary64 pattern.
@@ -31,16 +35,16 @@ const KINDS: [u64; 20] = [
     0xffff_ffff_ffff_ffff,
 ];
 
-fn narrowed(bits: u64) {
-    print_f32(ieee754::narrow(f64_of(bits)));
+fn narrowed(out: &mut impl Write, bits: u64) -> io::Result<()> {
+    print_f32(out, ieee754::narrow(f64_of(bits)))
 }
 
 // A pattern, the ones beside it, and its negative.
-fn narrowed_around(bits: u64) {
-    narrowed(std::num::wrapping_sub_u64(bits, 1));
-    narrowed(bits);
-    narrowed(std::num::wrapping_add_u64(bits, 1));
-    narrowed(bits ^ SIGN);
+fn narrowed_around(out: &mut impl Write, bits: u64) -> io::Result<()> {
+    narrowed(out, std::num::wrapping_sub_u64(bits, 1))?;
+    narrowed(out, bits)?;
+    narrowed(out, std::num::wrapping_add_u64(bits, 1))?;
+    narrowed(out, bits ^ SIGN)
 }
 
 // Half of the distance of f32 values where a binary64 exponent's field is e, as a number of binary64 digits.
@@ -55,108 +59,120 @@ fn half_unit(e: u64) -> u64 {
 }
 
 // The start of the values with exponent field e, two ties above it, and the last tie below the next start.
-fn narrowed_at(e: u64)
+fn narrowed_at(out: &mut impl Write, e: u64) -> io::Result<()>
     requires { e < 2047 }
 {
     let start = e << 52;
     let half = half_unit(e);
-    narrowed_around(start);
-    narrowed_around(std::num::wrapping_add_u64(start, half));
-    narrowed_around(std::num::wrapping_add_u64(start, half << 1 | half));
-    narrowed_around(std::num::wrapping_sub_u64((e + 1) << 52, half));
+    narrowed_around(out, start)?;
+    narrowed_around(out, std::num::wrapping_add_u64(start, half))?;
+    narrowed_around(out, std::num::wrapping_add_u64(start, half << 1 | half))?;
+    narrowed_around(out, std::num::wrapping_sub_u64((e + 1) << 52, half))
 }
 
-fn narrowed_from(first: u64, last: u64)
+fn narrowed_from(out: &mut impl Write, first: u64, last: u64) -> io::Result<()>
     requires { last ≤ 2047 }
 {
     let mut e = first;
     while e < last {
-        narrowed_at(e);
+        narrowed_at(out, e)?;
         e += 1;
     }
+    Ok(())
 }
 
-fn narrowed_kinds() {
+fn narrowed_kinds(out: &mut impl Write) -> io::Result<()> {
     let mut i = 0;
     while i < 20 {
-        narrowed(KINDS[i]);
+        narrowed(out, KINDS[i])?;
         i += 1;
     }
+    Ok(())
 }
 
 // Patterns from a seed, with exponents from below the smallest f32 to above the largest.
-fn narrowed_any() {
+fn narrowed_any(out: &mut impl Write) -> io::Result<()> {
     let mut x: u64 = 1;
     let mut turns: usize = 0;
     while turns < 500 {
         x = vectors::xorshift(x);
-        narrowed(0x3660_0000_0000_0000 + x % 0x1220_0000_0000_0000);
+        narrowed(out, 0x3660_0000_0000_0000 + x % 0x1220_0000_0000_0000)?;
         turns += 1;
     }
+    Ok(())
 }
 
-fn lengths_around(n: u32) {
-    print_f32(ieee754::length_to_f32(std::num::wrapping_sub_u32(n, 1)));
-    print_f32(ieee754::length_to_f32(n));
-    print_f32(ieee754::length_to_f32(std::num::wrapping_add_u32(n, 1)));
+fn lengths_around(out: &mut impl Write, n: u32) -> io::Result<()> {
+    print_f32(
+        out,
+        ieee754::length_to_f32(std::num::wrapping_sub_u32(n, 1)),
+    )?;
+    print_f32(out, ieee754::length_to_f32(n))?;
+    print_f32(
+        out,
+        ieee754::length_to_f32(std::num::wrapping_add_u32(n, 1)),
+    )
 }
 
 // The lengths of k + 25 digits: the first, two ties above it, and the last tie below the next first.
-fn lengths_at(k: u32)
+fn lengths_at(out: &mut impl Write, k: u32) -> io::Result<()>
     requires { k < 8 }
 {
     let start = 0x100_0000u32 << k;
     let half = 1u32 << k;
-    lengths_around(start);
-    lengths_around(std::num::wrapping_add_u32(start, half));
-    lengths_around(std::num::wrapping_add_u32(start, half << 1 | half));
-    lengths_around(std::num::wrapping_sub_u32(start << 1, half));
+    lengths_around(out, start)?;
+    lengths_around(out, std::num::wrapping_add_u32(start, half))?;
+    lengths_around(out, std::num::wrapping_add_u32(start, half << 1 | half))?;
+    lengths_around(out, std::num::wrapping_sub_u32(start << 1, half))
 }
 
-fn lengths() {
+fn lengths(out: &mut impl Write) -> io::Result<()> {
     let mut k = 0;
     while k < 8 {
-        lengths_at(k);
+        lengths_at(out, k)?;
         k += 1;
     }
+    Ok(())
 }
 
-fn next_up_of(bits: u32) {
-    print_f32(ieee754::next_up(f32_of(bits)));
+fn next_up_of(out: &mut impl Write, bits: u32) -> io::Result<()> {
+    print_f32(out, ieee754::next_up(f32_of(bits)))
 }
 
 // At the first and the last value of each exponent, of both signs; the last exponent's are infinity and NaNs.
-fn next_ups() {
+fn next_ups(out: &mut impl Write) -> io::Result<()> {
     let mut e: u32 = 0;
     while e < 512 {
         let start = e << 23;
-        next_up_of(start);
-        next_up_of(start + 1);
-        next_up_of(start + 0x7f_ffff);
+        next_up_of(out, start)?;
+        next_up_of(out, start + 1)?;
+        next_up_of(out, start + 0x7f_ffff)?;
         e += 1;
     }
+    Ok(())
 }
 
 // Which of the kinds a pattern stands below: a digit for each.
-fn below_kinds(bits: u64) {
+fn below_kinds(out: &mut impl Write, bits: u64) -> io::Result<()> {
     let mut i = 0;
     while i < 20 {
         if ieee754::total_below(bits, KINDS[i]) {
-            io::write_all(1, b"1");
+            write!(out, "1")?;
         } else {
-            io::write_all(1, b"0");
+            write!(out, "0")?;
         }
         i += 1;
     }
-    vectors::end_line();
+    vectors::end_line(out)
 }
 
-fn kinds_below_kinds() {
+fn kinds_below_kinds(out: &mut impl Write) -> io::Result<()> {
     let mut i = 0;
     while i < 20 {
-        below_kinds(KINDS[i]);
+        below_kinds(out, KINDS[i])?;
         i += 1;
     }
+    Ok(())
 }
 
 // A sum with one more score, which is no NaN.
@@ -168,27 +184,30 @@ fn summed(sum: f64, score: f32) -> f64 {
 }
 
 // Scores from a seed, from 2^-31 to 2, added up; each sum, and what it narrows to.
-fn sums() {
+fn sums(out: &mut impl Write) -> io::Result<()> {
     let mut sum: f64 = 0.0;
     let mut x: u64 = 2;
     let mut turns: usize = 0;
     while turns < 100 {
         x = vectors::xorshift(x);
         sum = summed(sum, f32_of((0x3000_0000 + x % 0x1000_0000) as u32));
-        print_f64(sum);
-        print_f32(ieee754::narrow(sum));
+        print_f64(out, sum)?;
+        print_f32(out, ieee754::narrow(sum))?;
         turns += 1;
     }
+    Ok(())
 }
 
-fn main() {
-    narrowed_kinds();
-    narrowed_from(0, 2);
-    narrowed_from(868, 1155);
-    narrowed_from(2045, 2047);
-    narrowed_any();
-    lengths();
-    next_ups();
-    kinds_below_kinds();
-    sums();
+fn main(rt: HostRuntime) -> io::Result<()> {
+    let mut out = BufWriter::new(rt.alloc(), io::writer(&rt))?;
+    narrowed_kinds(&mut out)?;
+    narrowed_from(&mut out, 0, 2)?;
+    narrowed_from(&mut out, 868, 1155)?;
+    narrowed_from(&mut out, 2045, 2047)?;
+    narrowed_any(&mut out)?;
+    lengths(&mut out)?;
+    next_ups(&mut out)?;
+    kinds_below_kinds(&mut out)?;
+    sums(&mut out)?;
+    out.flush()
 }
