@@ -40,20 +40,6 @@ abbrev pub takeAll : List ℕ → ℕ → List NodeState → List NodeState
 takeAll w zero ns = ns
 takeAll w (suc n) ns = set (takeAll w n ns) n (nodeFrom (drop (nodeStateWords * n) w))
 
-pub put-length : (w : List ℕ) (i : ℕ) (s : NodeState) → nodeStateWords * i + nodeStateWords ≤ length w → length (putNode w i s) ≡ length w
-put-length w i s h =
-    let a = length-append (take (nodeStateWords * i) w) (words_of (state_of s) ++ drop (nodeStateWords * i + nodeStateWords) w) in
-    let b = length-append (words_of (state_of s)) (drop (nodeStateWords * i + nodeStateWords) w) in
-    let t = length-take-le (nodeStateWords * i) w (omega (arith, h)) in
-    let d = length-drop (nodeStateWords * i + nodeStateWords) w in
-    omega (arith, a, b, t, d, h)
-
-pub all-length : (ns : List NodeState) (n : ℕ) (w : List ℕ) → nodeStateWords * n ≤ length w → length (put_all ns n w) ≡ length w
-all-length ns zero w h = refl
-all-length ns (suc n) w h =
-    let e = all-length ns n w (omega (arith, h)) in
-    put-length (put_all ns n w) n (get_or ns n none) (omega (arith, h, e)) ∙ e
-
 pub taken-length : (w : List ℕ) (n : ℕ) (ns : List NodeState) → length (takeAll w n ns) ≡ length ns
 taken-length w zero ns = refl
 taken-length w (suc n) ns = length-set (takeAll w n ns) n (nodeFrom (drop (nodeStateWords * n) w)) ∙ taken-length w n ns

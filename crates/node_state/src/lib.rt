@@ -1,4 +1,6 @@
 // Node states as records: the words of `weight`'s layout as named numbers, and the lent words of records in turn.
+#![tactic(auto)]
+
 ghost use Rattle.std.specs.Prelude.{◌≡◌, ◌++◌, ◌≤◌, ◌+◌, ◌*◌, length, take, drop};
 ghost use Rattle.meaning.specs.Limits.{nodeStateWords};
 ghost use Rattle.weight.specs.State.{words_of};
@@ -10,7 +12,7 @@ use weight::NODE_STATE_WORDS;
 const MAX_RECORDS: usize = 256;
 
 // One scorer of the tree, or one term of a phrase.
-#[derive(Drop)]
+#[derive(Clone, Copy)]
 pub struct NodeState {
     pub kind: u32,
     pub size: u32,
