@@ -1,4 +1,6 @@
 // The first pass over a query's records: of each tree the record after it, whether it has a scorer, and its cost.
+#![tactic(auto)]
+
 ghost use Rattle.std.specs.Prelude.{◌≡◌, Bool, true, false, cond, not, ◌&&◌, ◌||◌, List, ℕ, ◌+◌, ◌*◌, ◌/◌, ◌≤◌, ◌<◌, max, min, eqb, leb, ltb, length, get_or, take};
 ghost use Rattle.std.proofs.Math.Option.{some};
 ghost use Rattle.meaning.specs.Lent.{Index, leafNumber};
@@ -17,7 +19,7 @@ pub struct Measure {
 }
 
 // Of a Boolean's clauses: some is required; one of those lacks a scorer, another has one, their least cost; the Shoulds with a scorer, and their cost together.
-#[derive(Drop)]
+#[derive(Clone, Copy)]
 pub struct Tally {
     pub required: bool,
     pub missing: bool,

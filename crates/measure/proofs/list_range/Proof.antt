@@ -10,8 +10,8 @@ use Rattle.measure.proofs.list_range.Tie as tie
 kind-requires : tie.Need-kind-requires
 kind-requires c κs = search rules
 
-returns : tie.Need-returns
-returns c = (λ ix a cs kind. absurd (c.if1.true (c.before.kind.ensures ∙ kind)), refl)
+returns : tie.Need-returns-then-kind-ne4
+returns c = (λ ix a cs kind. absurd (c.if-kind-ne4.true (c.kind.ensures ∙ kind)), refl)
 
 value-requires : tie.Need-value-requires
 value-requires c κs = search rules
@@ -19,7 +19,7 @@ value-requires c κs = search rules
 value-requires-2 : tie.Need-value-requires-2
 value-requires-2 c κs = search rules
 
-joined-requires : tie.Need-joined-requires
+joined-requires : tie.Need-joined-lower-requires
 joined-requires c κs = search rules
 
 value-requires-3 : tie.Need-value-requires-3
@@ -28,7 +28,7 @@ value-requires-3 c κs = search rules
 value-requires-4 : tie.Need-value-requires-4
 value-requires-4 c κs = search rules
 
-joined-requires-2 : tie.Need-joined-requires-2
+joined-requires-2 : tie.Need-joined-upper-requires
 joined-requires-2 c κs = search rules
 
 value-requires-5 : tie.Need-value-requires-5
@@ -37,17 +37,17 @@ value-requires-5 c κs = search rules
 value-requires-6 : tie.Need-value-requires-6
 value-requires-6 c κs = search rules
 
-range-list-requires : tie.Need-range-list-requires
-range-list-requires c κs = let s = c.before.before.before.before.before.before.before.before.before.before.before.before.before.before.before in let a = s.requires.1 in let x = range-asks a.0 s.args.q.now s.args.columns.now s.args.values.now s.args.max-doc s.args.at a.1 a.2 s.requires.0.0 (sym c.before.before.before.before.before.before.before.before.before.before.kind.ensures ∙ c.before.before.before.before.before.before.before.before.before.if1.false) c.before.before.value5.result c.before.value6.result c.before.before.before.before.before.before.before.before.value.result c.before.before.before.before.before.before.before.value2.result c.before.before.before.before.before.value3.result c.before.before.before.before.value4.result c.before.before.before.before.before.before.joined.result c.before.before.before.joined2.result c.before.before.value5.ensures c.before.value6.ensures c.before.before.before.before.before.before.before.before.value.ensures c.before.before.before.before.before.before.before.value2.ensures c.before.before.before.before.before.value3.ensures c.before.before.before.before.value4.ensures c.before.before.before.before.before.before.joined.ensures c.before.before.before.joined2.ensures in (x.0, (x.1, (x.2, s.requires.0.1 (sym c.before.before.before.before.before.before.before.before.before.before.kind.ensures ∙ c.before.before.before.before.before.before.before.before.before.if1.false))))
+range-list-requires : tie.Need-range_list-requires
+range-list-requires c κs = let s = c in let a = s.requires.1 in let x = range-asks a.0 s.args.q.now s.args.columns.now s.args.values.now s.args.max_doc s.args.at a.1 a.2 s.requires.0.0 (sym c.kind.ensures ∙ c.if-kind-ne4.false) c.value-5.result c.value-6.result c.value.result c.value-2.result c.value-3.result c.value-4.result c.joined-lower.result c.joined-upper.result c.value-5.ensures c.value-6.ensures c.value.ensures c.value-2.ensures c.value-3.ensures c.value-4.ensures c.joined-lower.ensures c.joined-upper.ensures in (x.0, (x.1, (x.2, s.requires.0.1 (sym c.kind.ensures ∙ c.if-kind-ne4.false))))
 
-same_length : tie.Need-same-length
+same_length : tie.Need-shape_of-output
 same_length c = search rules
 
-returns-2 : tie.Need-returns-2
-returns-2 c = let s = c.before.before.before.before.before.before.before.before.before.before.before.before.before.before.before.before.before.before in (λ ix a cs kind. let e = range_gives ix s.args.q.now s.args.columns.now s.args.values.now s.args.max-doc s.args.at a cs s.requires.0.0 kind c.before.before.before.before.before.value5.result c.before.before.before.before.value6.result c.before.before.before.before.before.before.before.before.before.before.before.value.result c.before.before.before.before.before.before.before.before.before.before.value2.result c.before.before.before.before.before.before.before.before.value3.result c.before.before.before.before.before.before.before.value4.result c.before.before.before.before.before.before.before.before.before.joined.result c.before.before.before.before.before.before.joined2.result c.before.before.before.before.before.value5.ensures c.before.before.before.before.value6.ensures c.before.before.before.before.before.before.before.before.before.before.before.value.ensures c.before.before.before.before.before.before.before.before.before.before.value2.ensures c.before.before.before.before.before.before.before.before.value3.ensures c.before.before.before.before.before.before.before.value4.ensures c.before.before.before.before.before.before.before.before.before.joined.ensures c.before.before.before.before.before.before.joined2.ensures in (c.before.before.range-list.ensures.0 ∙ ap length e, c.before.before.range-list.ensures.1.0 ∙ e), c.before.before.range-list.ensures.1.1)
+returns-2 : tie.Need-returns
+returns-2 c = let s = c in (λ ix a cs kind. let e = range_gives ix s.args.q.now s.args.columns.now s.args.values.now s.args.max_doc s.args.at a cs s.requires.0.0 kind c.value-5.result c.value-6.result c.value.result c.value-2.result c.value-3.result c.value-4.result c.joined-lower.result c.joined-upper.result c.value-5.ensures c.value-6.ensures c.value.ensures c.value-2.ensures c.value-3.ensures c.value-4.ensures c.joined-lower.ensures c.joined-upper.ensures in (c.range_list.ensures.0 ∙ ap length e, c.range_list.ensures.1.0 ∙ e), c.range_list.ensures.1.1)
 
-pub list-range-spec : {M : Type 1} → statement M
-list-range-spec =
+pub list_range_spec : {M : Type 1} → statement M
+list_range_spec =
     tie.close
     (tie.spec
     kind-requires

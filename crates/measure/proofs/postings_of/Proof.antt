@@ -9,26 +9,26 @@ use Rattle.measure.proofs.postings_of.Tie as tie
 wide-requires : tie.Need-wide-requires
 wide-requires c κs = search rules
 
-mul-result : tie.Need-overflow-mul-result
+mul-result : tie.Need-overflow_mul-result
 mul-result c = search rules
 
-add-result : tie.Need-overflow-add-result
+add-result : tie.Need-overflow_add-result
 add-result c = search rules
 
-mul-result-2 : tie.Need-overflow-mul-result-2
+mul-result-2 : tie.Need-offset_bounds-leaves-wide
 mul-result-2 c = search rules
 
-shared-slice-read-result : tie.Need-shared-slice-read-result
+shared-slice-read-result : tie.Need-bounds-leaves-wide
 shared-slice-read-result c = search rules
 
-cast-result : tie.Need-overflow-cast-result
-cast-result c = omega (arith, c.shared-slice-known2.given (4 * c.before.wide.result + 2))
+cast-result : tie.Need-overflow_cast-result
+cast-result c = omega (arith, c.shared_slice_known-2-1.given (4 * c.wide.result + 2))
 
 returns : tie.Need-returns
-returns c = (rw c.before.wide.ensures, let h = c.shared-slice-known2.given (4 * c.before.wide.result + 2) in omega (arith, h))
+returns c = (rw c.wide.ensures, let h = c.shared_slice_known-2-1.given (4 * c.wide.result + 2) in omega (arith, h))
 
-pub postings-of-spec : {M : Type 1} → statement M
-postings-of-spec =
+pub postings_of_spec : {M : Type 1} → statement M
+postings_of_spec =
     tie.close
     (tie.spec
     wide-requires

@@ -11,11 +11,11 @@ kind-requires c κs = search rules
 wide-requires : tie.Need-wide-requires
 wide-requires c κs = search rules
 
-returns : tie.Need-returns
-returns c = rw (eq-eqb _ 4 (sym c.before.before.kind.ensures ∙ c.before.if1.true)) c.wide.ensures
+returns : tie.Need-returns-then-kind-eq4
+returns c = rw (eq-eqb _ 4 (sym c.kind.ensures ∙ c.if-kind-eq4.true)) c.wide.ensures
 
-returns-2 : tie.Need-returns-2
-returns-2 c = rw (ne_eqb _ 4 (λ e. c.if1.false (c.before.kind.ensures ∙ e)))
+returns-2 : tie.Need-returns-else-kind-eq4
+returns-2 c = rw (ne_eqb _ 4 (λ e. c.if-kind-eq4.false (c.kind.ensures ∙ e)))
 
-pub range-words-spec : {M : Type 1} → statement M
-range-words-spec = tie.close (tie.spec kind-requires wide-requires returns returns-2)
+pub range_words_spec : {M : Type 1} → statement M
+range_words_spec = tie.close (tie.spec kind-requires wide-requires returns returns-2)
