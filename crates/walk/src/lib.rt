@@ -1,4 +1,6 @@
 // The walk over the live documents that a scorer matches.
+#![tactic(auto)]
+
 ghost use Rattle.std.specs.Prelude.{min, length};
 ghost use Rattle.scorer.specs.Calls.{lent};
 ghost use Rattle.walk.specs.Walks.{NextPre, NextPost, ListPre, ListPost};

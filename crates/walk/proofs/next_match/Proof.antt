@@ -12,100 +12,100 @@ use Rattle.walk.proofs.next_match.Tie as tie
 use Rattle.walk.proofs.next_match.Reads as reads
 use Rattle.walk.proofs.next_match.Lts as lts
 
-abbrev invariant-loop : tie.invariant-loop
+abbrev invariant-loop : tie.invariant-loop-max_doc
 invariant-loop st₀ max-doc postings positions ranges live a₀ b₀ from depth target₀ st a b target =
     (length st ≡ length st₀) × (length a ≡ length a₀) × (length b ≡ length b₀) × (from ≤ target) × (target ≤ noMoreDocs) × WalkAt (lent max-doc postings positions ranges) live st₀ from depth st target
 
-abbrev decreases-loop : tie.decreases-loop
+abbrev decreases-loop : tie.decreases-loop-max_doc
 decreases-loop st₀ max-doc postings positions ranges live a₀ b₀ from depth target₀ st a b target = noMoreDocs - target
 
-loop-holds : tie.Need-loop-init invariant-loop decreases-loop
+loop-holds : tie.Need-loop-max_doc-init invariant-loop decreases-loop
 loop-holds c =
-    let s₀ = c.before.before.before.before.before in
-    (refl, refl, refl, omega arith, s₀.requires.0, walk_start (lent s₀.args.max-doc s₀.args.postings.now s₀.args.positions.now s₀.args.ranges.now) s₀.args.live.now s₀.args.st.now s₀.args.from s₀.args.depth)
+    let s₀ = c in
+    (refl, refl, refl, omega arith, s₀.requires.0, walk_start (lent s₀.args.max_doc s₀.args.postings.now s₀.args.positions.now s₀.args.ranges.now) s₀.args.live.now s₀.args.st.now s₀.args.from s₀.args.depth)
 
-advance-requires : tie.Need-advance-requires invariant-loop decreases-loop
+advance-requires : tie.Need-advance-d-requires invariant-loop decreases-loop
 advance-requires c κs =
-    let s₀ = c.before.before.before.before.before.before.before.before.before in
-    let l = c.before.before.before.loop in
-    walk-asks (lent s₀.args.max-doc s₀.args.postings.now s₀.args.positions.now s₀.args.ranges.now) s₀.args.live.now s₀.args.st.now s₀.args.from s₀.args.depth l.st l.target l.invariant.5 (length s₀.args.a.now) (length s₀.args.b.now) (length l.a) (length l.b) l.invariant.1 l.invariant.2 l.invariant.4 s₀.requires
+    let s₀ = c in
+    let l = c.loop-max_doc in
+    walk-asks (lent s₀.args.max_doc s₀.args.postings.now s₀.args.positions.now s₀.args.ranges.now) s₀.args.live.now s₀.args.st.now s₀.args.from s₀.args.depth l.st l.target l.invariant.5 (length s₀.args.a.now) (length s₀.args.b.now) (length l.a) (length l.b) l.invariant.1 l.invariant.2 l.invariant.4 s₀.requires
 
-same_length : tie.Need-same-length invariant-loop decreases-loop
+same_length : tie.Need-shape_of-st-then-d-max_doc invariant-loop decreases-loop
 same_length c =
-    let s₀ = c.before.before.before.before.before.before.before.before.before.before.before.before.before.before.before in
-    let l = c.before.before.before.before.before.before.before.before.before.loop in
-    c.before.before.before.before.before.advance.auto.0 ∙ l.invariant.0
+    let s₀ = c in
+    let l = c.loop-max_doc in
+    c.advance-d.auto.st ∙ l.invariant.0
 
-same-length-2 : tie.Need-same-length-2 invariant-loop decreases-loop
+same-length-2 : tie.Need-shape_of-a-then-d-max_doc invariant-loop decreases-loop
 same-length-2 c =
-    let s₀ = c.before.before.before.before.before.before.before.before.before.before.before.before.before.before.before in
-    let l = c.before.before.before.before.before.before.before.before.before.loop in
-    c.before.before.before.before.before.advance.auto.1.1.1.1.1.0 ∙ l.invariant.1
+    let s₀ = c in
+    let l = c.loop-max_doc in
+    c.advance-d.auto.a ∙ l.invariant.1
 
-same-length-3 : tie.Need-same-length-3 invariant-loop decreases-loop
+same-length-3 : tie.Need-shape_of-b-then-d-max_doc invariant-loop decreases-loop
 same-length-3 c =
-    let s₀ = c.before.before.before.before.before.before.before.before.before.before.before.before.before.before.before in
-    let l = c.before.before.before.before.before.before.before.before.before.loop in
-    c.before.before.before.before.before.advance.auto.1.1.1.1.1.1.0 ∙ l.invariant.2
+    let s₀ = c in
+    let l = c.loop-max_doc in
+    c.advance-d.auto.b ∙ l.invariant.2
 
-returns : tie.Need-returns invariant-loop decreases-loop
+returns : tie.Need-returns-then-d-max_doc invariant-loop decreases-loop
 returns c =
-    let s₀ = c.before.before.before.before.before.before.before.before.before.before.before.before.before.before.before in
-    let l = c.before.before.before.before.before.before.before.before.before.loop in
-    walk-stop (lent s₀.args.max-doc s₀.args.postings.now s₀.args.positions.now s₀.args.ranges.now) s₀.args.live.now s₀.args.st.now s₀.args.from s₀.args.depth l.st l.target l.invariant.5 c.before.before.before.before.before.advance.result c.before.before.before.before.before.advance.new.0 c.before.before.before.before.before.advance.ensures.0 s₀.requires.0 l.invariant.4 (omega arith)
+    let s₀ = c in
+    let l = c.loop-max_doc in
+    walk-stop (lent s₀.args.max_doc s₀.args.postings.now s₀.args.positions.now s₀.args.ranges.now) s₀.args.live.now s₀.args.st.now s₀.args.from s₀.args.depth l.st l.target l.invariant.5 c.advance-d.result c.advance-d.new.st c.advance-d.ensures.0 s₀.requires.0 l.invariant.4 (omega arith)
 
-is-live-requires : tie.Need-is-live-requires invariant-loop decreases-loop
+is-live-requires : tie.Need-is_live-requires invariant-loop decreases-loop
 is-live-requires c κs =
-    let s₀ = c.before.before.before.before.before.before.before.before.before.before.before.before.before.before.before in
-    let l = c.before.before.before.before.before.before.before.before.before.loop in
-    walk-live (lent s₀.args.max-doc s₀.args.postings.now s₀.args.positions.now s₀.args.ranges.now) s₀.args.live.now s₀.args.st.now s₀.args.from s₀.args.depth l.st l.target l.invariant.5 c.before.before.before.before.before.advance.result c.before.before.before.before.before.advance.new.0 c.before.before.before.before.before.advance.ensures.0 (length s₀.args.a.now) (length s₀.args.b.now) s₀.requires (omega arith)
+    let s₀ = c in
+    let l = c.loop-max_doc in
+    walk-live (lent s₀.args.max_doc s₀.args.postings.now s₀.args.positions.now s₀.args.ranges.now) s₀.args.live.now s₀.args.st.now s₀.args.from s₀.args.depth l.st l.target l.invariant.5 c.advance-d.result c.advance-d.new.st c.advance-d.ensures.0 (length s₀.args.a.now) (length s₀.args.b.now) s₀.requires (omega arith)
 
-same-length-4 : tie.Need-same-length-4 invariant-loop decreases-loop
+same-length-4 : tie.Need-shape_of-st-then-is_live invariant-loop decreases-loop
 same-length-4 c =
-    let s₀ = c.before.before.before.before.before.before.before.before.before.before.before.before.before.before.before.before.before in
-    let l = c.before.before.before.before.before.before.before.before.before.before.before.loop in
-    c.before.before.before.before.before.before.before.advance.auto.0 ∙ l.invariant.0
+    let s₀ = c in
+    let l = c.loop-max_doc in
+    c.advance-d.auto.st ∙ l.invariant.0
 
-same-length-5 : tie.Need-same-length-5 invariant-loop decreases-loop
+same-length-5 : tie.Need-shape_of-a-then-is_live invariant-loop decreases-loop
 same-length-5 c =
-    let s₀ = c.before.before.before.before.before.before.before.before.before.before.before.before.before.before.before.before.before in
-    let l = c.before.before.before.before.before.before.before.before.before.before.before.loop in
-    c.before.before.before.before.before.before.before.advance.auto.1.1.1.1.1.0 ∙ l.invariant.1
+    let s₀ = c in
+    let l = c.loop-max_doc in
+    c.advance-d.auto.a ∙ l.invariant.1
 
-same-length-6 : tie.Need-same-length-6 invariant-loop decreases-loop
+same-length-6 : tie.Need-shape_of-b-then-is_live invariant-loop decreases-loop
 same-length-6 c =
-    let s₀ = c.before.before.before.before.before.before.before.before.before.before.before.before.before.before.before.before.before in
-    let l = c.before.before.before.before.before.before.before.before.before.before.before.loop in
-    c.before.before.before.before.before.before.before.advance.auto.1.1.1.1.1.1.0 ∙ l.invariant.2
+    let s₀ = c in
+    let l = c.loop-max_doc in
+    c.advance-d.auto.b ∙ l.invariant.2
 
-returns-2 : tie.Need-returns-2 invariant-loop decreases-loop
+returns-2 : tie.Need-returns-then-is_live invariant-loop decreases-loop
 returns-2 c =
-    let s₀ = c.before.before.before.before.before.before.before.before.before.before.before.before.before.before.before.before.before in
-    let l = c.before.before.before.before.before.before.before.before.before.before.before.loop in
-    walk-found (lent s₀.args.max-doc s₀.args.postings.now s₀.args.positions.now s₀.args.ranges.now) s₀.args.live.now s₀.args.st.now s₀.args.from s₀.args.depth l.st l.target l.invariant.5 c.before.before.before.before.before.before.before.advance.result c.before.before.before.before.before.before.before.advance.new.0 c.before.before.before.before.before.before.before.advance.ensures.0 l.invariant.3 (omega arith) (sym c.before.is_live.ensures ∙ c.if2.true)
+    let s₀ = c in
+    let l = c.loop-max_doc in
+    walk-found (lent s₀.args.max_doc s₀.args.postings.now s₀.args.positions.now s₀.args.ranges.now) s₀.args.live.now s₀.args.st.now s₀.args.from s₀.args.depth l.st l.target l.invariant.5 c.advance-d.result c.advance-d.new.st c.advance-d.ensures.0 l.invariant.3 (omega arith) (sym c.is_live.ensures ∙ c.if-is_live.true)
 
-add-target : tie.Need-overflow-add-target invariant-loop decreases-loop
+add-target : tie.Need-overflow_add-target invariant-loop decreases-loop
 add-target c =
-    let s₀ = c.before.before.before.before.before.before.before.before.before.before.before.before.before.before.before.before.before in
-    let l = c.before.before.before.before.before.before.before.before.before.before.before.loop in
-    omega (arith, walk_top (lent s₀.args.max-doc s₀.args.postings.now s₀.args.positions.now s₀.args.ranges.now) s₀.args.live.now s₀.args.st.now s₀.args.from s₀.args.depth l.st l.target l.invariant.5 c.before.before.before.before.before.before.before.advance.result c.before.before.before.before.before.before.before.advance.new.0 c.before.before.before.before.before.before.before.advance.ensures.0 (length s₀.args.a.now) (length s₀.args.b.now) s₀.requires)
+    let s₀ = c in
+    let l = c.loop-max_doc in
+    omega (arith, walk_top (lent s₀.args.max_doc s₀.args.postings.now s₀.args.positions.now s₀.args.ranges.now) s₀.args.live.now s₀.args.st.now s₀.args.from s₀.args.depth l.st l.target l.invariant.5 c.advance-d.result c.advance-d.new.st c.advance-d.ensures.0 (length s₀.args.a.now) (length s₀.args.b.now) s₀.requires)
 
-loop-less : tie.Need-loop-smaller invariant-loop decreases-loop
+loop-less : tie.Need-loop-max_doc-smaller invariant-loop decreases-loop
 loop-less c =
-    let s₀ = c.before.before.before.before.before.before.before.before.before.before.before.before.before.before.before.before.before in
-    let l = c.before.before.before.before.before.before.before.before.before.before.before.loop in
-    let h : c.before.before.before.before.before.before.before.advance.result < noMoreDocs = omega (arith, s₀.requires.1.6.lends.accepted.documents, s₀.requires.1.6.lends.documents) in
-    omega (arith, h, walk_from (lent s₀.args.max-doc s₀.args.postings.now s₀.args.positions.now s₀.args.ranges.now) s₀.args.live.now s₀.args.st.now s₀.args.from s₀.args.depth l.st l.target l.invariant.5 c.before.before.before.before.before.before.before.advance.result c.before.before.before.before.before.before.before.advance.new.0 c.before.before.before.before.before.before.before.advance.ensures.0 (length s₀.args.a.now) (length s₀.args.b.now) s₀.requires)
+    let s₀ = c in
+    let l = c.loop-max_doc in
+    let h : c.advance-d.result < noMoreDocs = omega (arith, s₀.requires.1.6.lends.accepted.documents, s₀.requires.1.6.lends.documents) in
+    omega (arith, h, walk_from (lent s₀.args.max_doc s₀.args.postings.now s₀.args.positions.now s₀.args.ranges.now) s₀.args.live.now s₀.args.st.now s₀.args.from s₀.args.depth l.st l.target l.invariant.5 c.advance-d.result c.advance-d.new.st c.advance-d.ensures.0 (length s₀.args.a.now) (length s₀.args.b.now) s₀.requires)
 
-loop-again : tie.Need-loop-preserved invariant-loop decreases-loop
+loop-again : tie.Need-loop-max_doc-preserved invariant-loop decreases-loop
 loop-again c =
-    let s₀ = c.before.before.before.before.before.before.before.before.before.before.before.before.before.before.before.before.before in
-    let l = c.before.before.before.before.before.before.before.before.before.before.before.loop in
-    let h : c.before.before.before.before.before.before.before.advance.result < noMoreDocs = omega (arith, s₀.requires.1.6.lends.accepted.documents, s₀.requires.1.6.lends.documents) in
-    (c.before.before.before.before.before.before.before.advance.auto.0 ∙ l.invariant.0, c.before.before.before.before.before.before.before.advance.auto.1.1.1.1.1.0 ∙ l.invariant.1, c.before.before.before.before.before.before.before.advance.auto.1.1.1.1.1.1.0 ∙ l.invariant.2, omega (arith, l.invariant.3, walk_from (lent s₀.args.max-doc s₀.args.postings.now s₀.args.positions.now s₀.args.ranges.now) s₀.args.live.now s₀.args.st.now s₀.args.from s₀.args.depth l.st l.target l.invariant.5 c.before.before.before.before.before.before.before.advance.result c.before.before.before.before.before.before.before.advance.new.0 c.before.before.before.before.before.before.before.advance.ensures.0 (length s₀.args.a.now) (length s₀.args.b.now) s₀.requires), omega arith, walk_more (lent s₀.args.max-doc s₀.args.postings.now s₀.args.positions.now s₀.args.ranges.now) s₀.args.live.now s₀.args.st.now s₀.args.from s₀.args.depth l.st l.target l.invariant.5 c.before.before.before.before.before.before.before.advance.result c.before.before.before.before.before.before.before.advance.new.0 c.before.before.before.before.before.before.before.advance.ensures.0 (sym c.before.is_live.ensures ∙ c.if2.false))
+    let s₀ = c in
+    let l = c.loop-max_doc in
+    let h : c.advance-d.result < noMoreDocs = omega (arith, s₀.requires.1.6.lends.accepted.documents, s₀.requires.1.6.lends.documents) in
+    (c.advance-d.auto.st ∙ l.invariant.0, c.advance-d.auto.a ∙ l.invariant.1, c.advance-d.auto.b ∙ l.invariant.2, omega (arith, l.invariant.3, walk_from (lent s₀.args.max_doc s₀.args.postings.now s₀.args.positions.now s₀.args.ranges.now) s₀.args.live.now s₀.args.st.now s₀.args.from s₀.args.depth l.st l.target l.invariant.5 c.advance-d.result c.advance-d.new.st c.advance-d.ensures.0 (length s₀.args.a.now) (length s₀.args.b.now) s₀.requires), omega arith, walk_more (lent s₀.args.max_doc s₀.args.postings.now s₀.args.positions.now s₀.args.ranges.now) s₀.args.live.now s₀.args.st.now s₀.args.from s₀.args.depth l.st l.target l.invariant.5 c.advance-d.result c.advance-d.new.st c.advance-d.ensures.0 (sym c.is_live.ensures ∙ c.if-is_live.false))
 
-pub next-match-spec : {M : Type 1} → statement M
-next-match-spec =
+pub next_match_spec : {M : Type 1} → statement M
+next_match_spec =
     tie.close
     (tie.spec
     invariant-loop
