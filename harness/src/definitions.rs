@@ -13,30 +13,30 @@ use crate::refusal::calls::Lengths;
 use std::fmt::{Display, Write};
 use std::fs;
 use std::io;
-use std::path::Path;
+use std::path::{Path, PathBuf};
 
 /// The head of the module: what a row computes.
 const HEAD: &str = "\
-use mathlib.Core.Path.{_≡_, refl}
+use mathlib.Core.Path.{◌≡◌, refl}
 use mathlib.Core.Bool.{true, false, cond}
-use mathlib.Core.List.{List, [], _∷_, _++_, map}
+use mathlib.Core.List.{List, [], ◌∷◌, ◌++◌, map}
 use mathlib.Core.Option.{none, some}
 use Prim.Native.Nat.{ℕ}
 use lib.ListN.{replicate}
 use lib.IntN.{ℤ, pos, negsuc}
-use lib.Ieee.{binary32, toBits}
-use Rattle·meaning·specs.specs.Lent.{Index}
-use Rattle·meaning·specs.specs.Query.{queryTree}
-use Rattle·meaning·specs.specs.Range.{NumericRange}
-use Rattle·meaning·specs.specs.Scorer.{hasScorer}
-use Rattle·meaning·specs.specs.Cost.{cost}
-use Rattle·meaning·specs.specs.FullList.{ScoreDoc, fullList}
-use Rattle·meaning·specs.specs.CallRefusals.{Work}
-use Rattle·meaning·specs.specs.Entries.{searchAnswer, searchHits, pageAnswer, pageDocuments, pageScores, columnsOnly, rangeAnswer, rangeOutput, pickAnswer, pickHits, placeRefusal, placeRight, lengthAnswer}
-use Rattle·meaning·specs.specs.Tokens.{Token, indexOfTokens, tokensBack}
-use Rattle·meaning·specs.specs.TokenRefusals.{Outputs, writeRefusal, writeAnswer, writtenNorms, writtenPostings, writtenPositions, writtenRuns}
-use Rattle·meaning·specs.specs.HitsText.{files}
-use Rattle·meaning·specs.specs.HitsProgram.{searchText, hitsText}
+use lib.Ieee.{binary32, to_bits}
+use Rattle.meaning.specs.Lent.{Index}
+use Rattle.meaning.specs.Query.{queryTree}
+use Rattle.meaning.specs.Range.{NumericRange}
+use Rattle.meaning.specs.Scorer.{hasScorer}
+use Rattle.meaning.specs.Cost.{cost}
+use Rattle.meaning.specs.FullList.{ScoreDoc, fullList}
+use Rattle.meaning.specs.CallRefusals.{Work}
+use Rattle.meaning.specs.Entries.{searchAnswer, searchHits, pageAnswer, pageDocuments, pageScores, columnsOnly, rangeAnswer, rangeOutput, pickAnswer, pickHits, placeRefusal, placeRight, lengthAnswer}
+use Rattle.meaning.specs.Tokens.{Token, indexOfTokens, tokensBack}
+use Rattle.meaning.specs.TokenRefusals.{Outputs, writeRefusal, writeAnswer, writtenNorms, writtenPostings, writtenPositions, writtenRuns}
+use Rattle.meaning.specs.HitsText.{files}
+use Rattle.meaning.specs.HitsProgram.{searchText, hitsText}
 
 abbrev work : ℕ → ℕ → ℕ → ℕ → Work
 work a b c d = record { states = a; starts = b; otherStarts = c; ranges = d }
@@ -45,7 +45,7 @@ abbrev range : ℕ → ℕ → ℕ → ℕ → NumericRange
 range a b c d = record { column = a; kinds = b; lower = c; upper = d }
 
 abbrev pairs : List ScoreDoc → List ℕ
-pairs list = map (λ h. h .doc) list ++ map (λ h. toBits binary32 (h .score)) list
+pairs list = map (λ h. h.doc) list ++ map (λ h. to_bits binary32 h.score) list
 
 abbrev costed : Index → List ℕ → List ℕ
 costed ix q = cond (hasScorer ix (queryTree q)) (1 ∷ cost ix (queryTree q) ∷ []) (0 ∷ [])
@@ -55,7 +55,7 @@ outputs a b c d = record { norms = a; postings = b; positions = c; runs = d }
 
 abbrev tokenWords : List Token → List ℕ
 tokenWords [] = []
-tokenWords (t ∷ ts) = t .leaf ∷ t .document ∷ t .position ∷ tokenWords ts
+tokenWords (t ∷ ts) = t.leaf ∷ t.document ∷ t.position ∷ tokenWords ts
 
 abbrev readBack : ℕ → List ℕ → List ℕ → List ℕ → List ℕ
 readBack n fields leafFields ws = tokenWords (tokensBack (indexOfTokens n fields ws leafFields [] [] [] []))
@@ -200,17 +200,17 @@ fn integer(number: i64) -> String {
 /// in a mutual block, and the operations of `lib.Ieee`.
 fn opened(specs: &Path) -> io::Result<String> {
     let ieee = [
-        "toBits", "round", "units", "odd", "size", "span", "climb", "add", "sub", "mul",
+        "to_bits", "round", "units", "odd", "size", "span", "climb", "add", "sub", "mul",
     ];
     let more = [
-        "div", "neg", "sum", "ofFields", "ofBits", "ofInt", "lt", "nanBits",
+        "div", "neg", "sum", "of_fields", "of_bits", "of_int", "lt", "nan_bits",
     ];
     let mut names: Vec<_> = ieee
         .iter()
         .chain(&more)
         .map(|n| format!("lib.Ieee.{n}"))
         .collect();
-    names.push("lib.Count.trailingZeros".into());
+    names.push("lib.Count.count_trailing_zeros".into());
     let mut files: Vec<_> = fs::read_dir(specs)?.collect::<Result<_, _>>()?;
     files.sort_by_key(|file| file.file_name());
     for file in files {
@@ -230,7 +230,7 @@ fn opened(specs: &Path) -> io::Result<String> {
             mutual =
                 line.starts_with("unfoldable mutual") || (mutual && !line.starts_with("  pub "));
             if let Some(name) = marked.and_then(|rest| rest.split_whitespace().next()) {
-                names.push(format!("Rattle·meaning·specs.specs.{module}.{name}"));
+                names.push(format!("Rattle.meaning.specs.{module}.{name}"));
             }
         }
     }
@@ -244,9 +244,11 @@ const ABOVE: [(&str, &str); 2] = [
     ("hits/specs/Text.antt", "HitsProgram"),
 ];
 
-/// A copy of crates/meaning, with the definitions above it, for `rt check`.
-pub fn write_crate(crates: &Path, folder: &Path) -> io::Result<()> {
+/// A repository in `top` that has one crate, a copy of crates/meaning with the definitions above it:
+/// the folder of that crate, where `rt check` runs.
+pub fn write_crate(crates: &Path, top: &Path) -> io::Result<PathBuf> {
     let meaning = crates.join("meaning");
+    let folder = top.join("crates/meaning");
     for part in ["src", "specs"] {
         fs::create_dir_all(folder.join(part))?;
         for file in fs::read_dir(meaning.join(part))? {
@@ -258,15 +260,16 @@ pub fn write_crate(crates: &Path, folder: &Path) -> io::Result<()> {
     let mut root = fs::read_to_string(specs.join("Lib.antt"))?;
     for (path, name) in ABOVE {
         let text = fs::read_to_string(crates.join(path))?;
-        let text = text.replace("Rattle·meaning.specs.", "Rattle·meaning·specs.specs.");
-        let own = "Rattle·meaning·specs.specs.HitsText";
-        let text = text.replace("Rattle·hits_text.specs.Text", own);
+        let own = "Rattle.meaning.specs.HitsText";
+        let text = text.replace("Rattle.hits_text.specs.Text", own);
         fs::write(specs.join(format!("{name}.antt")), text)?;
         writeln!(root, "pub mod {name}").unwrap();
     }
     fs::write(specs.join("Lib.antt"), root)?;
     fs::create_dir_all(folder.join("proofs"))?;
-    fs::write(folder.join("proofs/Lib.antt"), "pub mod Rows\n")
+    fs::write(folder.join("proofs/Lib.antt"), "pub mod Rows\n")?;
+    fs::write(top.join("crates.txt"), "meaning:\n")?;
+    Ok(folder)
 }
 
 /// The rows as the crate's proofs.

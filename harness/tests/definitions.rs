@@ -70,25 +70,41 @@ mod rows {
         }
     }
 
-    /// Below the repository's own target/, where rt looks for no crate's files.
-    fn folder(part: &str) -> PathBuf {
-        let target = Path::new(env!("CARGO_MANIFEST_DIR")).join("../target");
-        target.join(format!("definitions/{part}/meaning"))
+    /// A check of some rows, in a repository of its own that goes when the check is as wanted. It lies
+    /// outside of this one, in which `rt ci` refuses a .antt file that no crate of crates.txt has.
+    struct Check {
+        top: PathBuf,
+        child: Child,
     }
 
     /// Starts the check of some rows.
-    fn start(part: &str, rows: &[Row]) -> Child {
-        let folder = folder(part);
-        if folder.exists() {
-            std::fs::remove_dir_all(&folder).unwrap();
+    fn start(part: &str, rows: &[Row]) -> Check {
+        let name = format!("lot_search-definitions-{}-{part}", std::process::id());
+        let top = std::env::temp_dir().join(name);
+        if top.exists() {
+            std::fs::remove_dir_all(&top).unwrap();
         }
         let crates = Path::new(env!("CARGO_MANIFEST_DIR")).join("../crates");
-        write_crate(&crates, &folder).unwrap();
+        let folder = write_crate(&crates, &top).unwrap();
         write_rows(&folder, rows).unwrap();
         let mut command = Command::new("rt");
-        command.arg("check").arg(&folder);
+        command.arg("check").current_dir(&folder);
         command.stdout(Stdio::piped()).stderr(Stdio::piped());
-        command.spawn().expect("rt")
+        let child = command.spawn().expect("rt");
+        Check { top, child }
+    }
+
+    impl Check {
+        /// What a check said, which ends as `proved` says.
+        fn end(self, proved: bool) -> String {
+            let out = self.child.wait_with_output().unwrap();
+            let text = [out.stdout, out.stderr].concat();
+            let text = String::from_utf8_lossy(&text).into_owned();
+            let top = self.top;
+            assert_eq!(out.status.success(), proved, "{}: {text}", top.display());
+            std::fs::remove_dir_all(top).unwrap();
+            text
+        }
     }
 
     pub fn check(number: usize) {
@@ -98,19 +114,10 @@ mod rows {
         let parts = rows.chunks(rows.len().div_ceil(processors));
         let parts = (0..).zip(parts).map(|(at, part)| (format!("{at}"), part));
         let started: Vec<_> = parts.map(|(at, part)| start(&at, part)).collect();
-        for child in started {
-            let (proved, text) = end(child);
-            assert!(proved, "{text}");
+        for check in started {
+            check.end(true);
         }
         println!("{} rows", rows.len());
-    }
-
-    /// Whether a check passed, and what it said.
-    fn end(child: Child) -> (bool, String) {
-        let out = child.wait_with_output().unwrap();
-        let text = [out.stdout, out.stderr].concat();
-        let text = String::from_utf8_lossy(&text).into_owned();
-        (out.status.success(), text)
     }
 
     /// One equation of each kind with another answer: antt refuses every one, by its name.
@@ -120,8 +127,7 @@ mod rows {
             kinds.entry(kind).or_insert(row);
         }
         let (kinds, rows): (Vec<_>, Vec<_>) = kinds.into_iter().unzip();
-        let (proved, text) = end(start("changed", &rows));
-        assert!(!proved);
+        let text = start("changed", &rows).end(false);
         for (place, kind) in kinds.iter().enumerate() {
             let refused = format!("error: `row-{place}-0`");
             assert!(text.contains(&refused), "{kind:?} is not refused");
