@@ -1,4 +1,6 @@
 // The node states of a query: its scorer tree in the lent words.
+#![tactic(auto)]
+
 pub mod tree;
 
 ghost use Rattle.std.specs.Prelude.{◌≡◌, ℕ, ◌≤◌, length};

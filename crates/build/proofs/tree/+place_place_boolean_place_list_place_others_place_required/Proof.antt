@@ -22,8 +22,8 @@ mod Required
 mod Booleans
 mod Nodes
 
-pub +place-place-boolean-place-list-place-others-place-required-spec : {M : Type 1} → statement M
-+place-place-boolean-place-list-place-others-place-required-spec =
+pub +place_place_boolean_place_list_place_others_place_required_spec : {M : Type 1} → statement M
++place_place_boolean_place_list_place_others_place_required_spec =
     close μ-place μ-place-boolean μ-place-list μ-place-others μ-place-required (λ t. place-lts.spec (place-calls t)
     (place_at t)
     place.Post

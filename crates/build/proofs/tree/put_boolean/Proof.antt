@@ -4,16 +4,16 @@ use borrow.Author.Rules.{rules}
 use Rattle.build.proofs.tree.put_boolean.Statement.{statement}
 use Rattle.build.proofs.tree.put_boolean.Tie as tie
 
-float-to-bits-bits : tie.Need-float-to-bits-bits
-float-to-bits-bits c = atmost-number c.before.requires.5
+float-to-bits-bits : tie.Need-float_to_bits-bits
+float-to-bits-bits c = atmost-number c.requires.5
 
-cast-t15 : tie.Need-overflow-cast-t15
+cast-t15 : tie.Need-overflow_cast-size
 cast-t15 c = search rules
 
-cast-t16 : tie.Need-overflow-cast-t16
+cast-t16 : tie.Need-overflow_cast-required_end
 cast-t16 c = search rules
 
-cast-t17 : tie.Need-overflow-cast-t17
+cast-t17 : tie.Need-overflow_cast-optional_end
 cast-t17 c = search rules
 
 word-requires : tie.Need-word-requires
@@ -22,20 +22,20 @@ word-requires c κs = search rules
 word-requires-2 : tie.Need-word-requires-2
 word-requires-2 c κs = search rules
 
-cast-t20 : tie.Need-overflow-cast-t20
+cast-t20 : tie.Need-overflow_cast-group_at
 cast-t20 c = search rules
 
 put-requires : tie.Need-put-requires
 put-requires c κs = search rules
 
-same_length : tie.Need-same-length
+same_length : tie.Need-shape_of-st
 same_length c = search rules
 
 returns : tie.Need-returns
-returns c = rw (c.before.before.before.before.word.ensures, c.before.before.before.word2.ensures) at c.before.before.put.ensures
+returns c = rw (c.word.ensures, c.word-2.ensures) at c.put.ensures
 
-pub put-boolean-spec : {M : Type 1} → statement M
-put-boolean-spec =
+pub put_boolean_spec : {M : Type 1} → statement M
+put_boolean_spec =
     tie.close
     (tie.spec
     float-to-bits-bits
