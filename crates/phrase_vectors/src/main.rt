@@ -1,10 +1,14 @@
 // The frequency and the place of phrases of one to five terms, whose positions repeat and whose starts may lie below 0;
 // crates/phrase_vectors/stdout has the unchanged Rust's frequencies and a plain count's least starts (harness, `record`).
+#![tactic(auto)]
+
 ghost use Rattle.std.specs.Prelude.{◌≡◌, ◌≤◌, true, length};
 ghost use Rattle.phrase.specs.Terms.{GoodTerm};
 ghost use Rattle.phrase_vectors.specs.Asked.{Asked};
 
 use phrase::Placed;
+use std::io;
+use std::io::{BufWriter, Write};
 
 // Near the largest position and offset.
 const HIGH: u32 = 2_147_483_600;
@@ -73,38 +77,38 @@ fn is_good(positions: &[u32], terms: &[u32], places: usize) -> bool
     true
 }
 
-fn print_frequency(positions: &[u32], terms: &[u32])
+fn print_frequency(out: &mut impl Write, positions: &[u32], terms: &[u32]) -> io::Result<()>
     requires { Asked positions.now terms.now 8 }
 {
     let mut a = [0i32; 8];
     let mut b = [0i32; 8];
-    vectors::print_number(phrase::frequency(positions, terms, &mut a, &mut b));
+    vectors::print_number(out, phrase::frequency(positions, terms, &mut a, &mut b))
 }
 
-fn print_none() {
-    io::write_all(1, b"none");
+fn print_none(out: &mut impl Write) -> io::Result<()> {
+    write!(out, "none")
 }
 
 // The start that Place answers: any common one is right, and the code gives the least.
-fn print_place(positions: &[u32], terms: &[u32])
+fn print_place(out: &mut impl Write, positions: &[u32], terms: &[u32]) -> io::Result<()>
     requires { Asked positions.now terms.now 8 }
 {
     let mut a = [0i32; 8];
     let mut b = [0i32; 8];
     let placed = phrase::place(positions, terms, &mut a, &mut b);
     match placed {
-        Placed::At(start) => vectors::print_signed(start),
-        Placed::Nothing => print_none(),
+        Placed::At(start) => vectors::print_signed(out, start)?,
+        Placed::Nothing => print_none(out)?,
     }
-    vectors::end_line();
+    vectors::end_line(out)
 }
 
-fn print_phrase(positions: &[u32], terms: &[u32]) {
+fn print_phrase(out: &mut impl Write, positions: &[u32], terms: &[u32]) -> io::Result<()> {
     if is_good(positions, terms, 8) {
-        print_frequency(positions, terms);
-        print_place(positions, terms);
+        print_frequency(out, positions, terms)?;
+        print_place(out, positions, terms)
     } else {
-        io::write_all(1, b"refused\n");
+        writeln!(out, "refused")
     }
 }
 
@@ -148,29 +152,43 @@ fn terms_of(base: u32, seed: u64) -> [u32; 15]
 }
 
 // A phrase of some of the terms from a seed, with positions close together or less close.
-fn ask(position_base: u32, offset_base: u32, number: usize, seed: u64)
+fn ask(
+    out: &mut impl Write,
+    position_base: u32,
+    offset_base: u32,
+    number: usize,
+    seed: u64,
+) -> io::Result<()>
     requires { number ≤ 5 }
 {
     let positions = positions_of(position_base, 2 + vectors::below(seed, 2), seed);
     let terms = terms_of(offset_base, seed ^ 0x5555_5555_5555_5555);
     let end = 3 * number;
-    print_phrase(&positions, &terms[..end]);
+    print_phrase(out, &positions, &terms[..end])
 }
 
 // Phrases of each number of terms; a high base puts starts at either end of their range.
-fn ask_each(position_base: u32, offset_base: u32, times: usize) {
+fn ask_each(
+    out: &mut impl Write,
+    position_base: u32,
+    offset_base: u32,
+    times: usize,
+) -> io::Result<()> {
     let mut seed: u64 = 1;
     let mut i = 0;
     while i < times {
         seed = std::num::wrapping_add_u64(seed, 0x9e37_79b9_7f4a_7c15);
-        ask(position_base, offset_base, 1 + i % 5, seed);
+        ask(out, position_base, offset_base, 1 + i % 5, seed)?;
         i += 1;
     }
+    Ok(())
 }
 
-fn main() {
-    ask_each(0, 0, 1500);
-    ask_each(0, HIGH, 200);
-    ask_each(HIGH, 0, 200);
-    ask_each(HIGH, HIGH, 200);
+fn main(rt: HostRuntime) -> io::Result<()> {
+    let mut out = BufWriter::new(rt.alloc(), io::writer(&rt))?;
+    ask_each(&mut out, 0, 0, 1500)?;
+    ask_each(&mut out, 0, HIGH, 200)?;
+    ask_each(&mut out, HIGH, 0, 200)?;
+    ask_each(&mut out, HIGH, HIGH, 200)?;
+    out.flush()
 }
