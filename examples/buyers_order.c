@@ -2,7 +2,7 @@
  *     merino AND "free of stain" AND 17 to 18.5 micron AND NOT "dark fibre"
  * Then the same list page by page, and the best lots of two orders together.
  *
- * cc -std=c11 -Iinclude examples/buyers_order.c target/staticlib/liblot_search.a -lm -o buyers_order && ./buyers_order */
+ * cc -std=c11 -Iinclude examples/buyers_order.c crates/lot_search/out/liblot_search.a -lm -o buyers_order && ./buyers_order */
 #include "lot_search.h"
 #include <math.h>
 #include <stdio.h>

@@ -2,16 +2,16 @@
 //! the Rust source, so that they are compiled as they stand. The source's folder is ORACLE_SRC
 //! (relative to this package), by default `shared/docs/src` beside the repository. Without it
 //! there is no `cfg(oracle)`, and the tests that need the Rust are ignored.
-//! Links the proved library where `rt staticlib lot_search` has written it, and sets `cfg(linked)`;
-//! sets `cfg(hits)` where the program is built.
+//! Links the proved library where `rt lib` in crates/lot_search has written it, and sets
+//! `cfg(linked)`; sets `cfg(hits)` where the program is built. `rt ci` removes the library.
 //! LOT_SEARCH_REQUIRED=1, which the gate sets, makes it an error that one of the three is absent;
 //! LOT_SEARCH_REQUIRED=library, that library or program is.
 use std::path::{Path, PathBuf};
 use std::{env, fs};
 
 const DEFAULT: &str = "../../shared/docs/src";
-const LIBRARY: &str = "../target/staticlib";
-const PROGRAM: &str = "../target/bin/hits";
+const LIBRARY: &str = "../crates/lot_search/out";
+const PROGRAM: &str = "../crates/hits/out/hits";
 
 fn main() {
     println!("cargo::rerun-if-changed=build.rs");
@@ -42,7 +42,7 @@ fn link(package: &Path) {
         println!("cargo::rustc-cfg=linked");
     } else {
         let library = library.display();
-        let what = format!("no {library}, which `rt staticlib lot_search` writes");
+        let what = format!("no {library}, which `rt lib` writes there");
         absent(&["1", "library"], &what);
     }
 }
@@ -55,7 +55,7 @@ fn program(package: &Path) {
     if program.exists() {
         println!("cargo::rustc-cfg=hits");
     } else {
-        let what = format!("no {}, which `rt check hits` writes", program.display());
+        let what = format!("no {}, which `rt run` writes", program.display());
         absent(&["1", "library"], &what);
     }
 }

@@ -10,10 +10,10 @@ lots=$3
 passes=$4
 words=${5:-} # only the workloads whose name has these words
 cd "$(dirname "$0")"
-library=../target/staticlib/liblot_search.a
+library=../crates/lot_search/out/liblot_search.a
 bin=$(mktemp -d)
 cp "$library" "$bin/kept.a"
-# the harness links what stands in target/staticlib: it stands there again afterwards, whatever happens
+# the harness links what stands in crates/lot_search/out: it stands there again afterwards, whatever happens
 trap 'cp "$bin/kept.a" "$library"; rm -rf "$bin"' EXIT
 
 for version in before after; do

@@ -1,8 +1,8 @@
 /* Ranked lot search: the proved entries Search, Page and Pick, and the writer of an index made from tokens.
  *
- * Link target/staticlib/liblot_search.a (rt staticlib lot_search), for x86-64 Linux. Nothing is kept between calls and no
- * memory is allocated: calls that share no slice that is written may run at the same time. examples/buyers_order.c is a
- * whole order, from the words of the lots to the sheet.
+ * Link crates/lot_search/out/liblot_search.a (rt lib, in crates/lot_search), for x86-64 Linux. Nothing is kept between
+ * calls and no memory is allocated: calls that share no slice that is written may run at the same time.
+ * examples/buyers_order.c is a whole order, from the words of the lots to the sheet.
  *
  * Every slice is a pointer and a number of elements. What is proved is proved of calls that keep to this:
  * - The pointer is aligned for its elements, and all of them have been written before, work and output buffers too, with

@@ -1,4 +1,4 @@
-//! The program `hits` on folders of files, where `rt check hits` has built it: what it prints is
+//! The program `hits` on folders of files, where `rt run` or `rt ci` has built it: what it prints is
 //! what the judge of refusals and the Rust say. LOT_SEARCH_REQUIRED=1 makes its absence an error.
 #![cfg_attr(not(oracle), allow(unused))]
 #[macro_use]
@@ -43,7 +43,7 @@ struct Hits {
 impl Hits {
     fn find(test: &str) -> Hits {
         let root = Path::new(env!("CARGO_MANIFEST_DIR")).join("..");
-        let program = root.join("target/bin/hits");
+        let program = root.join("crates/hits/out/hits");
         assert!(program.exists(), "no {}", program.display());
         let folder = folder(&format!("hits-{test}"));
         fs::create_dir_all(&folder).unwrap();
@@ -98,7 +98,7 @@ impl Hits {
     }
 }
 
-/// The whole case, from the files that the program is run on under `rt check`.
+/// The whole case, from the files that the program is run on under `rt ci`.
 fn own_folder() -> PathBuf {
     Path::new(env!("CARGO_MANIFEST_DIR")).join("../crates/hits/data")
 }
