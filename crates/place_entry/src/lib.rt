@@ -1,4 +1,6 @@
 // Place: a start at which a phrase of the order stands in a document.
+#![tactic(auto)]
+
 ghost use Rattle.std.specs.Prelude.{◌≡◌, [], ℕ, ◌+◌, ◌*◌, ◌/◌, ◌≤◌, ◌<◌, length, take};
 ghost use Rattle.meaning.specs.Lent.{Index};
 ghost use Rattle.meaning.specs.Query.{recordCount, recordKind, recordChildren, phraseTermsOf};
