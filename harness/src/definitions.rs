@@ -196,20 +196,14 @@ fn integer(number: i64) -> String {
     }
 }
 
+/// The operations of `lib.Ieee` that a row computes.
+const IEEE: &str = "to_bits round units odd size span climb add sub mul div neg sum \
+    of_fields of_bits of_int lt nan_bits";
+
 /// The names that a row has to open: every definition of specs/ that is marked unfoldable, alone or
 /// in a mutual block, and the operations of `lib.Ieee`.
 fn opened(specs: &Path) -> io::Result<String> {
-    let ieee = [
-        "to_bits", "round", "units", "odd", "size", "span", "climb", "add", "sub", "mul",
-    ];
-    let more = [
-        "div", "neg", "sum", "of_fields", "of_bits", "of_int", "lt", "nan_bits",
-    ];
-    let mut names: Vec<_> = ieee
-        .iter()
-        .chain(&more)
-        .map(|n| format!("lib.Ieee.{n}"))
-        .collect();
+    let mut names: Vec<_> = IEEE.split(' ').map(|n| format!("lib.Ieee.{n}")).collect();
     names.push("lib.Count.count_trailing_zeros".into());
     let mut files: Vec<_> = fs::read_dir(specs)?.collect::<Result<_, _>>()?;
     files.sort_by_key(|file| file.file_name());

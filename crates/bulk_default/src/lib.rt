@@ -1,4 +1,6 @@
 // The live documents that a scorer tree matches, one after the other, to the collector.
+#![tactic(auto)]
+
 ghost use Rattle.std.specs.Prelude.{◌≡◌, ℕ, ◌≤◌, ◌<◌, min, length};
 ghost use Rattle.meaning.specs.Limits.{maxHits};
 ghost use Rattle.scorer.specs.Calls.{lent};

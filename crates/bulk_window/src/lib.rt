@@ -1,4 +1,6 @@
 // A Boolean whose children are terms: windows of 64 documents, in which the terms' scores are added up one term after the other.
+#![tactic(auto)]
+
 ghost use Rattle.std.specs.Prelude.{◌≡◌, true, ℕ, ◌+◌, ◌*◌, ◌≤◌, ◌<◌, min, length};
 ghost use Rattle.meaning.specs.Limits.{noMoreDocs, maxHits, nodeStateWords};
 ghost use Rattle.meaning.specs.Lent.{Index};

@@ -13,7 +13,7 @@ ghost use Rattle.leaf_score.specs.Asked.{LeafPre, LeafPost, FrequencyPre, Freque
 use index::wide;
 
 // What the score reads of a node's record.
-#[derive(Drop)]
+#[derive(Clone, Copy)]
 pub struct Node {
     pub kind: u32,
     pub required_end: usize,

@@ -14,215 +14,215 @@ use Rattle.bulk_window.proofs.Adding.{Adding, adding-start, from_is, posting-rea
 use Rattle.bulk_window.proofs.add_postings.Statement.{statement}
 use Rattle.bulk_window.proofs.add_postings.Tie as tie
 
-abbrev invariant-loop : tie.invariant-loop
+abbrev invariant-loop : tie.invariant-loop-i
 invariant-loop kid₀ postings norms inverses base sums₀ counts₀ n i₀ kid sums counts i =
     (kid ≡ kid₀) × (length sums ≡ 64) × (length counts ≡ 64) × (n.cursor ≤ i) × ((ix : Index) (l : ℕ) (sc : Scoring) → Lending ix postings norms → TermHeld ix inverses l sc kid₀ base base → Adding ix l sc base n.cursor i sums₀ counts₀ sums counts)
 
-abbrev decreases-loop : tie.decreases-loop
+abbrev decreases-loop : tie.decreases-loop-i
 decreases-loop kid₀ postings norms inverses base sums₀ counts₀ n i₀ kid sums counts i = n.number - i
 
-node-at-requires : tie.Need-node-at-requires invariant-loop decreases-loop
-node-at-requires c κs = let s = c.before.before.before.before.before.before.before in omega (arith, ap length s.requires.1.4.words)
+node-at-requires : tie.Need-node_at-n-requires invariant-loop decreases-loop
+node-at-requires c κs = let s = c in omega (arith, ap length s.requires.1.4.words)
 
-loop-holds : tie.Need-loop-init invariant-loop decreases-loop
+loop-holds : tie.Need-loop-i-init invariant-loop decreases-loop
 loop-holds c =
-    let s = c.before.before.before.before.before.before.before.before in
-    let n = c.node_at in
+    let s = c in
+    let n = c.node_at-n in
     (refl, s.requires.0.sums-long, s.requires.0.counts-long, omega arith, λ ix l sc L H. adding-start ix l sc s.args.base s.args.sums.now s.args.counts.now n.result.cursor (omega (arith, from_is ix s.args.postings.now s.args.norms.now L s.args.inverses.now l sc s.args.kid.now s.args.base H n.result n.ensures, H.within)))
 
-add_at : tie.Need-overflow-add-at invariant-loop decreases-loop
+add_at : tie.Need-overflow_add-at invariant-loop decreases-loop
 add_at c =
-    let s = c.before.before.before.before.before.before.before.before.before.before.before.before in
-    let n = c.before.before.before.before.node_at in
-    let l = c.before.before.before.loop in
+    let s = c in
+    let n = c.node_at-n in
+    let l = c.loop-i in
     let P = s.requires.1 in
-    let q = posting-read P.0 s.args.postings.now s.args.norms.now P.3 s.args.inverses.now P.1 P.2 s.args.kid.now s.args.base P.4 n.result n.ensures l.i l.invariant.3 c.before.if1.true in
-    omega (arith, q.within, s.well-formed)
+    let q = posting-read P.0 s.args.postings.now s.args.norms.now P.3 s.args.inverses.now P.1 P.2 s.args.kid.now s.args.base P.4 n.result n.ensures l.i l.invariant.3 c.loop-i-test.true in
+    omega (arith, q.within, s.well_formed)
 
-mul_at : tie.Need-overflow-mul-at invariant-loop decreases-loop
+mul_at : tie.Need-overflow_mul-at invariant-loop decreases-loop
 mul_at c =
-    let s = c.before.before.before.before.before.before.before.before.before.before.before.before in
-    let n = c.before.before.before.before.node_at in
-    let l = c.before.before.before.loop in
+    let s = c in
+    let n = c.node_at-n in
+    let l = c.loop-i in
     let P = s.requires.1 in
-    let q = posting-read P.0 s.args.postings.now s.args.norms.now P.3 s.args.inverses.now P.1 P.2 s.args.kid.now s.args.base P.4 n.result n.ensures l.i l.invariant.3 c.before.if1.true in
-    omega (arith, q.within, s.well-formed)
+    let q = posting-read P.0 s.args.postings.now s.args.norms.now P.3 s.args.inverses.now P.1 P.2 s.args.kid.now s.args.base P.4 n.result n.ensures l.i l.invariant.3 c.loop-i-test.true in
+    omega (arith, q.within, s.well_formed)
 
-mul-doc : tie.Need-overflow-mul-doc invariant-loop decreases-loop
+mul-doc : tie.Need-offset_bounds-postings-at invariant-loop decreases-loop
 mul-doc c =
-    let s = c.before.before.before.before.before.before.before.before.before.before.before.before in
-    let n = c.before.before.before.before.node_at in
-    let l = c.before.before.before.loop in
+    let s = c in
+    let n = c.node_at-n in
+    let l = c.loop-i in
     let P = s.requires.1 in
-    let q = posting-read P.0 s.args.postings.now s.args.norms.now P.3 s.args.inverses.now P.1 P.2 s.args.kid.now s.args.base P.4 n.result n.ensures l.i l.invariant.3 c.before.if1.true in
-    omega (arith, q.within, s.well-formed)
+    let q = posting-read P.0 s.args.postings.now s.args.norms.now P.3 s.args.inverses.now P.1 P.2 s.args.kid.now s.args.base P.4 n.result n.ensures l.i l.invariant.3 c.loop-i-test.true in
+    omega (arith, q.within, s.well_formed)
 
-shared-slice-read-doc : tie.Need-shared-slice-read-doc invariant-loop decreases-loop
+shared-slice-read-doc : tie.Need-bounds-postings-at invariant-loop decreases-loop
 shared-slice-read-doc c =
-    let s = c.before.before.before.before.before.before.before.before.before.before.before.before.before in
-    let n = c.before.before.before.before.before.node_at in
-    let l = c.before.before.before.before.loop in
+    let s = c in
+    let n = c.node_at-n in
+    let l = c.loop-i in
     let P = s.requires.1 in
-    let q = posting-read P.0 s.args.postings.now s.args.norms.now P.3 s.args.inverses.now P.1 P.2 s.args.kid.now s.args.base P.4 n.result n.ensures l.i l.invariant.3 c.before.before.if1.true in
+    let q = posting-read P.0 s.args.postings.now s.args.norms.now P.3 s.args.inverses.now P.1 P.2 s.args.kid.now s.args.base P.4 n.result n.ensures l.i l.invariant.3 c.loop-i-test.true in
     omega (arith, q.within)
 
-sub_wide : tie.Need-overflow-sub-wide invariant-loop decreases-loop
+sub_wide : tie.Need-overflow_sub-doc invariant-loop decreases-loop
 sub_wide c =
-    let s = c.before.before.before.before.before.before.before.before.before.before.before.before.before in
-    let n = c.before.before.before.before.before.node_at in
-    let l = c.before.before.before.before.loop in
+    let s = c in
+    let n = c.node_at-n in
+    let l = c.loop-i in
     let P = s.requires.1 in
-    let q = posting-read P.0 s.args.postings.now s.args.norms.now P.3 s.args.inverses.now P.1 P.2 s.args.kid.now s.args.base P.4 n.result n.ensures l.i l.invariant.3 c.before.before.if1.true in
+    let q = posting-read P.0 s.args.postings.now s.args.norms.now P.3 s.args.inverses.now P.1 P.2 s.args.kid.now s.args.base P.4 n.result n.ensures l.i l.invariant.3 c.loop-i-test.true in
     q.from
 
-wide-requires : tie.Need-wide-requires invariant-loop decreases-loop
+wide-requires : tie.Need-wide-place-requires invariant-loop decreases-loop
 wide-requires c κs = search rules
 
-cast-kid : tie.Need-overflow-cast-kid invariant-loop decreases-loop
-cast-kid c = omega (arith, c.before.before.before.before.if1.true, c.before.before.before.before.before.before.before.node_at.ensures.number_is, c.before.before.before.before.before.before.before.before.before.before.before.before.before.before.slice-known.given 7)
+cast-kid : tie.Need-overflow_cast-kid invariant-loop decreases-loop
+cast-kid c = omega (arith, c.loop-i-test.true, c.node_at-n.ensures.number_is, c.slice_known-1.given 7)
 
-slice-write-kid : tie.Need-slice-write-kid invariant-loop decreases-loop
-slice-write-kid c = let s = c.before.before.before.before.before.before.before.before.before.before.before.before.before.before.before in let l = c.before.before.before.before.before.before.loop in omega (arith, ap length s.requires.1.4.words, ap length l.invariant.0)
+slice-write-kid : tie.Need-bounds-kid-8 invariant-loop decreases-loop
+slice-write-kid c = let s = c in let l = c.loop-i in omega (arith, ap length s.requires.1.4.words, ap length l.invariant.0)
 
-same_length : tie.Need-same-length invariant-loop decreases-loop
-same_length c = simp length-set (ap length c.before.before.before.before.before.before.loop.invariant.0)
+same_length : tie.Need-shape_of-kid-then-place-ge64 invariant-loop decreases-loop
+same_length c = simp length-set (ap length c.loop-i.invariant.0)
 
-same-length-2 : tie.Need-same-length-2 invariant-loop decreases-loop
-same-length-2 c = c.before.before.before.before.before.before.loop.invariant.1 ∙ sym c.before.before.before.before.before.before.before.before.before.before.before.before.before.before.before.requires.0.sums-long
+same-length-2 : tie.Need-shape_of-sums-then-place-ge64 invariant-loop decreases-loop
+same-length-2 c = c.loop-i.invariant.1 ∙ sym c.requires.0.sums-long
 
-same-length-3 : tie.Need-same-length-3 invariant-loop decreases-loop
-same-length-3 c = c.before.before.before.before.before.before.loop.invariant.2 ∙ sym c.before.before.before.before.before.before.before.before.before.before.before.before.before.before.before.requires.0.counts-long
+same-length-3 : tie.Need-shape_of-counts-then-place-ge64 invariant-loop decreases-loop
+same-length-3 c = c.loop-i.invariant.2 ∙ sym c.requires.0.counts-long
 
-returns : tie.Need-returns invariant-loop decreases-loop
+returns : tie.Need-returns-then-place-ge64 invariant-loop decreases-loop
 returns c =
-    let s = c.before.before.before.before.before.before.before.before.before.before.before.before.before.before.before in
-    let n = c.before.before.before.before.before.before.before.node_at in
-    let l = c.before.before.before.before.before.before.loop in
-    let w = c.before.wide in
+    let s = c in
+    let n = c.node_at-n in
+    let l = c.loop-i in
+    let w = c.wide-place in
     let doc = get_or s.args.postings.now (3 * (n.result.first + l.i)) 0 in
     subst (λ (y : List ℕ). AddPost s.args.postings.now s.args.norms.now s.args.inverses.now s.args.kid.now s.args.base s.args.sums.now s.args.counts.now (set y 8 l.i) l.sums l.counts doc) (sym l.invariant.0)
-    (λ ix t sc L H. added-before ix s.args.postings.now s.args.norms.now L s.args.inverses.now t sc s.args.kid.now s.args.base H n.result n.ensures s.args.sums.now s.args.counts.now l.i l.sums l.counts (l.invariant.4 ix t sc L H) c.before.before.before.before.if1.true doc refl (omega (arith, w.ensures, c.if2.true)))
+    (λ ix t sc L H. added-before ix s.args.postings.now s.args.norms.now L s.args.inverses.now t sc s.args.kid.now s.args.base H n.result n.ensures s.args.sums.now s.args.counts.now l.i l.sums l.counts (l.invariant.4 ix t sc L H) c.loop-i-test.true doc refl (omega (arith, w.ensures, c.if-place-ge64.true)))
 
-add-posting-score : tie.Need-overflow-add-posting-score invariant-loop decreases-loop
+add-posting-score : tie.Need-overflow_add-at-in-loop-i invariant-loop decreases-loop
 add-posting-score c =
-    let s = c.before.before.before.before.before.before.before.before.before.before.before.before.before.before.before in
-    let n = c.before.before.before.before.before.before.before.node_at in
-    let l = c.before.before.before.before.before.before.loop in
+    let s = c in
+    let n = c.node_at-n in
+    let l = c.loop-i in
     let P = s.requires.1 in
-    let q = posting-read P.0 s.args.postings.now s.args.norms.now P.3 s.args.inverses.now P.1 P.2 s.args.kid.now s.args.base P.4 n.result n.ensures l.i l.invariant.3 c.before.before.before.before.if1.true in
-    omega (arith, q.within, s.well-formed)
+    let q = posting-read P.0 s.args.postings.now s.args.norms.now P.3 s.args.inverses.now P.1 P.2 s.args.kid.now s.args.base P.4 n.result n.ensures l.i l.invariant.3 c.loop-i-test.true in
+    omega (arith, q.within, s.well_formed)
 
-mul-posting-score : tie.Need-overflow-mul-posting-score invariant-loop decreases-loop
+mul-posting-score : tie.Need-offset_bounds-postings-at-in-loop-i invariant-loop decreases-loop
 mul-posting-score c =
-    let s = c.before.before.before.before.before.before.before.before.before.before.before.before.before.before.before in
-    let n = c.before.before.before.before.before.before.before.node_at in
-    let l = c.before.before.before.before.before.before.loop in
+    let s = c in
+    let n = c.node_at-n in
+    let l = c.loop-i in
     let P = s.requires.1 in
-    let q = posting-read P.0 s.args.postings.now s.args.norms.now P.3 s.args.inverses.now P.1 P.2 s.args.kid.now s.args.base P.4 n.result n.ensures l.i l.invariant.3 c.before.before.before.before.if1.true in
-    omega (arith, q.within, s.well-formed)
+    let q = posting-read P.0 s.args.postings.now s.args.norms.now P.3 s.args.inverses.now P.1 P.2 s.args.kid.now s.args.base P.4 n.result n.ensures l.i l.invariant.3 c.loop-i-test.true in
+    omega (arith, q.within, s.well_formed)
 
-shared-slice-read-posting-score : tie.Need-shared-slice-read-posting-score invariant-loop decreases-loop
+shared-slice-read-posting-score : tie.Need-bounds-postings-at-in-loop-i invariant-loop decreases-loop
 shared-slice-read-posting-score c =
-    let s = c.before.before.before.before.before.before.before.before.before.before.before.before.before.before.before.before in
-    let n = c.before.before.before.before.before.before.before.before.node_at in
-    let l = c.before.before.before.before.before.before.before.loop in
+    let s = c in
+    let n = c.node_at-n in
+    let l = c.loop-i in
     let P = s.requires.1 in
-    let q = posting-read P.0 s.args.postings.now s.args.norms.now P.3 s.args.inverses.now P.1 P.2 s.args.kid.now s.args.base P.4 n.result n.ensures l.i l.invariant.3 c.before.before.before.before.before.if1.true in
+    let q = posting-read P.0 s.args.postings.now s.args.norms.now P.3 s.args.inverses.now P.1 P.2 s.args.kid.now s.args.base P.4 n.result n.ensures l.i l.invariant.3 c.loop-i-test.true in
     omega (arith, q.within)
 
-posting-score-requires : tie.Need-posting-score-requires invariant-loop decreases-loop
+posting-score-requires : tie.Need-posting_score-s-requires invariant-loop decreases-loop
 posting-score-requires c κs =
-    let s = c.before.before.before.before.before.before.before.before.before.before.before.before.before.before.before.before in
-    let n = c.before.before.before.before.before.before.before.before.node_at in
-    let l = c.before.before.before.before.before.before.before.loop in
+    let s = c in
+    let n = c.node_at-n in
+    let l = c.loop-i in
     let P = s.requires.1 in
-    (P.0, P.1, P.2, posting-asks P.0 s.args.postings.now s.args.norms.now P.3 s.args.inverses.now P.1 P.2 s.args.kid.now s.args.base P.4 n.result n.ensures l.i c.before.before.before.before.before.if1.true)
+    (P.0, P.1, P.2, posting-asks P.0 s.args.postings.now s.args.norms.now P.3 s.args.inverses.now P.1 P.2 s.args.kid.now s.args.base P.4 n.result n.ensures l.i c.loop-i-test.true)
 
-mul-add-score : tie.Need-overflow-mul-add-score invariant-loop decreases-loop
-mul-add-score c = omega (arith, c.before.before.if2.false)
+mul-add-score : tie.Need-offset_bounds-sums-place invariant-loop decreases-loop
+mul-add-score c = omega (arith, c.if-place-ge64.false)
 
-slice-read-add-score : tie.Need-slice-read-add-score invariant-loop decreases-loop
-slice-read-add-score c = omega (arith, c.before.before.before.if2.false, c.before.before.before.before.before.before.before.before.before.loop.invariant.1)
+slice-read-add-score : tie.Need-bounds-sums-place invariant-loop decreases-loop
+slice-read-add-score c = omega (arith, c.if-place-ge64.false, c.loop-i.invariant.1)
 
-add-score-requires : tie.Need-add-score-requires invariant-loop decreases-loop
+add-score-requires : tie.Need-add_score-requires invariant-loop decreases-loop
 add-score-requires c κs =
-    let s = c.before.before.before.before.before.before.before.before.before.before.before.before.before.before.before.before.before.before in
-    let n = c.before.before.before.before.before.before.before.before.before.before.node_at in
-    let l = c.before.before.before.before.before.before.before.before.before.loop in
+    let s = c in
+    let n = c.node_at-n in
+    let l = c.loop-i in
     let P = s.requires.1 in
-    atmost-number (c.before.posting-score.ensures P.0 P.1 P.2 (posting-asks P.0 s.args.postings.now s.args.norms.now P.3 s.args.inverses.now P.1 P.2 s.args.kid.now s.args.base P.4 n.result n.ensures l.i c.before.before.before.before.before.before.before.if1.true)).1
+    atmost-number (c.posting_score-s.ensures P.0 P.1 P.2 (posting-asks P.0 s.args.postings.now s.args.norms.now P.3 s.args.inverses.now P.1 P.2 s.args.kid.now s.args.base P.4 n.result n.ensures l.i c.loop-i-test.true)).1
 
-mul-sums : tie.Need-overflow-mul-sums invariant-loop decreases-loop
-mul-sums c = omega (arith, c.before.before.before.before.if2.false)
+mul-sums : tie.Need-offset_bounds-sums-place-in-loop-i invariant-loop decreases-loop
+mul-sums c = omega (arith, c.if-place-ge64.false)
 
-slice-write-sums : tie.Need-slice-write-sums invariant-loop decreases-loop
-slice-write-sums c = omega (arith, c.before.before.before.before.if2.false, c.before.before.before.before.before.before.before.before.before.before.loop.invariant.1)
+slice-write-sums : tie.Need-bounds-sums-place-in-loop-i invariant-loop decreases-loop
+slice-write-sums c = omega (arith, c.if-place-ge64.false, c.loop-i.invariant.1)
 
-mul-counts : tie.Need-overflow-mul-counts invariant-loop decreases-loop
-mul-counts c = omega (arith, c.before.before.before.before.if2.false)
+mul-counts : tie.Need-offset_bounds-counts-place invariant-loop decreases-loop
+mul-counts c = omega (arith, c.if-place-ge64.false)
 
-slice-read-counts : tie.Need-slice-read-counts invariant-loop decreases-loop
-slice-read-counts c = omega (arith, c.before.before.before.before.before.if2.false, c.before.before.before.before.before.before.before.before.before.before.before.loop.invariant.2)
+slice-read-counts : tie.Need-bounds-counts-place invariant-loop decreases-loop
+slice-read-counts c = omega (arith, c.if-place-ge64.false, c.loop-i.invariant.2)
 
-add-counts : tie.Need-overflow-add-counts invariant-loop decreases-loop
+add-counts : tie.Need-overflow_add-counts invariant-loop decreases-loop
 add-counts c =
-    let s = c.before.before.before.before.before.before.before.before.before.before.before.before.before.before.before.before.before.before.before.before in
-    let n = c.before.before.before.before.before.before.before.before.before.before.before.before.node_at in
-    let l = c.before.before.before.before.before.before.before.before.before.before.before.loop in
-    let w = c.before.before.before.before.before.before.wide in
+    let s = c in
+    let n = c.node_at-n in
+    let l = c.loop-i in
+    let w = c.wide-place in
     let P = s.requires.1 in
-    omega (arith, s.requires.0.few w.result c.before.before.before.before.before.if2.false, count-before P.0 s.args.postings.now s.args.norms.now P.3 s.args.inverses.now P.1 P.2 s.args.kid.now s.args.base P.4 n.result n.ensures s.args.sums.now s.args.counts.now l.i l.sums l.counts (l.invariant.4 P.0 P.1 P.2 P.3 P.4) c.before.before.before.before.before.before.before.before.before.if1.true w.result w.ensures)
+    omega (arith, s.requires.0.few w.result c.if-place-ge64.false, count-before P.0 s.args.postings.now s.args.norms.now P.3 s.args.inverses.now P.1 P.2 s.args.kid.now s.args.base P.4 n.result n.ensures s.args.sums.now s.args.counts.now l.i l.sums l.counts (l.invariant.4 P.0 P.1 P.2 P.3 P.4) c.loop-i-test.true w.result w.ensures)
 
-slice-write-counts : tie.Need-slice-write-counts invariant-loop decreases-loop
-slice-write-counts c = omega (arith, c.before.before.before.before.before.if2.false, c.before.before.before.before.before.before.before.before.before.before.before.loop.invariant.2)
+slice-write-counts : tie.Need-bounds-counts-place-in-loop-i invariant-loop decreases-loop
+slice-write-counts c = omega (arith, c.if-place-ge64.false, c.loop-i.invariant.2)
 
-add-i : tie.Need-overflow-add-i invariant-loop decreases-loop
-add-i c = omega (arith, c.before.before.before.before.before.before.before.before.before.if1.true, c.before.before.before.before.before.before.before.before.before.before.before.before.node_at.ensures.number_is, c.before.before.before.before.before.before.before.before.before.before.before.before.before.before.before.before.before.before.before.slice-known.given 7)
+add-i : tie.Need-overflow_add-i invariant-loop decreases-loop
+add-i c = omega (arith, c.loop-i-test.true, c.node_at-n.ensures.number_is, c.slice_known-1.given 7)
 
-loop-less : tie.Need-loop-smaller invariant-loop decreases-loop
-loop-less c = omega (arith, c.before.before.before.before.before.before.before.before.before.if1.true)
+loop-less : tie.Need-loop-i-smaller invariant-loop decreases-loop
+loop-less c = omega (arith, c.loop-i-test.true)
 
-loop-again : tie.Need-loop-preserved invariant-loop decreases-loop
+loop-again : tie.Need-loop-i-preserved invariant-loop decreases-loop
 loop-again c =
-    let s = c.before.before.before.before.before.before.before.before.before.before.before.before.before.before.before.before.before.before.before.before in
-    let n = c.before.before.before.before.before.before.before.before.before.before.before.before.node_at in
-    let l = c.before.before.before.before.before.before.before.before.before.before.before.loop in
-    let w = c.before.before.before.before.before.before.wide in
-    let x = c.before.add-score in
-    let r = c.before.before.before.posting-score in
-    let m = c.before.before.before.before.before.before.before.before.before.if1.true in
-    (l.invariant.0, simp length-set l.invariant.1, simp length-set l.invariant.2, omega (arith, l.invariant.3), λ ix t sc L H. adding-next ix s.args.postings.now s.args.norms.now L s.args.inverses.now t sc s.args.kid.now s.args.base H n.result n.ensures s.args.sums.now s.args.counts.now l.i l.sums l.counts (l.invariant.4 ix t sc L H) m w.result w.ensures c.before.before.before.before.before.if2.false l.invariant.1 l.invariant.2 r.result (r.ensures ix t sc (posting-asks ix s.args.postings.now s.args.norms.now L s.args.inverses.now t sc s.args.kid.now s.args.base H n.result n.ensures l.i m)) x.result x.ensures)
+    let s = c in
+    let n = c.node_at-n in
+    let l = c.loop-i in
+    let w = c.wide-place in
+    let x = c.add_score in
+    let r = c.posting_score-s in
+    let m = c.loop-i-test.true in
+    (l.invariant.0, simp length-set l.invariant.1, simp length-set l.invariant.2, omega (arith, l.invariant.3), λ ix t sc L H. adding-next ix s.args.postings.now s.args.norms.now L s.args.inverses.now t sc s.args.kid.now s.args.base H n.result n.ensures s.args.sums.now s.args.counts.now l.i l.sums l.counts (l.invariant.4 ix t sc L H) m w.result w.ensures c.if-place-ge64.false l.invariant.1 l.invariant.2 r.result (r.ensures ix t sc (posting-asks ix s.args.postings.now s.args.norms.now L s.args.inverses.now t sc s.args.kid.now s.args.base H n.result n.ensures l.i m)) x.result x.ensures)
 
-cast-kid-2 : tie.Need-overflow-cast-kid-2 invariant-loop decreases-loop
+cast-kid-2 : tie.Need-overflow_cast-kid-2 invariant-loop decreases-loop
 cast-kid-2 c =
-    let s = c.before.before.before.before.before.before.before.before.before.before.before in
-    let n = c.before.before.before.node_at in
-    let l = c.before.before.loop in
+    let s = c in
+    let n = c.node_at-n in
+    let l = c.loop-i in
     let P = s.requires.1 in
-    omega (arith, (l.invariant.4 P.0 P.1 P.2 P.3 P.4).upto, P.4.number_is, ap (λ (y : List ℕ). get_or y 7 0) P.4.words, c.before.before.before.before.before.before.before.before.before.before.slice-known.given 7)
+    omega (arith, (l.invariant.4 P.0 P.1 P.2 P.3 P.4).upto, P.4.number_is, ap (λ (y : List ℕ). get_or y 7 0) P.4.words, c.slice_known-1.given 7)
 
-slice-write-kid-2 : tie.Need-slice-write-kid-2 invariant-loop decreases-loop
-slice-write-kid-2 c = let s = c.before.before.before.before.before.before.before.before.before.before.before in let l = c.before.before.loop in omega (arith, ap length s.requires.1.4.words, ap length l.invariant.0)
+slice-write-kid-2 : tie.Need-bounds-kid-8-2 invariant-loop decreases-loop
+slice-write-kid-2 c = let s = c in let l = c.loop-i in omega (arith, ap length s.requires.1.4.words, ap length l.invariant.0)
 
-same-length-4 : tie.Need-same-length-4 invariant-loop decreases-loop
-same-length-4 c = simp length-set (ap length c.before.before.loop.invariant.0)
+same-length-4 : tie.Need-shape_of-kid invariant-loop decreases-loop
+same-length-4 c = simp length-set (ap length c.loop-i.invariant.0)
 
-same-length-5 : tie.Need-same-length-5 invariant-loop decreases-loop
-same-length-5 c = c.before.before.loop.invariant.1 ∙ sym c.before.before.before.before.before.before.before.before.before.before.before.requires.0.sums-long
+same-length-5 : tie.Need-shape_of-sums invariant-loop decreases-loop
+same-length-5 c = c.loop-i.invariant.1 ∙ sym c.requires.0.sums-long
 
-same-length-6 : tie.Need-same-length-6 invariant-loop decreases-loop
-same-length-6 c = c.before.before.loop.invariant.2 ∙ sym c.before.before.before.before.before.before.before.before.before.before.before.requires.0.counts-long
+same-length-6 : tie.Need-shape_of-counts invariant-loop decreases-loop
+same-length-6 c = c.loop-i.invariant.2 ∙ sym c.requires.0.counts-long
 
-returns-2 : tie.Need-returns-2 invariant-loop decreases-loop
+returns-2 : tie.Need-returns invariant-loop decreases-loop
 returns-2 c =
-    let s = c.before.before.before.before.before.before.before.before.before.before.before in
-    let n = c.before.before.before.node_at in
-    let l = c.before.before.loop in
+    let s = c in
+    let n = c.node_at-n in
+    let l = c.loop-i in
     subst (λ (y : List ℕ). AddPost s.args.postings.now s.args.norms.now s.args.inverses.now s.args.kid.now s.args.base s.args.sums.now s.args.counts.now (set y 8 l.i) l.sums l.counts noMoreDocs) (sym l.invariant.0)
-    (λ ix t sc L H. added-all ix s.args.postings.now s.args.norms.now L s.args.inverses.now t sc s.args.kid.now s.args.base H n.result n.ensures s.args.sums.now s.args.counts.now l.i l.sums l.counts (l.invariant.4 ix t sc L H) c.if1.false)
+    (λ ix t sc L H. added-all ix s.args.postings.now s.args.norms.now L s.args.inverses.now t sc s.args.kid.now s.args.base H n.result n.ensures s.args.sums.now s.args.counts.now l.i l.sums l.counts (l.invariant.4 ix t sc L H) c.loop-i-test.false)
 
-pub add-postings-spec : {M : Type 1} → statement M
-add-postings-spec =
+pub add_postings_spec : {M : Type 1} → statement M
+add_postings_spec =
     tie.close
     (tie.spec
     invariant-loop

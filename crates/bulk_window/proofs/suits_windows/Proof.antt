@@ -11,71 +11,71 @@ use Rattle.bulk_window.specs.Windows.{FreshTerms}
 use Rattle.bulk_window.proofs.suits_windows.Statement.{statement}
 use Rattle.bulk_window.proofs.suits_windows.Tie as tie
 
-shared-slice-read-if1 : tie.Need-shared-slice-read-if1
+shared-slice-read-if1 : tie.Need-bounds-st-0
 shared-slice-read-if1 c = search rules
 
-returns : tie.Need-returns
+returns : tie.Need-returns-then-st-ne3
 returns c = λ e. absurd (false≢true e)
 
-shared-slice-read-if2 : tie.Need-shared-slice-read-if2
+shared-slice-read-if2 : tie.Need-bounds-st-3
 shared-slice-read-if2 c = search rules
 
-returns-2 : tie.Need-returns-2
+returns-2 : tie.Need-returns-then-st-eq0
 returns-2 c = λ e. absurd (false≢true e)
 
-shared-slice-read-if3 : tie.Need-shared-slice-read-if3
+shared-slice-read-if3 : tie.Need-bounds-st-4
 shared-slice-read-if3 c = search rules
 
-returns-3 : tie.Need-returns-3
+returns-3 : tie.Need-returns-then-st-ne0
 returns-3 c = λ e. absurd (false≢true e)
 
-shared-slice-read-wide : tie.Need-shared-slice-read-wide
+shared-slice-read-wide : tie.Need-bounds-st-5
 shared-slice-read-wide c = search rules
 
 wide-requires : tie.Need-wide-requires
 wide-requires c κs = search rules
 
-add-if4 : tie.Need-overflow-add-if4
-add-if4 c = omega (arith, c.wide.ensures, c.before.before.before.before.before.before.before.before.shared-slice-known.given 5)
+add-if4 : tie.Need-overflow_add-wide
+add-if4 c = omega (arith, c.wide.ensures, c.shared_slice_known-1.given 5)
 
-returns-4 : tie.Need-returns-4
+returns-4 : tie.Need-returns-then-wide-st
 returns-4 c = λ e. absurd (false≢true e)
 
-shared-slice-read-if5 : tie.Need-shared-slice-read-if5
+shared-slice-read-if5 : tie.Need-bounds-st-11
 shared-slice-read-if5 c = search rules
 
-returns-5 : tie.Need-returns-5
+returns-5 : tie.Need-returns-then-st-ne0-2
 returns-5 c = λ e. absurd (false≢true e)
 
-sub-terms-only : tie.Need-overflow-sub-terms-only
+sub-terms-only : tie.Need-slice_bounds-terms_only-count
 sub-terms-only c = search rules
 
-part-terms-only-start : tie.Need-slice-bounds-terms-only-start
+part-terms-only-start : tie.Need-slice_bounds-terms_only-start
 part-terms-only-start c = search rules
 
-part-terms-only-end : tie.Need-slice-bounds-terms-only-end
+part-terms-only-end : tie.Need-slice_bounds-terms_only-end
 part-terms-only-end c = search rules
 
-terms-only-requires : tie.Need-terms-only-requires
+terms-only-requires : tie.Need-terms_only-requires
 terms-only-requires c κs = search rules
 
-returns-6 : tie.Need-returns-6
+returns-6 : tie.Need-returns
 returns-6 c =
-    let s = c.before.before.before.before.before.before.before.before.before.before.before.before.before.before in
-    let w = c.before.before.before.before.before.wide in
+    let s = c in
+    let w = c.wide in
     let some : (n : ℕ) → (n ≡ 0 → ⊥) → 1 ≤ n = λ n h. omega (arith, h) in
     λ e. record {
       long = s.requires;
-      kind = c.before.before.before.before.before.before.before.before.before.before.before.if1.false;
-      some = some _ c.before.before.before.before.before.before.before.before.before.if2.false;
-      required = c.before.before.before.before.before.before.before.if3.false;
-      prohibited = sym (ap (λ (n : ℕ). nodeStateWords + n) w.ensures) ∙ c.before.before.before.before.if4.false;
-      scored = c.before.before.if5.false;
-      terms = subst FreshTerms (take_all (length s.args.st.now - nodeStateWords) (drop nodeStateWords s.args.st.now) (omega (arith, length-drop nodeStateWords s.args.st.now))) (c.terms-only.ensures e);
+      kind = c.if-st-ne3.false;
+      some = some _ c.if-st-eq0.false;
+      required = c.if-st-ne0.false;
+      prohibited = sym (ap (λ (n : ℕ). nodeStateWords + n) w.ensures) ∙ c.if-wide-st.false;
+      scored = c.if-st-ne0-2.false;
+      terms = subst FreshTerms (take_all (length s.args.st.now - nodeStateWords) (drop nodeStateWords s.args.st.now) (omega (arith, length-drop nodeStateWords s.args.st.now))) (c.terms_only.ensures e);
     }
 
-pub suits-windows-spec : {M : Type 1} → statement M
-suits-windows-spec =
+pub suits_windows_spec : {M : Type 1} → statement M
+suits_windows_spec =
     tie.close
     (tie.spec
     shared-slice-read-if1
