@@ -1,5 +1,5 @@
 -- What has been seen of lists to pick from while they are checked place by place. Assumes nothing.
-use Rattle.std.proofs.Common.{◌≡◌, ℕ, suc, ◌+◌, ◌-◌, ◌<◌, ◌≤◌, true, false, not, ◌&&◌, ◌||◌, eqb, ltb, leb, ◌⊎◌, List, length, get_or, sym, subst, inl, inr, eq-or-lt_of_le, arith, ltb-true, le-ltb, eq-eqb}
+use Rattle.std.proofs.Common.{◌≡◌, ℕ, suc, ◌+◌, ◌-◌, ◌<◌, ◌≤◌, true, false, ◌&&◌, eqb, ltb, leb, ◌⊎◌, List, length, get_or, sym, subst, inl, inr, eq-or-lt_of_le, arith, ltb-true, le-ltb, eq-eqb}
 use borrow.Author.Tests.{lt-leb}
 use Rattle.meaning.specs.CallRefusals.{wrong14, wrongPicked}
 use Rattle.meaning.proofs.Tests.{decided}
@@ -11,10 +11,6 @@ pub record Seen (ds ss : List ℕ) (least i : ℕ) : Type 0 where
   pub not-past : i ≤ length ds
   pub right : (k : ℕ) → k < i → wrongPicked ds ss k ≡ false
   pub above : (k : ℕ) → suc k ≡ i → get_or ds k 0 < least
-
-pub none_seen : (ds ss : List ℕ) → length ds ≡ length ss → Seen ds ss 0 0
-none_seen ds ss e =
-    record { same = e; not-past = omega arith; right = λ k h. absurd (omega arith); above = λ k h. absurd (omega arith) }
 
 right-here : (ds ss : List ℕ) (i : ℕ) → (ltb 0 i && leb (get_or ds i 0) (get_or ds (i - 1) 0)) ≡ false → get_or ds i 0 < 2147483647 → get_or ss i 0 ≤ 0x7f80_0000 → wrongPicked ds ss i ≡ false
 unfolding wrongPicked
