@@ -1,4 +1,6 @@
 // Bulk scorers: every live match of a scorer tree to the collector, by the loop that suits the root.
+#![tactic(auto)]
+
 ghost use Rattle.std.specs.Prelude.{◌≤◌, ◌<◌, min, length};
 ghost use Rattle.meaning.specs.Limits.{maxHits};
 ghost use Rattle.scorer.specs.Calls.{lent};

@@ -1,4 +1,6 @@
 // Conjunctions that one run leads: each document of the run, and whether the others stand there too.
+#![tactic(auto)]
+
 ghost use Rattle.std.specs.Prelude.{◌≡◌, true, ◌≤◌, ◌<◌, length};
 ghost use Rattle.meaning.specs.Limits.{maxHits};
 ghost use Rattle.bulk_led.specs.Led.{LedWords, DocumentThere, DocumentIs, LedAtPre, LedAtPost, LeadPre, LeadPost, LedScorePre, LedScorePost, LedPre, LedPost};

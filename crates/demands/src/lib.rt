@@ -1,1 +1,2 @@
 // Document 01's third demand, as theorems about the definitions: see proofs/.
+#![tactic(auto)]

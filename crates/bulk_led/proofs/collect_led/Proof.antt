@@ -16,220 +16,220 @@ use Rattle.bulk_led.proofs.collect_led.Tie as tie
 abbrev call : (st postings norms ranges : List ℕ) (inverses : List Float) (live : List ℕ) (t : ℕ) (heap : List ℤ) → LedCall
 call st postings norms ranges inverses live t heap = record { postings = postings; norms = norms; ranges = ranges; live = live; table = inverses; st = st; t = t; start = heap }
 
-abbrev invariant-loop : tie.invariant-loop
+abbrev invariant-loop : tie.invariant-loop-i
 invariant-loop st₀ postings norms ranges inverses live t heap₀ lead scores at c₀ i₀ st heap c i =
     (length st ≡ length st₀) × (length heap ≡ length heap₀) × ((F : Fixed (call st₀ postings norms ranges inverses live t heap₀) lead scores at) × ((k : Case (call st₀ postings norms ranges inverses live t heap₀)) → LedAt (call st₀ postings norms ranges inverses live t heap₀) lead scores at F k st c heap i))
 
-abbrev decreases-loop : tie.decreases-loop
+abbrev decreases-loop : tie.decreases-loop-i
 decreases-loop st₀ postings norms ranges inverses live t heap₀ lead scores at c₀ i₀ st heap c i = lead.number - i
 
-sub-node-at : tie.Need-overflow-sub-node-at invariant-loop decreases-loop
+sub-node-at : tie.Need-slice_bounds-node_at-count invariant-loop decreases-loop
 sub-node-at c =
-    let s = c.before.before.before.before.before.before in
-    omega (arith, s.requires.1.0.long, s.well-formed)
+    let s = c in
+    omega (arith, s.requires.1.0.long, s.well_formed)
 
-part-node-at-start : tie.Need-slice-bounds-node-at-start invariant-loop decreases-loop
+part-node-at-start : tie.Need-slice_bounds-node_at-start invariant-loop decreases-loop
 part-node-at-start c =
-    let s = c.before.before.before.before.before.before.before in
-    omega (arith, s.requires.1.0.long, s.well-formed)
+    let s = c in
+    omega (arith, s.requires.1.0.long, s.well_formed)
 
-part-node-at-end : tie.Need-slice-bounds-node-at-end invariant-loop decreases-loop
+part-node-at-end : tie.Need-slice_bounds-node_at-end invariant-loop decreases-loop
 part-node-at-end c =
-    let s = c.before.before.before.before.before.before.before in
-    omega (arith, s.requires.1.0.long, s.well-formed)
+    let s = c in
+    omega (arith, s.requires.1.0.long, s.well_formed)
 
-node-at-requires : tie.Need-node-at-requires invariant-loop decreases-loop
+node-at-requires : tie.Need-node_at-lead-requires invariant-loop decreases-loop
 node-at-requires c κs =
-    let s = c.before.before.before.before.before.before.before.before in
+    let s = c in
     simp (length-take, length-drop) (omega (arith, s.requires.1.0.long))
 
-slice-read-scores : tie.Need-slice-read-scores invariant-loop decreases-loop
+slice-read-scores : tie.Need-bounds-st-47 invariant-loop decreases-loop
 slice-read-scores c =
-    let s = c.before.before.before.before.before.before.before.before.before.before in
-    omega (arith, s.requires.1.0.long, s.well-formed)
+    let s = c in
+    omega (arith, s.requires.1.0.long, s.well_formed)
 
-slice-read-wide : tie.Need-slice-read-wide invariant-loop decreases-loop
+slice-read-wide : tie.Need-bounds-st-4 invariant-loop decreases-loop
 slice-read-wide c =
-    let s = c.before.before.before.before.before.before.before.before.before.before.before in
-    omega (arith, s.requires.1.0.long, s.well-formed)
+    let s = c in
+    omega (arith, s.requires.1.0.long, s.well_formed)
 
-wide-requires : tie.Need-wide-requires invariant-loop decreases-loop
+wide-requires : tie.Need-wide-at-requires invariant-loop decreases-loop
 wide-requires c κs =
     tt
 
-add_at : tie.Need-overflow-add-at invariant-loop decreases-loop
+add_at : tie.Need-overflow_add-at invariant-loop decreases-loop
 add_at c =
-    omega (arith, c.wide.ensures, c.before.slice-known3.given 4)
+    omega (arith, c.wide-at.ensures, c.slice_known-3-1.given 4)
 
-new-requires : tie.Need-new-requires invariant-loop decreases-loop
+new-requires : tie.Need-new-c-requires invariant-loop decreases-loop
 new-requires c κs =
     search rules
 
-loop-holds : tie.Need-loop-init invariant-loop decreases-loop
+loop-holds : tie.Need-loop-i-init invariant-loop decreases-loop
 loop-holds c =
-    let s = c.before.before.before.before.before.before.before.before.before.before.before.before.before in
+    let s = c in
     let K = call s.args.st.now s.args.postings.now s.args.norms.now s.args.ranges.now s.args.inverses.now s.args.live.now s.args.t s.args.heap.now in
-    let F : Fixed K c.before.before.before.before.node_at.result (get_or s.args.st.now (nodeStateWords + 15) 0) (nodeStateWords + c.before.wide.result) = record { words = s.requires.1.0; node = c.before.before.before.before.node_at.ensures; scores-is = refl; at-is = ap (λ (x : ℕ). nodeStateWords + x) c.before.wide.ensures } in
-    (refl, refl, (F, λ k. led-start K _ _ _ F k c.new.result c.new.ensures s.requires.0.0 s.requires.0.1))
+    let F : Fixed K c.node_at-lead.result (get_or s.args.st.now (nodeStateWords + 15) 0) (nodeStateWords + c.wide-at.result) = record { words = s.requires.1.0; node = c.node_at-lead.ensures; scores-is = refl; at-is = ap (λ (x : ℕ). nodeStateWords + x) c.wide-at.ensures } in
+    (refl, refl, (F, λ k. led-start K _ _ _ F k c.new-c.result c.new-c.ensures s.requires.0.0 s.requires.0.1))
 
-lead-document-requires : tie.Need-lead-document-requires invariant-loop decreases-loop
+lead-document-requires : tie.Need-lead_document-doc-requires invariant-loop decreases-loop
 lead-document-requires c κs =
-    let s = c.before.before.before.before.before.before.before.before.before.before.before.before.before.before.before.before in
+    let s = c in
     let K = call s.args.st.now s.args.postings.now s.args.norms.now s.args.ranges.now s.args.inverses.now s.args.live.now s.args.t s.args.heap.now in
-    let a = c.before.before.loop in
+    let a = c.loop-i in
     let F = a.invariant.2.0 in
     let Q = s.requires.1.1 in
     let k : Case K = (record { E = Q.0; places = Q.1; depth = Q.2; ix = Q.5.0; S = Q.5.1; word = Q.5.2; postings-are = Q.3; ranges-are = Q.4; held = Q.5.3 }) in
     let I = a.invariant.2.1 k in
-    let l = c.if1.true in
+    let l = c.loop-i-test.true in
     lead-there K _ _ _ F k a.i l
 
-led-at-requires : tie.Need-led-at-requires invariant-loop decreases-loop
+led-at-requires : tie.Need-led_at-requires invariant-loop decreases-loop
 led-at-requires c κs =
-    let s = c.before.before.before.before.before.before.before.before.before.before.before.before.before.before.before.before.before.before in
+    let s = c in
     let K = call s.args.st.now s.args.postings.now s.args.norms.now s.args.ranges.now s.args.inverses.now s.args.live.now s.args.t s.args.heap.now in
-    let a = c.before.before.before.before.loop in
+    let a = c.loop-i in
     let F = a.invariant.2.0 in
     let Q = s.requires.1.1 in
     let k : Case K = (record { E = Q.0; places = Q.1; depth = Q.2; ix = Q.5.0; S = Q.5.1; word = Q.5.2; postings-are = Q.3; ranges-are = Q.4; held = Q.5.3 }) in
     let I = a.invariant.2.1 k in
-    let l = c.before.before.if1.true in
-    let d = c.before.lead-document in
+    let l = c.loop-i-test.true in
+    let d = c.lead_document-doc in
     led-asks K _ _ _ F k a.st a.c a.heap a.i I l d.result d.ensures
 
-sub-led-score : tie.Need-overflow-sub-led-score invariant-loop decreases-loop
+sub-led-score : tie.Need-slice_bounds-led_score-count invariant-loop decreases-loop
 sub-led-score c =
-    let s = c.before.before.before.before.before.before.before.before.before.before.before.before.before.before.before.before.before.before.before.before.before.before in
+    let s = c in
     let K = call s.args.st.now s.args.postings.now s.args.norms.now s.args.ranges.now s.args.inverses.now s.args.live.now s.args.t s.args.heap.now in
-    let a = c.before.before.before.before.before.before.before.before.loop in
+    let a = c.loop-i in
     let F = a.invariant.2.0 in
     let Q = s.requires.1.1 in
     let k : Case K = (record { E = Q.0; places = Q.1; depth = Q.2; ix = Q.5.0; S = Q.5.1; word = Q.5.2; postings-are = Q.3; ranges-are = Q.4; held = Q.5.3 }) in
     let I = a.invariant.2.1 k in
-    let l = c.before.before.before.before.before.before.if1.true in
-    let d = c.before.before.before.before.before.lead-document in
-    let g = c.before.before.before.led-at in
-    let e = c.if2.true in
-    omega (arith, led-score-fits K _ _ _ F k a.st a.c a.heap a.i I l d.result d.ensures g.result g.new.0 g.ensures e, g.auto.0, a.invariant.0, s.well-formed)
+    let l = c.loop-i-test.true in
+    let d = c.lead_document-doc in
+    let g = c.led_at in
+    let e = c.if-led_at.true in
+    omega (arith, led-score-fits K _ _ _ F k a.st a.c a.heap a.i I l d.result d.ensures g.result g.new.st g.ensures e, g.auto.st, a.invariant.0, s.well_formed)
 
-part-led-score-start : tie.Need-slice-bounds-led-score-start invariant-loop decreases-loop
+part-led-score-start : tie.Need-slice_bounds-led_score-start invariant-loop decreases-loop
 part-led-score-start c =
-    let s = c.before.before.before.before.before.before.before.before.before.before.before.before.before.before.before.before.before.before.before.before.before.before.before in
+    let s = c in
     let K = call s.args.st.now s.args.postings.now s.args.norms.now s.args.ranges.now s.args.inverses.now s.args.live.now s.args.t s.args.heap.now in
-    let a = c.before.before.before.before.before.before.before.before.before.loop in
+    let a = c.loop-i in
     let F = a.invariant.2.0 in
     let Q = s.requires.1.1 in
     let k : Case K = (record { E = Q.0; places = Q.1; depth = Q.2; ix = Q.5.0; S = Q.5.1; word = Q.5.2; postings-are = Q.3; ranges-are = Q.4; held = Q.5.3 }) in
     let I = a.invariant.2.1 k in
-    let l = c.before.before.before.before.before.before.before.if1.true in
-    let d = c.before.before.before.before.before.before.lead-document in
-    let g = c.before.before.before.before.led-at in
-    let e = c.before.if2.true in
-    omega (arith, led-score-fits K _ _ _ F k a.st a.c a.heap a.i I l d.result d.ensures g.result g.new.0 g.ensures e, g.auto.0, a.invariant.0, s.well-formed)
+    let l = c.loop-i-test.true in
+    let d = c.lead_document-doc in
+    let g = c.led_at in
+    let e = c.if-led_at.true in
+    omega (arith, led-score-fits K _ _ _ F k a.st a.c a.heap a.i I l d.result d.ensures g.result g.new.st g.ensures e, g.auto.st, a.invariant.0, s.well_formed)
 
-part-led-score-end : tie.Need-slice-bounds-led-score-end invariant-loop decreases-loop
+part-led-score-end : tie.Need-slice_bounds-led_score-end invariant-loop decreases-loop
 part-led-score-end c =
-    let s = c.before.before.before.before.before.before.before.before.before.before.before.before.before.before.before.before.before.before.before.before.before.before.before in
+    let s = c in
     let K = call s.args.st.now s.args.postings.now s.args.norms.now s.args.ranges.now s.args.inverses.now s.args.live.now s.args.t s.args.heap.now in
-    let a = c.before.before.before.before.before.before.before.before.before.loop in
+    let a = c.loop-i in
     let F = a.invariant.2.0 in
     let Q = s.requires.1.1 in
     let k : Case K = (record { E = Q.0; places = Q.1; depth = Q.2; ix = Q.5.0; S = Q.5.1; word = Q.5.2; postings-are = Q.3; ranges-are = Q.4; held = Q.5.3 }) in
     let I = a.invariant.2.1 k in
-    let l = c.before.before.before.before.before.before.before.if1.true in
-    let d = c.before.before.before.before.before.before.lead-document in
-    let g = c.before.before.before.before.led-at in
-    let e = c.before.if2.true in
-    omega (arith, led-score-fits K _ _ _ F k a.st a.c a.heap a.i I l d.result d.ensures g.result g.new.0 g.ensures e, g.auto.0, a.invariant.0, s.well-formed)
+    let l = c.loop-i-test.true in
+    let d = c.lead_document-doc in
+    let g = c.led_at in
+    let e = c.if-led_at.true in
+    omega (arith, led-score-fits K _ _ _ F k a.st a.c a.heap a.i I l d.result d.ensures g.result g.new.st g.ensures e, g.auto.st, a.invariant.0, s.well_formed)
 
-led-score-requires : tie.Need-led-score-requires invariant-loop decreases-loop
+led-score-requires : tie.Need-led_score-s-requires invariant-loop decreases-loop
 led-score-requires c κs =
-    let s = c.before.before.before.before.before.before.before.before.before.before.before.before.before.before.before.before.before.before.before.before.before.before.before.before in
+    let s = c in
     let K = call s.args.st.now s.args.postings.now s.args.norms.now s.args.ranges.now s.args.inverses.now s.args.live.now s.args.t s.args.heap.now in
-    let a = c.before.before.before.before.before.before.before.before.before.before.loop in
+    let a = c.loop-i in
     let F = a.invariant.2.0 in
     let Q = s.requires.1.1 in
     let k : Case K = (record { E = Q.0; places = Q.1; depth = Q.2; ix = Q.5.0; S = Q.5.1; word = Q.5.2; postings-are = Q.3; ranges-are = Q.4; held = Q.5.3 }) in
     let I = a.invariant.2.1 k in
-    let l = c.before.before.before.before.before.before.before.before.if1.true in
-    let d = c.before.before.before.before.before.before.before.lead-document in
-    let g = c.before.before.before.before.before.led-at in
-    let e = c.before.before.if2.true in
-    led-score-asks K _ _ _ F k a.st a.c a.heap a.i I l d.result d.ensures g.result g.new.0 g.ensures e
+    let l = c.loop-i-test.true in
+    let d = c.lead_document-doc in
+    let g = c.led_at in
+    let e = c.if-led_at.true in
+    led-score-asks K _ _ _ F k a.st a.c a.heap a.i I l d.result d.ensures g.result g.new.st g.ensures e
 
-stepped-requires : tie.Need-stepped-requires invariant-loop decreases-loop
+stepped-requires : tie.Need-stepped-c-requires invariant-loop decreases-loop
 stepped-requires c κs =
-    let s = c.before.before.before.before.before.before.before.before.before.before.before.before.before.before.before.before.before.before.before.before.before.before.before.before.before.before in
+    let s = c in
     let K = call s.args.st.now s.args.postings.now s.args.norms.now s.args.ranges.now s.args.inverses.now s.args.live.now s.args.t s.args.heap.now in
-    let a = c.before.before.before.before.before.before.before.before.before.before.before.before.loop in
+    let a = c.loop-i in
     let F = a.invariant.2.0 in
     let Q = s.requires.1.1 in
     let k : Case K = (record { E = Q.0; places = Q.1; depth = Q.2; ix = Q.5.0; S = Q.5.1; word = Q.5.2; postings-are = Q.3; ranges-are = Q.4; held = Q.5.3 }) in
     let I = a.invariant.2.1 k in
-    let l = c.before.before.before.before.before.before.before.before.before.before.if1.true in
-    let d = c.before.before.before.before.before.before.before.before.before.lead-document in
-    let g = c.before.before.before.before.before.before.before.led-at in
-    let w = c.before.led-score in
-    let e = c.before.before.before.before.if2.true in
-    (led-ready K _ _ _ F k a.st a.c a.heap a.i I d.result (low-at K _ _ _ F k a.st a.c a.heap a.i I l d.result d.ensures), (led-few K _ _ _ F k a.st a.c a.heap a.i I l d.result d.ensures, led-clear K _ _ _ F k a.st a.c a.heap a.i I l d.result d.ensures g.result g.new.0 g.ensures e w.result w.ensures))
+    let l = c.loop-i-test.true in
+    let d = c.lead_document-doc in
+    let g = c.led_at in
+    let w = c.led_score-s in
+    let e = c.if-led_at.true in
+    (led-ready K _ _ _ F k a.st a.c a.heap a.i I d.result (low-at K _ _ _ F k a.st a.c a.heap a.i I l d.result d.ensures), (led-few K _ _ _ F k a.st a.c a.heap a.i I l d.result d.ensures, led-clear K _ _ _ F k a.st a.c a.heap a.i I l d.result d.ensures g.result g.new.st g.ensures e w.result w.ensures))
 
-add-i : tie.Need-overflow-add-i invariant-loop decreases-loop
+add-i : tie.Need-overflow_add-i invariant-loop decreases-loop
 add-i c =
     search rules
 
-loop-less : tie.Need-loop-smaller invariant-loop decreases-loop
+loop-less : tie.Need-loop-i-smaller invariant-loop decreases-loop
 loop-less c =
-    let a = c.before.before.before.before.before.before.before.before.loop in
-    omega (arith, c.before.before.before.before.before.before.if1.true)
+    let a = c.loop-i in
+    omega (arith, c.loop-i-test.true)
 
-loop-again : tie.Need-loop-preserved invariant-loop decreases-loop
+loop-again : tie.Need-loop-i-preserved invariant-loop decreases-loop
 loop-again c =
-    let s = c.before.before.before.before.before.before.before.before.before.before.before.before.before.before.before.before.before.before.before.before.before.before in
+    let s = c in
     let K = call s.args.st.now s.args.postings.now s.args.norms.now s.args.ranges.now s.args.inverses.now s.args.live.now s.args.t s.args.heap.now in
-    let a = c.before.before.before.before.before.before.before.before.loop in
+    let a = c.loop-i in
     let F = a.invariant.2.0 in
-    let l = c.before.before.before.before.before.before.if1.true in
-    let d = c.before.before.before.before.before.lead-document in
-    let g = c.before.before.before.led-at in
+    let l = c.loop-i-test.true in
+    let d = c.lead_document-doc in
+    let g = c.led_at in
     ⊎_elim
-    (λ w. (g.auto.0 ∙ a.invariant.0, ap length w.7 ∙ w.5.kept.1.0 ∙ a.invariant.1, (F, λ k. rw (w.7, w.8) (led-take K _ _ _ F k a.st a.c a.heap a.i (a.invariant.2.1 k) l d.result d.ensures g.result g.new.0 g.ensures w.0.taken w.3.result w.3.ensures w.5.result w.5.last.1.0 w.5.ensures))))
-    (λ w. (g.auto.0 ∙ a.invariant.0, ap length w.1 ∙ a.invariant.1, (F, λ k. rw (w.1, w.2) (led-skip K _ _ _ F k a.st a.c a.heap a.i (a.invariant.2.1 k) l d.result d.ensures g.result g.new.0 g.ensures w.0.left))))
-    c.if2.branch
+    (λ w. (g.auto.st ∙ a.invariant.0, ap length w.heap-is ∙ w.stepped-c.auto.heap ∙ a.invariant.1, (F, λ k. rw (w.heap-is, w.c-is) (led-take K _ _ _ F k a.st a.c a.heap a.i (a.invariant.2.1 k) l d.result d.ensures g.result g.new.st g.ensures w.if-led_at.true w.led_score-s.result w.led_score-s.ensures w.stepped-c.result w.stepped-c.new.heap w.stepped-c.ensures))))
+    (λ w. (g.auto.st ∙ a.invariant.0, ap length w.heap-is ∙ a.invariant.1, (F, λ k. rw (w.heap-is, w.c-is) (led-skip K _ _ _ F k a.st a.c a.heap a.i (a.invariant.2.1 k) l d.result d.ensures g.result g.new.st g.ensures w.if-led_at.false))))
+    c.if-led_at.branch-raw
 
-top-docs-requires : tie.Need-top-docs-requires invariant-loop decreases-loop
+top-docs-requires : tie.Need-top_docs-requires invariant-loop decreases-loop
 top-docs-requires c κs =
-    let s = c.before.before.before.before.before.before.before.before.before.before.before.before.before.before.before.before.before in
+    let s = c in
     let K = call s.args.st.now s.args.postings.now s.args.norms.now s.args.ranges.now s.args.inverses.now s.args.live.now s.args.t s.args.heap.now in
-    let a = c.before.before.before.loop in
+    let a = c.loop-i in
     let F = a.invariant.2.0 in
     let Q = s.requires.1.1 in
     let k : Case K = (record { E = Q.0; places = Q.1; depth = Q.2; ix = Q.5.0; S = Q.5.1; word = Q.5.2; postings-are = Q.3; ranges-are = Q.4; held = Q.5.3 }) in
     let I = a.invariant.2.1 k in
     led-ready K _ _ _ F k a.st a.c a.heap a.i I 2147483647 I.top
 
-same_length : tie.Need-same-length invariant-loop decreases-loop
+same_length : tie.Need-shape_of-st invariant-loop decreases-loop
 same_length c =
-    let a = c.before.before.before.before.before.loop in
+    let a = c.loop-i in
     a.invariant.0
 
-same-length-2 : tie.Need-same-length-2 invariant-loop decreases-loop
+same-length-2 : tie.Need-shape_of-heap invariant-loop decreases-loop
 same-length-2 c =
-    let a = c.before.before.before.before.before.loop in
-    c.before.top-docs.auto.1.0 ∙ a.invariant.1
+    let a = c.loop-i in
+    c.top_docs.auto.heap ∙ a.invariant.1
 
 returns : tie.Need-returns invariant-loop decreases-loop
 returns c =
-    let s = c.before.before.before.before.before.before.before.before.before.before.before.before.before.before.before.before.before.before.before in
+    let s = c in
     let K = call s.args.st.now s.args.postings.now s.args.norms.now s.args.ranges.now s.args.inverses.now s.args.live.now s.args.t s.args.heap.now in
-    let a = c.before.before.before.before.before.loop in
+    let a = c.loop-i in
     let F = a.invariant.2.0 in
-    let d = c.before.top-docs in
+    let d = c.top_docs in
     λ E p k q r ix S o H.
     let j : Case K = record { E = E; places = p; depth = k; ix = ix; S = S; word = o; postings-are = q; ranges-are = r; held = H } in
-    led-done K _ _ _ F j a.st a.c a.heap a.i (a.invariant.2.1 j) c.before.before.before.if1.false d.result d.new.1.0 d.ensures
+    led-done K _ _ _ F j a.st a.c a.heap a.i (a.invariant.2.1 j) c.loop-i-test.false d.result d.new.heap d.ensures
 
-pub collect-led-spec : {M : Type 1} → statement M
-collect-led-spec =
+pub collect_led_spec : {M : Type 1} → statement M
+collect_led_spec =
     tie.close
     (tie.spec
     invariant-loop

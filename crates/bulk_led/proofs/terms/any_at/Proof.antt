@@ -14,118 +14,118 @@ use Rattle.bulk_led.proofs.TermParts.{TermsAt, terms-start, terms-here, term-the
 use Rattle.bulk_led.proofs.terms.any_at.Statement.{statement}
 use Rattle.bulk_led.proofs.terms.any_at.Tie as tie
 
-abbrev invariant-loop : tie.invariant-loop
+abbrev invariant-loop : tie.invariant-loop-at
 invariant-loop kids₀ postings doc at₀ kids at =
     (length kids ≡ length kids₀) × ((E : Lent) → E.postings ≡ postings → (ix : Index) (p : ℕ) (ss : Scorers) (k : ℕ) → TermsOnly ss → PartsHeld E ix p ss k kids₀ doc → TermsAt anyMatches E ix p k ss doc kids at)
 
-abbrev decreases-loop : tie.decreases-loop
+abbrev decreases-loop : tie.decreases-loop-at
 decreases-loop kids₀ postings doc at₀ kids at = length kids - at
 
-loop-holds : tie.Need-loop-init invariant-loop decreases-loop
+loop-holds : tie.Need-loop-at-init invariant-loop decreases-loop
 loop-holds c =
-    let s = c.before.before in
+    let s = c in
     (refl, λ E e ix p ss k t z. terms-start anyMatches E ix p k ss s.args.doc s.args.kids.now t z)
 
-add-end : tie.Need-overflow-add-end invariant-loop decreases-loop
+add-end : tie.Need-overflow_add-end invariant-loop decreases-loop
 add-end c =
-    let s = c.before.before.before.before in
+    let s = c in
     let P = s.requires.1 in
-    let a = c.before.loop in
-    let l = c.loop-test.true in
+    let a = c.loop-at in
+    let l = c.loop-at-test.true in
     let h = terms-here anyMatches P.0 P.2 P.3 P.5 P.4 s.args.doc a.kids a.at (a.invariant.1 P.0 P.1 P.2 P.3 P.4 P.5 P.6 P.7) l in
-    omega (arith, h.fits, a.invariant.0, s.well-formed)
+    omega (arith, h.fits, a.invariant.0, s.well_formed)
 
-mul-advance-term : tie.Need-overflow-mul-advance-term invariant-loop decreases-loop
+mul-advance-term : tie.Need-offset_bounds-kids-at invariant-loop decreases-loop
 mul-advance-term c =
-    let s = c.before.before.before.before in
+    let s = c in
     let P = s.requires.1 in
-    let a = c.before.loop in
-    let l = c.loop-test.true in
+    let a = c.loop-at in
+    let l = c.loop-at-test.true in
     let h = terms-here anyMatches P.0 P.2 P.3 P.5 P.4 s.args.doc a.kids a.at (a.invariant.1 P.0 P.1 P.2 P.3 P.4 P.5 P.6 P.7) l in
-    omega (arith, h.fits, a.invariant.0, s.well-formed)
+    omega (arith, h.fits, a.invariant.0, s.well_formed)
 
-sub-advance-term : tie.Need-overflow-sub-advance-term invariant-loop decreases-loop
+sub-advance-term : tie.Need-slice_bounds-advance_term-count invariant-loop decreases-loop
 sub-advance-term c =
-    let s = c.before.before.before.before in
+    let s = c in
     let P = s.requires.1 in
-    let a = c.before.loop in
-    let l = c.loop-test.true in
+    let a = c.loop-at in
+    let l = c.loop-at-test.true in
     let h = terms-here anyMatches P.0 P.2 P.3 P.5 P.4 s.args.doc a.kids a.at (a.invariant.1 P.0 P.1 P.2 P.3 P.4 P.5 P.6 P.7) l in
-    omega (arith, h.fits, a.invariant.0, s.well-formed)
+    omega (arith, h.fits, a.invariant.0, s.well_formed)
 
-part-advance-term-start : tie.Need-slice-bounds-advance-term-start invariant-loop decreases-loop
+part-advance-term-start : tie.Need-slice_bounds-advance_term-start invariant-loop decreases-loop
 part-advance-term-start c =
-    let s = c.before.before.before.before in
+    let s = c in
     let P = s.requires.1 in
-    let a = c.before.loop in
-    let l = c.loop-test.true in
+    let a = c.loop-at in
+    let l = c.loop-at-test.true in
     let h = terms-here anyMatches P.0 P.2 P.3 P.5 P.4 s.args.doc a.kids a.at (a.invariant.1 P.0 P.1 P.2 P.3 P.4 P.5 P.6 P.7) l in
-    omega (arith, h.fits, a.invariant.0, s.well-formed)
+    omega (arith, h.fits, a.invariant.0, s.well_formed)
 
-part-advance-term-end : tie.Need-slice-bounds-advance-term-end invariant-loop decreases-loop
+part-advance-term-end : tie.Need-slice_bounds-advance_term-end invariant-loop decreases-loop
 part-advance-term-end c =
-    let s = c.before.before.before.before in
+    let s = c in
     let P = s.requires.1 in
-    let a = c.before.loop in
-    let l = c.loop-test.true in
+    let a = c.loop-at in
+    let l = c.loop-at-test.true in
     let h = terms-here anyMatches P.0 P.2 P.3 P.5 P.4 s.args.doc a.kids a.at (a.invariant.1 P.0 P.1 P.2 P.3 P.4 P.5 P.6 P.7) l in
-    omega (arith, h.fits, a.invariant.0, s.well-formed)
+    omega (arith, h.fits, a.invariant.0, s.well_formed)
 
-advance-term-requires : tie.Need-advance-term-requires invariant-loop decreases-loop
+advance-term-requires : tie.Need-advance_term-requires invariant-loop decreases-loop
 advance-term-requires c κs =
-    let s = c.before.before.before.before.before in
+    let s = c in
     let P = s.requires.1 in
-    let a = c.before.before.loop in
-    let l = c.before.loop-test.true in
+    let a = c.loop-at in
+    let l = c.loop-at-test.true in
     let h = terms-here anyMatches P.0 P.2 P.3 P.5 P.4 s.args.doc a.kids a.at (a.invariant.1 P.0 P.1 P.2 P.3 P.4 P.5 P.6 P.7) l in
     (omega (arith, s.requires.0), term-there anyMatches P.0 P.2 P.3 P.5 P.4 s.args.doc a.kids a.at h (a.at + nodeStateWords) refl, (P.0, P.1, P.2, P.3, h.T, P.5, _, term-held anyMatches P.0 P.2 P.3 P.5 P.4 s.args.doc a.kids a.at h (a.at + nodeStateWords) refl))
 
-same_length : tie.Need-same-length invariant-loop decreases-loop
+same_length : tie.Need-shape_of-kids-then-advance_term-doc invariant-loop decreases-loop
 same_length c =
-    let a = c.before.before.before.before.before.before.loop in
-    let d = c.before.before.before.advance-term in
-    back-length a.kids d.new.0 a.at (a.at + nodeStateWords) d.auto.0 ∙ a.invariant.0
+    let a = c.loop-at in
+    let d = c.advance_term in
+    back-length a.kids d.new.st a.at (a.at + nodeStateWords) d.auto.st ∙ a.invariant.0
 
-returns : tie.Need-returns invariant-loop decreases-loop
+returns : tie.Need-returns-then-advance_term-doc invariant-loop decreases-loop
 returns c =
-    let s = c.before.before.before.before.before.before.before.before.before in
-    let a = c.before.before.before.before.before.before.loop in
-    let l = c.before.before.before.before.before.loop-test.true in
-    let d = c.before.before.before.advance-term in
+    let s = c in
+    let a = c.loop-at in
+    let l = c.loop-at-test.true in
+    let d = c.advance_term in
     λ E e ix p ss k t z.
     let h = terms-here anyMatches E ix p k ss s.args.doc a.kids a.at (a.invariant.1 E e ix p ss k t z) l in
-    terms-decided anyMatches E ix p k ss s.args.doc a.kids a.at h (a.at + nodeStateWords) refl d.result d.new.0 d.auto.0 (d.ensures.0 E k e) true (any-hit ix h.f h.T h.g s.args.doc (term-hits anyMatches E ix p k ss s.args.doc a.kids a.at h (a.at + nodeStateWords) refl d.result d.new.0 d.auto.0 (d.ensures.0 E k e) s.requires.0 c.if1.true))
+    terms-decided anyMatches E ix p k ss s.args.doc a.kids a.at h (a.at + nodeStateWords) refl d.result d.new.st d.auto.st (d.ensures.0 E k e) true (any-hit ix h.f h.T h.g s.args.doc (term-hits anyMatches E ix p k ss s.args.doc a.kids a.at h (a.at + nodeStateWords) refl d.result d.new.st d.auto.st (d.ensures.0 E k e) s.requires.0 c.if-advance_term-doc.true))
 
-loop-less : tie.Need-loop-smaller invariant-loop decreases-loop
+loop-less : tie.Need-loop-at-smaller invariant-loop decreases-loop
 loop-less c =
-    let a = c.before.before.before.before.before.before.loop in
-    let d = c.before.before.before.advance-term in
-    omega (arith, back-length a.kids d.new.0 a.at (a.at + nodeStateWords) d.auto.0, c.before.before.before.before.before.loop-test.true)
+    let a = c.loop-at in
+    let d = c.advance_term in
+    omega (arith, back-length a.kids d.new.st a.at (a.at + nodeStateWords) d.auto.st, c.loop-at-test.true)
 
-loop-again : tie.Need-loop-preserved invariant-loop decreases-loop
+loop-again : tie.Need-loop-at-preserved invariant-loop decreases-loop
 loop-again c =
-    let s = c.before.before.before.before.before.before.before.before.before in
-    let a = c.before.before.before.before.before.before.loop in
-    let l = c.before.before.before.before.before.loop-test.true in
-    let d = c.before.before.before.advance-term in (
-      back-length a.kids d.new.0 a.at (a.at + nodeStateWords) d.auto.0 ∙ a.invariant.0,
+    let s = c in
+    let a = c.loop-at in
+    let l = c.loop-at-test.true in
+    let d = c.advance_term in (
+      back-length a.kids d.new.st a.at (a.at + nodeStateWords) d.auto.st ∙ a.invariant.0,
       λ E e ix p ss k t z.
           let h = terms-here anyMatches E ix p k ss s.args.doc a.kids a.at (a.invariant.1 E e ix p ss k t z) l in
-          terms-next anyMatches E ix p k ss s.args.doc a.kids a.at h (a.at + nodeStateWords) refl d.result d.new.0 d.auto.0 (d.ensures.0 E k e) (any-miss ix h.f h.T h.g s.args.doc (term-misses anyMatches E ix p k ss s.args.doc a.kids a.at h (a.at + nodeStateWords) refl d.result d.new.0 d.auto.0 (d.ensures.0 E k e) c.if1.false)),
+          terms-next anyMatches E ix p k ss s.args.doc a.kids a.at h (a.at + nodeStateWords) refl d.result d.new.st d.auto.st (d.ensures.0 E k e) (any-miss ix h.f h.T h.g s.args.doc (term-misses anyMatches E ix p k ss s.args.doc a.kids a.at h (a.at + nodeStateWords) refl d.result d.new.st d.auto.st (d.ensures.0 E k e) c.if-advance_term-doc.false)),
     )
 
-same-length-2 : tie.Need-same-length-2 invariant-loop decreases-loop
-same-length-2 c = c.before.loop.invariant.0
+same-length-2 : tie.Need-shape_of-kids invariant-loop decreases-loop
+same-length-2 c = c.loop-at.invariant.0
 
-returns-2 : tie.Need-returns-2 invariant-loop decreases-loop
+returns-2 : tie.Need-returns invariant-loop decreases-loop
 returns-2 c =
-    let s = c.before.before.before.before in
-    let a = c.before.loop in
+    let s = c in
+    let a = c.loop-at in
     λ E e ix p ss k t z.
-    terms-end anyMatches E ix p k ss s.args.doc a.kids a.at (a.invariant.1 E e ix p ss k t z) c.loop-test.false false (any-end ix s.args.doc)
+    terms-end anyMatches E ix p k ss s.args.doc a.kids a.at (a.invariant.1 E e ix p ss k t z) c.loop-at-test.false false (any-end ix s.args.doc)
 
-pub any-at-spec : {M : Type 1} → statement M
-any-at-spec =
+pub any_at_spec : {M : Type 1} → statement M
+any_at_spec =
     tie.close
     (tie.spec
     invariant-loop
