@@ -11,9 +11,9 @@ ghost use Rattle.searcher.specs.Answers.{searchedNumbers};
 
 use node_state::NodeState;
 use searcher::search::Searched;
-use weight::NODE_STATE_WORDS;
 use std::io;
 use std::io::{BufWriter, Write};
+use weight::NODE_STATE_WORDS;
 
 // One field; leaf 0 in the documents 0, 2 and 3, leaf 1 in 2.
 const FIELDS: [u32; 3] = [0x3f80_0000, 0, 0];
@@ -258,10 +258,10 @@ fn untouched_records(nodes: [NodeState; 8]) -> bool {
 }
 
 // A refused call leaves the lent records as they were.
-fn print_records(out: &mut impl Write, s: Searched, nodes: [NodeState; 8]) -> io::Result<()> {
+fn print_records(out: &mut impl Write, s: Searched, untouched: bool) -> io::Result<()> {
     match s {
         Searched::Refused(_) => {
-            if untouched_records(nodes) {
+            if untouched {
                 writeln!(out, "records as they were")
             } else {
                 writeln!(out, "records changed")
@@ -272,7 +272,7 @@ fn print_records(out: &mut impl Write, s: Searched, nodes: [NodeState; 8]) -> io
 }
 
 // Whoever lends records by reference is proved by hand: this function does no more than show what becomes of them.
-fn search_lent(out: &mut impl Write,
+fn search_lent(
     max_doc: u32,
     fields: &[u32],
     leaves: &[u32],
@@ -290,6 +290,7 @@ fn search_lent(out: &mut impl Write,
     b: &mut [i32],
     ranges: &mut [u32],
     hits: &mut [i64],
+    untouched: &mut bool,
 ) -> Searched
     ensures { (searchedNumbers result ≡ searchAnswer (lent max_doc fields.now leaves.now postings.now positions.now norms.now live.now columns.now values.now) q.now k t (work (nodeStateWords * 8) (length a.old) (length b.old) (length ranges.old)) (length hits.old))
         × (hits.new ≡ searchHits (lent max_doc fields.now leaves.now postings.now positions.now norms.now live.now columns.now values.now) q.now k (work (nodeStateWords * 8) (length a.old) (length b.old) (length ranges.old)) hits.old) }
@@ -299,7 +300,7 @@ fn search_lent(out: &mut impl Write,
         max_doc, fields, leaves, postings, positions, norms, live, columns, values, q, k, t,
         &mut nodes, a, b, ranges, hits,
     );
-    print_records(out, r, nodes)?;
+    *untouched = untouched_records(nodes);
     r
 }
 
@@ -384,14 +385,14 @@ fn with_words(q: &[u32], k: u32, t: u32, hits: &mut [i64]) -> Searched {
     )
 }
 
-fn with_records(out: &mut impl Write, q: &[u32], k: u32, t: u32, hits: &mut [i64]) -> Searched {
+fn with_records(q: &[u32], k: u32, t: u32, hits: &mut [i64], untouched: &mut bool) -> Searched {
     let no_words = [0u32; 0];
     let no_bytes = [0u8; 0];
     let no_live = [0u64; 0];
     let mut starts = [0i32; 0];
     let mut other_starts = [0i32; 0];
     let mut ranges = [0u32; 0];
-    search_lent(out,
+    search_lent(
         4,
         &FIELDS,
         &LEAVES,
@@ -409,7 +410,8 @@ fn with_records(out: &mut impl Write, q: &[u32], k: u32, t: u32, hits: &mut [i64
         &mut other_starts,
         &mut ranges,
         hits,
-    )?
+        untouched,
+    )
 }
 
 // Eight states, as words and as records.
@@ -417,10 +419,16 @@ fn compare(out: &mut impl Write, q: &[u32], k: u32, t: u32) -> io::Result<()> {
     let mut hits = [-1i64; 3];
     let mut more = [-1i64; 3];
     let x = with_words(q, k, t, &mut hits);
-    let y = with_records(out, q, k, t, &mut more)?;
+    let mut untouched = false;
+    let y = with_records(q, k, t, &mut more, &mut untouched);
+    print_records(out, y, untouched)?;
     print_answer(out, x, &hits)?;
     print_answer(out, y, &more)?;
-    print_same(out, same_numbers(numbers(x), numbers(y)), same_codes(hits, more))
+    print_same(
+        out,
+        same_numbers(numbers(x), numbers(y)),
+        same_codes(hits, more),
+    )
 }
 
 fn main(rt: HostRuntime) -> io::Result<()> {
