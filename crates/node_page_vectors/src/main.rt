@@ -145,7 +145,7 @@ fn rubbish() -> NodeState {
 }
 
 // A page, and the records after it.
-#[derive(Drop)]
+#[derive(Clone, Copy)]
 struct Stepped {
     page: Paged,
     records: [NodeState; 8],
@@ -196,7 +196,12 @@ fn next_of(p: Paged) -> u32
     }
 }
 
-fn print_paged(out: &mut impl Write, p: Paged, documents: &[u32], scores: &[u32]) -> io::Result<()> {
+fn print_paged(
+    out: &mut impl Write,
+    p: Paged,
+    documents: &[u32],
+    scores: &[u32],
+) -> io::Result<()> {
     match p {
         Paged::Refused(number) => {
             write!(out, "refused ")?;
@@ -229,7 +234,12 @@ fn same_words(x: [u32; 1], y: [u32; 1]) -> bool {
     x[0] == y[0]
 }
 
-fn print_same(out: &mut impl Write, numbers: bool, documents: bool, scores: bool) -> io::Result<()> {
+fn print_same(
+    out: &mut impl Write,
+    numbers: bool,
+    documents: bool,
+    scores: bool,
+) -> io::Result<()> {
     if numbers {
         if documents {
             if scores {
@@ -240,8 +250,30 @@ fn print_same(out: &mut impl Write, numbers: bool, documents: bool, scores: bool
     writeln!(out, "different")
 }
 
-// A page of one document from the records, and the same page from words that are built anew.
-fn turn(out: &mut impl Write,
+// A page of one document from the records, the records after it, and the same page from words that are built anew.
+#[derive(Clone, Copy)]
+struct Turned {
+    page: Paged,
+    records: [NodeState; 8],
+    documents: [u32; 1],
+    scores: [u32; 1],
+    by_words: Paged,
+    more: [u32; 1],
+    more_scores: [u32; 1],
+}
+
+fn print_turned(out: &mut impl Write, t: Turned) -> io::Result<()> {
+    print_paged(out, t.page, &t.documents, &t.scores)?;
+    print_paged(out, t.by_words, &t.more, &t.more_scores)?;
+    print_same(
+        out,
+        same_numbers(numbers(t.page), numbers(t.by_words)),
+        same_words(t.documents, t.more),
+        same_words(t.scores, t.more_scores),
+    )
+}
+
+fn turn(
     max_doc: u32,
     fields: &[u32],
     leaves: &[u32],
@@ -260,7 +292,7 @@ fn turn(out: &mut impl Write,
     ranges: &mut [u32],
     states: &mut [u32],
     other_ranges: &mut [u32],
-) -> Stepped
+) -> Turned
     requires { resume ≡ true → Standing (lent max_doc fields.now leaves.now postings.now positions.now norms.now live.now columns.now values.now) q.now ranges.old (recordWords records) target }
     ensures { (nextOf result.page ≡ noMoreDocs → ⊥) → Standing (lent max_doc fields.now leaves.now postings.now positions.now norms.now live.now columns.now values.now) q.now ranges.new (recordWords result.records) (nextOf result.page) }
 {
@@ -307,19 +339,20 @@ fn turn(out: &mut impl Write,
         &mut more,
         &mut more_scores,
     );
-    let r = s.page;
-    print_paged(out, r, &documents, &scores)?;
-    print_paged(out, p, &more, &more_scores)?;
-    print_same(out,
-        same_numbers(numbers(r), numbers(p)),
-        same_words(documents, more),
-        same_words(scores, more_scores),
-    )?;
-    s
+    Turned {
+        page: s.page,
+        records: s.records,
+        documents,
+        scores,
+        by_words: p,
+        more,
+        more_scores,
+    }
 }
 
 // The order page by page from the first document, eight pages at most.
-fn page_through(out: &mut impl Write,
+fn page_through(
+    out: &mut impl Write,
     max_doc: u32,
     fields: &[u32],
     leaves: &[u32],
@@ -341,7 +374,7 @@ fn page_through(out: &mut impl Write,
     let mut resume = false;
     let mut pages: usize = 0;
     while pages < 8 {
-        let s = turn(out,
+        let s = turn(
             max_doc,
             fields,
             leaves,
@@ -360,7 +393,8 @@ fn page_through(out: &mut impl Write,
             ranges,
             states,
             other_ranges,
-        )?;
+        );
+        print_turned(out, s)?;
         let page = s.page;
         let next = next_of(page);
         if next == walk::NO_MORE_DOCS {
@@ -385,7 +419,8 @@ fn whole_case(out: &mut impl Write) -> io::Result<()> {
     let mut ranges = [0u32; 0];
     let mut other_ranges = [0u32; 0];
     let mut states = [RUBBISH; 8 * weight::NODE_STATE_WORDS];
-    page_through(out,
+    page_through(
+        out,
         4,
         &FIELDS,
         &LEAVES,
@@ -412,7 +447,8 @@ fn phrase_and_range(out: &mut impl Write) -> io::Result<()> {
     let mut ranges = [RUBBISH; 12];
     let mut other_ranges = [RUBBISH; 12];
     let mut states = [RUBBISH; 8 * weight::NODE_STATE_WORDS];
-    page_through(out,
+    page_through(
+        out,
         6,
         &PHRASE_FIELDS,
         &PHRASE_LEAVES,
