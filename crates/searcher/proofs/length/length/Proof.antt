@@ -4,12 +4,12 @@ use Rattle.meaning.specs.Entries.{lengthAnswer}
 use Rattle.searcher.proofs.length.length.Statement.{statement}
 use Rattle.searcher.proofs.length.length.Tie as tie
 
-byte4-to-int-requires : tie.Need-byte4-to-int-requires
+byte4-to-int-requires : tie.Need-byte4_to_int-requires
 byte4-to-int-requires c κs = search rules
 
 returns : tie.Need-returns
 unfolding lengthAnswer
-returns c = c.byte4-to-int.ensures
+returns c = c.byte4_to_int.ensures
 
 pub length_spec : {M : Type 1} → statement M
 length_spec = tie.close (tie.spec byte4-to-int-requires returns)

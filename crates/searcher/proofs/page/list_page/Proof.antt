@@ -11,119 +11,119 @@ use Rattle.order_check.proofs.Rooms.{states-room, ranges-room}
 use Rattle.searcher.proofs.page.list_page.Statement.{statement}
 use Rattle.searcher.proofs.page.list_page.Tie as tie
 
-slice-aggregate-fill-inverses : tie.Need-slice-aggregate-fill-inverses
+slice-aggregate-fill-inverses : tie.Need-slice_bounds-fill_inverses-end
 slice-aggregate-fill-inverses c =
     search rules
 
-fill-inverses-requires : tie.Need-fill-inverses-requires
+fill-inverses-requires : tie.Need-fill_inverses-requires
 fill-inverses-requires c κs =
-    let s = c.before.before.before.before.before.before.before.before.before.before.before.before.before.before in
+    let s = c in
     let a = s.args in
-    let ix : Index = record { maxDoc = a.max-doc; fields = a.fields.now; leaves = a.leaves.now; postings = a.postings.now; positions = a.positions.now; norms = a.norms.now; live = a.live.now; columns = a.columns.now; values = a.values.now } in
-    let asks = s.pre.1.0 in
+    let ix : Index = record { maxDoc = a.max_doc; fields = a.fields.now; leaves = a.leaves.now; postings = a.postings.now; positions = a.positions.now; norms = a.norms.now; live = a.live.now; columns = a.columns.now; values = a.values.now } in
+    let asks = s.requires.1.0 in
     let q = a.q.now in
-    let lent = leaf-lent a.max-doc a.fields.now a.leaves.now a.postings.now a.positions.now a.norms.now a.live.now a.columns.now a.values.now q asks in
-    ((ix, a.max-doc, asks, lent), refl)
+    let lent = leaf-lent a.max_doc a.fields.now a.leaves.now a.postings.now a.positions.now a.norms.now a.live.now a.columns.now a.values.now q asks in
+    ((ix, a.max_doc, asks, lent), refl)
 
-build-requires : tie.Need-build-requires
+build-requires : tie.Need-build-size-requires
 build-requires c κs =
-    let s = c.before.before.before.before.before.before.before.before.before.before.before.before.before.before.before.before.before.before in
+    let s = c in
     let a = s.args in
-    let ix : Index = record { maxDoc = a.max-doc; fields = a.fields.now; leaves = a.leaves.now; postings = a.postings.now; positions = a.positions.now; norms = a.norms.now; live = a.live.now; columns = a.columns.now; values = a.values.now } in
+    let ix : Index = record { maxDoc = a.max_doc; fields = a.fields.now; leaves = a.leaves.now; postings = a.postings.now; positions = a.positions.now; norms = a.norms.now; live = a.live.now; columns = a.columns.now; values = a.values.now } in
     let q = a.q.now in
     let w : Work = work (length a.states.now) (length a.a.now) (length a.b.now) (length a.ranges.now) in
-    let asks = s.pre.1.0 in
-    let lent = leaf-lent a.max-doc a.fields.now a.leaves.now a.postings.now a.positions.now a.norms.now a.live.now a.columns.now a.values.now q asks in
-    let cols = columns-lent a.max-doc a.fields.now a.leaves.now a.postings.now a.positions.now a.norms.now a.live.now a.columns.now a.values.now q in
-    (ix, asks, lent, cols, states-room ix q w s.pre.1.1, ranges-room ix q w s.pre.1.1)
+    let asks = s.requires.1.0 in
+    let lent = leaf-lent a.max_doc a.fields.now a.leaves.now a.postings.now a.positions.now a.norms.now a.live.now a.columns.now a.values.now q asks in
+    let cols = columns-lent a.max_doc a.fields.now a.leaves.now a.postings.now a.positions.now a.norms.now a.live.now a.columns.now a.values.now q in
+    (ix, asks, lent, cols, states-room ix q w s.requires.1.1, ranges-room ix q w s.requires.1.1)
 
-slice-relend-prefix-list : tie.Need-slice-relend-prefix-list
+slice-relend-prefix-list : tie.Need-slice_bounds-list-end
 slice-relend-prefix-list c =
-    let s = c.before.before.before.before.before.before.before.before.before.before.before.before.before.before.before.before.before.before.before.before.before.before.before in
+    let s = c in
     let a = s.args in
-    let ix : Index = record { maxDoc = a.max-doc; fields = a.fields.now; leaves = a.leaves.now; postings = a.postings.now; positions = a.positions.now; norms = a.norms.now; live = a.live.now; columns = a.columns.now; values = a.values.now } in
-    let p = c.before.before.before.before.build in
-    let asks = s.pre.1.0 in
+    let ix : Index = record { maxDoc = a.max_doc; fields = a.fields.now; leaves = a.leaves.now; postings = a.postings.now; positions = a.positions.now; norms = a.norms.now; live = a.live.now; columns = a.columns.now; values = a.values.now } in
+    let p = c.build-size in
+    let asks = s.requires.1.0 in
     let q = a.q.now in
-    let lent = leaf-lent a.max-doc a.fields.now a.leaves.now a.postings.now a.positions.now a.norms.now a.live.now a.columns.now a.values.now q asks in
-    let cols = columns-lent a.max-doc a.fields.now a.leaves.now a.postings.now a.positions.now a.norms.now a.live.now a.columns.now a.values.now q in
+    let lent = leaf-lent a.max_doc a.fields.now a.leaves.now a.postings.now a.positions.now a.norms.now a.live.now a.columns.now a.values.now q asks in
+    let cols = columns-lent a.max_doc a.fields.now a.leaves.now a.postings.now a.positions.now a.norms.now a.live.now a.columns.now a.values.now q in
     let placed = p.ensures.0 ix asks lent cols in
     placed.within
 
-slice-aggregate-list : tie.Need-slice-aggregate-list
+slice-aggregate-list : tie.Need-slice_bounds-list-end-2
 slice-aggregate-list c =
-    let p = c.before.before.before.before.before.build in
-    let s = c.before.before.before.before.before.before.before.before.before.before.before.before.before.before.before.before.before.before.before.before.before.before.before.before in
+    let p = c.build-size in
+    let s = c in
     let a = s.args in
-    let ix : Index = record { maxDoc = a.max-doc; fields = a.fields.now; leaves = a.leaves.now; postings = a.postings.now; positions = a.positions.now; norms = a.norms.now; live = a.live.now; columns = a.columns.now; values = a.values.now } in
-    let asks = s.pre.1.0 in
+    let ix : Index = record { maxDoc = a.max_doc; fields = a.fields.now; leaves = a.leaves.now; postings = a.postings.now; positions = a.positions.now; norms = a.norms.now; live = a.live.now; columns = a.columns.now; values = a.values.now } in
+    let asks = s.requires.1.0 in
     let q = a.q.now in
-    let lent = leaf-lent a.max-doc a.fields.now a.leaves.now a.postings.now a.positions.now a.norms.now a.live.now a.columns.now a.values.now q asks in
-    let cols = columns-lent a.max-doc a.fields.now a.leaves.now a.postings.now a.positions.now a.norms.now a.live.now a.columns.now a.values.now q in
+    let lent = leaf-lent a.max_doc a.fields.now a.leaves.now a.postings.now a.positions.now a.norms.now a.live.now a.columns.now a.values.now q asks in
+    let cols = columns-lent a.max_doc a.fields.now a.leaves.now a.postings.now a.positions.now a.norms.now a.live.now a.columns.now a.values.now q in
     let placed = p.ensures.0 ix asks lent cols in
-    sym (length-take p.result p.last.1.1.1.1.1.1.0 ∙ omega (arith, placed.within))
+    sym (length-take p.result p.new.states ∙ omega (arith, placed.within))
 
-slice-aggregate-list-2 : tie.Need-slice-aggregate-list-2
+slice-aggregate-list-2 : tie.Need-slice_bounds-list-end-3
 slice-aggregate-list-2 c =
     search rules
 
 list-requires : tie.Need-list-requires
 list-requires c κs =
-    let s = c.before.before.before.before.before.before.before.before.before.before.before.before.before.before.before.before.before.before.before.before.before.before.before.before.before.before.before.before.before.before in
+    let s = c in
     let a = s.args in
-    let ix : Index = record { maxDoc = a.max-doc; fields = a.fields.now; leaves = a.leaves.now; postings = a.postings.now; positions = a.positions.now; norms = a.norms.now; live = a.live.now; columns = a.columns.now; values = a.values.now } in
+    let ix : Index = record { maxDoc = a.max_doc; fields = a.fields.now; leaves = a.leaves.now; postings = a.postings.now; positions = a.positions.now; norms = a.norms.now; live = a.live.now; columns = a.columns.now; values = a.values.now } in
     let q = a.q.now in
     let w : Work = work (length a.states.now) (length a.a.now) (length a.b.now) (length a.ranges.now) in
-    let i = c.before.before.before.before.before.before.before.before.before.before.before.before.before.before.before.fill-inverses in
-    let p = c.before.before.before.before.before.before.before.before.before.before.before.build in
-    let asks = s.pre.1.0 in
-    let lent = leaf-lent a.max-doc a.fields.now a.leaves.now a.postings.now a.positions.now a.norms.now a.live.now a.columns.now a.values.now q asks in
-    let cols = columns-lent a.max-doc a.fields.now a.leaves.now a.postings.now a.positions.now a.norms.now a.live.now a.columns.now a.values.now q in
+    let i = c.fill_inverses in
+    let p = c.build-size in
+    let asks = s.requires.1.0 in
+    let lent = leaf-lent a.max_doc a.fields.now a.leaves.now a.postings.now a.positions.now a.norms.now a.live.now a.columns.now a.values.now q asks in
+    let cols = columns-lent a.max_doc a.fields.now a.leaves.now a.postings.now a.positions.now a.norms.now a.live.now a.columns.now a.values.now q in
     let placed = p.ensures.0 ix asks lent cols in
-    (omega (arith, s.pre.0.0, asks.accepted.documents), s.pre.0.1, (ix, tree_of ix q, 0, walk-held a.max-doc a.fields.now a.leaves.now a.postings.now a.positions.now a.norms.now a.live.now a.columns.now a.values.now q w asks s.pre.1.1 i.last.1.1.1.0 (i.ensures.0 ix a.max-doc asks lent) p.last.1.1.1.1.1.1.1.0 p.last.1.1.1.1.1.1.0 p.result placed _))
+    (omega (arith, s.requires.0.0, asks.accepted.documents), s.requires.0.1, (ix, tree_of ix q, 0, walk-held a.max_doc a.fields.now a.leaves.now a.postings.now a.positions.now a.norms.now a.live.now a.columns.now a.values.now q w asks s.requires.1.1 i.new.table (i.ensures.0 ix a.max_doc asks lent) p.new.ranges p.new.states p.result placed _))
 
-same_length : tie.Need-same-length
+same_length : tie.Need-shape_of-states
 same_length c =
     search rules
 
-same-length-2 : tie.Need-same-length-2
+same-length-2 : tie.Need-shape_of-a
 same-length-2 c =
     search rules
 
-same-length-3 : tie.Need-same-length-3
+same-length-3 : tie.Need-shape_of-b
 same-length-3 c =
     search rules
 
-same-length-4 : tie.Need-same-length-4
+same-length-4 : tie.Need-shape_of-ranges
 same-length-4 c =
     search rules
 
-same-length-5 : tie.Need-same-length-5
+same-length-5 : tie.Need-shape_of-documents
 same-length-5 c =
     search rules
 
-same-length-6 : tie.Need-same-length-6
+same-length-6 : tie.Need-shape_of-scores
 same-length-6 c =
     search rules
 
 returns : tie.Need-returns
 returns c =
-    let s = c.before.before.before.before.before.before.before.before.before.before.before.before.before.before.before.before.before.before.before.before.before.before.before.before.before.before.before.before.before.before.before.before.before.before.before.before.before.before.before in
+    let s = c in
     let a = s.args in
-    let ix : Index = record { maxDoc = a.max-doc; fields = a.fields.now; leaves = a.leaves.now; postings = a.postings.now; positions = a.positions.now; norms = a.norms.now; live = a.live.now; columns = a.columns.now; values = a.values.now } in
+    let ix : Index = record { maxDoc = a.max_doc; fields = a.fields.now; leaves = a.leaves.now; postings = a.postings.now; positions = a.positions.now; norms = a.norms.now; live = a.live.now; columns = a.columns.now; values = a.values.now } in
     let q = a.q.now in
     let w : Work = work (length a.states.now) (length a.a.now) (length a.b.now) (length a.ranges.now) in
-    let i = c.before.before.before.before.before.before.before.before.before.before.before.before.before.before.before.before.before.before.before.before.before.before.before.before.fill-inverses in
-    let p = c.before.before.before.before.before.before.before.before.before.before.before.before.before.before.before.before.before.before.before.before.build in
-    let asks = s.pre.1.0 in
-    let lent = leaf-lent a.max-doc a.fields.now a.leaves.now a.postings.now a.positions.now a.norms.now a.live.now a.columns.now a.values.now q asks in
-    let cols = columns-lent a.max-doc a.fields.now a.leaves.now a.postings.now a.positions.now a.norms.now a.live.now a.columns.now a.values.now q in
+    let i = c.fill_inverses in
+    let p = c.build-size in
+    let asks = s.requires.1.0 in
+    let lent = leaf-lent a.max_doc a.fields.now a.leaves.now a.postings.now a.positions.now a.norms.now a.live.now a.columns.now a.values.now q asks in
+    let cols = columns-lent a.max_doc a.fields.now a.leaves.now a.postings.now a.positions.now a.norms.now a.live.now a.columns.now a.values.now q in
     let placed = p.ensures.0 ix asks lent cols in
-    let k = c.before.before.before.before.before.before.before.before.list in
-    page-full ix q a.target a.documents.now a.scores.now k.last.1.1.1.1.1.1.1.1.1.1.1.1.0 k.last.1.1.1.1.1.1.1.1.1.1.1.1.1.0 k.result (k.ensures ix (tree_of ix q) 0 (walk-held a.max-doc a.fields.now a.leaves.now a.postings.now a.positions.now a.norms.now a.live.now a.columns.now a.values.now q w asks s.pre.1.1 i.last.1.1.1.0 (i.ensures.0 ix a.max-doc asks lent) p.last.1.1.1.1.1.1.1.0 p.last.1.1.1.1.1.1.0 p.result placed _)).0
+    let k = c.list in
+    page-full ix q a.target a.documents.now a.scores.now k.new.docs k.new.bits k.result (k.ensures ix (tree_of ix q) 0 (walk-held a.max_doc a.fields.now a.leaves.now a.postings.now a.positions.now a.norms.now a.live.now a.columns.now a.values.now q w asks s.requires.1.1 i.new.table (i.ensures.0 ix a.max_doc asks lent) p.new.ranges p.new.states p.result placed _)).0
 
-pub list-page-spec : {M : Type 1} → statement M
-list-page-spec =
+pub list_page_spec : {M : Type 1} → statement M
+list_page_spec =
     tie.close
     (tie.spec
     slice-aggregate-fill-inverses
