@@ -1,8 +1,13 @@
 // The documents of ranges over columns with every kind of value, between every two ends of every kind;
 // crates/doc_values_vectors/stdout has what the unchanged Rust lists, to which NaN values are absent; with a NaN end nothing
 // (harness, `record`).
+#![tactic(auto)]
+
 ghost use Rattle.std.specs.Prelude.{◌≡◌, ◌<◌, ◌≤◌};
 ghost use Rattle.doc_values_vectors.specs.Columns.{Columns};
+
+use std::io;
+use std::io::{BufWriter, Write};
 
 // Values: present or not, the low half and the high half. As i64 the least, the largest and others around 0; as f64 zeros,
 // subnormals, ones, infinities and NaNs of both signs. Two are absent, one of them with a pattern.
@@ -78,6 +83,7 @@ fn end_of(kind: u32, end: u64) -> u64
 }
 
 fn print_range(
+    out: &mut impl Write,
     max_doc: u32,
     columns: &[u32],
     values: &[u32],
@@ -85,7 +91,7 @@ fn print_range(
     kinds: u32,
     lower: u64,
     upper: u64,
-)
+) -> io::Result<()>
     requires columns { Columns max_doc columns.now values.now column }
     requires kinds_bound { kinds < 9 }
 {
@@ -102,7 +108,7 @@ fn print_range(
         high,
         &mut output,
     );
-    vectors::print_list(&output, n);
+    vectors::print_list(out, &output, n)
 }
 
 // Whether a kind is asked for two ends: those with an unbounded end for equal ones only.
@@ -116,7 +122,15 @@ fn is_asked(kinds: u32, equal: bool) -> bool {
     kinds >= 3
 }
 
-fn print_kinds(max_doc: u32, columns: &[u32], values: &[u32], column: u32, i: usize, j: usize)
+fn print_kinds(
+    out: &mut impl Write,
+    max_doc: u32,
+    columns: &[u32],
+    values: &[u32],
+    column: u32,
+    i: usize,
+    j: usize,
+) -> io::Result<()>
     requires columns { Columns max_doc columns.now values.now column }
     requires i_bound { i < 18 }
     requires j_bound { j < 18 }
@@ -126,41 +140,59 @@ fn print_kinds(max_doc: u32, columns: &[u32], values: &[u32], column: u32, i: us
     let mut kinds: u32 = 0;
     while kinds < 9 {
         if is_asked(kinds, i == j) {
-            print_range(max_doc, columns, values, column, kinds, lower, upper);
+            print_range(out, max_doc, columns, values, column, kinds, lower, upper)?;
         }
         kinds += 1;
     }
+    Ok(())
 }
 
-fn print_from(max_doc: u32, columns: &[u32], values: &[u32], column: u32, i: usize)
+fn print_from(
+    out: &mut impl Write,
+    max_doc: u32,
+    columns: &[u32],
+    values: &[u32],
+    column: u32,
+    i: usize,
+) -> io::Result<()>
     requires columns { Columns max_doc columns.now values.now column }
     requires i_bound { i < 18 }
 {
     let mut j = 0;
     while j < 18 {
-        print_kinds(max_doc, columns, values, column, i, j);
+        print_kinds(out, max_doc, columns, values, column, i, j)?;
         j += 1;
     }
+    Ok(())
 }
 
-fn print_column(max_doc: u32, columns: &[u32], values: &[u32], column: u32)
+fn print_column(
+    out: &mut impl Write,
+    max_doc: u32,
+    columns: &[u32],
+    values: &[u32],
+    column: u32,
+) -> io::Result<()>
     requires { Columns max_doc columns.now values.now column }
 {
     let mut i = 0;
     while i < 18 {
-        print_from(max_doc, columns, values, column, i);
+        print_from(out, max_doc, columns, values, column, i)?;
         i += 1;
     }
+    Ok(())
 }
 
 // The values as one column of eighteen documents, of either type, and as three columns of six.
-fn main() {
+fn main(rt: HostRuntime) -> io::Result<()> {
+    let mut out = BufWriter::new(rt.alloc(), io::writer(&rt))?;
     let i64s = [0u32];
     let f64s = [1u32];
     let three = [0u32, 1, 0];
-    print_column(18, &i64s, &VALUES, 0);
-    print_column(18, &f64s, &VALUES, 0);
-    print_column(6, &three, &VALUES, 0);
-    print_column(6, &three, &VALUES, 1);
-    print_column(6, &three, &VALUES, 2);
+    print_column(&mut out, 18, &i64s, &VALUES, 0)?;
+    print_column(&mut out, 18, &f64s, &VALUES, 0)?;
+    print_column(&mut out, 6, &three, &VALUES, 0)?;
+    print_column(&mut out, 6, &three, &VALUES, 1)?;
+    print_column(&mut out, 6, &three, &VALUES, 2)?;
+    out.flush()
 }

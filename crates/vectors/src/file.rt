@@ -1,11 +1,25 @@
 // A file of little-endian words: the words, and the lists that a place in it names.
 ghost use Rattle.std.specs.Prelude.{◌≡◌};
 
+use std::rt::Files;
+use std::{fs, io};
+
 // A word's number as a length, with no proof at the caller.
 pub fn size(x: u32) -> usize
     ensures { result ≡ x }
 {
     x as usize
+}
+
+// The bytes of a file. What is missing or unreadable is told of on standard error, and has none.
+pub fn read_bytes(rt: &(impl Files + AllocGlobal + Eprint), path: &str) -> io::Result<Vec<u8>> {
+    match fs::read(rt, path) {
+        Ok(bytes) => Ok(bytes),
+        Err(error) => {
+            eprintln!(rt; "{path}: {error}")?;
+            Ok(Vec::new(rt.alloc()))
+        }
+    }
 }
 
 fn word_of(a: u8, b: u8, c: u8, d: u8) -> u32 {

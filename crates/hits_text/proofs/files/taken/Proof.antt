@@ -2,9 +2,6 @@ use Rattle.hits_text.specs.Text.{taken}
 use borrow.Author.Rules.{rules}
 use Rattle.hits_text.proofs.files.taken.Statement.{statement}
 use Rattle.hits_text.proofs.files.taken.Tie as tie
-use Rattle.hits_text.proofs.files.taken.Reads as reads
-use Rattle.hits_text.proofs.files.taken.Lts as lts
-use Rattle.hits_text.proofs.files.whole.Reads as whole-reads
 
 -- src/report.rt:35:11
 whole-requires : tie.Need-whole-requires
@@ -47,8 +44,8 @@ returns : tie.Need-returns
 unfolding taken
 returns c = cc
 
-pub taken-spec : {M : Type 1} → statement M
-taken-spec =
+pub taken_spec : {M : Type 1} → statement M
+taken_spec =
     tie.close
     (tie.spec
     whole-requires

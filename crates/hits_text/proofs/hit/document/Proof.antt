@@ -19,15 +19,15 @@ low c = low-is c.args.code c.ranges.code
 same : (c : tie.Start) → to_z w64 (of_z w64 c.args.code) ≡ c.args.code
 same c = to_z-of_z w64 c.args.code c.ranges.code
 
-returns : tie.Need-returns
+returns : tie.Need-returns-then-code-gt2147483647
 unfolding toDoc
-returns c = let h = rw (low c.before) at c.if1.true in omega (arith, ltb-true 2147483647 (low_word c.before.args.code) h)
+returns c = let h = rw (low c.before) at c.if-code-gt2147483647.true in omega (arith, ltb-true 2147483647 (low_word c.args.code) h)
 
-to-doc-requires : tie.Need-to-doc-requires
-to-doc-requires c κs = let h = rw (low c.before) at c.if1.false in omega (arith, ap low_word (same c.before), ltb-false 2147483647 (low_word c.before.args.code) h)
+to-doc-requires : tie.Need-to_doc-requires
+to-doc-requires c κs = let h = rw (low c.before) at c.if-code-gt2147483647.false in omega (arith, ap low_word (same c.before), ltb-false 2147483647 (low_word c.args.code) h)
 
-returns-2 : tie.Need-returns-2
-returns-2 c = c.to-doc.ensures ∙ ap toDoc (same c.before.before)
+returns-2 : tie.Need-returns
+returns-2 c = c.to_doc.ensures ∙ ap toDoc (same c.before.before)
 
-pub document-spec : {M : Type 1} → statement M
-document-spec = tie.close (tie.spec returns to-doc-requires returns-2)
+pub document_spec : {M : Type 1} → statement M
+document_spec = tie.close (tie.spec returns to-doc-requires returns-2)

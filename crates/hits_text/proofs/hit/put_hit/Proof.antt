@@ -20,61 +20,61 @@ use Rattle.hits_text.proofs.hit.put_hit.Tie as tie
 same : (s : tie.Start) → to_z w64 (of_z w64 s.args.code) ≡ s.args.code
 same s = to_z-of_z w64 s.args.code s.ranges.code
 
-document-is : (c : tie.After-document) → c.document.result ≡ toDoc c.before.before.args.code
+document-is : (c : tie.After-document) → c.document.result ≡ toDoc c.args.code
 document-is c = c.document.ensures ∙ ap toDoc (same c.before.before)
 
 -- a document has at most 20 digits
 few : (c : tie.After-document) → length (decimal c.document.result) ≤ 20
-few c = omega (arith, ap (λ (n : ℕ). length (decimal n)) (document-is c), document-short c.before.before.args.code)
+few c = omega (arith, ap (λ (n : ℕ). length (decimal n)) (document-is c), document-short c.args.code)
 
 document-requires : tie.Need-document-requires
 document-requires c κs = search rules
 
-cast-put-decimal : tie.Need-overflow-cast-put-decimal
+cast-put-decimal : tie.Need-overflow_cast-document
 cast-put-decimal c = search rules
 
-put-decimal-requires : tie.Need-put-decimal-requires
-put-decimal-requires c κs = omega (arith, few c.before, c.before.before.before.requires)
+put-decimal-requires : tie.Need-put_decimal-blank-requires
+put-decimal-requires c κs = omega (arith, few c.before, c.requires)
 
-put-byte-requires : tie.Need-put-byte-requires
+put-byte-requires : tie.Need-put_byte-bits-requires
 put-byte-requires c κs =
     let d = c.before.before.before in
-    let s = d.before.before.before.before in
-    omega (arith, few d.before.before, s.requires, d.put-decimal.ensures.after, d.put-decimal.auto.1.0)
+    let s = d in
+    omega (arith, few d.before.before, s.requires, d.put_decimal-blank.ensures.after, d.put_decimal-blank.auto.out)
 
-score-bits-requires : tie.Need-score-bits-requires
+score-bits-requires : tie.Need-score_bits-requires
 score-bits-requires c κs = search rules
 
-cast-put-hex : tie.Need-overflow-cast-put-hex
+cast-put-hex : tie.Need-overflow_cast-score_bits
 cast-put-hex c = search rules
 
-put-hex-requires : tie.Need-put-hex-requires
+put-hex-requires : tie.Need-put_hex-end-requires
 put-hex-requires c κs =
     let b = c.before.before.before.before in
     let d = b.before.before.before.before in
-    let s = d.before.before.before.before in
-    omega (arith, few d.before.before, s.requires, d.put-decimal.ensures.after, d.put-decimal.auto.1.0, b.put_byte.ensures.after, b.put_byte.auto.1.0)
+    let s = d in
+    omega (arith, few d.before.before, s.requires, d.put_decimal-blank.ensures.after, d.put_decimal-blank.auto.out, b.put_byte-bits.ensures.after, b.put_byte-bits.auto.out)
 
-put-byte-requires-2 : tie.Need-put-byte-requires-2
+put-byte-requires-2 : tie.Need-put_byte-requires
 put-byte-requires-2 c κs =
     let h = c.before.before.before in
     let b = h.before.before.before.before.before in
     let d = b.before.before.before.before in
-    let s = d.before.before.before.before in
+    let s = d in
     omega (
       arith,
       few d.before.before,
       s.requires,
-      d.put-decimal.ensures.after,
-      d.put-decimal.auto.1.0,
-      b.put_byte.ensures.after,
-      b.put_byte.auto.1.0,
-      h.put-hex.ensures.after,
-      length-hex 8 h.before.before.score-bits.result,
-      h.put-hex.auto.1.1.0,
+      d.put_decimal-blank.ensures.after,
+      d.put_decimal-blank.auto.out,
+      b.put_byte-bits.ensures.after,
+      b.put_byte-bits.auto.out,
+      h.put_hex-end.ensures.after,
+      length-hex 8 h.score_bits.result,
+      h.put_hex-end.auto.out,
     )
 
-same_length : tie.Need-same-length
+same_length : tie.Need-shape_of-out
 same_length c = search rules
 
 returns : tie.Need-returns
@@ -85,17 +85,17 @@ returns c =
     let d = b.before.before.before.before in
     let s = d.before.before.before.before in
     let out = s.args.out.now in
-    let text = hex8 h.before.before.score-bits.result ++ (10 ∷ []) in
-    let hex = put-more b.put_byte.new.1.0 b.put_byte.result (hex8 h.before.before.score-bits.result) (10 ∷ []) h.put-hex.result e.put-byte2.result h.put-hex.new.1.1.0 e.put-byte2.new.1.0 h.put-hex.ensures e.put-byte2.ensures in
-    let blank = put-more d.put-decimal.new.1.0 d.put-decimal.result (32 ∷ []) text b.put_byte.result e.put-byte2.result b.put_byte.new.1.0 e.put-byte2.new.1.0 b.put_byte.ensures hex in
-    let all = put-more out s.args.at (decimal d.before.before.document.result) (32 ∷ text) d.put-decimal.result e.put-byte2.result d.put-decimal.new.1.0 e.put-byte2.new.1.0 d.put-decimal.ensures blank in
-    let line = put_same out s.args.at (decimal d.before.before.document.result ++ (32 ∷ text)) (hitLine s.args.code) e.put-byte2.result e.put-byte2.new.1.0
-    (line-is s.args.code d.before.before.document.result h.before.before.score-bits.result (document-is d.before.before) (h.before.before.score-bits.ensures ∙ ap scoreBits (same s)))
+    let text = hex8 h.score_bits.result ++ (10 ∷ []) in
+    let hex = put-more b.put_byte-bits.new.out b.put_byte-bits.result (hex8 h.score_bits.result) (10 ∷ []) h.put_hex-end.result e.put_byte.result h.put_hex-end.new.out e.put_byte.new.out h.put_hex-end.ensures e.put_byte.ensures in
+    let blank = put-more d.put_decimal-blank.new.out d.put_decimal-blank.result (32 ∷ []) text b.put_byte-bits.result e.put_byte.result b.put_byte-bits.new.out e.put_byte.new.out b.put_byte-bits.ensures hex in
+    let all = put-more out s.args.at (decimal d.document.result) (32 ∷ text) d.put_decimal-blank.result e.put_byte.result d.put_decimal-blank.new.out e.put_byte.new.out d.put_decimal-blank.ensures blank in
+    let line = put_same out s.args.at (decimal d.document.result ++ (32 ∷ text)) (hitLine s.args.code) e.put_byte.result e.put_byte.new.out
+    (line-is s.args.code d.document.result h.score_bits.result (document-is d.before.before) (h.score_bits.ensures ∙ ap scoreBits (same s)))
     all in
     (line, omega (arith, line.after, line-short s.args.code))
 
-pub put-hit-spec : {M : Type 1} → statement M
-put-hit-spec =
+pub put_hit_spec : {M : Type 1} → statement M
+put_hit_spec =
     tie.close
     (tie.spec
     document-requires

@@ -16,60 +16,60 @@ use Rattle.hits_text.proofs.Lines.{lines_next}
 use Rattle.hits_text.proofs.hit.put_hits.Statement.{statement}
 use Rattle.hits_text.proofs.hit.put_hits.Tie as tie
 
-abbrev invariant-loop : tie.invariant-loop
+abbrev invariant-loop : tie.invariant-loop-i
 invariant-loop codes out₀ at next₀ i₀ out next i =
     Put out₀ at (hitLines (take i codes)) next out × (length out ≡ length out₀) × (i ≤ length codes) × (next ≤ at + 30 * i)
 
-abbrev decreases-loop : tie.decreases-loop
+abbrev decreases-loop : tie.decreases-loop-i
 decreases-loop codes out₀ at next₀ i₀ out next i = length codes - i
 
-loop-holds : tie.Need-loop-init invariant-loop decreases-loop
+loop-holds : tie.Need-loop-i-init invariant-loop decreases-loop
 unfolding hitLines
-loop-holds c = (put-none c.before.args.out.now c.before.args.at, refl, omega arith, omega arith)
+loop-holds c = (put-none c.args.out.now c.args.at, refl, omega arith, omega arith)
 
-mul-put-hit : tie.Need-overflow-mul-put-hit invariant-loop decreases-loop
+mul-put-hit : tie.Need-offset_bounds-codes-i invariant-loop decreases-loop
 mul-put-hit c = search rules
 
-shared-slice-copy-out-put-hit : tie.Need-shared-slice-copy-out-put-hit invariant-loop decreases-loop
+shared-slice-copy-out-put-hit : tie.Need-bounds-codes-i invariant-loop decreases-loop
 shared-slice-copy-out-put-hit c = search rules
 
-put-hit-requires : tie.Need-put-hit-requires invariant-loop decreases-loop
+put-hit-requires : tie.Need-put_hit-next-requires invariant-loop decreases-loop
 put-hit-requires c κs =
-    let i = c.before.before in
-    let l = i.before in
-    omega (arith, l.loop.invariant.1, l.loop.invariant.3, i.loop-test.true, l.before.before.requires)
+    let i = c in
+    let l = i in
+    omega (arith, l.loop-i.invariant.1, l.loop-i.invariant.3, i.loop-i-test.true, l.requires)
 
-add-i : tie.Need-overflow-add-i invariant-loop decreases-loop
+add-i : tie.Need-overflow_add-i invariant-loop decreases-loop
 add-i c = search rules
 
-loop-less : tie.Need-loop-smaller invariant-loop decreases-loop
+loop-less : tie.Need-loop-i-smaller invariant-loop decreases-loop
 loop-less c = search rules
 
-loop-again : tie.Need-loop-preserved invariant-loop decreases-loop
+loop-again : tie.Need-loop-i-preserved invariant-loop decreases-loop
 loop-again c =
-    let p = c.before.before in
-    let i = p.before.before.before in
-    let l = i.before in
-    let s = l.before.before in (
-      lines_next s.args.out.now s.args.at s.args.codes.now l.loop.i l.loop.next p.put-hit.result l.loop.out p.put-hit.new.1.0 (to_z w64 (of_z w64 (get_or s.args.codes.now l.loop.i (pos 0)))) i.loop-test.true (to_z-of_z w64 (get_or s.args.codes.now l.loop.i (pos 0)) (record { sfits = p.before.before.put-hit-arg.given })) l.loop.invariant.0 p.put-hit.ensures.0,
-      p.put-hit.auto.1.0 ∙ l.loop.invariant.1,
-      omega (arith, i.loop-test.true),
-      omega (arith, l.loop.invariant.3, p.put-hit.ensures.1),
+    let p = c in
+    let i = p in
+    let l = i in
+    let s = l in (
+      lines_next s.args.out.now s.args.at s.args.codes.now l.loop-i.i l.loop-i.next p.put_hit-next.result l.loop-i.out p.put_hit-next.new.out (to_z w64 (of_z w64 (get_or s.args.codes.now l.loop-i.i (pos 0)))) i.loop-i-test.true (to_z-of_z w64 (get_or s.args.codes.now l.loop-i.i (pos 0)) (record { sfits = p.put_hit-arg-1.given })) l.loop-i.invariant.0 p.put_hit-next.ensures.0,
+      p.put_hit-next.auto.out ∙ l.loop-i.invariant.1,
+      omega (arith, i.loop-i-test.true),
+      omega (arith, l.loop-i.invariant.3, p.put_hit-next.ensures.1),
     )
 
-same_length : tie.Need-same-length invariant-loop decreases-loop
-same_length c = c.before.loop.invariant.1
+same_length : tie.Need-shape_of-out invariant-loop decreases-loop
+same_length c = c.loop-i.invariant.1
 
 returns : tie.Need-returns invariant-loop decreases-loop
 returns c =
-    let l = c.before in
-    let s = l.before.before in
-    put_same s.args.out.now s.args.at (hitLines (take l.loop.i s.args.codes.now)) (hitLines s.args.codes.now) l.loop.next l.loop.out
-    (ap hitLines (take_all l.loop.i s.args.codes.now c.loop-test.false))
-    l.loop.invariant.0
+    let l = c in
+    let s = l in
+    put_same s.args.out.now s.args.at (hitLines (take l.loop-i.i s.args.codes.now)) (hitLines s.args.codes.now) l.loop-i.next l.loop-i.out
+    (ap hitLines (take_all l.loop-i.i s.args.codes.now c.loop-i-test.false))
+    l.loop-i.invariant.0
 
-pub put-hits-spec : {M : Type 1} → statement M
-put-hits-spec =
+pub put_hits_spec : {M : Type 1} → statement M
+put_hits_spec =
     tie.close
     (tie.spec
     invariant-loop

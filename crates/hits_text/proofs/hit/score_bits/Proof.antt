@@ -14,14 +14,14 @@ use Rattle.hits_text.proofs.hit.score_bits.Tie as tie
 high : (c : tie.Start) → to_z w32 (of_z w32 (to_z w64 (of_z w64 (shr_z (to_z w64 (of_z w64 c.args.code)) 4294967296)))) ≡ shr_z c.args.code 4294967296
 high c = ap (λ (z : ℤ). to_z w32 (of_z w32 z)) (high_is c.args.code c.ranges.code) ∙ to_z-of_z w32 (shr_z c.args.code 4294967296) (high_fits c.args.code c.ranges.code)
 
-cast-sortable-bits : tie.Need-overflow-cast-sortable-bits
+cast-sortable-bits : tie.Need-overflow_cast-code
 cast-sortable-bits c = subst (SFits w32) (sym (high_is c.args.code c.ranges.code)) (high_fits c.args.code c.ranges.code)
 
-sortable-bits-requires : tie.Need-sortable-bits-requires
+sortable-bits-requires : tie.Need-sortable_bits-requires
 sortable-bits-requires c κs = search rules
 
 returns : tie.Need-returns
-returns c = c.sortable-bits.ensures ∙ ap sortableBits (high c.before)
+returns c = c.sortable_bits.ensures ∙ ap sortableBits (high c.before)
 
-pub score-bits-spec : {M : Type 1} → statement M
-score-bits-spec = tie.close (tie.spec cast-sortable-bits sortable-bits-requires returns)
+pub score_bits_spec : {M : Type 1} → statement M
+score_bits_spec = tie.close (tie.spec cast-sortable-bits sortable-bits-requires returns)

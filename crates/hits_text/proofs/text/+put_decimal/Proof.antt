@@ -33,62 +33,62 @@ calls t =
     (digit-reads.Asked, digit-reads.Learnt, put-byte-reads.Asked, put-byte-reads.Learnt, put-decimal-below t, put-decimal.Post)
 
 digit-requires : (t : ℕ) → put-decimal-lts.Need-digit-requires (calls t) (put-decimal-at t) put-decimal.Post
-digit-requires t c κs = omega (arith, c.if1.true)
+digit-requires t c κs = omega (arith, c.if-n-lt10.true)
 
-put-byte-requires : (t : ℕ) → put-decimal-lts.Need-put-byte-requires (calls t) (put-decimal-at t) put-decimal.Post
+put-byte-requires : (t : ℕ) → put-decimal-lts.Need-put_byte-requires (calls t) (put-decimal-at t) put-decimal.Post
 put-byte-requires t c κs =
-    let i = c.before.before in
-    let s = i.before.before in
-    omega (arith, s.requires.1, ap length (decimal-one s.args.n i.if1.true))
+    let i = c in
+    let s = i in
+    omega (arith, s.requires.1, ap length (decimal-one s.args.n i.if-n-lt10.true))
 
-same_length : (t : ℕ) → put-decimal-lts.Need-same-length (calls t) (put-decimal-at t) put-decimal.Post
-same_length t c = c.before.before.put_byte.auto.1.0
+same_length : (t : ℕ) → put-decimal-lts.Need-shape_of-out-then-n-lt10 (calls t) (put-decimal-at t) put-decimal.Post
+same_length t c = c.put_byte.auto.out
 
-returns : (t : ℕ) → put-decimal-lts.Need-returns (calls t) (put-decimal-at t) put-decimal.Post
+returns : (t : ℕ) → put-decimal-lts.Need-returns-then-n-lt10 (calls t) (put-decimal-at t) put-decimal.Post
 returns t c =
-    let p = c.before.before in
-    let i = p.before.before.before in
-    let s = i.before.before in
-    put_same s.args.out.now s.args.at (p.before.before.digit.result ∷ []) (decimal s.args.n) p.put_byte.result p.put_byte.new.1.0
-    (ap (λ (d : ℕ). d ∷ []) p.before.before.digit.ensures ∙ sym (decimal-one s.args.n i.if1.true))
+    let p = c in
+    let i = p in
+    let s = i in
+    put_same s.args.out.now s.args.at (p.digit.result ∷ []) (decimal s.args.n) p.put_byte.result p.put_byte.new.out
+    (ap (λ (d : ℕ). d ∷ []) p.digit.ensures ∙ sym (decimal-one s.args.n i.if-n-lt10.true))
     p.put_byte.ensures
 
-put-decimal-requires : (t : ℕ) → put-decimal-lts.Need-put-decimal-requires (calls t) (put-decimal-at t) put-decimal.Post
+put-decimal-requires : (t : ℕ) → put-decimal-lts.Need-put_decimal-last-requires (calls t) (put-decimal-at t) put-decimal.Post
 put-decimal-requires t c κs =
-    let i = c.before in
-    let s = i.before.before in
-    (omega (arith, s.requires.0, i.if1.false), omega (arith, s.requires.1, length_more s.args.n i.if1.false))
+    let i = c in
+    let s = i in
+    (omega (arith, s.requires.0, i.if-n-lt10.false), omega (arith, s.requires.1, length_more s.args.n i.if-n-lt10.false))
 
 digit-requires-2 : (t : ℕ) → put-decimal-lts.Need-digit-requires-2 (calls t) (put-decimal-at t) put-decimal.Post
 digit-requires-2 t c κs = omega arith
 
-put-byte-requires-2 : (t : ℕ) → put-decimal-lts.Need-put-byte-requires-2 (calls t) (put-decimal-at t) put-decimal.Post
+put-byte-requires-2 : (t : ℕ) → put-decimal-lts.Need-put_byte-requires-2 (calls t) (put-decimal-at t) put-decimal.Post
 put-byte-requires-2 t c κs =
-    let p = c.before.before.before.before in
-    let i = p.before.before in
-    let s = i.before.before in
-    omega (arith, s.requires.1, length_more s.args.n i.if1.false, p.put-decimal.ensures.after, p.put-decimal.auto.1.0)
+    let p = c in
+    let i = p in
+    let s = i in
+    omega (arith, s.requires.1, length_more s.args.n i.if-n-lt10.false, p.put_decimal-last.ensures.after, p.put_decimal-last.auto.out)
 
-same-length-2 : (t : ℕ) → put-decimal-lts.Need-same-length-2 (calls t) (put-decimal-at t) put-decimal.Post
+same-length-2 : (t : ℕ) → put-decimal-lts.Need-shape_of-out (calls t) (put-decimal-at t) put-decimal.Post
 same-length-2 t c =
-    c.before.before.put-byte2.auto.1.0 ∙ c.before.before.before.before.before.before.before.put-decimal.auto.1.0
+    c.put_byte-2.auto.out ∙ c.put_decimal-last.auto.out
 
-returns-2 : (t : ℕ) → put-decimal-lts.Need-returns-2 (calls t) (put-decimal-at t) put-decimal.Post
+returns-2 : (t : ℕ) → put-decimal-lts.Need-returns (calls t) (put-decimal-at t) put-decimal.Post
 returns-2 t c =
-    let b = c.before.before in
-    let d = b.before.before in
-    let p = d.before.before.before in
-    let i = p.before.before in
-    let s = i.before.before in
+    let b = c in
+    let d = b in
+    let p = d in
+    let i = p in
+    let s = i in
     let n = s.args.n in
-    put_same s.args.out.now s.args.at (decimal (n / 10) ++ (d.digit2.result ∷ [])) (decimal n) b.put-byte2.result b.put-byte2.new.1.0
-    (ap (λ (x : ℕ). decimal (n / 10) ++ (x ∷ [])) d.digit2.ensures ∙ sym (decimal-more n i.if1.false))
-    (put-more s.args.out.now s.args.at (decimal (n / 10)) (d.digit2.result ∷ []) p.put-decimal.result b.put-byte2.result p.put-decimal.new.1.0 b.put-byte2.new.1.0
-    p.put-decimal.ensures
-    b.put-byte2.ensures)
+    put_same s.args.out.now s.args.at (decimal (n / 10) ++ (d.digit-2.result ∷ [])) (decimal n) b.put_byte-2.result b.put_byte-2.new.out
+    (ap (λ (x : ℕ). decimal (n / 10) ++ (x ∷ [])) d.digit-2.ensures ∙ sym (decimal-more n i.if-n-lt10.false))
+    (put-more s.args.out.now s.args.at (decimal (n / 10)) (d.digit-2.result ∷ []) p.put_decimal-last.result b.put_byte-2.result p.put_decimal-last.new.out b.put_byte-2.new.out
+    p.put_decimal-last.ensures
+    b.put_byte-2.ensures)
 
-pub +put-decimal-spec : {M : Type 1} → statement M
-+put-decimal-spec = close μ-put-decimal λ t. put-decimal-lts.spec (calls t)
+pub +put_decimal_spec : {M : Type 1} → statement M
++put_decimal_spec = close μ-put-decimal λ t. put-decimal-lts.spec (calls t)
     (put-decimal-at t)
     put-decimal.Post
     (digit-requires t)

@@ -30,51 +30,51 @@ abbrev calls : ℕ → put-hex-lts.Claims
 calls t =
     (put-hex-below t, put-hex.Post, digit-reads.Asked, digit-reads.Learnt, put-byte-reads.Asked, put-byte-reads.Learnt)
 
-returns : (t : ℕ) → put-hex-lts.Need-returns (calls t) (put-hex-at t) put-hex.Post
+returns : (t : ℕ) → put-hex-lts.Need-returns-then-digits-eq0 (calls t) (put-hex-at t) put-hex.Post
 returns t c =
-    let s = c.before.before in
-    put_same s.args.out.now s.args.at [] (hexDigits s.args.digits s.args.n) s.args.at s.args.out.now (sym (hex-none s.args.digits s.args.n c.if1.true)) (put-none s.args.out.now s.args.at)
+    let s = c in
+    put_same s.args.out.now s.args.at [] (hexDigits s.args.digits s.args.n) s.args.at s.args.out.now (sym (hex-none s.args.digits s.args.n c.if-digits-eq0.true)) (put-none s.args.out.now s.args.at)
 
-sub-put-hex : (t : ℕ) → put-hex-lts.Need-overflow-sub-put-hex (calls t) (put-hex-at t) put-hex.Post
+sub-put-hex : (t : ℕ) → put-hex-lts.Need-overflow_sub-digits (calls t) (put-hex-at t) put-hex.Post
 sub-put-hex t c = search rules
 
-put-hex-requires : (t : ℕ) → put-hex-lts.Need-put-hex-requires (calls t) (put-hex-at t) put-hex.Post
+put-hex-requires : (t : ℕ) → put-hex-lts.Need-put_hex-last-requires (calls t) (put-hex-at t) put-hex.Post
 put-hex-requires t c κs =
-    let i = c.before in
-    let s = i.before.before in
-    (omega (arith, s.requires.0, i.if1.false), omega (arith, s.requires.1))
+    let i = c in
+    let s = i in
+    (omega (arith, s.requires.0, i.if-digits-eq0.false), omega (arith, s.requires.1))
 
 digit-requires : (t : ℕ) → put-hex-lts.Need-digit-requires (calls t) (put-hex-at t) put-hex.Post
 digit-requires t c κs = omega arith
 
-put-byte-requires : (t : ℕ) → put-hex-lts.Need-put-byte-requires (calls t) (put-hex-at t) put-hex.Post
+put-byte-requires : (t : ℕ) → put-hex-lts.Need-put_byte-requires (calls t) (put-hex-at t) put-hex.Post
 put-byte-requires t c κs =
-    let p = c.before.before.before.before in
-    let i = p.before.before in
-    let s = i.before.before in
-    omega (arith, s.requires.1, i.if1.false, p.put-hex.ensures.after, length-hex (s.args.digits - 1) (s.args.n / 16), p.put-hex.auto.1.1.0)
+    let p = c in
+    let i = p in
+    let s = i in
+    omega (arith, s.requires.1, i.if-digits-eq0.false, p.put_hex-last.ensures.after, length-hex (s.args.digits - 1) (s.args.n / 16), p.put_hex-last.auto.out)
 
-same_length : (t : ℕ) → put-hex-lts.Need-same-length (calls t) (put-hex-at t) put-hex.Post
+same_length : (t : ℕ) → put-hex-lts.Need-shape_of-out (calls t) (put-hex-at t) put-hex.Post
 same_length t c =
-    c.before.before.put_byte.auto.1.0 ∙ c.before.before.before.before.before.before.before.put-hex.auto.1.1.0
+    c.put_byte.auto.out ∙ c.put_hex-last.auto.out
 
-returns-2 : (t : ℕ) → put-hex-lts.Need-returns-2 (calls t) (put-hex-at t) put-hex.Post
+returns-2 : (t : ℕ) → put-hex-lts.Need-returns (calls t) (put-hex-at t) put-hex.Post
 returns-2 t c =
-    let b = c.before.before in
-    let d = b.before.before in
-    let p = d.before.before.before in
-    let i = p.before.before in
-    let s = i.before.before in
+    let b = c in
+    let d = b in
+    let p = d in
+    let i = p in
+    let s = i in
     let n = s.args.n in
     let k = s.args.digits in
-    put_same s.args.out.now s.args.at (hexDigits (k - 1) (n / 16) ++ (d.digit.result ∷ [])) (hexDigits k n) b.put_byte.result b.put_byte.new.1.0
-    (ap (λ (x : ℕ). hexDigits (k - 1) (n / 16) ++ (x ∷ [])) d.digit.ensures ∙ sym (hex-more k n i.if1.false))
-    (put-more s.args.out.now s.args.at (hexDigits (k - 1) (n / 16)) (d.digit.result ∷ []) p.put-hex.result b.put_byte.result p.put-hex.new.1.1.0 b.put_byte.new.1.0
-    p.put-hex.ensures
+    put_same s.args.out.now s.args.at (hexDigits (k - 1) (n / 16) ++ (d.digit.result ∷ [])) (hexDigits k n) b.put_byte.result b.put_byte.new.out
+    (ap (λ (x : ℕ). hexDigits (k - 1) (n / 16) ++ (x ∷ [])) d.digit.ensures ∙ sym (hex-more k n i.if-digits-eq0.false))
+    (put-more s.args.out.now s.args.at (hexDigits (k - 1) (n / 16)) (d.digit.result ∷ []) p.put_hex-last.result b.put_byte.result p.put_hex-last.new.out b.put_byte.new.out
+    p.put_hex-last.ensures
     b.put_byte.ensures)
 
-pub +put-hex-spec : {M : Type 1} → statement M
-+put-hex-spec = close μ-put-hex λ t. put-hex-lts.spec (calls t)
+pub +put_hex_spec : {M : Type 1} → statement M
++put_hex_spec = close μ-put-hex λ t. put-hex-lts.spec (calls t)
     (put-hex-at t)
     put-hex.Post
     (returns t)

@@ -12,53 +12,53 @@ use Rattle.hits_text.proofs.Filling.{taken_more}
 use Rattle.hits_text.proofs.words.read_longs.Statement.{statement}
 use Rattle.hits_text.proofs.words.read_longs.Tie as tie
 
-abbrev invariant-loop : tie.invariant-loop
+abbrev invariant-loop : tie.invariant-loop-i
 invariant-loop bytes words₀ n i₀ words i = (take i words ≡ listTo i (longAt bytes)) × (length words ≡ length words₀) × (i ≤ n)
 
-abbrev decreases-loop : tie.decreases-loop
+abbrev decreases-loop : tie.decreases-loop-i
 decreases-loop bytes words₀ n i₀ words i = n - i
 
-loop-holds : tie.Need-loop-init invariant-loop decreases-loop
-loop-holds c = (sym (listTo-zero (longAt c.before.before.args.bytes.now)), refl, omega arith)
+loop-holds : tie.Need-loop-i-init invariant-loop decreases-loop
+loop-holds c = (sym (listTo-zero (longAt c.args.bytes.now)), refl, omega arith)
 
-long-at-requires : tie.Need-long-at-requires invariant-loop decreases-loop
+long-at-requires : tie.Need-long_at-requires invariant-loop decreases-loop
 long-at-requires c κs = search rules
 
-mul_words : tie.Need-overflow-mul-words invariant-loop decreases-loop
+mul_words : tie.Need-offset_bounds-words-i invariant-loop decreases-loop
 mul_words c = search rules
 
-slice-write-words : tie.Need-slice-write-words invariant-loop decreases-loop
+slice-write-words : tie.Need-bounds-words-i invariant-loop decreases-loop
 slice-write-words c = search rules
 
-add-i : tie.Need-overflow-add-i invariant-loop decreases-loop
+add-i : tie.Need-overflow_add-i invariant-loop decreases-loop
 add-i c = search rules
 
-loop-less : tie.Need-loop-smaller invariant-loop decreases-loop
+loop-less : tie.Need-loop-i-smaller invariant-loop decreases-loop
 loop-less c = search rules
 
-loop-again : tie.Need-loop-preserved invariant-loop decreases-loop
+loop-again : tie.Need-loop-i-preserved invariant-loop decreases-loop
 loop-again c =
-    let l = c.before.before in
-    let s = l.before.before.before in (
-      taken_more (longAt s.args.bytes.now) l.loop.words l.loop.i c.long-at.result (omega (arith, l.loop.invariant, c.before.loop-test.true, s.requires)) l.loop.invariant.0 c.long-at.ensures,
-      length-set l.loop.words l.loop.i c.long-at.result ∙ l.loop.invariant.1,
-      omega (arith, c.before.loop-test.true),
+    let l = c in
+    let s = l in (
+      taken_more (longAt s.args.bytes.now) l.loop-i.words l.loop-i.i c.long_at.result (omega (arith, l.loop-i.invariant, c.loop-i-test.true, s.requires)) l.loop-i.invariant.0 c.long_at.ensures,
+      length-set l.loop-i.words l.loop-i.i c.long_at.result ∙ l.loop-i.invariant.1,
+      omega (arith, c.loop-i-test.true),
     )
 
-same_length : tie.Need-same-length invariant-loop decreases-loop
-same_length c = c.before.loop.invariant.1
+same_length : tie.Need-shape_of-words invariant-loop decreases-loop
+same_length c = c.loop-i.invariant.1
 
 returns : tie.Need-returns invariant-loop decreases-loop
 unfolding longsOf
 returns c =
-    let l = c.before in
-    let s = l.before.before.before in
-    let all : l.loop.i ≡ length s.args.bytes.now / 8 = omega (arith, c.loop-test.false, l.loop.invariant.2) in
-    let fits : length s.args.bytes.now / 8 ≤ length l.loop.words = omega (arith, s.requires, l.loop.invariant.1) in
-    ((fits, sym (length-take-le (length s.args.bytes.now / 8) l.loop.words fits)), ap (λ (n : ℕ). take n l.loop.words) (sym all) ∙ l.loop.invariant.0 ∙ ap (λ (n : ℕ). listTo n (longAt s.args.bytes.now)) all)
+    let l = c in
+    let s = l in
+    let all : l.loop-i.i ≡ length s.args.bytes.now / 8 = omega (arith, c.loop-i-test.false, l.loop-i.invariant.2) in
+    let fits : length s.args.bytes.now / 8 ≤ length l.loop-i.words = omega (arith, s.requires, l.loop-i.invariant.1) in
+    ((fits, sym (length-take-le (length s.args.bytes.now / 8) l.loop-i.words fits)), ap (λ (n : ℕ). take n l.loop-i.words) (sym all) ∙ l.loop-i.invariant.0 ∙ ap (λ (n : ℕ). listTo n (longAt s.args.bytes.now)) all)
 
-pub read-longs-spec : {M : Type 1} → statement M
-read-longs-spec =
+pub read_longs_spec : {M : Type 1} → statement M
+read_longs_spec =
     tie.close
     (tie.spec
     invariant-loop
