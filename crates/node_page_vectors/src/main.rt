@@ -1,5 +1,6 @@
 // Page over node records beside Page over words, page by page: between two steps over records there is nothing but the records.
 // crates/node_page_vectors/stdout is written from document 01's text: a page is its documents, each with its score's bits, and the next match.
+#![tactic(auto)]
 ghost use Rattle.std.specs.Prelude.{◌≡◌, true};
 ghost use Rattle.index.specs.Slices.{lent};
 ghost use Rattle.node_state.specs.Records.{recordWords};
@@ -141,7 +142,7 @@ fn rubbish() -> NodeState {
 }
 
 // A page, and the records after it.
-#[derive(Drop)]
+#[derive(Clone, Copy)]
 struct Stepped {
     page: Paged,
     records: [NodeState; 8],

@@ -1,5 +1,6 @@
 // Search with node states as words and as records, side by side, on document 01's whole case: both answers, whether they agree, and what a refused call left in the lent records.
 // crates/node_search_vectors/stdout is written from the document's text: a hit is its code.
+#![tactic(auto)]
 ghost use Rattle.std.specs.Prelude.{◌≡◌, ◌*◌, length};
 ghost use Rattle.meaning.specs.Limits.{nodeStateWords};
 ghost use Rattle.meaning.specs.Entries.{searchAnswer, searchHits};
