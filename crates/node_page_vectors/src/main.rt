@@ -1,7 +1,10 @@
 // Page over node records beside Page over words, page by page: between two steps over records there is nothing but the records.
 // crates/node_page_vectors/stdout is written from document 01's text: a page is its documents, each with its score's bits, and the next match.
 #![tactic(auto)]
+<<<<<<< HEAD
 
+=======
+>>>>>>> 09bbb3b7f4e2de65fb25a18ae7b5eb2f74efd4b9
 ghost use Rattle.std.specs.Prelude.{◌≡◌, true};
 ghost use Rattle.index.specs.Slices.{lent};
 ghost use Rattle.node_state.specs.Records.{recordWords};
@@ -145,7 +148,7 @@ fn rubbish() -> NodeState {
 }
 
 // A page, and the records after it.
-#[derive(Drop)]
+#[derive(Clone, Copy)]
 struct Stepped {
     page: Paged,
     records: [NodeState; 8],
