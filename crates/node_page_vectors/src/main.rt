@@ -1,10 +1,7 @@
 // Page over node records beside Page over words, page by page: between two steps over records there is nothing but the records.
 // crates/node_page_vectors/stdout is written from document 01's text: a page is its documents, each with its score's bits, and the next match.
 #![tactic(auto)]
-<<<<<<< HEAD
 
-=======
->>>>>>> 09bbb3b7f4e2de65fb25a18ae7b5eb2f74efd4b9
 ghost use Rattle.std.specs.Prelude.{◌≡◌, true};
 ghost use Rattle.index.specs.Slices.{lent};
 ghost use Rattle.node_state.specs.Records.{recordWords};
@@ -199,7 +196,12 @@ fn next_of(p: Paged) -> u32
     }
 }
 
-fn print_paged(out: &mut impl Write, p: Paged, documents: &[u32], scores: &[u32]) -> io::Result<()> {
+fn print_paged(
+    out: &mut impl Write,
+    p: Paged,
+    documents: &[u32],
+    scores: &[u32],
+) -> io::Result<()> {
     match p {
         Paged::Refused(number) => {
             write!(out, "refused ")?;
@@ -232,7 +234,12 @@ fn same_words(x: [u32; 1], y: [u32; 1]) -> bool {
     x[0] == y[0]
 }
 
-fn print_same(out: &mut impl Write, numbers: bool, documents: bool, scores: bool) -> io::Result<()> {
+fn print_same(
+    out: &mut impl Write,
+    numbers: bool,
+    documents: bool,
+    scores: bool,
+) -> io::Result<()> {
     if numbers {
         if documents {
             if scores {
@@ -244,7 +251,8 @@ fn print_same(out: &mut impl Write, numbers: bool, documents: bool, scores: bool
 }
 
 // A page of one document from the records, and the same page from words that are built anew.
-fn turn(out: &mut impl Write,
+fn turn(
+    out: &mut impl Write,
     max_doc: u32,
     fields: &[u32],
     leaves: &[u32],
@@ -313,7 +321,8 @@ fn turn(out: &mut impl Write,
     let r = s.page;
     print_paged(out, r, &documents, &scores)?;
     print_paged(out, p, &more, &more_scores)?;
-    print_same(out,
+    print_same(
+        out,
         same_numbers(numbers(r), numbers(p)),
         same_words(documents, more),
         same_words(scores, more_scores),
@@ -322,7 +331,8 @@ fn turn(out: &mut impl Write,
 }
 
 // The order page by page from the first document, eight pages at most.
-fn page_through(out: &mut impl Write,
+fn page_through(
+    out: &mut impl Write,
     max_doc: u32,
     fields: &[u32],
     leaves: &[u32],
@@ -344,7 +354,8 @@ fn page_through(out: &mut impl Write,
     let mut resume = false;
     let mut pages: usize = 0;
     while pages < 8 {
-        let s = turn(out,
+        let s = turn(
+            out,
             max_doc,
             fields,
             leaves,
@@ -388,7 +399,8 @@ fn whole_case(out: &mut impl Write) -> io::Result<()> {
     let mut ranges = [0u32; 0];
     let mut other_ranges = [0u32; 0];
     let mut states = [RUBBISH; 8 * weight::NODE_STATE_WORDS];
-    page_through(out,
+    page_through(
+        out,
         4,
         &FIELDS,
         &LEAVES,
@@ -415,7 +427,8 @@ fn phrase_and_range(out: &mut impl Write) -> io::Result<()> {
     let mut ranges = [RUBBISH; 12];
     let mut other_ranges = [RUBBISH; 12];
     let mut states = [RUBBISH; 8 * weight::NODE_STATE_WORDS];
-    page_through(out,
+    page_through(
+        out,
         6,
         &PHRASE_FIELDS,
         &PHRASE_LEAVES,
