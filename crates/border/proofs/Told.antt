@@ -1,10 +1,10 @@
 -- What an entry's answer says of its refusal and of its numbers, and what follows at the border. Assumes nothing.
 use mathlib.Core.Path.{◌≡◌, refl, sym, ap, ◌∙◌}
 use mathlib.Core.Bool.{cond}
-use mathlib.Core.List.{List, [], ◌∷◌, ◌++◌, map}
+use mathlib.Core.List.{List, [], ◌∷◌, map}
 use Prim.Native.Nat.{ℕ, zero, suc, ◌≤◌, ◌<◌}
 use native.Mathlib.Omega.{arith}
-use lib.ListN.{length, get_or, set, drop}
+use lib.ListN.{length, get_or, set}
 use lib.IntN.{ℤ}
 use lib.Ieee.{binary32, to_bits}
 use Rattle.meaning.specs.Lent.{Index}
@@ -16,11 +16,8 @@ use Rattle.meaning.specs.Entries.{answered, written, Kept, searchRefusal, search
 use Rattle.collector.specs.declared.TopDocs.{TopDocs}
 use Rattle.walk.specs.declared.Listed.{Listed}
 use Rattle.searcher.specs.declared.search.Searched.{Searched}
-use Rattle.searcher.specs.declared.search.Searched.TheVariants as Searched
 use Rattle.searcher.specs.declared.page.Paged.{Paged}
-use Rattle.searcher.specs.declared.page.Paged.TheVariants as Paged
 use Rattle.pick_entry.specs.declared.Picked.{Picked}
-use Rattle.pick_entry.specs.declared.Picked.TheVariants as Picked
 use Rattle.searcher.specs.Answers.{searchedNumbers, pagedNumbers}
 use Rattle.pick_entry.specs.Answers.{pickedNumbers}
 use Rattle.border.specs.Border.{shortAnswer, borderSearch, borderPage, borderPick, topNumbers, pageNumbers}

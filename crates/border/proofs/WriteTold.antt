@@ -12,7 +12,6 @@ use Rattle.meaning.specs.Entries.{written, answered}
 use Rattle.meaning.proofs.Lowest.{answered-refused}
 use Rattle.token_writer.specs.declared.Numbers.{Numbers}
 use Rattle.token_writer.specs.declared.Written.{Written}
-use Rattle.token_writer.specs.declared.Written.TheVariants as Written
 use Rattle.token_writer.specs.Answers.{writtenNumbers, outputs, WritesIndex}
 use Rattle.border.specs.Write.{writeNumbers, borderWrite, LotWritesIndex}
 use Rattle.border.proofs.Told.{refused-number, found-numbers, refused-keeps}

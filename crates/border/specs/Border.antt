@@ -1,5 +1,5 @@
 -- How Search, Page and Pick answer at the border: the refusal's number is returned, and the numbers stand in a lent slice, which is one buffer more for 12. Assumes nothing: these are definitions.
-use Rattle.std.specs.Prelude.{Bool, cond, ◌||◌, List, [], ◌∷◌, ◌++◌, ℕ, eqb, ltb, length}
+use Rattle.std.specs.Prelude.{cond, ◌||◌, List, [], ◌∷◌, ◌++◌, ℕ, eqb, ltb, length}
 use Rattle.meaning.specs.Lent.{Index}
 use Rattle.meaning.specs.FullList.{ScoreDoc}
 use Rattle.meaning.specs.Hits.{hits, mark}

@@ -12,7 +12,7 @@ use Rattle.meaning.specs.Hits.{code, toDoc, toScore}
 use Rattle.meaning.specs.CallRefusals.{Work}
 use Rattle.meaning.specs.Entries.{searchRefusal, searchAnswer}
 use Rattle.demands.specs.Demands.{ranksBefore}
-use Rattle.demands.proofs.Ranked.{HitsAre, hits-are}
+use Rattle.demands.proofs.Ranked.{hits-are}
 use Rattle.demands.proofs.Rankable.{full-rankable}
 use Rattle.demands.proofs.Accepting.{search-accepts}
 use Rattle.demands.proofs.Search.{answer-is, wrote-is, hitsBy, MarkExactly, mark-exactly}

@@ -1,6 +1,5 @@
 -- `lot_pick` meets its contract: one law for each way through it, over Pick's own contract. Assumes nothing.
 use borrow.Author.Rules.{rules}
-use lib.ListN.{length}
 use Rattle.border.proofs.Told.{pick-told-short, pick-told-refused, pick-told-found}
 use Rattle.border.proofs.lot_pick.Statement.{statement}
 use Rattle.border.proofs.lot_pick.Tie as tie

@@ -1,5 +1,4 @@
 -- `lot_write_index` meets its contract: one law for each way through it, over the writer's own contract. Assumes nothing.
-use mathlib.Core.Path.{refl}
 use borrow.Author.Rules.{rules}
 use Rattle.border.proofs.Told.{two-written}
 use Rattle.border.proofs.WriteTold.{write-told-short, write-told-sixteen, write-told-refused, write-told-done}
