@@ -1,10 +1,14 @@
 // Document 01's examples that are not proved as a table, and each other entry once, run through the entries.
 // crates/examples/stdout is written from the document's text: a hit is its document and its score's bits.
+#![tactic(auto)]
+
 use pick_entry::Picked;
 use place_entry::Placed;
 use range_entry::Ranged;
 use searcher::page::Paged;
 use searcher::search::Searched;
+use std::io;
+use std::io::{BufWriter, Write};
 use weight::NODE_STATE_WORDS;
 
 // A query of one record, MatchAll.
@@ -43,51 +47,46 @@ const ONE_TERM: [u32; 18] = [2, 0, 1, 0, 0, 0, 0, 0, 0, 9, 0, 0, 2, 1, 0, 0, 0, 
 // A column of i64 values: 17, 18, 18, absent.
 const VALUES: [u32; 12] = [1, 17, 0, 1, 18, 0, 1, 18, 0, 0, 0, 0];
 
-fn print_refused(number: u32) {
-    io::write_all(1, b"refused ");
-    io::print_decimal(1, vectors::wide(number));
-    vectors::end_line();
+fn print_refused(out: &mut impl Write, number: u32) -> io::Result<()> {
+    writeln!(out, "refused {number}")
 }
 
 // A document and its score's bits.
-fn print_scored(document: u64, bits: u64) {
-    io::write_all(1, b" ");
-    io::print_decimal(1, document);
-    io::write_all(1, b" ");
-    io::print_hex(1, bits, 8);
+fn print_scored(out: &mut impl Write, document: u64, bits: u64) -> io::Result<()> {
+    write!(out, " {document} {bits:08x}")
 }
 
 // A code: the score's bits above 2147483647 - document.
-fn print_hit(code: i64) {
+fn print_hit(out: &mut impl Write, code: i64) -> io::Result<()> {
     if code >= 0 {
         let bits = code as u64;
         let low = bits % 0x1_0000_0000;
         if low <= 2147483647 {
-            print_scored(2147483647 - low, bits / 0x1_0000_0000);
+            print_scored(out, 2147483647 - low, bits / 0x1_0000_0000)?;
         }
     }
+    Ok(())
 }
 
 // The count, its mark, and the hits.
-fn print_found(top: collector::TopDocs, hits: &[i64]) {
-    io::write_all(1, b"count ");
-    io::print_decimal(1, top.count);
+fn print_found(out: &mut impl Write, top: collector::TopDocs, hits: &[i64]) -> io::Result<()> {
+    write!(out, "count {}", top.count)?;
     if top.mark {
-        io::write_all(1, b"+");
+        write!(out, "+")?;
     }
     let held = top.held as usize;
     let mut i = 0;
     while i < hits.len() {
         if i < held {
-            print_hit(hits[i]);
+            print_hit(out, hits[i])?;
         }
         i += 1;
     }
-    vectors::end_line();
+    vectors::end_line(out)
 }
 
 // MatchAll over three documents.
-fn search_all(k: u32) {
+fn search_all(out: &mut impl Write, k: u32) -> io::Result<()> {
     let no_words = [0u32; 0];
     let no_bytes = [0u8; 0];
     let no_live = [0u64; 0];
@@ -116,31 +115,35 @@ fn search_all(k: u32) {
         &mut hits,
     );
     match found {
-        Searched::Refused(n) => print_refused(n),
-        Searched::Found(top) => print_found(top, &hits),
+        Searched::Refused(n) => print_refused(out, n),
+        Searched::Found(top) => print_found(out, top, &hits),
     }
 }
 
-fn print_given(given: usize, documents: &[u32], scores: &[u32]) {
+fn print_given(
+    out: &mut impl Write,
+    given: usize,
+    documents: &[u32],
+    scores: &[u32],
+) -> io::Result<()> {
     let mut i = 0;
     while i < documents.len() {
         if i < given {
             if i < scores.len() {
-                print_scored(vectors::wide(documents[i]), vectors::wide(scores[i]));
+                print_scored(out, vectors::wide(documents[i]), vectors::wide(scores[i]))?;
             }
         }
         i += 1;
     }
+    Ok(())
 }
 
-fn print_next(next: u32) {
-    io::write_all(1, b" next ");
-    io::print_decimal(1, vectors::wide(next));
-    vectors::end_line();
+fn print_next(out: &mut impl Write, next: u32) -> io::Result<()> {
+    writeln!(out, " next {next}")
 }
 
 // The same, from a target, to two places.
-fn page_all(target: u32) {
+fn page_all(out: &mut impl Write, target: u32) -> io::Result<()> {
     let no_words = [0u32; 0];
     let no_bytes = [0u8; 0];
     let no_live = [0u64; 0];
@@ -170,16 +173,16 @@ fn page_all(target: u32) {
         &mut scores,
     );
     match paged {
-        Paged::Refused(n) => print_refused(n),
+        Paged::Refused(n) => print_refused(out, n),
         Paged::Given(p) => {
-            print_given(p.given, &documents, &scores);
-            print_next(p.next);
+            print_given(out, p.given, &documents, &scores)?;
+            print_next(out, p.next)
         }
     }
 }
 
 // Documents of the column between two ends.
-fn range(kinds: u32, lower: u32, upper: u32) {
+fn range(out: &mut impl Write, kinds: u32, lower: u32, upper: u32) -> io::Result<()> {
     let columns = [0u32; 1];
     let mut work = [0u32; 4];
     let mut output = [0u32; 4];
@@ -197,90 +200,93 @@ fn range(kinds: u32, lower: u32, upper: u32) {
         &mut output,
     );
     match ranged {
-        Ranged::Refused(n) => print_refused(n),
-        Ranged::Listed(n) => vectors::print_list(&output, n),
+        Ranged::Refused(n) => print_refused(out, n),
+        Ranged::Listed(n) => vectors::print_list(out, &output, n),
     }
 }
 
 // The best two of documents 3, 5 and 9 with scores 1, 2 and 1.
-fn pick() {
+fn pick(out: &mut impl Write) -> io::Result<()> {
     let documents: [u32; 3] = [3, 5, 9];
     let scores: [u32; 3] = [0x3f80_0000, 0x4000_0000, 0x3f80_0000];
     let mut hits = [0i64; 2];
     match pick_entry::pick(&documents, &scores, 2, 10, &mut hits) {
-        Picked::Refused(n) => print_refused(n),
-        Picked::Found(top) => print_found(top, &hits),
+        Picked::Refused(n) => print_refused(out, n),
+        Picked::Found(top) => print_found(out, top, &hits),
     }
 }
 
-fn print_placed(placed: Placed) {
+fn print_placed(out: &mut impl Write, placed: Placed) -> io::Result<()> {
     match placed {
-        Placed::Refused(n) => print_refused(n),
-        Placed::Nothing => {
-            io::write_all(1, b"none\n");
-        }
+        Placed::Refused(n) => print_refused(out, n),
+        Placed::Nothing => { writeln!(out, "none") }
         Placed::At(s) => {
-            vectors::print_signed(s);
-            vectors::end_line();
+            vectors::print_signed(out, s)?;
+            vectors::end_line(out)
         }
     }
 }
 
 // Where the phrase at the query's first record stands in a document of two.
-fn place(query: &[u32], document: u32) {
+fn place(out: &mut impl Write, query: &[u32], document: u32) -> io::Result<()> {
     let no_words = [0u32; 0];
     let no_bytes = [0u8; 0];
     let no_live = [0u64; 0];
     let mut starts = [0i32; 3];
     let mut other_starts = [0i32; 3];
-    print_placed(place_entry::place(
-        2,
-        &FIELDS,
-        &LEAVES,
-        &POSTINGS,
-        &POSITIONS,
-        &no_bytes,
-        &no_live,
-        &no_words,
-        &no_words,
-        query,
-        0,
-        document,
-        &mut starts,
-        &mut other_starts,
-    ));
+    print_placed(
+        out,
+        place_entry::place(
+            2,
+            &FIELDS,
+            &LEAVES,
+            &POSTINGS,
+            &POSITIONS,
+            &no_bytes,
+            &no_live,
+            &no_words,
+            &no_words,
+            query,
+            0,
+            document,
+            &mut starts,
+            &mut other_starts,
+        ),
+    )
 }
 
-fn main() {
-    io::write_all(1, b"MatchAll of 3, page of 2\n");
-    page_all(0);
-    page_all(3);
-    page_all(4);
-    io::write_all(1, b"MatchAll of 3, k 1, 1024, 0, 1025\n");
-    search_all(1);
-    search_all(1024);
-    search_all(0);
-    search_all(1025);
-    io::write_all(
-        1,
-        b"values 17, 18, 18, absent: 18 included to 18 excluded, 17 excluded to 18 included\n",
-    );
-    range(7, 18, 18);
-    range(5, 17, 18);
-    io::write_all(1, b"documents 3, 5, 9, scores 1, 2, 1, k 2\n");
-    pick();
-    io::write_all(
-        1,
-        b"positions 0, 5, 5 and 6, 6, 9, offsets 0 and 1; position 0, offset 1; where there is none\n",
-    );
-    place(&TWO_TERMS, 0);
-    place(&ONE_TERM, 0);
-    place(&TWO_TERMS, 1);
-    io::write_all(1, b"bytes 0, 23, 24, 41, 255\n");
-    vectors::print_number(searcher::length::length(0));
-    vectors::print_number(searcher::length::length(23));
-    vectors::print_number(searcher::length::length(24));
-    vectors::print_number(searcher::length::length(41));
-    vectors::print_number(searcher::length::length(255));
-    vectors::end_line();
+fn main(rt: HostRuntime) -> io::Result<()> {
+    let mut out = BufWriter::new(rt.alloc(), io::writer(&rt))?;
+    writeln!(out, "MatchAll of 3, page of 2")?;
+    page_all(&mut out, 0)?;
+    page_all(&mut out, 3)?;
+    page_all(&mut out, 4)?;
+    writeln!(out, "MatchAll of 3, k 1, 1024, 0, 1025")?;
+    search_all(&mut out, 1)?;
+    search_all(&mut out, 1024)?;
+    search_all(&mut out, 0)?;
+    search_all(&mut out, 1025)?;
+    writeln!(
+        out,
+        "values 17, 18, 18, absent: 18 included to 18 excluded, 17 excluded to 18 included"
+    )?;
+    range(&mut out, 7, 18, 18)?;
+    range(&mut out, 5, 17, 18)?;
+    writeln!(out, "documents 3, 5, 9, scores 1, 2, 1, k 2")?;
+    pick(&mut out)?;
+    writeln!(
+        out,
+        "positions 0, 5, 5 and 6, 6, 9, offsets 0 and 1; position 0, offset 1; where there is none"
+    )?;
+    place(&mut out, &TWO_TERMS, 0)?;
+    place(&mut out, &ONE_TERM, 0)?;
+    place(&mut out, &TWO_TERMS, 1)?;
+    writeln!(out, "bytes 0, 23, 24, 41, 255")?;
+    vectors::print_number(&mut out, searcher::length::length(0))?;
+    vectors::print_number(&mut out, searcher::length::length(23))?;
+    vectors::print_number(&mut out, searcher::length::length(24))?;
+    vectors::print_number(&mut out, searcher::length::length(41))?;
+    vectors::print_number(&mut out, searcher::length::length(255))?;
+    vectors::end_line(&mut out)?;
+    out.flush()
 }

@@ -2,7 +2,7 @@
 use mathlib.Core.Path.{◌≡◌, refl, sym, ◌∙◌, ap, subst}
 use mathlib.Core.Bool.{Bool, true}
 use mathlib.Core.List.{List, [], ◌∷◌}
-use Prim.Native.Nat.{ℕ, zero, suc, ◌*◌, ◌^◌, ◌≤◌, ◌<◌}
+use Prim.Native.Nat.{ℕ, zero, suc, ◌*◌, ◌≤◌, ◌<◌}
 use native.Mathlib.Omega.{arith}
 use lib.ListN.{length, take, drop, take-append-drop}
 use lib.Seq.{take_at, take-take}
@@ -17,7 +17,6 @@ use Rattle.weight.specs.Held.{Ok}
 use Rattle.weight.proofs.Queries.{query-size}
 use Rattle.order_check.proofs.Rooms.{states-room}
 use Rattle.searcher.specs.declared.page.Paged.{Paged}
-use Rattle.searcher.specs.declared.page.Paged.TheVariants as Paged
 use Rattle.searcher.specs.Answers.{pagedNumbers}
 use Rattle.order_check.proofs.CallConditions.{page-lends}
 use Rattle.node_state.specs.declared.NodeState.{NodeState}
@@ -39,9 +38,6 @@ same-front ix q ranges xs ys from k h g e s =
     let same : take n xs ≡ take n ys = sym (take-take n k xs h) ∙ ap (take n) e ∙ take-take n k ys h in
     record { within = omega (arith, h, g); ok = subst (λ (l : List ℕ). Ok ix ranges (tree_of ix q) 16 0 l from) same s.ok }
 
-pub held-least : (m : ℕ) → held m ≤ m
-held-least m = omega arith
-
 held-words : (m k : ℕ) → k ≡ maxRecords * nodeStateWords → nodeStateWords * held m ≤ k
 held-words m k e = omega (arith, e)
 
@@ -54,12 +50,6 @@ pub used-words : (r : Paged) (m k : ℕ) → k ≡ maxRecords * nodeStateWords �
 unfolding used
 used-words (Paged.Refused x) m k e = omega (arith, e)
 used-words (Paged.Given l) m k e = held-words m k e
-
-pub room-few : (m : ℕ) → m * (4 * nodeStateWords) < 2 ^ 63 → nodeStateWords * m < 2 ^ 64
-room-few m h = omega (arith, h)
-
-pub words-enough : (k : ℕ) → k ≡ maxRecords * nodeStateWords → nodeStateWords * maxRecords ≤ k
-words-enough k e = omega (arith, e)
 
 -- one number alone is a refused call's answer, and several are an accepted one's
 refused-alone : (z x v : ℕ) (vs : List ℕ) → (x ∷ []) ≡ answered z (0 ∷ v ∷ vs) (λ m. m ∷ []) → z ≡ 0 → ⊥
@@ -120,3 +110,10 @@ module _ (ix : Index) (q : List ℕ) (target m : ℕ) (a b : List ℤ) (ranges d
       where
         record-room : (ns : List NodeState) (m : ℕ) → length ns ≡ m → nodeStateWords * held m ≤ length (recordWords ns)
         record-room ns m l = let e = words-length ns in omega (arith, e, l)
+
+    -- the same where the number of records used is told by its equation
+    pub read_back_told : (r : Paged) (i : ℕ) → i ≡ used r m → Pages ix q target (workOf m a b ranges) documents documents' scores scores' a a' b b' ranges ranges' words' r
+        → (recordWords (take i ns) ≡ take (nodeStateWords * i) words') × (drop i ns ≡ drop i ys)
+        → Pages ix q target (workOf m a b ranges) documents documents' scores scores' a a' b b' ranges ranges' (recordWords ns) r × Kept (refusalOf ix q target m a b ranges documents scores) ys ns
+    read_back_told r i e g p =
+        read_back r g (subst (λ (j : ℕ). (recordWords (take j ns) ≡ take (nodeStateWords * j) words') × (drop j ns ≡ drop j ys)) e p)

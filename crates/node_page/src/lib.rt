@@ -1,4 +1,6 @@
 // Page over node states as records: their words are copied out, the walk goes on from them, and the records are read back.
+#![tactic(auto)]
+
 ghost use Rattle.std.specs.Prelude.{◌≡◌, true, ℕ, ◌≤◌, ◌<◌, ◌*◌, ◌^◌, min, length};
 ghost use Rattle.meaning.specs.Lent.{Index};
 ghost use Rattle.meaning.specs.Limits.{nodeStateWords, maxRecords};

@@ -1,5 +1,7 @@
 // Page over node records beside Page over words, page by page: between two steps over records there is nothing but the records.
 // crates/node_page_vectors/stdout is written from document 01's text: a page is its documents, each with its score's bits, and the next match.
+#![tactic(auto)]
+
 ghost use Rattle.std.specs.Prelude.{◌≡◌, true};
 ghost use Rattle.index.specs.Slices.{lent};
 ghost use Rattle.node_state.specs.Records.{recordWords};
@@ -10,6 +12,8 @@ ghost use Rattle.meaning.specs.Limits.{noMoreDocs};
 
 use node_state::NodeState;
 use searcher::page::Paged;
+use std::io;
+use std::io::{BufWriter, Write};
 
 // One field; leaf 0 in the documents 0, 2 and 3, leaf 1 in 2.
 const FIELDS: [u32; 3] = [0x3f80_0000, 0, 0];
@@ -141,7 +145,7 @@ fn rubbish() -> NodeState {
 }
 
 // A page, and the records after it.
-#[derive(Drop)]
+#[derive(Clone, Copy)]
 struct Stepped {
     page: Paged,
     records: [NodeState; 8],
@@ -192,14 +196,19 @@ fn next_of(p: Paged) -> u32
     }
 }
 
-fn print_paged(p: Paged, documents: &[u32], scores: &[u32]) {
+fn print_paged(
+    out: &mut impl Write,
+    p: Paged,
+    documents: &[u32],
+    scores: &[u32],
+) -> io::Result<()> {
     match p {
         Paged::Refused(number) => {
-            io::write_all(1, b"refused ");
-            vectors::print_number(number);
-            vectors::end_line();
+            write!(out, "refused ")?;
+            vectors::print_number(out, number)?;
+            vectors::end_line(out)
         }
-        Paged::Given(l) => vectors::print_page(documents, scores, l.given, l.next),
+        Paged::Given(l) => vectors::print_page(out, documents, scores, l.given, l.next),
     }
 }
 
@@ -225,20 +234,25 @@ fn same_words(x: [u32; 1], y: [u32; 1]) -> bool {
     x[0] == y[0]
 }
 
-fn print_same(numbers: bool, documents: bool, scores: bool) {
+fn print_same(
+    out: &mut impl Write,
+    numbers: bool,
+    documents: bool,
+    scores: bool,
+) -> io::Result<()> {
     if numbers {
         if documents {
             if scores {
-                io::write_all(1, b"same\n");
-                return;
+                return writeln!(out, "same");
             }
         }
     }
-    io::write_all(1, b"different\n");
+    writeln!(out, "different")
 }
 
 // A page of one document from the records, and the same page from words that are built anew.
 fn turn(
+    out: &mut impl Write,
     max_doc: u32,
     fields: &[u32],
     leaves: &[u32],
@@ -305,18 +319,20 @@ fn turn(
         &mut more_scores,
     );
     let r = s.page;
-    print_paged(r, &documents, &scores);
-    print_paged(p, &more, &more_scores);
+    print_paged(out, r, &documents, &scores)?;
+    print_paged(out, p, &more, &more_scores)?;
     print_same(
+        out,
         same_numbers(numbers(r), numbers(p)),
         same_words(documents, more),
         same_words(scores, more_scores),
-    );
+    )?;
     s
 }
 
 // The order page by page from the first document, eight pages at most.
 fn page_through(
+    out: &mut impl Write,
     max_doc: u32,
     fields: &[u32],
     leaves: &[u32],
@@ -332,13 +348,14 @@ fn page_through(
     ranges: &mut [u32],
     states: &mut [u32],
     other_ranges: &mut [u32],
-) {
+) -> io::Result<()> {
     let mut records = [rubbish(); 8];
     let mut target = 0;
     let mut resume = false;
     let mut pages: usize = 0;
     while pages < 8 {
         let s = turn(
+            out,
             max_doc,
             fields,
             leaves,
@@ -357,11 +374,11 @@ fn page_through(
             ranges,
             states,
             other_ranges,
-        );
+        )?;
         let page = s.page;
         let next = next_of(page);
         if next == walk::NO_MORE_DOCS {
-            return;
+            return Ok(());
         }
         let after = s.records;
         records = after;
@@ -369,10 +386,11 @@ fn page_through(
         resume = true;
         pages += 1;
     }
+    Ok(())
 }
 
 // Words for eight states, where six are needed.
-fn whole_case() {
+fn whole_case(out: &mut impl Write) -> io::Result<()> {
     let no_words = [0u32; 0];
     let no_bytes = [0u8; 0];
     let no_live = [0u64; 0];
@@ -382,6 +400,7 @@ fn whole_case() {
     let mut other_ranges = [0u32; 0];
     let mut states = [RUBBISH; 8 * weight::NODE_STATE_WORDS];
     page_through(
+        out,
         4,
         &FIELDS,
         &LEAVES,
@@ -397,11 +416,11 @@ fn whole_case() {
         &mut ranges,
         &mut states,
         &mut other_ranges,
-    );
+    )
 }
 
 // A phrase and a range, a record each and one for each term.
-fn phrase_and_range() {
+fn phrase_and_range(out: &mut impl Write) -> io::Result<()> {
     let no_bytes = [0u8; 0];
     let mut starts = [0i32; 1];
     let mut other_starts = [0i32; 1];
@@ -409,6 +428,7 @@ fn phrase_and_range() {
     let mut other_ranges = [RUBBISH; 12];
     let mut states = [RUBBISH; 8 * weight::NODE_STATE_WORDS];
     page_through(
+        out,
         6,
         &PHRASE_FIELDS,
         &PHRASE_LEAVES,
@@ -424,10 +444,12 @@ fn phrase_and_range() {
         &mut ranges,
         &mut states,
         &mut other_ranges,
-    );
+    )
 }
 
-fn main() {
-    whole_case();
-    phrase_and_range();
+fn main(rt: HostRuntime) -> io::Result<()> {
+    let mut out = BufWriter::new(rt.alloc(), io::writer(&rt))?;
+    whole_case(&mut out)?;
+    phrase_and_range(&mut out)?;
+    out.flush()
 }

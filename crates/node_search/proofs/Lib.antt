@@ -1,3 +1,2 @@
--- The plain mathematics of this crate's proofs, and a local array that is lent as a shared slice.
+-- The plain mathematics of this crate's proofs.
 pub mod Words
-pub mod Shares

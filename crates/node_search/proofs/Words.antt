@@ -28,7 +28,6 @@ use Rattle.node_words.specs.Placed.{Placed}
 use Rattle.order_check.specs.Lends.{work}
 use Rattle.order_check.proofs.Refusing.{order-asks, order-refused}
 use Rattle.searcher.specs.declared.search.Searched.{Searched}
-use Rattle.searcher.specs.declared.search.Searched.TheVariants as Searched
 use Rattle.searcher.specs.Answers.{searchedNumbers}
 use Rattle.searcher.proofs.Answering.{search-refused, search-not-refused, search-found}
 use Rattle.node_state.specs.declared.NodeState.{NodeState}
@@ -37,16 +36,7 @@ use Rattle.node_state.specs.Standing.{Standing, tree_of}
 use Rattle.node_state.proofs.Turns.{words_append}
 use Rattle.node_search.specs.Searches.{SearchesWords, Searches, roomOf, refusalOf, used}
 
--- as many records as there are, and no more than the most that an order has
-pub held-there : (nodes : ℕ) → held nodes ≤ nodes
-held-there nodes = omega arith
-
-pub held-enough : (nodes : ℕ) → nodeStateWords * held nodes ≤ nodeStateWords * maxRecords
-held-enough nodes = omega arith
-
-pub fewer-words : {i n words : ℕ} → i ≤ n → nodeStateWords * n ≤ words → nodeStateWords * i ≤ words
-fewer-words least enough = omega (arith, least, enough)
-
+-- a call uses no more states than there are
 pub used-least : (r : Searched) (n : ℕ) → used r n ≤ n
 unfolding used
 used-least (Searched.Refused x) n = omega arith
@@ -150,6 +140,11 @@ module _ (ix : Index) (q : List ℕ) (k t : ℕ) (nodes nodes' : List NodeState)
         ranges-kept = λ h. s.ranges-kept (positive h);
         standing = λ z. standing-records ix q ranges' (take (nodeStateWords * n) words') noMoreDocs n nodes' (copied r s.numbers p (same ∙ z)) (s.standing (same ∙ z));
       }
+
+  -- the same where the two numbers are told by their equations
+  pub on-records-told : (r : Searched) (states m : ℕ) → states ≡ n → m ≡ used r states → SearchesWords ix q k t states words' a a' b b' ranges ranges' hits hits' r → Packed m → Searches ix q k t nodes nodes' a a' b b' ranges ranges' hits hits' r
+  on-records-told r states m e f s p =
+      on-records r (subst (λ (i : ℕ). SearchesWords ix q k t i words' a a' b b' ranges ranges' hits hits' r) e s) (subst Packed (f ∙ ap (used r) e) p)
 
 -- ---- the word form, refused or not
 module _ (ix : Index) (q : List ℕ) (k t n : ℕ) (words : List ℕ) (a b : List ℤ) (ranges : List ℕ) (hits : List ℤ) (r : ℕ) (e : r ≡ refusalOf ix q k n a b ranges hits) where

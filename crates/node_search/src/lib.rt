@@ -1,4 +1,6 @@
 // Search over node states as records: the word form runs on the words of a local array, and the records are read from them.
+#![tactic(auto)]
+
 ghost use Rattle.std.specs.Prelude.{◌≡◌, false, ◌≤◌, ◌<◌, ◌*◌, length};
 ghost use Rattle.meaning.specs.Limits.{noMoreDocs, maxHits, nodeStateWords};
 ghost use Rattle.meaning.specs.Query.{queryTree};

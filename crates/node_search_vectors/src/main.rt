@@ -1,5 +1,7 @@
 // Search with node states as words and as records, side by side, on document 01's whole case: both answers, whether they agree, and what a refused call left in the lent records.
 // crates/node_search_vectors/stdout is written from the document's text: a hit is its code.
+#![tactic(auto)]
+
 ghost use Rattle.std.specs.Prelude.{◌≡◌, ◌*◌, length};
 ghost use Rattle.meaning.specs.Limits.{nodeStateWords};
 ghost use Rattle.meaning.specs.Entries.{searchAnswer, searchHits};
@@ -9,6 +11,8 @@ ghost use Rattle.searcher.specs.Answers.{searchedNumbers};
 
 use node_state::NodeState;
 use searcher::search::Searched;
+use std::io;
+use std::io::{BufWriter, Write};
 use weight::NODE_STATE_WORDS;
 
 // One field; leaf 0 in the documents 0, 2 and 3, leaf 1 in 2.
@@ -254,16 +258,16 @@ fn untouched_records(nodes: [NodeState; 8]) -> bool {
 }
 
 // A refused call leaves the lent records as they were.
-fn print_records(s: Searched, nodes: [NodeState; 8]) {
+fn print_records(out: &mut impl Write, s: Searched, untouched: bool) -> io::Result<()> {
     match s {
         Searched::Refused(_) => {
-            if untouched_records(nodes) {
-                io::write_all(1, b"records as they were\n");
+            if untouched {
+                writeln!(out, "records as they were")
             } else {
-                io::write_all(1, b"records changed\n");
+                writeln!(out, "records changed")
             }
         }
-        Searched::Found(_) => {}
+        Searched::Found(_) => Ok(()),
     }
 }
 
@@ -286,6 +290,7 @@ fn search_lent(
     b: &mut [i32],
     ranges: &mut [u32],
     hits: &mut [i64],
+    untouched: &mut bool,
 ) -> Searched
     ensures { (searchedNumbers result ≡ searchAnswer (lent max_doc fields.now leaves.now postings.now positions.now norms.now live.now columns.now values.now) q.now k t (work (nodeStateWords * 8) (length a.old) (length b.old) (length ranges.old)) (length hits.old))
         × (hits.new ≡ searchHits (lent max_doc fields.now leaves.now postings.now positions.now norms.now live.now columns.now values.now) q.now k (work (nodeStateWords * 8) (length a.old) (length b.old) (length ranges.old)) hits.old) }
@@ -295,7 +300,7 @@ fn search_lent(
         max_doc, fields, leaves, postings, positions, norms, live, columns, values, q, k, t,
         &mut nodes, a, b, ranges, hits,
     );
-    print_records(r, nodes);
+    *untouched = untouched_records(nodes);
     r
 }
 
@@ -330,25 +335,24 @@ fn same_codes(x: [i64; 3], y: [i64; 3]) -> bool {
     x[2] == y[2]
 }
 
-fn print_answer(s: Searched, hits: &[i64]) {
+fn print_answer(out: &mut impl Write, s: Searched, hits: &[i64]) -> io::Result<()> {
     match s {
         Searched::Refused(number) => {
-            io::write_all(1, b"refused ");
-            vectors::print_number(number);
-            vectors::end_line();
+            write!(out, "refused ")?;
+            vectors::print_number(out, number)?;
+            vectors::end_line(out)
         }
-        Searched::Found(top) => vectors::print_hits(top.count, top.mark, hits, top.held),
+        Searched::Found(top) => vectors::print_hits(out, top.count, top.mark, hits, top.held),
     }
 }
 
-fn print_same(numbers: bool, codes: bool) {
+fn print_same(out: &mut impl Write, numbers: bool, codes: bool) -> io::Result<()> {
     if numbers {
         if codes {
-            io::write_all(1, b"same\n");
-            return;
+            return writeln!(out, "same");
         }
     }
-    io::write_all(1, b"different\n");
+    writeln!(out, "different")
 }
 
 // An order over the index with k hits wanted and threshold t.
@@ -381,7 +385,7 @@ fn with_words(q: &[u32], k: u32, t: u32, hits: &mut [i64]) -> Searched {
     )
 }
 
-fn with_records(q: &[u32], k: u32, t: u32, hits: &mut [i64]) -> Searched {
+fn with_records(q: &[u32], k: u32, t: u32, hits: &mut [i64], untouched: &mut bool) -> Searched {
     let no_words = [0u32; 0];
     let no_bytes = [0u8; 0];
     let no_live = [0u64; 0];
@@ -406,23 +410,32 @@ fn with_records(q: &[u32], k: u32, t: u32, hits: &mut [i64]) -> Searched {
         &mut other_starts,
         &mut ranges,
         hits,
+        untouched,
     )
 }
 
 // Eight states, as words and as records.
-fn compare(q: &[u32], k: u32, t: u32) {
+fn compare(out: &mut impl Write, q: &[u32], k: u32, t: u32) -> io::Result<()> {
     let mut hits = [-1i64; 3];
     let mut more = [-1i64; 3];
     let x = with_words(q, k, t, &mut hits);
-    let y = with_records(q, k, t, &mut more);
-    print_answer(x, &hits);
-    print_answer(y, &more);
-    print_same(same_numbers(numbers(x), numbers(y)), same_codes(hits, more));
+    let mut untouched = false;
+    let y = with_records(q, k, t, &mut more, &mut untouched);
+    print_records(out, y, untouched)?;
+    print_answer(out, x, &hits)?;
+    print_answer(out, y, &more)?;
+    print_same(
+        out,
+        same_numbers(numbers(x), numbers(y)),
+        same_codes(hits, more),
+    )
 }
 
-fn main() {
-    compare(&QUERY, 2, 10);
-    compare(&QUERY, 2, 1);
-    compare(&QUERY, 0, 10);
-    compare(&LONGER, 2, 10);
+fn main(rt: HostRuntime) -> io::Result<()> {
+    let mut out = BufWriter::new(rt.alloc(), io::writer(&rt))?;
+    compare(&mut out, &QUERY, 2, 10)?;
+    compare(&mut out, &QUERY, 2, 1)?;
+    compare(&mut out, &QUERY, 0, 10)?;
+    compare(&mut out, &LONGER, 2, 10)?;
+    out.flush()
 }

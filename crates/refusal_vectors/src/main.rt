@@ -2,8 +2,12 @@
 // crates/refusal_vectors/stdout has the numbers of a judge that was written from the document's text (harness, `record`).
 // data/cases.rec: the number of cases; for each N, the numbers of norm bytes and of live words, and for each other list where
 // it stands; then the lists' words. What norm bytes and live words hold is refused by nothing, so they are made here.
+#![tactic(auto)]
+
 ghost use Rattle.std.specs.Prelude.{◌+◌, ◌≤◌, length};
 
+use std::io;
+use std::io::{BufWriter, Write};
 use vectors::file::{list, size};
 
 // So many bytes, or all.
@@ -21,13 +25,18 @@ fn first_words(words: &[u64], number: usize) -> &[u64] {
     words
 }
 
-fn print_line(number: u32) {
-    io::print_decimal(1, vectors::wide(number));
-    vectors::end_line();
+fn print_line(out: &mut impl Write, number: u32) -> io::Result<()> {
+    writeln!(out, "{number}")
 }
 
 // The lowest of 1 to 10 for the case at `at`, or 0.
-fn print_refusal(file: &[u32], norms: &[u8], live: &[u64], at: usize)
+fn print_refusal(
+    out: &mut impl Write,
+    file: &[u32],
+    norms: &[u8],
+    live: &[u64],
+    at: usize,
+) -> io::Result<()>
     requires { at + 10 ≤ length file.now }
 {
     let fields = list(file, file[at + 3]);
@@ -46,43 +55,47 @@ fn print_refusal(file: &[u32], norms: &[u8], live: &[u64], at: usize)
         list(file, file[at + 8]),
     );
     if index != 0 {
-        print_line(index);
+        print_line(out, index)
     } else {
-        print_line(query_check::check_query(query, fields, leaves, columns));
+        print_line(
+            out,
+            query_check::check_query(query, fields, leaves, columns),
+        )
     }
 }
 
-fn print_refusals(file: &[u32], norms: &[u8], live: &[u64]) {
+fn print_refusals(
+    out: &mut impl Write,
+    file: &[u32],
+    norms: &[u8],
+    live: &[u64],
+) -> io::Result<()> {
     if file.len() == 0 {
-        return;
+        return Ok(());
     }
     let cases = size(file[0]);
     let mut i = 0;
     while i < cases {
         if file.len() / 10 <= i + 1 {
-            return;
+            return Ok(());
         }
-        print_refusal(file, norms, live, 1 + 10 * i);
+        print_refusal(out, file, norms, live, 1 + 10 * i)?;
         i += 1;
     }
+    Ok(())
 }
 
-fn print_all(fd: i32) {
+fn print_all(out: &mut impl Write, bytes: &[u8]) -> io::Result<()> {
     let norms = [255u8; 65_553];
     let live = [0xffff_ffff_ffff_ffffu64; 16_385];
-    let mut bytes = [0u8; 262_144];
     let mut file = [0u32; 65_536];
-    let n = io::read_full(fd, &mut bytes);
-    vectors::file::read_words(&bytes[..n], &mut file);
-    print_refusals(&file, &norms, &live);
+    vectors::file::read_words(bytes, &mut file);
+    print_refusals(out, &file, &norms, &live)
 }
 
-fn main() {
-    let fd = os::open_read(b"cases.rec");
-    if fd < 0 {
-        os::fail(b"cases.rec");
-        return;
-    }
-    print_all(fd);
-    libc::close(fd);
+fn main(rt: HostRuntime) -> io::Result<()> {
+    let mut out = BufWriter::new(rt.alloc(), io::writer(&rt))?;
+    let bytes = vectors::file::read_bytes(&rt, "cases.rec")?;
+    print_all(&mut out, &bytes)?;
+    out.flush()
 }

@@ -2,26 +2,30 @@
 // `record`), and data/README says how the cases were made.
 // data/cases1.rec to cases4.rec, each: the number of cases; for each N, k, t, a page's target and length, and for each list where it
 // stands; then the lists' words. Norm bytes stand four to a word, live words as two, the low half first.
+#![tactic(auto)]
+
 use searcher::page::Paged;
 use searcher::search::Searched;
+use std::io;
+use std::io::{BufWriter, Write};
+use std::rt::Files;
 use vectors::file::{bytes_at, list_at, size, word};
 use weight::NODE_STATE_WORDS;
 
-fn print_refused(number: u32) {
-    io::write_all(1, b"refused ");
-    io::print_decimal(1, vectors::wide(number));
-    vectors::end_line();
+fn print_refused(out: &mut impl Write, number: u32) -> io::Result<()> {
+    writeln!(out, "refused {number}")
 }
 
-fn print_searched(searched: Searched, hits: &[i64]) {
+fn print_searched(out: &mut impl Write, searched: Searched, hits: &[i64]) -> io::Result<()> {
     match searched {
-        Searched::Refused(number) => print_refused(number),
-        Searched::Found(top) => vectors::print_hits(top.count, top.mark, hits, top.held),
+        Searched::Refused(number) => print_refused(out, number),
+        Searched::Found(top) => vectors::print_hits(out, top.count, top.mark, hits, top.held),
     }
 }
 
 // The hits, in buffers that hold rubbish before.
 fn search(
+    out: &mut impl Write,
     max_doc: u32,
     fields: &[u32],
     leaves: &[u32],
@@ -34,7 +38,7 @@ fn search(
     q: &[u32],
     k: u32,
     t: u32,
-) {
+) -> io::Result<()> {
     let mut states = [0xdead_beefu32; 256 * NODE_STATE_WORDS];
     let mut a = [7i32; 64];
     let mut b = [-7i32; 64];
@@ -59,18 +63,24 @@ fn search(
         &mut ranges,
         &mut hits,
     );
-    print_searched(searched, &hits);
+    print_searched(out, searched, &hits)
 }
 
-fn print_paged(paged: Paged, documents: &[u32], scores: &[u32]) {
+fn print_paged(
+    out: &mut impl Write,
+    paged: Paged,
+    documents: &[u32],
+    scores: &[u32],
+) -> io::Result<()> {
     match paged {
-        Paged::Refused(number) => print_refused(number),
-        Paged::Given(page) => vectors::print_page(documents, scores, page.given, page.next),
+        Paged::Refused(number) => print_refused(out, number),
+        Paged::Given(page) => vectors::print_page(out, documents, scores, page.given, page.next),
     }
 }
 
 // A page, for which the work buffers hold rubbish before.
 fn page(
+    out: &mut impl Write,
     max_doc: u32,
     fields: &[u32],
     leaves: &[u32],
@@ -84,7 +94,7 @@ fn page(
     target: u32,
     documents: &mut [u32],
     scores: &mut [u32],
-) {
+) -> io::Result<()> {
     let mut states = [0xdead_beefu32; 256 * NODE_STATE_WORDS];
     let mut a = [-7i32; 64];
     let mut b = [7i32; 64];
@@ -108,11 +118,12 @@ fn page(
         documents,
         scores,
     );
-    print_paged(paged, documents, scores);
+    print_paged(out, paged, documents, scores)
 }
 
 // A page of so many places, at most 128.
 fn page_of(
+    out: &mut impl Write,
     max_doc: u32,
     fields: &[u32],
     leaves: &[u32],
@@ -125,13 +136,14 @@ fn page_of(
     q: &[u32],
     target: u32,
     places: usize,
-) {
+) -> io::Result<()> {
     let mut documents = [0u32; 128];
     let mut scores = [0u32; 128];
     if 128 < places {
-        return;
+        return Ok(());
     }
     page(
+        out,
         max_doc,
         fields,
         leaves,
@@ -145,11 +157,11 @@ fn page_of(
         target,
         &mut documents[..places],
         &mut scores[..places],
-    );
+    )
 }
 
 // The case at `at`.
-fn print_case(file: &[u32], bytes: &[u8], at: usize) {
+fn print_case(out: &mut impl Write, file: &[u32], bytes: &[u8], at: usize) -> io::Result<()> {
     let max_doc = word(file, at, 0);
     let fields = list_at(file, at, 5);
     let leaves = list_at(file, at, 6);
@@ -163,6 +175,7 @@ fn print_case(file: &[u32], bytes: &[u8], at: usize) {
     let values = list_at(file, at, 12);
     let q = list_at(file, at, 13);
     search(
+        out,
         max_doc,
         fields,
         leaves,
@@ -175,8 +188,9 @@ fn print_case(file: &[u32], bytes: &[u8], at: usize) {
         q,
         word(file, at, 1),
         word(file, at, 2),
-    );
+    )?;
     page_of(
+        out,
         max_doc,
         fields,
         leaves,
@@ -189,43 +203,39 @@ fn print_case(file: &[u32], bytes: &[u8], at: usize) {
         q,
         word(file, at, 3),
         size(word(file, at, 4)),
-    );
+    )
 }
 
-fn print_cases(file: &[u32], bytes: &[u8]) {
+fn print_cases(out: &mut impl Write, file: &[u32], bytes: &[u8]) -> io::Result<()> {
     let cases = size(word(file, 0, 0));
     let mut i = 0;
     while i < cases {
-        print_case(file, bytes, 1 + 14 * i);
+        print_case(out, file, bytes, 1 + 14 * i)?;
         i += 1;
     }
+    Ok(())
 }
 
-fn print_words(bytes: &[u8]) {
+fn print_words(out: &mut impl Write, bytes: &[u8]) -> io::Result<()> {
     let mut file = [0u32; 16_384];
     vectors::file::read_words(bytes, &mut file);
-    print_cases(&file, bytes);
+    print_cases(out, &file, bytes)
 }
 
-fn print_all(fd: i32) {
-    let mut bytes = [0u8; 65_536];
-    io::read_full(fd, &mut bytes);
-    print_words(&bytes);
+fn print_file(
+    out: &mut impl Write,
+    rt: &(impl Files + AllocGlobal + Eprint),
+    path: &str,
+) -> io::Result<()> {
+    let bytes = vectors::file::read_bytes(rt, path)?;
+    print_words(out, &bytes)
 }
 
-fn print_file(path: &[u8]) {
-    let fd = os::open_read(path);
-    if fd < 0 {
-        os::fail(path);
-        return;
-    }
-    print_all(fd);
-    libc::close(fd);
-}
-
-fn main() {
-    print_file(b"cases1.rec");
-    print_file(b"cases2.rec");
-    print_file(b"cases3.rec");
-    print_file(b"cases4.rec");
+fn main(rt: HostRuntime) -> io::Result<()> {
+    let mut out = BufWriter::new(rt.alloc(), io::writer(&rt))?;
+    print_file(&mut out, &rt, "cases1.rec")?;
+    print_file(&mut out, &rt, "cases2.rec")?;
+    print_file(&mut out, &rt, "cases3.rec")?;
+    print_file(&mut out, &rt, "cases4.rec")?;
+    out.flush()
 }

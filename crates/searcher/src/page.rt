@@ -10,7 +10,7 @@ ghost use Rattle.searcher.specs.Answers.{pagedNumbers};
 
 use walk::Listed;
 
-#[derive(Drop)]
+#[derive(Clone, Copy)]
 pub enum Paged {
     Refused(u32),
     Given(Listed),

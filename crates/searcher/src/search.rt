@@ -14,7 +14,7 @@ ghost use Rattle.searcher.specs.Answers.{searchedNumbers};
 
 use collector::TopDocs;
 
-#[derive(Drop)]
+#[derive(Clone, Copy)]
 pub enum Searched {
     Refused(u32),
     Found(TopDocs),

@@ -2,6 +2,10 @@
 // answers of a judge that was written from the request's text (harness, `record`).
 // data/rows.rec: the number of rows; for each N, the lengths of the four outputs, and where its fields, tokens and leaf fields
 // stand; then the lists' words.
+#![tactic(auto)]
+
+use std::io;
+use std::io::{BufWriter, Write};
 use token_writer::Written;
 use vectors::file::{list_at, size, word};
 
@@ -9,17 +13,15 @@ use vectors::file::{list_at, size, word};
 const ROOM: usize = 1024;
 
 // A refusal's number, or 0 with the numbers of postings and positions.
-fn print_written(written: Written) {
+fn print_written(out: &mut impl Write, written: Written) -> io::Result<()> {
     match written {
-        Written::Refused(number) => vectors::print_number(number),
+        Written::Refused(number) => vectors::print_number(out, number)?,
         Written::Done(numbers) => {
-            vectors::print_number(0);
-            io::print_decimal(1, numbers.postings as u64);
-            io::write_all(1, b" ");
-            io::print_decimal(1, numbers.positions as u64);
+            vectors::print_number(out, 0)?;
+            write!(out, "{} {}", numbers.postings, numbers.positions)?;
         }
     }
-    vectors::end_line();
+    vectors::end_line(out)
 }
 
 // A byte's number as a word, with no proof at the caller.
@@ -27,17 +29,18 @@ fn word_of(byte: u8) -> u32 {
     byte as u32
 }
 
-fn print_bytes(list: &[u8]) {
+fn print_bytes(out: &mut impl Write, list: &[u8]) -> io::Result<()> {
     let mut i = 0;
     while i < list.len() {
-        vectors::print_number(word_of(list[i]));
+        vectors::print_number(out, word_of(list[i]))?;
         i += 1;
     }
-    vectors::end_line();
+    vectors::end_line(out)
 }
 
 // The answer, and all that stands in the outputs afterwards.
 fn write(
+    out: &mut impl Write,
     max_doc: u32,
     fields: &[u32],
     tokens: &[u32],
@@ -46,7 +49,7 @@ fn write(
     postings: &mut [u32],
     positions: &mut [u32],
     runs: &mut [u32],
-) {
+) -> io::Result<()> {
     let written = token_writer::write_index(
         max_doc,
         fields,
@@ -57,36 +60,37 @@ fn write(
         positions,
         runs,
     );
-    print_written(written);
-    print_bytes(norms);
-    vectors::print_list(postings, 1024);
-    vectors::print_list(positions, 1024);
-    vectors::print_list(runs, 1024);
+    print_written(out, written)?;
+    print_bytes(out, norms)?;
+    vectors::print_list(out, postings, 1024)?;
+    vectors::print_list(out, positions, 1024)?;
+    vectors::print_list(out, runs, 1024)
 }
 
 // The row at `at`; its outputs hold rubbish before.
-fn print_row(file: &[u32], at: usize) {
+fn print_row(out: &mut impl Write, file: &[u32], at: usize) -> io::Result<()> {
     let norms_bytes = size(word(file, at, 1));
     let postings_words = size(word(file, at, 2));
     let positions_words = size(word(file, at, 3));
     let runs_words = size(word(file, at, 4));
     if ROOM < norms_bytes {
-        return;
+        return Ok(());
     }
     if ROOM < postings_words {
-        return;
+        return Ok(());
     }
     if ROOM < positions_words {
-        return;
+        return Ok(());
     }
     if ROOM < runs_words {
-        return;
+        return Ok(());
     }
     let mut norms = [77u8; ROOM];
     let mut postings = [77u32; ROOM];
     let mut positions = [77u32; ROOM];
     let mut runs = [77u32; ROOM];
     write(
+        out,
         word(file, at, 0),
         list_at(file, at, 5),
         list_at(file, at, 6),
@@ -95,32 +99,28 @@ fn print_row(file: &[u32], at: usize) {
         &mut postings[..postings_words],
         &mut positions[..positions_words],
         &mut runs[..runs_words],
-    );
+    )
 }
 
-fn print_rows(file: &[u32]) {
+fn print_rows(out: &mut impl Write, file: &[u32]) -> io::Result<()> {
     let rows = size(word(file, 0, 0));
     let mut i = 0;
     while i < rows {
-        print_row(file, 1 + 8 * i);
+        print_row(out, file, 1 + 8 * i)?;
         i += 1;
     }
+    Ok(())
 }
 
-fn print_all(fd: i32) {
-    let mut bytes = [0u8; 65_536];
+fn print_all(out: &mut impl Write, bytes: &[u8]) -> io::Result<()> {
     let mut file = [0u32; 16_384];
-    let n = io::read_full(fd, &mut bytes);
-    vectors::file::read_words(&bytes[..n], &mut file);
-    print_rows(&file);
+    vectors::file::read_words(bytes, &mut file);
+    print_rows(out, &file)
 }
 
-fn main() {
-    let fd = os::open_read(b"rows.rec");
-    if fd < 0 {
-        os::fail(b"rows.rec");
-        return;
-    }
-    print_all(fd);
-    libc::close(fd);
+fn main(rt: HostRuntime) -> io::Result<()> {
+    let mut out = BufWriter::new(rt.alloc(), io::writer(&rt))?;
+    let bytes = vectors::file::read_bytes(&rt, "rows.rec")?;
+    print_all(&mut out, &bytes)?;
+    out.flush()
 }

@@ -9,7 +9,7 @@ ghost use Rattle.walk.specs.Walks.{NextPre, NextPost, ListPre, ListPost};
 pub const NO_MORE_DOCS: u32 = 2147483647;
 
 // How many were written, and the next live match.
-#[derive(Drop)]
+#[derive(Clone, Copy)]
 pub struct Listed {
     pub given: usize,
     pub next: u32,

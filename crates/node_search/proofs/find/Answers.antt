@@ -1,0 +1,74 @@
+-- What the loop collects is the full list, and the words hold the tree at its end.
+use Rattle.std.proofs.Common.{length, refl}
+use Rattle.meaning.specs.Limits.{noMoreDocs}
+use Rattle.meaning.specs.CallRefusals.{Work}
+use Rattle.index.specs.Slices.{lent}
+use Rattle.order_check.specs.Lends.{work}
+use Rattle.order_check.proofs.Rooms.{states-room, ranges-room}
+use Rattle.searcher.proofs.Preparing.{tree_of, answer-full, leaf-lent, columns-lent, walk-held}
+use Rattle.node_search.proofs.Words.{built-stands}
+use Rattle.node_search.proofs.find.Goals as goal
+
+pub fill_inverses-requires : goal.fill_inverses-requires
+fill_inverses-requires c =
+    let a = c.args in
+    let ix = lent a.max_doc a.fields.now a.leaves.now a.postings.now a.positions.now a.norms.now a.live.now a.columns.now a.values.now in
+    let asks = c.requires.asks.0 in
+    let leaves = leaf-lent a.max_doc a.fields.now a.leaves.now a.postings.now a.positions.now a.norms.now a.live.now a.columns.now a.values.now a.q.now asks in
+    ((ix, a.max_doc, asks, leaves), refl)
+
+pub build-size-requires : goal.build-size-requires
+build-size-requires c =
+    let a = c.args in
+    let ix = lent a.max_doc a.fields.now a.leaves.now a.postings.now a.positions.now a.norms.now a.live.now a.columns.now a.values.now in
+    let q = a.q.now in
+    let w : Work = work (length a.states.now) (length a.a.now) (length a.b.now) (length a.ranges.now) in
+    let asks = c.requires.asks.0 in
+    let leaves = leaf-lent a.max_doc a.fields.now a.leaves.now a.postings.now a.positions.now a.norms.now a.live.now a.columns.now a.values.now q asks in
+    let columns = columns-lent a.max_doc a.fields.now a.leaves.now a.postings.now a.positions.now a.norms.now a.live.now a.columns.now a.values.now q in
+    (ix, asks, leaves, columns, states-room ix q w c.requires.asks.1, ranges-room ix q w c.requires.asks.1)
+
+pub slice_bounds-collect_matches-end : goal.slice_bounds-collect_matches-end
+slice_bounds-collect_matches-end c =
+    let a = c.args in
+    let ix = lent a.max_doc a.fields.now a.leaves.now a.postings.now a.positions.now a.norms.now a.live.now a.columns.now a.values.now in
+    let asks = c.requires.asks.0 in
+    let leaves = leaf-lent a.max_doc a.fields.now a.leaves.now a.postings.now a.positions.now a.norms.now a.live.now a.columns.now a.values.now a.q.now asks in
+    let columns = columns-lent a.max_doc a.fields.now a.leaves.now a.postings.now a.positions.now a.norms.now a.live.now a.columns.now a.values.now a.q.now in
+    (c.build-size.ensures.placed ix asks leaves columns).within
+
+pub collect_matches-requires : goal.collect_matches-requires
+collect_matches-requires c =
+    let a = c.args in
+    let ix = lent a.max_doc a.fields.now a.leaves.now a.postings.now a.positions.now a.norms.now a.live.now a.columns.now a.values.now in
+    let q = a.q.now in
+    let w : Work = work (length a.states.now) (length a.a.now) (length a.b.now) (length a.ranges.now) in
+    let asks = c.requires.asks.0 in
+    let i = c.fill_inverses in
+    let p = c.build-size in
+    let leaves = leaf-lent a.max_doc a.fields.now a.leaves.now a.postings.now a.positions.now a.norms.now a.live.now a.columns.now a.values.now q asks in
+    let columns = columns-lent a.max_doc a.fields.now a.leaves.now a.postings.now a.positions.now a.norms.now a.live.now a.columns.now a.values.now q in
+    let placed = p.ensures.placed ix asks leaves columns in
+    let held = walk-held a.max_doc a.fields.now a.leaves.now a.postings.now a.positions.now a.norms.now a.live.now a.columns.now a.values.now q w asks c.requires.asks.1 i.new.table (i.ensures.field_table ix a.max_doc asks leaves) p.new.ranges p.new.states p.result placed 0 in
+    record { heap_nonzero = c.requires.heap_nonzero; collect_pre = (ix, tree_of ix q, 0, held) }
+
+pub returns : goal.returns
+returns c =
+    let a = c.args in
+    let ix = lent a.max_doc a.fields.now a.leaves.now a.postings.now a.positions.now a.norms.now a.live.now a.columns.now a.values.now in
+    let q = a.q.now in
+    let w : Work = work (length a.states.now) (length a.a.now) (length a.b.now) (length a.ranges.now) in
+    let asks = c.requires.asks.0 in
+    let i = c.fill_inverses in
+    let p = c.build-size in
+    let leaves = leaf-lent a.max_doc a.fields.now a.leaves.now a.postings.now a.positions.now a.norms.now a.live.now a.columns.now a.values.now q asks in
+    let columns = columns-lent a.max_doc a.fields.now a.leaves.now a.postings.now a.positions.now a.norms.now a.live.now a.columns.now a.values.now q in
+    let placed = p.ensures.placed ix asks leaves columns in
+    let held = walk-held a.max_doc a.fields.now a.leaves.now a.postings.now a.positions.now a.norms.now a.live.now a.columns.now a.values.now q w asks c.requires.asks.1 i.new.table (i.ensures.field_table ix a.max_doc asks leaves) p.new.ranges p.new.states p.result placed 0 in
+    let k = c.collect_matches in
+    let full = answer-full ix q (length a.heap.now) a.t a.heap.now k.new.heap k.result (k.ensures.collect_post ix (tree_of ix q) 0 held) in
+    record {
+      value = full.0;
+      heap_after = full.1;
+      standing = built-stands ix q p.new.ranges p.new.states k.new.st p.result noMoreDocs placed k.auto.st (k.ensures.collect_end ix (tree_of ix q) 0 held);
+    }
