@@ -10,7 +10,6 @@ use Rattle.meaning.specs.Lent.{Index}
 use Rattle.meaning.specs.CallRefusals.{Work}
 use Rattle.meaning.specs.Entries.{answered, pageAnswer}
 use Rattle.searcher.specs.declared.page.Paged.{Paged}
-use Rattle.searcher.specs.declared.page.Paged.TheVariants as Paged
 use Rattle.searcher.specs.Answers.{pagedNumbers}
 use Rattle.node_state.specs.Standing.{Standing}
 use Rattle.node_page.specs.Pages.{Pages}

@@ -2,7 +2,6 @@
 use Rattle.std.specs.Prelude.{ℕ}
 use Rattle.meaning.specs.Limits.{noMoreDocs}
 use Rattle.searcher.specs.declared.page.Paged.{Paged}
-use Rattle.searcher.specs.declared.page.Paged.TheVariants as Paged
 
 -- none where the call was refused
 unfoldable pub nextOf : Paged → ℕ

@@ -250,7 +250,7 @@ fn print_same(
     writeln!(out, "different")
 }
 
-// A page of one document from the records, the records after it, and the same page from words that are built anew.
+// A page of one document from the records, the records after it, and the same page from words.
 #[derive(Clone, Copy)]
 struct Turned {
     page: Paged,
@@ -273,6 +273,7 @@ fn print_turned(out: &mut impl Write, t: Turned) -> io::Result<()> {
     )
 }
 
+// A page of one document from the records, and the same page from words that are built anew.
 fn turn(
     max_doc: u32,
     fields: &[u32],
@@ -339,9 +340,10 @@ fn turn(
         &mut more,
         &mut more_scores,
     );
+    let after = s.records;
     Turned {
         page: s.page,
-        records: s.records,
+        records: after,
         documents,
         scores,
         by_words: p,

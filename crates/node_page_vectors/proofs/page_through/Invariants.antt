@@ -6,11 +6,11 @@ use Rattle.node_state.specs.Standing.{Standing}
 use Rattle.node_page_vectors.proofs.page_through.Given as goal
 
 abbrev pub invariant-loop-pages : goal.invariant-loop-pages
-invariant-loop-pages l =
+invariant-loop-pages g l =
     record {
       few : l.pages ≤ 8;
       stands : l.resume ≡ true → Standing (lent l.max_doc l.fields l.leaves l.postings l.positions l.norms l.live l.columns l.values) l.q l.ranges (recordWords l.records) l.target;
     }
 
 abbrev pub decreases-loop-pages : goal.decreases-loop-pages
-decreases-loop-pages l = 8 - l.pages
+decreases-loop-pages g l = 8 - l.pages
