@@ -18,7 +18,7 @@ places c = length-take-le _ _ (right c).room
 pick-refusal-requires : tie.Need-pick_refusal-refusal-requires
 pick-refusal-requires c κs = search rules
 
--- refused at the test t; the must-fail edit that touches a buffer on this way changes the path to t and nothing else here
+-- refused at the test t; the must-fail edit that touches a buffer on this way puts a copy of this answer among those at the end
 returns : tie.Need-returns-then-refusal-ne0
 returns c =
     let t = c in

@@ -35,7 +35,7 @@ joined-requires-2 c κs = search rules
 range-refusal-requires : tie.Need-range_refusal-refusal-requires
 range-refusal-requires c κs = search rules
 
--- refused at the test t; the must-fail edit that touches a buffer on this way changes the path to t and nothing else here
+-- refused at the test t; the must-fail edit that touches a buffer on this way puts a copy of this answer among those at the end
 returns : tie.Need-returns-then-refusal-ne0
 returns c =
     let t = c in

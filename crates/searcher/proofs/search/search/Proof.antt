@@ -14,7 +14,7 @@ search-refusal-requires : tie.Need-search_refusal-refusal-requires
 search-refusal-requires c κs =
     search rules
 
--- refused at the test t; the must-fail edit that touches a buffer on this way changes the path to t and nothing else here
+-- refused at the test t; the must-fail edit that touches a buffer on this way puts a copy of this answer among those at the end
 returns : tie.Need-returns-then-refusal-ne0
 returns c =
     let t = c in
