@@ -151,7 +151,6 @@ struct Stepped {
     records: [NodeState; 8],
 }
 
-// Whoever lends records by reference is proved by hand: this function does no more than give them back.
 fn step(
     max_doc: u32,
     fields: &[u32],

@@ -271,7 +271,6 @@ fn print_records(out: &mut impl Write, s: Searched, untouched: bool) -> io::Resu
     }
 }
 
-// Whoever lends records by reference is proved by hand: this function does no more than show what becomes of them.
 fn search_lent(
     max_doc: u32,
     fields: &[u32],
