@@ -151,6 +151,7 @@ struct Stepped {
     records: [NodeState; 8],
 }
 
+// One page over the records, which are given back.
 fn step(
     max_doc: u32,
     fields: &[u32],

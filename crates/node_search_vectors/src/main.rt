@@ -271,6 +271,7 @@ fn print_records(out: &mut impl Write, s: Searched, untouched: bool) -> io::Resu
     }
 }
 
+// A search over lent records, and whether it left them as they were.
 fn search_lent(
     max_doc: u32,
     fields: &[u32],
