@@ -15,7 +15,6 @@ use Rattle.meaning.specs.CallRefusals.{Work}
 use Rattle.meaning.specs.Entries.{written, answered, searchRefusal, searchAnswer, searchHits}
 use Rattle.collector.specs.declared.TopDocs.{TopDocs}
 use Rattle.searcher.specs.declared.search.Searched.{Searched}
-use Rattle.searcher.specs.declared.search.Searched.TheVariants as Searched
 use Rattle.searcher.specs.Answers.{searchedNumbers}
 use Rattle.hits_text.specs.Text.{foundText, refusedText}
 use Rattle.hits.specs.Text.{listText, ownWork, ownPlaces, searchText}
