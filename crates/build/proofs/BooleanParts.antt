@@ -14,7 +14,7 @@ use Rattle.meaning.specs.Query.{isRequired, isShould, isMustNot, Clauses, hasReq
 use Rattle.meaning.specs.Takes.{shouldsNeeded}
 use Rattle.meaning.specs.Cost.{costs, disjunctionCost}
 use Rattle.ieee754.specs.Nonneg.{AtMost}
-use Rattle.weight.specs.ScorerTree.{afterwards, matches}
+use Rattle.weight.specs.ScorerTree.{matches}
 use Rattle.weight.specs.State.{State, words_of, size_of, sizesOf, sizesOfFirst}
 use Rattle.weight.specs.Weigh.{Ready, cheapestFirst, chosen, scorersOf, upToCost, joiningOf, booleanOf, readied}
 use Rattle.weight.specs.Held.{Ok, Oks, FloatIs, KeptIs, JoiningIs}

@@ -8,7 +8,7 @@ use Rattle.ieee754.specs.Nonneg.{AtMost}
 use Rattle.index.specs.Runs.{postingDocument}
 use Rattle.index.specs.Slices.{liveOnly}
 use Rattle.collector.specs.declared.TopDocs.{TopDocs}
-use Rattle.weight.specs.ScorerTree.{Leaf, Scoring, Scorer, leaf, Joining, Scorers, more, allMatch, anyMatches, leafMatches, leafScore, requiredScores, joinedScore}
+use Rattle.weight.specs.ScorerTree.{Leaf, Scoring, leaf, Joining, Scorers, more, allMatch, anyMatches, leafScore, requiredScores, joinedScore}
 use Rattle.weight.specs.State.{State, words_of}
 use Rattle.weight.specs.Held.{LeafIs, ScoringIs, Oks}
 use Rattle.weight.specs.Sound.{LeafSound, LeafTable, nodesOf}

@@ -1,10 +1,10 @@
 -- A term at the root: what its words say, and its run posting by posting. Assumes nothing.
 use mathlib.Core.Path.{◌≡◌, refl, sym, ap, subst, ◌∙◌}
 use mathlib.Core.Logic.{⊎_elim}
-use mathlib.Core.Bool.{Bool, true, false}
+use mathlib.Core.Bool.{true, false}
 use mathlib.Core.List.{List, [], ◌++◌}
-use mathlib.Core.Option.{Option, none, some}
-use Prim.Native.Nat.{ℕ, zero, suc, ◌+◌, ◌*◌, ◌^◌, ◌≤◌, ◌<◌}
+use mathlib.Core.Option.{some}
+use Prim.Native.Nat.{ℕ, suc, ◌+◌, ◌*◌, ◌^◌, ◌≤◌, ◌<◌}
 use native.Mathlib.Nat.{eq-or-lt_of_le}
 use native.Mathlib.Omega.{arith}
 use lib.Dec.{T}
@@ -12,7 +12,7 @@ use lib.ListN.{length, get_or}
 use lib.IntN.{ℤ}
 use lib.Ieee.{Float}
 use Rattle.meaning.specs.Limits.{noMoreDocs, maxHits}
-use Rattle.meaning.specs.Lent.{Index, leafCount, leafField, leafFirst, leafNumber, leafDocument, leafFrequency}
+use Rattle.meaning.specs.Lent.{Index, leafCount, leafField, leafFirst, leafNumber, leafDocument}
 use Rattle.meaning.specs.Live.{isLive}
 use Rattle.meaning.specs.Postings.{postingAt, found, frequencyOf}
 use Rattle.ieee754.specs.Nonneg.{AtMost, signClear}
@@ -22,7 +22,7 @@ use Rattle.collector.specs.Collected.{Collected, Ready, Extended, Drawn}
 use Rattle.index.specs.Accepted.{Accepted}
 use Rattle.index.specs.Slices.{liveOnly}
 use Rattle.index.proofs.PostingAt.{posting-at, posting-none}
-use Rattle.weight.specs.ScorerTree.{Leaf, nothing, term, phrase, range, everything, Scoring, constant, weighted, Scorer, leaf, boolean, matches, leafMatches, leafScore, scorerScore}
+use Rattle.weight.specs.ScorerTree.{nothing, term, phrase, range, everything, Scoring, Scorer, leaf, boolean, matches, leafMatches, leafScore, scorerScore}
 use Rattle.weight.specs.Held.{normsWord, LeafIs, Ok}
 use Rattle.weight.specs.Sound.{LeafSound, Sound, LeafTable, Tables}
 use Rattle.scorer.specs.Calls.{Lent}
@@ -31,7 +31,7 @@ use Rattle.leaf_score.specs.declared.Node.{Node}
 use Rattle.leaf_score.specs.Words.{NodeIs}
 use Rattle.walk.specs.Walks.{liveMatch, PageHeld}
 use Rattle.leaf_score.proofs.Leaves.{read}
-use Rattle.bulk_default.specs.Collects.{CollectPre, CollectPost}
+use Rattle.bulk_default.specs.Collects.{CollectPost}
 use Rattle.bulk_term.specs.Postings.{NodeScores, PostingAsks}
 use Rattle.bulk_default.proofs.Collecting.{nonneg-clear}
 use Rattle.bulk_term.proofs.LiveMatches.{live_of, live-there, not-match, not_live, is-match}

@@ -14,7 +14,7 @@ use Rattle.meaning.specs.Lent.{Index}
 use Rattle.meaning.specs.Ieee754.{narrow, narrowedSum}
 use Rattle.ieee754.specs.Nonneg.{AtMost}
 use Rattle.ieee754.proofs.Narrowing.{narrow-fits}
-use Rattle.weight.specs.ScorerTree.{Leaf, nothing, term, phrase, range, everything, Scoring, Joining, Scorer, leaf, boolean, Scorers, end, more, matches, allMatch, anyMatches, matching, scoring, joinedScore, scorerScore, requiredScores}
+use Rattle.weight.specs.ScorerTree.{Leaf, nothing, term, phrase, range, everything, Scoring, Joining, Scorer, leaf, boolean, Scorers, end, more, matches, allMatch, anyMatches, matching, joinedScore, scorerScore, requiredScores}
 use Rattle.weight.specs.State.{State, words_of, sizesOf}
 use Rattle.weight.specs.Held.{LeafIs, KeptIs, Ok, Oks}
 use Rattle.weight.specs.Sound.{LeafSound, Sound, Sounds, LeafTable, Tables, TablesOf, nodes, nodesOf}

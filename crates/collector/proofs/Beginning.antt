@@ -9,7 +9,7 @@ use lib.Seq.{take-nil}
 use lib.IntN.{ℤ}
 use lib.Ieee.{binary32, of_bits}
 use Rattle.meaning.specs.FullList.{ScoreDoc}
-use Rattle.meaning.specs.Hits.{descending, hits, mark}
+use Rattle.meaning.specs.Hits.{descending, hits}
 use Rattle.meaning.specs.Entries.{written, topDocs}
 use Rattle.collector.specs.declared.TopScoreDocCollector.{TopScoreDocCollector}
 use Rattle.collector.specs.declared.TopDocs.{TopDocs}

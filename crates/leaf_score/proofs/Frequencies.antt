@@ -1,14 +1,14 @@
 -- Frequencies: a term's is found by the scan, and a phrase's is at most that of its first term. Assumes nothing.
-use mathlib.Core.Path.{◌≡◌, refl, sym, ap, subst, ◌∙◌}
+use mathlib.Core.Path.{◌≡◌, refl, sym}
 use mathlib.Core.Logic.{⊎_elim}
-use mathlib.Core.Bool.{true, false, false≢true}
-use mathlib.Core.List.{List, [], ◌∷◌, ◌++◌}
+use mathlib.Core.Bool.{true, false≢true}
+use mathlib.Core.List.{List, [], ◌∷◌}
 use mathlib.Core.Option.{Option, none, some}
-use Prim.Native.Nat.{ℕ, zero, suc, ◌+◌, ◌*◌, ◌/◌, ◌≤◌, ◌<◌, min}
+use Prim.Native.Nat.{ℕ, zero, suc, ◌≤◌, ◌<◌}
 use native.Mathlib.Nat.{le_refl, le_trans, le_of_eq, add-le-add}
 use native.Mathlib.Omega.{arith}
 use lib.IntN.{ℤ}
-use lib.ListN.{length, get_or, length-append, length-map}
+use lib.ListN.{length, length-append, length-map}
 use Rattle.meaning.specs.Below.{listTo}
 use Rattle.meaning.specs.Limits.{largestFrequency}
 use Rattle.meaning.specs.Lent.{Index, leafCount, leafFirst, leafNumber, leafDocument, leafFrequency, leafPosition}
@@ -19,7 +19,7 @@ use Rattle.index.specs.Accepted.{Accepted}
 use Rattle.index.specs.Runs.{postingDocument, postingFrequency}
 use Rattle.index.proofs.PostingAt.{posting-is}
 use Rattle.weight.specs.Held.{RunAt}
-use Rattle.weight.specs.Sound.{LeafSound, EachTerm}
+use Rattle.weight.specs.Sound.{EachTerm}
 use Rattle.meaning.proofs.Tests.{cmp}
 
 -- what a scan from the cursor answers

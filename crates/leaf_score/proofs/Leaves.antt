@@ -1,8 +1,8 @@
 -- The score of a leaf that scores by BM25, by its kind. Assumes nothing.
 use mathlib.Core.Path.{◌≡◌, refl, sym, ap, subst, ◌∙◌}
-use mathlib.Core.Bool.{Bool, true, false, not, cond, false≢true}
+use mathlib.Core.Bool.{Bool, true, false, not, cond}
 use mathlib.Core.List.{List, ◌++◌}
-use Prim.Native.Nat.{ℕ, zero, suc, ◌+◌, ◌-◌, ◌*◌, ◌/◌, ◌^◌, ◌≤◌, ◌<◌}
+use Prim.Native.Nat.{ℕ, ◌+◌, ◌-◌, ◌*◌, ◌/◌, ◌^◌, ◌≤◌, ◌<◌}
 use native.Mathlib.Omega.{arith}
 use lib.Dec.{T, lit≤}
 use lib.IntN.{pos}
@@ -21,14 +21,14 @@ use Rattle.ieee754.proofs.Bounds.{zero-atmost}
 use Rattle.index.specs.Accepted.{Accepted}
 use Rattle.weight.specs.ScorerTree.{Leaf, nothing, term, phrase, range, everything, weighted, leafMatches, leafScore}
 use Rattle.weight.specs.State.{State, words_of}
-use Rattle.weight.specs.Held.{normsWord, TermIs, PhraseIs, LeafIs, FloatIs}
-use Rattle.weight.specs.Sound.{Lends, LeafSound, EachTerm, FieldTable, LeafTable}
+use Rattle.weight.specs.Held.{normsWord, PhraseIs, LeafIs, FloatIs}
+use Rattle.weight.specs.Sound.{LeafSound, FieldTable, LeafTable}
 use Rattle.leaf_score.specs.declared.Node.{Node}
 use Rattle.leaf_score.specs.Words.{NodeIs, byte_at}
 use Rattle.leaf_scorer.specs.Phrases.{PhraseHeld}
-use Rattle.leaf_score.specs.Asked.{LentAt, LeafAsks, LeafKept, Same, FrequencyPost}
+use Rattle.leaf_score.specs.Asked.{LentAt, LeafAsks, LeafKept, FrequencyPost}
 use Rattle.leaf_score.proofs.Frequencies.{Scanned, scanned, phrase-frequency-few}
-use Rattle.leaf_score.proofs.Weights.{float_back, float-number, norm-there, norm-is, inverse-there, weighted-is, weighted-small}
+use Rattle.leaf_score.proofs.Weights.{float-number, norm-there, norm-is, inverse-there, weighted-is, weighted-small}
 
 -- the record's words, as they are read
 pub record Read (n : Node) (s : State) : Type 0 where

@@ -12,7 +12,7 @@ use lib.Ieee.{Float, binary32, nan_bits, of_bits}
 use Rattle.meaning.specs.Lent.{Index}
 use Rattle.ieee754.specs.Nonneg.{AtMost}
 use Rattle.ieee754.proofs.Bounds.{atmost-more}
-use Rattle.weight.specs.ScorerTree.{Leaf, nothing, constant, weighted, Scorer, leaf, boolean, matches, leafScore, scorerScore}
+use Rattle.weight.specs.ScorerTree.{Leaf, constant, weighted, Scorer, leaf, boolean, matches, leafScore, scorerScore}
 use Rattle.weight.specs.State.{State, words_of}
 use Rattle.weight.specs.Held.{Cache, LeafIs, ScoringIs, KeptIs, FloatIs, Ok}
 use Rattle.weight.specs.Sound.{Sound, Tables, nodes, nodesOf}

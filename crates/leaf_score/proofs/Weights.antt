@@ -3,12 +3,12 @@ use mathlib.Core.Path.{◌≡◌, refl, sym, ap, subst, ◌∙◌}
 use mathlib.Core.Logic.{⊎_elim}
 use mathlib.Core.Bool.{Bool, true, false, not, cond}
 use mathlib.Core.List.{List}
-use Prim.Native.Nat.{ℕ, zero, suc, ◌+◌, ◌-◌, ◌*◌, ◌^◌, ◌≤◌, ◌<◌}
+use Prim.Native.Nat.{ℕ, suc, ◌+◌, ◌-◌, ◌*◌, ◌^◌, ◌≤◌, ◌<◌}
 use native.Mathlib.Omega.{arith}
-use lib.Dec.{T, eqb, lit<}
+use lib.Dec.{T, eqb}
 use lib.IntN.{pos}
 use lib.ListN.{length, get_or, get_or-eq_default}
-use lib.Ieee.{Float, nan, binary32, is_nan, nan_bits, of_bits, to_bits, of_int}
+use lib.Ieee.{Float, nan, binary32, is_nan, nan_bits, of_bits, of_int}
 use lib.Ieee.Bits.{of_bits-to_bits, nan_bits_is}
 use borrow.Author.Tests.{ne_eqb}
 use Rattle.meaning.specs.Below.{countBelow}

@@ -1,18 +1,17 @@
 -- The words of a node: a larger bound asks less of them, their number, their size word, and where the node stands. Assumes nothing.
-use mathlib.Core.Path.{◌≡◌, refl, sym, ap, ◌∙◌}
+use mathlib.Core.Path.{◌≡◌, sym, ap, ◌∙◌}
 use mathlib.Core.Bool.{Bool, cond}
 use mathlib.Core.List.{List, [], ◌∷◌, ◌++◌}
-use Prim.Native.Nat.{ℕ, suc, ◌+◌, ◌-◌, ◌*◌, ◌≤◌, ◌<◌, max}
+use Prim.Native.Nat.{ℕ, ◌+◌, ◌-◌, ◌*◌, ◌≤◌, max}
 use native.Mathlib.Nat.{le_trans, lt_of_lt_of_le}
 use native.Mathlib.Omega.{arith}
 use lib.ListN.{get_or, length, length-append}
 use Rattle.meaning.specs.Limits.{nodeStateWords}
 use Rattle.meaning.specs.Lent.{Index}
 use Rattle.meaning.specs.Phrase.{PhraseTerm}
-use Rattle.meaning.specs.First.{First}
-use Rattle.weight.specs.ScorerTree.{Leaf, nothing, term, phrase, range, everything, Scoring, Scorer, leaf, boolean, Scorers, end, more, matches}
+use Rattle.weight.specs.ScorerTree.{Leaf, nothing, term, phrase, range, everything, Scorer, leaf, boolean, Scorers, end, more, matches}
 use Rattle.weight.specs.State.{State, words_of, leafSize, size_of, sizesOf}
-use Rattle.weight.specs.Held.{Cache, RunAt, TermIs, RangeIs, TermsAre, PhraseIs, LeafIs, Ok, Oks}
+use Rattle.weight.specs.Held.{Cache, RunAt, TermIs, TermsAre, LeafIs, Ok, Oks}
 
 -- ---- a larger bound asks less
 run-mono : {doc : ℕ → ℕ} {n u b e : ℕ} → b ≤ e → RunAt doc n u b → RunAt doc n u e

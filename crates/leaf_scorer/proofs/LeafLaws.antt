@@ -1,30 +1,26 @@
 -- The leaves whose documents are a run, and those that match all. Assumes nothing.
 use mathlib.Core.Path.{◌≡◌, refl, sym, ap, subst, ◌∙◌}
-use mathlib.Core.Logic.{◌⊎◌, inl, inr, ⊎_elim}
-use mathlib.Core.Bool.{Bool, true, false, ◌&&◌, false≢true}
-use mathlib.Core.List.{List, [], ◌++◌}
-use mathlib.Core.Option.{Option, none, some}
-use Prim.Native.Nat.{ℕ, suc, ◌+◌, ◌*◌, ◌≤◌, ◌<◌}
-use native.Mathlib.Nat.{le_refl, le_trans, eq-or-lt_of_le}
+use mathlib.Core.Logic.{⊎_elim}
+use mathlib.Core.Bool.{Bool, true, false, ◌&&◌}
+use mathlib.Core.List.{List, ◌++◌}
+use Prim.Native.Nat.{ℕ, ◌+◌, ◌*◌, ◌≤◌, ◌<◌}
+use native.Mathlib.Nat.{eq-or-lt_of_le}
 use native.Mathlib.Omega.{arith}
 use lib.Dec.{ltb}
 use lib.ListN.{get_or, length, set}
-use borrow.Author.Tests.{ltb-true, ltb-false, lt-ltb, le-ltb}
+use borrow.Author.Tests.{ltb-true, lt-ltb, le-ltb}
 use Rattle.meaning.specs.Limits.{noMoreDocs, maxDocuments}
-use Rattle.meaning.specs.Lent.{Index, leafNumber, leafFirst, leafDocument, leafCount}
+use Rattle.meaning.specs.Lent.{Index, leafNumber, leafDocument, leafCount}
 use Rattle.meaning.specs.Postings.{postingAt, found}
 use Rattle.meaning.specs.Range.{NumericRange, in_range, rangeDocuments}
 use Rattle.meaning.specs.First.{First}
 use Rattle.index.specs.Accepted.{Accepted}
 use Rattle.index.proofs.PostingAt.{posting-at, posting-none}
 use Rattle.doc_values.proofs.Lists.{listed_at, listed-ascends, listed_has}
-use Rattle.weight.specs.ScorerTree.{Leaf, nothing, term, phrase, range, everything, leafMatches}
 use Rattle.weight.specs.State.{State, words_of}
-use Rattle.weight.specs.Held.{RunAt, TermIs, RangeIs, LeafIs}
-use Rattle.weight.specs.Sound.{LeafSound}
+use Rattle.weight.specs.Held.{TermIs, RangeIs}
 use Rattle.run.specs.Run.{documentAt, Run, Lower}
 use Rattle.leaf_scorer.specs.Search.{cursorAt, SearchHeld, SearchMoved, SearchPost, AnyDocument}
-use Rattle.leaf_scorer.specs.Calls.{Lent, LeafHeld, LeafMoved, LeafPost}
 use Rattle.meaning.proofs.Tests.{cmp}
 
 -- ---- `search`

@@ -1,38 +1,36 @@
 -- A phrase's terms at a common document, and its frequency from the words that are gathered there. Assumes nothing.
 use mathlib.Core.Path.{◌≡◌, refl, sym, ap, subst, ◌∙◌}
-use mathlib.Core.Logic.{◌⊎◌, inl, inr, ⊎_elim}
+use mathlib.Core.Logic.{◌⊎◌, ⊎_elim}
 use mathlib.Core.Bool.{Bool, true, false, ◌&&◌, false≢true}
-use mathlib.Core.List.{List, [], ◌∷◌, ◌++◌, map, append_assoc, append-nil}
+use mathlib.Core.List.{List, [], ◌∷◌, ◌++◌, append_assoc, append-nil}
 use mathlib.Core.Option.{Option, none, some}
-use Prim.Native.Nat.{ℕ, zero, suc, ◌+◌, ◌-◌, ◌*◌, ◌%◌, ◌≤◌, ◌<◌, max, min}
+use Prim.Native.Nat.{ℕ, suc, ◌+◌, ◌-◌, ◌*◌, ◌%◌, ◌≤◌, ◌<◌}
 use native.Mathlib.Nat.{le_refl, le_trans, not-suc-le-zero}
-use native.Mathlib.Numerals.{add-one}
 use native.Mathlib.Omega.{arith}
 use lib.Dec.{ltb}
 use lib.IntN.{ℤ}
-use lib.ListN.{get_or, length, take, drop, set, length-append, length-take, length-drop, length-set}
+use lib.ListN.{get_or, length, take, drop, set, length-append, length-set}
 use lib.Seq.{take_at, drop_at, take-length, drop-length, get_or-append-add, get_or-set_same, get_or-set_other, take-suc-set}
-use borrow.Author.Tests.{ltb-false, ltb-true, lt-ltb, le-ltb}
-use Rattle.meaning.specs.Below.{listTo}
+use borrow.Author.Tests.{ltb-true, lt-ltb, le-ltb}
 use Rattle.meaning.specs.CallRefusals.{largestIn}
 use Rattle.meaning.specs.Limits.{noMoreDocs, nodeStateWords}
-use Rattle.meaning.specs.Lent.{Index, leafNumber, leafFirst, leafDocument, leafFrequency, leafPositionsIndex, leafPosition, leafField, leafCount, hasPositions}
+use Rattle.meaning.specs.Lent.{Index, leafNumber, leafFirst, leafFrequency, leafPositionsIndex, leafField, hasPositions}
 use Rattle.meaning.specs.Postings.{postingAt, found, positionsOf}
 use Rattle.meaning.specs.Phrase.{PhraseTerm, starts, termStarts, multiplicity, smallest, commonSize, phraseFrequency}
 use Rattle.meaning.specs.First.{First}
 use Rattle.meaning.proofs.Tests.{cmp}
 use Rattle.meaning.proofs.Below.{largest-at}
-use Rattle.meaning.proofs.Phrases.{common-start, smallest-head}
+use Rattle.meaning.proofs.Phrases.{common-start}
 use Rattle.index.specs.Accepted.{Accepted}
 use Rattle.index.proofs.PostingAt.{posting-at}
 use Rattle.phrase.specs.Terms.{termAt, startsOf, startLists, GoodTerm, Good, Room}
 use Rattle.weight.specs.ScorerTree.{phrase}
 use Rattle.weight.specs.State.{State, words_of}
-use Rattle.weight.specs.Held.{TermIs, TermsAre}
+use Rattle.weight.specs.Held.{TermsAre}
 use Rattle.weight.specs.Sound.{PhraseTermIs, EachTerm, LeafSound}
-use Rattle.leaf_scorer.specs.Search.{cursorAt, SearchHeld, SearchMoved, SearchPost}
+use Rattle.leaf_scorer.specs.Search.{cursorAt, SearchHeld, SearchPost}
 use Rattle.leaf_scorer.specs.Phrases.{allFound, LeavesThere, TermsAt, TermsHeld, TermsPassed, Leapt, Gathered, GatherHeld, GatheredTo, PlaceAt, PlaceRead, FrequencyHeld, PhraseHeld, PhraseMoved, workedAt}
-use Rattle.leaf_scorer.proofs.Bounds.{term-mono, terms-mono, terms-length}
+use Rattle.leaf_scorer.proofs.Bounds.{term-mono, terms-mono}
 use Rattle.leaf_scorer.proofs.LeafLaws.{term-run, term_moved, term-stands, term-first}
 
 -- ---- one pass over the terms, the last that moved it at a place

@@ -1,21 +1,18 @@
 -- A leaf's move by its kind. Assumes nothing.
 use mathlib.Core.Path.{◌≡◌, refl, sym, ap, subst, ◌∙◌}
-use mathlib.Core.Bool.{Bool, true, false, ◌&&◌}
-use mathlib.Core.List.{List, [], ◌++◌}
-use Prim.Native.Nat.{ℕ, ◌+◌, ◌*◌, ◌≤◌, ◌<◌}
+use mathlib.Core.List.{List}
+use Prim.Native.Nat.{ℕ, ◌≤◌, ◌<◌}
 use native.Mathlib.Omega.{arith}
-use lib.Dec.{ltb}
 use lib.ListN.{get_or, length}
 use Rattle.meaning.specs.Limits.{noMoreDocs, nodeStateWords}
 use Rattle.meaning.specs.Lent.{Index}
-use Rattle.meaning.specs.First.{First}
 use Rattle.weight.specs.ScorerTree.{Leaf, nothing, term, phrase, range, everything, leafMatches}
-use Rattle.weight.specs.State.{State, words_of}
+use Rattle.weight.specs.State.{State}
 use Rattle.weight.specs.Held.{LeafIs}
 use Rattle.weight.specs.Sound.{LeafSound}
 use Rattle.leaf_scorer.specs.Search.{cursorAt, SearchPre, SearchPost, AnyDocument}
 use Rattle.leaf_scorer.specs.Phrases.{PhraseHeld, PhrasePost}
-use Rattle.leaf_scorer.specs.Calls.{Lent, LeafHeld, LeafMoved, LeafPost}
+use Rattle.leaf_scorer.specs.Calls.{Lent, LeafHeld, LeafPost}
 use Rattle.leaf_scorer.proofs.Loops.{first-like}
 use Rattle.leaf_scorer.proofs.Bounds.{leaf-mono}
 use Rattle.leaf_scorer.proofs.LeafLaws.{term-run, term_moved, term-first, range-run, range_moved, range-first, any-first}

@@ -5,7 +5,7 @@ use mathlib.Core.List.{List, [], ◌∷◌, ◌++◌, map}
 use Prim.Native.Nat.{ℕ, ◌*◌, ◌/◌, ◌%◌, ◌^◌}
 use lib.IntN.{ℤ, pos, negsuc}
 use lib.ListN.{take, drop, get_or}
-use lib.Ieee.{Float, binary32, to_bits, round, units, odd, size, span, climb, add, sub, mul, div, neg, sum as ieeeSum, of_fields, of_bits, of_int, nan_bits, lt, to_unsigned}
+use lib.Ieee.{binary32, to_bits, round, units, odd, size, span, climb, add, sub, mul, div, neg, sum as ieeeSum, of_fields, of_bits, of_int, nan_bits, lt, to_unsigned}
 use lib.Count.{count_trailing_zeros}
 use Rattle.meaning.specs.Below.{anyBelow, countBelow, listBelow, lastBelow, largestBelow, listTo}
 use Rattle.meaning.specs.Limits.{nodeStateWords}
@@ -13,15 +13,15 @@ use Rattle.meaning.specs.Lent.{Index}
 use Rattle.meaning.specs.Live.{isLive}
 use Rattle.meaning.specs.Ieee754.{narrow, sumFrom, narrowedSum, totalBelow, sortableInt, sortableBits}
 use Rattle.meaning.specs.SmallFloat.{longToInt4, int4ToLong, maxInt4, numFreeValues, byte4ToInt}
-use Rattle.meaning.specs.Bm25.{one, length_of}
+use Rattle.meaning.specs.Bm25.{length_of}
 use Rattle.meaning.specs.Range.{NumericRange, i64Of, valueBelow, atLower, atUpper, in_range, rangeDocuments}
 use Rattle.meaning.specs.Phrase.{PhraseTerm, starts, termStarts, multiplicity, smallest, distinct, sumSmallest, commonSize, phraseFrequency}
-use Rattle.meaning.specs.Query.{Occur, must, should, mustNot, filter, Tree, term, boolean, constantScore, boost, Clauses, empty, clause, hasRequired, decodeClauses, decodeChild, decodePhrase, decodeKind, decode, decodeQuery, queryTree}
+use Rattle.meaning.specs.Query.{must, should, mustNot, filter, Tree, term, boolean, constantScore, boost, Clauses, empty, clause, hasRequired, decodeClauses, decodeChild, decodePhrase, decodeKind, decode, decodeQuery, queryTree}
 use Rattle.meaning.specs.Takes.{requiredHold, someProhibited, shouldsHolding, shouldsNeeded, booleanTakes, takes}
 use Rattle.meaning.specs.Scorer.{allHavePostings, hasScorer}
 use Rattle.meaning.specs.Cost.{least, costsOf, sum, disjunctionCost, conjunctionCost, cost}
 use Rattle.meaning.specs.Score.{fieldScore, termScore, phraseIdf, phraseScore, insertByCost, byCost, requiredScore, mustScores, shouldScores, groupScore, booleanScore, score}
-use Rattle.meaning.specs.FullList.{ScoreDoc, matches, fullList}
+use Rattle.meaning.specs.FullList.{matches, fullList}
 use Rattle.meaning.specs.Hits.{code, toDoc, toScore, insertDescending, descending, hits, mark}
 use Rattle.meaning.specs.Pages.{fromTarget, firstDoc, page}
 use Rattle.meaning.specs.Refusals.{lowest}

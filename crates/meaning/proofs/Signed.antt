@@ -1,5 +1,5 @@
 -- The order of ℤ, beyond `lib.Signed`. Assumes nothing.
-use mathlib.Core.Path.{◌≡◌, refl, sym, ap, subst}
+use mathlib.Core.Path.{◌≡◌, sym, ap, subst}
 use mathlib.Core.Logic.{◌⊎◌}
 use mathlib.Core.Bool.{Bool, true, false, not}
 use native.Mathlib.Nat.{le_trans, le_antisymm, le_of_lt}

@@ -1,5 +1,5 @@
 -- The numbers below a bound that have a property. Assumes nothing: these are definitions.
-use Rattle.std.specs.Prelude.{Bool, true, false, cond, ◌||◌, List, [], ◌∷◌, ◌++◌, ℕ, zero, suc, ◌+◌, max}
+use Rattle.std.specs.Prelude.{Bool, false, cond, ◌||◌, List, [], ◌∷◌, ◌++◌, ℕ, zero, suc, ◌+◌, max}
 use Rattle.std.proofs.Math.Option.{Option, none, some}
 
 -- some number below n has the property

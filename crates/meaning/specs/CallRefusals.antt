@@ -1,6 +1,6 @@
 -- Document 01, "Who causes which refusal": the caller's numbers, 11 to 14. None has to make sense where a lower one holds.
 -- Assumes nothing: these are definitions.
-use Rattle.std.specs.Prelude.{Bool, true, false, not, cond, ◌&&◌, ◌||◌, List, ℕ, ◌+◌, ◌-◌, ◌*◌, eqb, leb, ltb, length, get_or}
+use Rattle.std.specs.Prelude.{Bool, not, cond, ◌&&◌, ◌||◌, List, ℕ, ◌+◌, ◌-◌, ◌*◌, eqb, leb, ltb, length, get_or}
 use Rattle.meaning.specs.Below.{anyBelow, countBelow, largestBelow}
 use Rattle.meaning.specs.Limits.{noMoreDocs, maxHits, nodeStateWords, plusInfinity}
 use Rattle.meaning.specs.Lent.{Index, leafNumber, leafFrequency}

@@ -1,8 +1,7 @@
 -- Document 01, "Meaning of the tree": the cost of a node. Assumes nothing: these are definitions.
-use Rattle.std.specs.Prelude.{Bool, true, false, cond, ◌&&◌, List, [], ◌∷◌, ◌++◌, map, ℕ, ◌+◌, min, ltb, length}
+use Rattle.std.specs.Prelude.{Bool, cond, ◌&&◌, List, [], ◌∷◌, ◌++◌, map, ℕ, ◌+◌, min, ltb, length}
 use Rattle.meaning.specs.Lent.{Index, leafNumber}
 use Rattle.meaning.specs.Range.{rangeDocuments}
-use Rattle.meaning.specs.Phrase.{PhraseTerm}
 use Rattle.meaning.specs.Query.{Occur, isRequired, isShould, Tree, term, phrase, boolean, range, matchAll, constantScore, boost, matchNone, Clauses, empty, clause, hasRequired}
 use Rattle.meaning.specs.Scorer.{hasScorer}
 

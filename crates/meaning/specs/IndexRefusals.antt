@@ -1,6 +1,6 @@
 -- Document 01, "Who causes which refusal": the loader's numbers, 1 to 6. None has to make sense where a lower one holds.
 -- Assumes nothing: these are definitions.
-use Rattle.std.specs.Prelude.{Bool, true, false, not, cond, ◌&&◌, ◌||◌, ℕ, ◌+◌, ◌-◌, ◌*◌, ◌/◌, ◌%◌, eqb, leb, ltb, length}
+use Rattle.std.specs.Prelude.{Bool, not, cond, ◌&&◌, ◌||◌, ℕ, ◌+◌, ◌-◌, ◌*◌, ◌/◌, ◌%◌, eqb, leb, ltb, length}
 use Rattle.meaning.specs.Below.{anyBelow, countBelow}
 use Rattle.meaning.specs.Limits.{noMoreDocs, maxDocuments, maxFields, maxLeaves, maxColumns, leastAverage, largestAverage, largestIdf, largestFrequency}
 use Rattle.meaning.specs.Lent.{Index, fieldCount, fieldAverage, fieldNorms, fieldPositions, hasNorms, hasPositions, leafCount, leafField, leafFirst, leafNumber, leafIdf, postingCount, leafDocument, leafFrequency, leafPositionsIndex, leafPosition, columnCount, columnType, valuePresent}

@@ -1,5 +1,5 @@
 -- Document 01, "Entries": a page of the full list. Assumes nothing: these are definitions.
-use Rattle.std.specs.Prelude.{Bool, true, false, cond, List, [], ◌∷◌, ◌++◌, ℕ, leb, take, drop}
+use Rattle.std.specs.Prelude.{cond, List, [], ◌∷◌, ◌++◌, ℕ, leb, take, drop}
 use Rattle.meaning.specs.Limits.{noMoreDocs}
 use Rattle.meaning.specs.FullList.{ScoreDoc}
 

@@ -1,5 +1,5 @@
 -- Document 01, "Meaning of the tree": where a phrase stands, and how often. Assumes nothing: these are definitions.
-use Rattle.std.specs.Prelude.{Bool, true, false, cond, ◌||◌, List, [], ◌∷◌, ◌++◌, map, ℕ, zero, suc, ◌+◌, min, eqb, ltb, ℤ, pos, negsuc}
+use Rattle.std.specs.Prelude.{Bool, false, cond, List, [], ◌∷◌, ◌++◌, map, ℕ, ◌+◌, min, eqb, ltb, ℤ, pos, negsuc}
 use Rattle.std.proofs.Math.IntN.{sub_ℕ}
 use Rattle.meaning.specs.Lent.{Index}
 use Rattle.meaning.specs.Postings.{postingAt, positionsOf}

@@ -1,6 +1,6 @@
 -- Document 01, "Who causes which refusal": the author of the query's numbers, 7 to 10, and the Range entry's 8.
 -- None has to make sense where a lower one holds. Assumes nothing: these are definitions.
-use Rattle.std.specs.Prelude.{Bool, true, false, not, cond, ◌&&◌, ◌||◌, List, ℕ, ◌+◌, ◌/◌, ◌%◌, eqb, leb, ltb, length, Float}
+use Rattle.std.specs.Prelude.{Bool, true, false, not, ◌&&◌, ◌||◌, List, ℕ, ◌+◌, ◌/◌, ◌%◌, eqb, leb, ltb, length, Float}
 use Rattle.std.proofs.Math.Option.{Option, none, some}
 use Rattle.std.specs.Float.{binary32}
 use Rattle.std.specs.Float.Ieee.{lt, of_bits}

@@ -1,5 +1,5 @@
 -- Document 01, "Meaning of the tree", and request 2026-03: the documents whose value lies in a range. Assumes nothing: these are definitions.
-use Rattle.std.specs.Prelude.{Bool, true, false, not, cond, ◌&&◌, ◌||◌, List, ℕ, zero, suc, ◌-◌, ◌/◌, ◌%◌, ◌^◌, eqb, ltb, ℤ, pos, negsuc}
+use Rattle.std.specs.Prelude.{Bool, true, not, cond, ◌&&◌, ◌||◌, List, ℕ, ◌-◌, ◌/◌, ◌%◌, ◌^◌, eqb, ltb, ℤ, pos, negsuc}
 use Rattle.std.specs.Float.{binary64}
 use Rattle.std.specs.Float.Ieee.{nan_bits}
 use Rattle.std.specs.Int.Signed.{lt_z}

@@ -1,7 +1,7 @@
 -- Document 01, "Meaning of the tree" and "BM25 and the hits": the score that a query gives a document.
 -- It is total: a Must contributes whether or not it takes the document, and a term without a posting there has frequency 0.
 -- Assumes nothing: these are definitions.
-use Rattle.std.specs.Prelude.{Bool, true, false, not, cond, ◌&&◌, ◌||◌, List, [], ◌∷◌, ◌++◌, map, ℕ, eqb, leb, ltb, pos, Float}
+use Rattle.std.specs.Prelude.{Bool, true, false, cond, ◌&&◌, List, [], ◌∷◌, ◌++◌, map, ℕ, eqb, leb, pos, Float}
 use Rattle.std.specs.Float.{binary32, binary64}
 use Rattle.std.specs.Float.Ieee.{add, mul, of_bits, of_int}
 use Rattle.meaning.specs.Lent.{Index, fieldAverage, leafField, leafIdf, normByte}

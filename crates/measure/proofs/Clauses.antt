@@ -1,16 +1,15 @@
 -- One clause more in a tally, as the code branches. Assumes nothing.
 use mathlib.Core.Path.{◌≡◌, refl, sym, ◌∙◌, ap, subst}
-use mathlib.Core.Bool.{Bool, true, false, cond, not, ◌&&◌}
-use mathlib.Core.Option.{Option, none, some}
-use Prim.Native.Nat.{ℕ, zero, suc, ◌+◌, min, max}
+use mathlib.Core.Bool.{Bool, true, false, cond}
+use mathlib.Core.Option.{none, some}
+use Prim.Native.Nat.{ℕ, zero, suc, min}
 use native.Mathlib.Omega.{arith}
-use lib.Dec.{eqb, leb}
-use borrow.Author.Tests.{eq-eqb, ne_eqb}
+use lib.Dec.{eqb}
 use Rattle.meaning.specs.Query.{Occur, must, should, mustNot, filter, occurOf}
 use Rattle.query.proofs.Inverse.{some_same}
 use Rattle.weight.proofs.Presence.{absent, present}
 use Rattle.measure.specs.declared.Tally.{Tally}
-use Rattle.measure.specs.Tallied.{tallied, tallyCost, tallyPresent}
+use Rattle.measure.specs.Tallied.{tallied, tallyCost}
 
 module _ (t : Tally) (x c : ℕ) (p : Bool) (e : x ≡ cond p 1 0) where
   pub should-absent : x ≡ 0 → t ≡ tallied t should p c

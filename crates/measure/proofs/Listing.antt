@@ -1,16 +1,16 @@
 -- The documents of a query's ranges, one record's after the other's. Assumes nothing.
 use mathlib.Core.Path.{◌≡◌, refl, sym, ◌∙◌, ap, subst}
-use mathlib.Core.Bool.{Bool, true, false, cond, not, ◌||◌}
-use mathlib.Core.List.{List, [], ◌∷◌, ◌++◌}
+use mathlib.Core.Bool.{Bool, true, false, cond}
+use mathlib.Core.List.{List, ◌++◌}
 use mathlib.Core.Logic.{◌⊎◌, inl, inr}
-use Prim.Native.Nat.{ℕ, zero, suc, ◌+◌, ◌-◌, ◌*◌, ◌/◌, ◌≤◌, ◌<◌, min}
+use Prim.Native.Nat.{ℕ, zero, suc, ◌+◌, ◌-◌, ◌*◌, ◌≤◌, ◌<◌, min}
 use native.Mathlib.Omega.{arith}
 use native.Mathlib.Nat.{mul-le-mul, mul-add, mul-one}
-use lib.Dec.{eqb, leb, ltb}
-use lib.ListN.{length, get_or, set, take, length-append, length-take, length-drop, length-set, get_or-append}
+use lib.Dec.{eqb, ltb}
+use lib.ListN.{length, get_or, set, take, length-take, get_or-append}
 use lib.Seq.{get_or-set_same, get_or-set_other, get_or-take, get_or-append-add}
-use borrow.Author.Tests.{lt-ltb, le-ltb, eq-eqb, ne_eqb, eqb-true, eqb-false}
-use Rattle.meaning.specs.Below.{anyBelow, countBelow}
+use borrow.Author.Tests.{le-ltb, eq-eqb, eqb-true}
+use Rattle.meaning.specs.Below.{countBelow}
 use Rattle.meaning.specs.Limits.{maxDocuments}
 use Rattle.meaning.specs.Lent.{Index, joined, columnCount, columnType, valuePresent}
 use Rattle.meaning.specs.Range.{NumericRange, rangeDocuments}

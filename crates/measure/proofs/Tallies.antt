@@ -2,19 +2,19 @@
 use mathlib.Core.Path.{◌≡◌, refl, sym, ◌∙◌, ap}
 use mathlib.Core.Bool.{Bool, true, false, not, cond, ◌&&◌, ◌||◌}
 use mathlib.Core.List.{List, [], ◌∷◌, ◌++◌}
-use mathlib.Core.Option.{Option, none, some}
+use mathlib.Core.Option.{some}
 use Prim.Native.Nat.{ℕ, zero, suc, ◌+◌, ◌-◌, ◌*◌, ◌≤◌, ◌<◌, min, max}
 use native.Mathlib.Omega.{arith}
 use lib.Dec.{eqb, leb, ltb}
-use lib.ListN.{length, get_or}
+use lib.ListN.{get_or}
 use borrow.Author.Tests.{eqb-true, eqb-false, lt-ltb, le-ltb}
 use Rattle.meaning.specs.Lent.{Index}
 use Rattle.meaning.specs.Takes.{requiredHold, shouldsHolding, shouldsNeeded}
 use Rattle.meaning.specs.Query.{recordCount, recordChildren, recordValue, recordKind, recordOccurrence, occurOf, Tree, Occur, must, should, mustNot, filter, isRequired, isShould, Clauses, empty, clause, boolean, hasRequired, Decoded, DecodedClauses, decode, decodeClauses}
 use Rattle.meaning.specs.Scorer.{hasScorer, scorersOf}
 use Rattle.meaning.specs.Cost.{least, costsOf, sum, disjunctionCost, conjunctionCost, cost, costs}
-use Rattle.query.proofs.Inverse.{OneClause, some_same, BooleanAt, boolean-at}
-use Rattle.query.proofs.Above.{first-clause, level}
+use Rattle.query.proofs.Inverse.{some_same, BooleanAt, boolean-at}
+use Rattle.query.proofs.Above.{first-clause}
 use Rattle.query.proofs.Spans.{tree-span}
 use Rattle.weight.proofs.Standing.{deep}
 use Rattle.measure.specs.declared.Tally.{Tally}

@@ -9,7 +9,6 @@ use Rattle.weight.specs.State.{size_of}
 use Rattle.node_words.specs.Placed.{LeafLent}
 use Rattle.order_check.specs.Lends.{work}
 use Rattle.searcher.specs.declared.page.Paged.{Paged}
-use Rattle.searcher.specs.declared.page.Paged.TheVariants as Paged
 use Rattle.searcher.specs.Answers.{pagedNumbers}
 use Rattle.node_state.specs.Records.{held}
 use Rattle.node_state.specs.Standing.{Standing, tree_of}

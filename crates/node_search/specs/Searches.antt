@@ -5,7 +5,6 @@ use Rattle.meaning.specs.Lent.{Index}
 use Rattle.meaning.specs.CallRefusals.{Work}
 use Rattle.meaning.specs.Entries.{Kept, searchRefusal, searchAnswer, searchHits}
 use Rattle.searcher.specs.declared.search.Searched.{Searched}
-use Rattle.searcher.specs.declared.search.Searched.TheVariants as Searched
 use Rattle.order_check.specs.Lends.{work}
 use Rattle.searcher.specs.Answers.{searchedNumbers}
 use Rattle.node_state.specs.declared.NodeState.{NodeState}

@@ -10,7 +10,6 @@ use lib.ListN.{get_or}
 use lib.Ieee.{Float}
 use Rattle.meaning.specs.Limits.{nodeStateWords}
 use Rattle.meaning.specs.Lent.{Index}
-use Rattle.meaning.specs.Query
 use Rattle.meaning.specs.Query.{recordCount, recordKind, recordChildren, range_of, Tree, Decoded}
 use Rattle.meaning.specs.Scorer.{hasScorer}
 use Rattle.ieee754.specs.Nonneg.{AtMost}

@@ -1,11 +1,11 @@
 -- The words of a phrase's part, as the code writes them. Assumes nothing.
 use mathlib.Core.Path.{◌≡◌, refl, sym, ◌∙◌, ap, subst}
-use mathlib.Core.Bool.{Bool, true, false, cond}
+use mathlib.Core.Bool.{Bool, cond}
 use mathlib.Core.List.{List, [], ◌∷◌, ◌++◌, append_assoc}
-use Prim.Native.Nat.{ℕ, zero, suc, ◌+◌, ◌-◌, ◌*◌, ◌^◌, ◌≤◌, ◌<◌, min, max}
+use Prim.Native.Nat.{ℕ, suc, ◌+◌, ◌*◌, ◌≤◌}
 use native.Mathlib.Omega.{arith}
 use native.Mathlib.Numerals.{add-one}
-use lib.ListN.{length, get_or, take, drop, length-append, length-take, length-drop}
+use lib.ListN.{length, take, drop, length-append, length-take}
 use lib.Seq.{take_at, drop_at, take-append-le}
 use lib.Ieee.{Float}
 use Rattle.meaning.specs.Limits.{nodeStateWords}
@@ -14,9 +14,9 @@ use Rattle.meaning.specs.Lent.{Index, leafFirst, leafNumber, leafField}
 use Rattle.meaning.specs.Phrase.{PhraseTerm}
 use Rattle.meaning.specs.Query.{recordChildren, recordValue, phraseTermsOf}
 use Rattle.query.proofs.Right.{length-listTo}
-use Rattle.weight.specs.ScorerTree.{Leaf, phrase, leaf, matches}
+use Rattle.weight.specs.ScorerTree.{phrase, leaf, matches}
 use Rattle.weight.specs.State.{State, words_of, leafSize, size_of}
-use Rattle.weight.specs.Held.{TermIs, TermsAre, LeafIs, ScoringIs, FloatIs, normsWord, Cache, Ok}
+use Rattle.weight.specs.Held.{TermIs, TermsAre, LeafIs, FloatIs, normsWord, Ok}
 use Rattle.node_words.specs.Placed.{Placed, PhraseTermPlaced, scoringOf}
 use Rattle.node_words.proofs.Placing.{leafState, scored, no-cache}
 

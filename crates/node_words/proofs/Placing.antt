@@ -2,7 +2,7 @@
 use mathlib.Core.Path.{◌≡◌, refl, sym, ◌∙◌, ap, subst}
 use mathlib.Core.Bool.{Bool, true, false, cond}
 use mathlib.Core.List.{List, [], ◌∷◌, ◌++◌, append_assoc}
-use Prim.Native.Nat.{ℕ, zero, suc, ◌+◌, ◌-◌, ◌*◌, ◌^◌, ◌≤◌, ◌<◌, min, max}
+use Prim.Native.Nat.{ℕ, suc, ◌+◌, ◌-◌, ◌^◌, ◌≤◌, ◌<◌, max}
 use native.Mathlib.Omega.{arith}
 use native.Mathlib.Numerals.{add-one}
 use lib.Dec.{T}
@@ -20,7 +20,7 @@ use Rattle.weight.specs.Weigh.{noScorer}
 use Rattle.weight.specs.Held.{Cache, LeafIs, ScoringIs, FloatIs, normsWord, Ok}
 use Rattle.weight.specs.Measured.{RangeListed}
 use Rattle.node_words.specs.Placed.{Placed, scoringOf}
-use lib.Seq.{take-suc, drop-cons, set-append_seam, take_all, take_at}
+use lib.Seq.{take-suc, drop-cons, set-append_seam, take_all}
 
 -- ---- one word more of a record
 pub put-more : (words st₀ st : List ℕ) (i : ℕ) → i < length words → i < length st₀ → st ≡ take i words ++ drop i st₀ → set st i (get_or words i 0) ≡ take (i + 1) words ++ drop (i + 1) st₀

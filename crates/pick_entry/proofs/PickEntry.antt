@@ -19,7 +19,6 @@ use Rattle.collector.specs.declared.TopDocs.{TopDocs}
 use Rattle.collector.specs.Collected.{answer}
 use Rattle.collector.proofs.Best.{written-part}
 use Rattle.pick_entry.specs.declared.Picked.{Picked}
-use Rattle.pick_entry.specs.declared.Picked.TheVariants as Picked
 use Rattle.pick_entry.specs.Answers.{pickedNumbers}
 use Rattle.meaning.proofs.Lowest.{lowest-here, lowest-past, lowest-zero, answered-refused, answered-accepted}
 

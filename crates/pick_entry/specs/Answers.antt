@@ -2,7 +2,6 @@
 use Rattle.std.specs.Prelude.{List, [], ◌∷◌, ℕ}
 use Rattle.collector.specs.Collected.{numbers}
 use Rattle.pick_entry.specs.declared.Picked.{Picked}
-use Rattle.pick_entry.specs.declared.Picked.TheVariants as Picked
 
 unfoldable pub pickedNumbers : Picked → List ℕ
 pickedNumbers (Picked.Refused n) = n ∷ []

@@ -37,7 +37,6 @@ use Rattle.weight.specs.Sound.{EachTerm, LeafSound}
 use Rattle.weight.proofs.Sounds.{TreeSound}
 use Rattle.weight.proofs.Queries.{tree-sound}
 use Rattle.place_entry.specs.declared.Placed.{Placed}
-use Rattle.place_entry.specs.declared.Placed.TheVariants as Placed
 use Rattle.order_check.specs.Lends.{work}
 use Rattle.place_entry.specs.Answers.{placedNumbers}
 use Rattle.order_check.proofs.Refusing.{first_holds, second_holds, neither-holds, neither-held, order-asks, order-refused, order-passed, order-accepted}

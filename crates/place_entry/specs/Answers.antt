@@ -1,7 +1,6 @@
 -- What each answer of Place says in document 01's numbers. Assumes nothing: these are definitions.
 use Rattle.std.specs.Prelude.{List, [], ◌∷◌, ℤ, pos}
 use Rattle.place_entry.specs.declared.Placed.{Placed}
-use Rattle.place_entry.specs.declared.Placed.TheVariants as Placed
 
 -- how many starts are given, and the start, which may lie below 0; so Nothing has two numbers, and is told apart from a refusal with number 0
 unfoldable pub placedNumbers : Placed → List ℤ

@@ -1,7 +1,6 @@
 -- What each answer of Range says in document 01's numbers: a refusal's number alone, or 0 and how many documents are listed. Assumes nothing: these are definitions.
 use Rattle.std.specs.Prelude.{List, [], ◌∷◌, ℕ}
 use Rattle.range_entry.specs.declared.Ranged.{Ranged}
-use Rattle.range_entry.specs.declared.Ranged.TheVariants as Ranged
 
 unfoldable pub rangedNumbers : Ranged → List ℕ
 rangedNumbers (Ranged.Refused n) = n ∷ []

@@ -1,13 +1,12 @@
 -- The search in a run of documents that ascend. Assumes nothing.
-use mathlib.Core.Path.{◌≡◌, refl, ap, subst}
+use mathlib.Core.Path.{◌≡◌, ap, subst}
 use mathlib.Core.Logic.{⊎_elim}
 use mathlib.Core.List.{List}
 use Prim.Native.Nat.{ℕ, zero, suc, ◌+◌, ◌*◌, ◌≤◌, ◌<◌}
 use native.Mathlib.Nat.{eq-or-lt_of_le, mul_comm, mul-suc}
 use native.Mathlib.Omega.{arith}
-use lib.ListN.{length}
 use Rattle.meaning.proofs.Tests.{cmp}
-use Rattle.run.specs.Run.{documentAt, Run, Lower, Between}
+use Rattle.run.specs.Run.{documentAt, Run, Lower}
 
 -- a factor above 0 makes no product smaller
 pub factor-le : (k n : ℕ) → 0 < k → n ≤ k * n

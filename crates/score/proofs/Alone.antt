@@ -2,10 +2,9 @@
 use mathlib.Core.Path.{◌≡◌, refl, sym, ap, subst, ◌∙◌}
 use mathlib.Core.Bool.{false, cond}
 use mathlib.Core.List.{List, [], ◌∷◌, ◌++◌, append_assoc}
-use Prim.Native.Nat.{ℕ, zero, suc, ◌+◌, ◌*◌, ◌^◌, ◌≤◌, ◌<◌}
+use Prim.Native.Nat.{ℕ, zero, suc, ◌+◌, ◌*◌, ◌^◌, ◌≤◌}
 use native.Mathlib.Omega.{arith}
 use lib.Dec.{T}
-use lib.IntN.{pos}
 use lib.Ieee.{Float, binary32, binary64, add, round, fits}
 use lib.Ieee.Fits.{add-fits, fits_widens}
 use lib.Ieee.Positive.{num, den}
@@ -18,7 +17,7 @@ use Rattle.ieee754.proofs.Ranges.{add_is}
 use Rattle.ieee754.proofs.Bounds.{zero-atmost}
 use Rattle.ieee754.proofs.Narrowing.{narrow-fits, narrow_exact}
 use Rattle.ieee754.proofs.Successor.{zero-fits}
-use Rattle.weight.specs.ScorerTree.{Leaf, nothing, term, phrase, range, everything, Scorer, leaf, boolean, Scorers, end, more, Joining, oneMore, afterwards, withGroup, scoring, joinedScore, scorerScore, requiredScores, optionalScores}
+use Rattle.weight.specs.ScorerTree.{Leaf, nothing, term, phrase, range, everything, leaf, boolean, Scorers, end, more, Joining, oneMore, afterwards, withGroup, scoring, joinedScore, scorerScore, requiredScores, optionalScores}
 use Rattle.weight.specs.State.{leafSize, size_of, sizesOf}
 use Rattle.weight.specs.Sound.{nodesOf}
 use Rattle.score.specs.Asked.{SumIs, JoinIs}

@@ -1,18 +1,18 @@
 -- A Boolean's score, call by call: its group, then the required before and after the place where the group joins, or all of them. Assumes nothing.
 use mathlib.Core.Path.{◌≡◌, refl, sym, ap, subst, ◌∙◌}
-use mathlib.Core.Bool.{Bool, true, false, not}
+use mathlib.Core.Bool.{not}
 use mathlib.Core.List.{List, ◌++◌, append_assoc}
-use Prim.Native.Nat.{ℕ, zero, suc, ◌+◌, ◌-◌, ◌*◌, ◌^◌, ◌≤◌, ◌<◌, min}
+use Prim.Native.Nat.{ℕ, zero, suc, ◌+◌, ◌-◌, ◌*◌, ◌^◌, ◌≤◌}
 use native.Mathlib.Omega.{arith}
 use lib.Dec.{T}
-use lib.ListN.{get_or, length, take, drop, length-append}
+use lib.ListN.{length, take, drop, length-append}
 use lib.Seq.{take_at, drop_at}
 use lib.Ieee.{Float, binary64, is_nan, add}
 use Rattle.meaning.specs.Lent.{Index}
 use Rattle.meaning.specs.Ieee754.{zeroFloat, narrow, sumFrom, narrowedSum}
 use Rattle.ieee754.specs.Nonneg.{nonneg, AtMost}
 use Rattle.ieee754.proofs.Bounds.{atmost-number, zero-atmost}
-use Rattle.weight.specs.ScorerTree.{Scorers, end, more, Joining, oneMore, afterwards, scoring, requiredScores, optionalScores, allMatch}
+use Rattle.weight.specs.ScorerTree.{Scorers, end, more, Joining, oneMore, afterwards, scoring, requiredScores, optionalScores}
 use Rattle.weight.specs.State.{sizesOf, sizesOfFirst}
 use Rattle.weight.specs.Held.{Oks}
 use Rattle.weight.specs.Sound.{nodesOf}

@@ -2,20 +2,19 @@
 use mathlib.Core.Path.{◌≡◌, refl, sym, ap, subst, ◌∙◌}
 use mathlib.Core.Bool.{Bool, true, false, cond, ◌&&◌, false≢true}
 use mathlib.Core.List.{List, [], ◌∷◌, ◌++◌, append_assoc}
-use Prim.Native.Nat.{ℕ, zero, suc, ◌+◌, ◌-◌, ◌*◌, ◌^◌, ◌≤◌, ◌<◌}
-use native.Mathlib.Nat.{le_refl}
+use Prim.Native.Nat.{ℕ, zero, suc, ◌+◌, ◌*◌, ◌^◌, ◌≤◌}
 use native.Mathlib.Omega.{arith}
-use lib.ListN.{get_or, length, take, drop, length-append}
+use lib.ListN.{length, length-append}
 use lib.Ieee.{Float, binary64, add}
 use Rattle.meaning.specs.Lent.{Index}
 use Rattle.meaning.specs.Ieee754.{zeroFloat, narrow, sumFrom, narrowedSum}
 use Rattle.ieee754.specs.Nonneg.{AtMost}
-use Rattle.weight.specs.ScorerTree.{Scorer, Scorers, end, more, matches, allMatch, Joining, oneMore, afterwards, joinedScore, scorerScore, scoring, withGroup, requiredScores, optionalScores}
-use Rattle.weight.specs.State.{sizesOf, sizesOfFirst}
-use Rattle.weight.specs.Held.{Ok, Oks}
-use Rattle.weight.specs.Sound.{Sounds, TablesOf, nodes, nodesOf}
-use Rattle.score.specs.Asked.{Scorables, SumIs, JoinIs, JoinsAt, PartsAre}
-use Rattle.leaf_score.proofs.Bounds.{scores-add, scores-narrow, scores-more}
+use Rattle.weight.specs.ScorerTree.{Scorers, end, more, matches, allMatch, oneMore, afterwards, joinedScore, scorerScore, scoring, withGroup, requiredScores, optionalScores}
+use Rattle.weight.specs.State.{sizesOfFirst}
+use Rattle.weight.specs.Held.{Oks}
+use Rattle.weight.specs.Sound.{Sounds, TablesOf, nodesOf}
+use Rattle.score.specs.Asked.{SumIs, JoinIs}
+use Rattle.leaf_score.proofs.Bounds.{scores-add, scores-narrow}
 use Rattle.leaf_scorer.proofs.Bounds.{ok-length}
 
 -- the first n of some children, and the others

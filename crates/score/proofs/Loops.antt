@@ -9,21 +9,20 @@ use native.Mathlib.Omega.{arith}
 use lib.Dec.{T}
 use lib.ListN.{get_or, length, take, drop}
 use lib.Ieee.{Float, binary64, is_nan, add}
-use Rattle.meaning.specs.Limits.{noMoreDocs, maxDocuments, nodeStateWords}
+use Rattle.meaning.specs.Limits.{noMoreDocs, nodeStateWords}
 use Rattle.meaning.specs.Lent.{Index}
 use Rattle.meaning.specs.First.{First}
 use Rattle.meaning.specs.Ieee754.{zeroFloat, sumFrom}
 use Rattle.ieee754.specs.Nonneg.{AtMost}
 use Rattle.ieee754.proofs.Bounds.{atmost-number, zero-atmost}
-use Rattle.weight.specs.ScorerTree.{Scorer, Scorers, more, matches, allMatch, scoring, requiredScores, optionalScores}
-use Rattle.weight.specs.State.{size_of}
-use Rattle.weight.specs.Held.{Ok, Oks}
+use Rattle.weight.specs.ScorerTree.{Scorer, Scorers, more, matches, allMatch}
+use Rattle.weight.specs.Held.{Oks}
 use Rattle.weight.specs.Sound.{nodesOf}
 use Rattle.score.specs.Words.{ChildThere}
 use Rattle.scorer.specs.Calls as scorer
 use Rattle.scorer.specs.Calls.{lent, RoomIn, NodeHeld, AdvancePre, AdvancePost}
-use Rattle.score.specs.Asked.{Scorables, SumIs, RequiredPre, RequiredPost, OptionalPre, OptionalPost}
-use Rattle.leaf_score.specs.Asked.{LentAt, Scorable, ScoreIs, ScorePre, ScorePost, TermPre, TermPost}
+use Rattle.score.specs.Asked.{Scorables, RequiredPre, RequiredPost, OptionalPre, OptionalPost}
+use Rattle.leaf_score.specs.Asked.{LentAt, Scorable, ScorePre, ScorePost, TermPre, TermPost}
 use Rattle.score.proofs.Parts.{part_same}
 use Rattle.score.proofs.Sums.{counted, scores-word, matches-at, required-counted, optional-counted, required-matched, optional-matched, SumAt, sum-start, sum-end, sum-open, sum-there, sum-scores, sum-size, sum-kind, sum-stop, sum-scorable, sum-matched, sum-part, sum-part-kind, sum-renewed, sum-skipped, sum-took}
 

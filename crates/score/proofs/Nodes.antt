@@ -5,7 +5,7 @@ use mathlib.Core.List.{List, ◌++◌, append-nil}
 use mathlib.Core.Option.{none, some}
 use Prim.Native.Nat.{ℕ, ◌+◌, ◌-◌, ◌*◌, ◌^◌, ◌≤◌, ◌<◌, max}
 use native.Mathlib.Omega.{arith}
-use lib.Dec.{T, leb}
+use lib.Dec.{leb}
 use lib.ListN.{length, take, drop}
 use lib.Seq.{take-length, drop-length}
 use lib.Ieee.{Float}
@@ -13,7 +13,7 @@ use Rattle.meaning.specs.Limits.{nodeStateWords}
 use Rattle.meaning.specs.Lent.{Index}
 use Rattle.ieee754.specs.Nonneg.{AtMost}
 use Rattle.ieee754.proofs.Bounds.{atmost-more}
-use Rattle.weight.specs.ScorerTree.{Leaf, nothing, term, phrase, range, everything, constant, Joining, oneMore, afterwards, Scorer, leaf, boolean, Scorers, matches, allMatch, anyMatches, matching, scorerScore}
+use Rattle.weight.specs.ScorerTree.{Leaf, nothing, term, phrase, range, everything, Joining, oneMore, afterwards, Scorer, leaf, boolean, Scorers, matches, allMatch, anyMatches, matching, scorerScore}
 use Rattle.weight.specs.State.{State, words_of}
 use Rattle.weight.specs.Held.{LeafIs, KeptIs, JoiningIs, Ok, Oks}
 use Rattle.weight.specs.Sound.{Sound, Tables, nodes, nodesOf}

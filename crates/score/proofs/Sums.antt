@@ -1,9 +1,9 @@
 -- A loop over the parts of some children that adds up the scores of those that count. Assumes nothing.
-use mathlib.Core.Path.{◌≡◌, refl, sym, ap, subst, ◌∙◌}
+use mathlib.Core.Path.{◌≡◌, refl, sym, ap, ◌∙◌}
 use mathlib.Core.Bool.{Bool, true, false, cond, ◌&&◌, false≢true}
 use mathlib.Core.List.{List, [], ◌∷◌, ◌++◌}
-use Prim.Native.Nat.{ℕ, zero, suc, ◌+◌, ◌-◌, ◌*◌, ◌^◌, ◌≤◌, ◌<◌}
-use native.Mathlib.Nat.{le_trans, le_refl}
+use Prim.Native.Nat.{ℕ, ◌+◌, ◌-◌, ◌*◌, ◌^◌, ◌≤◌, ◌<◌}
+use native.Mathlib.Nat.{le_refl}
 use native.Mathlib.Omega.{arith}
 use lib.ListN.{get_or, length, take, drop}
 use lib.Ieee.{Float, binary64, add}
@@ -14,7 +14,7 @@ use Rattle.ieee754.specs.Nonneg.{AtMost}
 use Rattle.weight.specs.ScorerTree.{Scorer, Scorers, end, more, matches, allMatch, scorerScore, scoring, requiredScores, optionalScores}
 use Rattle.weight.specs.State.{size_of}
 use Rattle.weight.specs.Held.{Ok, Oks}
-use Rattle.weight.specs.Sound.{Sound, Sounds, Tables, TablesOf, nodes, nodesOf}
+use Rattle.weight.specs.Sound.{Sounds, TablesOf, nodes, nodesOf}
 use Rattle.score.specs.Words.{ChildThere}
 use Rattle.leaf_score.specs.Asked.{Scorable, ScoreIs}
 use Rattle.leaf_score.proofs.Bounds.{scores-add, scores-more}

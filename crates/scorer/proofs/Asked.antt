@@ -1,15 +1,15 @@
 -- A node that is a phrase, asked about one document. Assumes nothing.
-use mathlib.Core.Path.{◌≡◌, refl, sym, subst, ◌∙◌}
+use mathlib.Core.Path.{◌≡◌, refl, subst, ◌∙◌}
 use mathlib.Core.Bool.{true}
 use mathlib.Core.List.{List}
-use Prim.Native.Nat.{ℕ, ◌+◌, ◌≤◌, ◌<◌}
+use Prim.Native.Nat.{ℕ, ◌+◌, ◌≤◌}
 use native.Mathlib.Nat.{le_refl}
 use native.Mathlib.Omega.{arith}
-use lib.ListN.{get_or, length, set}
+use lib.ListN.{get_or, set}
 use Rattle.meaning.specs.Limits.{noMoreDocs}
 use Rattle.meaning.specs.Lent.{Index}
 use Rattle.meaning.specs.Phrase.{PhraseTerm}
-use Rattle.weight.specs.ScorerTree.{Leaf, nothing, term, phrase, range, everything, Scorer, matches, leafMatches}
+use Rattle.weight.specs.ScorerTree.{nothing, term, phrase, range, everything, Scorer, matches, leafMatches}
 use Rattle.weight.specs.State.{State}
 use Rattle.weight.specs.Held.{LeafIs, Ok}
 use Rattle.leaf_scorer.specs.Phrases.{PhraseHeld, PhrasePre, PhraseAtPost}

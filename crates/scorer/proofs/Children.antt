@@ -1,22 +1,21 @@
 -- A place in the parts of some children. Assumes nothing.
-use mathlib.Core.Path.{◌≡◌, refl, sym, ap, subst, ◌∙◌}
+use mathlib.Core.Path.{◌≡◌, refl, sym, ap, ◌∙◌}
 use mathlib.Core.Bool.{Bool, cond}
-use mathlib.Core.List.{List, [], ◌∷◌, ◌++◌, append_assoc}
+use mathlib.Core.List.{List, [], ◌++◌, append_assoc}
 use Prim.Native.Nat.{ℕ, ◌+◌, ◌-◌, ◌≤◌, ◌<◌}
 use native.Mathlib.Nat.{le_refl, le_trans}
 use native.Mathlib.Omega.{arith}
-use lib.ListN.{get_or, length, take, drop, length-append, length-take, length-drop, get_or-append}
+use lib.ListN.{get_or, length, take, drop, length-append, get_or-append}
 use lib.Seq.{take_at, drop_at, get_or-append-add, get_or-take, get_or-drop}
 use Rattle.meaning.specs.Limits.{nodeStateWords}
 use Rattle.meaning.specs.Lent.{Index}
 use Rattle.meaning.specs.First.{First}
 use Rattle.weight.specs.ScorerTree.{Scorer, Scorers, end, more, matches}
-use Rattle.weight.specs.State.{State, words_of}
-use Rattle.weight.specs.Held.{Cache, Ok, Oks}
+use Rattle.weight.specs.Held.{Ok, Oks}
 use Rattle.weight.specs.Sound.{Lends, Sound, Sounds}
-use Rattle.scorer.specs.Calls.{NodeHeld, AdvancePost, PartsHeld, ChildAt, ChildRead}
+use Rattle.scorer.specs.Calls.{NodeHeld, AdvancePost, PartsHeld, ChildAt}
 use Rattle.leaf_scorer.specs.Calls.{Lent}
-use Rattle.leaf_scorer.proofs.Bounds.{Front, front_long, front-size, ok-mono, oks-mono, ok-front, ok-cached, ok-single}
+use Rattle.leaf_scorer.proofs.Bounds.{front_long, front-size, ok-mono, oks-mono, ok-front, ok-cached, ok-single}
 
 -- g are the children that are left, whose words are z; the words before them are x. Nothing is said of those passed but how to put them back.
 pub record Zip (E : Lent) (ix : Index) (p k : ℕ) (fs g : Scorers) (kids : List ℕ) (at t : ℕ) : Type 0 where

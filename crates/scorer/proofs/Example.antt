@@ -1,16 +1,15 @@
 -- What `advance` requires can be met: a Boolean with a required term, an optional phrase and a prohibited scorer that matches nothing, over two terms in three documents.
 -- Assumes nothing.
 use mathlib.Core.Path.{◌≡◌, refl}
-use mathlib.Core.Bool.{Bool, true, false}
+use mathlib.Core.Bool.{true, false}
 use mathlib.Core.List.{List, [], ◌∷◌, ◌++◌}
-use mathlib.Core.Option.{Option, none}
-use Prim.Native.Nat.{ℕ, suc, ◌-◌, ◌*◌, ◌≤◌, ◌<◌}
-use native.Mathlib.Nat.{le_refl}
+use mathlib.Core.Option.{none}
+use Prim.Native.Nat.{ℕ, ◌*◌}
 use native.Mathlib.Omega.{arith}
 use lib.Dec.{lit≤, lit<}
-use lib.Ieee.{fits, to_bits, binary32}
+use lib.Ieee.{fits, to_bits}
 use Rattle.meaning.specs.Below.{anyBelow, countBelow, largestBelow}
-use Rattle.meaning.specs.Limits.{noMoreDocs, nodeStateWords}
+use Rattle.meaning.specs.Limits.{nodeStateWords}
 use Rattle.meaning.specs.Lent.{Index}
 use Rattle.meaning.specs.Ieee754.{zeroFloat}
 use Rattle.meaning.specs.Phrase.{PhraseTerm}
@@ -18,8 +17,8 @@ use Rattle.meaning.specs.CallRefusals.{largestIn}
 use Rattle.meaning.specs.IndexRefusals.{wrong1, wrongField, wrong2, wrong3, wrongLeaf, wrong4, wrongPosition, wrongPositions, wrongPosting, wrong5, wrongColumn, wrong6}
 use Rattle.index.specs.Accepted.{Accepted}
 use Rattle.index.proofs.Accepted.{accepted}
-use Rattle.weight.specs.ScorerTree.{Leaf, nothing, term, phrase, constant, oneMore, Scorer, leaf, boolean, Scorers, end, more, leafMatches, matches}
-use Rattle.weight.specs.State.{State, words_of, leafSize, size_of, sizesOf, sizesOfFirst}
+use Rattle.weight.specs.ScorerTree.{nothing, term, phrase, constant, oneMore, Scorer, leaf, boolean, end, more, leafMatches, matches}
+use Rattle.weight.specs.State.{State, words_of, leafSize, size_of, sizesOfFirst}
 use Rattle.weight.specs.Held.{TermIs, TermsAre, normsWord, LeafIs, ScoringIs, FloatIs, KeptIs, JoiningIs, Ok}
 use Rattle.weight.specs.Sound.{EachTerm, LeafSound, Sound}
 use Rattle.scorer.specs.Calls.{AdvancePre}

@@ -1,9 +1,9 @@
 -- The children of a Boolean in their three lists: the parts of a slice that its routines lend, and how they come back. Assumes nothing.
-use mathlib.Core.Path.{◌≡◌, refl, sym, ap, subst, ◌∙◌}
-use mathlib.Core.Bool.{Bool, true, false, cond, ◌&&◌}
-use mathlib.Core.List.{List, [], ◌∷◌, ◌++◌, append_assoc, append-nil}
-use Prim.Native.Nat.{ℕ, ◌+◌, ◌-◌, ◌≤◌, ◌<◌}
-use native.Mathlib.Nat.{le_refl, le_trans}
+use mathlib.Core.Path.{◌≡◌, refl, sym, ap, ◌∙◌}
+use mathlib.Core.Bool.{Bool, true, cond, ◌&&◌}
+use mathlib.Core.List.{List, [], ◌∷◌, ◌++◌, append-nil}
+use Prim.Native.Nat.{ℕ, ◌-◌, ◌≤◌}
+use native.Mathlib.Nat.{le_refl}
 use native.Mathlib.Omega.{arith}
 use lib.Dec.{leb}
 use lib.ListN.{length, take, drop, length-append, length-take, length-drop}
@@ -12,7 +12,7 @@ use borrow.Author.Tests.{le-leb}
 use Rattle.meaning.specs.Limits.{noMoreDocs}
 use Rattle.meaning.specs.Lent.{Index}
 use Rattle.meaning.specs.First.{First}
-use Rattle.weight.specs.ScorerTree.{Scorer, Scorers, end, more, allMatch, matching}
+use Rattle.weight.specs.ScorerTree.{Scorers, end, more, allMatch, matching}
 use Rattle.weight.specs.State.{sizesOf}
 use Rattle.weight.specs.Held.{Oks}
 use Rattle.scorer.specs.Calls.{PartsHeld, LeadHeld, BooleanHeld, leads}

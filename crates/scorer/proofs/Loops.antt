@@ -1,12 +1,11 @@
 -- The loops over children: the least document where some stand, and a pass over all. Assumes nothing.
-use mathlib.Core.Path.{◌≡◌, refl, sym, ap, subst, ◌∙◌}
-use mathlib.Core.Logic.{◌⊎◌, inl, inr, ⊎_elim}
+use mathlib.Core.Path.{◌≡◌, refl, sym, subst, ◌∙◌}
+use mathlib.Core.Logic.{⊎_elim}
 use mathlib.Core.Bool.{Bool, true, false, cond}
 use mathlib.Core.List.{List, ◌++◌}
 use Prim.Native.Nat.{ℕ, ◌+◌, ◌-◌, ◌≤◌, ◌<◌}
 use native.Mathlib.Nat.{le_refl, le_trans}
 use native.Mathlib.Omega.{arith}
-use lib.Dec.{ltb}
 use lib.ListN.{get_or, length, take, drop}
 use borrow.Author.Tests.{lt-ltb, le-ltb}
 use Rattle.meaning.specs.Limits.{noMoreDocs, nodeStateWords}
@@ -18,7 +17,7 @@ use Rattle.scorer.specs.Calls.{NodeHeld, AdvancePost, PartsHeld, Tally, LeastIs,
 use Rattle.leaf_scorer.specs.Calls.{Lent}
 use Rattle.meaning.proofs.Tests.{cmp}
 use Rattle.scorer.proofs.Firsts.{matching-hit, matching-miss, matching-end, all-hit, all-miss, all_rest, all_end}
-use Rattle.scorer.proofs.Children.{Zip, View, zip_start, zip-later, zip_end, zip-none, view, zip-took, zip-skip, held, of-advance, of-cached}
+use Rattle.scorer.proofs.Children.{Zip, zip_start, zip-later, zip_end, zip-none, view, zip-took, zip-skip, held, of-advance, of-cached}
 
 -- ---- the least document
 pub record LeastAt (E : Lent) (ix : Index) (p k : ℕ) (fs : Scorers) (kids : List ℕ) (t best n at : ℕ) : Type 0 where

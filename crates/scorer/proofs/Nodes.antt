@@ -1,10 +1,10 @@
 -- A node: where it stands, its move as a leaf and as a Boolean, and its words with a new cached document. Assumes nothing.
 use mathlib.Core.Path.{◌≡◌, refl, sym, ap, subst, ◌∙◌}
-use mathlib.Core.Bool.{Bool, true, cond}
-use mathlib.Core.List.{List, [], ◌∷◌, ◌++◌, append_assoc, append-nil}
+use mathlib.Core.Bool.{true}
+use mathlib.Core.List.{List, ◌++◌, append_assoc, append-nil}
 use mathlib.Core.Option.{Option, none, some}
-use Prim.Native.Nat.{ℕ, suc, ◌+◌, ◌-◌, ◌≤◌, ◌<◌, max}
-use native.Mathlib.Nat.{le_refl, le_trans}
+use Prim.Native.Nat.{ℕ, ◌+◌, ◌-◌, ◌≤◌, ◌<◌, max}
+use native.Mathlib.Nat.{le_refl}
 use native.Mathlib.Omega.{arith}
 use lib.ListN.{get_or, length, take, drop, set, length-append}
 use lib.Seq.{take-length, drop-length}
@@ -14,11 +14,11 @@ use Rattle.meaning.specs.Lent.{Index}
 use Rattle.meaning.specs.First.{First}
 use Rattle.weight.specs.ScorerTree.{Leaf, nothing, term, phrase, range, everything, Scoring, constant, weighted, Joining, oneMore, afterwards, Scorer, leaf, boolean, Scorers, matches, leafMatches}
 use Rattle.weight.specs.State.{State, words_of, sizesOf}
-use Rattle.weight.specs.Held.{LeafIs, ScoringIs, KeptIs, JoiningIs, BooleanIs, Ok, Oks}
+use Rattle.weight.specs.Held.{LeafIs, ScoringIs, KeptIs, JoiningIs, Ok}
 use Rattle.weight.specs.Sound.{Sound}
-use Rattle.scorer.specs.Calls.{NodeHeld, PartsHeld, LeadHeld, BooleanHeld, BooleanPost, takes}
+use Rattle.scorer.specs.Calls.{NodeHeld, BooleanHeld, BooleanPost}
 use Rattle.leaf_scorer.specs.Calls.{Lent, LeafHeld, LeafMoved, LeafPost, Passes}
-use Rattle.leaf_scorer.proofs.Bounds.{leaf-mono, oks-mono, oks-length, ok-front, ok-cached}
+use Rattle.leaf_scorer.proofs.Bounds.{leaf-mono, oks-length, ok-cached}
 use Rattle.scorer.proofs.Firsts.{cache-new, boolean-takes}
 use Rattle.leaf_scorer.proofs.Loops.{first-like}
 

@@ -1,11 +1,11 @@
 -- What the functions of a scorer tree ask and answer. Assumes nothing: these are definitions.
 -- The tree and the index stand in no argument: some must fit the words at entry, and for all that fit them the answer is right.
-use Rattle.std.specs.Prelude.{◌≡◌, List, [], ◌∷◌, ◌++◌, ℕ, suc, ◌+◌, ◌-◌, ◌*◌, ◌≤◌, ◌<◌, length, get_or, leb, ltb}
+use Rattle.std.specs.Prelude.{◌≡◌, List, ◌++◌, ℕ, ◌+◌, ◌≤◌, ◌<◌, length, get_or, leb, ltb}
 use mathlib.Core.Bool.{Bool, true, false, ◌&&◌}
 use Rattle.meaning.specs.Limits.{noMoreDocs, nodeStateWords}
 use Rattle.meaning.specs.Lent.{Index}
 use Rattle.meaning.specs.First.{First}
-use Rattle.weight.specs.ScorerTree.{Scorer, Scorers, matches, allMatch, anyMatches, matching}
+use Rattle.weight.specs.ScorerTree.{Scorer, Scorers, matches, allMatch, matching}
 use Rattle.weight.specs.State.{sizesOf}
 use Rattle.weight.specs.Held.{Ok, Oks}
 use Rattle.weight.specs.Sound.{Lends, Sound, Sounds}

@@ -2,9 +2,7 @@
 use Rattle.std.specs.Prelude.{List, [], ◌∷◌, ℕ}
 use Rattle.collector.specs.Collected.{numbers}
 use Rattle.searcher.specs.declared.search.Searched.{Searched}
-use Rattle.searcher.specs.declared.search.Searched.TheVariants as Searched
 use Rattle.searcher.specs.declared.page.Paged.{Paged}
-use Rattle.searcher.specs.declared.page.Paged.TheVariants as Paged
 
 unfoldable pub searchedNumbers : Searched → List ℕ
 searchedNumbers (Searched.Refused n) = n ∷ []

@@ -26,7 +26,6 @@ use Rattle.token_index.proofs.Written.{runs_number}
 use Rattle.norm_writer.specs.Lengths.{normBytes, RunsOk}
 use Rattle.token_writer.specs.declared.Numbers.{Numbers}
 use Rattle.token_writer.specs.declared.Written.{Written}
-use Rattle.token_writer.specs.declared.Written.TheVariants as Written
 use Rattle.token_writer.specs.Answers.{writtenNumbers, outputs, WritesIndex}
 use Rattle.token_writer.specs.Writing.{RunsPre, RunsPost}
 use Rattle.token_writer.proofs.Norms.{runs-ok, norms-are}

@@ -18,7 +18,6 @@ use Rattle.index.specs.Slices.{lent, fieldsOnly}
 use Rattle.tokens.specs.declared.Counted.{Counted}
 use Rattle.tokens.specs.Counts.{beginsPosting, Counts}
 use Rattle.token_writer.specs.declared.Written.{Written}
-use Rattle.token_writer.specs.declared.Written.TheVariants as Written
 use Rattle.token_writer.specs.Answers.{writtenNumbers, outputs}
 use Rattle.token_writer.proofs.Counts.{postings-counted, positions-counted}
 

@@ -3,7 +3,6 @@
 use Rattle.std.specs.Prelude.{◌≡◌, List, [], ◌∷◌, ℕ, length}
 use Rattle.meaning.specs.TokenRefusals.{Outputs, writeRefusal, writeAnswer, writtenNorms, writtenPostings, writtenPositions, writtenRuns}
 use Rattle.token_writer.specs.declared.Written.{Written}
-use Rattle.token_writer.specs.declared.Written.TheVariants as Written
 
 unfoldable pub writtenNumbers : Written → List ℕ
 writtenNumbers (Written.Refused n) = n ∷ []

@@ -1,24 +1,24 @@
 -- The live matches from a document on: the first, and those behind it. Assumes nothing.
-use mathlib.Core.Path.{◌≡◌, refl, sym, ap, subst, ◌∙◌}
+use mathlib.Core.Path.{◌≡◌, refl, sym, ap, ◌∙◌}
 use mathlib.Core.Logic.{◌⊎◌, inl, inr, ⊎_elim}
 use mathlib.Core.Bool.{Bool, true, false, cond, ◌&&◌, false≢true}
-use mathlib.Core.List.{List, [], ◌∷◌, ◌++◌, map, append_assoc, append-nil}
-use Prim.Native.Nat.{ℕ, zero, suc, ◌+◌, ◌≤◌, ◌<◌}
+use mathlib.Core.List.{List, [], ◌∷◌, ◌++◌, map, append_assoc}
+use Prim.Native.Nat.{ℕ, zero, suc, ◌≤◌, ◌<◌}
 use native.Mathlib.Nat.{le_refl, eq-or-lt_of_le}
 use native.Mathlib.Omega.{arith}
 use lib.Dec.{leb, ltb}
 use lib.ListN.{length, take, drop, set, get_or, length-append, length-map}
 use lib.Seq.{take_at, drop_at, drop-cons, set_at, append_snoc, length_front}
-use borrow.Author.Tests.{le-leb, lt-leb, lt-ltb, le-ltb, ltb-true}
+use borrow.Author.Tests.{le-leb, lt-leb, lt-ltb, ltb-true}
 use Rattle.meaning.specs.Below.{listBelow}
 use Rattle.meaning.specs.Limits.{noMoreDocs}
 use Rattle.meaning.specs.Lent.{Index}
 use Rattle.meaning.specs.Live.{isLive}
 use Rattle.meaning.specs.First.{First}
 use Rattle.meaning.specs.FullList.{ScoreDoc}
-use Rattle.meaning.specs.Pages.{PageOf, page, fromTarget, firstDoc}
+use Rattle.meaning.specs.Pages.{page, fromTarget, firstDoc}
 use Rattle.meaning.specs.Entries.{written}
-use Rattle.weight.specs.ScorerTree.{Scorer, matches, scorerScore}
+use Rattle.weight.specs.ScorerTree.{Scorer, matches}
 use Rattle.walk.specs.Walks.{liveMatch, scored, liveScored}
 use Rattle.meaning.proofs.Tests.{cmp}
 

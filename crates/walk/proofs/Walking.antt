@@ -7,7 +7,7 @@ use Prim.Native.Nat.{ℕ, suc, ◌+◌, ◌*◌, ◌≤◌, ◌<◌, min}
 use native.Mathlib.Nat.{le_refl, le_trans, eq-or-lt_of_le}
 use native.Mathlib.Omega.{arith}
 use lib.Dec.{T, ltb}
-use lib.ListN.{length, set, get_or, length-append, length-map}
+use lib.ListN.{length, set, length-append, length-map}
 use lib.Ieee.{Float, binary32, is_nan, to_bits}
 use borrow.Author.Tests.{lt-ltb, le-ltb}
 use Rattle.meaning.specs.Limits.{noMoreDocs}
@@ -21,8 +21,7 @@ use Rattle.ieee754.proofs.Bounds.{atmost-number}
 use Rattle.index.specs.Slices.{liveOnly}
 use Rattle.weight.specs.ScorerTree.{Scorer, matches, scorerScore}
 use Rattle.weight.specs.Held.{Ok}
-use Rattle.walk.specs.declared.Listed.{Listed}
-use Rattle.scorer.specs.Calls.{Lent, lent, RoomIn, NodeHeld, AdvancePre, AdvancePost}
+use Rattle.scorer.specs.Calls.{Lent, lent, NodeHeld, AdvancePre, AdvancePost}
 use Rattle.leaf_score.specs.Asked.{LentAt, ScoreIs, ScorePre, ScorePost}
 use Rattle.walk.specs.Walks.{liveMatch, scored, liveScored, NextPre, NextPost, PageHeld, ListPre, PageIs, ListPost}
 use Rattle.meaning.proofs.Tests.{cmp}

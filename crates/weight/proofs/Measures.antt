@@ -2,7 +2,7 @@
 use mathlib.Core.Path.{◌≡◌, refl, sym, ◌∙◌, ap, subst}
 use mathlib.Core.Bool.{Bool, true, false, cond, ◌&&◌}
 use mathlib.Core.List.{List, [], ◌∷◌, ◌++◌, map}
-use mathlib.Core.Option.{Option, none, some}
+use mathlib.Core.Option.{some}
 use mathlib.Core.Logic.{◌⊎◌, inl, inr}
 use Prim.Native.Nat.{ℕ, zero, suc, ◌+◌, ◌-◌, ◌*◌, ◌/◌, ◌≤◌, ◌<◌, min}
 use native.Mathlib.Omega.{arith}
@@ -14,7 +14,7 @@ use Rattle.meaning.specs.Below.{listTo}
 use Rattle.meaning.specs.Lent.{Index, leafNumber, leafCount}
 use Rattle.meaning.specs.Phrase.{PhraseTerm}
 use Rattle.meaning.specs.Range.{rangeDocuments}
-use Rattle.meaning.specs.Query.{recordCount, recordKind, recordChildren, recordValue, phraseTermsOf, isPhraseTerm, range_of, Tree, term, phrase, range, matchAll, matchNone, constantScore, boost, Decoded, decode}
+use Rattle.meaning.specs.Query.{recordCount, recordKind, recordChildren, recordValue, phraseTermsOf, isPhraseTerm, range_of, Tree, term, range, matchAll, matchNone, Decoded, decode}
 use Rattle.meaning.specs.Scorer.{hasScorer, allHavePostings}
 use Rattle.meaning.specs.Cost.{cost, least}
 use Rattle.meaning.specs.QueryRefusals.{wrong7, wrong8}
@@ -22,7 +22,7 @@ use Rattle.query.proofs.Inverse.{term-at, phrase-at, range_at, all-at, none-at, 
 use Rattle.query.proofs.Above.{decoded-here}
 use Rattle.query.proofs.Accepted.{term-leaf, phrase-term-right}
 use Rattle.query.proofs.Right.{length-listTo}
-use Rattle.weight.specs.Measured.{Asks, Known, MeasureIs, Measured, termNumbers}
+use Rattle.weight.specs.Measured.{MeasureIs, Measured, termNumbers}
 use Rattle.weight.proofs.Standing.{deep, tree-at}
 
 -- ---- a phrase's numbers of postings

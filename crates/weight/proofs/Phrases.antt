@@ -1,18 +1,12 @@
 -- The fewest postings of a phrase's terms. Assumes nothing.
 use mathlib.Core.Path.{◌≡◌, refl, sym, ◌∙◌, ap, subst}
 use native.Mathlib.Numerals.{add-one}
-use mathlib.Core.Bool.{Bool, true, false, cond, ◌&&◌}
-use mathlib.Core.List.{List, [], ◌∷◌, ◌++◌, map}
+use mathlib.Core.List.{List, [], ◌∷◌, ◌++◌}
 use Prim.Native.Nat.{ℕ, zero, suc, ◌+◌, ◌*◌, ◌/◌, ◌≤◌, ◌<◌, min}
 use native.Mathlib.Omega.{arith}
-use lib.Dec.{ltb}
 use lib.ListN.{length, get_or}
-use borrow.Author.Tests.{lt-ltb, le-ltb}
 use Rattle.meaning.specs.Below.{listTo}
-use Rattle.meaning.specs.Lent.{Index, leafNumber}
-use Rattle.meaning.specs.Phrase.{PhraseTerm}
-use Rattle.meaning.specs.Query.{recordValue, recordChildren, phraseTermsOf}
-use Rattle.meaning.specs.Scorer.{allHavePostings}
+use Rattle.meaning.specs.Query.{recordValue, recordChildren}
 use Rattle.meaning.specs.Cost.{least}
 use Rattle.weight.specs.Measured.{termNumbers}
 

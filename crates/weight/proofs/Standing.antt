@@ -1,12 +1,12 @@
 -- A record of an accepted query, and the tree that is decoded there. Assumes nothing.
-use mathlib.Core.Path.{◌≡◌, refl, sym, ◌∙◌, ap, subst}
-use mathlib.Core.Bool.{Bool, true, false}
+use mathlib.Core.Path.{◌≡◌, sym, ◌∙◌, ap, subst}
+use mathlib.Core.Bool.{false}
 use mathlib.Core.List.{List}
-use mathlib.Core.Option.{Option, none, some}
-use Prim.Native.Nat.{ℕ, zero, suc, ◌+◌, ◌-◌, ◌≤◌, ◌<◌}
+use mathlib.Core.Option.{some}
+use Prim.Native.Nat.{ℕ, suc, ◌+◌, ◌-◌, ◌≤◌, ◌<◌}
 use native.Mathlib.Omega.{arith}
 use borrow.Author.Tests.{eqb-true}
-use Rattle.meaning.specs.Query.{recordCount, recordKind, recordChildren, Decoded, DecodedClauses, decode, decodeClauses, isPhraseTerm}
+use Rattle.meaning.specs.Query.{recordCount, recordKind, recordChildren, Decoded, DecodedClauses, decode, decodeClauses}
 use Rattle.meaning.specs.QueryRefusals.{wrong7}
 use Rattle.query.proofs.Inverse.{both_true, some_same, boolean-at}
 use Rattle.query.proofs.Above.{level}

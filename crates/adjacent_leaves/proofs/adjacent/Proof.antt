@@ -6,7 +6,7 @@ use mathlib.Core.List.{[]}
 use Prim.Native.Nat.{ℕ, ◌+◌, ◌-◌, ◌/◌, ◌≤◌, ◌<◌}
 use lib.Dec.{eqb}
 use lib.ListN.{length}
-use borrow.Author.Tests.{eqb-true, eqb-false, not-true, not-false, le-leb, lt-leb}
+use borrow.Author.Tests.{eqb-true, eqb-false, not-true, le-leb, lt-leb}
 use Rattle.meaning.specs.Lent.{Index, hasPositions, leafField, leafFirst, leafNumber}
 use Rattle.meaning.proofs.Below.{count-le, count-one, count_same}
 use Rattle.index.specs.Slices.{runsOnly}
@@ -20,10 +20,6 @@ use borrow.Author.Rules.{rules}
 use native.Mathlib.Omega.{arith}
 use Rattle.adjacent_leaves.proofs.adjacent.Statement.{statement}
 use Rattle.adjacent_leaves.proofs.adjacent.Tie as tie
-use Rattle.adjacent_leaves.proofs.adjacent.Reads as reads
-use Rattle.adjacent_leaves.proofs.adjacent.Lts as lts
-use Rattle.adjacent_leaves.proofs.follows.Reads as follows-reads
-use Rattle.adjacent_leaves.proofs.leaf_end.Reads as leaf-end-reads
 
 abbrev invariant-loop : tie.invariant-loop-end
 invariant-loop max-doc fields leaves postings l limit last₀ high₀ falls₀ end₀ last high falls end = (m : ℕ) × ((end ≡ l + m) × (0 < m) × (l + m ≤ limit) × (1 ≤ last) × (last ≤ length postings / 3) × Together (runsOnly max-doc fields leaves postings []) l m last falls high)

@@ -6,11 +6,6 @@ use Rattle.index.proofs.Words.{leaf-field}
 use borrow.Author.Rules.{rules}
 use Rattle.adjacent_leaves.proofs.follows.Statement.{statement}
 use Rattle.adjacent_leaves.proofs.follows.Tie as tie
-use Rattle.adjacent_leaves.proofs.follows.Reads as reads
-use Rattle.adjacent_leaves.proofs.follows.Lts as lts
-use Rattle.index.proofs.fields.field_at.Reads as field-at-reads
-use Rattle.index.proofs.leaves.leaf_at.Reads as leaf-at-reads
-use Rattle.index.proofs.wide.Reads as wide-reads
 
 -- src/adjacent.rt:40:9
 leaf-at-requires : tie.Need-leaf_at-leaf-requires

@@ -2,10 +2,6 @@
 use borrow.Author.Rules.{rules}
 use Rattle.adjacent_leaves.proofs.leaf_end.Statement.{statement}
 use Rattle.adjacent_leaves.proofs.leaf_end.Tie as tie
-use Rattle.adjacent_leaves.proofs.leaf_end.Reads as reads
-use Rattle.adjacent_leaves.proofs.leaf_end.Lts as lts
-use Rattle.index.proofs.leaves.leaf_at.Reads as leaf-at-reads
-use Rattle.index.proofs.sum.Reads as sum-reads
 
 -- src/adjacent.rt:31:9
 leaf-at-requires : tie.Need-leaf_at-leaf-requires

@@ -11,9 +11,6 @@ use Rattle.adjacent_leaves.proofs.Plainly.{plain-all}
 use borrow.Author.Rules.{rules}
 use Rattle.adjacent_leaves.proofs.plain.Statement.{statement}
 use Rattle.adjacent_leaves.proofs.plain.Tie as tie
-use Rattle.adjacent_leaves.proofs.plain.Reads as reads
-use Rattle.adjacent_leaves.proofs.plain.Lts as lts
-use Rattle.index.proofs.wide.Reads as wide-reads
 
 -- src/laid.rt:132:8
 wide-requires : tie.Need-wide-requires

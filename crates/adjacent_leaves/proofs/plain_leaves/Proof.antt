@@ -22,13 +22,6 @@ use Rattle.adjacent_leaves.proofs.Stretches.{last-is, leaves-right}
 use borrow.Author.Rules.{rules}
 use Rattle.adjacent_leaves.proofs.plain_leaves.Statement.{statement}
 use Rattle.adjacent_leaves.proofs.plain_leaves.Tie as tie
-use Rattle.adjacent_leaves.proofs.plain_leaves.Reads as reads
-use Rattle.adjacent_leaves.proofs.plain_leaves.Lts as lts
-use Rattle.adjacent_leaves.proofs.adjacent.Reads as adjacent-reads
-use Rattle.index.proofs.fields.field_at.Reads as field-at-reads
-use Rattle.adjacent_leaves.proofs.plain_run.Reads as plain-run-reads
-use Rattle.index.proofs.leaves.leaf_at.Reads as leaf-at-reads
-use Rattle.index.proofs.wide.Reads as wide-reads
 
 -- what is lent, and what is known of a leaf
 abbrev ix : tie.Start → Index

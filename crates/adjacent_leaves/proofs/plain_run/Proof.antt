@@ -10,11 +10,6 @@ use Rattle.meaning.proofs.Tests.{or_left, or_right}
 use Rattle.adjacent_leaves.specs.Plain.{Plain}
 use Rattle.adjacent_leaves.proofs.plain_run.Statement.{statement}
 use Rattle.adjacent_leaves.proofs.plain_run.Tie as tie
-use Rattle.adjacent_leaves.proofs.plain_run.Reads as reads
-use Rattle.adjacent_leaves.proofs.plain_run.Lts as lts
-use Rattle.posting_rows.proofs.gathered.Reads as gathered-reads
-use Rattle.adjacent_leaves.proofs.plain.Reads as plain-reads
-use Rattle.posting_positions.proofs.plain_positions.Reads as plain-positions-reads
 
 abbrev run : tie.Else-run → List ℕ
 run c = c.args.run.now

@@ -1,5 +1,4 @@
 -- `bulk_led::suits_led` meets its contract. Assumes nothing.
-use mathlib.Core.Path.{◌≡◌, refl}
 use mathlib.Core.Bool.{false≢true}
 use borrow.Author.Rules.{rules}
 use Rattle.bulk_led.proofs.suits_led.Statement.{statement}

@@ -2,10 +2,10 @@
 use native.Mathlib.Omega.{arith}
 use Prim.Native.Nat.{ℕ, suc, ◌+◌, ◌≤◌, ◌<◌}
 use mathlib.Core.Path.{◌≡◌, refl, sym, ap, subst, ◌∙◌}
-use mathlib.Core.List.{List, ◌++◌}
-use lib.ListN.{length, get_or}
+use mathlib.Core.List.{List}
+use lib.ListN.{get_or}
 use borrow.Author.Rules.{rules}
-use mathlib.Core.Bool.{Bool, true, false, false≢true}
+use mathlib.Core.Bool.{Bool, true, false≢true}
 use mathlib.Core.Logic.{⊎_elim}
 use native.Mathlib.Nat.{le_refl, eq-or-lt_of_le}
 use lib.Dec.{ltb}

@@ -1,6 +1,6 @@
 -- `leaf_score::term_score` meets its contract: a constant, or what BM25 gives at the frequency that is found. Assumes nothing.
 use native.Mathlib.Omega.{arith}
-use mathlib.Core.Path.{◌≡◌, sym, ◌∙◌}
+use mathlib.Core.Path.{◌≡◌, ◌∙◌}
 use Prim.Native.Nat.{ℕ}
 use Rattle.leaf_scorer.proofs.Bounds.{ok-long}
 use Rattle.leaf_score.proofs.Nodes.{constant-is, leaf-at}

@@ -1,11 +1,10 @@
 -- `leaf_score::weighted` meets its contract. Assumes nothing.
-use native.Mathlib.Omega.{arith}
 use Prim.Native.Nat.{ℕ, ◌+◌, ◌*◌, ◌≤◌}
-use mathlib.Core.Path.{◌≡◌, sym, ap, subst, ◌∙◌}
+use mathlib.Core.Path.{ap, ◌∙◌}
 use lib.Dec.{T, le→leb}
 use lib.IntN.{pos}
 use lib.ListN.{get_or}
-use lib.Ieee.{Float, nan, binary32, in_float, of_bits, of_int}
+use lib.Ieee.{nan, binary32, in_float, of_bits, of_int}
 use borrow.Author.Rules.{rules}
 use Rattle.meaning.specs.Bm25.{bm25}
 use Rattle.leaf_score.proofs.weighted.Statement.{statement}

@@ -1,22 +1,12 @@
 -- `leaf_scorer::frequency` meets its contract: the words of the terms in an array that has room for them. Assumes nothing.
 use Rattle.leaf_scorer.proofs.PhraseLaws.{frequency-gather, frequency-few, frequency-four, frequency-good, frequency-room, frequency-is}
-use Rattle.meaning.specs.Phrase.{PhraseTerm, phraseFrequency}
-use Rattle.meaning.specs.Lent.{Index}
-use Rattle.meaning.specs.Limits.{noMoreDocs}
 use lib.Seq.{length-take-le}
-use lib.ListN.{length, get_or, take, drop, set, length-set}
-use native.Mathlib.Nat.{le_refl, le_trans}
+use lib.ListN.{take}
 use native.Mathlib.Omega.{arith}
-use mathlib.Core.List.{List, ◌++◌}
-use mathlib.Core.Path.{◌≡◌, refl, sym, ap, subst, ◌∙◌}
-use Prim.Native.Nat.{ℕ, ◌+◌, ◌-◌, ◌*◌, ◌≤◌, ◌<◌}
+use mathlib.Core.Path.{sym, ◌∙◌}
 use borrow.Author.Rules.{rules}
 use Rattle.leaf_scorer.proofs.frequency.Statement.{statement}
 use Rattle.leaf_scorer.proofs.frequency.Tie as tie
-use Rattle.leaf_scorer.proofs.frequency.Reads as reads
-use Rattle.leaf_scorer.proofs.frequency.Lts as lts
-use Rattle.phrase.proofs.frequency.Reads as frequency-reads
-use Rattle.leaf_scorer.proofs.gather.Reads as gather-reads
 
 slice-aggregate-gather : tie.Need-slice_bounds-gather-end
 slice-aggregate-gather c = search rules

@@ -1,20 +1,14 @@
 use Rattle.leaf_scorer.proofs.PhraseLaws.{GatherAt, gather-start, gather-end, gather-next, gather-took, terms-at-length}
 use Rattle.leaf_scorer.specs.Phrases.{GatherHeld}
-use Rattle.meaning.specs.Phrase.{PhraseTerm, phraseFrequency}
+use Rattle.meaning.specs.Phrase.{PhraseTerm}
 use Rattle.meaning.specs.Lent.{Index}
-use Rattle.meaning.specs.Limits.{noMoreDocs}
-use lib.Seq.{length-take-le}
-use lib.ListN.{length, get_or, take, drop, set, length-set}
-use native.Mathlib.Nat.{le_refl, le_trans}
+use lib.ListN.{length, get_or, set, length-set}
 use native.Mathlib.Omega.{arith}
-use mathlib.Core.List.{List, ◌++◌}
-use mathlib.Core.Path.{◌≡◌, refl, sym, ap, subst, ◌∙◌}
-use Prim.Native.Nat.{ℕ, ◌+◌, ◌-◌, ◌*◌, ◌≤◌, ◌<◌}
+use mathlib.Core.List.{List}
+use mathlib.Core.Path.{◌≡◌, refl}
+use Prim.Native.Nat.{ℕ, ◌+◌, ◌-◌, ◌<◌}
 use Rattle.leaf_scorer.proofs.gather.Statement.{statement}
 use Rattle.leaf_scorer.proofs.gather.Tie as tie
-use Rattle.leaf_scorer.proofs.gather.Reads as reads
-use Rattle.leaf_scorer.proofs.gather.Lts as lts
-use Rattle.leaf_scorer.proofs.place_at.Reads as place-at-reads
 
 abbrev invariant-loop : tie.invariant-loop-at
 invariant-loop terms postings out₀ n₀ at₀ out n at = (length out ≡ length out₀) × ((ix : Index) (ts : List PhraseTerm) (d : ℕ) → GatherHeld postings ix ts d terms → GatherAt postings ix ts d terms out n at)

@@ -2,21 +2,17 @@
 use Rattle.leaf_scorer.proofs.PhraseLaws.{leap-held, leap-more, leap-done}
 use Rattle.leaf_scorer.proofs.Loops.{Going, going_start}
 use Rattle.leaf_scorer.specs.Phrases.{TermsHeld, allFound}
-use Rattle.meaning.specs.Phrase.{PhraseTerm, phraseFrequency}
+use Rattle.meaning.specs.Phrase.{PhraseTerm}
 use Rattle.meaning.specs.Lent.{Index}
 use Rattle.meaning.specs.Limits.{noMoreDocs}
-use lib.Seq.{length-take-le}
-use lib.ListN.{length, get_or, take, drop, set, length-set}
-use native.Mathlib.Nat.{le_refl, le_trans}
+use lib.ListN.{length}
+use native.Mathlib.Nat.{le_trans}
 use native.Mathlib.Omega.{arith}
-use mathlib.Core.List.{List, ◌++◌}
-use mathlib.Core.Path.{◌≡◌, refl, sym, ap, subst, ◌∙◌}
-use Prim.Native.Nat.{ℕ, ◌+◌, ◌-◌, ◌*◌, ◌≤◌, ◌<◌}
+use mathlib.Core.List.{List}
+use mathlib.Core.Path.{◌≡◌, refl, ◌∙◌}
+use Prim.Native.Nat.{◌-◌, ◌≤◌}
 use Rattle.leaf_scorer.proofs.leapfrog.Statement.{statement}
 use Rattle.leaf_scorer.proofs.leapfrog.Tie as tie
-use Rattle.leaf_scorer.proofs.leapfrog.Reads as reads
-use Rattle.leaf_scorer.proofs.leapfrog.Lts as lts
-use Rattle.leaf_scorer.proofs.pass_terms.Reads as pass-terms-reads
 
 abbrev invariant-loop : tie.invariant-loop-p
 invariant-loop terms₀ postings target d₀ terms d = (length terms ≡ length terms₀) × (d ≤ noMoreDocs) × ((ix : Index) (ts : List PhraseTerm) → TermsHeld postings ix ts terms₀ target → Going (allFound ix ts) target d (TermsHeld postings ix ts terms d))

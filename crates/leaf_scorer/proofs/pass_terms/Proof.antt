@@ -2,23 +2,18 @@
 use Rattle.leaf_scorer.proofs.PhraseLaws.{TermsZip, terms-start, terms-end, terms-next, terms-took}
 use Rattle.leaf_scorer.proofs.Loops.{back-length}
 use Rattle.leaf_scorer.specs.Phrases.{TermsHeld}
-use Rattle.meaning.specs.Phrase.{PhraseTerm, phraseFrequency}
+use Rattle.meaning.specs.Phrase.{PhraseTerm}
 use Rattle.meaning.specs.Lent.{Index}
-use Rattle.meaning.specs.Limits.{noMoreDocs, nodeStateWords}
-use lib.Seq.{length-take-le}
-use lib.ListN.{length, get_or, take, drop, set, length-set}
-use native.Mathlib.Nat.{le_refl, le_trans}
+use Rattle.meaning.specs.Limits.{nodeStateWords}
+use lib.ListN.{length, take, drop}
 use native.Mathlib.Omega.{arith}
 use mathlib.Core.List.{List, ◌++◌}
 use mathlib.Core.Bool.{true, false, false≢true}
 use mathlib.Core.Logic.{inl, inr}
-use mathlib.Core.Path.{◌≡◌, refl, sym, ap, subst, ◌∙◌}
-use Prim.Native.Nat.{ℕ, ◌+◌, ◌-◌, ◌*◌, ◌≤◌, ◌<◌}
+use mathlib.Core.Path.{◌≡◌, refl, sym, subst, ◌∙◌}
+use Prim.Native.Nat.{ℕ, ◌+◌, ◌-◌, ◌<◌}
 use Rattle.leaf_scorer.proofs.pass_terms.Statement.{statement}
 use Rattle.leaf_scorer.proofs.pass_terms.Tie as tie
-use Rattle.leaf_scorer.proofs.pass_terms.Reads as reads
-use Rattle.leaf_scorer.proofs.pass_terms.Lts as lts
-use Rattle.leaf_scorer.proofs.search.Reads as search-reads
 
 abbrev invariant-loop : tie.invariant-loop-at
 invariant-loop terms₀ postings target d₀ last₀ at₀ terms d last at = (length terms ≡ length terms₀) × ((ix : Index) (ts : List PhraseTerm) → TermsHeld postings ix ts terms₀ target → TermsZip postings ix ts target terms d last at)

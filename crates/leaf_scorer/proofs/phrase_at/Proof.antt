@@ -10,10 +10,6 @@ use Rattle.leaf_scorer.proofs.Asked.{asked-beyond, asked-leapt, asked-none, aske
 use borrow.Author.Rules.{rules}
 use Rattle.leaf_scorer.proofs.phrase_at.Statement.{statement}
 use Rattle.leaf_scorer.proofs.phrase_at.Tie as tie
-use Rattle.leaf_scorer.proofs.phrase_at.Reads as reads
-use Rattle.leaf_scorer.proofs.phrase_at.Lts as lts
-use Rattle.leaf_scorer.proofs.frequency.Reads as frequency-reads
-use Rattle.leaf_scorer.proofs.pass_terms.Reads as pass-terms-reads
 
 sub-pass-terms : tie.Need-slice_bounds-pass_terms-count
 sub-pass-terms c = let s = c in let P = s.requires.1 in let m = moved-start P.8 in moved-long m

@@ -1,22 +1,11 @@
 use Rattle.leaf_scorer.proofs.LeafLaws.{search-run, search-hit, search-end}
-use Rattle.meaning.specs.Phrase.{PhraseTerm, phraseFrequency}
-use Rattle.meaning.specs.Lent.{Index}
 use Rattle.meaning.specs.Limits.{noMoreDocs}
-use lib.Seq.{length-take-le}
-use lib.ListN.{length, get_or, take, drop, set, length-set}
-use native.Mathlib.Nat.{le_refl, le_trans}
+use lib.ListN.{length}
 use native.Mathlib.Omega.{arith}
-use mathlib.Core.List.{List, ◌++◌}
-use mathlib.Core.Path.{◌≡◌, refl, sym, ap, subst, ◌∙◌}
-use Prim.Native.Nat.{ℕ, ◌+◌, ◌-◌, ◌*◌, ◌≤◌, ◌<◌}
+use mathlib.Core.Path.{refl, ap}
 use borrow.Author.Rules.{rules}
 use Rattle.leaf_scorer.proofs.search.Statement.{statement}
 use Rattle.leaf_scorer.proofs.search.Tie as tie
-use Rattle.leaf_scorer.proofs.search.Reads as reads
-use Rattle.leaf_scorer.proofs.search.Lts as lts
-use Rattle.leaf_scorer.proofs.cursor_at.Reads as cursor-at-reads
-use Rattle.run.proofs.document.Reads as document-reads
-use Rattle.run.proofs.lower.Reads as lower-reads
 
 -- src/leaves.rt:47:9
 cursor-at-requires : tie.Need-cursor_at-c-requires

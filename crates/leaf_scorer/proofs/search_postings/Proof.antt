@@ -7,11 +7,6 @@ use Rattle.leaf_scorer.proofs.LeafLaws.{search-run, search-next}
 use borrow.Author.Rules.{rules}
 use Rattle.leaf_scorer.proofs.search_postings.Statement.{statement}
 use Rattle.leaf_scorer.proofs.search_postings.Tie as tie
-use Rattle.leaf_scorer.proofs.search_postings.Reads as reads
-use Rattle.leaf_scorer.proofs.search_postings.Lts as lts
-use Rattle.leaf_scorer.proofs.cursor_at.Reads as cursor-at-reads
-use Rattle.leaf_scorer.proofs.search.Reads as search-reads
-use Rattle.run.proofs.document.Reads as document-reads
 
 cursor-at-requires : tie.Need-cursor_at-c-requires
 cursor-at-requires c κs = let s = c in omega (arith, ap length s.requires.2.words_are)

@@ -1,24 +1,11 @@
 use Rattle.leaf_scorer.proofs.Seeks.{seek-long, seek-term-pre, seek-term-done, seek-range-pre, seek-range-done, seek-phrase-pre, seek-phrase-done, seek-any-done}
 use Rattle.leaf_scorer.specs.Calls.{lent}
-use Rattle.meaning.specs.Phrase.{PhraseTerm, phraseFrequency}
-use Rattle.meaning.specs.Lent.{Index}
-use Rattle.meaning.specs.Limits.{noMoreDocs}
-use lib.Seq.{length-take-le}
-use lib.ListN.{length, get_or, take, drop, set, length-set}
-use native.Mathlib.Nat.{le_refl, le_trans}
+use lib.ListN.{length}
 use native.Mathlib.Omega.{arith}
-use mathlib.Core.List.{List, ◌++◌}
-use mathlib.Core.Path.{◌≡◌, refl, sym, ap, subst, ◌∙◌}
-use Prim.Native.Nat.{ℕ, ◌+◌, ◌-◌, ◌*◌, ◌≤◌, ◌<◌}
+use Prim.Native.Nat.{◌<◌}
 use borrow.Author.Rules.{rules}
 use Rattle.leaf_scorer.proofs.seek.Statement.{statement}
 use Rattle.leaf_scorer.proofs.seek.Tie as tie
-use Rattle.leaf_scorer.proofs.seek.Reads as reads
-use Rattle.leaf_scorer.proofs.seek.Lts as lts
-use Rattle.leaf_scorer.proofs.everything.Reads as everything-reads
-use Rattle.leaf_scorer.proofs.search.Reads as search-reads
-use Rattle.leaf_scorer.proofs.search_postings.Reads as search-postings-reads
-use Rattle.leaf_scorer.proofs.seek_phrase.Reads as seek-phrase-reads
 
 -- src/leaves.rt:183:16
 slice-read-kind : tie.Need-bounds-st-0

@@ -7,19 +7,13 @@ use lib.Dec.{ltb}
 use Rattle.meaning.specs.Phrase.{PhraseTerm, phraseFrequency}
 use Rattle.meaning.specs.Lent.{Index}
 use Rattle.meaning.specs.Limits.{noMoreDocs, nodeStateWords}
-use lib.Seq.{length-take-le}
-use lib.ListN.{length, get_or, take, drop, set, length-set}
-use native.Mathlib.Nat.{le_refl, le_trans}
+use lib.ListN.{length, take, drop, length-set}
 use native.Mathlib.Omega.{arith}
 use mathlib.Core.List.{List, ◌++◌}
-use mathlib.Core.Path.{◌≡◌, refl, sym, ap, subst, ◌∙◌}
-use Prim.Native.Nat.{ℕ, ◌+◌, ◌-◌, ◌*◌, ◌≤◌, ◌<◌}
+use mathlib.Core.Path.{refl, ◌∙◌}
+use Prim.Native.Nat.{ℕ, ◌+◌, ◌-◌, ◌≤◌, ◌<◌}
 use Rattle.leaf_scorer.proofs.seek_phrase.Statement.{statement}
 use Rattle.leaf_scorer.proofs.seek_phrase.Tie as tie
-use Rattle.leaf_scorer.proofs.seek_phrase.Reads as reads
-use Rattle.leaf_scorer.proofs.seek_phrase.Lts as lts
-use Rattle.leaf_scorer.proofs.frequency.Reads as frequency-reads
-use Rattle.leaf_scorer.proofs.leapfrog.Reads as leapfrog-reads
 
 abbrev invariant-loop : tie.invariant-loop-target
 invariant-loop st₀ postings positions a₀ b₀ target t₀ st a b t = Lengths (length st) (length st₀) (length a) (length a₀) (length b) (length b₀) × (t ≤ noMoreDocs) × ((ix : Index) (p f : ℕ) (ts : List PhraseTerm) (s : State) (w : List ℕ) → PhraseHeld postings positions ix p f ts s w st₀ target → Going (λ d. ltb 0 (phraseFrequency ix ts d)) target t (PhraseMoved ix f ts s st t))

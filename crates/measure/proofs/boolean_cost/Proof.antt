@@ -1,8 +1,7 @@
 -- `measure::boolean_cost` meets its contract. Assumes nothing.
 use Rattle.measure.proofs.Clauses.{cost-is, group-cost}
-use mathlib.Core.Bool.{true, false, cond}
-use native.Mathlib.Omega.{arith}
-use mathlib.Core.Path.{◌≡◌, refl, sym, ◌∙◌, ap}
+use mathlib.Core.Bool.{true, false}
+use mathlib.Core.Path.{◌∙◌}
 use borrow.Author.Tests.{eq-eqb, ne_eqb, not-true, not-false}
 use borrow.Author.Rules.{rules}
 use Rattle.measure.proofs.boolean_cost.Statement.{statement}

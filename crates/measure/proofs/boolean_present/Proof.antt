@@ -1,6 +1,5 @@
 -- `measure::boolean_present` meets its contract. Assumes nothing.
-use native.Mathlib.Omega.{arith}
-use mathlib.Core.Path.{◌≡◌, refl, sym, ◌∙◌, ap}
+use mathlib.Core.Path.{◌∙◌}
 use borrow.Author.Rules.{rules}
 use Rattle.measure.proofs.boolean_present.Statement.{statement}
 use Rattle.measure.proofs.boolean_present.Tie as tie

@@ -1,8 +1,7 @@
 -- `measure::list_range` meets its contract. Assumes nothing.
 use lib.ListN.{length}
 use Rattle.measure.proofs.Listing.{range-asks, range_gives}
-use mathlib.Core.Path.{◌≡◌, refl, sym, ◌∙◌, ap}
-use native.Mathlib.Omega.{arith}
+use mathlib.Core.Path.{refl, sym, ◌∙◌, ap}
 use borrow.Author.Rules.{rules}
 use Rattle.measure.proofs.list_range.Statement.{statement}
 use Rattle.measure.proofs.list_range.Tie as tie

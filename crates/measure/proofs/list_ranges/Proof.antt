@@ -3,14 +3,14 @@ use borrow.Rule.Slice.PartMut.{same_len_mid, post_of}
 use lib.ListN.{length-take, length-drop}
 use Rattle.query.proofs.Whole.{whole}
 use borrow.Author.Rules.{rules}
-use mathlib.Core.Path.{◌≡◌, refl, sym, ◌∙◌, ap}
+use mathlib.Core.Path.{◌≡◌, refl, ◌∙◌}
 use native.Mathlib.Omega.{arith}
-use Prim.Native.Nat.{ℕ, ◌+◌, ◌-◌, ◌*◌, ◌≤◌, ◌<◌}
-use lib.ListN.{length, get_or, length-set}
+use Prim.Native.Nat.{◌-◌, ◌≤◌}
+use lib.ListN.{length, length-set}
 use Rattle.meaning.specs.Lent.{Index}
 use Rattle.meaning.specs.Query.{recordCount}
 use Rattle.weight.specs.Measured.{Asks, Columns}
-use Rattle.measure.proofs.Listing.{Listing, words_to, no_words, words_more, Room, room, listing-more, step_small, isRange}
+use Rattle.measure.proofs.Listing.{Listing, words_to, no_words, words_more, room, listing-more, step_small, isRange}
 use Rattle.measure.proofs.list_ranges.Statement.{statement}
 use Rattle.measure.proofs.list_ranges.Tie as tie
 

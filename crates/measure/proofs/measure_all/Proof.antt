@@ -1,10 +1,10 @@
 -- `measure::measure_all` meets its contract. Assumes nothing.
 use Rattle.query.proofs.Whole.{whole}
 use borrow.Author.Rules.{rules}
-use mathlib.Core.Path.{◌≡◌, refl, sym, ◌∙◌, ap}
+use mathlib.Core.Path.{◌≡◌, refl}
 use native.Mathlib.Omega.{arith}
-use Prim.Native.Nat.{ℕ, ◌+◌, ◌-◌, ◌*◌, ◌≤◌, ◌<◌}
-use lib.ListN.{length, get_or, length-set}
+use Prim.Native.Nat.{◌-◌, ◌≤◌}
+use lib.ListN.{length, length-set}
 use Rattle.meaning.specs.Lent.{Index}
 use Rattle.meaning.specs.Query.{recordCount}
 use Rattle.weight.specs.Measured.{Known, Measured}

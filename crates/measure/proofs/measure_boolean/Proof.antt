@@ -1,11 +1,10 @@
 -- `measure::measure_boolean` meets its contract. Assumes nothing.
 use Rattle.weight.proofs.Standing.{clauses-at}
 use borrow.Author.Rules.{rules}
-use mathlib.Core.Path.{◌≡◌, refl, sym, ◌∙◌, ap}
+use mathlib.Core.Path.{◌≡◌, ◌∙◌, ap}
 use mathlib.Core.Option.{some}
 use native.Mathlib.Omega.{arith}
-use Prim.Native.Nat.{ℕ, ◌+◌, ◌-◌, ◌*◌, ◌≤◌, ◌<◌}
-use lib.ListN.{length, get_or}
+use Prim.Native.Nat.{ℕ, ◌+◌, ◌-◌}
 use Rattle.meaning.specs.Lent.{Index}
 use Rattle.meaning.specs.Query.{recordChildren, occurOf, DecodedClauses, decode, decodeClauses}
 use Rattle.weight.specs.Measured.{Measured}

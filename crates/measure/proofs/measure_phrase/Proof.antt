@@ -1,8 +1,6 @@
 -- `measure::measure_phrase` meets its contract. Assumes nothing.
 use Rattle.weight.proofs.Measures.{terms-here, phrase-measured}
-use Prim.Native.Nat.{ℕ, ◌+◌, ◌-◌, ◌*◌, ◌≤◌, ◌<◌}
-use mathlib.Core.Path.{◌≡◌, refl, sym, ◌∙◌, ap}
-use native.Mathlib.Omega.{arith}
+use Prim.Native.Nat.{◌+◌}
 use borrow.Author.Rules.{rules}
 use Rattle.measure.proofs.measure_phrase.Statement.{statement}
 use Rattle.measure.proofs.measure_phrase.Tie as tie

@@ -2,7 +2,7 @@
 use Rattle.weight.proofs.Measures.{child-here, range-measured, all-measured, constant-measured, boost-measured, none-measured}
 use lib.ListN.{get_or}
 use mathlib.Core.Logic.{inl, inr}
-use mathlib.Core.Path.{◌≡◌, refl, sym, ◌∙◌, ap}
+use mathlib.Core.Path.{sym, ◌∙◌}
 use native.Mathlib.Omega.{arith}
 use borrow.Author.Rules.{rules}
 use Rattle.measure.proofs.measure_record.Statement.{statement}

@@ -1,8 +1,5 @@
 -- `measure::measure_term` meets its contract. Assumes nothing.
 use Rattle.weight.proofs.Measures.{term-here, term-measured}
-use Prim.Native.Nat.{ℕ, ◌+◌, ◌-◌, ◌*◌, ◌≤◌, ◌<◌}
-use mathlib.Core.Path.{◌≡◌, refl, sym, ◌∙◌, ap}
-use native.Mathlib.Omega.{arith}
 use borrow.Author.Rules.{rules}
 use Rattle.measure.proofs.measure_term.Statement.{statement}
 use Rattle.measure.proofs.measure_term.Tie as tie

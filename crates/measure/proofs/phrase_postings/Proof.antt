@@ -2,9 +2,9 @@
 use Rattle.weight.proofs.Phrases.{first-term, first-number, next-number}
 use Rattle.weight.specs.Measured.{termNumbers}
 use Rattle.meaning.specs.Cost.{least}
-use Rattle.meaning.specs.Query.{recordChildren, recordValue}
-use Prim.Native.Nat.{ℕ, ◌+◌, ◌-◌, ◌*◌, ◌≤◌, ◌<◌}
-use mathlib.Core.Path.{◌≡◌, refl, sym, ◌∙◌, ap}
+use Rattle.meaning.specs.Query.{recordChildren}
+use Prim.Native.Nat.{ℕ, ◌-◌, ◌≤◌, ◌<◌}
+use mathlib.Core.Path.{◌≡◌, ◌∙◌, ap}
 use native.Mathlib.Omega.{arith}
 use borrow.Author.Rules.{rules}
 use Rattle.measure.proofs.phrase_postings.Statement.{statement}

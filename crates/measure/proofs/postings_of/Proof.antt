@@ -1,7 +1,6 @@
 -- `measure::postings_of` meets its contract. Assumes nothing.
 use Prim.Native.Nat.{◌+◌, ◌*◌}
 use native.Mathlib.Omega.{arith}
-use mathlib.Core.Path.{◌≡◌, refl, sym, ◌∙◌, ap}
 use borrow.Author.Rules.{rules}
 use Rattle.measure.proofs.postings_of.Statement.{statement}
 use Rattle.measure.proofs.postings_of.Tie as tie

@@ -1,6 +1,6 @@
 -- `measure::range_words` meets its contract. Assumes nothing.
 use borrow.Author.Tests.{eq-eqb, ne_eqb}
-use mathlib.Core.Path.{◌≡◌, sym, ◌∙◌}
+use mathlib.Core.Path.{sym, ◌∙◌}
 use borrow.Author.Rules.{rules}
 use Rattle.measure.proofs.range_words.Statement.{statement}
 use Rattle.measure.proofs.range_words.Tie as tie

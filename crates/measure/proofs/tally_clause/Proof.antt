@@ -1,7 +1,5 @@
 -- `measure::tally_clause` meets its contract. Assumes nothing.
 use Rattle.measure.proofs.Clauses.{clause-not, clause-should, clause-required}
-use native.Mathlib.Omega.{arith}
-use mathlib.Core.Path.{◌≡◌, refl, sym, ◌∙◌, ap}
 use borrow.Author.Rules.{rules}
 use Rattle.measure.proofs.tally_clause.Statement.{statement}
 use Rattle.measure.proofs.tally_clause.Tie as tie

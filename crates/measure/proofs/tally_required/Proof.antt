@@ -1,7 +1,5 @@
 -- `measure::tally_required` meets its contract. Assumes nothing.
 use Rattle.measure.proofs.Clauses.{required-absent, required-present}
-use native.Mathlib.Omega.{arith}
-use mathlib.Core.Path.{◌≡◌, refl, sym, ◌∙◌, ap}
 use borrow.Author.Rules.{rules}
 use Rattle.measure.proofs.tally_required.Statement.{statement}
 use Rattle.measure.proofs.tally_required.Tie as tie

@@ -1,7 +1,5 @@
 -- `measure::tally_should` meets its contract. Assumes nothing.
 use Rattle.measure.proofs.Clauses.{should-absent, should-present}
-use native.Mathlib.Omega.{arith}
-use mathlib.Core.Path.{◌≡◌, refl, sym, ◌∙◌, ap}
 use borrow.Author.Rules.{rules}
 use Rattle.measure.proofs.tally_should.Statement.{statement}
 use Rattle.measure.proofs.tally_should.Tie as tie

@@ -3,8 +3,6 @@ use Rattle.std.proofs.Common.{ℕ, ◌-◌, ◌<◌, ◌≤◌, length, get_or, 
 use Rattle.posting_positions.proofs.Gaps.{bound-more}
 use Rattle.posting_positions.proofs.or_all.Statement.{statement}
 use Rattle.posting_positions.proofs.or_all.Tie as tie
-use Rattle.posting_positions.proofs.or_all.Reads as reads
-use Rattle.posting_positions.proofs.or_all.Lts as lts
 
 abbrev invariant-loop : tie.invariant-loop-k
 invariant-loop part all₀ k₀ all k = ((i : ℕ) → i < k → get_or part i 0 ≤ all) × (k ≤ length part)

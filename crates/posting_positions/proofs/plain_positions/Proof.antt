@@ -7,13 +7,6 @@ use Rattle.posting_positions.proofs.Gaps.{and_left, and_right}
 use Rattle.posting_positions.proofs.Joined.{ends-within, falls-right, ones-right, seam-within}
 use Rattle.posting_positions.proofs.plain_positions.Statement.{statement}
 use Rattle.posting_positions.proofs.plain_positions.Tie as tie
-use Rattle.posting_positions.proofs.plain_positions.Reads as reads
-use Rattle.posting_positions.proofs.plain_positions.Lts as lts
-use Rattle.posting_positions.proofs.or_all.Reads as or-all-reads
-use Rattle.posting_positions.proofs.seams.Reads as seams-reads
-use Rattle.posting_positions.proofs.seen_in.Reads as seen-in-reads
-use Rattle.index.proofs.sum.Reads as sum-reads
-use Rattle.index.proofs.wide.Reads as wide-reads
 
 -- what is known once the ends are read
 abbrev start : tie.After-sum-end → tie.Start

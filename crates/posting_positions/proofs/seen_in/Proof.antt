@@ -6,9 +6,6 @@ use Rattle.posting_positions.specs.Places.{drop_at}
 use Rattle.posting_positions.proofs.Gaps.{bound-more, only, drop-first, drop_more, drop-end}
 use Rattle.posting_positions.proofs.seen_in.Statement.{statement}
 use Rattle.posting_positions.proofs.seen_in.Tie as tie
-use Rattle.posting_positions.proofs.seen_in.Reads as reads
-use Rattle.posting_positions.proofs.seen_in.Lts as lts
-use Rattle.std.proofs.num.wrapping_sub_u32.Reads as wrapping-sub-u32-reads
 
 abbrev invariant-loop : tie.invariant-loop-k
 invariant-loop part all₀ falls₀ k₀ all falls k = ((i : ℕ) → i < k → get_or part i 0 ≤ all) × (falls ≡ countBelow k (drop_at part)) × (1 ≤ k) × (k ≤ length part)

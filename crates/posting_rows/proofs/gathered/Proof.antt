@@ -6,11 +6,6 @@ use Rattle.posting_rows.proofs.Over.{over-end}
 use Rattle.posting_rows.proofs.Joining.{over-rows, rows_few}
 use Rattle.posting_rows.proofs.gathered.Statement.{statement}
 use Rattle.posting_rows.proofs.gathered.Tie as tie
-use Rattle.posting_rows.proofs.gathered.Reads as reads
-use Rattle.posting_rows.proofs.gathered.Lts as lts
-use Rattle.posting_rows.proofs.head.Reads as head-reads
-use Rattle.posting_rows.proofs.joined.Reads as joined-reads
-use Rattle.posting_rows.proofs.rows.Reads as rows-reads
 
 -- how many rows there are, and the records before them
 abbrev lines : List ℕ → ℕ

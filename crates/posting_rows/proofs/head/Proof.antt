@@ -4,10 +4,6 @@ use Rattle.posting_rows.specs.Rows.{Over}
 use Rattle.posting_rows.proofs.Over.{tally_of, over-one, over-more, over-few, over-end}
 use Rattle.posting_rows.proofs.head.Statement.{statement}
 use Rattle.posting_rows.proofs.head.Tie as tie
-use Rattle.posting_rows.proofs.head.Reads as reads
-use Rattle.posting_rows.proofs.head.Lts as lts
-use Rattle.std.proofs.num.wrapping_add_u32.Reads as wrapping-add-u32-reads
-use Rattle.std.proofs.num.wrapping_sub_u32.Reads as wrapping-sub-u32-reads
 
 abbrev invariant-loop : tie.invariant-loop-i
 invariant-loop run to ascents₀ advances₀ apart₀ docs₀ frequencies₀ indexes₀ i₀ ascents advances apart docs frequencies indexes i = Over run i (tally_of ascents advances apart docs frequencies indexes) × (1 ≤ i) × (i ≤ to)

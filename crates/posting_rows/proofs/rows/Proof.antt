@@ -3,10 +3,6 @@ use Rattle.std.proofs.Common.{◌≡◌, ℕ, ◌+◌, ◌-◌, ◌*◌, ◌≤�
 use Rattle.posting_rows.proofs.Filling.{Filled, lane_count, filled_more, filled_next, filled_none, filled-all}
 use Rattle.posting_rows.proofs.rows.Statement.{statement}
 use Rattle.posting_rows.proofs.rows.Tie as tie
-use Rattle.posting_rows.proofs.rows.Reads as reads
-use Rattle.posting_rows.proofs.rows.Lts as lts
-use Rattle.std.proofs.num.wrapping_add_u32.Reads as wrapping-add-u32-reads
-use Rattle.std.proofs.num.wrapping_sub_u32.Reads as wrapping-sub-u32-reads
 
 abbrev invariant-loop2 : tie.invariant-loop-j
 invariant-loop2 part rises₀ apart₀ all₀ at j₀ rises apart all j = (i : ℕ) × ((at ≡ 6 + 12 * i) × (at + 12 ≤ length part) × (j ≤ 12) × Filled part i j rises apart all)

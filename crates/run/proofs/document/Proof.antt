@@ -4,8 +4,6 @@ use Prim.Native.Nat.{◌+◌}
 use Rattle.run.proofs.Runs.{factor-le}
 use Rattle.run.proofs.document.Statement.{statement}
 use Rattle.run.proofs.document.Tie as tie
-use Rattle.run.proofs.document.Reads as reads
-use Rattle.run.proofs.document.Lts as lts
 
 -- src/run.rt:14:21
 add-result : tie.Need-overflow_add-result

@@ -1,13 +1,9 @@
 use Rattle.run.proofs.Runs.{Front, front-start, front-past, front-lower}
 use native.Mathlib.Nat.{le_refl}
 use native.Mathlib.Omega.{arith}
-use Prim.Native.Nat.{◌+◌, ◌-◌, ◌*◌}
+use Prim.Native.Nat.{◌-◌}
 use Rattle.run.proofs.gallop.Statement.{statement}
 use Rattle.run.proofs.gallop.Tie as tie
-use Rattle.run.proofs.gallop.Reads as reads
-use Rattle.run.proofs.gallop.Lts as lts
-use Rattle.run.proofs.document.Reads as document-reads
-use Rattle.run.proofs.halve.Reads as halve-reads
 
 abbrev invariant-loop : tie.invariant-loop-step
 invariant-loop words stride first count from target low₀ step₀ low step = Front words stride first count from target low

@@ -1,12 +1,9 @@
-use Prim.Native.Nat.{ℕ, ◌+◌, ◌-◌, ◌/◌}
+use Prim.Native.Nat.{ℕ, ◌-◌}
 use native.Mathlib.Omega.{arith}
 use Rattle.run.proofs.Runs.{Ends, front-start, ends_low, ends-high, ends-meet}
 use Rattle.run.specs.Run.{Between}
 use Rattle.run.proofs.halve.Statement.{statement}
 use Rattle.run.proofs.halve.Tie as tie
-use Rattle.run.proofs.halve.Reads as reads
-use Rattle.run.proofs.halve.Lts as lts
-use Rattle.run.proofs.document.Reads as document-reads
 
 abbrev invariant-loop : tie.invariant-loop-low
 invariant-loop words stride first from to target low₀ high₀ low high = (count : ℕ) → Between words stride first count from to target → Ends words stride first count from target low high

@@ -1,12 +1,8 @@
 use Rattle.run.proofs.Runs.{Front, front-start, front-past, front-lower, front-here}
 use native.Mathlib.Omega.{arith}
-use Prim.Native.Nat.{◌+◌, ◌-◌, ◌*◌}
+use Prim.Native.Nat.{◌+◌, ◌-◌}
 use Rattle.run.proofs.lower.Statement.{statement}
 use Rattle.run.proofs.lower.Tie as tie
-use Rattle.run.proofs.lower.Reads as reads
-use Rattle.run.proofs.lower.Lts as lts
-use Rattle.run.proofs.document.Reads as document-reads
-use Rattle.run.proofs.gallop.Reads as gallop-reads
 
 abbrev invariant-loop : tie.invariant-loop-at
 invariant-loop words stride first count from target at₀ at = Front words stride first count from target at

@@ -1,6 +1,5 @@
 -- `scorer::advance_range` meets its contract: the cache, or a search in the range buffer and the new cached document. Assumes nothing.
-use Prim.Native.Nat.{◌+◌, ◌<◌}
-use mathlib.Core.Path.{refl}
+use Prim.Native.Nat.{◌<◌}
 use native.Mathlib.Omega.{arith}
 use lib.ListN.{length}
 use Rattle.leaf_scorer.proofs.Bounds.{ok-long}
@@ -9,10 +8,6 @@ use Rattle.scorer.proofs.Terms.{range-asks, range-sought}
 use borrow.Author.Rules.{rules}
 use Rattle.scorer.proofs.advance_range.Statement.{statement}
 use Rattle.scorer.proofs.advance_range.Tie as tie
-use Rattle.scorer.proofs.advance_range.Reads as reads
-use Rattle.scorer.proofs.advance_range.Lts as lts
-use Rattle.scorer.proofs.head_at.Reads as head-at-reads
-use Rattle.leaf_scorer.proofs.search.Reads as search-reads
 
 head-at-requires : tie.Need-head_at-h-requires
 head-at-requires c κs = let s = c in let P = s.requires.2 in ok-long P.2 P.0.ranges P.4 P.5 P.6 s.args.st.now s.args.target P.7.ok

@@ -1,6 +1,5 @@
 -- `scorer::advance_term` meets its contract: the cache, or a search in the postings and the new cached document. Assumes nothing.
 use Prim.Native.Nat.{◌+◌, ◌<◌}
-use mathlib.Core.Path.{refl}
 use native.Mathlib.Omega.{arith}
 use lib.ListN.{length}
 use lib.Seq.{get_or-set_same}
@@ -10,10 +9,6 @@ use Rattle.scorer.proofs.Terms.{term_asks, term-sought}
 use borrow.Author.Rules.{rules}
 use Rattle.scorer.proofs.advance_term.Statement.{statement}
 use Rattle.scorer.proofs.advance_term.Tie as tie
-use Rattle.scorer.proofs.advance_term.Reads as reads
-use Rattle.scorer.proofs.advance_term.Lts as lts
-use Rattle.scorer.proofs.head_at.Reads as head-at-reads
-use Rattle.leaf_scorer.proofs.search_postings.Reads as search-postings-reads
 
 head-at-requires : tie.Need-head_at-h-requires
 head-at-requires c κs = let s = c in let P = s.requires.2 in ok-long P.2 P.0.ranges P.4 P.5 P.6 s.args.st.now s.args.target P.7.ok

@@ -7,9 +7,6 @@ use Rattle.scorer.proofs.Asked.{phrase-asks, asked-moved, asked-there}
 use borrow.Author.Rules.{rules}
 use Rattle.scorer.proofs.ask_phrase.Statement.{statement}
 use Rattle.scorer.proofs.ask_phrase.Tie as tie
-use Rattle.scorer.proofs.ask_phrase.Reads as reads
-use Rattle.scorer.proofs.ask_phrase.Lts as lts
-use Rattle.leaf_scorer.proofs.phrase_at.Reads as phrase-at-reads
 
 returns : tie.Need-returns-then-from-target
 returns c = let s = c in λ E k pe qe ix p T o h. (record { from = le_refl _; top = s.requires.0; before = λ x a b. absurd (omega arith); hit = λ e l. absurd (c.if-from-target.true (sym e)) }, h.ok)

@@ -1,16 +1,13 @@
 -- `walk::list` meets its contract: what is written are the first live matches. Assumes nothing.
-use Prim.Native.Nat.{ℕ, ◌+◌, ◌-◌, ◌≤◌, ◌<◌, min}
-use mathlib.Core.Path.{◌≡◌, refl, sym, ap, ◌∙◌}
+use Prim.Native.Nat.{◌-◌, ◌≤◌, min}
+use mathlib.Core.Path.{◌≡◌, refl, ◌∙◌}
 use native.Mathlib.Omega.{arith}
 use borrow.Author.Rules.{rules}
 use lib.ListN.{length, length-set}
-use Rattle.meaning.specs.Limits.{noMoreDocs}
 use Rattle.score.proofs.Loops.{places_same}
 use Rattle.walk.proofs.Walking.{GivenAt, page-first-asks, begun, page-start, page-top, page-score-asks, page-number, page-next-asks, page-more, page-none, page-full, page-done}
 use Rattle.walk.proofs.list.Statement.{statement}
 use Rattle.walk.proofs.list.Tie as tie
-use Rattle.walk.proofs.list.Reads as reads
-use Rattle.walk.proofs.list.Lts as lts
 
 abbrev invariant-loop : tie.invariant-loop-given
 invariant-loop st₀ max-doc postings positions norms ranges inverses live a₀ b₀ from depth docs₀ bits₀ next₀ given₀ st a b docs bits next given =

@@ -1,7 +1,6 @@
 -- `walk::next_match` meets its contract: what the loop has passed is no live match. Assumes nothing.
-use Prim.Native.Nat.{ℕ, ◌+◌, ◌-◌, ◌≤◌, ◌<◌}
-use mathlib.Core.Path.{◌≡◌, refl, sym, ap, ◌∙◌}
-use mathlib.Core.Bool.{true, false}
+use Prim.Native.Nat.{◌-◌, ◌≤◌, ◌<◌}
+use mathlib.Core.Path.{◌≡◌, refl, sym, ◌∙◌}
 use native.Mathlib.Omega.{arith}
 use lib.ListN.{length}
 use Rattle.meaning.specs.Limits.{noMoreDocs}
@@ -9,8 +8,6 @@ use Rattle.scorer.specs.Calls.{lent}
 use Rattle.walk.proofs.Walking.{WalkAt, walk_start, walk-asks, walk_top, walk_from, walk-live, walk-stop, walk-found, walk_more}
 use Rattle.walk.proofs.next_match.Statement.{statement}
 use Rattle.walk.proofs.next_match.Tie as tie
-use Rattle.walk.proofs.next_match.Reads as reads
-use Rattle.walk.proofs.next_match.Lts as lts
 
 abbrev invariant-loop : tie.invariant-loop-max_doc
 invariant-loop st₀ max-doc postings positions ranges live a₀ b₀ from depth target₀ st a b target =

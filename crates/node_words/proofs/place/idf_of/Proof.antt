@@ -1,8 +1,7 @@
 -- `place::idf_of` meets its contract. Assumes nothing.
 use Rattle.node_words.proofs.Idf.{idf-there, idf-number, idf-word}
 use lib.Ieee.{binary32, of_bits}
-use Prim.Native.Nat.{ℕ, ◌+◌, ◌-◌, ◌*◌, ◌≤◌, ◌<◌}
-use mathlib.Core.Path.{◌≡◌, refl, sym, ◌∙◌, ap, subst}
+use mathlib.Core.Path.{ap}
 use native.Mathlib.Omega.{arith}
 use borrow.Author.Rules.{rules}
 use Rattle.node_words.proofs.place.idf_of.Statement.{statement}

@@ -3,10 +3,9 @@ use Rattle.node_words.proofs.Norms.{field-here, norms-none, norms-some, norms-sm
 use Rattle.index.specs.Slices.{fieldsOnly}
 use Rattle.meaning.specs.Lent.{hasNorms}
 use Rattle.meaning.specs.Below.{countBelow}
-use lib.ListN.{length, get_or}
-use lib.Dec.{T}
-use Prim.Native.Nat.{ℕ, ◌+◌, ◌-◌, ◌*◌, ◌≤◌, ◌<◌}
-use mathlib.Core.Path.{◌≡◌, refl, sym, ◌∙◌, ap, subst}
+use lib.ListN.{get_or}
+use Prim.Native.Nat.{ℕ, ◌+◌, ◌*◌}
+use mathlib.Core.Path.{◌∙◌, ap}
 use native.Mathlib.Omega.{arith}
 use borrow.Author.Rules.{rules}
 use Rattle.node_words.proofs.place.norms_word.Statement.{statement}

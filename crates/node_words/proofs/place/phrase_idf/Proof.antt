@@ -1,13 +1,12 @@
 -- `place::phrase_idf` meets its contract. Assumes nothing.
 use borrow.Author.Rules.{rules}
 use native.Mathlib.Omega.{arith}
-use mathlib.Core.Path.{◌≡◌, refl, sym, ◌∙◌, ap, subst}
-use Prim.Native.Nat.{ℕ, ◌+◌, ◌-◌, ◌*◌, ◌≤◌, ◌<◌}
+use mathlib.Core.Path.{◌≡◌, ◌∙◌}
+use Prim.Native.Nat.{◌-◌, ◌≤◌}
 use Rattle.meaning.specs.Below.{listTo}
 use Rattle.meaning.specs.Ieee754.{zeroFloat, sumFrom}
-use Rattle.meaning.specs.Lent.{Index, leafIdf}
+use Rattle.meaning.specs.Lent.{Index}
 use Rattle.meaning.specs.Query.{recordChildren}
-use Rattle.ieee754.proofs.Bounds.{atmost-number}
 use Rattle.node_words.proofs.Idf.{idfAt, idf-none, idf-more, idf-all, idf-not-nan}
 use Rattle.node_words.proofs.place.phrase_idf.Statement.{statement}
 use Rattle.node_words.proofs.place.phrase_idf.Tie as tie

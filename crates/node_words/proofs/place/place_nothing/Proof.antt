@@ -1,11 +1,7 @@
 -- `place::place_nothing` meets its contract. Assumes nothing.
 use Rattle.weight.specs.State.{words_of}
 use Rattle.node_words.proofs.Placing.{placed-nothing, leafState, put_same}
-use lib.ListN.{length}
-use lib.Dec.{T}
-use Prim.Native.Nat.{ℕ, ◌+◌, ◌-◌, ◌*◌, ◌≤◌, ◌<◌}
-use mathlib.Core.Path.{◌≡◌, refl, sym, ◌∙◌, ap, subst}
-use native.Mathlib.Omega.{arith}
+use mathlib.Core.Path.{refl}
 use borrow.Author.Rules.{rules}
 use Rattle.node_words.proofs.place.place_nothing.Statement.{statement}
 use Rattle.node_words.proofs.place.place_nothing.Tie as tie

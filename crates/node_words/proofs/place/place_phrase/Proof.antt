@@ -7,10 +7,10 @@ use Rattle.weight.specs.State.{words_of}
 use Rattle.meaning.specs.Lent.{fieldCount}
 use borrow.Rule.Slice.PartMut.{same_len_mid, post_of, put_mid}
 use lib.Ieee.{binary32, to_bits}
-use lib.ListN.{length, take, drop, length-take, length-drop}
+use lib.ListN.{length, drop, length-take, length-drop}
 use lib.Dec.{T}
-use Prim.Native.Nat.{ℕ, ◌+◌, ◌-◌, ◌*◌, ◌≤◌, ◌<◌}
-use mathlib.Core.Path.{◌≡◌, refl, sym, ◌∙◌, ap, subst}
+use Prim.Native.Nat.{ℕ, ◌+◌, ◌-◌, ◌*◌, ◌<◌}
+use mathlib.Core.Path.{refl, sym, ◌∙◌, ap, subst}
 use native.Mathlib.Omega.{arith}
 use borrow.Author.Rules.{rules}
 use Rattle.node_words.proofs.place.place_phrase.Statement.{statement}

@@ -2,9 +2,7 @@
 use Rattle.node_words.proofs.Norms.{leaf-there, field_of, first_of, number_of, field-known}
 use Rattle.node_words.proofs.PhraseParts.{phrase-term}
 use Rattle.index.specs.declared.leaves.Leaf.{Leaf}
-use Prim.Native.Nat.{ℕ, ◌+◌, ◌-◌, ◌*◌, ◌≤◌, ◌<◌}
-use mathlib.Core.Path.{◌≡◌, refl, sym, ◌∙◌, ap, subst}
-use native.Mathlib.Omega.{arith}
+use mathlib.Core.Path.{ap}
 use borrow.Author.Rules.{rules}
 use Rattle.node_words.proofs.place.place_phrase_term.Statement.{statement}
 use Rattle.node_words.proofs.place.place_phrase_term.Tie as tie

@@ -3,11 +3,8 @@ use Rattle.weight.specs.State.{words_of}
 use lib.Ieee.{binary32, to_bits}
 use Rattle.node_words.proofs.Placing.{placed-range, leafState, put_same, score-is}
 use Rattle.ieee754.proofs.Bounds.{atmost-number}
-use lib.ListN.{length}
 use lib.Dec.{T}
-use Prim.Native.Nat.{ℕ, ◌+◌, ◌-◌, ◌*◌, ◌≤◌, ◌<◌}
-use mathlib.Core.Path.{◌≡◌, refl, sym, ◌∙◌, ap, subst}
-use native.Mathlib.Omega.{arith}
+use mathlib.Core.Path.{refl, sym, subst}
 use borrow.Author.Rules.{rules}
 use Rattle.node_words.proofs.place.place_range.Statement.{statement}
 use Rattle.node_words.proofs.place.place_range.Tie as tie

@@ -5,11 +5,8 @@ use Rattle.index.specs.declared.leaves.Leaf.{Leaf}
 use Rattle.ieee754.proofs.Bounds.{atmost-number}
 use Rattle.weight.specs.State.{words_of}
 use lib.Ieee.{binary32, to_bits}
-use lib.ListN.{length, get_or}
 use lib.Dec.{T}
-use Prim.Native.Nat.{ℕ, ◌+◌, ◌-◌, ◌*◌, ◌≤◌, ◌<◌}
-use mathlib.Core.Path.{◌≡◌, refl, sym, ◌∙◌, ap, subst}
-use native.Mathlib.Omega.{arith}
+use mathlib.Core.Path.{refl, sym, ap, subst}
 use borrow.Author.Rules.{rules}
 use Rattle.node_words.proofs.place.place_term.Statement.{statement}
 use Rattle.node_words.proofs.place.place_term.Tie as tie

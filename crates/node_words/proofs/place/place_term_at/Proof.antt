@@ -5,9 +5,8 @@ use Rattle.query.proofs.Accepted.{term-leaf}
 use Rattle.ieee754.specs.Nonneg.{AtMost}
 use Rattle.meaning.specs.Lent.{leafCount}
 use lib.Ieee.{Float}
-use Prim.Native.Nat.{ℕ, ◌+◌, ◌-◌, ◌*◌, ◌^◌, ◌≤◌, ◌<◌}
-use mathlib.Core.Path.{◌≡◌, refl, sym, ◌∙◌, ap, subst}
-use native.Mathlib.Omega.{arith}
+use Prim.Native.Nat.{ℕ, ◌^◌, ◌<◌}
+use mathlib.Core.Path.{sym, subst}
 use borrow.Author.Rules.{rules}
 use Rattle.node_words.proofs.place.place_term_at.Statement.{statement}
 use Rattle.node_words.proofs.place.place_term_at.Tie as tie

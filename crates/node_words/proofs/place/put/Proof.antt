@@ -1,10 +1,10 @@
 -- `place::put` meets its contract. Assumes nothing.
 use Rattle.meaning.specs.Limits.{nodeStateWords}
 use Rattle.node_words.proofs.Placing.{put-more, put-long, put_all}
-use lib.ListN.{length, get_or, take, drop}
-use Prim.Native.Nat.{ℕ, ◌+◌, ◌-◌, ◌*◌, ◌≤◌, ◌<◌}
+use lib.ListN.{length, take, drop}
+use Prim.Native.Nat.{◌-◌, ◌≤◌}
 use mathlib.Core.List.{◌++◌}
-use mathlib.Core.Path.{◌≡◌, refl, sym, ◌∙◌, ap}
+use mathlib.Core.Path.{◌≡◌, refl}
 use native.Mathlib.Omega.{arith}
 use borrow.Author.Rules.{rules}
 use Rattle.node_words.proofs.place.put.Statement.{statement}

@@ -1,7 +1,4 @@
 -- `place::scored_by` meets its contract. Assumes nothing.
-use Prim.Native.Nat.{ℕ, ◌+◌, ◌-◌, ◌*◌, ◌≤◌, ◌<◌}
-use mathlib.Core.Path.{◌≡◌, refl, sym, ◌∙◌, ap, subst}
-use native.Mathlib.Omega.{arith}
 use borrow.Author.Rules.{rules}
 use Rattle.node_words.proofs.place.scored_by.Statement.{statement}
 use Rattle.node_words.proofs.place.scored_by.Tie as tie
