@@ -6,6 +6,7 @@ pub mod Stores
 pub mod Signed
 pub mod Lowest
 pub mod Examples
+pub mod NarrowingExamples
 pub mod Scorers
 pub mod Phrases
 pub mod FailedReadings

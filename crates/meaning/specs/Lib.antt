@@ -4,6 +4,7 @@ pub mod Limits
 pub mod Lent
 pub mod Live
 pub mod Ieee754
+pub mod Narrowing
 pub mod SmallFloat
 pub mod Bm25
 pub mod Postings
