@@ -5,6 +5,8 @@ pub mod Patterns
 pub mod Ranges
 pub mod Narrowing
 pub mod NarrowSteps
+pub mod InSteps
+pub mod PatternSteps
 pub mod Successor
 pub mod Lengths
 pub mod Bounds

@@ -26,17 +26,17 @@ even-more c w Ordering.lt = omega arith
 even-more c w Ordering.eq = omega arith
 even-more c w Ordering.gt = omega arith
 
-closest-shift : (c y u : ℕ) → 0 < u → closest (y + 2 * c * u) u ≡ 2 * c + closest y u
+pub closest-shift : (c y u : ℕ) → 0 < u → closest (y + 2 * c * u) u ≡ 2 * c + closest y u
 closest-shift c y u U =
     ap (λ (z : ℕ). nearest z (compare ((y + 2 * c * u) % u * 2) u)) (add-mul-div_right y (2 * c) U)
     ∙ ap (λ (z : ℕ). nearest (y / u + 2 * c) (compare (z * 2) u)) (add-mul-mod_self_right y (2 * c) u)
     ∙ even-more c (y / u) (compare (y % u * 2) u)
 
 -- ---- the pattern of `units`
-size_exact : (a n : ℕ) → 2 ^ a ≤ n → n < 2 ^ suc a → size n ≡ suc a
+pub size_exact : (a n : ℕ) → 2 ^ a ≤ n → n < 2 ^ suc a → size n ≡ suc a
 size_exact a n lo hi = le_antisymm (size-le n (suc a) hi) (lt_of_not-le (λ (g : size n ≤ a). not-le_of_lt (lt_of_lt_of_le (size-lt n) (pow_mono g)) lo))
 
-few : (z p : ℕ) → z ≤ p → z - p ≡ 0
+pub few : (z p : ℕ) → z ≤ p → z - p ≡ 0
 few z p h = omega arith
 
 one_more : (k : ℕ) → suc (23 + k) - 24 ≡ k
@@ -88,13 +88,13 @@ packs q k lo hi = elim (eq-or-lt_of_le hi) [
   | inr l ↦ pattern-full q k lo l
 ]
 
-units_of : (f : Format) (x : Float) (a : ℕ) → HasValue x false a (2 ^ low f) → inUnits f x ≡ a
+pub units_of : (f : Format) (x : Float) (a : ℕ) → HasValue x false a (2 ^ low f) → inUnits f x ≡ a
 units_of f x a h = ap (λ (z : ℕ). z / den x) (value→cross x a (2 ^ low f) h) ∙ mul-div_cancel a (den_pos x)
 
-wide : (q : ℕ) → q ≤ 2 ^ 24 → q < 2 ^ 25
+pub wide : (q : ℕ) → q ≤ 2 ^ 24 → q < 2 ^ 25
 wide q h = omega arith
 
-units_small : (q k : ℕ) → q * 2 ^ k < 2 ^ 277 → units binary32 false q k ≡ odd 25 false q k 149
+pub units_small : (q k : ℕ) → q * 2 ^ k < 2 ^ 277 → units binary32 false q k ≡ odd 25 false q k 149
 unfolding units
 units_small q k h = go (ltb (q * 2 ^ k) (2 ^ 277)) (lt→ltb (q * 2 ^ k) (2 ^ 277) h)
   where
@@ -102,7 +102,7 @@ units_small q k h = go (ltb (q * 2 ^ k) (2 ^ 277)) (lt→ltb (q * 2 ^ k) (2 ^ 27
     go true t = refl
     go false t = absurd t
 
-units-large : (q k : ℕ) → 2 ^ 277 ≤ q * 2 ^ k → units binary32 false q k ≡ inf false
+pub units-large : (q k : ℕ) → 2 ^ 277 ≤ q * 2 ^ k → units binary32 false q k ≡ inf false
 unfolding units
 units-large q k h = go (ltb (q * 2 ^ k) (2 ^ 277)) (ltb→lt (q * 2 ^ k) (2 ^ 277))
   where

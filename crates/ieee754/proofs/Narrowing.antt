@@ -71,7 +71,7 @@ narrow-neg nan = refl
 narrow-neg (inf s) = refl
 narrow-neg (fin s m e) = round-neg binary32 s (m * up e) (down e)
 
-neg-fin : (s : Bool) (m : ℕ) (e : ℤ) → neg (fin s m e) ≡ fin (not s) m e
+pub neg-fin : (s : Bool) (m : ℕ) (e : ℤ) → neg (fin s m e) ≡ fin (not s) m e
 unfolding neg
 neg-fin s m e = refl
 

@@ -9,8 +9,8 @@ use native.Mathlib.Numerals.{add-one}
 use native.Mathlib.Omega.{arith}
 use lib.Ieee.Nearest.{closest}
 use Rattle.ieee754.proofs.NarrowSteps.{nearest-below, nearest-above, nearest-half}
-use Rattle.ieee754.proofs.nearest.Statement.{statement}
-use Rattle.ieee754.proofs.nearest.Tie as tie
+use Rattle.ieee754.proofs.convert_format.nearest.Statement.{statement}
+use Rattle.ieee754.proofs.convert_format.nearest.Tie as tie
 
 div-q : tie.Need-nonzero_div-q
 div-q c = search rules

@@ -1,0 +1,83 @@
+// convertFormat from binary64 to binary32 (IEEE 754-2019, 5.4.2), to nearest, in the steps of the standard's text and in their order.
+ghost use Rattle.std.specs.Prelude.{◌≡◌, ◌*◌, ◌<◌, ◌≤◌, ◌^◌, leb};
+ghost use Rattle.std.specs.Float.{binary64};
+ghost use Rattle.std.specs.Float.Ieee.{of_bits};
+ghost use Rattle.std.specs.Float.Ieee.Nearest.{closest};
+ghost use Rattle.meaning.specs.Narrowing.{rounded, narrowInSteps};
+
+// n / u to the nearest whole number, a tie to the even one.
+fn nearest(n: u64, u: u64) -> u64
+    requires { 0 < u }
+    ensures { result ≡ closest n u }
+{
+    let q = n / u;
+    let below = n % u;
+    let above = u - below;
+    // one test of both, so that there is no branch for the processor to guess
+    if above < below + q % 2 { q + 1 } else { q }
+}
+
+// 1. (4.3.1) 53 digits rounded as if the exponent had no limits: 24 digits, or 2^24 after a carry.
+fn rounded(digits: u64) -> u64
+    requires { (2 ^ 52 ≤ digits) × (digits < 2 ^ 53) }
+    ensures { result ≡ rounded digits }
+{
+    nearest(digits, 0x2000_0000)
+}
+
+// 2. (7.4) Overflow: whether the result of step 1, q × 2^(exponent − 1046), is 2^128 or more.
+// With the exponent above the digits a carry out of them is one more in it.
+fn overflows(q: u64, exponent: u64) -> bool
+    requires { (2 ^ 23 ≤ q) × ((q ≤ 2 ^ 24) × (exponent ≤ 2047)) }
+    ensures { result ≡ leb (2 ^ 1174) (q * 2 ^ exponent) }
+{
+    0x2_4000_0000 <= exponent * 0x80_0000 + q
+}
+
+// 3. (7.5) The subnormal case, from the value that is not rounded: of a pattern below 2^-126, the nearest multiple of 2^-149.
+fn subnormal(bits: u64) -> f32
+    requires { bits < 0x3810_0000_0000_0000 }
+    ensures { result ≡ narrowInSteps (of_bits binary64 bits) }
+{
+    if bits < 0x3690_0000_0000_0000 {
+        // below 2^-150, half of the smallest f32: so are all patterns without a leading digit
+        return 0.0;
+    }
+    let digits = bits % 0x10_0000_0000_0000 + 0x10_0000_0000_0000;
+    let unit = 1u64 << (926 - bits / 0x10_0000_0000_0000);
+    f32::from_bits(nearest(digits, unit) as u32)
+}
+
+// The steps, for a pattern whose sign is clear and that is no NaN's.
+fn in_steps(bits: u64) -> f32
+    requires { bits ≤ 2047 * 2 ^ 52 }
+    ensures { result ≡ narrowInSteps (of_bits binary64 bits) }
+{
+    // The value is digits × 2^(exponent − 1075). Below 2^-1022 a pattern has no leading digit, and these digits are not its own:
+    // 2 does not hold of them, and 3 reads the pattern.
+    let exponent = bits / 0x10_0000_0000_0000;
+    let digits = bits % 0x10_0000_0000_0000 + 0x10_0000_0000_0000;
+    let q = rounded(digits);
+    if overflows(q, exponent) {
+        return f32::from_bits(0x7f80_0000);
+    }
+    if bits < 0x3810_0000_0000_0000 {
+        return subnormal(bits);
+    }
+    f32::from_bits((exponent * 0x80_0000 + q - 0x1_c080_0000) as u32)
+}
+
+// The sign goes through the steps; NaN stays.
+pub fn narrow_in_steps(x: f64) -> f32
+    ensures { result ≡ narrowInSteps x }
+{
+    if x != x {
+        return 0.0 / 0.0;
+    }
+    let bits = f64::to_bits(x);
+    if bits < 0x8000_0000_0000_0000 {
+        in_steps(bits)
+    } else {
+        -in_steps(bits - 0x8000_0000_0000_0000)
+    }
+}
