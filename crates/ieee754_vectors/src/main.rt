@@ -35,6 +35,27 @@ const KINDS: [u64; 20] = [
     0xffff_ffff_ffff_ffff,
 ];
 
+// Where narrowing takes one step or another: 0, 2^-1074, the largest subnormal f64, 2^-1022, 2^-150, 2^-149, 1.5 × 2^-149, the
+// last tie below 2^-126, 2^-126, 2^-125 + 2^-149, two ties above 1, the largest f32, 2^128 − 2^103, 2^128, the largest f64.
+const BORDERS: [u64; 16] = [
+    0x0000_0000_0000_0000,
+    0x0000_0000_0000_0001,
+    0x000f_ffff_ffff_ffff,
+    0x0010_0000_0000_0000,
+    0x3690_0000_0000_0000,
+    0x36a0_0000_0000_0000,
+    0x36a8_0000_0000_0000,
+    0x380f_ffff_e000_0000,
+    0x3810_0000_0000_0000,
+    0x3820_0000_1000_0000,
+    0x3ff0_0000_1000_0000,
+    0x3ff0_0000_3000_0000,
+    0x47ef_ffff_e000_0000,
+    0x47ef_ffff_f000_0000,
+    0x47f0_0000_0000_0000,
+    0x7fef_ffff_ffff_ffff,
+];
+
 fn narrowed(out: &mut impl Write, bits: u64) -> io::Result<()> {
     print_f32(out, ieee754::narrow(f64_of(bits)))
 }
@@ -97,6 +118,32 @@ fn narrowed_any(out: &mut impl Write) -> io::Result<()> {
     while turns < 500 {
         x = vectors::xorshift(x);
         narrowed(out, 0x3660_0000_0000_0000 + x % 0x1220_0000_0000_0000)?;
+        turns += 1;
+    }
+    Ok(())
+}
+
+// Each border and the patterns beside it, of both signs.
+fn narrowed_borders(out: &mut impl Write) -> io::Result<()> {
+    let mut i = 0;
+    while i < 16 {
+        narrowed_around(out, BORDERS[i])?;
+        narrowed_around(out, BORDERS[i] ^ SIGN)?;
+        i += 1;
+    }
+    Ok(())
+}
+
+// Patterns from a seed: any, and as many with exponents from −152 to −124 or from 126 to 129.
+fn narrowed_near(out: &mut impl Write) -> io::Result<()> {
+    let mut x: u64 = 3;
+    let mut turns: usize = 0;
+    while turns < 5000 {
+        x = vectors::xorshift(x);
+        narrowed(out, x)?;
+        let nth = x % 33;
+        let field = if nth < 29 { 871 + nth } else { 1120 + nth };
+        narrowed(out, x & 0x800f_ffff_ffff_ffff | field << 52)?;
         turns += 1;
     }
     Ok(())
@@ -205,6 +252,8 @@ fn main(rt: HostRuntime) -> io::Result<()> {
     narrowed_from(&mut out, 868, 1155)?;
     narrowed_from(&mut out, 2045, 2047)?;
     narrowed_any(&mut out)?;
+    narrowed_borders(&mut out)?;
+    narrowed_near(&mut out)?;
     lengths(&mut out)?;
     next_ups(&mut out)?;
     kinds_below_kinds(&mut out)?;
