@@ -2,14 +2,16 @@
 //! call of an entry, as equations that the checker computes. The answers are the Rust's, a
 //! refusal's number, or, of what the Rust does not have, worked out here (Place) or the judge's (an
 //! index made from tokens). With a NaN end they are the Rust's for the same order with the range's
-//! ends crossed, and of Range the judge's.
+//! ends crossed, and of Range the judge's. What narrowing must give is Rust's `as f32`.
 mod entries;
+pub mod narrowing;
 mod place;
 pub mod rows;
 pub mod tokens;
 
 use crate::case::Case;
 use crate::refusal::calls::Lengths;
+use narrowing::Step;
 use std::fmt::{Display, Write};
 use std::fs;
 use std::io;
@@ -24,7 +26,9 @@ use mathlib.Core.Option.{none, some}
 use Prim.Native.Nat.{ℕ}
 use lib.ListN.{replicate}
 use lib.IntN.{ℤ, pos, negsuc}
-use lib.Ieee.{binary32, to_bits}
+use lib.Ieee.{nan, binary32, binary64, of_bits, to_bits}
+use Rattle.meaning.specs.Ieee754.{narrow}
+use Rattle.meaning.specs.Narrowing.{narrowInSteps}
 use Rattle.meaning.specs.Lent.{Index}
 use Rattle.meaning.specs.Query.{queryTree}
 use Rattle.meaning.specs.Range.{NumericRange}
@@ -61,7 +65,8 @@ abbrev readBack : ℕ → List ℕ → List ℕ → List ℕ → List ℕ
 readBack n fields leafFields ws = tokenWords (tokensBack (indexOfTokens n fields ws leafFields [] [] [] []))
 ";
 
-/// The entries, with the full list and the text of the program `hits`.
+/// The entries, with the full list, the text of the program `hits`, and narrowing, by the step that
+/// decides.
 #[derive(Clone, Copy, Debug, PartialEq, Eq, PartialOrd, Ord)]
 pub enum Entry {
     List,
@@ -73,6 +78,7 @@ pub enum Entry {
     Length,
     Text,
     Write,
+    Narrow(Step),
 }
 
 /// What an equation is about: the entry, whether the call is accepted, the definition, and which of

@@ -1,11 +1,12 @@
 //! The definitions of crates/meaning, and the text of `hits`, beside the Rust: antt computes them on
 //! calls of every entry, accepted ones and refused ones of every number, whose number `refusal`
-//! tells. More rows: DEFINITION_ROWS=1000.
+//! tells, and on patterns to narrow. More rows: DEFINITION_ROWS=1000.
 #[macro_use]
 mod common;
 
 #[cfg(oracle)]
 mod rows {
+    use harness::definitions::narrowing::{self, Step};
     use harness::definitions::rows::{every_number, generated};
     use harness::definitions::{Entry, Row, tokens, write_crate, write_rows};
     use std::collections::BTreeMap;
@@ -25,17 +26,21 @@ mod rows {
         (Entry::Write, &[0, 1, 2, 15, 16]),
     ];
 
-    /// So many rows of searches and the like, and those of tokens beside them.
+    /// So many rows of searches and the like, and those of tokens and of narrowing beside them.
     fn all(number: usize) -> Vec<Row> {
         let mut rows = every_number();
         let wanted = number.max(rows.len() + 16);
         let more = (0..).filter_map(generated);
         rows.extend(more.take(wanted - rows.len()));
         rows.extend(tokens::rows(number));
+        rows.extend(narrowing::rows(number));
         rows
     }
 
-    /// How many rows each entry has, and that none of its numbers lacks.
+    /// How many rows each step of narrowing (request 2026-04) must decide.
+    const LEAST: usize = 10;
+
+    /// How many rows each entry has, that none of its numbers lacks, and no step of narrowing.
     fn count(rows: &[Row]) {
         let mut counts = BTreeMap::new();
         for row in rows {
@@ -49,6 +54,12 @@ mod rows {
                 numbers.iter().all(|n| of(n) > 0),
                 "{entry:?} lacks a number"
             );
+        }
+        for step in [Step::Kept, Step::Rounded, Step::Overflow, Step::Subnormal] {
+            let entry = Entry::Narrow(step);
+            let own = counts.get(&(entry, 0)).copied().unwrap_or(0);
+            println!("{entry:?}: {own}");
+            assert!(own >= LEAST, "{step:?} decides too few rows");
         }
     }
 
