@@ -35,22 +35,27 @@ const KINDS: [u64; 20] = [
     0xffff_ffff_ffff_ffff,
 ];
 
-// Where narrowing takes one step or another: 0, 2^-1074, the largest subnormal f64, 2^-1022, 2^-150, 2^-149, 1.5 × 2^-149, the
-// last tie below 2^-126, 2^-126, 2^-125 + 2^-149, two ties above 1, the largest f32, 2^128 − 2^103, 2^128, the largest f64.
-const BORDERS: [u64; 16] = [
+// Where narrowing takes one step or another: 0, 2^-1074, the largest subnormal f64, 2^-1022, 2^-150 and the next, 2^-149,
+// 1.5 × 2^-149 and the one before, the last tie below 2^-126, 2^-126 and the one before, 2^-125 + 2^-149, two ties above 1,
+// the largest f32, 2^128 − 2^103 and the one before, 2^128, the largest f64.
+const BORDERS: [u64; 20] = [
     0x0000_0000_0000_0000,
     0x0000_0000_0000_0001,
     0x000f_ffff_ffff_ffff,
     0x0010_0000_0000_0000,
     0x3690_0000_0000_0000,
+    0x3690_0000_0000_0001,
     0x36a0_0000_0000_0000,
+    0x36a7_ffff_ffff_ffff,
     0x36a8_0000_0000_0000,
     0x380f_ffff_e000_0000,
+    0x380f_ffff_ffff_ffff,
     0x3810_0000_0000_0000,
     0x3820_0000_1000_0000,
     0x3ff0_0000_1000_0000,
     0x3ff0_0000_3000_0000,
     0x47ef_ffff_e000_0000,
+    0x47ef_ffff_efff_ffff,
     0x47ef_ffff_f000_0000,
     0x47f0_0000_0000_0000,
     0x7fef_ffff_ffff_ffff,
@@ -126,7 +131,7 @@ fn narrowed_any(out: &mut impl Write) -> io::Result<()> {
 // Each border and the patterns beside it, of both signs.
 fn narrowed_borders(out: &mut impl Write) -> io::Result<()> {
     let mut i = 0;
-    while i < 16 {
+    while i < 20 {
         narrowed_around(out, BORDERS[i])?;
         narrowed_around(out, BORDERS[i] ^ SIGN)?;
         i += 1;
@@ -134,17 +139,39 @@ fn narrowed_borders(out: &mut impl Write) -> io::Result<()> {
     Ok(())
 }
 
-// Patterns from a seed: any, and as many with exponents from −152 to −124 or from 126 to 129.
+// The pattern, and one for every NaN.
+fn bits_of(x: f32) -> u64 {
+    if x != x {
+        0x7fc0_0000
+    } else {
+        vectors::wide(f32::to_bits(x))
+    }
+}
+
+// A digest with one more narrowed value in it.
+fn folded(digest: u64, bits: u64) -> u64 {
+    vectors::xorshift(digest ^ bits_of(ieee754::narrow(f64_of(bits))))
+}
+
+// The sign and the digits of a pattern, with an exponent from −152 to −124 or from 126 to 129.
+fn near(bits: u64) -> u64 {
+    let nth = bits % 33;
+    let field = if nth < 29 { 871 + nth } else { 1120 + nth };
+    bits & 0x800f_ffff_ffff_ffff | field << 52
+}
+
+// Ten thousand patterns from a seed, each second one near a border: after each twenty the digest of all so far.
 fn narrowed_near(out: &mut impl Write) -> io::Result<()> {
     let mut x: u64 = 3;
+    let mut digest: u64 = 0;
     let mut turns: usize = 0;
     while turns < 5000 {
         x = vectors::xorshift(x);
-        narrowed(out, x)?;
-        let nth = x % 33;
-        let field = if nth < 29 { 871 + nth } else { 1120 + nth };
-        narrowed(out, x & 0x800f_ffff_ffff_ffff | field << 52)?;
+        digest = folded(folded(digest, x), near(x));
         turns += 1;
+        if turns % 10 == 0 {
+            writeln!(out, "{digest:016x}")?;
+        }
     }
     Ok(())
 }

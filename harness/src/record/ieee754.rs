@@ -1,5 +1,5 @@
 //! `as f32`, `total_cmp` and sums are the machine's and Rust's; `next_up` is the unchanged Rust's.
-use super::{double, numbers, single};
+use super::{double, numbers, single, xorshift};
 use crate::oracle;
 
 const SIGN: u64 = 1 << 63;
@@ -28,23 +28,28 @@ const KINDS: [u64; 20] = [
     0xffff_ffff_ffff_ffff,
 ];
 
-/// Where narrowing takes one step or another: 0, 2^-1074, the largest subnormal f64, 2^-1022, 2^-150,
-/// 2^-149, 1.5 × 2^-149, the last tie below 2^-126, 2^-126, 2^-125 + 2^-149, two ties above 1, the
-/// largest f32, 2^128 − 2^103, 2^128, the largest f64.
-const BORDERS: [u64; 16] = [
+/// Where narrowing takes one step or another: 0, 2^-1074, the largest subnormal f64, 2^-1022, 2^-150
+/// and the next, 2^-149, 1.5 × 2^-149 and the one before, the last tie below 2^-126, 2^-126 and the one
+/// before, 2^-125 + 2^-149, two ties above 1, the largest f32, 2^128 − 2^103 and the one before, 2^128,
+/// the largest f64.
+const BORDERS: [u64; 20] = [
     0x0000_0000_0000_0000,
     0x0000_0000_0000_0001,
     0x000f_ffff_ffff_ffff,
     0x0010_0000_0000_0000,
     0x3690_0000_0000_0000,
+    0x3690_0000_0000_0001,
     0x36a0_0000_0000_0000,
+    0x36a7_ffff_ffff_ffff,
     0x36a8_0000_0000_0000,
     0x380f_ffff_e000_0000,
+    0x380f_ffff_ffff_ffff,
     0x3810_0000_0000_0000,
     0x3820_0000_1000_0000,
     0x3ff0_0000_1000_0000,
     0x3ff0_0000_3000_0000,
     0x47ef_ffff_e000_0000,
+    0x47ef_ffff_efff_ffff,
     0x47ef_ffff_f000_0000,
     0x47f0_0000_0000_0000,
     0x7fef_ffff_ffff_ffff,
@@ -59,7 +64,7 @@ pub fn text() -> String {
     let any = numbers(1).map(|x| 0x3660_0000_0000_0000 + x % 0x1220_0000_0000_0000);
     text.extend(any.take(500).map(narrowed));
     text.extend(BORDERS.map(|bits| narrowed_around(bits) + &narrowed_around(bits ^ SIGN)));
-    text.extend(numbers(3).take(5000).map(narrowed_near));
+    text += &narrowed_near();
     text.extend((0..8).map(lengths_at));
     text.extend((0..512).map(next_ups));
     text.extend(KINDS.map(below_kinds));
@@ -92,14 +97,30 @@ fn narrowed_at(exponent: u64) -> String {
     four.map(narrowed_around).concat()
 }
 
-/// A pattern, and its sign and digits with an exponent from −152 to −124 or from 126 to 129.
-fn narrowed_near(bits: u64) -> String {
+/// The sign and the digits of a pattern, with an exponent from −152 to −124 or from 126 to 129.
+fn near(bits: u64) -> u64 {
     let field = match bits % 33 {
         n @ ..29 => 871 + n,
         n => 1120 + n,
     };
-    let near = bits & !(0x7ff << 52) | field << 52;
-    narrowed(bits) + &narrowed(near)
+    bits & !(0x7ff << 52) | field << 52
+}
+
+/// Ten thousand patterns, each second one near a border: after each twenty the digest of all so far.
+fn narrowed_near() -> String {
+    let (mut digest, mut text) = (0, String::new());
+    for (turn, bits) in (1..).zip(numbers(3).take(5000)) {
+        for bits in [bits, near(bits)] {
+            let narrowed = f64::from_bits(bits) as f32;
+            let nan = narrowed.is_nan();
+            let bits = if nan { 0x7fc0_0000 } else { narrowed.to_bits() };
+            digest = xorshift(digest ^ u64::from(bits));
+        }
+        if turn % 10 == 0 {
+            text += &format!("{digest:016x}\n");
+        }
+    }
+    text
 }
 
 fn lengths_around(n: u32) -> String {
