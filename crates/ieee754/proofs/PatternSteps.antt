@@ -1,10 +1,10 @@
 -- What the steps give for a binary64 pattern whose sign is clear, by how the code works them out. Assumes nothing.
-use mathlib.Core.Path.{◌≡◌, sym, ap, ◌∙◌, subst}
+use mathlib.Core.Path.{◌≡◌, refl, sym, ap, ◌∙◌, subst}
 use mathlib.Core.Bool.{Bool, true, false, not}
 use mathlib.Core.Logic.{inl, inr}
 use Prim.Native.Nat.{ℕ, ◌+◌, ◌-◌, ◌*◌, ◌/◌, ◌%◌, ◌^◌, ◌≤◌, ◌<◌}
 use native.Mathlib.Decide.{dec_le}
-use native.Mathlib.Nat.{le_trans, le_of_eq, le_of_lt, lt_of_lt_of_le, lt_of_le_of_lt, not-le_of_lt, eq-or-lt_of_le, div-add-mod', mod-lt, mul-le-mul_right}
+use native.Mathlib.Nat.{le_trans, le_of_eq, lt_of_lt_of_le, lt_of_le_of_lt, not-le_of_lt, eq-or-lt_of_le, div-add-mod', mod-lt, mul-le-mul_right}
 use native.Mathlib.Omega.{arith}
 use lib.Dec.{T, not_T, leb, leb→le, le→leb, nleb→lt}
 use lib.Pow.{pow-add, pow_pos, pow_mono, pow-lt, shl_lt}
@@ -16,7 +16,7 @@ use Rattle.ieee754.proofs.NarrowSteps.{size_exact, closest-shift, gives-zero, gi
 use Rattle.ieee754.proofs.InSteps.{in-steps-all}
 
 -- step 1 of 53 digits
-pub rounded-53 : (m : ℕ) → 2 ^ 52 ≤ m → m < 2 ^ 53 → closest m (2 ^ 29) ≡ rounded m
+rounded-53 : (m : ℕ) → 2 ^ 52 ≤ m → m < 2 ^ 53 → closest m (2 ^ 29) ≡ rounded m
 rounded-53 m lo hi = ap (λ (z : ℕ). closest m (2 ^ (z - 24))) (sym (size_exact 52 m lo hi))
 
 lower : (t : ℕ) → 2 ^ 52 ≤ t + 2 ^ 52
@@ -26,7 +26,7 @@ upper : (t : ℕ) → t < 2 ^ 52 → t + 2 ^ 52 < 2 ^ 53
 upper t h = omega arith
 
 -- step 1's result, the exponent above the rounded digits: the rounded pattern, with the leading digit added once more
-pub with-exponent : (b q : ℕ) → q ≡ rounded (b % 2 ^ 52 + 2 ^ 52) → b / 2 ^ 52 * 2 ^ 23 + q ≡ closest b (2 ^ 29) + 2 ^ 23
+with-exponent : (b q : ℕ) → q ≡ rounded (b % 2 ^ 52 + 2 ^ 52) → b / 2 ^ 52 * 2 ^ 23 + q ≡ closest b (2 ^ 29) + 2 ^ 23
 with-exponent b q h =
     let e = b / 2 ^ 52 in
     let t = b % 2 ^ 52 in
@@ -39,16 +39,6 @@ with-exponent b q h =
 
     sum : (e q r s : ℕ) → r ≡ 2 * 2 ^ 22 + q → s ≡ 2 * (e * 2 ^ 22) + q → e * 2 ^ 23 + r ≡ s + 2 ^ 23
     sum e q r s h k = omega (arith, h, k)
-
--- from 53 digits come 24, or 2^24
-pub rounded-range : (b q : ℕ) → q ≡ rounded (b % 2 ^ 52 + 2 ^ 52) → (2 ^ 23 ≤ q) × (q ≤ 2 ^ 24)
-rounded-range b q h =
-    let m = b % 2 ^ 52 + 2 ^ 52 in
-    let u = upper (b % 2 ^ 52) (mod-lt b (pow_pos 52)) in
-    let e : q ≡ closest m (2 ^ 29) = h ∙ sym (rounded-53 m (lower (b % 2 ^ 52)) u) in (
-      le_trans (closest_mono (2 ^ 52) (2 ^ 29) m (2 ^ 29) (pow_pos 29) (pow_pos 29) (mul-le-mul_right (2 ^ 29) (lower (b % 2 ^ 52)))) (le_of_eq (sym e)),
-      le_trans (le_of_eq e) (closest_mono m (2 ^ 29) (2 ^ 53) (2 ^ 29) (pow_pos 29) (pow_pos 29) (mul-le-mul_right (2 ^ 29) (le_of_lt u))),
-    )
 
 -- step 2, by the exponent above the digits
 module _ (q e : ℕ) (lo : 2 ^ 23 ≤ q) (hi : q ≤ 2 ^ 24) where
@@ -76,18 +66,47 @@ module _ (q e : ℕ) (lo : 2 ^ 23 ≤ q) (hi : q ≤ 2 ^ 24) where
       full : (e q : ℕ) → 2 ^ 23 ≤ q → e * 2 ^ 23 + q < 1152 * 2 ^ 23 → 24 + e ≤ 1174
       full e q l h = omega arith
 
-  pub overflow-is : leb (1152 * 2 ^ 23) (e * 2 ^ 23 + q) ≡ leb (2 ^ 1174) (q * 2 ^ e)
-  overflow-is =
+  with-digits : leb (1152 * 2 ^ 23) (e * 2 ^ 23 + q) ≡ leb (2 ^ 1174) (q * 2 ^ e)
+  with-digits =
       same_test (leb (1152 * 2 ^ 23) (e * 2 ^ 23 + q)) (leb (2 ^ 1174) (q * 2 ^ e))
       (λ t. le→leb (2 ^ 1174) (q * 2 ^ e) (above (leb→le (1152 * 2 ^ 23) (e * 2 ^ 23 + q) t)))
       (λ t. not_T (leb (2 ^ 1174) (q * 2 ^ e)) (λ u. not-le_of_lt (under (nleb→lt (1152 * 2 ^ 23) (e * 2 ^ 23 + q) t)) (leb→le (2 ^ 1174) (q * 2 ^ e) u)))
 
-  -- and back, of a test's result
-  pub overflow-large : leb (2 ^ 1174) (q * 2 ^ e) ≡ true → 1152 * 2 ^ 23 ≤ e * 2 ^ 23 + q
-  overflow-large h = leb→le (1152 * 2 ^ 23) (e * 2 ^ 23 + q) (subst T (sym (overflow-is ∙ h)) tt)
+-- of a pattern p of 24 digits, whose leading one is not written
+pub overflow-is : (p : ℕ) → leb (1151 * 2 ^ 23) p ≡ leb (2 ^ 1174) ((2 ^ 23 + p % 2 ^ 23) * 2 ^ (p / 2 ^ 23))
+overflow-is p =
+    let e = p / 2 ^ 23 in
+    let q = 2 ^ 23 + p % 2 ^ 23 in
+    same_test (leb (1151 * 2 ^ 23) p) (leb (1152 * 2 ^ 23) (e * 2 ^ 23 + q))
+    (λ t. le→leb (1152 * 2 ^ 23) (e * 2 ^ 23 + q) (more p (leb→le (1151 * 2 ^ 23) p t)))
+    (λ t. not_T (leb (1152 * 2 ^ 23) (e * 2 ^ 23 + q)) (λ u. not-le_of_lt (nleb→lt (1151 * 2 ^ 23) p t) (less p (leb→le (1152 * 2 ^ 23) (e * 2 ^ 23 + q) u))))
+    ∙ with-digits q e (lower23 (p % 2 ^ 23)) (upper23 p)
+  where
+    more : (p : ℕ) → 1151 * 2 ^ 23 ≤ p → 1152 * 2 ^ 23 ≤ p / 2 ^ 23 * 2 ^ 23 + (2 ^ 23 + p % 2 ^ 23)
+    more p h = omega arith
 
-  pub overflow-small : leb (2 ^ 1174) (q * 2 ^ e) ≡ false → e * 2 ^ 23 + q < 1152 * 2 ^ 23
-  overflow-small h = nleb→lt (1152 * 2 ^ 23) (e * 2 ^ 23 + q) (subst (λ (b : Bool). T (not b)) (sym (overflow-is ∙ h)) tt)
+    less : (p : ℕ) → 1152 * 2 ^ 23 ≤ p / 2 ^ 23 * 2 ^ 23 + (2 ^ 23 + p % 2 ^ 23) → 1151 * 2 ^ 23 ≤ p
+    less p h = omega arith
+
+    lower23 : (d : ℕ) → 2 ^ 23 ≤ 2 ^ 23 + d
+    lower23 d = omega arith
+
+    upper23 : (p : ℕ) → 2 ^ 23 + p % 2 ^ 23 ≤ 2 ^ 24
+    upper23 p = omega arith
+
+-- and back, of a test's result
+pub overflow-large : (p : ℕ) → leb (2 ^ 1174) ((2 ^ 23 + p % 2 ^ 23) * 2 ^ (p / 2 ^ 23)) ≡ true → 1151 * 2 ^ 23 ≤ p
+overflow-large p h = leb→le (1151 * 2 ^ 23) p (subst T (sym (overflow-is p ∙ h)) tt)
+
+pub overflow-small : (p : ℕ) → leb (2 ^ 1174) ((2 ^ 23 + p % 2 ^ 23) * 2 ^ (p / 2 ^ 23)) ≡ false → p < 1151 * 2 ^ 23
+overflow-small p h = nleb→lt (1151 * 2 ^ 23) p (subst (λ (b : Bool). T (not b)) (sym (overflow-is p ∙ h)) tt)
+
+-- the rounded pattern: its exponent, and its digits with the leading one
+pub rounded-pattern : (b : ℕ) → closest b (2 ^ 29) + 2 ^ 23 ≡ b / 2 ^ 52 * 2 ^ 23 + rounded (b % 2 ^ 52 + 2 ^ 52)
+rounded-pattern b = sym (with-exponent b (rounded (b % 2 ^ 52 + 2 ^ 52)) refl)
+
+pub pattern-is : (b p : ℕ) → p + 2 ^ 23 ≡ b / 2 ^ 52 * 2 ^ 23 + rounded (b % 2 ^ 52 + 2 ^ 52) → p ≡ closest b (2 ^ 29)
+pattern-is b p h = let e = rounded-pattern b in omega (arith, h, e)
 
 module _ (b : ℕ) where
   abbrev InSteps : ℕ → Type 0
@@ -102,17 +121,11 @@ module _ (b : ℕ) where
   steps-subnormal h k = gives-small b h k ∙ sym (in-steps-all (of_bits binary64 b))
 
   -- what step 1 gives, where neither 2 nor 3 holds
-  pub steps-normal : b ≤ 2047 * 2 ^ 52 → 897 * 2 ^ 52 ≤ b → closest b (2 ^ 29) + 2 ^ 23 < 1152 * 2 ^ 23 → InSteps (closest b (2 ^ 29) + 2 ^ 23 - 897 * 2 ^ 23)
-  steps-normal B h k =
-      ap (of_bits binary32) (less (closest b (2 ^ 29)))
-      ∙ gives-normal b B h (omega (arith, k))
-      ∙ sym (in-steps-all (of_bits binary64 b))
-    where
-      less : (q : ℕ) → q + 2 ^ 23 - 897 * 2 ^ 23 ≡ q - 896 * 2 ^ 23
-      less q = omega arith
+  pub steps-normal : b ≤ 2047 * 2 ^ 52 → 897 * 2 ^ 52 ≤ b → closest b (2 ^ 29) < 1151 * 2 ^ 23 → InSteps (closest b (2 ^ 29) - 896 * 2 ^ 23)
+  steps-normal B h k = gives-normal b B h (omega (arith, k)) ∙ sym (in-steps-all (of_bits binary64 b))
 
   -- step 2
-  pub steps-large : b ≤ 2047 * 2 ^ 52 → 1152 * 2 ^ 23 ≤ closest b (2 ^ 29) + 2 ^ 23 → InSteps 0x7f80_0000
+  pub steps-large : b ≤ 2047 * 2 ^ 52 → 1151 * 2 ^ 23 ≤ closest b (2 ^ 29) → InSteps 0x7f80_0000
   steps-large B h = gives-large b B reached (omega (arith, h)) ∙ sym (in-steps-all (of_bits binary64 b))
     where
       -- a pattern below 897 × 2^52 is rounded to 897 × 2^23 at most

@@ -1,5 +1,5 @@
 // convertFormat from binary64 to binary32 (IEEE 754-2019, 5.4.2), to nearest, in the steps of the standard's text and in their order.
-ghost use Rattle.std.specs.Prelude.{◌≡◌, ◌*◌, ◌<◌, ◌≤◌, ◌^◌, leb};
+ghost use Rattle.std.specs.Prelude.{◌≡◌, ◌+◌, ◌*◌, ◌/◌, ◌%◌, ◌<◌, ◌≤◌, ◌^◌, leb};
 ghost use Rattle.std.specs.Float.{binary64};
 ghost use Rattle.std.specs.Float.Ieee.{of_bits};
 ghost use Rattle.std.specs.Float.Ieee.Nearest.{closest};
@@ -17,21 +17,19 @@ fn nearest(n: u64, u: u64) -> u64
     if above < below + q % 2 { q + 1 } else { q }
 }
 
-// 1. (4.3.1) 53 digits rounded as if the exponent had no limits: 24 digits, or 2^24 after a carry.
-fn rounded(digits: u64) -> u64
-    requires { (2 ^ 52 ≤ digits) × (digits < 2 ^ 53) }
-    ensures { result ≡ rounded digits }
+// 1. (4.3.1) A pattern rounded as if the exponent had no limits: 24 digits of its 53, the leading one not written, with the
+// exponent above them, so that a carry out of them is one more in it.
+fn rounded(bits: u64) -> u64
+    ensures { result + 2 ^ 23 ≡ bits / 2 ^ 52 * 2 ^ 23 + rounded (bits % 2 ^ 52 + 2 ^ 52) }
 {
-    nearest(digits, 0x2000_0000)
+    nearest(bits, 0x2000_0000)
 }
 
-// 2. (7.4) Overflow: whether the result of step 1, q × 2^(exponent − 1046), is 2^128 or more.
-// With the exponent above the digits a carry out of them is one more in it.
-fn overflows(q: u64, exponent: u64) -> bool
-    requires { (2 ^ 23 ≤ q) × ((q ≤ 2 ^ 24) × (exponent ≤ 2047)) }
-    ensures { result ≡ leb (2 ^ 1174) (q * 2 ^ exponent) }
+// 2. (7.4) Overflow: whether what step 1 gives, 24 digits × 2^(exponent − 1046), is 2^128 or more.
+fn overflows(pattern: u64) -> bool
+    ensures { result ≡ leb (2 ^ 1174) ((2 ^ 23 + pattern % 2 ^ 23) * 2 ^ (pattern / 2 ^ 23)) }
 {
-    0x2_4000_0000 <= exponent * 0x80_0000 + q
+    0x2_3f80_0000 <= pattern
 }
 
 // 3. (7.5) The subnormal case, from the value that is not rounded: of a pattern below 2^-126, the nearest multiple of 2^-149.
@@ -53,18 +51,16 @@ fn in_steps(bits: u64) -> f32
     requires { bits ≤ 2047 * 2 ^ 52 }
     ensures { result ≡ narrowInSteps (of_bits binary64 bits) }
 {
-    // The value is digits × 2^(exponent − 1075). Below 2^-1022 a pattern has no leading digit, and these digits are not its own:
-    // 2 does not hold of them, and 3 reads the pattern.
-    let exponent = bits / 0x10_0000_0000_0000;
-    let digits = bits % 0x10_0000_0000_0000 + 0x10_0000_0000_0000;
-    let q = rounded(digits);
-    if overflows(q, exponent) {
+    // Below 2^-1022 a pattern has no leading digit, and the digits that are rounded here are not its own: 2 does not hold of them,
+    // and 3 reads the pattern.
+    let pattern = rounded(bits);
+    if overflows(pattern) {
         return f32::from_bits(0x7f80_0000);
     }
     if bits < 0x3810_0000_0000_0000 {
         return subnormal(bits);
     }
-    f32::from_bits((exponent * 0x80_0000 + q - 0x1_c080_0000) as u32)
+    f32::from_bits((pattern - 0x1_c000_0000) as u32)
 }
 
 // The sign goes through the steps; NaN stays.

@@ -3,4 +3,4 @@ use Rattle.ieee754.proofs.PatternSteps.{overflow-is}
 use Rattle.ieee754.proofs.convert_format.overflows.Goals as goal
 
 pub returns : goal.returns
-returns c = overflow-is c.args.q c.args.exponent c.requires.0 c.requires.1.0
+returns c = overflow-is c.args.pattern

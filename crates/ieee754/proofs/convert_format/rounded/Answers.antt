@@ -1,7 +1,8 @@
--- `rounded` meets its contract: of 53 digits 29 go. Assumes nothing.
-use mathlib.Core.Path.{◌∙◌}
-use Rattle.ieee754.proofs.PatternSteps.{rounded-53}
+-- `rounded` meets its contract: 29 digits go. Assumes nothing.
+use mathlib.Core.Path.{ap, ◌∙◌}
+use Prim.Native.Nat.{ℕ, ◌+◌, ◌^◌}
+use Rattle.ieee754.proofs.PatternSteps.{rounded-pattern}
 use Rattle.ieee754.proofs.convert_format.rounded.Goals as goal
 
 pub returns : goal.returns
-returns c = c.nearest.ensures ∙ rounded-53 c.args.digits c.requires.0 c.requires.1
+returns c = ap (λ (p : ℕ). p + 2 ^ 23) c.nearest.ensures ∙ rounded-pattern c.args.bits
