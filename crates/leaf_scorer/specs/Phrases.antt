@@ -131,19 +131,19 @@ workedAt s d n =
       frequencyOf = d;
       frequency = n;
       norms = s.norms;
+      windowFirst = s.windowFirst;
+      windowLow = s.windowLow;
+      windowHigh = s.windowHigh;
+      windowNext = s.windowNext;
+      onesLow = s.onesLow;
+      onesHigh = s.onesHigh;
+      twosLow = s.twosLow;
+      twosHigh = s.twosHigh;
       spare1 = s.spare1;
       spare2 = s.spare2;
       spare3 = s.spare3;
       spare4 = s.spare4;
       spare5 = s.spare5;
-      spare6 = s.spare6;
-      spare7 = s.spare7;
-      spare8 = s.spare8;
-      spare9 = s.spare9;
-      spare10 = s.spare10;
-      spare11 = s.spare11;
-      spare12 = s.spare12;
-      spare13 = s.spare13;
     }
 
 pub record PhraseHeld (postings positions : List ℕ) (ix : Index) (places f : ℕ) (ts : List PhraseTerm) (s : State) (w st : List ℕ) (b : ℕ) : Type 0 where

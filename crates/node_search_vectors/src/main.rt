@@ -191,19 +191,19 @@ fn rubbish() -> NodeState {
         frequency_of: IN_RECORDS,
         frequency: IN_RECORDS,
         norms: IN_RECORDS,
+        window_first: IN_RECORDS,
+        window_low: IN_RECORDS,
+        window_high: IN_RECORDS,
+        window_next: IN_RECORDS,
+        ones_low: IN_RECORDS,
+        ones_high: IN_RECORDS,
+        twos_low: IN_RECORDS,
+        twos_high: IN_RECORDS,
         spare1: IN_RECORDS,
         spare2: IN_RECORDS,
         spare3: IN_RECORDS,
         spare4: IN_RECORDS,
         spare5: IN_RECORDS,
-        spare6: IN_RECORDS,
-        spare7: IN_RECORDS,
-        spare8: IN_RECORDS,
-        spare9: IN_RECORDS,
-        spare10: IN_RECORDS,
-        spare11: IN_RECORDS,
-        spare12: IN_RECORDS,
-        spare13: IN_RECORDS,
     }
 }
 
@@ -230,19 +230,19 @@ fn is_rubbish(s: NodeState) -> bool {
     bits = bits | (s.frequency_of ^ r);
     bits = bits | (s.frequency ^ r);
     bits = bits | (s.norms ^ r);
+    bits = bits | (s.window_first ^ r);
+    bits = bits | (s.window_low ^ r);
+    bits = bits | (s.window_high ^ r);
+    bits = bits | (s.window_next ^ r);
+    bits = bits | (s.ones_low ^ r);
+    bits = bits | (s.ones_high ^ r);
+    bits = bits | (s.twos_low ^ r);
+    bits = bits | (s.twos_high ^ r);
     bits = bits | (s.spare1 ^ r);
     bits = bits | (s.spare2 ^ r);
     bits = bits | (s.spare3 ^ r);
     bits = bits | (s.spare4 ^ r);
     bits = bits | (s.spare5 ^ r);
-    bits = bits | (s.spare6 ^ r);
-    bits = bits | (s.spare7 ^ r);
-    bits = bits | (s.spare8 ^ r);
-    bits = bits | (s.spare9 ^ r);
-    bits = bits | (s.spare10 ^ r);
-    bits = bits | (s.spare11 ^ r);
-    bits = bits | (s.spare12 ^ r);
-    bits = bits | (s.spare13 ^ r);
     bits == 0
 }
 

@@ -7,7 +7,7 @@ use Rattle.node_state.specs.declared.NodeState.{NodeState}
 -- a record as the layout of the words has it
 abbrev pub state_of : NodeState → State
 state_of s =
-    record { kind = s.kind; size = s.size; cached = s.cached; need = s.need; requiredEnd = s.required_end; optionalEnd = s.optional_end; first = s.first; number = s.number; cursor = s.cursor; offset = s.offset; field = s.field; constant = s.constant; weight = s.weight; afterwards = s.afterwards; groupAt = s.group_at; scores = s.scores; frequencyOf = s.frequency_of; frequency = s.frequency; norms = s.norms; spare1 = s.spare1; spare2 = s.spare2; spare3 = s.spare3; spare4 = s.spare4; spare5 = s.spare5; spare6 = s.spare6; spare7 = s.spare7; spare8 = s.spare8; spare9 = s.spare9; spare10 = s.spare10; spare11 = s.spare11; spare12 = s.spare12; spare13 = s.spare13 }
+    record { kind = s.kind; size = s.size; cached = s.cached; need = s.need; requiredEnd = s.required_end; optionalEnd = s.optional_end; first = s.first; number = s.number; cursor = s.cursor; offset = s.offset; field = s.field; constant = s.constant; weight = s.weight; afterwards = s.afterwards; groupAt = s.group_at; scores = s.scores; frequencyOf = s.frequency_of; frequency = s.frequency; norms = s.norms; windowFirst = s.window_first; windowLow = s.window_low; windowHigh = s.window_high; windowNext = s.window_next; onesLow = s.ones_low; onesHigh = s.ones_high; twosLow = s.twos_low; twosHigh = s.twos_high; spare1 = s.spare1; spare2 = s.spare2; spare3 = s.spare3; spare4 = s.spare4; spare5 = s.spare5 }
 
 -- the words of records, one record after the other
 unfoldable pub recordWords : List NodeState → List ℕ
@@ -17,7 +17,7 @@ recordWords (s ∷ ss) = words_of (state_of s) ++ recordWords ss
 -- the record of the first words
 abbrev pub nodeFrom : List ℕ → NodeState
 nodeFrom w =
-    record { kind = get_or w 0 0; size = get_or w 1 0; cached = get_or w 2 0; need = get_or w 3 0; required_end = get_or w 4 0; optional_end = get_or w 5 0; first = get_or w 6 0; number = get_or w 7 0; cursor = get_or w 8 0; offset = get_or w 9 0; field = get_or w 10 0; constant = get_or w 11 0; weight = get_or w 12 0; afterwards = get_or w 13 0; group_at = get_or w 14 0; scores = get_or w 15 0; frequency_of = get_or w 16 0; frequency = get_or w 17 0; norms = get_or w 18 0; spare1 = get_or w 19 0; spare2 = get_or w 20 0; spare3 = get_or w 21 0; spare4 = get_or w 22 0; spare5 = get_or w 23 0; spare6 = get_or w 24 0; spare7 = get_or w 25 0; spare8 = get_or w 26 0; spare9 = get_or w 27 0; spare10 = get_or w 28 0; spare11 = get_or w 29 0; spare12 = get_or w 30 0; spare13 = get_or w 31 0 }
+    record { kind = get_or w 0 0; size = get_or w 1 0; cached = get_or w 2 0; need = get_or w 3 0; required_end = get_or w 4 0; optional_end = get_or w 5 0; first = get_or w 6 0; number = get_or w 7 0; cursor = get_or w 8 0; offset = get_or w 9 0; field = get_or w 10 0; constant = get_or w 11 0; weight = get_or w 12 0; afterwards = get_or w 13 0; group_at = get_or w 14 0; scores = get_or w 15 0; frequency_of = get_or w 16 0; frequency = get_or w 17 0; norms = get_or w 18 0; window_first = get_or w 19 0; window_low = get_or w 20 0; window_high = get_or w 21 0; window_next = get_or w 22 0; ones_low = get_or w 23 0; ones_high = get_or w 24 0; twos_low = get_or w 25 0; twos_high = get_or w 26 0; spare1 = get_or w 27 0; spare2 = get_or w 28 0; spare3 = get_or w 29 0; spare4 = get_or w 30 0; spare5 = get_or w 31 0 }
 
 -- how many of some records a call can need: an order has so many at most
 abbrev pub held : ℕ → ℕ

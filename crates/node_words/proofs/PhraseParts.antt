@@ -64,7 +64,7 @@ module _ (ix : Index) (q : List ℕ) (at : ℕ) where
 -- ---- the whole part: the record, then the terms
 abbrev pub phraseState : ℕ → ℕ → ℕ → ℕ → ℕ → ℕ → State
 phraseState size field fixed bits scores norms =
-    record { kind = 2; size = size; cached = 0; need = 0; requiredEnd = 0; optionalEnd = 0; first = 0; number = 0; cursor = 0; offset = 0; field = field; constant = fixed; weight = bits; afterwards = 0; groupAt = 0; scores = scores; frequencyOf = 0; frequency = 0; norms = norms; spare1 = 0; spare2 = 0; spare3 = 0; spare4 = 0; spare5 = 0; spare6 = 0; spare7 = 0; spare8 = 0; spare9 = 0; spare10 = 0; spare11 = 0; spare12 = 0; spare13 = 0 }
+    record { kind = 2; size = size; cached = 0; need = 0; requiredEnd = 0; optionalEnd = 0; first = 0; number = 0; cursor = 0; offset = 0; field = field; constant = fixed; weight = bits; afterwards = 0; groupAt = 0; scores = scores; frequencyOf = 0; frequency = 0; norms = norms; windowFirst = 0; windowLow = 0; windowHigh = 0; windowNext = 0; onesLow = 0; onesHigh = 0; twosLow = 0; twosHigh = 0; spare1 = 0; spare2 = 0; spare3 = 0; spare4 = 0; spare5 = 0 }
 
 -- the words after the record stay as they are when the record is written
 take-both : (s : State) (zs : List ℕ) (n : ℕ) → take (nodeStateWords + n) (words_of s ++ zs) ≡ words_of s ++ take n zs

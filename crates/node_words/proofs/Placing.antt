@@ -56,7 +56,7 @@ score-is x f a = record { held = f; small = a; bits_are = refl }
 -- the words of a leaf's record; the others are 0
 abbrev pub leafState : ℕ → ℕ → ℕ → ℕ → ℕ → ℕ → ℕ → ℕ → ℕ → ℕ → State
 leafState kind cached first number offset field fixed weight scores norms =
-    record { kind = kind; size = nodeStateWords; cached = cached; need = 0; requiredEnd = 0; optionalEnd = 0; first = first; number = number; cursor = 0; offset = offset; field = field; constant = fixed; weight = weight; afterwards = 0; groupAt = 0; scores = scores; frequencyOf = 0; frequency = 0; norms = norms; spare1 = 0; spare2 = 0; spare3 = 0; spare4 = 0; spare5 = 0; spare6 = 0; spare7 = 0; spare8 = 0; spare9 = 0; spare10 = 0; spare11 = 0; spare12 = 0; spare13 = 0 }
+    record { kind = kind; size = nodeStateWords; cached = cached; need = 0; requiredEnd = 0; optionalEnd = 0; first = first; number = number; cursor = 0; offset = offset; field = field; constant = fixed; weight = weight; afterwards = 0; groupAt = 0; scores = scores; frequencyOf = 0; frequency = 0; norms = norms; windowFirst = 0; windowLow = 0; windowHigh = 0; windowNext = 0; onesLow = 0; onesHigh = 0; twosLow = 0; twosHigh = 0; spare1 = 0; spare2 = 0; spare3 = 0; spare4 = 0; spare5 = 0 }
 
 pub no-cache : (P : ℕ → Bool) → Cache P 0 0
 no-cache P t h g = absurd (omega (arith, g))

@@ -44,4 +44,4 @@ keptOf false x = none
 -- a Boolean's record, not asked yet
 abbrev pub booleanState : ℕ → ℕ → ℕ → ℕ → Bool → ℕ → Bool → ℕ → ℕ → State
 booleanState size need requiredEnd optionalEnd fixed bits after groupAt scores =
-    record { kind = 3; size = size; cached = 0; need = need; requiredEnd = requiredEnd; optionalEnd = optionalEnd; first = 0; number = 0; cursor = 0; offset = 0; field = 0; constant = cond fixed 1 0; weight = bits; afterwards = cond after 1 0; groupAt = groupAt; scores = scores; frequencyOf = 0; frequency = 0; norms = 0; spare1 = 0; spare2 = 0; spare3 = 0; spare4 = 0; spare5 = 0; spare6 = 0; spare7 = 0; spare8 = 0; spare9 = 0; spare10 = 0; spare11 = 0; spare12 = 0; spare13 = 0 }
+    record { kind = 3; size = size; cached = 0; need = need; requiredEnd = requiredEnd; optionalEnd = optionalEnd; first = 0; number = 0; cursor = 0; offset = 0; field = 0; constant = cond fixed 1 0; weight = bits; afterwards = cond after 1 0; groupAt = groupAt; scores = scores; frequencyOf = 0; frequency = 0; norms = 0; windowFirst = 0; windowLow = 0; windowHigh = 0; windowNext = 0; onesLow = 0; onesHigh = 0; twosLow = 0; twosHigh = 0; spare1 = 0; spare2 = 0; spare3 = 0; spare4 = 0; spare5 = 0 }

@@ -78,19 +78,19 @@ fresh kind size cached need re oe first number offset same scores =
       frequencyOf = 0;
       frequency = 0;
       norms = 0;
+      windowFirst = 0;
+      windowLow = 0;
+      windowHigh = 0;
+      windowNext = 0;
+      onesLow = 0;
+      onesHigh = 0;
+      twosLow = 0;
+      twosHigh = 0;
       spare1 = 0;
       spare2 = 0;
       spare3 = 0;
       spare4 = 0;
       spare5 = 0;
-      spare6 = 0;
-      spare7 = 0;
-      spare8 = 0;
-      spare9 = 0;
-      spare10 = 0;
-      spare11 = 0;
-      spare12 = 0;
-      spare13 = 0;
     }
 
 abbrev root : State

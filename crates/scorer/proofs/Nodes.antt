@@ -45,19 +45,19 @@ cachedAt s c =
       frequencyOf = s.frequencyOf;
       frequency = s.frequency;
       norms = s.norms;
+      windowFirst = s.windowFirst;
+      windowLow = s.windowLow;
+      windowHigh = s.windowHigh;
+      windowNext = s.windowNext;
+      onesLow = s.onesLow;
+      onesHigh = s.onesHigh;
+      twosLow = s.twosLow;
+      twosHigh = s.twosHigh;
       spare1 = s.spare1;
       spare2 = s.spare2;
       spare3 = s.spare3;
       spare4 = s.spare4;
       spare5 = s.spare5;
-      spare6 = s.spare6;
-      spare7 = s.spare7;
-      spare8 = s.spare8;
-      spare9 = s.spare9;
-      spare10 = s.spare10;
-      spare11 = s.spare11;
-      spare12 = s.spare12;
-      spare13 = s.spare13;
     }
 
 -- ---- leaves

@@ -37,25 +37,27 @@ pub record State : Type 0 where
   pub frequency : ℕ
   -- a term or a phrase: where its field's norm bytes begin, + 1; 0 without norms
   pub norms : ℕ
+  -- asked by windows: the run's first place that is not below the window, the documents of the window as bits, and a document before which none follows the window
+  pub windowFirst : ℕ
+  pub windowLow : ℕ
+  pub windowHigh : ℕ
+  pub windowNext : ℕ
+  -- a phrase, asked by windows: the two lower digits of the frequencies, as bits; 3 is 3 or more
+  pub onesLow : ℕ
+  pub onesHigh : ℕ
+  pub twosLow : ℕ
+  pub twosHigh : ℕ
   -- not used
   pub spare1 : ℕ
   pub spare2 : ℕ
   pub spare3 : ℕ
   pub spare4 : ℕ
   pub spare5 : ℕ
-  pub spare6 : ℕ
-  pub spare7 : ℕ
-  pub spare8 : ℕ
-  pub spare9 : ℕ
-  pub spare10 : ℕ
-  pub spare11 : ℕ
-  pub spare12 : ℕ
-  pub spare13 : ℕ
 
 -- the record's words, in order
 abbrev pub words_of : State → List ℕ
 words_of s =
-    s.kind ∷ s.size ∷ s.cached ∷ s.need ∷ s.requiredEnd ∷ s.optionalEnd ∷ s.first ∷ s.number ∷ s.cursor ∷ s.offset ∷ s.field ∷ s.constant ∷ s.weight ∷ s.afterwards ∷ s.groupAt ∷ s.scores ∷ s.frequencyOf ∷ s.frequency ∷ s.norms ∷ s.spare1 ∷ s.spare2 ∷ s.spare3 ∷ s.spare4 ∷ s.spare5 ∷ s.spare6 ∷ s.spare7 ∷ s.spare8 ∷ s.spare9 ∷ s.spare10 ∷ s.spare11 ∷ s.spare12 ∷ s.spare13 ∷ []
+    s.kind ∷ s.size ∷ s.cached ∷ s.need ∷ s.requiredEnd ∷ s.optionalEnd ∷ s.first ∷ s.number ∷ s.cursor ∷ s.offset ∷ s.field ∷ s.constant ∷ s.weight ∷ s.afterwards ∷ s.groupAt ∷ s.scores ∷ s.frequencyOf ∷ s.frequency ∷ s.norms ∷ s.windowFirst ∷ s.windowLow ∷ s.windowHigh ∷ s.windowNext ∷ s.onesLow ∷ s.onesHigh ∷ s.twosLow ∷ s.twosHigh ∷ s.spare1 ∷ s.spare2 ∷ s.spare3 ∷ s.spare4 ∷ s.spare5 ∷ []
 
 -- the words that a scorer takes
 unfoldable pub leafSize : Leaf → ℕ

@@ -1,0 +1,37 @@
+// The documents of a run in a window of 64, as bits.
+#![tactic(auto)]
+
+ghost use Rattle.window.specs.Windows.{Ready, Gathers};
+
+use run::document;
+
+// The bits, and where the cursor stands behind the window.
+#[derive(Clone, Copy)]
+pub struct Gathered {
+    pub bits: u64,
+    pub at: usize,
+}
+
+pub fn gathered(
+    words: &[u32],
+    stride: usize,
+    first: usize,
+    number: usize,
+    from: usize,
+    base: u32,
+) -> Gathered
+    requires { Ready words.now stride first number base from }
+    ensures { Gathers words.now stride first number base from result.bits result.at }
+{
+    let mut w = 0;
+    let mut i = from;
+    while i < number {
+        let place = document(words, stride, first, i) - base;
+        if 64 <= place {
+            return Gathered { bits: w, at: i };
+        }
+        w = bits::set_bit(w, place);
+        i += 1;
+    }
+    Gathered { bits: w, at: i }
+}

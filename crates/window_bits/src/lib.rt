@@ -1,0 +1,302 @@
+// Which documents of a window of 64 a scorer tree matches: the words of a node are its record and then its children's parts.
+#![tactic(auto)]
+
+ghost use Rattle.std.specs.Prelude.{◌≡◌, ◌≤◌, length, get_or, not};
+ghost use Rattle.meaning.specs.Limits.{nodeStateWords};
+ghost use Rattle.planes.specs.Counts.{count};
+ghost use Rattle.window_leaf.specs.Asks.{BitsPre, BitsPost};
+ghost use Rattle.window_bits.specs.Parts.{PassPre, PassPost, PartsPre, OptionalPost, CountPost, AnyPost, ExcludedPost, BooleanPre, BooleanPost, BooleanRead, ChildAt, ChildRead};
+
+use index::wide;
+use leaf_scorer::NO_MORE_DOCS;
+use weight::NODE_STATE_WORDS;
+use window_leaf::{Found, later, leaf_bits, put, sooner, term_bits};
+
+const TERM: u32 = 1;
+
+const PHRASE: u32 = 2;
+
+const BOOLEAN: u32 = 3;
+
+// Counts of children go up to 255.
+const PLANES: usize = 8;
+
+const MOST: u32 = 255;
+
+#[derive(Clone, Copy)]
+pub struct Boolean {
+    pub need: u32,
+    pub required: usize,
+    pub optional: usize,
+}
+
+fn boolean_at(st: &[u32]) -> Boolean
+    requires { nodeStateWords ≤ length st.now }
+    ensures { BooleanRead st.now result.need result.required result.optional }
+{
+    Boolean {
+        need: st[3],
+        required: wide(st[4]),
+        optional: wide(st[5]),
+    }
+}
+
+// What a loop over parts reads of a child: its kind, and where its part ends.
+#[derive(Clone, Copy)]
+pub struct Child {
+    pub kind: u32,
+    pub end: usize,
+}
+
+fn child_at(kids: &[u32], at: usize) -> Child
+    requires { ChildAt kids.now at }
+    ensures { ChildRead kids.now at result.kind result.end }
+{
+    Child {
+        kind: kids[at],
+        end: at + wide(kids[at + 1]),
+    }
+}
+
+// The wanted documents of the window that the node matches.
+#[cycle(any_bits_boolean_bits_counted_bits_excluded_bits_node_bits_optional_bits_required_bits)]
+pub fn node_bits(
+    st: &mut [u32],
+    postings: &[u32],
+    positions: &[u32],
+    ranges: &[u32],
+    a: &mut [i32],
+    b: &mut [i32],
+    base: u32,
+    want: u64,
+    depth: u32,
+) -> u64
+    requires { BitsPre postings.now positions.now ranges.now (length a.old) (length b.old) st.old base want depth }
+    ensures { BitsPost postings.now positions.now ranges.now (length a.old) (length b.old) st.old base want depth result st.new }
+{
+    if st[0] == BOOLEAN {
+        let n = boolean_at(st);
+        let f = boolean_bits(
+            &mut st[NODE_STATE_WORDS..],
+            postings,
+            positions,
+            ranges,
+            a,
+            b,
+            n,
+            base,
+            want,
+            depth - 1,
+        );
+        put(st, f.bits, f.next);
+        return f.bits;
+    }
+    leaf_bits(st, postings, positions, ranges, a, b, base, want, depth)
+}
+
+// The required children, cheapest first, but for phrases; then the optional, the prohibited, and last the phrases, whose positions cost most.
+#[cycle(any_bits_boolean_bits_counted_bits_excluded_bits_node_bits_optional_bits_required_bits)]
+fn boolean_bits(
+    kids: &mut [u32],
+    postings: &[u32],
+    positions: &[u32],
+    ranges: &[u32],
+    a: &mut [i32],
+    b: &mut [i32],
+    n: Boolean,
+    base: u32,
+    want: u64,
+    depth: u32,
+) -> Found
+    requires { BooleanPre postings.now positions.now ranges.now (length a.old) (length b.old) kids.old n.required n.optional n.need base want depth }
+    ensures { BooleanPost postings.now positions.now ranges.now (length a.old) (length b.old) kids.old n.required n.optional n.need base want depth result.bits result.next kids.new }
+{
+    let end = n.required;
+    let optional_end = n.optional;
+    let r = required_bits(&mut kids[..end], postings, positions, ranges, a, b, false, base, want, depth);
+    let o = optional_bits(&mut kids[end..optional_end], postings, positions, ranges, a, b, n.need, base, r.bits, depth);
+    let w = excluded_bits(&mut kids[optional_end..], postings, positions, ranges, a, b, base, o.bits, depth);
+    let p = required_bits(&mut kids[..end], postings, positions, ranges, a, b, true, base, w, depth);
+    Found {
+        bits: p.bits,
+        next: later(later(r.next, o.next), p.next),
+    }
+}
+
+// Each child of the pass is asked for what those before it left, and none once nothing is left.
+#[cycle(any_bits_boolean_bits_counted_bits_excluded_bits_node_bits_optional_bits_required_bits)]
+fn required_bits(
+    kids: &mut [u32],
+    postings: &[u32],
+    positions: &[u32],
+    ranges: &[u32],
+    a: &mut [i32],
+    b: &mut [i32],
+    last: bool,
+    base: u32,
+    want: u64,
+    depth: u32,
+) -> Found
+    requires { PassPre postings.now positions.now ranges.now (length a.old) (length b.old) kids.old last base want depth }
+    ensures { PassPost postings.now positions.now ranges.now (length a.old) (length b.old) kids.old last base want depth result.bits result.next kids.new }
+{
+    let mut w = want;
+    let mut next = base + 64;
+    let mut at = 0;
+    while at < kids.len() {
+        if w == 0 {
+            return Found { bits: w, next };
+        }
+        let k = child_at(kids, at);
+        let end = k.end;
+        if (k.kind == PHRASE) == last {
+            if k.kind == TERM {
+                w = bits::both(w, term_bits(&mut kids[at..end], postings, base));
+            } else {
+                w = node_bits(&mut kids[at..end], postings, positions, ranges, a, b, base, w, depth);
+            }
+            next = later(next, kids[at + 22]);
+        }
+        at = end;
+    }
+    Found { bits: w, next }
+}
+
+// Those of the wanted documents that at least `need` of the children match; where none is needed they are asked with the score.
+#[cycle(any_bits_boolean_bits_counted_bits_excluded_bits_node_bits_optional_bits_required_bits)]
+fn optional_bits(
+    kids: &mut [u32],
+    postings: &[u32],
+    positions: &[u32],
+    ranges: &[u32],
+    a: &mut [i32],
+    b: &mut [i32],
+    need: u32,
+    base: u32,
+    want: u64,
+    depth: u32,
+) -> Found
+    requires { PartsPre postings.now positions.now ranges.now (length a.old) (length b.old) kids.old base want depth }
+    ensures { OptionalPost postings.now positions.now ranges.now (length a.old) (length b.old) kids.old need base want depth result.bits result.next kids.new }
+{
+    if need == 0 {
+        return Found { bits: want, next: base + 64 };
+    }
+    if want == 0 {
+        return Found { bits: want, next: base + 64 };
+    }
+    if need == 1 {
+        return any_bits(kids, postings, positions, ranges, a, b, base, want, depth);
+    }
+    if MOST < need {
+        return Found { bits: 0, next: base + 64 };
+    }
+    let mut planes = [0u64; PLANES];
+    let next = counted_bits(kids, postings, positions, ranges, a, b, &mut planes, base, want, depth);
+    Found {
+        bits: planes::above(&planes, need - 1, want),
+        next,
+    }
+}
+
+// Those that some child matches.
+#[cycle(any_bits_boolean_bits_counted_bits_excluded_bits_node_bits_optional_bits_required_bits)]
+fn any_bits(
+    kids: &mut [u32],
+    postings: &[u32],
+    positions: &[u32],
+    ranges: &[u32],
+    a: &mut [i32],
+    b: &mut [i32],
+    base: u32,
+    want: u64,
+    depth: u32,
+) -> Found
+    requires { PartsPre postings.now positions.now ranges.now (length a.old) (length b.old) kids.old base want depth }
+    ensures { AnyPost postings.now positions.now ranges.now (length a.old) (length b.old) kids.old base want depth result.bits result.next kids.new }
+{
+    let mut w = 0;
+    let mut next = NO_MORE_DOCS;
+    let mut at = 0;
+    while at < kids.len() {
+        let k = child_at(kids, at);
+        let end = k.end;
+        if k.kind == TERM {
+            w = bits::either(w, bits::both(want, term_bits(&mut kids[at..end], postings, base)));
+        } else {
+            w = bits::either(w, node_bits(&mut kids[at..end], postings, positions, ranges, a, b, base, want, depth));
+        }
+        next = sooner(next, kids[at + 22]);
+        at = end;
+    }
+    Found { bits: w, next }
+}
+
+// How many children match each wanted document, as planes of bits; gives a document before which none matches after the window.
+#[cycle(any_bits_boolean_bits_counted_bits_excluded_bits_node_bits_optional_bits_required_bits)]
+fn counted_bits(
+    kids: &mut [u32],
+    postings: &[u32],
+    positions: &[u32],
+    ranges: &[u32],
+    a: &mut [i32],
+    b: &mut [i32],
+    planes: &mut [u64],
+    base: u32,
+    want: u64,
+    depth: u32,
+) -> u32
+    requires empty { (length planes.old ≡ 8) × ((p : ℕ) → count p planes.old ≡ 0) }
+    requires parts_pre { PartsPre postings.now positions.now ranges.now (length a.old) (length b.old) kids.old base want depth }
+    ensures count_post { CountPost postings.now positions.now ranges.now (length a.old) (length b.old) kids.old base want depth (λ p. count p planes.new) result kids.new }
+    ensures planes_length { length planes.new ≡ 8 }
+{
+    let mut next = NO_MORE_DOCS;
+    let mut at = 0;
+    while at < kids.len() {
+        let k = child_at(kids, at);
+        let end = k.end;
+        if k.kind == TERM {
+            let _carry = planes::counted(planes, term_bits(&mut kids[at..end], postings, base));
+        } else {
+            let _carry = planes::counted(planes, node_bits(&mut kids[at..end], postings, positions, ranges, a, b, base, want, depth));
+        }
+        next = sooner(next, kids[at + 22]);
+        at = end;
+    }
+    next
+}
+
+// The wanted documents that no prohibited child matches.
+#[cycle(any_bits_boolean_bits_counted_bits_excluded_bits_node_bits_optional_bits_required_bits)]
+fn excluded_bits(
+    kids: &mut [u32],
+    postings: &[u32],
+    positions: &[u32],
+    ranges: &[u32],
+    a: &mut [i32],
+    b: &mut [i32],
+    base: u32,
+    want: u64,
+    depth: u32,
+) -> u64
+    requires { PartsPre postings.now positions.now ranges.now (length a.old) (length b.old) kids.old base want depth }
+    ensures { ExcludedPost postings.now positions.now ranges.now (length a.old) (length b.old) kids.old base want depth result kids.new }
+{
+    let mut w = want;
+    let mut at = 0;
+    while at < kids.len() {
+        if w == 0 {
+            return w;
+        }
+        let k = child_at(kids, at);
+        let end = k.end;
+        if k.kind == TERM {
+            w = bits::without(w, term_bits(&mut kids[at..end], postings, base));
+        } else {
+            w = bits::without(w, node_bits(&mut kids[at..end], postings, positions, ranges, a, b, base, w, depth));
+        }
+        at = end;
+    }
+    w
+}

@@ -1,0 +1,72 @@
+-- A phrase, asked for a window: its terms, its frequency at a place, its planes. Assumes nothing: these are definitions.
+use Rattle.std.specs.Prelude.{◌≡◌, Bool, true, false, cond, List, ◌++◌, ℕ, ◌+◌, ◌*◌, ◌≤◌, ◌<◌, min, length}
+use Rattle.meaning.specs.Limits.{noMoreDocs}
+use Rattle.meaning.specs.Lent.{Index}
+use Rattle.meaning.specs.Phrase.{PhraseTerm, phraseFrequency}
+use Rattle.index.specs.Accepted.{Accepted}
+use Rattle.weight.specs.ScorerTree.{phrase}
+use Rattle.weight.specs.Sound.{LeafSound}
+use Rattle.leaf_scorer.specs.Phrases.{allFound, LeavesThere, GatheredTo}
+use Rattle.bits.specs.Bit.{bit}
+use Rattle.window_words.specs.Windowed.{Places, nowhere, placesOf, TermsWindowed}
+use Rattle.window_leaf.specs.Asks.{Answers}
+
+-- an accepted index with these postings, and the words of a phrase's terms, not asked yet of the window at base
+pub record TermsHeld (postings : List ℕ) (ix : Index) (ts : List PhraseTerm) (terms : List ℕ) (base : ℕ) : Type 0 where
+  pub accepted : Accepted ix
+  pub postings-are : ix.postings ≡ postings
+  pub there : LeavesThere ix ts
+  pub held : TermsWindowed ix ts terms base base nowhere
+
+abbrev pub TermsPre : List ℕ → List ℕ → ℕ → Type 0
+TermsPre postings terms base = (base + 64 ≤ noMoreDocs) × ((ix : Index) × (ts : List PhraseTerm) × TermsHeld postings ix ts terms base)
+
+-- the wanted documents that all terms have; where some are left, each term was asked
+abbrev pub TermsPost : List ℕ → List ℕ → ℕ → ℕ → ℕ → ℕ → List ℕ → Type 0
+TermsPost postings terms base want r next terms' =
+    (ix : Index) (ts : List PhraseTerm) → TermsHeld postings ix ts terms base → Answers (allFound ix ts) base (placesOf want) r next × TermsWindowed ix ts terms' (base + 64) base (placesOf r)
+
+-- the terms were asked of the window at base, and all have its documents at the places D
+pub record TermsAsked (postings : List ℕ) (ix : Index) (ts : List PhraseTerm) (base : ℕ) (D : Places) (terms : List ℕ) : Type 0 where
+  pub accepted : Accepted ix
+  pub postings-are : ix.postings ≡ postings
+  pub there : LeavesThere ix ts
+  pub bound : ℕ
+  pub held : TermsWindowed ix ts terms bound base D
+  pub all : (p : ℕ) → p < 64 → D p ≡ true → allFound ix ts (base + p) ≡ true
+
+abbrev pub GatherPre : List ℕ → List ℕ → ℕ → ℕ → ℕ → Type 0
+GatherPre postings terms base place places =
+    (place < 64) × ((ix : Index) × (ts : List PhraseTerm) × (D : Places) × (3 * length ts ≤ places) × (D place ≡ true) × TermsAsked postings ix ts base D terms)
+
+abbrev pub GatherPost : List ℕ → List ℕ → ℕ → ℕ → ℕ → List ℕ → Type 0
+GatherPost postings terms base place r out =
+    (ix : Index) (ts : List PhraseTerm) (D : Places) → D place ≡ true → TermsAsked postings ix ts base D terms → GatheredTo ix ts (base + place) r out
+
+-- the terms of a sound phrase
+pub record PhraseAsked (postings positions : List ℕ) (ix : Index) (places f : ℕ) (ts : List PhraseTerm) (base : ℕ) (D : Places) (terms : List ℕ) : Type 0 where
+  pub asked : TermsAsked postings ix ts base D terms
+  pub positions-are : ix.positions ≡ positions
+  pub sound : LeafSound ix places (phrase f ts)
+
+abbrev pub FrequencyPre : List ℕ → List ℕ → List ℕ → ℕ → ℕ → ℕ → ℕ → Type 0
+FrequencyPre postings positions terms a b base place =
+    (place < 64) × ((ix : Index) × (places : ℕ) × (f : ℕ) × (ts : List PhraseTerm) × (D : Places) × (places ≤ a) × (places ≤ b) × (D place ≡ true) × PhraseAsked postings positions ix places f ts base D terms)
+
+abbrev pub FrequencyPost : List ℕ → List ℕ → List ℕ → ℕ → ℕ → ℕ → Type 0
+FrequencyPost postings positions terms base place r =
+    (ix : Index) (places f : ℕ) (ts : List PhraseTerm) (D : Places) → D place ≡ true → PhraseAsked postings positions ix places f ts base D terms → r ≡ phraseFrequency ix ts (base + place)
+
+-- the planes of a window: the lower digits of the frequencies at the candidates, up to 3, and nothing elsewhere
+pub record PlanesAre (ix : Index) (ts : List PhraseTerm) (base candidates ones twos : ℕ) : Type 0 where
+  pub there : (p : ℕ) → p < 64 → bit p candidates ≡ true → cond (bit p ones) 1 0 + 2 * cond (bit p twos) 1 0 ≡ min 3 (phraseFrequency ix ts (base + p))
+  pub no-ones : (p : ℕ) → p < 64 → bit p candidates ≡ false → bit p ones ≡ false
+  pub no-twos : (p : ℕ) → p < 64 → bit p candidates ≡ false → bit p twos ≡ false
+
+abbrev pub PlanesPre : List ℕ → List ℕ → List ℕ → ℕ → ℕ → ℕ → ℕ → Type 0
+PlanesPre postings positions terms a b base candidates =
+    (ix : Index) × (places : ℕ) × (f : ℕ) × (ts : List PhraseTerm) × (places ≤ a) × (places ≤ b) × PhraseAsked postings positions ix places f ts base (placesOf candidates) terms
+
+abbrev pub PlanesPost : List ℕ → List ℕ → List ℕ → ℕ → ℕ → ℕ → ℕ → Type 0
+PlanesPost postings positions terms base candidates ones twos =
+    (ix : Index) (places f : ℕ) (ts : List PhraseTerm) → PhraseAsked postings positions ix places f ts base (placesOf candidates) terms → PlanesAre ix ts base candidates ones twos

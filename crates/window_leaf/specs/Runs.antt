@@ -1,0 +1,83 @@
+-- A record's run, asked for a window. Assumes nothing: these are definitions.
+use Rattle.std.specs.Prelude.{◌≡◌, Bool, false, List, ◌++◌, ℕ, ◌+◌, ◌*◌, ◌%◌, ◌/◌, ◌≤◌, ◌<◌, length}
+use Rattle.meaning.specs.Limits.{noMoreDocs}
+use Rattle.weight.specs.State.{State, words_of}
+use Rattle.leaf_scorer.specs.Search.{SearchHeld}
+use Rattle.bits.specs.Bit.{bit}
+use Rattle.window.specs.Windows.{inRun, Cursor}
+use Rattle.run.specs.Run.{documentAt}
+
+-- a record with what an answer stores: the cursor behind the window, the run's first place in it, its bits, and the document up to which nothing follows
+abbrev pub windowAt : State → ℕ → ℕ → ℕ → ℕ → State
+windowAt s cursor first bits next =
+    record {
+      kind = s.kind;
+      size = s.size;
+      cached = s.cached;
+      need = s.need;
+      requiredEnd = s.requiredEnd;
+      optionalEnd = s.optionalEnd;
+      first = s.first;
+      number = s.number;
+      cursor = cursor;
+      offset = s.offset;
+      field = s.field;
+      constant = s.constant;
+      weight = s.weight;
+      afterwards = s.afterwards;
+      groupAt = s.groupAt;
+      scores = s.scores;
+      frequencyOf = s.frequencyOf;
+      frequency = s.frequency;
+      norms = s.norms;
+      windowFirst = first;
+      windowLow = bits % 4294967296;
+      windowHigh = bits / 4294967296;
+      windowNext = next;
+      onesLow = s.onesLow;
+      onesHigh = s.onesHigh;
+      twosLow = s.twosLow;
+      twosHigh = s.twosHigh;
+      spare1 = s.spare1;
+      spare2 = s.spare2;
+      spare3 = s.spare3;
+      spare4 = s.spare4;
+      spare5 = s.spare5;
+    }
+
+-- an answer that moves no cursor
+abbrev pub answered : State → ℕ → ℕ → State
+answered s bits next = windowAt s s.cursor s.windowFirst bits next
+
+abbrev pub PutPre : List ℕ → Type 0
+PutPre st = (s : State) × (w : List ℕ) × (st ≡ words_of s ++ w)
+
+abbrev pub PutPost : List ℕ → ℕ → ℕ → List ℕ → Type 0
+PutPost st bits next st' = (s : State) (w : List ℕ) → st ≡ words_of s ++ w → st' ≡ words_of (answered s bits next) ++ w
+
+-- the record's run, whose cursor had passed only documents below the window, has been moved over it
+pub record RunMoved (words : List ℕ) (stride : ℕ) (s : State) (w : List ℕ) (base r : ℕ) (st' : List ℕ) : Type 0 where
+  pub first : ℕ
+  pub cursor : ℕ
+  pub next : ℕ
+  pub words_are : st' ≡ words_of (windowAt s cursor first r next) ++ w
+  pub at-first : Cursor words stride s.first s.number base first
+  pub first-within : first ≤ cursor
+  pub behind : Cursor words stride s.first s.number (base + 64) cursor
+  pub bits : (p : ℕ) → p < 64 → bit p r ≡ inRun words stride s.first s.number (base + p)
+  pub gap : (d : ℕ) → base + 64 ≤ d → d < next → inRun words stride s.first s.number d ≡ false
+  pub top : next ≤ noMoreDocs
+
+abbrev pub RunPre : List ℕ → ℕ → List ℕ → ℕ → Type 0
+RunPre words stride st base = (base + 64 ≤ noMoreDocs) × ((s : State) × (w : List ℕ) × SearchHeld words stride s w st base)
+
+abbrev pub RunPost : List ℕ → ℕ → List ℕ → ℕ → ℕ → List ℕ → Type 0
+RunPost words stride st base r st' = (s : State) (w : List ℕ) → SearchHeld words stride s w st base → RunMoved words stride s w base r st'
+
+-- the run's document at a place, or the end
+abbrev pub DocumentPre : List ℕ → ℕ → ℕ → ℕ → ℕ → Type 0
+DocumentPre words stride first number at = (0 < stride) × (at < number → stride * (first + at) < length words)
+
+pub record DocumentPost (words : List ℕ) (stride first number at r : ℕ) : Type 0 where
+  pub there : at < number → r ≡ documentAt words stride first at
+  pub ended : number ≤ at → r ≡ noMoreDocs

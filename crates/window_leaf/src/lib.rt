@@ -1,0 +1,130 @@
+// A node without children, asked which documents of a window of 64 it matches.
+#![tactic(auto)]
+
+ghost use Rattle.std.specs.Prelude.{◌≡◌, ◌≤◌, length, get_or, min, max};
+ghost use Rattle.meaning.specs.Limits.{nodeStateWords};
+ghost use Rattle.window_leaf.specs.Asks.{TermPre, TermPost, RangePre, RangePost, BitsPre, BitsPost};
+ghost use Rattle.window_leaf.specs.Runs.{PutPre, PutPost, RunPre, RunPost, DocumentPre, DocumentPost};
+
+use index::wide;
+use leaf_scorer::{ENTRY, NO_MORE_DOCS};
+use window::gathered;
+
+pub mod phrases;
+
+const TERM: u32 = 1;
+
+const PHRASE: u32 = 2;
+
+const RANGE: u32 = 4;
+
+const EVERYTHING: u32 = 5;
+
+// The words of a posting.
+const POSTING: usize = 3;
+
+// What some nodes answer together: bits, and a document before which nothing follows.
+#[derive(Clone, Copy)]
+pub struct Found {
+    pub bits: u64,
+    pub next: u32,
+}
+
+pub fn later(a: u32, b: u32) -> u32
+    ensures { result ≡ max a b }
+{
+    if a < b { b } else { a }
+}
+
+pub fn sooner(a: u32, b: u32) -> u32
+    ensures { result ≡ min a b }
+{
+    if a < b { a } else { b }
+}
+
+// Stores an answer in the node's record.
+pub fn put(st: &mut [u32], bits: u64, next: u32)
+    requires { PutPre st.old }
+    ensures { PutPost st.old bits next st.new }
+{
+    st[20] = bits::low(bits);
+    st[21] = bits::high(bits);
+    st[22] = next;
+}
+
+// The document of a run at a place, or the end.
+fn document_or_end(words: &[u32], stride: usize, first: usize, number: usize, at: usize) -> u32
+    requires { DocumentPre words.now stride first number at }
+    ensures { DocumentPost words.now stride first number at result }
+{
+    if at < number {
+        run::document(words, stride, first, at)
+    } else {
+        NO_MORE_DOCS
+    }
+}
+
+// Moves a record's cursor over the window; gives its documents there.
+pub fn run_bits(st: &mut [u32], words: &[u32], stride: usize, base: u32) -> u64
+    requires { RunPre words.now stride st.old base }
+    ensures { RunPost words.now stride st.old base result st.new }
+{
+    let first = wide(st[6]);
+    let number = wide(st[7]);
+    let from = run::lower(words, stride, first, number, wide(st[8]), base);
+    let g = gathered(words, stride, first, number, from, base);
+    st[8] = g.at as u32;
+    st[19] = from as u32;
+    put(st, g.bits, document_or_end(words, stride, first, number, g.at));
+    g.bits
+}
+
+// A term's documents in the window, wanted or not.
+pub fn term_bits(st: &mut [u32], postings: &[u32], base: u32) -> u64
+    requires { TermPre postings.now st.old base }
+    ensures { TermPost postings.now st.old base result st.new }
+{
+    run_bits(st, postings, POSTING, base)
+}
+
+// A range's, likewise.
+pub fn range_bits(st: &mut [u32], ranges: &[u32], base: u32) -> u64
+    requires { RangePre ranges.now st.old base }
+    ensures { RangePost ranges.now st.old base result st.new }
+{
+    run_bits(st, ranges, ENTRY, base)
+}
+
+// The wanted documents of the window that a node without children matches.
+pub fn leaf_bits(
+    st: &mut [u32],
+    postings: &[u32],
+    positions: &[u32],
+    ranges: &[u32],
+    a: &mut [i32],
+    b: &mut [i32],
+    base: u32,
+    want: u64,
+    depth: u32,
+) -> u64
+    requires kind { get_or st.old 0 0 ≡ 3 → ⊥ }
+    requires bits_pre { BitsPre postings.now positions.now ranges.now (length a.old) (length b.old) st.old base want depth }
+    ensures { BitsPost postings.now positions.now ranges.now (length a.old) (length b.old) st.old base want depth result st.new }
+{
+    let kind = st[0];
+    if kind == TERM {
+        return bits::both(want, term_bits(st, postings, base));
+    }
+    if kind == PHRASE {
+        return phrases::phrase_bits(st, postings, positions, a, b, base, want);
+    }
+    if kind == RANGE {
+        return bits::both(want, range_bits(st, ranges, base));
+    }
+    if kind == EVERYTHING {
+        put(st, want, base + 64);
+        return want;
+    }
+    put(st, 0, NO_MORE_DOCS);
+    0
+}

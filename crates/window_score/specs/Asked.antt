@@ -1,0 +1,133 @@
+-- What the scores of a window ask and give, of a node and of the parts of some children. Assumes nothing: these are definitions.
+use Rattle.std.specs.Prelude.{◌≡◌, true, false, cond, ◌&&◌, List, ◌++◌, ℕ, ◌+◌, ◌*◌, ◌^◌, ◌≤◌, ◌<◌, ltb, length, get_or, Float}
+use Rattle.std.specs.Float.{nan}
+use Rattle.meaning.specs.Limits.{noMoreDocs}
+use Rattle.meaning.specs.Lent.{Index}
+use Rattle.meaning.specs.Ieee754.{zeroFloat, sumFrom, narrowedSum}
+use Rattle.ieee754.specs.Nonneg.{AtMost}
+use Rattle.bits.specs.Bit.{bit}
+use Rattle.weight.specs.ScorerTree.{Scorer, Scorers, Joining, matches, allMatch, scorerScore, scoring, requiredScores, optionalScores, joinedScore}
+use Rattle.weight.specs.State.{sizesOf}
+use Rattle.weight.specs.Sound.{Lends, nodes, nodesOf}
+use Rattle.leaf_scorer.specs.Calls.{Lent, lent, RoomIn}
+use Rattle.leaf_score.specs.Asked.{Scorable}
+use Rattle.score.specs.Asked.{Scorables, JoinsAt}
+use Rattle.window_words.specs.Windowed.{Places, nowhere, placesOf, optionalBound, Windowed, AllWindowed}
+use Rattle.window_leaf.specs.Asks.{Wanted}
+use Rattle.window_score.specs.Sums.{Sums, Added, AddedAll}
+use Rattle.window_score.specs.declared.Joined.{Joined}
+
+-- an accepted index whose N, postings, positions and norms are those that are lent, with room for its phrases, and the wanted documents of a window of it
+pub record WindowLent (ix : Index) (n : ℕ) (postings positions norms : List ℕ) (places a b base want : ℕ) : Type 0 where
+  pub lends : Lends ix n postings positions
+  pub norms-are : ix.norms ≡ norms
+  pub room : RoomIn places a b
+  pub small : base + 64 ≤ noMoreDocs
+  pub wanted : Wanted n base want
+
+-- a tree that was asked of the window and takes the wanted documents, beside q leaves that are summed already
+pub record NodeAsked (ix : Index) (ranges : List ℕ) (table : List Float) (places : ℕ) (T : Scorer) (depth scores : ℕ) (st : List ℕ) (base want q : ℕ) : Type 0 where
+  pub scorable : Scorable ix table places T
+  pub few : q + nodes T ≤ 256
+  pub match : (p : ℕ) → p < 64 → bit p want ≡ true → matches ix T (base + p) ≡ true
+  pub held : Windowed ix ranges T depth scores st (base + 64) base (placesOf want)
+
+abbrev pub ScoresPre : List ℕ → List ℕ → List ℕ → List ℕ → List ℕ → List Float → ℕ → ℕ → ℕ → ℕ → List Float → ℕ → Type 0
+ScoresPre st postings positions norms ranges table a b base want sums depth =
+    (n : ℕ) × (ix : Index) × (places : ℕ) × (T : Scorer) × (scores : ℕ) × (q : ℕ) × WindowLent ix n postings positions norms places a b base want × NodeAsked ix ranges table places T depth scores st base want q × Sums q sums
+
+-- the node's score is added at the wanted places, and the words can be asked of the next window
+abbrev pub ScoresPost : List ℕ → List ℕ → List ℕ → List ℕ → List ℕ → List Float → ℕ → ℕ → ℕ → ℕ → List Float → ℕ → List ℕ → List Float → Type 0
+ScoresPost st postings positions norms ranges table a b base want sums depth st' sums' =
+    (n : ℕ) (ix : Index) (places : ℕ) (T : Scorer) (scores q : ℕ) → WindowLent ix n postings positions norms places a b base want → NodeAsked ix ranges table places T depth scores st base want q → Sums q sums → Added (λ p. scorerScore ix T (base + p)) want sums sums' × Sums (q + nodes T) sums' × Windowed ix ranges T depth scores st' (base + 64) (base + 64) nowhere
+
+-- a node that is a term and scores by BM25: it asks nothing of what is lent but the postings and the norms, and its words stay
+abbrev pub TermPre : List ℕ → List ℕ → List ℕ → List Float → ℕ → ℕ → List Float → Type 0
+TermPre st postings norms table base want sums =
+    (get_or st 0 0 ≡ 1) × ((positions : List ℕ) × (ranges : List ℕ) × (a : ℕ) × (b : ℕ) × (depth : ℕ) × ScoresPre st postings positions norms ranges table a b base want sums depth)
+
+abbrev pub TermPost : List ℕ → List ℕ → List ℕ → List Float → ℕ → ℕ → List Float → List Float → Type 0
+TermPost st postings norms table base want sums sums' =
+    (positions ranges : List ℕ) (a b depth : ℕ) → ScoresPost st postings positions norms ranges table a b base want sums depth st sums'
+
+-- a node that is a phrase, which asks no ranges; its words stay
+abbrev pub PhrasePre : List ℕ → List ℕ → List ℕ → List ℕ → List Float → ℕ → ℕ → ℕ → ℕ → List Float → Type 0
+PhrasePre st postings positions norms table a b base want sums =
+    (get_or st 0 0 ≡ 2) × (get_or st 11 0 ≡ 0) × ((ranges : List ℕ) × (depth : ℕ) × ScoresPre st postings positions norms ranges table a b base want sums depth)
+
+abbrev pub PhrasePost : List ℕ → List ℕ → List ℕ → List ℕ → List Float → ℕ → ℕ → ℕ → ℕ → List Float → List Float → Type 0
+PhrasePost st postings positions norms table a b base want sums sums' =
+    (ranges : List ℕ) (depth : ℕ) → ScoresPost st postings positions norms ranges table a b base want sums depth st sums'
+
+-- ---- the parts of some children, beside q leaves that are summed already
+pub record RequiredAsked (ix : Index) (ranges : List ℕ) (table : List Float) (places : ℕ) (ss : Scorers) (depth : ℕ) (kids : List ℕ) (base want q : ℕ) : Type 0 where
+  pub scorables : Scorables ix table places q ss
+  pub match : (p : ℕ) → p < 64 → bit p want ≡ true → allMatch ix ss (base + p) ≡ true
+  pub held : AllWindowed ix ranges ss depth kids (base + 64) base (placesOf want)
+
+abbrev pub RequiredPre : List ℕ → List ℕ → List ℕ → List ℕ → List ℕ → List Float → ℕ → ℕ → ℕ → ℕ → List Float → ℕ → Type 0
+RequiredPre kids postings positions norms ranges table a b base want sums depth =
+    (n : ℕ) × (ix : Index) × (places : ℕ) × (ss : Scorers) × (q : ℕ) × WindowLent ix n postings positions norms places a b base want × RequiredAsked ix ranges table places ss depth kids base want q × Sums q sums
+
+abbrev pub RequiredPost : List ℕ → List ℕ → List ℕ → List ℕ → List ℕ → List Float → ℕ → ℕ → ℕ → ℕ → List Float → ℕ → List ℕ → List Float → Type 0
+RequiredPost kids postings positions norms ranges table a b base want sums depth kids' sums' =
+    (n : ℕ) (ix : Index) (places : ℕ) (ss : Scorers) (q : ℕ) → WindowLent ix n postings positions norms places a b base want → RequiredAsked ix ranges table places ss depth kids base want q → Sums q sums → AddedAll (λ p. scoring (requiredScores ix ss (base + p))) want sums sums' × Sums (q + nodesOf ss) sums' × AllWindowed ix ranges ss depth kids' (base + 64) (base + 64) nowhere
+
+-- the optional: where none is needed they were not asked
+pub record OptionalAsked (ix : Index) (ranges : List ℕ) (table : List Float) (places : ℕ) (ss : Scorers) (need depth : ℕ) (kids : List ℕ) (base want q : ℕ) : Type 0 where
+  pub scorables : Scorables ix table places q ss
+  pub held : AllWindowed ix ranges ss depth kids (optionalBound need (base + 64) base) base (λ p. ltb 0 need && bit p want)
+
+abbrev pub OptionalPre : List ℕ → ℕ → List ℕ → List ℕ → List ℕ → List ℕ → List Float → ℕ → ℕ → ℕ → ℕ → List Float → ℕ → Type 0
+OptionalPre kids need postings positions norms ranges table a b base want sums depth =
+    (n : ℕ) × (ix : Index) × (places : ℕ) × (ss : Scorers) × (q : ℕ) × WindowLent ix n postings positions norms places a b base want × OptionalAsked ix ranges table places ss need depth kids base want q × Sums q sums
+
+abbrev pub OptionalPost : List ℕ → ℕ → List ℕ → List ℕ → List ℕ → List ℕ → List Float → ℕ → ℕ → ℕ → ℕ → List Float → ℕ → List ℕ → List Float → Type 0
+OptionalPost kids need postings positions norms ranges table a b base want sums depth kids' sums' =
+    (n : ℕ) (ix : Index) (places : ℕ) (ss : Scorers) (q : ℕ) → WindowLent ix n postings positions norms places a b base want → OptionalAsked ix ranges table places ss need depth kids base want q → Sums q sums → AddedAll (λ p. optionalScores ix ss (base + p)) want sums sums' × Sums (q + nodesOf ss) sums' × AllWindowed ix ranges ss depth kids' (base + 64) (base + 64) nowhere
+
+-- ---- a Boolean's children: the required, the optional and the rest, and what is read of its record
+pub record BooleanAsked (ix : Index) (ranges : List ℕ) (table : List Float) (places : ℕ) (j : Joining) (rs os : Scorers) (n : Joined) (depth : ℕ) (rest kids : List ℕ) (base want q : ℕ) : Type 0 where
+  pub required-scorables : Scorables ix table places 0 rs
+  pub optional-scorables : Scorables ix table places 0 os
+  pub few : q + (nodesOf rs + nodesOf os) ≤ 256
+  pub match : (p : ℕ) → p < 64 → bit p want ≡ true → allMatch ix rs (base + p) ≡ true
+  pub required-end : n.required ≡ sizesOf rs
+  pub optional-end : n.optional ≡ sizesOf rs + sizesOf os
+  pub joins : JoinsAt j rs n.afterwards n.group_at
+  pub x : List ℕ
+  pub v : List ℕ
+  pub is : kids ≡ x ++ (v ++ rest)
+  pub required : AllWindowed ix ranges rs depth x (base + 64) base (placesOf want)
+  pub optional : AllWindowed ix ranges os depth v (optionalBound n.need (base + 64) base) base (λ p. ltb 0 n.need && bit p want)
+
+pub record BooleanLeft (ix : Index) (ranges : List ℕ) (rs os : Scorers) (depth : ℕ) (rest kids : List ℕ) (base : ℕ) : Type 0 where
+  pub x : List ℕ
+  pub v : List ℕ
+  pub is : kids ≡ x ++ (v ++ rest)
+  pub required : AllWindowed ix ranges rs depth x (base + 64) (base + 64) nowhere
+  pub optional : AllWindowed ix ranges os depth v (base + 64) (base + 64) nowhere
+
+abbrev pub BooleanPre : List ℕ → Joined → List ℕ → List ℕ → List ℕ → List ℕ → List Float → ℕ → ℕ → ℕ → ℕ → List Float → ℕ → Type 0
+BooleanPre kids node postings positions norms ranges table a b base want sums depth =
+    (n : ℕ) × (ix : Index) × (places : ℕ) × (j : Joining) × (rs : Scorers) × (os : Scorers) × (rest : List ℕ) × (q : ℕ) × WindowLent ix n postings positions norms places a b base want × BooleanAsked ix ranges table places j rs os node depth rest kids base want q × Sums q sums
+
+abbrev pub BooleanPost : List ℕ → Joined → List ℕ → List ℕ → List ℕ → List ℕ → List Float → ℕ → ℕ → ℕ → ℕ → List Float → ℕ → List ℕ → List Float → Type 0
+BooleanPost kids node postings positions norms ranges table a b base want sums depth kids' sums' =
+    (n : ℕ) (ix : Index) (places : ℕ) (j : Joining) (rs os : Scorers) (rest : List ℕ) (q : ℕ) → WindowLent ix n postings positions norms places a b base want → BooleanAsked ix ranges table places j rs os node depth rest kids base want q → Sums q sums → Added (λ p. joinedScore j (requiredScores ix rs (base + p)) (narrowedSum (optionalScores ix os (base + p)))) want sums sums' × Sums (q + (nodesOf rs + nodesOf os)) sums' × BooleanLeft ix ranges rs os depth rest kids' base
+
+-- the required parts, where the group's sums are known
+pub record GroupAsked (ix : Index) (ranges : List ℕ) (table : List Float) (places : ℕ) (j : Joining) (rs os : Scorers) (n : Joined) (depth : ℕ) (kids : List ℕ) (base want q : ℕ) (group : List Float) : Type 0 where
+  pub required : RequiredAsked ix ranges table places rs depth kids base want 0
+  pub few : q + (nodesOf rs + nodesOf os) ≤ 256
+  pub joins : JoinsAt j rs n.afterwards n.group_at
+  pub group-is : (p : ℕ) → p < 64 → bit p want ≡ true → get_or group p nan ≡ sumFrom zeroFloat (optionalScores ix os (base + p))
+  pub group-sums : Sums (nodesOf os) group
+
+abbrev pub GroupPre : List ℕ → Joined → List Float → List ℕ → List ℕ → List ℕ → List ℕ → List Float → ℕ → ℕ → ℕ → ℕ → List Float → ℕ → Type 0
+GroupPre kids node group postings positions norms ranges table a b base want sums depth =
+    (n : ℕ) × (ix : Index) × (places : ℕ) × (j : Joining) × (rs : Scorers) × (os : Scorers) × (q : ℕ) × WindowLent ix n postings positions norms places a b base want × GroupAsked ix ranges table places j rs os node depth kids base want q group × Sums q sums
+
+abbrev pub GroupPost : List ℕ → Joined → List Float → List ℕ → List ℕ → List ℕ → List ℕ → List Float → ℕ → ℕ → ℕ → ℕ → List Float → ℕ → List ℕ → List Float → Type 0
+GroupPost kids node group postings positions norms ranges table a b base want sums depth kids' sums' =
+    (n : ℕ) (ix : Index) (places : ℕ) (j : Joining) (rs os : Scorers) (q : ℕ) → WindowLent ix n postings positions norms places a b base want → GroupAsked ix ranges table places j rs os node depth kids base want q group → Sums q sums → Added (λ p. joinedScore j (requiredScores ix rs (base + p)) (narrowedSum (optionalScores ix os (base + p)))) want sums sums' × Sums (q + (nodesOf rs + nodesOf os)) sums' × AllWindowed ix ranges rs depth kids' (base + 64) (base + 64) nowhere

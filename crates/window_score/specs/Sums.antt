@@ -1,0 +1,50 @@
+-- The sums of a window's 64 documents. Assumes nothing: these are definitions.
+use Rattle.std.specs.Prelude.{◌≡◌, true, List, ℕ, ◌+◌, ◌*◌, ◌^◌, ◌≤◌, ◌<◌, length, get_or, Float}
+use Rattle.std.specs.Float.{nan, binary64}
+use Rattle.std.specs.Float.Ieee.{add}
+use Rattle.meaning.specs.Ieee754.{sumFrom, narrow}
+use Rattle.ieee754.specs.Nonneg.{AtMost}
+use Rattle.bits.specs.Bit.{bit}
+
+-- 64 sums in f64, each of at most 2^29 for each of q leaves
+pub record Sums (q : ℕ) (sums : List Float) : Type 0 where
+  pub long : length sums ≡ 64
+  pub small : (p : ℕ) → p < 64 → AtMost (q * 2 ^ 29) (get_or sums p nan)
+
+-- the sums at the wanted places, with something done to each
+abbrev pub At : (ℕ → Float → Float) → ℕ → List Float → List Float → Type 0
+At f want sums sums' = (p : ℕ) → p < 64 → bit p want ≡ true → get_or sums' p nan ≡ f p (get_or sums p nan)
+
+-- one more score added
+abbrev pub Added : (ℕ → Float) → ℕ → List Float → List Float → Type 0
+Added score want sums sums' = At (λ p x. add binary64 x (score p)) want sums sums'
+
+-- some more
+abbrev pub AddedAll : (ℕ → List Float) → ℕ → List Float → List Float → Type 0
+AddedAll scores want sums sums' = At (λ p x. sumFrom x (scores p)) want sums sums'
+
+-- there is room for r leaves more
+abbrev pub RoomFor : ℕ → ℕ → List Float → Type 0
+RoomFor q r sums = (q + r ≤ 256) × Sums q sums
+
+-- a score of at most 2^29 for each of r leaves is added
+abbrev pub ConstantPre : Float → List Float → Type 0
+ConstantPre score sums = (q : ℕ) × (r : ℕ) × RoomFor q r sums × AtMost (r * 2 ^ 29) score
+
+abbrev pub ConstantPost : Float → ℕ → List Float → List Float → Type 0
+ConstantPost score want sums sums' = (q r : ℕ) → RoomFor q r sums → AtMost (r * 2 ^ 29) score → Added (λ p. score) want sums sums' × Sums (q + r) sums'
+
+-- other sums are narrowed and added
+abbrev pub NarrowedPre : List Float → List Float → Type 0
+NarrowedPre from sums = (q : ℕ) × (r : ℕ) × RoomFor q r sums × Sums r from
+
+abbrev pub NarrowedPost : List Float → ℕ → List Float → List Float → Type 0
+NarrowedPost from want sums sums' = (q r : ℕ) → RoomFor q r sums → Sums r from → Added (λ p. narrow (get_or from p nan)) want sums sums' × Sums (q + r) sums'
+
+-- two sums are narrowed, added, narrowed again and added
+abbrev pub JoinedPre : List Float → List Float → List Float → Type 0
+JoinedPre own group sums = (q : ℕ) × (r : ℕ) × (t : ℕ) × RoomFor q (r + t) sums × Sums r own × Sums t group
+
+abbrev pub JoinedPost : List Float → List Float → ℕ → List Float → List Float → Type 0
+JoinedPost own group want sums sums' =
+    (q r t : ℕ) → RoomFor q (r + t) sums → Sums r own → Sums t group → Added (λ p. narrow (add binary64 (narrow (get_or own p nan)) (narrow (get_or group p nan)))) want sums sums' × Sums (q + (r + t)) sums'

@@ -1,0 +1,98 @@
+// The scores of a term and of a phrase at the wanted documents of a window.
+ghost use Rattle.std.specs.Prelude.{◌≡◌, ◌≤◌, length, get_or};
+ghost use Rattle.window_score.specs.Asked.{TermPre, TermPost, PhrasePre, PhrasePost};
+ghost use Rattle.window_score.specs.Words.{PlanesRead, PlanedIs};
+ghost use Rattle.meaning.specs.Limits.{nodeStateWords};
+
+use crate::sums::add_constant;
+use ieee754::add_score;
+use index::postings::posting_frequency;
+use index::wide;
+use leaf_score::{node_at, weighted};
+use weight::NODE_STATE_WORDS;
+use window_leaf::phrases::{Planes, frequency_at};
+
+// A term's posting at a place: as many postings of the window stand before it as bits below it.
+pub fn term_scores(
+    st: &[u32],
+    postings: &[u32],
+    norms: &[u8],
+    inverses: &[f32],
+    base: u32,
+    want: u64,
+    sums: &mut [f64],
+)
+    requires { TermPre st.now postings.now norms.now inverses.now base want sums.old }
+    ensures { TermPost st.now postings.now norms.now inverses.now base want sums.old sums.new }
+{
+    let n = node_at(st);
+    if n.constant == 1 {
+        add_constant(f32::from_bits(n.weight), want, sums);
+        return;
+    }
+    let first = n.first + wide(st[19]);
+    let bits = bits::joined(st[20], st[21]);
+    let mut left = want;
+    while left != 0 {
+        let place = bits::lowest(left);
+        let frequency = posting_frequency(postings, first, wide(bits::rank(bits, place)));
+        let s = weighted(norms, inverses, n, frequency, base + place);
+        let at = wide(place);
+        sums[at] = add_score(sums[at], s);
+        left = bits::without_lowest(left);
+    }
+}
+
+fn planes_at(st: &[u32]) -> Planes
+    requires { nodeStateWords ≤ length st.now }
+    ensures { PlanesRead st.now result }
+{
+    Planes {
+        ones: bits::joined(st[23], st[24]),
+        twos: bits::joined(st[25], st[26]),
+    }
+}
+
+// The frequency at a place as the planes have it: 3 where it is 3 or more.
+fn planed(planes: Planes, place: u32) -> u32
+    requires { place < 64 }
+    ensures { PlanedIs planes place result }
+{
+    let one: u32 = if bits::is_set(planes.ones, place) { 1 } else { 0 };
+    if bits::is_set(planes.twos, place) {
+        return 2 + one;
+    }
+    one
+}
+
+// A frequency above 2 is worked out once more.
+pub fn phrase_scores(
+    st: &[u32],
+    postings: &[u32],
+    positions: &[u32],
+    norms: &[u8],
+    inverses: &[f32],
+    a: &mut [i32],
+    b: &mut [i32],
+    base: u32,
+    want: u64,
+    sums: &mut [f64],
+)
+    requires { PhrasePre st.now postings.now positions.now norms.now inverses.now (length a.old) (length b.old) base want sums.old }
+    ensures { PhrasePost st.now postings.now positions.now norms.now inverses.now (length a.old) (length b.old) base want sums.old sums.new }
+{
+    let n = node_at(st);
+    let planes = planes_at(st);
+    let mut left = want;
+    while left != 0 {
+        let place = bits::lowest(left);
+        let mut frequency = planed(planes, place);
+        if frequency == 3 {
+            frequency = frequency_at(&st[NODE_STATE_WORDS..], postings, positions, a, b, base, place);
+        }
+        let s = weighted(norms, inverses, n, frequency, base + place);
+        let at = wide(place);
+        sums[at] = add_score(sums[at], s);
+        left = bits::without_lowest(left);
+    }
+}

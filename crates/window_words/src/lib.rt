@@ -1,0 +1,1 @@
+// The words of a scorer tree that is asked by windows of 64 documents, as definitions.
