@@ -1,0 +1,1 @@
+-- The laws of the bits of a word.
