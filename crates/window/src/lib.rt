@@ -7,7 +7,7 @@ use run::document;
 
 // The bits, and where the cursor stands behind the window.
 #[derive(Clone, Copy)]
-pub struct Gathered {
+pub struct InWindow {
     pub bits: u64,
     pub at: usize,
 }
@@ -19,7 +19,7 @@ pub fn gathered(
     number: usize,
     from: usize,
     base: u32,
-) -> Gathered
+) -> InWindow
     requires { Ready words.now stride first number base from }
     ensures { Gathers words.now stride first number base from result.bits result.at }
 {
@@ -28,10 +28,10 @@ pub fn gathered(
     while i < number {
         let place = document(words, stride, first, i) - base;
         if 64 <= place {
-            return Gathered { bits: w, at: i };
+            return InWindow { bits: w, at: i };
         }
         w = bits::set_bit(w, place);
         i += 1;
     }
-    Gathered { bits: w, at: i }
+    InWindow { bits: w, at: i }
 }

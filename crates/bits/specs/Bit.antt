@@ -1,0 +1,23 @@
+-- The bits of a word, the lowest first. Assumes nothing: these are definitions.
+use Rattle.std.specs.Prelude.{◌≡◌, Bool, true, false, ℕ, zero, suc, ◌/◌, ◌%◌, ◌<◌, List}
+use Rattle.meaning.specs.Below.{listBelow}
+
+-- a digit is 1
+abbrev pub digit : ℕ → Bool
+digit zero = false
+digit (suc n) = true
+
+-- bit p of a word
+unfoldable pub bit : ℕ → ℕ → Bool
+bit zero w = digit (w % 2)
+bit (suc p) w = bit p (w / 2)
+
+-- the places of the bits that are set, ascending
+abbrev pub setBits : ℕ → List ℕ
+setBits w = listBelow 64 (λ p. bit p w)
+
+-- place t has the lowest bit that is set
+pub record LowestBit (w t : ℕ) : Type 0 where
+  pub within : t < 64
+  pub set : bit t w ≡ true
+  pub below : (q : ℕ) → q < t → bit q w ≡ false

@@ -1,0 +1,93 @@
+// The bits of a word: set, combined, counted, and gone through from the lowest one on.
+#![tactic(auto)]
+
+ghost use Rattle.std.specs.Prelude.{◌≡◌, not, ◌&&◌, ◌||◌, eqb, ltb, ℕ, ◌+◌, ◌-◌, ◌*◌, ◌/◌, ◌%◌, ◌≤◌, ◌<◌, ◌∷◌};
+ghost use Rattle.meaning.specs.Below.{countBelow};
+ghost use Rattle.bits.specs.Bit.{bit, setBits, LowestBit};
+
+pub fn set_bit(w: u64, p: u32) -> u64
+    requires { p < 64 }
+    ensures { (q : ℕ) → bit q result ≡ bit q w || eqb q p }
+{
+    w | 1u64 << p
+}
+
+// The bits of a that b does not have.
+pub fn without(a: u64, b: u64) -> u64
+    ensures { (q : ℕ) → q < 64 → bit q result ≡ bit q a && not (bit q b) }
+{
+    a & !b
+}
+
+pub fn both(a: u64, b: u64) -> u64
+    ensures { (q : ℕ) → bit q result ≡ bit q a && bit q b }
+{
+    a & b
+}
+
+pub fn either(a: u64, b: u64) -> u64
+    ensures { (q : ℕ) → bit q result ≡ bit q a || bit q b }
+{
+    a | b
+}
+
+pub fn lowest(w: u64) -> u32
+    requires { 0 < w }
+    ensures { LowestBit w result }
+{
+    w.trailing_zeros()
+}
+
+// A loop over the set bits takes `lowest` and goes on with the others.
+pub fn without_lowest(w: u64) -> u64
+    requires { 0 < w }
+    ensures smaller { result < w }
+    ensures others { (t : ℕ) → LowestBit w t → (q : ℕ) → bit q result ≡ bit q w && not (eqb q t) }
+    ensures listed { (t : ℕ) → LowestBit w t → setBits w ≡ t ∷ setBits result }
+{
+    w & (w - 1)
+}
+
+// How many bits are set below a place.
+pub fn rank(w: u64, p: u32) -> u32
+    requires { p < 64 }
+    ensures { result ≡ countBelow p (λ q. bit q w) }
+{
+    (w & ((1u64 << p) - 1)).count_ones()
+}
+
+// The bits below n alone.
+pub fn first_bits(n: u32) -> u64
+    requires { n < 64 }
+    ensures { (q : ℕ) → bit q result ≡ ltb q n }
+{
+    (1u64 << n) - 1
+}
+
+// A word and its two halves.
+pub fn joined(low: u32, high: u32) -> u64
+    ensures word { result ≡ low + 4294967296 * high }
+    ensures low_bits { (q : ℕ) → q < 32 → bit q result ≡ bit q low }
+    ensures high_bits { (q : ℕ) → 32 ≤ q → bit q result ≡ bit (q - 32) high }
+{
+    low as u64 + high as u64 * 4294967296
+}
+
+pub fn low(w: u64) -> u32
+    ensures { result ≡ w % 4294967296 }
+{
+    (w % 4294967296) as u32
+}
+
+pub fn high(w: u64) -> u32
+    ensures { result ≡ w / 4294967296 }
+{
+    (w / 4294967296) as u32
+}
+
+pub fn is_set(w: u64, p: u32) -> bool
+    requires { p < 64 }
+    ensures { result ≡ bit p w }
+{
+    (w >> p) % 2 == 1
+}
