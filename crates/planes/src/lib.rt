@@ -1,0 +1,42 @@
+// Counts at the 64 places of a word, as planes of bits: plane j has digit j of each count.
+#![tactic(auto)]
+
+ghost use Rattle.std.specs.Prelude.{◌≡◌, ◌&&◌, [], ◌∷◌, ◌++◌, ℕ, ◌+◌, ◌^◌, ◌≤◌, ◌<◌, ltb, length};
+ghost use Rattle.bits.specs.Bit.{bit};
+ghost use Rattle.planes.specs.Counts.{one, count};
+
+// Each place that x has counts one more; what is carried out of the last plane is returned.
+pub fn counted(planes: &mut [u64], x: u64) -> u64
+    ensures { (p : ℕ) → count p (planes.new ++ (result ∷ [])) ≡ one (bit p x) + count p planes.old }
+{
+    let mut carry = x;
+    let mut j: usize = 0;
+    while j < planes.len() {
+        let a = planes[j];
+        planes[j] = a ^ carry;
+        carry = a & carry;
+        j += 1;
+    }
+    carry
+}
+
+// The wanted places that count more than `least`.
+pub fn above(planes: &[u64], least: u32, want: u64) -> u64
+    requires few { length planes.now ≤ 31 }
+    requires within { least < 2 ^ length planes.now }
+    ensures { (p : ℕ) → p < 64 → bit p result ≡ bit p want && ltb least (count p planes.now) }
+{
+    let mut more: u64 = 0;
+    let mut equal = want;
+    let mut j = planes.len();
+    while 0 < j {
+        j -= 1;
+        if (least >> (j as u32)) % 2 == 1 {
+            equal = equal & planes[j];
+        } else {
+            more = more | (equal & planes[j]);
+            equal = equal & !planes[j];
+        }
+    }
+    more
+}
