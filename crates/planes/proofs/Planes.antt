@@ -54,6 +54,16 @@ unfolding count
 nothing-carried p r [] h = omega arith
 nothing-carried p r (a ∷ rest) h = ap (λ (n : ℕ). one (bit p a) + 2 * n) (nothing-carried p r rest (omega (arith, pow-suc 2 (length rest))))
 
+one-le : (b : Bool) → one b ≤ 1
+one-le true = omega arith
+one-le false = omega arith
+
+-- so a call of `counted` on n planes that have room leaves the counts in them
+pub one-more : (p r x n : ℕ) (planes old : List ℕ) → length planes ≡ n → count p (planes ++ (r ∷ [])) ≡ one (bit p x) + count p old → count p old + 1 < 2 ^ n → count p planes ≡ one (bit p x) + count p old
+one-more p r x n planes old l e h =
+    let room : count p (planes ++ (r ∷ [])) < 2 ^ length planes = rw l (omega (arith, one-le (bit p x))) in
+    nothing-carried p r planes room ∙ e
+
 -- the planes at the start
 pub count-zeros : (p n : ℕ) → count p (replicate n 0) ≡ 0
 unfolding count
