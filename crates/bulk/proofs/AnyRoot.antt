@@ -9,16 +9,13 @@ use lib.Dec.{T}
 use lib.ListN.{length, get_or}
 use lib.IntN.{ℤ}
 use lib.Ieee.{Float, binary32, nan_bits, of_bits}
-use Rattle.meaning.specs.Limits.{noMoreDocs, maxHits}
+use Rattle.meaning.specs.Limits.{noMoreDocs}
 use Rattle.meaning.specs.Lent.{Index}
 use Rattle.meaning.specs.Live.{isLive}
-use Rattle.meaning.specs.Hits.{hits}
-use Rattle.meaning.specs.Entries.{written}
 use Rattle.ieee754.specs.Nonneg.{AtMost}
 use Rattle.ieee754.proofs.Bounds.{zero-atmost}
 use Rattle.collector.specs.declared.TopScoreDocCollector.{TopScoreDocCollector}
-use Rattle.collector.specs.declared.TopDocs.{TopDocs}
-use Rattle.collector.specs.Collected.{Collected, Ready, Extended, Drawn, answer}
+use Rattle.collector.specs.Collected.{Ready, Extended}
 use Rattle.index.specs.Accepted.{Accepted}
 use Rattle.index.specs.Slices.{liveOnly}
 use Rattle.weight.specs.ScorerTree.{nothing, term, phrase, range, everything, Scoring, constant, weighted, Scorer, leaf, boolean, matches, leafMatches, leafScore, scorerScore}
@@ -31,8 +28,9 @@ use Rattle.leaf_score.proofs.Leaves.{read}
 use Rattle.leaf_score.proofs.Bounds.{zero-32}
 use Rattle.leaf_score.proofs.Weights.{float_back, float-number}
 use Rattle.bulk_term.specs.Postings.{NodeScores}
-use Rattle.bulk_term.proofs.LiveMatches.{live_of, live-there, not_live, not-below, is-match}
-use Rattle.bulk_term.proofs.Sofar.{Sofar, sofar-start, sofar-skip, sofar-ready, sofar-take, sofar-done}
+use Rattle.bulk_scorer.proofs.LiveMatches.{live_of, live-there, not_live, not-below, is-match}
+use Rattle.bulk_scorer.specs.Collects.{Continued}
+use Rattle.bulk_scorer.proofs.Sofar.{Sofar, sofar-start, sofar-skip, sofar-ready, sofar-take, sofar-done}
 use Rattle.bulk_term.proofs.Roots.{node-scores}
 
 -- ---- the score
@@ -94,25 +92,25 @@ module _ (documents : ℕ) (live : List ℕ) where
     pub any-root : (n : Node) → ((ix : Index) (sc : Scoring) (doc : ℕ) → NodeScores sc n → (r ≡ leafScore ix everything sc doc) × AtMost (2 ^ 29) r) → (ix : Index) (s : Scorer) → (W : AnyIs n ix s) → AnyRoot ix W.sc
     any-root n post ix s W = record { accepted = W.accepted; documents-are = W.documents-are; live-are = W.live-are; score-is = λ doc. (post ix W.sc doc W.scores).0; small = (post ix W.sc 0 W.scores).1 }
 
-    module _ (t : ℕ) (start : List ℤ) where
+    module _ (docBase : ℕ) (c₀ : TopScoreDocCollector) (heap₀ : List ℤ) where
       abbrev pub AnysAt : TopScoreDocCollector → List ℤ → ℕ → Type 0
-      AnysAt c heap doc = (ix : Index) (sc : Scoring) → AnyRoot ix sc → Sofar ix (leaf everything sc) t start c heap doc
+      AnysAt c heap doc = (ix : Index) (sc : Scoring) → AnyRoot ix sc → Sofar ix (leaf everything sc) docBase c₀ heap₀ c heap doc
 
-      pub any-start : (c : TopScoreDocCollector) → ((k : ℕ) (start : List ℤ) → 0 < k → k < 2 ^ 32 → length start ≡ k → Collected k t 0 [] start c start) → 0 < length start → length start ≤ maxHits → AnysAt c start 0
-      any-start c f least most ix sc R = sofar-start ix (leaf everything sc) t start c f least most
+      pub any-start : AnysAt c₀ heap₀ 0
+      any-start ix sc R = sofar-start ix (leaf everything sc) docBase c₀ heap₀
 
       module _ (c : TopScoreDocCollector) (heap : List ℤ) (doc : ℕ) (I : AnysAt c heap doc) where
-        pub any-ready : (ix : Index) (sc : Scoring) → AnyRoot ix sc → (to : ℕ) → doc ≤ to → Ready to c heap
-        any-ready ix sc R to l = sofar-ready ix (leaf everything sc) t start c heap doc (I ix sc R) to l
+        pub any-ready : (ix : Index) (sc : Scoring) → AnyRoot ix sc → Ready docBase c₀ heap₀ → (to : ℕ) → docBase + doc ≤ to → Ready to c heap
+        any-ready ix sc R start to l = sofar-ready ix (leaf everything sc) docBase c₀ heap₀ c heap doc (I ix sc R) start to l
 
-        pub any-done : documents ≤ doc → (d : TopDocs) (heap' : List ℤ) → Drawn c heap d heap' → (ix : Index) (s : Scorer) (sc : Scoring) → s ≡ leaf everything sc → AnyRoot ix sc → (d ≡ answer (length start) t (liveScored ix s)) × (heap' ≡ written (hits (length start) (liveScored ix s)) start)
-        any-done h d heap' x ix s sc e R =
+        pub any-done : documents ≡ doc → (ix : Index) (s : Scorer) (sc : Scoring) → s ≡ leaf everything sc → AnyRoot ix sc → Continued docBase documents (liveScored ix s) c₀ heap₀ c heap
+        any-done h ix s sc e R =
             rw e
-            (sofar-done ix (leaf everything sc) t start c heap doc (I ix sc R) (λ y a. not-below ix (leaf everything sc) y (omega (arith, R.documents-are))) d heap' x)
+            (sofar-done ix (leaf everything sc) docBase c₀ heap₀ c heap doc (I ix sc R) documents (omega (arith, h)) (λ y a. not-below ix (leaf everything sc) y (omega (arith, h, R.documents-are))))
 
         module _ (below : doc < documents) where
-          pub any-few : (ix : Index) (sc : Scoring) → AnyRoot ix sc → doc < noMoreDocs
-          any-few ix sc R = omega (arith, R.documents-are, R.accepted.documents)
+          pub any-few : docBase + documents ≤ noMoreDocs → docBase + doc < noMoreDocs
+          any-few few = omega (arith, few, below)
 
           pub any-bit : (ix : Index) (sc : Scoring) → AnyRoot ix sc → 0 < length live → doc < 64 * length live
           any-bit ix sc R = live-there ix live doc R.accepted R.live-are (omega (arith, R.documents-are))
@@ -121,15 +119,15 @@ module _ (documents : ℕ) (live : List ℕ) where
           pub any-pass : isLive (liveOnly live) doc ≡ false → AnysAt c heap (doc + 1)
           any-pass e ix sc R =
               let dead : liveMatch ix (leaf everything sc) doc ≡ false = not_live ix (leaf everything sc) doc (sym (live_of ix live doc R.live-are) ∙ e) in
-              sofar-skip ix (leaf everything sc) t start c heap doc (I ix sc R) (doc + 1) (omega arith)
+              sofar-skip ix (leaf everything sc) docBase c₀ heap₀ c heap doc (I ix sc R) (doc + 1) (omega arith)
               (λ x a b. let z : x ≡ doc = omega arith in subst (λ (y : ℕ). liveMatch ix (leaf everything sc) y ≡ false) (sym z) dead)
 
           -- a live one is collected
-          pub any-take : isLive (liveOnly live) doc ≡ true → (c' : TopScoreDocCollector) (heap' : List ℤ) → Extended (record { doc = doc; score = r }) c heap c' heap' → AnysAt c' heap' (doc + 1)
+          pub any-take : isLive (liveOnly live) doc ≡ true → (c' : TopScoreDocCollector) (heap' : List ℤ) → Extended (record { doc = docBase + doc; score = r }) c heap c' heap' → AnysAt c' heap' (doc + 1)
           unfolding matches leafMatches scorerScore
           any-take e c' heap' x ix sc R =
               let l : doc < ix.maxDoc = omega (arith, R.documents-are) in
-              sofar-take ix (leaf everything sc) t start c heap doc (I ix sc R) doc r c' heap' (omega (arith, R.accepted.documents)) (omega arith) (λ y a b. absurd (omega arith))
+              sofar-take ix (leaf everything sc) docBase c₀ heap₀ c heap doc (I ix sc R) doc r c' heap' (omega (arith, R.accepted.documents)) (omega arith) (λ y a b. absurd (omega arith))
               (is-match ix (leaf everything sc) doc l (sym (live_of ix live doc R.live-are) ∙ e) (lt-ltb doc ix.maxDoc l))
               (R.score-is doc)
               x

@@ -1,14 +1,13 @@
 // A root that matches everything: the live documents, one after the other, all with one score.
-ghost use Rattle.std.specs.Prelude.{◌≡◌, List, ℕ, ◌^◌, ◌≤◌, ◌<◌, length, get_or, Float};
-ghost use Rattle.meaning.specs.Limits.{maxHits};
+ghost use Rattle.std.specs.Prelude.{◌≡◌, List, ℕ, ◌^◌, get_or, Float};
 ghost use Rattle.meaning.specs.Lent.{Index};
 ghost use Rattle.ieee754.specs.Nonneg.{AtMost};
 ghost use Rattle.weight.specs.ScorerTree.{everything, Scoring, leafScore};
 ghost use Rattle.scorer.specs.Calls.{Lent};
-ghost use Rattle.bulk_default.specs.Collects.{CollectPre, CollectPost};
+ghost use Rattle.bulk_scorer.specs.Collects.{CollectPre, CollectPost};
 ghost use Rattle.bulk_term.specs.Postings.{NodeScores};
 
-use collector::{TopDocs, TopScoreDocCollector};
+use collector::TopScoreDocCollector;
 use leaf_score::Node;
 
 // The score of each document: what has no frequencies scores 0 by BM25.
@@ -22,26 +21,26 @@ fn one_score(n: Node) -> f32
     0.0
 }
 
-// The hits at the front of the lent heap, whose length is k; the root's words stay as they are.
+// The live documents to the collector, numbered on from a document base; the root's words stay as they are.
 pub fn collect_everything(
     st: &[u32],
     max_doc: u32,
     live: &[u64],
-    t: u32,
+    doc_base: u32,
+    c: TopScoreDocCollector,
     heap: &mut [i64],
-) -> TopDocs
-    requires heap_nonzero { (0 < length heap.old) × (length heap.old ≤ maxHits) }
-    requires by_index { (E : Lent) × (norms : List ℕ) × (table : List Float) × (places : ℕ) × (depth : ℕ) × (E.documents ≡ max_doc) × (get_or st.now 0 0 ≡ 5) × CollectPre E norms live.now table places st.now depth }
-    ensures { (E : Lent) (norms : List ℕ) (table : List Float) (places depth : ℕ) → E.documents ≡ max_doc → CollectPost E norms live.now table places st.now depth t heap.old result heap.new }
+) -> TopScoreDocCollector
+    requires { (E : Lent) × (norms : List ℕ) × (table : List Float) × (places : ℕ) × (depth : ℕ) × (E.documents ≡ max_doc) × (get_or st.now 0 0 ≡ 5) × CollectPre E norms live.now table places st.now depth doc_base c heap.old }
+    ensures { (E : Lent) (norms : List ℕ) (table : List Float) (places depth : ℕ) → E.documents ≡ max_doc → CollectPost E norms live.now table places st.now depth doc_base c heap.old result heap.new }
 {
     let s = one_score(leaf_score::node_at(st));
-    let mut c = TopScoreDocCollector::new(t as u64);
+    let mut c = c;
     let mut doc = 0;
     while doc < max_doc {
         if index::live::is_live(live, doc) {
-            c = c.stepped(heap, doc, s);
+            c = c.stepped(heap, doc_base + doc, s);
         }
         doc += 1;
     }
-    c.top_docs(heap)
+    c
 }

@@ -1,6 +1,4 @@
 -- The laws of the loop over a term at the root, and what the loops over a run or over documents share.
-pub mod Sofar
 pub mod PostingScores
-pub mod LiveMatches
 pub mod Roots
 pub mod TermRoot

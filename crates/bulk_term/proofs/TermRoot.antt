@@ -11,14 +11,13 @@ use lib.Dec.{T}
 use lib.ListN.{length, get_or}
 use lib.IntN.{ℤ}
 use lib.Ieee.{Float}
-use Rattle.meaning.specs.Limits.{noMoreDocs, maxHits}
+use Rattle.meaning.specs.Limits.{noMoreDocs}
 use Rattle.meaning.specs.Lent.{Index, leafCount, leafField, leafFirst, leafNumber, leafDocument}
 use Rattle.meaning.specs.Live.{isLive}
 use Rattle.meaning.specs.Postings.{postingAt, found, frequencyOf}
 use Rattle.ieee754.specs.Nonneg.{AtMost, signClear}
 use Rattle.collector.specs.declared.TopScoreDocCollector.{TopScoreDocCollector}
-use Rattle.collector.specs.declared.TopDocs.{TopDocs}
-use Rattle.collector.specs.Collected.{Collected, Ready, Extended, Drawn}
+use Rattle.collector.specs.Collected.{Ready, Extended}
 use Rattle.index.specs.Accepted.{Accepted}
 use Rattle.index.specs.Slices.{liveOnly}
 use Rattle.index.proofs.PostingAt.{posting-at, posting-none}
@@ -31,12 +30,12 @@ use Rattle.leaf_score.specs.declared.Node.{Node}
 use Rattle.leaf_score.specs.Words.{NodeIs}
 use Rattle.walk.specs.Walks.{liveMatch, PageHeld}
 use Rattle.leaf_score.proofs.Leaves.{read}
-use Rattle.bulk_default.specs.Collects.{CollectPost}
+use Rattle.bulk_scorer.specs.Collects.{RootHeld, CollectPost}
 use Rattle.bulk_term.specs.Postings.{NodeScores, PostingAsks}
-use Rattle.bulk_default.proofs.Collecting.{nonneg-clear}
-use Rattle.bulk_term.proofs.LiveMatches.{live_of, live-there, not-match, not_live, is-match}
+use Rattle.bulk_scorer.proofs.LiveMatches.{live_of, live-there, not-match, not_live, is-match}
 use Rattle.bulk_term.proofs.Roots.{node-scores}
-use Rattle.bulk_term.proofs.Sofar.{Sofar, sofar-start, sofar-skip, sofar-ready, sofar-take, sofar-done}
+use Rattle.bulk_scorer.proofs.Sofar.{nonneg-clear, Sofar, sofar-start, sofar-skip, sofar-ready, sofar-take, sofar-done}
+use Rattle.bulk_scorer.proofs.Held.{root-page}
 
 module _ (postings norms live : List ℕ) (table : List Float) (n : Node) where
   -- n is what is read of the words of leaf l of an accepted index that is lent
@@ -91,7 +90,7 @@ module _ (postings norms live : List ℕ) (table : List Float) (n : Node) where
     term-root ix (leaf everything sc) m H = let R = read st H.ok.1 H.ok.0 n H.ok.2 N in absurd (omega (arith, R.kind-is, N.kind-is, H.ok.4.0))
     term-root ix (boolean c j need rs os ps) m H = let p = H.ok in let R = read st (p.1 ++ (p.2 ++ p.3)) p.0 n p.4 N in absurd (omega (arith, R.kind-is, N.kind-is, p.7.kind-is))
 
-  module _ (t : ℕ) (start : List ℤ) where
+  module _ (docBase : ℕ) (c₀ : TopScoreDocCollector) (heap₀ : List ℤ) where
     -- the loop stands at posting i: those before it are passed
     pub record TermAt (ix : Index) (l : ℕ) (sc : Scoring) (c : TopScoreDocCollector) (heap : List ℤ) (at : ℕ) : Type 0 where
       pub i : ℕ
@@ -101,13 +100,13 @@ module _ (postings norms live : List ℕ) (table : List Float) (n : Node) where
       pub few : from ≤ ix.maxDoc
       pub passed : (j : ℕ) → j < i → leafDocument ix l j < from
       pub ahead : i < n.number → from ≤ leafDocument ix l i
-      pub sofar : Sofar ix (leaf (term l) sc) t start c heap from
+      pub sofar : Sofar ix (leaf (term l) sc) docBase c₀ heap₀ c heap from
 
     abbrev pub TermsAt : TopScoreDocCollector → List ℤ → ℕ → Type 0
     TermsAt c heap at = (ix : Index) (l : ℕ) (sc : Scoring) → TermRoot ix l sc → TermAt ix l sc c heap at
 
-    pub term-start : (c : TopScoreDocCollector) → ((k : ℕ) (start : List ℤ) → 0 < k → k < 2 ^ 32 → length start ≡ k → Collected k t 0 [] start c start) → 0 < length start → length start ≤ maxHits → (at : ℕ) → at ≡ 3 * n.first → TermsAt c start at
-    term-start c f least most at e ix l sc R =
+    pub term-start : (at : ℕ) → at ≡ 3 * n.first → TermsAt c₀ heap₀ at
+    term-start at e ix l sc R =
         record {
           i = 0;
           from = 0;
@@ -116,7 +115,7 @@ module _ (postings norms live : List ℕ) (table : List Float) (n : Node) where
           few = omega arith;
           passed = λ j h. absurd (omega arith);
           ahead = λ h. omega arith;
-          sofar = sofar-start ix (leaf (term l) sc) t start c f least most;
+          sofar = sofar-start ix (leaf (term l) sc) docBase c₀ heap₀;
         }
 
     -- the last posting ends within the postings
@@ -129,18 +128,14 @@ module _ (postings norms live : List ℕ) (table : List Float) (n : Node) where
     other ix l sc d h = not-match ix (leaf (term l) sc) d (ap found (posting-none ix l d h))
 
     module _ (c : TopScoreDocCollector) (heap : List ℤ) (at : ℕ) (I : TermsAt c heap at) where
-      pub term-top : (ix : Index) (l : ℕ) (sc : Scoring) → TermRoot ix l sc → Ready noMoreDocs c heap
-      term-top ix l sc R = let p = I ix l sc R in sofar-ready ix (leaf (term l) sc) t start c heap p.from p.sofar noMoreDocs (omega (arith, p.few, R.accepted.documents))
-
-      pub term-done : 3 * (n.first + n.number) ≤ at → (r : TopDocs) (heap' : List ℤ) → Drawn c heap r heap' → (st : List ℕ) → NodeIs st n → get_or st 0 0 ≡ 1 → (E : Lent) (places depth : ℕ) → E.postings ≡ postings → CollectPost E norms live table places st depth t start r heap'
-      term-done h r heap' d st N k E places depth same ix s scores H =
-          let W = term-root E places depth st N k same ix s scores H in
+      pub term-done : 3 * (n.first + n.number) ≤ at → (st : List ℕ) → NodeIs st n → get_or st 0 0 ≡ 1 → (E : Lent) (places depth : ℕ) → E.postings ≡ postings → CollectPost E norms live table places st depth docBase c₀ heap₀ c heap
+      term-done h st N k E places depth same ix s scores H =
+          let W = term-root E places depth st N k same ix s scores (root-page E norms live table ix places s depth scores st H) in
           let R = W.root in
           let p = I ix W.l W.sc R in
           rw W.is
-          (sofar-done ix (leaf (term W.l) W.sc) t start c heap p.from p.sofar
-          (λ x a. other ix W.l W.sc x (λ j m e. omega (arith, p.passed j (omega (arith, p.at-is, p.within, R.number_is)))))
-          r heap' d)
+          (sofar-done ix (leaf (term W.l) W.sc) docBase c₀ heap₀ c heap p.from p.sofar E.documents (omega (arith, p.few, H.lends.documents))
+          (λ x a. other ix W.l W.sc x (λ j m e. omega (arith, p.passed j (omega (arith, p.at-is, p.within, R.number_is))))))
 
       module _ (below : at < 3 * (n.first + n.number)) (doc : ℕ) (doc-is : doc ≡ get_or postings at 0) where
         module _ (ix : Index) (l : ℕ) (sc : Scoring) (R : TermRoot ix l sc) where
@@ -156,8 +151,8 @@ module _ (postings norms live : List ℕ) (table : List Float) (n : Node) where
           pub term-below : doc < ix.maxDoc
           term-below = omega (arith, document, (R.accepted.posting l p.i R.leaf-there inside).document)
 
-          pub term-small : doc < noMoreDocs
-          term-small = omega (arith, term-below, R.accepted.documents)
+          pub term-small : docBase + ix.maxDoc ≤ noMoreDocs → docBase + doc < noMoreDocs
+          term-small few = omega (arith, term-below, few)
 
           pub term-bit : 0 < length live → doc < 64 * length live
           term-bit = live-there ix live doc R.accepted R.live-are term-below
@@ -165,8 +160,8 @@ module _ (postings norms live : List ℕ) (table : List Float) (n : Node) where
           from-here : p.from ≤ doc
           from-here = omega (arith, document, p.ahead (omega (arith, R.number_is, inside)))
 
-          pub term-ready : Ready doc c heap
-          term-ready = sofar-ready ix (leaf (term l) sc) t start c heap p.from p.sofar doc from-here
+          pub term-ready : Ready docBase c₀ heap₀ → Ready (docBase + doc) c heap
+          term-ready start = sofar-ready ix (leaf (term l) sc) docBase c₀ heap₀ c heap p.from p.sofar start (docBase + doc) (omega (arith, from-here))
 
           here : postingAt ix l doc ≡ some p.i
           here = posting-at ix l doc (R.accepted.ascending l R.leaf-there) p.i inside (sym document)
@@ -193,7 +188,7 @@ module _ (postings norms live : List ℕ) (table : List Float) (n : Node) where
               (λ j m e. ⊎_elim (λ h. omega (arith, p.passed j h)) (λ h. ⊎_elim (λ q. omega (arith, document, ap (leafDocument ix l) q)) (λ q. omega (arith, document, R.accepted.ascending l R.leaf-there p.i j q m)) (eq-or-lt_of_le h)) (cmp j p.i))
 
           -- on to the next posting
-          next-at : (c' : TopScoreDocCollector) (heap' : List ℤ) → Sofar ix (leaf (term l) sc) t start c' heap' (doc + 1) → TermAt ix l sc c' heap' (at + 3)
+          next-at : (c' : TopScoreDocCollector) (heap' : List ℤ) → Sofar ix (leaf (term l) sc) docBase c₀ heap₀ c' heap' (doc + 1) → TermAt ix l sc c' heap' (at + 3)
           next-at c' heap' s =
               record {
                 i = p.i + 1;
@@ -212,7 +207,7 @@ module _ (postings norms live : List ℕ) (table : List Float) (n : Node) where
             let q = p ix l sc R in
             let dead : liveMatch ix (leaf (term l) sc) doc ≡ false = not_live ix (leaf (term l) sc) doc (sym (live_of ix live doc R.live-are) ∙ e) in
             next-at ix l sc R c heap
-            (sofar-skip ix (leaf (term l) sc) t start c heap q.from q.sofar (doc + 1) (omega (arith, from-here ix l sc R))
+            (sofar-skip ix (leaf (term l) sc) docBase c₀ heap₀ c heap q.from q.sofar (doc + 1) (omega (arith, from-here ix l sc R))
             (λ x a b. ⊎_elim (λ (z : x ≡ doc). subst (λ (y : ℕ). liveMatch ix (leaf (term l) sc) y ≡ false) (sym z) dead) (λ (z : suc x ≤ doc). between ix l sc R x a z) (eq-or-lt_of_le {n = x} {m = doc} (omega arith))))
 
         module _ (frequency : ℕ) (frequency-is : frequency ≡ get_or postings (at + 1) 0) (r : Float) (post : (ix : Index) (l : ℕ) (sc : Scoring) → PostingAsks ix table norms l sc n frequency doc → (r ≡ leafScore ix (term l) sc doc) × AtMost (2 ^ 29) r) where
@@ -220,12 +215,12 @@ module _ (postings norms live : List ℕ) (table : List Float) (n : Node) where
           term-clear ix l sc R = nonneg-clear r (post ix l sc (term_asks ix l sc R frequency frequency-is)).1.sign
 
           -- a live one is collected
-          pub term-take : isLive (liveOnly live) doc ≡ true → (c' : TopScoreDocCollector) (heap' : List ℤ) → Extended (record { doc = doc; score = r }) c heap c' heap' → TermsAt c' heap' (at + 3)
+          pub term-take : isLive (liveOnly live) doc ≡ true → (c' : TopScoreDocCollector) (heap' : List ℤ) → Extended (record { doc = docBase + doc; score = r }) c heap c' heap' → TermsAt c' heap' (at + 3)
           unfolding matches leafMatches scorerScore
           term-take e c' heap' x ix l sc R =
               let q = p ix l sc R in
               next-at ix l sc R c' heap'
-              (sofar-take ix (leaf (term l) sc) t start c heap q.from q.sofar doc r c' heap' (omega (arith, R.accepted.documents)) (from-here ix l sc R) (between ix l sc R)
+              (sofar-take ix (leaf (term l) sc) docBase c₀ heap₀ c heap q.from q.sofar doc r c' heap' (omega (arith, R.accepted.documents)) (from-here ix l sc R) (between ix l sc R)
               (is-match ix (leaf (term l) sc) doc (term-below ix l sc R) (sym (live_of ix live doc R.live-are) ∙ e) (ap found (here ix l sc R)))
               (post ix l sc (term_asks ix l sc R frequency frequency-is)).0
               x)

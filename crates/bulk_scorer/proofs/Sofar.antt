@@ -7,10 +7,10 @@ use Prim.Native.Nat.{ℕ, zero, suc, ◌+◌, ◌^◌, ◌≤◌, ◌<◌}
 use native.Mathlib.Nat.{le_refl}
 use native.Mathlib.Omega.{arith}
 use borrow.Author.Tests.{le-leb, lt-leb, lt-ltb}
-use lib.Dec.{leb}
+use lib.Dec.{T, leb}
 use lib.ListN.{length}
 use lib.IntN.{ℤ}
-use lib.Ieee.{Float}
+use lib.Ieee.{Float, nan, inf, fin}
 use Rattle.meaning.specs.Below.{listBelow}
 use Rattle.meaning.specs.Limits.{noMoreDocs, maxHits}
 use Rattle.meaning.specs.Lent.{Index}
@@ -18,17 +18,26 @@ use Rattle.meaning.specs.Live.{isLive}
 use Rattle.meaning.specs.First.{First}
 use Rattle.meaning.specs.FullList.{ScoreDoc}
 use Rattle.meaning.specs.Pages.{fromTarget}
-use Rattle.meaning.specs.Hits.{hits}
-use Rattle.meaning.specs.Entries.{written}
+use Rattle.ieee754.specs.Nonneg.{nonneg, signClear}
 use Rattle.collector.specs.declared.TopScoreDocCollector.{TopScoreDocCollector}
-use Rattle.collector.specs.declared.TopDocs.{TopDocs}
-use Rattle.collector.specs.Collected.{Collected, Ready, Extended, Drawn, answer}
+use Rattle.collector.specs.Collected.{Collected, Ready, Extended}
 use Rattle.collector.proofs.Beginning.{ready_at, collected-later}
 use Rattle.meaning.proofs.Tests.{cmp}
 use Rattle.weight.specs.ScorerTree.{Scorer, matches, scorerScore}
 use Rattle.walk.specs.Walks.{liveMatch, scored, liveScored}
 use Rattle.walk.proofs.Pages.{match_is, walk-next}
-use Rattle.bulk_default.proofs.Collecting.{from_zero}
+use Rattle.bulk_scorer.specs.Collects.{numbered, Continued}
+
+-- every document is at or after 0
+from_zero : (list : List ScoreDoc) → fromTarget 0 list ≡ list
+unfolding fromTarget
+from_zero [] = refl
+from_zero (h ∷ hs) = let e : leb 0 h.doc ≡ true = le-leb 0 h.doc (omega arith) in ap (λ (b : Bool). cond b (h ∷ []) [] ++ fromTarget 0 hs) e ∙ ap (λ (l : List ScoreDoc). h ∷ l) (from_zero hs)
+
+pub nonneg-clear : (x : Float) → T (nonneg x) → T (signClear x)
+nonneg-clear nan p = p
+nonneg-clear (inf s) p = absurd p
+nonneg-clear (fin s m e) p = p
 
 from-append : (t : ℕ) (xs ys : List ScoreDoc) → fromTarget t (xs ++ ys) ≡ fromTarget t xs ++ fromTarget t ys
 unfolding fromTarget
@@ -38,6 +47,10 @@ from-append t (x ∷ xs) ys = ap (λ (l : List ScoreDoc). cond (leb t x.doc) (x 
 map-append : (f : ℕ → ScoreDoc) (xs ys : List ℕ) → map f (xs ++ ys) ≡ map f xs ++ map f ys
 map-append f [] ys = refl
 map-append f (x ∷ xs) ys = ap (λ (l : List ScoreDoc). f x ∷ l) (map-append f xs ys)
+
+numbered-append : (docBase : ℕ) (xs ys : List ScoreDoc) → map (numbered docBase) (xs ++ ys) ≡ map (numbered docBase) xs ++ map (numbered docBase) ys
+numbered-append docBase [] ys = refl
+numbered-append docBase (x ∷ xs) ys = ap (λ (l : List ScoreDoc). numbered docBase x ∷ l) (numbered-append docBase xs ys)
 
 module _ (f : ℕ → ScoreDoc) (doc-is : (d : ℕ) → (f d).doc ≡ d) (p : ℕ → Bool) where
   -- those below n, from t on
@@ -107,47 +120,69 @@ module _ (ix : Index) (s : Scorer) where
   unfolding liveScored Left
   none-live from h = none_left (scored ix s) (λ d. refl) (λ d. isLive ix d && matches ix s d) ix.maxDoc from (λ d a b. live_below d b (h d a))
 
-  module _ (t : ℕ) (start : List ℤ) where
-    -- the live matches before a document are collected
+  module _ (docBase : ℕ) (c₀ : TopScoreDocCollector) (heap₀ : List ℤ) where
+    -- the live matches before a document are collected, after what was collected at the start
     pub record Sofar (c : TopScoreDocCollector) (heap : List ℤ) (from : ℕ) : Type 0 where
-      pub xs : List ScoreDoc
-      pub all : liveScored ix s ≡ xs ++ fromTarget from (liveScored ix s)
-      pub collected : Collected (length start) t from xs start c heap
+      pub ys : List ScoreDoc
+      pub all : liveScored ix s ≡ ys ++ fromTarget from (liveScored ix s)
+      pub collected : (k t b : ℕ) (xs : List ScoreDoc) (start : List ℤ) → b ≤ docBase → Collected k t b xs start c₀ heap₀ → Collected k t (docBase + from) (xs ++ map (numbered docBase) ys) start c heap
 
-    pub sofar-start : (c : TopScoreDocCollector) → ((k : ℕ) (start : List ℤ) → 0 < k → k < 2 ^ 32 → length start ≡ k → Collected k t 0 [] start c start) → 0 < length start → length start ≤ maxHits → Sofar c start 0
-    sofar-start c f some most = record { xs = []; all = sym (from_zero (liveScored ix s)); collected = f (length start) start some (omega (arith, most)) refl }
+    pub sofar-start : Sofar c₀ heap₀ 0
+    sofar-start =
+        record {
+          ys = [];
+          all = sym (from_zero (liveScored ix s));
+          collected = λ k t b xs start l p. subst (λ (z : List ScoreDoc). Collected k t (docBase + 0) z start c₀ heap₀) (sym (append-nil xs)) (collected-later k t b (docBase + 0) xs start c₀ heap₀ (omega (arith, l)) p);
+        }
 
     module _ (c : TopScoreDocCollector) (heap : List ℤ) (from : ℕ) (i : Sofar c heap from) where
       -- none is live before `to`
       pub sofar-skip : (to : ℕ) → from ≤ to → ((d : ℕ) → from ≤ d → d < to → liveMatch ix s d ≡ false) → Sofar c heap to
       sofar-skip to l h =
           record {
-            xs = i.xs;
-            all = i.all ∙ ap (λ (z : List ScoreDoc). i.xs ++ z) (skipped from to l h);
-            collected = collected-later (length start) t from to i.xs start c heap l i.collected;
+            ys = i.ys;
+            all = i.all ∙ ap (λ (z : List ScoreDoc). i.ys ++ z) (skipped from to l h);
+            collected = λ k t b xs start m p. collected-later k t (docBase + from) (docBase + to) (xs ++ map (numbered docBase) i.ys) start c heap (omega (arith, l)) (i.collected k t b xs start m p);
           }
 
       -- the collector can be handed a document at or after `from`
-      pub sofar-ready : (doc : ℕ) → from ≤ doc → Ready doc c heap
-      sofar-ready doc l = ready_at (length start) t from i.xs start c heap doc l i.collected
+      pub sofar-ready : Ready docBase c₀ heap₀ → (doc : ℕ) → docBase + from ≤ doc → Ready doc c heap
+      sofar-ready R doc l =
+          let q = i.collected (length heap₀) R.t R.b R.list R.start R.before R.collected in
+          record {
+            t = R.t;
+            b = docBase + from;
+            list = R.list ++ map (numbered docBase) i.ys;
+            start = R.start;
+            before = l;
+            collected = subst (λ (k : ℕ). Collected k R.t (docBase + from) (R.list ++ map (numbered docBase) i.ys) R.start c heap) (sym q.places) q;
+          }
 
       -- d is the next live match, and is collected
-      pub sofar-take : (d : ℕ) (r : Float) (c' : TopScoreDocCollector) (heap' : List ℤ) → ix.maxDoc ≤ noMoreDocs → from ≤ d → ((x : ℕ) → from ≤ x → x < d → liveMatch ix s x ≡ false) → liveMatch ix s d ≡ true → r ≡ scorerScore ix s d → Extended (record { doc = d; score = r }) c heap c' heap' → Sofar c' heap' (d + 1)
+      pub sofar-take : (d : ℕ) (r : Float) (c' : TopScoreDocCollector) (heap' : List ℤ) → ix.maxDoc ≤ noMoreDocs → from ≤ d → ((x : ℕ) → from ≤ x → x < d → liveMatch ix s x ≡ false) → liveMatch ix s d ≡ true → r ≡ scorerScore ix s d → Extended (record { doc = docBase + d; score = r }) c heap c' heap' → Sofar c' heap' (d + 1)
       sofar-take d r c' heap' few l h m e x =
           let b = (match_is ix s d m).0 in
           let q : First (liveMatch ix s) from d = record { from = l; top = omega (arith, b); before = h; hit = λ _. m } in
           let z = scored ix s d in
           let one : suc d ≡ d + 1 = omega arith in
-          let k : record { doc = d; score = r } ≡ z = ap (λ (f : Float). record { doc = d; score = f }) e in
+          let k : record { doc = docBase + d; score = r } ≡ numbered docBase z = ap (λ (f : Float). record { doc = docBase + d; score = f }) e in
           record {
-            xs = i.xs ++ (z ∷ []);
-            all = i.all ∙ ap (λ (y : List ScoreDoc). i.xs ++ y) (walk-next ix s from d q (omega (arith, b))) ∙ sym (append_assoc i.xs (z ∷ []) (fromTarget (suc d) (liveScored ix s))) ∙ ap (λ (j : ℕ). (i.xs ++ (z ∷ [])) ++ fromTarget j (liveScored ix s)) one;
-            collected = subst (λ (y : ScoreDoc). Collected (length start) t (d + 1) (i.xs ++ (y ∷ [])) start c' heap') k (x.extended (length start) t from i.xs start l i.collected);
+            ys = i.ys ++ (z ∷ []);
+            all = i.all ∙ ap (λ (y : List ScoreDoc). i.ys ++ y) (walk-next ix s from d q (omega (arith, b))) ∙ sym (append_assoc i.ys (z ∷ []) (fromTarget (suc d) (liveScored ix s))) ∙ ap (λ (j : ℕ). (i.ys ++ (z ∷ [])) ++ fromTarget j (liveScored ix s)) one;
+            collected = λ kk t b₀ xs start a p.
+                let more = x.extended kk t (docBase + from) (xs ++ map (numbered docBase) i.ys) start (omega (arith, l)) (i.collected kk t b₀ xs start a p) in
+                let bound : docBase + d + 1 ≡ docBase + (d + 1) = omega arith in
+                let list : (xs ++ map (numbered docBase) i.ys) ++ (record { doc = docBase + d; score = r } ∷ []) ≡ xs ++ map (numbered docBase) (i.ys ++ (z ∷ [])) =
+                append_assoc xs (map (numbered docBase) i.ys) (record { doc = docBase + d; score = r } ∷ []) ∙ ap (λ (y : ScoreDoc). xs ++ (map (numbered docBase) i.ys ++ (y ∷ []))) k ∙ ap (λ (y : List ScoreDoc). xs ++ y) (sym (numbered-append docBase i.ys (z ∷ []))) in
+                subst (λ (y : List ScoreDoc). Collected kk t (docBase + (d + 1)) y start c' heap') list (subst (λ (j : ℕ). Collected kk t j ((xs ++ map (numbered docBase) i.ys) ++ (record { doc = docBase + d; score = r } ∷ [])) start c' heap') bound more);
           }
 
-      -- none is live from here on: the collector's answer is the answer of all
-      pub sofar-done : ((d : ℕ) → from ≤ d → liveMatch ix s d ≡ false) → (r : TopDocs) (heap' : List ℤ) → Drawn c heap r heap' → (r ≡ answer (length start) t (liveScored ix s)) × (heap' ≡ written (hits (length start) (liveScored ix s)) start)
-      sofar-done h r heap' d =
-          let e : i.xs ≡ liveScored ix s = sym (i.all ∙ ap (λ (z : List ScoreDoc). i.xs ++ z) (none-live from h) ∙ append-nil i.xs) in
-          let q = d.drawn (length start) t from i.xs start i.collected in
-          (q.0 ∙ ap (answer (length start) t) e, q.1 ∙ ap (λ (z : List ScoreDoc). written (hits (length start) z) start) e)
+      -- none is live from here on: all are collected
+      pub sofar-done : (n : ℕ) → from ≤ n → ((d : ℕ) → from ≤ d → liveMatch ix s d ≡ false) → Continued docBase n (liveScored ix s) c₀ heap₀ c heap
+      sofar-done n l h =
+          let e : i.ys ≡ liveScored ix s = sym (i.all ∙ ap (λ (z : List ScoreDoc). i.ys ++ z) (none-live from h) ∙ append-nil i.ys) in
+          record {
+            continued = λ k t b xs start a p.
+                subst (λ (z : List ScoreDoc). Collected k t (docBase + n) (xs ++ map (numbered docBase) z) start c heap) e
+                (collected-later k t (docBase + from) (docBase + n) (xs ++ map (numbered docBase) i.ys) start c heap (omega (arith, l)) (i.collected k t b xs start a p));
+          }

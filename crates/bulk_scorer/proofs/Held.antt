@@ -1,0 +1,21 @@
+-- A root that is not asked yet can be walked from the first document on. Assumes nothing.
+use Rattle.std.proofs.Common.{List, ℕ, ◌≤◌, arith}
+use Rattle.std.specs.Prelude.{Float}
+use Rattle.meaning.specs.Limits.{noMoreDocs, nodeStateWords}
+use Rattle.meaning.specs.Lent.{Index}
+use Rattle.weight.specs.ScorerTree.{Scorer}
+use Rattle.weight.specs.Held.{Ok}
+use Rattle.leaf_scorer.specs.Calls.{Lent}
+use Rattle.leaf_scorer.proofs.Bounds.{ok-mono}
+use Rattle.walk.specs.Walks.{PageHeld}
+use Rattle.window_words.specs.Windowed.{nowhere}
+use Rattle.window_words.proofs.Laws.{windowed-ok}
+use Rattle.bulk_scorer.specs.Collects.{RootHeld}
+
+module _ (E : Lent) (norms live : List ℕ) (table : List Float) (ix : Index) (places : ℕ) (s : Scorer) (depth scores : ℕ) (st : List ℕ) (H : RootHeld E norms live table ix places s depth scores st) where
+  pub root-page : PageHeld E norms live table ix places s depth scores st 0
+  root-page = record { lends = H.lends; norms-are = H.norms-are; live-are = H.live-are; scorable = H.scorable; ok = windowed-ok ix E.ranges s depth scores st 0 0 nowhere (omega arith) H.held }
+
+  -- words that stay hold the tree, asked for every document
+  pub root-end : Ok ix E.ranges s depth scores st noMoreDocs
+  root-end = ok-mono ix E.ranges s depth scores st 0 noMoreDocs (omega arith) root-page.ok

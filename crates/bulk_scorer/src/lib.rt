@@ -1,0 +1,1 @@
+// What a bulk scorer asks and gives: the loops from a root to the collector have one contract.

@@ -1,6 +1,0 @@
--- The laws of the windows.
-pub mod Fresh
-pub mod Adding
-pub mod AddingTerms
-pub mod Placing
-pub mod WindowRoots
