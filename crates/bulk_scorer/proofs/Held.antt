@@ -1,5 +1,5 @@
 -- A root that is not asked yet can be walked from the first document on. Assumes nothing.
-use Rattle.std.proofs.Common.{List, ℕ, ◌≤◌, arith}
+use Rattle.std.proofs.Common.{List, ℕ, ◌≤◌, length, arith}
 use Rattle.std.specs.Prelude.{Float}
 use Rattle.meaning.specs.Limits.{noMoreDocs, nodeStateWords}
 use Rattle.meaning.specs.Lent.{Index}
@@ -9,7 +9,7 @@ use Rattle.leaf_scorer.specs.Calls.{Lent}
 use Rattle.leaf_scorer.proofs.Bounds.{ok-mono}
 use Rattle.walk.specs.Walks.{PageHeld}
 use Rattle.window_words.specs.Windowed.{nowhere}
-use Rattle.window_words.proofs.Laws.{windowed-ok}
+use Rattle.window_words.proofs.Laws.{windowed-long, windowed-ok}
 use Rattle.bulk_scorer.specs.Collects.{RootHeld}
 
 module _ (E : Lent) (norms live : List ℕ) (table : List Float) (ix : Index) (places : ℕ) (s : Scorer) (depth scores : ℕ) (st : List ℕ) (H : RootHeld E norms live table ix places s depth scores st) where
@@ -19,3 +19,6 @@ module _ (E : Lent) (norms live : List ℕ) (table : List Float) (ix : Index) (p
   -- words that stay hold the tree, asked for every document
   pub root-end : Ok ix E.ranges s depth scores st noMoreDocs
   root-end = ok-mono ix E.ranges s depth scores st 0 noMoreDocs (omega arith) root-page.ok
+
+  pub root-words : nodeStateWords ≤ length st
+  root-words = windowed-long ix E.ranges s depth scores st 0 0 nowhere H.held

@@ -3,7 +3,7 @@ use mathlib.Core.Path.{◌≡◌, refl, sym, ap, subst, ◌∙◌}
 use mathlib.Core.Logic.{⊎_elim}
 use mathlib.Core.Bool.{Bool, true, false, cond, ◌&&◌}
 use mathlib.Core.List.{List, [], ◌∷◌, ◌++◌, map, append_assoc, append-nil}
-use Prim.Native.Nat.{ℕ, zero, suc, ◌+◌, ◌^◌, ◌≤◌, ◌<◌}
+use Prim.Native.Nat.{ℕ, zero, suc, ◌+◌, ◌≤◌, ◌<◌}
 use native.Mathlib.Nat.{le_refl}
 use native.Mathlib.Omega.{arith}
 use borrow.Author.Tests.{le-leb, lt-leb, lt-ltb}
@@ -12,7 +12,7 @@ use lib.ListN.{length}
 use lib.IntN.{ℤ}
 use lib.Ieee.{Float, nan, inf, fin}
 use Rattle.meaning.specs.Below.{listBelow}
-use Rattle.meaning.specs.Limits.{noMoreDocs, maxHits}
+use Rattle.meaning.specs.Limits.{noMoreDocs}
 use Rattle.meaning.specs.Lent.{Index}
 use Rattle.meaning.specs.Live.{isLive}
 use Rattle.meaning.specs.First.{First}
@@ -21,7 +21,7 @@ use Rattle.meaning.specs.Pages.{fromTarget}
 use Rattle.ieee754.specs.Nonneg.{nonneg, signClear}
 use Rattle.collector.specs.declared.TopScoreDocCollector.{TopScoreDocCollector}
 use Rattle.collector.specs.Collected.{Collected, Ready, Extended}
-use Rattle.collector.proofs.Beginning.{ready_at, collected-later}
+use Rattle.collector.proofs.Beginning.{collected-later}
 use Rattle.meaning.proofs.Tests.{cmp}
 use Rattle.weight.specs.ScorerTree.{Scorer, matches, scorerScore}
 use Rattle.walk.specs.Walks.{liveMatch, scored, liveScored}

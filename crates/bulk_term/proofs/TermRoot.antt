@@ -30,7 +30,7 @@ use Rattle.leaf_score.specs.declared.Node.{Node}
 use Rattle.leaf_score.specs.Words.{NodeIs}
 use Rattle.walk.specs.Walks.{liveMatch, PageHeld}
 use Rattle.leaf_score.proofs.Leaves.{read}
-use Rattle.bulk_scorer.specs.Collects.{RootHeld, CollectPost}
+use Rattle.bulk_scorer.specs.Collects.{RootHeld, CollectPre, CollectPost}
 use Rattle.bulk_term.specs.Postings.{NodeScores, PostingAsks}
 use Rattle.bulk_scorer.proofs.LiveMatches.{live_of, live-there, not-match, not_live, is-match}
 use Rattle.bulk_term.proofs.Roots.{node-scores}
@@ -89,6 +89,21 @@ module _ (postings norms live : List ℕ) (table : List Float) (n : Node) where
     term-root ix (leaf (range r) sc) m H = let R = read st H.ok.1 H.ok.0 n H.ok.2 N in absurd (omega (arith, R.kind-is, N.kind-is, H.ok.4.0.kind-is))
     term-root ix (leaf everything sc) m H = let R = read st H.ok.1 H.ok.0 n H.ok.2 N in absurd (omega (arith, R.kind-is, N.kind-is, H.ok.4.0))
     term-root ix (boolean c j need rs os ps) m H = let p = H.ok in let R = read st (p.1 ++ (p.2 ++ p.3)) p.0 n p.4 N in absurd (omega (arith, R.kind-is, N.kind-is, p.7.kind-is))
+
+  -- what a call asks, and what is read of its words
+  abbrev pub Asked : List ℕ → ℕ → TopScoreDocCollector → List ℤ → Type 0
+  Asked st docBase c heap = (E : Lent) × (places : ℕ) × (depth : ℕ) × (E.postings ≡ postings) × (get_or st 0 0 ≡ 1) × CollectPre E norms live table places st depth docBase c heap
+
+  module _ (st : List ℕ) (docBase : ℕ) (c : TopScoreDocCollector) (heap : List ℤ) (q : Asked st docBase c heap) where
+    asked-page : PageHeld q.0 norms live table q.5.2.0 q.1 q.5.2.1 q.2 q.5.2.2 st 0
+    asked-page = root-page q.0 norms live table q.5.2.0 q.1 q.5.2.1 q.2 q.5.2.2 st q.5.2.3
+
+    pub asked-root : (N : NodeIs st n) → RootIs q.0 q.1 q.2 st N q.4 q.3 q.5.2.0 q.5.2.1
+    asked-root N = term-root q.0 q.1 q.2 st N q.4 q.3 q.5.2.0 q.5.2.1 q.5.2.2 asked-page
+
+    -- so many documents are numbered on
+    pub asked-few : docBase + q.5.2.0.maxDoc ≤ noMoreDocs
+    asked-few = omega (arith, q.5.0, q.5.2.3.lends.documents)
 
   module _ (docBase : ℕ) (c₀ : TopScoreDocCollector) (heap₀ : List ℤ) where
     -- the loop stands at posting i: those before it are passed

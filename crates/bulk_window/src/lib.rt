@@ -1,10 +1,10 @@
 // Any scorer tree in windows of 64 documents: which documents of a window it matches, then the scores of those, then each to the collector.
 #![tactic(auto)]
 
-ghost use Rattle.std.specs.Prelude.{◌≡◌, ◌%◌, ◌*◌, ◌≤◌, ◌<◌, length, min};
+ghost use Rattle.std.specs.Prelude.{◌≡◌, ◌+◌, ◌*◌, ◌%◌, ◌≤◌, ◌<◌, length, min};
 ghost use Rattle.leaf_scorer.specs.Calls.{lent};
 ghost use Rattle.bulk_scorer.specs.Collects.{CollectPre, CollectPost, CollectEnd};
-ghost use Rattle.bulk_window.specs.Windows.{LiveBits, NextWindow, PlacesPre, PlacesPost, WindowPre, WindowPost};
+ghost use Rattle.bulk_window.specs.Windows.{LiveWord, LiveBits, NextWindow, PlacesPre, PlacesPost, WindowPre, WindowPost};
 
 use collector::TopScoreDocCollector;
 use index::wide;
@@ -14,13 +14,25 @@ use window_score::node_scores;
 // Every document of a window.
 const ALL: u64 = 18446744073709551615;
 
+// The live words of a window; no words at all means that all are live.
+fn live_word(live: &[u64], base: u32) -> u64
+    requires whole { base % 64 ≡ 0 }
+    requires there { 0 < length live.now → base < 64 * length live.now }
+    ensures { LiveWord live.now base result }
+{
+    if live.len() == 0 {
+        return ALL;
+    }
+    live[wide(base / 64)]
+}
+
 // The live documents of the window from base on, cut at max_doc.
 fn live_bits(live: &[u64], base: u32, max_doc: u32) -> u64
     requires below { (base < max_doc) × (base % 64 ≡ 0) }
-    requires live_there { 0 < length live.now → max_doc ≤ 64 * length live.now }
+    requires there { 0 < length live.now → max_doc ≤ 64 * length live.now }
     ensures { LiveBits live.now base max_doc result }
 {
-    let word = if live.len() == 0 { ALL } else { live[wide(base / 64)] };
+    let word = live_word(live, base);
     let left = max_doc - base;
     if left < 64 {
         return bits::both(word, bits::first_bits(left));
@@ -28,7 +40,7 @@ fn live_bits(live: &[u64], base: u32, max_doc: u32) -> u64
     word
 }
 
-// Where the window begins that a document lies in; the next window at least.
+// Where the next window begins: the one of the document before which nothing follows, where that is further.
 fn next_window(base: u32, next: u32) -> u32
     requires { (base % 64 ≡ 0) × (base + 64 < 4294967296) }
     ensures { NextWindow base next result }
@@ -39,7 +51,7 @@ fn next_window(base: u32, next: u32) -> u32
     next - next % 64
 }
 
-// The documents at some places of the window to the collector, in rising order, each with its sum narrowed.
+// The documents at some places of a window to the collector, in rising order, each with its sum narrowed.
 fn collect_places(
     c: TopScoreDocCollector,
     heap: &mut [i64],
@@ -56,6 +68,71 @@ fn collect_places(
         let place = bits::lowest(left);
         c = c.stepped(heap, first + place, ieee754::narrow(sums[wide(place)]));
         left = bits::without_lowest(left);
+    }
+    c
+}
+
+// The documents of a window that the tree matches, to the collector with their scores.
+fn collect_window(
+    st: &mut [u32],
+    postings: &[u32],
+    positions: &[u32],
+    norms: &[u8],
+    ranges: &[u32],
+    inverses: &[f32],
+    a: &mut [i32],
+    b: &mut [i32],
+    base: u32,
+    places: u64,
+    depth: u32,
+    doc_base: u32,
+    c: TopScoreDocCollector,
+    heap: &mut [i64],
+) -> TopScoreDocCollector
+    requires { WindowPre st.old postings.now positions.now norms.now ranges.now inverses.now (length a.old) (length b.old) base places depth doc_base c heap.old }
+    ensures { WindowPost st.old postings.now positions.now norms.now ranges.now inverses.now (length a.old) (length b.old) base places depth doc_base c heap.old result heap.new st.new }
+{
+    if places == 0 {
+        return c;
+    }
+    let mut sums = [0.0f64; 64];
+    node_scores(
+        st, postings, positions, norms, ranges, inverses, a, b, base, places, &mut sums, depth,
+    );
+    collect_places(c, heap, doc_base + base, places, &sums)
+}
+
+// The live documents that the tree matches to the collector, numbered on from a document base.
+pub fn collect_windows(
+    st: &mut [u32],
+    max_doc: u32,
+    postings: &[u32],
+    positions: &[u32],
+    norms: &[u8],
+    ranges: &[u32],
+    inverses: &[f32],
+    live: &[u64],
+    a: &mut [i32],
+    b: &mut [i32],
+    depth: u32,
+    doc_base: u32,
+    c: TopScoreDocCollector,
+    heap: &mut [i64],
+) -> TopScoreDocCollector
+    requires { CollectPre (lent max_doc postings.now positions.now ranges.now) norms.now live.now inverses.now (min (length a.old) (length b.old)) st.old depth doc_base c heap.old }
+    ensures collect_post { CollectPost (lent max_doc postings.now positions.now ranges.now) norms.now live.now inverses.now (min (length a.old) (length b.old)) st.old depth doc_base c heap.old result heap.new }
+    ensures collect_end { CollectEnd (lent max_doc postings.now positions.now ranges.now) norms.now live.now inverses.now (min (length a.old) (length b.old)) st.old depth st.new }
+{
+    let mut c = c;
+    let mut base = 0;
+    while base < max_doc {
+        let want = live_bits(live, base, max_doc);
+        let places = node_bits(st, postings, positions, ranges, a, b, base, want, depth);
+        let next = st[22];
+        c = collect_window(
+            st, postings, positions, norms, ranges, inverses, a, b, base, places, depth, doc_base, c, heap,
+        );
+        base = next_window(base, next);
     }
     c
 }
