@@ -29,7 +29,8 @@ use Rattle.leaf_score.proofs.Bounds.{zero-32}
 use Rattle.leaf_score.proofs.Weights.{float_back, float-number}
 use Rattle.bulk_term.specs.Postings.{NodeScores}
 use Rattle.bulk_scorer.proofs.LiveMatches.{live_of, live-there, not_live, not-below, is-match}
-use Rattle.bulk_scorer.specs.Collects.{Continued}
+use Rattle.bulk_scorer.specs.Collects.{Continued, CollectPre}
+use Rattle.bulk_scorer.proofs.Held.{root-page}
 use Rattle.bulk_scorer.proofs.Sofar.{Sofar, sofar-start, sofar-skip, sofar-ready, sofar-take, sofar-done}
 use Rattle.bulk_term.proofs.Roots.{node-scores}
 
@@ -79,6 +80,18 @@ module _ (documents : ℕ) (live : List ℕ) where
             scores = node-scores sc H.ok.0 n R.constant-is R.weight_is H.ok.5;
           }
       any-is ix (boolean c j need rs os ps) m H = let p = H.ok in let R = read st (p.1 ++ (p.2 ++ p.3)) p.0 n p.4 N in absurd (omega (arith, R.kind-is, N.kind-is, p.7.kind-is))
+
+    -- what a call asks, and what is read of its words
+    abbrev pub Asked : List ℕ → ℕ → TopScoreDocCollector → List ℤ → Type 0
+    Asked st docBase c heap = (E : Lent) × (norms : List ℕ) × (table : List Float) × (places : ℕ) × (depth : ℕ) × (E.documents ≡ documents) × (get_or st 0 0 ≡ 5) × CollectPre E norms live table places st depth docBase c heap
+
+    module _ (st : List ℕ) (docBase : ℕ) (c : TopScoreDocCollector) (heap : List ℤ) (q : Asked st docBase c heap) where
+      pub asked-any : NodeIs st n → AnyIs q.7.2.0 q.7.2.1
+      asked-any N = any-is q.0 q.1 q.2 q.3 q.4 st N q.6 q.5 q.7.2.0 q.7.2.1 q.7.2.2 (root-page q.0 q.1 live q.2 q.7.2.0 q.3 q.7.2.1 q.4 q.7.2.2 st q.7.2.3)
+
+      -- so many documents are numbered on
+      pub asked-few : docBase + documents ≤ noMoreDocs
+      asked-few = omega (arith, q.7.0, q.5)
 
   module _ (r : Float) where
     -- and r is the score of each document
