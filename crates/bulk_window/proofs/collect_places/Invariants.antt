@@ -1,0 +1,16 @@
+-- The places done are collected, the others are those of `left`.
+use Rattle.std.proofs.Common.{◌≡◌, length, get_or}
+use Rattle.std.specs.Float.{nan}
+use Rattle.meaning.specs.Ieee754.{narrow}
+use Rattle.bulk_window.proofs.Places.{PlacesAt}
+use Rattle.bulk_window.proofs.collect_places.Given as goal
+
+abbrev pub invariant-loop-left : goal.invariant-loop-left
+invariant-loop-left l =
+    record {
+      long : length l.heap ≡ length l.fn.heap;
+      at : PlacesAt l.first (λ p. narrow (get_or l.sums p nan)) l.places l.fn.c l.fn.heap l.left l.c l.heap;
+    }
+
+abbrev pub decreases-loop-left : goal.decreases-loop-left
+decreases-loop-left l = l.left

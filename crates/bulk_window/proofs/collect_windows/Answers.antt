@@ -1,0 +1,55 @@
+-- Window after window: what the tree matches is collected, and nothing lies in between.
+use Rattle.std.proofs.Common.{◌≡◌, refl, sym, ◌∙◌, ◌≤◌, ◌<◌, length, min, arith, get_or}
+use Rattle.leaf_scorer.specs.Calls.{lent}
+use Rattle.bulk_scorer.proofs.Held.{root-words}
+use Rattle.bulk_window.proofs.Loop.{loop-start, loop-end, loop-done, loop-step, window-small, window-next, window-scores}
+use Rattle.bulk_window.proofs.collect_windows.Goals as goal
+
+pub loop-base-init : goal.loop-base-init
+loop-base-init c =
+    let a = c.args in
+    record {
+      whole = refl;
+      top = omega arith;
+      at = loop-start a.max_doc a.postings.now a.positions.now a.norms.now a.ranges.now a.live.now a.inverses.now (min (length a.a.now) (length a.b.now)) a.st.now a.depth a.doc_base a.c a.heap.now;
+    }
+
+pub bounds-st-22 : goal.bounds-st-22
+bounds-st-22 c =
+    let a = c.args in
+    let r = c.requires.2 in
+    let long = root-words (lent a.max_doc a.postings.now a.positions.now a.ranges.now) a.norms.now a.live.now a.inverses.now r.0 (min (length a.a.now) (length a.b.now)) r.1 a.depth r.2 a.st.now r.3 in
+    omega (arith, long, c.loop-base.auto.st, c.node_bits-places.auto.st)
+
+pub collect_window-c-requires : goal.collect_window-c-requires
+collect_window-c-requires c =
+    let a = c.args in
+    let l = c.loop-base in
+    let r = c.requires.2 in
+    window-scores a.max_doc a.postings.now a.positions.now a.norms.now a.ranges.now a.live.now a.inverses.now (min (length a.a.now) (length a.b.now)) a.st.now a.depth a.doc_base a.c a.heap.now l.st l.c l.heap l.base l.invariant.at c.loop-base-test.true r.0 r.1 r.2 r.3 (length l.a) (length l.b) c.live_bits-want.result (omega (arith, l.auto.a, l.auto.b)) c.live_bits-want.ensures (length c.node_bits-places.new.a) (length c.node_bits-places.new.b) (omega (arith, l.auto.a, l.auto.b, c.node_bits-places.auto.a, c.node_bits-places.auto.b)) c.node_bits-places.result (get_or c.node_bits-places.new.st 22 0) c.node_bits-places.new.st refl c.node_bits-places.ensures c.requires.0 c.requires.1
+
+pub loop-base-preserved : goal.loop-base-preserved
+loop-base-preserved c =
+    let a = c.args in
+    let l = c.loop-base in
+    let r = c.requires.2 in
+    let go = c.next_window-base.ensures in
+    let small = window-small a.max_doc a.postings.now a.positions.now a.norms.now a.ranges.now a.live.now a.inverses.now (min (length a.a.now) (length a.b.now)) a.st.now a.depth a.doc_base a.c a.heap.now l.st l.c l.heap l.base l.invariant.at c.loop-base-test.true r.0 r.1 r.2 r.3 in
+    let next = window-next a.max_doc a.postings.now a.positions.now a.norms.now a.ranges.now a.live.now a.inverses.now (min (length a.a.now) (length a.b.now)) a.st.now a.depth a.doc_base a.c a.heap.now l.st l.c l.heap l.base l.invariant.at c.loop-base-test.true r.0 r.1 r.2 r.3 (length l.a) (length l.b) c.live_bits-want.result (omega (arith, l.auto.a, l.auto.b)) c.live_bits-want.ensures (length c.node_bits-places.new.a) (length c.node_bits-places.new.b) (omega (arith, l.auto.a, l.auto.b, c.node_bits-places.auto.a, c.node_bits-places.auto.b)) c.node_bits-places.result (get_or c.node_bits-places.new.st 22 0) c.node_bits-places.new.st refl c.node_bits-places.ensures in
+    record {
+      whole = go.whole;
+      top = omega (arith, go.reached, small, next);
+      at = loop-step a.max_doc a.postings.now a.positions.now a.norms.now a.ranges.now a.live.now a.inverses.now (min (length a.a.now) (length a.b.now)) a.st.now a.depth a.doc_base a.c a.heap.now l.st l.c l.heap l.base l.invariant.at c.loop-base-test.true (length l.a) (length l.b) c.live_bits-want.result (omega (arith, l.auto.a, l.auto.b)) c.live_bits-want.ensures (length c.node_bits-places.new.a) (length c.node_bits-places.new.b) (omega (arith, l.auto.a, l.auto.b, c.node_bits-places.auto.a, c.node_bits-places.auto.b)) c.node_bits-places.result (get_or c.node_bits-places.new.st 22 0) c.node_bits-places.new.st refl c.node_bits-places.ensures c.collect_window-c.result c.collect_window-c.new.heap c.collect_window-c.new.st c.collect_window-c.ensures c.next_window-base.result go;
+    }
+
+pub returns-clause-collect_post : goal.returns-clause-collect_post
+returns-clause-collect_post c =
+    let a = c.args in
+    let l = c.loop-base in
+    loop-done a.max_doc a.postings.now a.positions.now a.norms.now a.ranges.now a.live.now a.inverses.now (min (length a.a.now) (length a.b.now)) a.st.now a.depth a.doc_base a.c a.heap.now l.st l.c l.heap l.base l.invariant.at (omega (arith, c.loop-base-test.false))
+
+pub returns-clause-collect_end : goal.returns-clause-collect_end
+returns-clause-collect_end c =
+    let a = c.args in
+    let l = c.loop-base in
+    loop-end a.max_doc a.postings.now a.positions.now a.norms.now a.ranges.now a.live.now a.inverses.now (min (length a.a.now) (length a.b.now)) a.st.now a.depth a.doc_base a.c a.heap.now l.st l.c l.heap l.base l.invariant.at l.invariant.top
