@@ -1,1 +1,3 @@
+#![tactic(auto)]
+
 // The words of a scorer tree that is asked by windows of 64 documents, as definitions.
