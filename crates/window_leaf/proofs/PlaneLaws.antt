@@ -1,0 +1,1 @@
+-- The frequencies of a window, noted in two planes. Assumes nothing.

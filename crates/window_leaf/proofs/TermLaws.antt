@@ -1,0 +1,221 @@
+-- The terms of a phrase, asked in turn for a window, and their postings at a place of it. Assumes nothing.
+use Rattle.std.proofs.Common.{◌≡◌, refl, sym, ap, subst, ◌∙◌, Bool, true, false, cond, ◌&&◌, ◌||◌, ⊎_elim, List, [], ◌∷◌, ◌++◌, ℕ, zero, suc, ◌+◌, ◌-◌, ◌*◌, ◌≤◌, ◌<◌, max, length, get_or, take, drop, le_refl, lt_of_lt_of_le, append_assoc, length-append, arith}
+use mathlib.Core.Bool.{and-true, and_assoc, or-true, or-false, false≢true}
+use mathlib.Core.Option.{Option, none, some}
+use lib.Seq.{get_or-append-add}
+use Rattle.meaning.proofs.Tests.{cmp}
+use Rattle.meaning.specs.Below.{anyBelow, countBelow, lastBelow}
+use Rattle.meaning.specs.Limits.{noMoreDocs, nodeStateWords}
+use Rattle.meaning.specs.Lent.{Index, leafCount, leafFirst, leafNumber, leafDocument}
+use Rattle.meaning.specs.Postings.{postingAt, found}
+use Rattle.meaning.specs.Phrase.{PhraseTerm}
+use Rattle.index.specs.Accepted.{Accepted}
+use Rattle.run.specs.Run.{documentAt}
+use Rattle.weight.specs.State.{State, words_of}
+use Rattle.weight.specs.Held.{TermIs}
+use Rattle.leaf_scorer.specs.Search.{SearchHeld}
+use Rattle.leaf_scorer.specs.Phrases.{allFound, LeavesThere}
+use Rattle.leaf_scorer.proofs.Bounds.{term-mono}
+use Rattle.leaf_scorer.proofs.LeafLaws.{term-run}
+use Rattle.leaf_scorer.proofs.PhraseLaws.{record-fits, record-part, record-back, found-miss, found-rest}
+use Rattle.bits.specs.Bit.{bit}
+use Rattle.bits.proofs.Laws.{bit-zero, halves-joined}
+use Rattle.window.specs.Windows.{inRun, Cursor}
+use Rattle.window.proofs.Rank.{posting-of-bit}
+use Rattle.window_words.specs.Windowed.{Places, nowhere, placesOf, windowBits, TermWindow, TermAsked, TermsWindowed}
+use Rattle.window_leaf.specs.Asks.{Answers}
+use Rattle.window_leaf.specs.Runs.{windowAt, RunMoved, RunPost}
+use Rattle.window_leaf.specs.Phrases.{TermsHeld, TermsAsked}
+
+-- ---- a term's run: a document is in it where it has a posting
+either-found : (b a : Bool) (n : ℕ) (o : Option ℕ) → found o ≡ a → found (cond b (some n) o) ≡ (a || b)
+either-found true a n o e = sym (or-true a)
+either-found false a n o e = e ∙ sym (or-false a)
+
+found-any : (n : ℕ) (p : ℕ → Bool) → found (lastBelow n p) ≡ anyBelow n p
+unfolding lastBelow anyBelow
+found-any zero p = refl
+found-any (suc n) p = either-found (p n) (anyBelow n p) n (lastBelow n p) (found-any n p)
+
+pub term-in_run : (ix : Index) (l d : ℕ) → inRun ix.postings 3 (leafFirst ix l) (leafNumber ix l) d ≡ found (postingAt ix l d)
+term-in_run ix l d = sym (found-any (leafNumber ix l) _)
+
+-- ---- a term's record after its run was moved over the window
+module _ (ix : Index) (k l : ℕ) (s : State) (base : ℕ) (is : TermIs ix k l s base) (w : List ℕ) (r : ℕ) (st : List ℕ) (m : RunMoved ix.postings 3 s w base r st) where
+  -- its record then
+  abbrev pub after-window : State
+  after-window = windowAt s m.cursor m.first r m.next
+
+  pub term_after : TermIs ix k l after-window (base + 64)
+  term_after =
+      record {
+        kind-is = is.kind-is;
+        size_is = is.size_is;
+        first-is = is.first-is;
+        number_is = is.number_is;
+        field_is = is.field_is;
+        norms-is = is.norms-is;
+        run = record { within = rw is.number_is at m.behind.within; passed = rw is.first-is at m.behind.passed };
+      }
+
+  pub term-bits : (p : ℕ) → p < 64 → bit p r ≡ found (postingAt ix l (base + p))
+  term-bits p h = (rw (is.first-is, is.number_is) at m.bits) p h ∙ term-in_run ix l (base + p)
+
+  pub term-window : TermWindow ix l after-window base
+  term-window =
+      record {
+        first-within = m.first-within;
+        within = rw is.number_is at m.behind.within;
+        before = rw is.first-is at m.at-first.passed;
+        from = rw (is.first-is, is.number_is) at m.at-first.ahead;
+        inside = rw is.first-is at m.behind.passed;
+        ahead = rw (is.first-is, is.number_is) at m.behind.ahead;
+        bits = λ p h. ap (bit p) (halves-joined r) ∙ term-bits p h;
+      }
+
+  pub term-gap : (d : ℕ) → base + 64 ≤ d → d < m.next → found (postingAt ix l d) ≡ false
+  term-gap d a b = sym (term-in_run ix l d) ∙ (rw (is.first-is, is.number_is) at m.gap) d a b
+
+-- ---- the posting at a place whose bit is set
+pub term-posting : (ix : Index) → Accepted ix → (k l : ℕ) → l < leafCount ix → (s : State) (b : ℕ) → TermIs ix k l s b → length ix.postings < 9223372036854775808 → (base : ℕ) → TermWindow ix l s base → (p : ℕ) → p < 64 → found (postingAt ix l (base + p)) ≡ true → (s.windowFirst + countBelow p (λ q. bit q (windowBits s)) < s.cursor) × (leafDocument ix l (s.windowFirst + countBelow p (λ q. bit q (windowBits s))) ≡ base + p)
+term-posting ix acc k l there s b is size base w p h e =
+    let f = is.first-is in
+    let n = is.number_is in
+    let held = term-run ix acc k l there s b is size [] (words_of s) refl in
+    posting-of-bit ix.postings 3 (leafFirst ix l) (leafNumber ix l) base s.windowFirst (windowBits s) (rw (f, n) at held.run)
+    (record { within = omega (arith, w.first-within, w.within); passed = w.before; ahead = w.from })
+    (λ q g. w.bits q g ∙ sym (term-in_run ix l (base + q)))
+    s.cursor
+    (record { within = w.within; passed = w.inside; ahead = w.ahead })
+    p h (w.bits p h ∙ e)
+
+-- ---- the terms at a larger bound, asked at fewer places
+pub terms-less : (ix : Index) (ts : List PhraseTerm) (w : List ℕ) (b e base : ℕ) (D D' : Places) → b ≤ e → ((p : ℕ) → p < 64 → D' p ≡ true → D p ≡ true) → TermsWindowed ix ts w b base D → TermsWindowed ix ts w e base D'
+unfolding TermsWindowed
+terms-less ix [] w b e base D D' h f p = p
+terms-less ix (t ∷ ts) w b e base D D' h f p =
+    (p.0, p.1, p.2, term-mono ix 9 t.leaf p.0 b e h p.3, p.4, (λ q g i. p.5 q g (f q g i)), terms-less ix ts p.1 b e base D D' h f p.6)
+
+pub terms-windowed-length : (ix : Index) (ts : List PhraseTerm) (w : List ℕ) (b base : ℕ) (D : Places) → TermsWindowed ix ts w b base D → length w ≡ nodeStateWords * length ts
+unfolding TermsWindowed
+terms-windowed-length ix [] w b base D p = ap length p
+terms-windowed-length ix (t ∷ ts) w b base D p = omega (arith, ap length p.2, terms-windowed-length ix ts p.1 b base D p.6)
+
+-- ---- the terms asked in turn
+-- a word of a record that begins at a place
+read-there : (x y : List ℕ) (at k : ℕ) → at ≡ length x → get_or (x ++ y) (at + k) 0 ≡ get_or y k 0
+read-there x y at k e = rw (e, get_or-append-add)
+
+and-left : (a b : Bool) → (a && b) ≡ true → a ≡ true
+and-left true b e = refl
+and-left false b e = e
+
+pub record Asking (postings : List ℕ) (ix : Index) (ts : List PhraseTerm) (base want : ℕ) (terms : List ℕ) (w next at : ℕ) : Type 0 where
+  pub left : List PhraseTerm
+  pub x : List ℕ
+  pub z : List ℕ
+  pub is : terms ≡ x ++ z
+  pub place : at ≡ length x
+  pub accepted : Accepted ix
+  pub postings-are : ix.postings ≡ postings
+  pub there : LeavesThere ix left
+  pub rest : TermsWindowed ix left z base base nowhere
+  pub bits : (p : ℕ) → p < 64 → (bit p w && allFound ix left (base + p)) ≡ (bit p want && allFound ix ts (base + p))
+  pub gap : (d : ℕ) → base + 64 ≤ d → d < next → allFound ix ts d ≡ false
+  pub top : next ≤ noMoreDocs
+  pub fails : (d : ℕ) → allFound ix left d ≡ false → allFound ix ts d ≡ false
+  pub back : (D : Places) → ((p : ℕ) → p < 64 → D p ≡ true → bit p w ≡ true) → (z' : List ℕ) → TermsWindowed ix left z' (base + 64) base D → TermsWindowed ix ts (x ++ z') (base + 64) base D
+
+module _ {postings : List ℕ} {ix : Index} {ts : List PhraseTerm} {base want : ℕ} where
+  pub asking-start : {terms : List ℕ} → base + 64 ≤ noMoreDocs → TermsHeld postings ix ts terms base → Asking postings ix ts base want terms want (base + 64) 0
+  asking-start {terms} top h =
+      record {
+        left = ts;
+        x = [];
+        z = terms;
+        is = refl;
+        place = refl;
+        accepted = h.accepted;
+        postings-are = h.postings-are;
+        there = h.there;
+        rest = h.held;
+        bits = λ p l. refl;
+        gap = λ d a b. absurd (omega arith);
+        top = top;
+        fails = λ d e. e;
+        back = λ D f z' r. r;
+      }
+
+  module _ {terms : List ℕ} {w next at : ℕ} (q : Asking postings ix ts base want terms w next at) where
+    -- no wanted document is left
+    pub asking-none : w ≡ 0 → Answers (allFound ix ts) base (placesOf want) w next × TermsWindowed ix ts terms (base + 64) base (placesOf w)
+    asking-none e = (
+      record { bits = λ p l. off p ∙ sym (ap (λ (b : Bool). b && allFound ix q.left (base + p)) (off p)) ∙ q.bits p l; gap = q.gap; top = q.top },
+      rw q.is (q.back (placesOf w) (λ p l h. h) q.z (terms-less ix q.left q.z base (base + 64) base nowhere (placesOf w) (omega arith) (λ p l h. absurd (false≢true (sym (off p) ∙ h))) q.rest)),
+    )
+      where
+        off : (p : ℕ) → bit p w ≡ false
+        off p = ap (bit p) e ∙ bit-zero p
+
+    -- all were asked
+    pub asking-end : length terms ≤ at → Answers (allFound ix ts) base (placesOf want) w next × TermsWindowed ix ts terms (base + 64) base (placesOf w)
+    unfolding TermsWindowed allFound
+    asking-end l = go q.left q.rest q.bits q.back
+      where
+        go : (g : List PhraseTerm) → TermsWindowed ix g q.z base base nowhere → ((p : ℕ) → p < 64 → (bit p w && allFound ix g (base + p)) ≡ (bit p want && allFound ix ts (base + p))) → ((D : Places) → ((p : ℕ) → p < 64 → D p ≡ true → bit p w ≡ true) → (z' : List ℕ) → TermsWindowed ix g z' (base + 64) base D → TermsWindowed ix ts (q.x ++ z') (base + 64) base D) → Answers (allFound ix ts) base (placesOf want) w next × TermsWindowed ix ts terms (base + 64) base (placesOf w)
+        go [] r b k = (record { bits = λ p h. sym (and-true (bit p w)) ∙ b p h; gap = q.gap; top = q.top }, rw q.is (k (placesOf w) (λ p h e. e) q.z r))
+        go (t ∷ g) r b k = absurd (omega (arith, ap length q.is, length-append q.x q.z, ap length r.2, q.place))
+
+    module _ (l : at < length terms) (e : ℕ) (stop : e ≡ at + nodeStateWords) (size : length postings < 9223372036854775808) where
+      pub asking-next : (at + nodeStateWords ≤ length terms) × ((s : State) × (y : List ℕ) × SearchHeld postings 3 s y (take (e - at) (drop at terms)) base)
+      unfolding TermsWindowed LeavesThere
+      asking-next = go q.left q.rest q.there
+        where
+          go : (g : List PhraseTerm) → TermsWindowed ix g q.z base base nowhere → LeavesThere ix g → (at + nodeStateWords ≤ length terms) × ((s : State) × (y : List ℕ) × SearchHeld postings 3 s y (take (e - at) (drop at terms)) base)
+          go [] r h = absurd (omega (arith, ap length q.is, length-append q.x q.z, ap length r, q.place))
+          go (t ∷ g) r h =
+              let is = q.is ∙ ap (λ (y : List ℕ). q.x ++ y) r.2 in (
+                record-fits terms q.x r.1 r.0 at e is q.place stop,
+                (r.0, [], subst (λ (y : List ℕ). SearchHeld y 3 r.0 [] (take (e - at) (drop at terms)) base) q.postings-are (term-run ix q.accepted 9 t.leaf h.0 r.0 base r.3 (omega (arith, ap length q.postings-are)) [] (take (e - at) (drop at terms)) (record-part terms q.x r.1 r.0 at e is q.place stop))),
+              )
+
+      -- the term was asked: r are its documents, and w' those wanted that are left
+      pub asking-took : (r w' next' : ℕ) (ys : List ℕ) → RunPost postings 3 (take (e - at) (drop at terms)) base r ys → ((p : ℕ) → bit p w' ≡ (bit p w && bit p r)) → next' ≡ max next (get_or (take at terms ++ (ys ++ drop (e - at) (drop at terms))) (at + 22) 0) → Asking postings ix ts base want (take at terms ++ (ys ++ drop (e - at) (drop at terms))) w' next' e
+      unfolding TermsWindowed LeavesThere allFound
+      asking-took r w' next' ys post both after = go q.left q.rest q.there q.bits q.fails q.back
+        where
+          terms' : List ℕ
+          terms' = take at terms ++ (ys ++ drop (e - at) (drop at terms))
+
+          go : (g : List PhraseTerm) → TermsWindowed ix g q.z base base nowhere → LeavesThere ix g → ((p : ℕ) → p < 64 → (bit p w && allFound ix g (base + p)) ≡ (bit p want && allFound ix ts (base + p))) → ((d : ℕ) → allFound ix g d ≡ false → allFound ix ts d ≡ false) → ((D : Places) → ((p : ℕ) → p < 64 → D p ≡ true → bit p w ≡ true) → (z' : List ℕ) → TermsWindowed ix g z' (base + 64) base D → TermsWindowed ix ts (q.x ++ z') (base + 64) base D) → Asking postings ix ts base want terms' w' next' e
+          go [] h k b f s = absurd (omega (arith, ap length q.is, length-append q.x q.z, ap length h, q.place))
+          go (t ∷ g) h k b f s =
+              let is = q.is ∙ ap (λ (y : List ℕ). q.x ++ y) h.2 in
+              let st = take (e - at) (drop at terms) in
+              let part : st ≡ words_of h.0 = record-part terms q.x h.1 h.0 at e is q.place stop in
+              let own : RunPost ix.postings 3 st base r ys = subst (λ (y : List ℕ). RunPost y 3 st base r ys) (sym q.postings-are) post in
+              let m = own h.0 [] (term-run ix q.accepted 9 t.leaf k.0 h.0 base h.3 (omega (arith, ap length q.postings-are)) [] st part) in
+              let s' = after-window ix 9 t.leaf h.0 base h.3 [] r ys m in
+              let here : ys ≡ words_of s' = m.words_are in
+              let whole : terms' ≡ q.x ++ (ys ++ h.1) = record-back terms q.x h.1 h.0 at e is q.place stop ys in
+              let twenty-two : get_or terms' (at + 22) 0 ≡ m.next = ap (λ (y : List ℕ). get_or y (at + 22) 0) (whole ∙ ap (λ (y : List ℕ). q.x ++ (y ++ h.1)) here) ∙ read-there q.x (words_of s' ++ h.1) at 22 q.place in
+              let last : next' ≡ max next m.next = after ∙ ap (max next) twenty-two in
+              record {
+                left = g;
+                x = q.x ++ ys;
+                z = h.1;
+                is = whole ∙ sym (append_assoc q.x ys h.1);
+                place = omega (arith, q.place, length-append q.x ys, ap length here);
+                accepted = q.accepted;
+                postings-are = q.postings-are;
+                there = k.1;
+                rest = h.6;
+                bits = λ p i.
+                    ap (λ (c : Bool). c && allFound ix g (base + p)) (both p ∙ ap (λ (c : Bool). bit p w && c) (term-bits ix 9 t.leaf h.0 base h.3 [] r ys m p i))
+                    ∙ and_assoc (bit p w) (found (postingAt ix t.leaf (base + p))) (allFound ix g (base + p))
+                    ∙ b p i;
+                gap = λ d i j. ⊎_elim (λ c. q.gap d i c) (λ c. f d (found-miss ix t g d (term-gap ix 9 t.leaf h.0 base h.3 [] r ys m d i (omega (arith, last))))) (cmp d next);
+                top = omega (arith, last, q.top, m.top);
+                fails = λ d c. f d (found-rest ix t g d c);
+                back = λ D fewer z' j. rw append_assoc (s D (λ p i c. and-left (bit p w) (bit p r) (sym (both p) ∙ fewer p i c)) (ys ++ z') (s', z', ap (λ (y : List ℕ). y ++ z') here, term_after ix 9 t.leaf h.0 base h.3 [] r ys m, h.4, (λ p i c. term-window ix 9 t.leaf h.0 base h.3 [] r ys m), j));
+              }
