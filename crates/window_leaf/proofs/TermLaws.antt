@@ -1,12 +1,12 @@
 -- The terms of a phrase, asked in turn for a window, and their postings at a place of it. Assumes nothing.
-use Rattle.std.proofs.Common.{◌≡◌, refl, sym, ap, subst, ◌∙◌, Bool, true, false, cond, ◌&&◌, ◌||◌, ⊎_elim, List, [], ◌∷◌, ◌++◌, ℕ, zero, suc, ◌+◌, ◌-◌, ◌*◌, ◌≤◌, ◌<◌, max, length, get_or, take, drop, le_refl, lt_of_lt_of_le, append_assoc, length-append, arith}
+use Rattle.std.proofs.Common.{◌≡◌, refl, sym, ap, ap₂, subst, ◌∙◌, Bool, true, false, cond, ◌&&◌, ◌||◌, ⊎_elim, List, [], ◌∷◌, ◌++◌, ℕ, zero, suc, ◌+◌, ◌-◌, ◌*◌, ◌≤◌, ◌<◌, max, length, get_or, set, take, drop, append_assoc, append-nil, length-append, arith}
 use mathlib.Core.Bool.{and-true, and_assoc, or-true, or-false, false≢true}
 use mathlib.Core.Option.{Option, none, some}
 use lib.Seq.{get_or-append-add}
 use Rattle.meaning.proofs.Tests.{cmp}
 use Rattle.meaning.specs.Below.{anyBelow, countBelow, lastBelow}
 use Rattle.meaning.specs.Limits.{noMoreDocs, nodeStateWords}
-use Rattle.meaning.specs.Lent.{Index, leafCount, leafFirst, leafNumber, leafDocument}
+use Rattle.meaning.specs.Lent.{Index, leafCount, leafFirst, leafNumber, leafDocument, leafFrequency, leafPositionsIndex}
 use Rattle.meaning.specs.Postings.{postingAt, found}
 use Rattle.meaning.specs.Phrase.{PhraseTerm}
 use Rattle.index.specs.Accepted.{Accepted}
@@ -14,18 +14,18 @@ use Rattle.run.specs.Run.{documentAt}
 use Rattle.weight.specs.State.{State, words_of}
 use Rattle.weight.specs.Held.{TermIs}
 use Rattle.leaf_scorer.specs.Search.{SearchHeld}
-use Rattle.leaf_scorer.specs.Phrases.{allFound, LeavesThere}
+use Rattle.leaf_scorer.specs.Phrases.{allFound, LeavesThere, Gathered, GatheredTo}
 use Rattle.leaf_scorer.proofs.Bounds.{term-mono}
 use Rattle.leaf_scorer.proofs.LeafLaws.{term-run}
-use Rattle.leaf_scorer.proofs.PhraseLaws.{record-fits, record-part, record-back, found-miss, found-rest}
+use Rattle.leaf_scorer.proofs.PhraseLaws.{record-fits, record-part, record-back, found-miss, found-rest, take-three}
 use Rattle.bits.specs.Bit.{bit}
 use Rattle.bits.proofs.Laws.{bit-zero, halves-joined}
 use Rattle.window.specs.Windows.{inRun, Cursor}
 use Rattle.window.proofs.Rank.{posting-of-bit}
-use Rattle.window_words.specs.Windowed.{Places, nowhere, placesOf, windowBits, TermWindow, TermAsked, TermsWindowed}
+use Rattle.window_words.specs.Windowed.{Places, nowhere, placesOf, joined, windowBits, TermWindow, TermAsked, TermsWindowed}
 use Rattle.window_leaf.specs.Asks.{Answers}
 use Rattle.window_leaf.specs.Runs.{windowAt, RunMoved, RunPost}
-use Rattle.window_leaf.specs.Phrases.{TermsHeld, TermsAsked}
+use Rattle.window_leaf.specs.Phrases.{TermsHeld, TermsAsked, rankAt, PostingPre, GatherPre}
 
 -- ---- a term's run: a document is in it where it has a posting
 either-found : (b a : Bool) (n : ℕ) (o : Option ℕ) → found o ≡ a → found (cond b (some n) o) ≡ (a || b)
@@ -219,3 +219,150 @@ module _ {postings : List ℕ} {ix : Index} {ts : List PhraseTerm} {base want : 
                 fails = λ d c. f d (found-rest ix t g d c);
                 back = λ D fewer z' j. rw append_assoc (s D (λ p i c. and-left (bit p w) (bit p r) (sym (both p) ∙ fewer p i c)) (ys ++ z') (s', z', ap (λ (y : List ℕ). y ++ z') here, term_after ix 9 t.leaf h.0 base h.3 [] r ys m, h.4, (λ p i c. term-window ix 9 t.leaf h.0 base h.3 [] r ys m), j));
               }
+
+-- ---- the postings at a place that all terms have
+pub record Gathering (postings : List ℕ) (ix : Index) (ts : List PhraseTerm) (base place : ℕ) (D : Places) (terms out : List ℕ) (n at : ℕ) : Type 0 where
+  pub left : List PhraseTerm
+  pub x : List ℕ
+  pub z : List ℕ
+  pub is : terms ≡ x ++ z
+  pub begins : at ≡ length x
+  pub accepted : Accepted ix
+  pub postings-are : ix.postings ≡ postings
+  pub there : LeavesThere ix left
+  pub bound : ℕ
+  pub rest : TermsWindowed ix left z bound base D
+  pub all : allFound ix left (base + place) ≡ true
+  pub number : n + 3 * length left ≡ 3 * length ts
+  pub back : (l : List ℕ) → Gathered ix left (base + place) l → Gathered ix ts (base + place) (take n out ++ l)
+
+-- what is read and written in a turn
+pub record GatheringFacts (postings terms : List ℕ) (at place n places : ℕ) : Type 0 where
+  pub place-of : PostingPre terms at place
+  pub posting : 3 * (get_or terms (at + 6) 0 + get_or terms (at + 19) 0 + rankAt terms at place) + 2 < length postings
+  pub room : n + 2 < places
+
+-- the words of a term's record where it begins at a place, and its posting at a place of the window
+record PostingThere (ix : Index) (t : PhraseTerm) (s : State) (terms : List ℕ) (at base place : ℕ) : Type 0 where
+  first : get_or terms (at + 6) 0 ≡ leafFirst ix t.leaf
+  window-first : get_or terms (at + 19) 0 ≡ s.windowFirst
+  rank : rankAt terms at place ≡ countBelow place (λ q. bit q (windowBits s))
+  offset : get_or terms (at + 9) 0 ≡ t.offset
+  within : s.windowFirst + countBelow place (λ q. bit q (windowBits s)) < leafNumber ix t.leaf
+  document : leafDocument ix t.leaf (s.windowFirst + countBelow place (λ q. bit q (windowBits s))) ≡ base + place
+
+and-both : (a b : Bool) → (a && b) ≡ true → (a ≡ true) × (b ≡ true)
+and-both true b e = (refl, e)
+and-both false b e = absurd (false≢true e)
+
+module _ {postings : List ℕ} {ix : Index} {ts : List PhraseTerm} {base place : ℕ} {D : Places} where
+  pub gathering-start : {terms out : List ℕ} → place < 64 → D place ≡ true → TermsAsked postings ix ts base D terms → Gathering postings ix ts base place D terms out 0 0
+  gathering-start {terms} l on h =
+      record {
+        left = ts;
+        x = [];
+        z = terms;
+        is = refl;
+        begins = refl;
+        accepted = h.accepted;
+        postings-are = h.postings-are;
+        there = h.there;
+        bound = h.bound;
+        rest = h.held;
+        all = h.all place l on;
+        number = omega arith;
+        back = λ l g. g;
+      }
+
+  module _ {terms out : List ℕ} {n at : ℕ} (q : Gathering postings ix ts base place D terms out n at) where
+    pub gathering-end : length terms ≤ at → GatheredTo ix ts (base + place) n out
+    unfolding TermsWindowed Gathered
+    gathering-end l = go q.left q.rest q.number q.back
+      where
+        go : (g : List PhraseTerm) → TermsWindowed ix g q.z q.bound base D → n + 3 * length g ≡ 3 * length ts → ((l : List ℕ) → Gathered ix g (base + place) l → Gathered ix ts (base + place) (take n out ++ l)) → GatheredTo ix ts (base + place) n out
+        go [] r e b = record { number = omega (arith, e); gathered = rw append-nil at (b [] refl) }
+        go (t ∷ g) r e b = absurd (omega (arith, ap length q.is, length-append q.x q.z, ap length r.2, q.begins))
+
+    module _ (l : at < length terms) (size : length postings < 9223372036854775808) (low : place < 64) (on : D place ≡ true) where
+      posting-there : (t : PhraseTerm) → t.leaf < leafCount ix → (s : State) (w : List ℕ) → q.z ≡ words_of s ++ w → TermIs ix 9 t.leaf s q.bound → s.offset ≡ t.offset → TermAsked ix t.leaf s base D → found (postingAt ix t.leaf (base + place)) ≡ true → PostingThere ix t s terms at base place
+      posting-there t there s w e is off asked has =
+          let whole : terms ≡ q.x ++ (words_of s ++ w) = q.is ∙ ap (λ (y : List ℕ). q.x ++ y) e in
+          let word : (k : ℕ) → get_or terms (at + k) 0 ≡ get_or (words_of s ++ w) k 0 = λ k. ap (λ (y : List ℕ). get_or y (at + k) 0) whole ∙ read-there q.x (words_of s ++ w) at k q.begins in
+          let twenty : get_or terms (at + 20) 0 ≡ s.windowLow = word 20 in
+          let twenty-one : get_or terms (at + 21) 0 ≡ s.windowHigh = word 21 in
+          let posting = term-posting ix q.accepted 9 t.leaf there s q.bound is (omega (arith, ap length q.postings-are)) base (asked place low on) place low has in
+          record {
+            first = word 6 ∙ is.first-is;
+            window-first = word 19;
+            rank = ap₂ (λ (x y : ℕ). countBelow place (λ k. bit k (joined x y))) twenty twenty-one;
+            offset = word 9 ∙ off;
+            within = omega (arith, posting.0, (asked place low on).within);
+            document = posting.1;
+          }
+
+      pub gathering-next : 3 * length ts ≤ length out → GatheringFacts postings terms at place n (length out)
+      unfolding TermsWindowed LeavesThere allFound
+      gathering-next many = go q.left q.rest q.there q.all q.number
+        where
+          go : (g : List PhraseTerm) → TermsWindowed ix g q.z q.bound base D → LeavesThere ix g → allFound ix g (base + place) ≡ true → n + 3 * length g ≡ 3 * length ts → GatheringFacts postings terms at place n (length out)
+          go [] r h f e = absurd (omega (arith, ap length q.is, length-append q.x q.z, ap length r, q.begins))
+          go (t ∷ g) r h f e =
+              let both = and-both (found (postingAt ix t.leaf (base + place))) (allFound ix g (base + place)) f in
+              let p = posting-there t h.0 r.0 r.1 r.2 r.3 r.4 r.5 both.0 in
+              let o = q.accepted.leaf t.leaf h.0 in
+              let long = ap length q.postings-are in
+              record {
+                place-of = record {
+                  below = low;
+                  fits = omega (arith, ap length q.is, length-append q.x q.z, ap length r.2, q.begins);
+                  small = omega (arith, p.first, p.window-first, p.rank, p.within, o.words, long);
+                };
+                posting = omega (arith, p.first, p.window-first, p.rank, p.within, o.words, long);
+                room = omega (arith, e);
+              }
+
+      pub gathering-took : 3 * length ts ≤ length out → (p : ℕ) → p ≡ 3 * (get_or terms (at + 6) 0 + get_or terms (at + 19) 0 + rankAt terms at place) → Gathering postings ix ts base place D terms (set (set (set out n (get_or postings (p + 2) 0)) (n + 1) (get_or postings (p + 1) 0)) (n + 2) (get_or terms (at + 9) 0)) (n + 3) (at + nodeStateWords)
+      unfolding TermsWindowed LeavesThere allFound Gathered
+      gathering-took many p read = go q.left q.rest q.there q.all q.number q.back
+        where
+          o : ℕ
+          o = get_or terms (at + 9) 0
+
+          out' : List ℕ
+          out' = set (set (set out n (get_or postings (p + 2) 0)) (n + 1) (get_or postings (p + 1) 0)) (n + 2) o
+
+          go : (g : List PhraseTerm) → TermsWindowed ix g q.z q.bound base D → LeavesThere ix g → allFound ix g (base + place) ≡ true → n + 3 * length g ≡ 3 * length ts → ((l : List ℕ) → Gathered ix g (base + place) l → Gathered ix ts (base + place) (take n out ++ l)) → Gathering postings ix ts base place D terms out' (n + 3) (at + nodeStateWords)
+          go [] r h f e b = absurd (omega (arith, ap length q.is, length-append q.x q.z, ap length r, q.begins))
+          go (t ∷ g) r h f e b =
+              let both = and-both (found (postingAt ix t.leaf (base + place))) (allFound ix g (base + place)) f in
+              let k = posting-there t h.0 r.0 r.1 r.2 r.3 r.4 r.5 both.0 in
+              let i = r.0.windowFirst + countBelow place (λ q. bit q (windowBits r.0)) in
+              let pp : p ≡ 3 * (leafFirst ix t.leaf + i) = omega (arith, read, k.first, k.window-first, k.rank) in
+              let two : get_or postings (p + 2) 0 ≡ leafPositionsIndex ix t.leaf i = rw (← q.postings-are, pp) in
+              let one : get_or postings (p + 1) 0 ≡ leafFrequency ix t.leaf i = rw (← q.postings-are, pp) in
+              record {
+                left = g;
+                x = q.x ++ words_of r.0;
+                z = r.1;
+                is = q.is ∙ ap (λ (y : List ℕ). q.x ++ y) r.2 ∙ sym (append_assoc q.x (words_of r.0) r.1);
+                begins = omega (arith, q.begins, length-append q.x (words_of r.0));
+                accepted = q.accepted;
+                postings-are = q.postings-are;
+                there = h.1;
+                bound = q.bound;
+                rest = r.6;
+                all = both.1;
+                number = omega (arith, e);
+                back = λ l y.
+                    let words = take-three out n (get_or postings (p + 2) 0) (get_or postings (p + 1) 0) o (omega (arith, e)) in
+                    rw (words, append_assoc) (b (get_or postings (p + 2) 0 ∷ get_or postings (p + 1) 0 ∷ o ∷ l) (i, l, k.within, k.document, rw (two, one, k.offset), y));
+              }
+
+pub gathering-facts : {postings terms out : List ℕ} {base place places n at : ℕ} → GatherPre postings terms base place places → length out ≡ places → ((ix : Index) (ts : List PhraseTerm) (D : Places) → D place ≡ true → TermsAsked postings ix ts base D terms → Gathering postings ix ts base place D terms out n at) → at < length terms → length postings < 9223372036854775808 → GatheringFacts postings terms at place n (length out)
+gathering-facts R e q l size = let P = R.1 in gathering-next (q P.0 P.1 P.2 P.4 P.5) l size R.0 P.4 (omega (arith, P.3, e))
+
+-- the words have the same number of terms for all that they fit
+pub asked-many : {postings terms : List ℕ} {ix : Index} {ts : List PhraseTerm} {base place places : ℕ} {D : Places} → GatherPre postings terms base place places → TermsAsked postings ix ts base D terms → 3 * length ts ≤ places
+asked-many {terms = terms} {ix = ix} {ts = ts} {base = base} {D = D} R h =
+    let P = R.1 in
+    omega (arith, P.3, terms-windowed-length ix ts terms h.bound base D h.held, terms-windowed-length P.0 P.1 terms P.5.bound base P.2 P.5.held)
