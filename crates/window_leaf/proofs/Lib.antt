@@ -1,0 +1,2 @@
+-- The laws of nodes without children that are asked by windows.
+pub mod Records
