@@ -1,2 +1,3 @@
 -- The laws of nodes without children that are asked by windows.
 pub mod Records
+pub mod Nodes
