@@ -166,7 +166,7 @@ module _ (E : Lent) (ix : Index) (places k o : ℕ) (st : List ℕ) (base : ℕ)
         let n = h.lends.documents in
         let is = post p.0 p.1 p.2 in (
           subst (λ (x : ℕ). Answers (leafMatches ix everything) base (placesOf want) want x) (sym (ap (λ (l : List ℕ). get_or l 22 0) is))
-          (record { bits = wanted-bits n; gap = λ d a b. absurd (omega (arith, a, b)); top = top }),
+              (record { bits = wanted-bits n; gap = λ d a b. absurd (omega (arith, a, b)); top = top }),
           (
             answered p.0 want (base + 64),
             p.1,
@@ -190,7 +190,7 @@ module _ (E : Lent) (ix : Index) (places k o : ℕ) (st : List ℕ) (base : ℕ)
         let p = h.held in
         let is = post p.0 p.1 p.2 in (
           subst (λ (x : ℕ). Answers (leafMatches ix nothing) base (placesOf want) 0 x) (sym (ap (λ (l : List ℕ). get_or l 22 0) is))
-          (record { bits = λ q g. bit-zero q ∙ sym (and-false (bit q want)); gap = λ d a b. refl; top = le_refl noMoreDocs }),
+              (record { bits = λ q g. bit-zero q ∙ sym (and-false (bit q want)); gap = λ d a b. refl; top = le_refl noMoreDocs }),
           (
             answered p.0 0 noMoreDocs,
             p.1,

@@ -1,4 +1,4 @@
-use Rattle.std.proofs.Common.{◌≡◌, ap, subst, sym, List, ◌<◌, length, ℕ, arith, ◌++◌}
+use Rattle.std.proofs.Common.{ap, subst, sym, List, ◌<◌, length, ℕ, arith}
 use Rattle.weight.specs.State.{State}
 use Rattle.leaf_scorer.specs.Search.{SearchHeld}
 use Rattle.window_leaf.specs.Runs.{RunPost}
