@@ -1,5 +1,5 @@
 -- A record whose run was moved over a window: what it stores, and that it is again the record of its term or its range, with the window's documents. Assumes nothing.
-use Rattle.std.proofs.Common.{◌≡◌, refl, sym, ap, ◌∙◌, Bool, true, false, ◌&&◌, ⊎_elim, List, ◌++◌, ℕ, ◌+◌, ◌≤◌, ◌<◌, eqb, ltb, get_or, set, arith, ne_eqb, ltb-true, lt-ltb}
+use Rattle.std.proofs.Common.{◌≡◌, refl, sym, ap, ◌∙◌, Bool, true, false, ◌&&◌, ⊎_elim, List, ◌++◌, ℕ, ◌+◌, ◌/◌, ◌%◌, ◌≤◌, ◌<◌, eqb, ltb, get_or, set, arith, ne_eqb, ltb-true, lt-ltb}
 use Rattle.std.proofs.lemmas.Bool.{eqb-false, false≢true}
 use Rattle.meaning.specs.Limits.{noMoreDocs}
 use Rattle.meaning.specs.Lent.{Index, leafFirst, leafNumber, leafDocument, leafCount}
@@ -75,6 +75,10 @@ module _ (words : List ℕ) (stride base : ℕ) (s : State) (w : List ℕ) (st :
           gap = next-gap;
           top = next-top;
         }
+
+-- `put`: the bits' halves and the document are stored
+pub put-answer : (st : List ℕ) (r next low high : ℕ) → low ≡ r % 4294967296 → high ≡ r / 4294967296 → PutPost st r next (set (set (set st 20 low) 21 high) 22 next)
+put-answer st r next low high el eh s w e = rw (el, eh, e)
 
 -- the record with its cursor behind the window and the run's first place in it, its answer not stored yet
 abbrev pub placed : State → ℕ → ℕ → State
