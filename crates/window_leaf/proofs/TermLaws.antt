@@ -25,69 +25,21 @@ use Rattle.window.proofs.Rank.{posting-of-bit}
 use Rattle.window_words.specs.Windowed.{Places, nowhere, placesOf, joined, windowBits, TermWindow, TermAsked, TermsWindowed}
 use Rattle.window_leaf.specs.Asks.{Answers}
 use Rattle.window_leaf.specs.Runs.{windowAt, RunMoved, RunPost}
+use Rattle.window_leaf.proofs.Records.{term-run-like, term-passed, term-window}
 use Rattle.window_leaf.specs.Phrases.{TermsHeld, TermsAsked, rankAt, PostingPre, GatherPre}
-
--- ---- a term's run: a document is in it where it has a posting
-either-found : (b a : Bool) (n : ℕ) (o : Option ℕ) → found o ≡ a → found (cond b (some n) o) ≡ (a || b)
-either-found true a n o e = sym (or-true a)
-either-found false a n o e = e ∙ sym (or-false a)
-
-found-any : (n : ℕ) (p : ℕ → Bool) → found (lastBelow n p) ≡ anyBelow n p
-unfolding lastBelow anyBelow
-found-any zero p = refl
-found-any (suc n) p = either-found (p n) (anyBelow n p) n (lastBelow n p) (found-any n p)
-
-pub term-in_run : (ix : Index) (l d : ℕ) → inRun ix.postings 3 (leafFirst ix l) (leafNumber ix l) d ≡ found (postingAt ix l d)
-term-in_run ix l d = sym (found-any (leafNumber ix l) _)
-
--- ---- a term's record after its run was moved over the window
-module _ (ix : Index) (k l : ℕ) (s : State) (base : ℕ) (is : TermIs ix k l s base) (w : List ℕ) (r : ℕ) (st : List ℕ) (m : RunMoved ix.postings 3 s w base r st) where
-  -- its record then
-  abbrev pub after-window : State
-  after-window = windowAt s m.cursor m.first r m.next
-
-  pub term_after : TermIs ix k l after-window (base + 64)
-  term_after =
-      record {
-        kind-is = is.kind-is;
-        size_is = is.size_is;
-        first-is = is.first-is;
-        number_is = is.number_is;
-        field_is = is.field_is;
-        norms-is = is.norms-is;
-        run = record { within = rw is.number_is at m.behind.within; passed = rw is.first-is at m.behind.passed };
-      }
-
-  pub term-bits : (p : ℕ) → p < 64 → bit p r ≡ found (postingAt ix l (base + p))
-  term-bits p h = (rw (is.first-is, is.number_is) at m.bits) p h ∙ term-in_run ix l (base + p)
-
-  pub term-window : TermWindow ix l after-window base
-  term-window =
-      record {
-        first-within = m.first-within;
-        within = rw is.number_is at m.behind.within;
-        before = rw is.first-is at m.at-first.passed;
-        from = rw (is.first-is, is.number_is) at m.at-first.ahead;
-        inside = rw is.first-is at m.behind.passed;
-        ahead = rw (is.first-is, is.number_is) at m.behind.ahead;
-        bits = λ p h. ap (bit p) (halves-joined r) ∙ term-bits p h;
-      }
-
-  pub term-gap : (d : ℕ) → base + 64 ≤ d → d < m.next → found (postingAt ix l d) ≡ false
-  term-gap d a b = sym (term-in_run ix l d) ∙ (rw (is.first-is, is.number_is) at m.gap) d a b
 
 -- ---- the posting at a place whose bit is set
 pub term-posting : (ix : Index) → Accepted ix → (k l : ℕ) → l < leafCount ix → (s : State) (b : ℕ) → TermIs ix k l s b → length ix.postings < 9223372036854775808 → (base : ℕ) → TermWindow ix l s base → (p : ℕ) → p < 64 → found (postingAt ix l (base + p)) ≡ true → (s.windowFirst + countBelow p (λ q. bit q (windowBits s)) < s.cursor) × (leafDocument ix l (s.windowFirst + countBelow p (λ q. bit q (windowBits s))) ≡ base + p)
 term-posting ix acc k l there s b is size base w p h e =
     let f = is.first-is in
     let n = is.number_is in
-    let held = term-run ix acc k l there s b is size [] (words_of s) refl in
-    posting-of-bit ix.postings 3 (leafFirst ix l) (leafNumber ix l) base s.windowFirst (windowBits s) (rw (f, n) at held.run)
-    (record { within = omega (arith, w.first-within, w.within); passed = w.before; ahead = w.from })
-    (λ q g. w.bits q g ∙ sym (term-in_run ix l (base + q)))
+    rw f at
+    (posting-of-bit ix.postings 3 s.first s.number base s.windowFirst (windowBits s) (term-run ix acc k l there s b is size [] (words_of s) refl).run
+    (record { within = omega (arith, n, w.first-within, w.within); passed = rw f w.before; ahead = rw (f, n) w.from })
+    (λ q g. w.bits q g ∙ sym (term-run-like ix acc k l there s b is (base + q)))
     s.cursor
-    (record { within = w.within; passed = w.inside; ahead = w.ahead })
-    p h (w.bits p h ∙ e)
+    (record { within = omega (arith, n, w.within); passed = rw f w.inside; ahead = rw (f, n) w.ahead })
+    p h (w.bits p h ∙ e))
 
 -- ---- the terms at a larger bound, asked at fewer places
 pub terms-less : (ix : Index) (ts : List PhraseTerm) (w : List ℕ) (b e base : ℕ) (D D' : Places) → b ≤ e → ((p : ℕ) → p < 64 → D' p ≡ true → D p ≡ true) → TermsWindowed ix ts w b base D → TermsWindowed ix ts w e base D'
@@ -195,7 +147,8 @@ module _ {postings : List ℕ} {ix : Index} {ts : List PhraseTerm} {base want : 
               let part : st ≡ words_of h.0 = record-part terms q.x h.1 h.0 at e is q.place stop in
               let own : RunPost ix.postings 3 st base r ys = subst (λ (y : List ℕ). RunPost y 3 st base r ys) (sym q.postings-are) post in
               let m = own h.0 [] (term-run ix q.accepted 9 t.leaf k.0 h.0 base h.3 (omega (arith, ap length q.postings-are)) [] st part) in
-              let s' = after-window ix 9 t.leaf h.0 base h.3 [] r ys m in
+              let s' = windowAt h.0 m.cursor m.first r m.next in
+              let like = term-run-like ix q.accepted 9 t.leaf k.0 h.0 base h.3 in
               let here : ys ≡ words_of s' = m.words_are in
               let whole : terms' ≡ q.x ++ (ys ++ h.1) = record-back terms q.x h.1 h.0 at e is q.place stop ys in
               let twenty-two : get_or terms' (at + 22) 0 ≡ m.next = ap (λ (y : List ℕ). get_or y (at + 22) 0) (whole ∙ ap (λ (y : List ℕ). q.x ++ (y ++ h.1)) here) ∙ read-there q.x (words_of s' ++ h.1) at 22 q.place in
@@ -211,13 +164,13 @@ module _ {postings : List ℕ} {ix : Index} {ts : List PhraseTerm} {base want : 
                 there = k.1;
                 rest = h.6;
                 bits = λ p i.
-                    ap (λ (c : Bool). c && allFound ix g (base + p)) (both p ∙ ap (λ (c : Bool). bit p w && c) (term-bits ix 9 t.leaf h.0 base h.3 [] r ys m p i))
+                    ap (λ (c : Bool). c && allFound ix g (base + p)) (both p ∙ ap (λ (c : Bool). bit p w && c) (m.bits p i ∙ like (base + p)))
                     ∙ and_assoc (bit p w) (found (postingAt ix t.leaf (base + p))) (allFound ix g (base + p))
                     ∙ b p i;
-                gap = λ d i j. ⊎_elim (λ c. q.gap d i c) (λ c. f d (found-miss ix t g d (term-gap ix 9 t.leaf h.0 base h.3 [] r ys m d i (omega (arith, last))))) (cmp d next);
+                gap = λ d i j. ⊎_elim (λ c. q.gap d i c) (λ c. f d (found-miss ix t g d (sym (like d) ∙ m.gap d i (omega (arith, last))))) (cmp d next);
                 top = omega (arith, last, q.top, m.top);
                 fails = λ d c. f d (found-rest ix t g d c);
-                back = λ D fewer z' j. rw append_assoc (s D (λ p i c. and-left (bit p w) (bit p r) (sym (both p) ∙ fewer p i c)) (ys ++ z') (s', z', ap (λ (y : List ℕ). y ++ z') here, term_after ix 9 t.leaf h.0 base h.3 [] r ys m, h.4, (λ p i c. term-window ix 9 t.leaf h.0 base h.3 [] r ys m), j));
+                back = λ D fewer z' j. rw append_assoc (s D (λ p i c. and-left (bit p w) (bit p r) (sym (both p) ∙ fewer p i c)) (ys ++ z') (s', z', ap (λ (y : List ℕ). y ++ z') here, term-passed ix q.accepted 9 t.leaf k.0 h.0 base h.3 [] r ys m, h.4, (λ p i c. term-window ix q.accepted 9 t.leaf k.0 h.0 base h.3 [] r ys m), j));
               }
 
 -- ---- the postings at a place that all terms have
