@@ -1,3 +1,5 @@
 -- The laws of nodes without children that are asked by windows.
 pub mod Records
 pub mod Nodes
+pub mod TermLaws
+pub mod PlaneLaws
