@@ -1,9 +1,8 @@
 -- What a phrase answers of a window: its terms' documents where it stands, and its frequencies as two planes. Assumes nothing.
 use Rattle.std.proofs.Common.{◌≡◌, refl, sym, ap, ap₂, subst, ◌∙◌, Bool, true, false, cond, ◌&&◌, ◌||◌, ⊎_elim, List, ◌++◌, append-nil, ℕ, ◌+◌, ◌-◌, ◌*◌, ◌/◌, ◌%◌, ◌≤◌, ◌<◌, min, ltb, length, get_or, set, take, drop, length-set, arith, lt-ltb, le-ltb, ltb-false}
 use Rattle.std.proofs.lemmas.Bool.{eqb-false, false≢true}
-use mathlib.Core.Bool.{and-false}
 use lib.Seq.{drop-length}
-use Rattle.meaning.specs.Limits.{noMoreDocs, nodeStateWords}
+use Rattle.meaning.specs.Limits.{nodeStateWords}
 use Rattle.meaning.specs.Lent.{Index}
 use Rattle.meaning.specs.Phrase.{PhraseTerm, phraseFrequency}
 use Rattle.meaning.proofs.Tests.{decided}
@@ -16,7 +15,7 @@ use Rattle.bits.proofs.Laws.{halves-joined}
 use Rattle.leaf_scorer.specs.Calls.{Lent, RoomIn}
 use Rattle.leaf_scorer.specs.Phrases.{allFound}
 use Rattle.leaf_scorer.proofs.PhraseLaws.{behind-part, leaves-there, lacking}
-use Rattle.window_words.specs.Windowed.{Places, nowhere, placesOf, joined, phrasePlaces, planedFrequency, TermsWindowed, PhraseWindowed, LeafWindowed, Windowed}
+use Rattle.window_words.specs.Windowed.{nowhere, placesOf, joined, phrasePlaces, TermsWindowed, PhraseWindowed, LeafWindowed, Windowed}
 use Rattle.window_words.proofs.Laws.{kindOf, windowed-kind}
 use Rattle.window_leaf.specs.Asks.{Answers, NodeWindowed, PhrasePre, PhrasePost}
 use Rattle.window_leaf.specs.Runs.{answered, PutPre, PutPost}
@@ -321,7 +320,7 @@ module _ {postings positions : List ℕ} {a b : ℕ} {st : List ℕ} {base : ℕ
             let own : NodeWindowed E ix places (leaf (phrase q.0 q.1) q.2) k o st base = subst (λ (t : Scorer). NodeWindowed E ix places t k o st base) q.3 h in
             let asked-terms = phrase-asked E ix places k o st base q.0 q.1 q.2 own ep eq want r next ys asked in
             subst (λ (t : Scorer). Answers (matches ix t) base (placesOf want) w (get_or st' 22 0) × Windowed ix E.ranges t k o st' (base + 64) base (placesOf want)) (sym q.3)
-                (phrase-leaf E ix places k o st base q.0 q.1 q.2 own ep eq want r next ys asked ones twos w (planes ix places q.0 q.1 asked-terms) some x y u v ex ey eu ev st' post)
+            (phrase-leaf E ix places k o st base q.0 q.1 q.2 own ep eq want r next ys asked ones twos w (planes ix places q.0 q.1 asked-terms) some x y u v ex ey eu ev st' post)
 
 -- a word of the record is there after the ones before it are written
 pub written-long : (y : List ℕ) (a b c : ℕ) → nodeStateWords ≤ length y → (24 < length (set y 23 a)) × (25 < length (set (set y 23 a) 24 b)) × (26 < length (set (set (set y 23 a) 24 b) 25 c))

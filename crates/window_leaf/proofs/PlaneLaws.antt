@@ -1,5 +1,5 @@
 -- The frequency of a phrase at a place of a window, and the frequencies of the window noted in two planes. Assumes nothing.
-use Rattle.std.proofs.Common.{◌≡◌, refl, sym, ap, ap₂, subst, ◌∙◌, Bool, true, false, cond, not, ◌&&◌, ◌||◌, ⊎_elim, List, ℕ, zero, suc, ◌+◌, ◌*◌, ◌≤◌, ◌<◌, min, ltb, eqb, eqb-true, eq-eqb, length, take, arith}
+use Rattle.std.proofs.Common.{◌≡◌, refl, sym, ap, ap₂, subst, ◌∙◌, Bool, true, false, cond, not, ◌&&◌, ◌||◌, ⊎_elim, List, ℕ, zero, suc, ◌+◌, ◌*◌, ◌≤◌, ◌<◌, min, eqb, eqb-true, eq-eqb, length, take, arith}
 use mathlib.Core.Bool.{and-true, and-false, or-false, false≢true}
 use lib.Seq.{length-take-le}
 use Rattle.meaning.proofs.Tests.{decided}
@@ -7,7 +7,6 @@ use Rattle.meaning.specs.Limits.{nodeStateWords}
 use Rattle.meaning.specs.Lent.{Index}
 use Rattle.meaning.specs.Phrase.{PhraseTerm, commonSize, phraseFrequency}
 use Rattle.phrase.specs.Terms.{startLists, Good, Room}
-use Rattle.weight.specs.ScorerTree.{phrase}
 use Rattle.weight.specs.Sound.{LeafSound}
 use Rattle.leaf_scorer.specs.Phrases.{GatheredTo}
 use Rattle.leaf_scorer.proofs.PhraseLaws.{gathered-good, gathered-places, gathered-frequency}

@@ -1,16 +1,14 @@
 -- The terms of a phrase, asked in turn for a window, and their postings at a place of it. Assumes nothing.
-use Rattle.std.proofs.Common.{◌≡◌, refl, sym, ap, ap₂, subst, ◌∙◌, Bool, true, false, cond, ◌&&◌, ◌||◌, ⊎_elim, List, [], ◌∷◌, ◌++◌, ℕ, zero, suc, ◌+◌, ◌-◌, ◌*◌, ◌≤◌, ◌<◌, max, length, get_or, set, take, drop, append_assoc, append-nil, length-append, arith}
-use mathlib.Core.Bool.{and-true, and_assoc, or-true, or-false, false≢true}
-use mathlib.Core.Option.{Option, none, some}
+use Rattle.std.proofs.Common.{◌≡◌, refl, sym, ap, ap₂, subst, ◌∙◌, Bool, true, false, ◌&&◌, ⊎_elim, List, [], ◌∷◌, ◌++◌, ℕ, ◌+◌, ◌-◌, ◌*◌, ◌≤◌, ◌<◌, max, length, get_or, set, take, drop, append_assoc, append-nil, length-append, arith}
+use mathlib.Core.Bool.{and-true, and_assoc, false≢true}
 use lib.Seq.{get_or-append-add}
 use Rattle.meaning.proofs.Tests.{cmp}
-use Rattle.meaning.specs.Below.{anyBelow, countBelow, lastBelow}
+use Rattle.meaning.specs.Below.{countBelow}
 use Rattle.meaning.specs.Limits.{noMoreDocs, nodeStateWords}
 use Rattle.meaning.specs.Lent.{Index, leafCount, leafFirst, leafNumber, leafDocument, leafFrequency, leafPositionsIndex}
 use Rattle.meaning.specs.Postings.{postingAt, found}
 use Rattle.meaning.specs.Phrase.{PhraseTerm}
 use Rattle.index.specs.Accepted.{Accepted}
-use Rattle.run.specs.Run.{documentAt}
 use Rattle.weight.specs.State.{State, words_of}
 use Rattle.weight.specs.Held.{TermIs}
 use Rattle.leaf_scorer.specs.Search.{SearchHeld}
@@ -19,12 +17,11 @@ use Rattle.leaf_scorer.proofs.Bounds.{term-mono}
 use Rattle.leaf_scorer.proofs.LeafLaws.{term-run}
 use Rattle.leaf_scorer.proofs.PhraseLaws.{record-fits, record-part, record-back, found-miss, found-rest, take-three}
 use Rattle.bits.specs.Bit.{bit}
-use Rattle.bits.proofs.Laws.{bit-zero, halves-joined}
-use Rattle.window.specs.Windows.{inRun, Cursor}
+use Rattle.bits.proofs.Laws.{bit-zero}
 use Rattle.window.proofs.Rank.{posting-of-bit}
 use Rattle.window_words.specs.Windowed.{Places, nowhere, placesOf, joined, windowBits, TermWindow, TermAsked, TermsWindowed}
 use Rattle.window_leaf.specs.Asks.{Answers}
-use Rattle.window_leaf.specs.Runs.{windowAt, RunMoved, RunPost}
+use Rattle.window_leaf.specs.Runs.{windowAt, RunPost}
 use Rattle.window_leaf.proofs.Records.{term-run-like, term-passed, term-window}
 use Rattle.window_leaf.specs.Phrases.{TermsHeld, TermsAsked, rankAt, PostingPre, GatherPre}
 
@@ -61,6 +58,21 @@ read-there x y at k e = rw (e, get_or-append-add)
 and-left : (a b : Bool) → (a && b) ≡ true → a ≡ true
 and-left true b e = refl
 and-left false b e = e
+
+-- .. that was put there
+word-there : (terms x ys y w : List ℕ) (at k : ℕ) → at ≡ length x → terms ≡ x ++ (ys ++ w) → ys ≡ y → get_or terms (at + k) 0 ≡ get_or (y ++ w) k 0
+word-there terms x ys y w at k e whole here = rw (whole, here) (read-there x (y ++ w) at k e)
+
+same-length : (ys y : List ℕ) → ys ≡ y → length ys ≡ length y
+same-length ys y e = ap length e
+
+-- the same words before others
+same-front : (ys y z : List ℕ) → ys ≡ y → ys ++ z ≡ y ++ z
+same-front ys y z e = ap (λ (v : List ℕ). v ++ z) e
+
+-- the documents of one more term are taken out of those wanted
+fewer-wanted : (a b c d e : Bool) → a ≡ (b && c) → c ≡ d → (a && e) ≡ (b && (d && e))
+fewer-wanted a b c d e h g = rw (h, g) (and_assoc b d e)
 
 pub record Asking (postings : List ℕ) (ix : Index) (ts : List PhraseTerm) (base want : ℕ) (terms : List ℕ) (w next at : ℕ) : Type 0 where
   pub left : List PhraseTerm
@@ -151,26 +163,23 @@ module _ {postings : List ℕ} {ix : Index} {ts : List PhraseTerm} {base want : 
               let like = term-run-like ix q.accepted 9 t.leaf k.0 h.0 base h.3 in
               let here : ys ≡ words_of s' = m.words_are in
               let whole : terms' ≡ q.x ++ (ys ++ h.1) = record-back terms q.x h.1 h.0 at e is q.place stop ys in
-              let twenty-two : get_or terms' (at + 22) 0 ≡ m.next = ap (λ (y : List ℕ). get_or y (at + 22) 0) (whole ∙ ap (λ (y : List ℕ). q.x ++ (y ++ h.1)) here) ∙ read-there q.x (words_of s' ++ h.1) at 22 q.place in
+              let twenty-two : get_or terms' (at + 22) 0 ≡ m.next = word-there terms' q.x ys (words_of s') h.1 at 22 q.place whole here in
               let last : next' ≡ max next m.next = after ∙ ap (max next) twenty-two in
               record {
                 left = g;
                 x = q.x ++ ys;
                 z = h.1;
                 is = whole ∙ sym (append_assoc q.x ys h.1);
-                place = omega (arith, q.place, length-append q.x ys, ap length here);
+                place = omega (arith, q.place, length-append q.x ys, same-length ys (words_of s') here);
                 accepted = q.accepted;
                 postings-are = q.postings-are;
                 there = k.1;
                 rest = h.6;
-                bits = λ p i.
-                    ap (λ (c : Bool). c && allFound ix g (base + p)) (both p ∙ ap (λ (c : Bool). bit p w && c) (m.bits p i ∙ like (base + p)))
-                    ∙ and_assoc (bit p w) (found (postingAt ix t.leaf (base + p))) (allFound ix g (base + p))
-                    ∙ b p i;
+                bits = λ p i. fewer-wanted (bit p w') (bit p w) (bit p r) (found (postingAt ix t.leaf (base + p))) (allFound ix g (base + p)) (both p) (m.bits p i ∙ like (base + p)) ∙ b p i;
                 gap = λ d i j. ⊎_elim (λ c. q.gap d i c) (λ c. f d (found-miss ix t g d (sym (like d) ∙ m.gap d i (omega (arith, last))))) (cmp d next);
                 top = omega (arith, last, q.top, m.top);
                 fails = λ d c. f d (found-rest ix t g d c);
-                back = λ D fewer z' j. rw append_assoc (s D (λ p i c. and-left (bit p w) (bit p r) (sym (both p) ∙ fewer p i c)) (ys ++ z') (s', z', ap (λ (y : List ℕ). y ++ z') here, term-passed ix q.accepted 9 t.leaf k.0 h.0 base h.3 [] r ys m, h.4, (λ p i c. term-window ix q.accepted 9 t.leaf k.0 h.0 base h.3 [] r ys m), j));
+                back = λ D fewer z' j. rw append_assoc (s D (λ p i c. and-left (bit p w) (bit p r) (sym (both p) ∙ fewer p i c)) (ys ++ z') (s', z', same-front ys (words_of s') z' here, term-passed ix q.accepted 9 t.leaf k.0 h.0 base h.3 [] r ys m, h.4, (λ p i c. term-window ix q.accepted 9 t.leaf k.0 h.0 base h.3 [] r ys m), j));
               }
 
 -- ---- the postings at a place that all terms have
