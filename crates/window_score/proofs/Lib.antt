@@ -1,2 +1,3 @@
 -- The laws of this crate's loops.
 pub mod Adding
+pub mod Terms
