@@ -14,20 +14,22 @@ use Rattle.meaning.specs.Query.{isRequired, isShould, isMustNot, Clauses, hasReq
 use Rattle.meaning.specs.Takes.{shouldsNeeded}
 use Rattle.meaning.specs.Cost.{costs, disjunctionCost}
 use Rattle.ieee754.specs.Nonneg.{AtMost}
-use Rattle.weight.specs.ScorerTree.{matches}
+use Rattle.weight.specs.ScorerTree.{Scorer, matches}
 use Rattle.weight.specs.State.{State, words_of, size_of, sizesOf, sizesOfFirst}
 use Rattle.weight.specs.Weigh.{Ready, cheapestFirst, chosen, scorersOf, upToCost, joiningOf, booleanOf, readied}
-use Rattle.weight.specs.Held.{Ok, Oks, FloatIs, KeptIs, JoiningIs}
+use Rattle.weight.specs.Held.{FloatIs, KeptIs, JoiningIs}
+use Rattle.window_words.specs.Windowed.{Places, nowhere, Windowed, AllWindowed}
+use Rattle.window_words.proofs.Unasked.{unasked-stored, unasked-optional}
 use Rattle.node_words.specs.Placed.{Placed, keptOf, booleanState}
 use Rattle.build.specs.Parts.{PlacedAll}
-use Rattle.node_words.proofs.Placing.{no-cache, score-is}
+use Rattle.node_words.proofs.Placing.{score-is}
 
 -- ---- one list after another
-pub oks-append : (ix : Index) (ranges : List ℕ) (xs ys : List Ready) (d : ℕ) (x y : List ℕ) (b : ℕ) → Oks ix ranges (scorersOf xs) d x b → Oks ix ranges (scorersOf ys) d y b → Oks ix ranges (scorersOf (xs ++ ys)) d (x ++ y) b
-unfolding scorersOf Ok
-oks-append ix ranges [] ys d x y b o p = subst (λ (z : List ℕ). Oks ix ranges (scorersOf ys) d (z ++ y) b) (sym o) p
-oks-append ix ranges (r ∷ rs) ys d x y b o p =
-    (o.0, o.1 ++ y, ap (λ (z : List ℕ). z ++ y) o.2 ∙ append_assoc o.0 o.1 y, o.3, oks-append ix ranges rs ys d o.1 y b o.4 p)
+pub all-append : (ix : Index) (ranges : List ℕ) (xs ys : List Ready) (d : ℕ) (x y : List ℕ) (b base : ℕ) (D : Places) → AllWindowed ix ranges (scorersOf xs) d x b base D → AllWindowed ix ranges (scorersOf ys) d y b base D → AllWindowed ix ranges (scorersOf (xs ++ ys)) d (x ++ y) b base D
+unfolding scorersOf AllWindowed
+all-append ix ranges [] ys d x y b base D o p = subst (λ (z : List ℕ). AllWindowed ix ranges (scorersOf ys) d (z ++ y) b base D) (sym o) p
+all-append ix ranges (r ∷ rs) ys d x y b base D o p =
+    (o.0, o.1 ++ y, ap (λ (z : List ℕ). z ++ y) o.2 ∙ append_assoc o.0 o.1 y, o.3, all-append ix ranges rs ys d o.1 y b base D o.4 p)
 
 pub sizes-append : (xs ys : List Ready) → sizesOf (scorersOf (xs ++ ys)) ≡ sizesOf (scorersOf xs) + sizesOf (scorersOf ys)
 unfolding scorersOf sizesOf
@@ -133,11 +135,12 @@ module _ (ix : Index) (ranges : List ℕ) (msm : ℕ) (cs : Clauses) (fixed : Bo
   abbrev pub prohibitedHere : List Ready
   prohibitedHere = chosen isMustNot (readied ix cs boost)
 
-  pub boolean-placed : (depth scores size need requiredEnd optionalEnd groupAt : ℕ) (after : Bool) (x v z : List ℕ) → 0 < depth → T (fits binary32 kept) → AtMost (2 ^ 29) kept → size ≡ nodeStateWords + (sizesOf (scorersOf requiredHere) + (sizesOf (scorersOf optionalHere) + sizesOf (scorersOf prohibitedHere))) → need ≡ shouldsNeeded msm cs → requiredEnd ≡ sizesOf (scorersOf requiredHere) → optionalEnd ≡ sizesOf (scorersOf requiredHere) + sizesOf (scorersOf optionalHere) → after ≡ (hasRequired cs && eqb msm 0) → groupAt ≡ sizesOfFirst (upToCost (disjunctionCost (costs ix cs)) requiredHere) (scorersOf requiredHere) → Oks ix ranges (scorersOf requiredHere) (depth - 1) x 0 → Oks ix ranges (scorersOf optionalHere) (depth - 1) v 0 → Oks ix ranges (scorersOf prohibitedHere) (depth - 1) z 0 → Ok ix ranges (booleanOf ix msm cs (keptOf fixed kept) (readied ix cs boost)) depth scores (words_of (booleanState size need requiredEnd optionalEnd fixed (to_bits binary32 kept) after groupAt scores) ++ (x ++ (v ++ z))) 0
-  unfolding booleanOf Ok size_of
+  pub boolean-placed : (depth scores size need requiredEnd optionalEnd groupAt : ℕ) (after : Bool) (x v z : List ℕ) → 0 < depth → T (fits binary32 kept) → AtMost (2 ^ 29) kept → size ≡ nodeStateWords + (sizesOf (scorersOf requiredHere) + (sizesOf (scorersOf optionalHere) + sizesOf (scorersOf prohibitedHere))) → need ≡ shouldsNeeded msm cs → requiredEnd ≡ sizesOf (scorersOf requiredHere) → optionalEnd ≡ sizesOf (scorersOf requiredHere) + sizesOf (scorersOf optionalHere) → after ≡ (hasRequired cs && eqb msm 0) → groupAt ≡ sizesOfFirst (upToCost (disjunctionCost (costs ix cs)) requiredHere) (scorersOf requiredHere) → AllWindowed ix ranges (scorersOf requiredHere) (depth - 1) x 0 0 nowhere → AllWindowed ix ranges (scorersOf optionalHere) (depth - 1) v 0 0 nowhere → AllWindowed ix ranges (scorersOf prohibitedHere) (depth - 1) z 0 0 nowhere → Windowed ix ranges (booleanOf ix msm cs (keptOf fixed kept) (readied ix cs boost)) depth scores (words_of (booleanState size need requiredEnd optionalEnd fixed (to_bits binary32 kept) after groupAt scores) ++ (x ++ (v ++ z))) 0 0 nowhere
+  unfolding booleanOf Windowed size_of
   boolean-placed depth scores size need requiredEnd optionalEnd groupAt after x v z levels held small sized needed required optional joins group a b c =
       let s = booleanState size need requiredEnd optionalEnd fixed (to_bits binary32 kept) after groupAt scores in
-      (s, x, v, z, refl, refl, levels, record { kind-is = refl; size_is = sized; need-is = needed; required-end = required; optional-end = optional; kept = kept-is fixed kept s refl (score-is kept held small); joining = joining-is (hasRequired cs && eqb msm 0) (disjunctionCost (costs ix cs)) requiredHere s (ap (λ (t : Bool). cond t 1 0) joins) group }, no-cache (matches ix (booleanOf ix msm cs (keptOf fixed kept) (readied ix cs boost))), a, b, c)
+      let T : Scorer = booleanOf ix msm cs (keptOf fixed kept) (readied ix cs boost) in
+      (s, x, v, z, refl, refl, levels, record { kind-is = refl; size_is = sized; need-is = needed; required-end = required; optional-end = optional; kept = kept-is fixed kept s refl (score-is kept held small); joining = joining-is (hasRequired cs && eqb msm 0) (disjunctionCost (costs ix cs)) requiredHere s (ap (λ (t : Bool). cond t 1 0) joins) group }, refl, unasked-stored (matches ix T) s 0, a, unasked-optional ix ranges T (shouldsNeeded msm cs) (scorersOf optionalHere) (depth - 1) v 0 b, c)
 
   -- the whole part, as the code writes it
   pub boolean-whole : (st out₁ out₂ out₃ post₁ post₂ post₃ st' : List ℕ) (depth scores need e₁ e₂ e₃ groupAt : ℕ) (after : Bool) → nodeStateWords ≤ length st → 0 < depth → T (fits binary32 kept) → AtMost (2 ^ 29) kept → PlacedAll ix ranges requiredHere (depth - 1) e₁ out₁ → PlacedAll ix ranges optionalHere (depth - 1) e₂ out₂ → PlacedAll ix ranges prohibitedHere (depth - 1) e₃ out₃ → need ≡ shouldsNeeded msm cs → after ≡ (hasRequired cs && eqb msm 0) → groupAt ≡ sizesOfFirst (upToCost (disjunctionCost (costs ix cs)) requiredHere) (scorersOf requiredHere) → st' ≡ words_of (booleanState (nodeStateWords + (e₁ + e₂) + e₃) need e₁ (e₁ + e₂) fixed (to_bits binary32 kept) after groupAt scores) ++ drop nodeStateWords (take (nodeStateWords + (e₁ + e₂)) (take (nodeStateWords + e₁) (take nodeStateWords st ++ (out₁ ++ post₁)) ++ (out₂ ++ post₂)) ++ (out₃ ++ post₃)) → Placed ix ranges (booleanOf ix msm cs (keptOf fixed kept) (readied ix cs boost)) depth scores (nodeStateWords + (e₁ + e₂) + e₃) st'
@@ -152,5 +155,5 @@ module _ (ix : Index) (ranges : List ℕ) (msm : ℕ) (cs : Clauses) (fixed : Bo
       record {
         size_is = sized;
         within = subst (λ (zs : List ℕ). size ≤ length zs) (sym is) (parts-long st out₁ out₂ out₃ post₁ post₂ post₃ e₁ e₂ e₃ room a.within b.within c.within w refl);
-        ok = subst (λ (zs : List ℕ). Ok ix ranges (booleanOf ix msm cs (keptOf fixed kept) (readied ix cs boost)) depth scores zs 0) (sym (ap (take size) is ∙ parts_are st out₁ out₂ out₃ post₁ post₂ post₃ e₁ e₂ e₃ room a.within b.within c.within w refl)) (boolean-placed depth scores size need e₁ (e₁ + e₂) groupAt after (take e₁ out₁) (take e₂ out₂) (take e₃ out₃) levels held small sized needed required (omega (arith, required, optional)) joins group a.ok b.ok c.ok);
+        held = subst (λ (zs : List ℕ). Windowed ix ranges (booleanOf ix msm cs (keptOf fixed kept) (readied ix cs boost)) depth scores zs 0 0 nowhere) (sym (ap (take size) is ∙ parts_are st out₁ out₂ out₃ post₁ post₂ post₃ e₁ e₂ e₃ room a.within b.within c.within w refl)) (boolean-placed depth scores size need e₁ (e₁ + e₂) groupAt after (take e₁ out₁) (take e₂ out₂) (take e₃ out₃) levels held small sized needed required (omega (arith, required, optional)) joins group a.held b.held c.held);
       }

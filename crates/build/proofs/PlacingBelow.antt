@@ -19,7 +19,8 @@ use Rattle.sim.proofs.ScoreBounds.{boost-atmost}
 use Rattle.query.proofs.Above.{within-constant, within-boost, boost-number}
 use Rattle.query.proofs.Accepted.{boost-within}
 use Rattle.query.proofs.Inverse.{constant-at, boost-at}
-use Rattle.weight.proofs.Deeper.{ok-deeper}
+use Rattle.window_words.specs.Windowed.{nowhere}
+use Rattle.window_words.proofs.Unasked.{windowed-deeper}
 use Rattle.weight.proofs.Standing.{deep}
 use Rattle.weight.specs.ScorerTree.{Scorer}
 use Rattle.weight.specs.State.{size_of}
@@ -36,7 +37,7 @@ zero_bits = refl
 
 -- a part that is placed with some levels left is placed with more
 placed-deeper : (ix : Index) (ranges : List ℕ) (s : Scorer) (d e scores r : ℕ) (words : List ℕ) → d ≤ e → Placed ix ranges s d scores r words → Placed ix ranges s e scores r words
-placed-deeper ix ranges s d e scores r words h p = record { size_is = p.size_is; within = p.within; ok = ok-deeper ix ranges s d e scores (take r words) 0 h p.ok }
+placed-deeper ix ranges s d e scores r words h p = record { size_is = p.size_is; within = p.within; held = windowed-deeper ix ranges s d e scores (take r words) 0 0 nowhere h p.held }
 
 -- the tree one record after, with what reaches it: its scorer is the same
 record Below (ix : Index) (q : List ℕ) (k at : ℕ) (D : Decoded) (fixed : Bool) (kept boost : Float) (fixed' : Bool) (kept' boost' : Float) (words : ℕ) : Type 0 where

@@ -18,25 +18,25 @@ use Rattle.ieee754.proofs.Bounds.{zero-atmost}
 use Rattle.query.proofs.Inverse.{occur-number, occurNumber}
 use Rattle.weight.specs.Weigh.{Ready, scorersOf, weigh}
 use Rattle.weight.specs.State.{size_of, sizesOf}
-use Rattle.weight.specs.Held.{Ok, Oks}
+use Rattle.window_words.specs.Windowed.{nowhere, AllWindowed}
 use Rattle.node_words.specs.Placed.{Placed}
 use Rattle.node_words.specs.Prepared.{Records, Prepared, TreeAsked, TreePre, TreePost}
 use Rattle.build.specs.Parts.{PlacedAll, ListPre, ListPost}
 use Rattle.clauses.specs.Clauses.{ReadyAt, ReadiesAt}
-use Rattle.build.proofs.BooleanParts.{oks-append, sizes-append}
+use Rattle.build.proofs.BooleanParts.{all-append, sizes-append}
 use Rattle.clauses.proofs.ClauseLaws.{readies-length, readies-here}
 
 -- ---- parts one after the other
 module _ (ix : Index) (ranges : List ℕ) (d : ℕ) where
   placed-none : (words : List ℕ) → PlacedAll ix ranges [] d 0 words
-  unfolding scorersOf sizesOf Ok
-  placed-none words = record { size_is = refl; within = omega arith; ok = refl }
+  unfolding scorersOf sizesOf AllWindowed
+  placed-none words = record { size_is = refl; within = omega arith; held = refl }
 
   placed_one : (one : Ready) (r : ℕ) (words : List ℕ) → Placed ix ranges one.scorer d (cond (isMust one.occur) 1 0) r words → PlacedAll ix ranges (one ∷ []) d r words
-  unfolding scorersOf sizesOf Ok
+  unfolding scorersOf sizesOf AllWindowed
   placed_one one r words p =
       let is = p.size_is in
-      record { size_is = omega (arith, is); within = p.within; ok = (take r words, [], sym (append-nil (take r words)), p.ok, refl) }
+      record { size_is = omega (arith, is); within = p.within; held = (take r words, [], sym (append-nil (take r words)), p.held, refl) }
 
   pub placed-both : (xs ys : List Ready) (a b : ℕ) (st out : List ℕ) → PlacedAll ix ranges xs d a st → PlacedAll ix ranges ys d b out → PlacedAll ix ranges (xs ++ ys) d (a + b) (take a st ++ out)
   placed-both xs ys a b st out p q =
@@ -50,7 +50,7 @@ module _ (ix : Index) (ranges : List ℕ) (d : ℕ) where
       record {
         size_is = omega (arith, x, y, sum);
         within = omega (arith, long, both, w);
-        ok = subst (λ (z : List ℕ). Oks ix ranges (scorersOf (xs ++ ys)) d z 0) (sym words) (oks-append ix ranges xs ys d (take a st) (take b out) 0 p.ok q.ok);
+        held = subst (λ (z : List ℕ). AllWindowed ix ranges (scorersOf (xs ++ ys)) d z 0 0 nowhere) (sym words) (all-append ix ranges xs ys d (take a st) (take b out) 0 0 nowhere p.held q.held);
       }
 
   -- what stands after the words does not matter
@@ -61,7 +61,7 @@ module _ (ix : Index) (ranges : List ℕ) (d : ℕ) where
       record {
         size_is = p.size_is;
         within = omega (arith, w, both);
-        ok = subst (λ (z : List ℕ). Oks ix ranges (scorersOf rs) d z 0) (sym (take-append-le r out post p.within)) p.ok;
+        held = subst (λ (z : List ℕ). AllWindowed ix ranges (scorersOf rs) d z 0 0 nowhere) (sym (take-append-le r out post p.within)) p.held;
       }
 
 -- ---- the clause at a place of a list

@@ -6,7 +6,7 @@ use Rattle.meaning.specs.Cost.{costs, disjunctionCost}
 use Rattle.ieee754.specs.Nonneg.{signClear}
 use Rattle.weight.specs.Weigh.{Ready, scorersOf, upToCost}
 use Rattle.weight.specs.State.{sizesOf, sizesOfFirst}
-use Rattle.weight.specs.Held.{Oks}
+use Rattle.window_words.specs.Windowed.{nowhere, AllWindowed}
 use Rattle.clauses.specs.Clauses.{ClausesAsked, ReadiesAt, requiredOf, othersOf}
 use Rattle.node_words.specs.Prepared.{Records, Prepared}
 
@@ -14,7 +14,7 @@ use Rattle.node_words.specs.Prepared.{Records, Prepared}
 pub record PlacedAll (ix : Index) (ranges : List ℕ) (rs : List Ready) (depth r : ℕ) (words : List ℕ) : Type 0 where
   pub size_is : r ≡ sizesOf (scorersOf rs)
   pub within : r ≤ length words
-  pub ok : Oks ix ranges (scorersOf rs) depth (take r words) 0
+  pub held : AllWindowed ix ranges (scorersOf rs) depth (take r words) 0 0 nowhere
 
 -- the same of the clauses at some records
 abbrev pub ListPre : Records → List ℕ → Float → ℕ → ℕ → Type 0

@@ -17,6 +17,7 @@ use Rattle.weight.specs.Held.{Ok}
 use Rattle.weight.specs.Sound.{FieldTable}
 use Rattle.weight.proofs.Queries.{query-sound, query-nodes}
 use Rattle.node_words.specs.Placed.{Placed}
+use Rattle.node_words.proofs.Placing.{placed-ok}
 use Rattle.leaf_scorer.proofs.Bounds.{ok-mono, ok-length, ok-long, ok-front, front-size}
 use Rattle.inverses.specs.Inverses.{fieldAt, hasField}
 use Rattle.inverses.proofs.QueryTables.{query-tables}
@@ -45,7 +46,7 @@ module _ (ix : Index) (q ranges words : List ℕ) (from : ℕ) where
   -- a tree that was just built stands there for every document
   pub placed-stands : (r : ℕ) → Placed ix ranges (tree_of ix q) 16 0 r words → (r ≡ size_of (tree_of ix q)) × Standing ix q ranges words from
   placed-stands r p =
-      let at = subst (λ (n : ℕ). (n ≤ length words) × Ok ix ranges (tree_of ix q) 16 0 (take n words) 0) p.size_is (p.within, p.ok) in
+      let at = subst (λ (n : ℕ). (n ≤ length words) × Ok ix ranges (tree_of ix q) 16 0 (take n words) 0) p.size_is (p.within, placed-ok ix ranges (tree_of ix q) 16 0 r words p) in
       (p.size_is, record { within = at.0; ok = ok-mono ix ranges (tree_of ix q) 16 0 (take (size_of (tree_of ix q)) words) 0 from (omega arith) at.1 })
 
 -- the part of the tree went on, the words after it stayed

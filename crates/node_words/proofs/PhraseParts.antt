@@ -1,6 +1,6 @@
 -- The words of a phrase's part, as the code writes them. Assumes nothing.
 use mathlib.Core.Path.{◌≡◌, refl, sym, ◌∙◌, ap, subst}
-use mathlib.Core.Bool.{Bool, cond}
+use mathlib.Core.Bool.{Bool, cond, false≢true}
 use mathlib.Core.List.{List, [], ◌∷◌, ◌++◌, append_assoc}
 use Prim.Native.Nat.{ℕ, suc, ◌+◌, ◌*◌, ◌≤◌}
 use native.Mathlib.Omega.{arith}
@@ -14,11 +14,13 @@ use Rattle.meaning.specs.Lent.{Index, leafFirst, leafNumber, leafField}
 use Rattle.meaning.specs.Phrase.{PhraseTerm}
 use Rattle.meaning.specs.Query.{recordChildren, recordValue, phraseTermsOf}
 use Rattle.query.proofs.Right.{length-listTo}
-use Rattle.weight.specs.ScorerTree.{phrase, leaf, matches}
+use Rattle.weight.specs.ScorerTree.{phrase, leaf, leafMatches}
 use Rattle.weight.specs.State.{State, words_of, leafSize, size_of}
-use Rattle.weight.specs.Held.{TermIs, TermsAre, LeafIs, FloatIs, normsWord, Ok}
+use Rattle.weight.specs.Held.{TermIs, TermsAre, FloatIs, normsWord}
+use Rattle.window_words.specs.Windowed.{LeafWindowed, Windowed}
+use Rattle.window_words.proofs.Unasked.{unasked-stored, unasked-terms}
 use Rattle.node_words.specs.Placed.{Placed, PhraseTermPlaced, scoringOf}
-use Rattle.node_words.proofs.Placing.{leafState, scored, no-cache}
+use Rattle.node_words.proofs.Placing.{leafState, scored}
 
 -- ---- a term's record
 pub phrase-term : (ix : Index) (before after : List ℕ) (l offset first number field norms : ℕ) → first ≡ leafFirst ix l → number ≡ leafNumber ix l → field ≡ leafField ix l → norms ≡ normsWord ix field → after ≡ words_of (leafState 9 0 first number offset field 0 0 0 norms) ++ drop nodeStateWords before → PhraseTermPlaced ix (record { leaf = l; offset = offset }) before after
@@ -75,7 +77,7 @@ take-both s zs n = rw (record-and n)
 
 module _ (ix : Index) (ranges q st₀ out post st : List ℕ) (at d scores size : ℕ) (x : Float) (bits : ℕ) (is : FloatIs x bits) where
   pub placed-phrase : (b : Bool) (fixed field norms : ℕ) → nodeStateWords ≤ length st₀ → st ≡ words_of (phraseState size field fixed bits scores norms) ++ drop nodeStateWords (take nodeStateWords st₀ ++ (out ++ post)) → nodeStateWords + nodeStateWords * recordChildren q at ≤ length st → size ≡ nodeStateWords + nodeStateWords * recordChildren q at → fixed ≡ cond b 1 0 → field ≡ recordValue q at 0 → norms ≡ normsWord ix field → nodeStateWords * recordChildren q at ≤ length out → TermsAre ix (phraseTermsOf q at) (take (nodeStateWords * recordChildren q at) out) 0 → Placed ix ranges (leaf (phrase (recordValue q at 0) (phraseTermsOf q at)) (scoringOf b x)) d scores size st
-  unfolding size_of leafSize Ok LeafIs
+  unfolding size_of leafSize Windowed LeafWindowed
   placed-phrase b fixed field norms room e within sized k f m enough terms =
       let n = nodeStateWords * recordChildren q at in
       let s = phraseState size field fixed bits scores norms in
@@ -86,7 +88,7 @@ module _ (ix : Index) (ranges q st₀ out post st : List ℕ) (at d scores size 
       record {
         size_is = whole;
         within = omega (arith, sized, within);
-        ok = (s, take n out, ap (λ (z : ℕ). take z st) sized ∙ ap (take (nodeStateWords + n)) (e ∙ ap (λ (z : List ℕ). words_of s ++ z) rest) ∙ take-both s (out ++ post) n ∙ ap (λ (z : List ℕ). words_of s ++ z) (take-append-le n out post enough), refl, record { kind-is = refl; size_is = whole; field_is = f; norms-is = m ∙ ap (normsWord ix) f; terms = terms; worked-out = λ d z. absurd (no-work d z) }, scored x bits is b s k refl, no-cache (matches ix (leaf (phrase (recordValue q at 0) (phraseTermsOf q at)) (scoringOf b x))));
+        held = (s, take n out, ap (λ (z : ℕ). take z st) sized ∙ ap (take (nodeStateWords + n)) (e ∙ ap (λ (z : List ℕ). words_of s ++ z) rest) ∙ take-both s (out ++ post) n ∙ ap (λ (z : List ℕ). words_of s ++ z) (take-append-le n out post enough), refl, (record { kind-is = refl; size_is = whole; field_is = f; norms-is = m ∙ ap (normsWord ix) f; terms = unasked-terms ix (phraseTermsOf q at) (take n out) 0 0 terms; frequencies = λ p g e. absurd (false≢true e); worked-out = λ d z. absurd (no-work d z) }, refl), scored x bits is b s k refl, unasked-stored (leafMatches ix (phrase (recordValue q at 0) (phraseTermsOf q at))) s 0);
       }
     where
       no-work : (d : ℕ) → 0 ≡ suc d → ⊥

@@ -2,7 +2,8 @@
 use mathlib.Core.Path.{◌≡◌, refl, sym, ◌∙◌, ap, subst}
 use mathlib.Core.Bool.{Bool, true, false, cond}
 use mathlib.Core.List.{List, [], ◌∷◌, ◌++◌, append_assoc}
-use Prim.Native.Nat.{ℕ, suc, ◌+◌, ◌-◌, ◌^◌, ◌≤◌, ◌<◌, max}
+use Prim.Native.Nat.{ℕ, suc, ◌+◌, ◌^◌, ◌≤◌, ◌<◌}
+use native.Mathlib.Nat.{le_refl}
 use native.Mathlib.Omega.{arith}
 use native.Mathlib.Numerals.{add-one}
 use lib.Dec.{T}
@@ -14,10 +15,13 @@ use Rattle.meaning.specs.Query.{range_of}
 use Rattle.meaning.specs.Ieee754.{zeroFloat}
 use Rattle.ieee754.specs.Nonneg.{AtMost}
 use Rattle.ieee754.proofs.Bounds.{zero-atmost}
-use Rattle.weight.specs.ScorerTree.{Leaf, nothing, term, range, everything, Scoring, constant, leaf, matches, leafMatches}
+use Rattle.weight.specs.ScorerTree.{Leaf, nothing, term, range, everything, Scoring, constant, Scorer, leaf, leafMatches}
 use Rattle.weight.specs.State.{State, words_of, leafSize, size_of}
 use Rattle.weight.specs.Weigh.{noScorer}
-use Rattle.weight.specs.Held.{Cache, LeafIs, ScoringIs, FloatIs, normsWord, Ok}
+use Rattle.weight.specs.Held.{ScoringIs, FloatIs, normsWord, Ok}
+use Rattle.window_words.specs.Windowed.{nowhere, LeafWindowed, Windowed}
+use Rattle.window_words.proofs.Laws.{windowed-ok}
+use Rattle.window_words.proofs.Unasked.{unasked-stored, unasked-term}
 use Rattle.weight.specs.Measured.{RangeListed}
 use Rattle.node_words.specs.Placed.{Placed, scoringOf}
 use lib.Seq.{take-suc, drop-cons, set-append_seam, take_all}
@@ -52,14 +56,15 @@ put_same words st₀ st e f h = let a = ap length e ∙ length-append words (dro
 pub score-is : (x : Float) → T (fits binary32 x) → AtMost (2 ^ 29) x → FloatIs x (to_bits binary32 x)
 score-is x f a = record { held = f; small = a; bits_are = refl }
 
+-- ---- a part that was not asked yet can be asked by documents
+pub placed-ok : (ix : Index) (ranges : List ℕ) (s : Scorer) (d scores r : ℕ) (words : List ℕ) → Placed ix ranges s d scores r words → Ok ix ranges s d scores (take r words) 0
+placed-ok ix ranges s d scores r words p = windowed-ok ix ranges s d scores (take r words) 0 0 nowhere (le_refl 0) p.held
+
 -- ---- a leaf's part
 -- the words of a leaf's record; the others are 0
 abbrev pub leafState : ℕ → ℕ → ℕ → ℕ → ℕ → ℕ → ℕ → ℕ → ℕ → ℕ → State
 leafState kind cached first number offset field fixed weight scores norms =
     record { kind = kind; size = nodeStateWords; cached = cached; need = 0; requiredEnd = 0; optionalEnd = 0; first = first; number = number; cursor = 0; offset = offset; field = field; constant = fixed; weight = weight; afterwards = 0; groupAt = 0; scores = scores; frequencyOf = 0; frequency = 0; norms = norms; windowFirst = 0; windowLow = 0; windowHigh = 0; windowNext = 0; onesLow = 0; onesHigh = 0; twosLow = 0; twosHigh = 0; spare1 = 0; spare2 = 0; spare3 = 0; spare4 = 0; spare5 = 0 }
-
-pub no-cache : (P : ℕ → Bool) → Cache P 0 0
-no-cache P t h g = absurd (omega (arith, g))
 
 pub scored : (x : Float) (bits : ℕ) → FloatIs x bits → (b : Bool) (s : State) → s.constant ≡ cond b 1 0 → s.weight ≡ bits → ScoringIs (scoringOf b x) s
 unfolding ScoringIs
@@ -70,36 +75,36 @@ module _ (ix : Index) (ranges st₀ st : List ℕ) (d scores : ℕ) (room : node
   record-long : (s : State) → st ≡ words_of s ++ drop nodeStateWords st₀ → nodeStateWords ≤ length st
   record-long s e = let a = ap length e ∙ length-append (words_of s) (drop nodeStateWords st₀) in omega (arith, a)
 
-  pub placed-leaf : (l : Leaf) (sc : Scoring) (s : State) → st ≡ words_of s ++ drop nodeStateWords st₀ → nodeStateWords ≡ leafSize l → s.scores ≡ scores → LeafIs ix ranges l s [] (max 0 (s.cached - 1)) → ScoringIs sc s → Cache (matches ix (leaf l sc)) 0 s.cached → Placed ix ranges (leaf l sc) d scores nodeStateWords st
-  unfolding size_of Ok
-  placed-leaf l sc s e size scored is scoring cache =
+  pub placed-leaf : (l : Leaf) (sc : Scoring) (s : State) → st ≡ words_of s ++ drop nodeStateWords st₀ → nodeStateWords ≡ leafSize l → s.scores ≡ scores → LeafWindowed ix ranges l s [] 0 0 nowhere → ScoringIs sc s → Placed ix ranges (leaf l sc) d scores nodeStateWords st
+  unfolding size_of Windowed
+  placed-leaf l sc s e size scored is scoring =
       record {
         size_is = size;
         within = record-long s e;
-        ok = (s, [], ap (take nodeStateWords) e, scored, is, scoring, cache);
+        held = (s, [], ap (take nodeStateWords) e, scored, is, scoring, unasked-stored (leafMatches ix l) s 0);
       }
 
   pub placed-nothing : st ≡ words_of (leafState 0 2147483648 0 0 0 0 1 0 scores 0) ++ drop nodeStateWords st₀ → Placed ix ranges noScorer d scores nodeStateWords st
-  unfolding leafSize LeafIs ScoringIs matches leafMatches fits to_bits
+  unfolding leafSize LeafWindowed ScoringIs fits to_bits
   placed-nothing e =
-      placed-leaf nothing (constant zeroFloat) (leafState 0 2147483648 0 0 0 0 1 0 scores 0) e refl refl (refl, refl, refl, refl) (refl, record { held = tt; small = zero-atmost (2 ^ 29); bits_are = refl }) (λ t h g. record { from = omega (arith, g); top = omega arith; before = λ i a b. refl; hit = λ b. absurd (omega (arith, b)) })
+      placed-leaf nothing (constant zeroFloat) (leafState 0 2147483648 0 0 0 0 1 0 scores 0) e refl refl (refl, refl, refl, refl) (refl, record { held = tt; small = zero-atmost (2 ^ 29); bits_are = refl })
 
   module _ (x : Float) (bits : ℕ) (is : FloatIs x bits) where
     pub placed-everything : st ≡ words_of (leafState 5 0 0 0 0 0 1 bits scores 0) ++ drop nodeStateWords st₀ → Placed ix ranges (leaf everything (constant x)) d scores nodeStateWords st
-    unfolding leafSize LeafIs ScoringIs
+    unfolding leafSize LeafWindowed ScoringIs
     placed-everything e =
-        placed-leaf everything (constant x) (leafState 5 0 0 0 0 0 1 bits scores 0) e refl refl (refl, refl, refl) (refl, is) (no-cache (matches ix (leaf everything (constant x))))
+        placed-leaf everything (constant x) (leafState 5 0 0 0 0 0 1 bits scores 0) e refl refl (refl, refl, refl, refl) (refl, is)
 
     pub placed-range : (q : List ℕ) (at first number : ℕ) → RangeListed ix q ranges at first number → st ≡ words_of (leafState 4 0 first number 0 0 1 bits scores 0) ++ drop nodeStateWords st₀ → Placed ix ranges (leaf (range (range_of q at)) (constant x)) d scores nodeStateWords st
-    unfolding leafSize LeafIs ScoringIs
+    unfolding leafSize LeafWindowed ScoringIs
     placed-range q at first number listed e =
         placed-leaf (range (range_of q at)) (constant x) (leafState 4 0 first number 0 0 1 bits scores 0) e refl refl
-        (record { kind-is = refl; size_is = refl; number_is = listed.count-is; there = listed.there; listed = listed.listed; run = record { within = omega arith; passed = λ i h. absurd (omega (arith, h)) } }, refl)
-        (refl, is) (no-cache (matches ix (leaf (range (range_of q at)) (constant x))))
+        (record { kind-is = refl; size_is = refl; number_is = listed.count-is; there = listed.there; listed = listed.listed; run = record { within = omega arith; passed = λ i h. absurd (omega (arith, h)) } }, refl, refl)
+        (refl, is)
 
     pub placed-term : (b : Bool) (l fixed first number field norms : ℕ) → fixed ≡ cond b 1 0 → first ≡ leafFirst ix l → number ≡ leafNumber ix l → field ≡ leafField ix l → norms ≡ normsWord ix field → st ≡ words_of (leafState 1 0 first number 0 field fixed bits scores norms) ++ drop nodeStateWords st₀ → Placed ix ranges (leaf (term l) (scoringOf b x)) d scores nodeStateWords st
-    unfolding leafSize LeafIs
+    unfolding leafSize LeafWindowed
     placed-term b l fixed first number field norms k f n g m e =
         placed-leaf (term l) (scoringOf b x) (leafState 1 0 first number 0 field fixed bits scores norms) e refl refl
-        (record { kind-is = refl; size_is = refl; first-is = f; number_is = n; field_is = g; norms-is = m ∙ ap (normsWord ix) g; run = record { within = omega arith; passed = λ i h. absurd (omega (arith, h)) } }, refl)
-        (scored x bits is b (leafState 1 0 first number 0 field fixed bits scores norms) k refl) (no-cache (matches ix (leaf (term l) (scoringOf b x))))
+        (record { kind-is = refl; size_is = refl; first-is = f; number_is = n; field_is = g; norms-is = m ∙ ap (normsWord ix) g; run = record { within = omega arith; passed = λ i h. absurd (omega (arith, h)) } }, refl, refl, unasked-term ix l (leafState 1 0 first number 0 field fixed bits scores norms) 0)
+        (scored x bits is b (leafState 1 0 first number 0 field fixed bits scores norms) k refl)

@@ -7,13 +7,14 @@ use Rattle.meaning.specs.Phrase.{PhraseTerm}
 use Rattle.index.specs.Accepted.{Accepted}
 use Rattle.weight.specs.ScorerTree.{Scoring, constant, weighted, Scorer}
 use Rattle.weight.specs.State.{State, words_of, size_of}
-use Rattle.weight.specs.Held.{TermIs, Ok}
+use Rattle.weight.specs.Held.{TermIs}
+use Rattle.window_words.specs.Windowed.{nowhere, Windowed}
 
 -- the part of a scorer, not asked yet, stands in the first r words
 pub record Placed (ix : Index) (ranges : List ℕ) (s : Scorer) (depth scores r : ℕ) (words : List ℕ) : Type 0 where
   pub size_is : r ≡ size_of s
   pub within : r ≤ length words
-  pub ok : Ok ix ranges s depth scores (take r words) 0
+  pub held : Windowed ix ranges s depth scores (take r words) 0 0 nowhere
 
 -- the same score for each document, or BM25 at this weight
 abbrev pub scoringOf : Bool → Float → Scoring

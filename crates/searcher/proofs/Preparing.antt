@@ -26,6 +26,7 @@ use Rattle.weight.specs.Sound.{FieldTable}
 use Rattle.weight.proofs.Queries.{query-sound, query-nodes}
 use Rattle.weight.proofs.FullList.{scorer-list}
 use Rattle.node_words.specs.Placed.{Placed, LeafLent}
+use Rattle.node_words.proofs.Placing.{placed-ok}
 use Rattle.inverses.specs.Inverses.{fieldAt, hasField}
 use Rattle.scorer.specs.Calls.{lent}
 use Rattle.leaf_scorer.proofs.Bounds.{ok-mono}
@@ -72,5 +73,5 @@ module _ (n : ℕ) (fields leaves postings positions norms live columns values q
       tables = query-tables ix q table a t one none;
       few = query-nodes q a.records-right ix one none;
     };
-    ok = ok-mono ix ranges (tree_of ix q) 16 0 (take r states) 0 from (omega arith) p.ok;
+    ok = ok-mono ix ranges (tree_of ix q) 16 0 (take r states) 0 from (omega arith) (placed-ok ix ranges (tree_of ix q) 16 0 r states p);
   }
