@@ -1,5 +1,5 @@
 -- The sums of a window's 64 documents. Assumes nothing: these are definitions.
-use Rattle.std.specs.Prelude.{◌≡◌, true, List, ℕ, ◌+◌, ◌*◌, ◌^◌, ◌≤◌, ◌<◌, length, get_or, Float}
+use Rattle.std.specs.Prelude.{◌≡◌, true, false, List, ℕ, ◌+◌, ◌*◌, ◌^◌, ◌≤◌, ◌<◌, length, get_or, Float}
 use Rattle.std.specs.Float.{nan, binary64}
 use Rattle.std.specs.Float.Ieee.{add}
 use Rattle.meaning.specs.Ieee754.{sumFrom, narrow}
@@ -11,9 +11,10 @@ pub record Sums (q : ℕ) (sums : List Float) : Type 0 where
   pub long : length sums ≡ 64
   pub small : (p : ℕ) → p < 64 → AtMost (q * 2 ^ 29) (get_or sums p nan)
 
--- the sums at the wanted places, with something done to each
-abbrev pub At : (ℕ → Float → Float) → ℕ → List Float → List Float → Type 0
-At f want sums sums' = (p : ℕ) → p < 64 → bit p want ≡ true → get_or sums' p nan ≡ f p (get_or sums p nan)
+-- something is done to the sum at each wanted place, and the others stay
+pub record At (f : ℕ → Float → Float) (want : ℕ) (sums sums' : List Float) : Type 0 where
+  pub wanted : (p : ℕ) → p < 64 → bit p want ≡ true → get_or sums' p nan ≡ f p (get_or sums p nan)
+  pub others : (p : ℕ) → p < 64 → bit p want ≡ false → get_or sums' p nan ≡ get_or sums p nan
 
 -- one more score added
 abbrev pub Added : (ℕ → Float) → ℕ → List Float → List Float → Type 0

@@ -1,5 +1,5 @@
 // The scores of a term and of a phrase at the wanted documents of a window.
-ghost use Rattle.std.specs.Prelude.{◌≡◌, ◌≤◌, length, get_or};
+ghost use Rattle.std.specs.Prelude.{◌≤◌, ◌<◌, length};
 ghost use Rattle.window_score.specs.Asked.{TermPre, TermPost, PhrasePre, PhrasePost};
 ghost use Rattle.window_score.specs.Words.{PlanesRead, PlanedIs};
 ghost use Rattle.meaning.specs.Limits.{nodeStateWords};
