@@ -20,7 +20,7 @@ use Rattle.weight.specs.Weigh.{kept, Ready, cheapestFirst, chosen, scorersOf, bo
 use Rattle.weight.specs.Measured.{Asks}
 use Rattle.weight.specs.Sound.{FieldTable, LeafTable, Tables, TablesOf}
 use Rattle.weight.proofs.Ready.{Every, every-sorted, every-chosen}
-use Rattle.inverses.specs.Inverses.{fieldAt, hasField}
+use Rattle.inverses.specs.Inverses.{FieldTables}
 
 module _ (ix : Index) (table : List Float) where
   -- ---- a tree's scorer from its parts'
@@ -61,7 +61,7 @@ module _ (ix : Index) (table : List Float) where
   abbrev TreeTabled : Tree → Type 0
   TreeTabled t = (b : Float) (c : Option Float) → Tables ix table (weigh ix t b c)
 
-  module _ (q : List ℕ) (all : (at : ℕ) → at < recordCount q → hasField q at ≡ true → FieldTable ix table (fieldAt ix q at)) where
+  module _ (q : List ℕ) (all : FieldTables ix q table) where
     term-table : (r : ℕ) → r < recordCount q → recordKind q r ≡ 1 → FieldTable ix table (leafField ix (recordValue q r 0))
     term-table r here h = rw h at (all r here (rw h))
 
@@ -94,5 +94,5 @@ module _ (ix : Index) (table : List Float) where
         go f (is_none h) b c = rw (none-at q k r D e h).tree_is tt
 
 -- THE theorem
-pub query-tables : (ix : Index) (q : List ℕ) (table : List Float) → Asks ix q → ((at : ℕ) → at < recordCount q → hasField q at ≡ true → FieldTable ix table (fieldAt ix q at)) → (b : Float) (c : Option Float) → Tables ix table (weigh ix (queryTree q) b c)
+pub query-tables : (ix : Index) (q : List ℕ) (table : List Float) → Asks ix q → FieldTables ix q table → (b : Float) (c : Option Float) → Tables ix table (weigh ix (queryTree q) b c)
 query-tables ix q table a all b c = let w = whole q a.records-right in rw w.tree_is (tree-tables ix table q all 16 0 w.root w.root_is b c)

@@ -10,9 +10,8 @@ ghost use Rattle.meaning.specs.Lent.{Index};
 ghost use Rattle.meaning.specs.Bm25.{length_of, inverse};
 ghost use Rattle.meaning.specs.Query.{recordCount};
 ghost use Rattle.weight.specs.Measured.{Asks};
-ghost use Rattle.weight.specs.Sound.{FieldTable};
 ghost use Rattle.node_words.specs.Placed.{LeafLent};
-ghost use Rattle.inverses.specs.Inverses.{fieldAt, hasField};
+ghost use Rattle.inverses.specs.Inverses.{fieldAt, hasField, FieldTables};
 
 // Of one field, into its places of the table.
 fn fill_field(average: u32, table: &mut [f32])
@@ -55,7 +54,7 @@ fn field_at(q: &[u32], leaves: &[u32], at: usize) -> u32
 // A field's inverses are worked out once, where its first record is met.
 pub fn fill_inverses(fields: &[u32], leaves: &[u32], q: &[u32], table: &mut [f32])
     requires { ((ix : Index) × (n : ℕ) × Asks ix q.now × LeafLent ix n fields.now leaves.now) × (length table.old ≡ 4096) }
-    ensures field_table { (ix : Index) (n : ℕ) → Asks ix q.now → LeafLent ix n fields.now leaves.now → (at : ℕ) → at < recordCount q.now → hasField q.now at ≡ true → FieldTable ix table.new (fieldAt ix q.now at) }
+    ensures field_table { (ix : Index) (n : ℕ) → Asks ix q.now → LeafLent ix n fields.now leaves.now → FieldTables ix q.now table.new }
     ensures table_len { length table.new ≡ 4096 }
 {
     let count = query::record_count(q);

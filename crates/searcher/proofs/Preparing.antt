@@ -1,16 +1,16 @@
 -- What an order that is not refused prepares: its scorer tree in the node states, and that its walk gives the full list. Assumes nothing.
 use mathlib.Core.Path.{◌≡◌, refl, sym, subst}
-use mathlib.Core.Bool.{true, false}
+use mathlib.Core.Bool.{false}
 use mathlib.Core.List.{List}
 use mathlib.Core.Option.{none}
-use Prim.Native.Nat.{ℕ, ◌<◌, min}
+use Prim.Native.Nat.{ℕ, min}
 use native.Mathlib.Omega.{arith}
 use lib.ListN.{length, take}
 use lib.IntN.{ℤ}
 use lib.Ieee.{Float}
 use Rattle.meaning.specs.Lent.{Index}
 use Rattle.meaning.specs.Bm25.{one}
-use Rattle.meaning.specs.Query.{queryTree, recordCount}
+use Rattle.meaning.specs.Query.{queryTree}
 use Rattle.meaning.specs.FullList.{ScoreDoc, fullList}
 use Rattle.meaning.specs.Hits.{hits}
 use Rattle.meaning.specs.Pages.{page}
@@ -22,12 +22,11 @@ use Rattle.collector.specs.Collected.{answer}
 use Rattle.weight.specs.Measured.{Asks, Columns}
 use Rattle.weight.specs.ScorerTree.{Scorer}
 use Rattle.weight.specs.Weigh.{weigh}
-use Rattle.weight.specs.Sound.{FieldTable}
 use Rattle.weight.proofs.Queries.{query-sound, query-nodes}
 use Rattle.weight.proofs.FullList.{scorer-list}
 use Rattle.node_words.specs.Placed.{Placed, LeafLent}
 use Rattle.node_words.proofs.Placing.{placed-ok}
-use Rattle.inverses.specs.Inverses.{fieldAt, hasField}
+use Rattle.inverses.specs.Inverses.{FieldTables}
 use Rattle.scorer.specs.Calls.{lent}
 use Rattle.leaf_scorer.proofs.Bounds.{ok-mono}
 use Rattle.walk.specs.declared.Listed.{Listed}
@@ -63,7 +62,7 @@ module _ (n : ℕ) (fields leaves postings positions norms live columns values q
   columns-lent = record { documents = refl; columns-are = refl; values-are = refl }
 
   -- what the two passes give is what the walk asks for
-  pub walk-held : (w : Work) → Asks ix q → workShort ix q w ≡ false → (table : List Float) → ((at : ℕ) → at < recordCount q → hasField q at ≡ true → FieldTable ix table (fieldAt ix q at)) → (ranges states : List ℕ) (r : ℕ) → Placed ix ranges (tree_of ix q) 16 0 r states → (from : ℕ) → PageHeld (lent n postings positions ranges) norms live table ix (min w.starts w.otherStarts) (tree_of ix q) 16 0 (take r states) from
+  pub walk-held : (w : Work) → Asks ix q → workShort ix q w ≡ false → (table : List Float) → FieldTables ix q table → (ranges states : List ℕ) (r : ℕ) → Placed ix ranges (tree_of ix q) 16 0 r states → (from : ℕ) → PageHeld (lent n postings positions ranges) norms live table ix (min w.starts w.otherStarts) (tree_of ix q) 16 0 (take r states) from
   walk-held w a e table t ranges states r p from = record {
     lends = record { accepted = a.accepted; documents = refl; postings-are = refl; positions-are = refl };
     norms-are = refl;

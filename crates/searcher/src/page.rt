@@ -5,9 +5,11 @@ ghost use Rattle.meaning.specs.Entries.{Kept, page_of, pageRefusal, pageAnswer, 
 ghost use Rattle.index.specs.Slices.{lent};
 ghost use Rattle.weight.specs.Measured.{Asks};
 ghost use Rattle.walk.specs.Walks.{PageIs};
+ghost use Rattle.inverses.specs.Inverses.{FieldTables};
 ghost use Rattle.order_check.specs.Lends.{work};
 ghost use Rattle.searcher.specs.Answers.{pagedNumbers};
 
+use sim::bm25::Bm25;
 use walk::Listed;
 
 #[derive(Clone, Copy)]
@@ -16,7 +18,52 @@ pub enum Paged {
     Given(Listed),
 }
 
-// The work of a call that is not refused.
+// The work of a call that is not refused, over the inverses of the order's fields.
+fn list_by(
+    max_doc: u32,
+    fields: &[u32],
+    leaves: &[u32],
+    postings: &[u32],
+    positions: &[u32],
+    norms: &[u8],
+    live: &[u64],
+    columns: &[u32],
+    values: &[u32],
+    q: &[u32],
+    inverses: &[f32],
+    target: u32,
+    states: &mut [u32],
+    a: &mut [i32],
+    b: &mut [i32],
+    ranges: &mut [u32],
+    documents: &mut [u32],
+    scores: &mut [u32],
+) -> Listed
+    requires target_le_max_doc { (target ≤ max_doc) × (length documents.old ≡ length scores.old) }
+    requires asks { Asks (lent max_doc fields.now leaves.now postings.now positions.now norms.now live.now columns.now values.now) q.now × (workShort (lent max_doc fields.now leaves.now postings.now positions.now norms.now live.now columns.now values.now) q.now (work (length states.old) (length a.old) (length b.old) (length ranges.old)) ≡ false) }
+    requires tables { FieldTables (lent max_doc fields.now leaves.now postings.now positions.now norms.now live.now columns.now values.now) q.now inverses.now }
+    ensures { PageIs (page_of (lent max_doc fields.now leaves.now postings.now positions.now norms.now live.now columns.now values.now) q.now target (length documents.old)) documents.old scores.old result documents.new scores.new }
+{
+    let size = build::build(max_doc, fields, leaves, columns, values, q, states, ranges);
+    walk::list(
+        &mut states[..size],
+        max_doc,
+        postings,
+        positions,
+        norms,
+        ranges,
+        inverses,
+        live,
+        a,
+        b,
+        target, // where the walk begins
+        16,
+        documents,
+        scores,
+    )
+}
+
+// One field's table has 256 places; only an order of more fields pays for all 16.
 fn list_page(
     max_doc: u32,
     fields: &[u32],
@@ -40,24 +87,34 @@ fn list_page(
     requires asks { Asks (lent max_doc fields.now leaves.now postings.now positions.now norms.now live.now columns.now values.now) q.now × (workShort (lent max_doc fields.now leaves.now postings.now positions.now norms.now live.now columns.now values.now) q.now (work (length states.old) (length a.old) (length b.old) (length ranges.old)) ≡ false) }
     ensures { PageIs (page_of (lent max_doc fields.now leaves.now postings.now positions.now norms.now live.now columns.now values.now) q.now target (length documents.old)) documents.old scores.old result documents.new scores.new }
 {
+    if fields.len() == 3 {
+        let bm25 = Bm25::new(f32::from_bits(fields[0]));
+        return list_by(
+            max_doc,
+            fields,
+            leaves,
+            postings,
+            positions,
+            norms,
+            live,
+            columns,
+            values,
+            q,
+            &bm25.cache,
+            target,
+            states,
+            a,
+            b,
+            ranges,
+            documents,
+            scores,
+        );
+    }
     let mut inverses: [f32; 4096] = [0.0; 4096];
     inverses::fill_inverses(fields, leaves, q, &mut inverses);
-    let size = build::build(max_doc, fields, leaves, columns, values, q, states, ranges);
-    walk::list(
-        &mut states[..size],
-        max_doc,
-        postings,
-        positions,
-        norms,
-        ranges,
-        &inverses,
-        live,
-        a,
-        b,
-        target, // where the walk begins
-        16,
-        documents,
-        scores,
+    list_by(
+        max_doc, fields, leaves, postings, positions, norms, live, columns, values, q, &inverses,
+        target, states, a, b, ranges, documents, scores,
     )
 }
 

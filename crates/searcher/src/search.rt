@@ -9,10 +9,12 @@ ghost use Rattle.meaning.specs.Entries.{written, Kept, searchRefusal, searchAnsw
 ghost use Rattle.index.specs.Slices.{lent};
 ghost use Rattle.collector.specs.Collected.{answer};
 ghost use Rattle.weight.specs.Measured.{Asks};
+ghost use Rattle.inverses.specs.Inverses.{FieldTables};
 ghost use Rattle.order_check.specs.Lends.{work};
 ghost use Rattle.searcher.specs.Answers.{searchedNumbers};
 
 use collector::TopDocs;
+use sim::bm25::Bm25;
 
 #[derive(Clone, Copy)]
 pub enum Searched {
@@ -20,7 +22,51 @@ pub enum Searched {
     Found(TopDocs),
 }
 
-// The work of a call that is not refused, with a place for each of k hits.
+// The work of a call that is not refused, over the inverses of the order's fields, with a place for each of k hits.
+fn find_by(
+    max_doc: u32,
+    fields: &[u32],
+    leaves: &[u32],
+    postings: &[u32],
+    positions: &[u32],
+    norms: &[u8],
+    live: &[u64],
+    columns: &[u32],
+    values: &[u32],
+    q: &[u32],
+    inverses: &[f32],
+    t: u32,
+    states: &mut [u32],
+    a: &mut [i32],
+    b: &mut [i32],
+    ranges: &mut [u32],
+    heap: &mut [i64],
+) -> TopDocs
+    requires heap_nonzero { (0 < length heap.old) × (length heap.old ≤ maxHits) }
+    requires asks { Asks (lent max_doc fields.now leaves.now postings.now positions.now norms.now live.now columns.now values.now) q.now × (workShort (lent max_doc fields.now leaves.now postings.now positions.now norms.now live.now columns.now values.now) q.now (work (length states.old) (length a.old) (length b.old) (length ranges.old)) ≡ false) }
+    requires tables { FieldTables (lent max_doc fields.now leaves.now postings.now positions.now norms.now live.now columns.now values.now) q.now inverses.now }
+    ensures value { result ≡ answer (length heap.old) t (fullList (lent max_doc fields.now leaves.now postings.now positions.now norms.now live.now columns.now values.now) (queryTree q.now)) }
+    ensures heap_after { heap.new ≡ written (hitsOf (length heap.old) (fullList (lent max_doc fields.now leaves.now postings.now positions.now norms.now live.now columns.now values.now) (queryTree q.now))) heap.old }
+{
+    let size = build::build(max_doc, fields, leaves, columns, values, q, states, ranges);
+    bulk::collect_matches(
+        &mut states[..size],
+        max_doc,
+        postings,
+        positions,
+        norms,
+        ranges,
+        inverses,
+        live,
+        a,
+        b,
+        t,
+        16,
+        heap,
+    )
+}
+
+// One field's table has 256 places; only an order of more fields pays for all 16.
 fn find(
     max_doc: u32,
     fields: &[u32],
@@ -44,23 +90,33 @@ fn find(
     ensures value { result ≡ answer (length heap.old) t (fullList (lent max_doc fields.now leaves.now postings.now positions.now norms.now live.now columns.now values.now) (queryTree q.now)) }
     ensures heap_after { heap.new ≡ written (hitsOf (length heap.old) (fullList (lent max_doc fields.now leaves.now postings.now positions.now norms.now live.now columns.now values.now) (queryTree q.now))) heap.old }
 {
+    if fields.len() == 3 {
+        let bm25 = Bm25::new(f32::from_bits(fields[0]));
+        return find_by(
+            max_doc,
+            fields,
+            leaves,
+            postings,
+            positions,
+            norms,
+            live,
+            columns,
+            values,
+            q,
+            &bm25.cache,
+            t,
+            states,
+            a,
+            b,
+            ranges,
+            heap,
+        );
+    }
     let mut inverses: [f32; 4096] = [0.0; 4096];
     inverses::fill_inverses(fields, leaves, q, &mut inverses);
-    let size = build::build(max_doc, fields, leaves, columns, values, q, states, ranges);
-    bulk::collect_matches(
-        &mut states[..size],
-        max_doc,
-        postings,
-        positions,
-        norms,
-        ranges,
-        &inverses,
-        live,
-        a,
-        b,
-        t,
-        16,
-        heap,
+    find_by(
+        max_doc, fields, leaves, postings, positions, norms, live, columns, values, q, &inverses,
+        t, states, a, b, ranges, heap,
     )
 }
 

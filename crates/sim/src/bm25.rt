@@ -26,8 +26,7 @@ impl Bm25 {
         let mut cache: [f32; 256] = [0.0; 256];
         let mut norm: usize = 0;
         while norm < 256 {
-            let len = ieee754::length_to_f32(crate::small_float::byte4_to_int(norm as u8));
-            cache[norm] = Bm25::norm_inverse(average, len);
+            cache[norm] = Bm25::norm_inverse(average, crate::lengths::length_of(norm));
             norm += 1;
         }
         Bm25 { cache }

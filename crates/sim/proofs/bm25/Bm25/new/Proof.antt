@@ -6,12 +6,10 @@ use Prim.Native.Nat.{ℕ, ◌+◌, ◌-◌, ◌≤◌, ◌<◌}
 use native.Mathlib.Nat.{le_antisymm, le_of_eq}
 use native.Mathlib.Numerals.{add-one}
 use lib.Dec.{lit≤}
-use lib.IntN.{pos}
 use lib.ListN.{length, take, set, length-set}
 use lib.Seq.{take-suc-set, take_all}
-use lib.Ieee.{Float, binary32, of_int}
+use lib.Ieee.{Float}
 use Rattle.meaning.specs.Below.{listTo}
-use Rattle.meaning.specs.SmallFloat.{byte4ToInt}
 use Rattle.meaning.specs.Bm25.{length_of, inverse}
 use Rattle.meaning.proofs.Below.{listTo-zero, listTo-next}
 use Rattle.sim.proofs.bm25.Bm25.new.Statement.{statement}
@@ -29,14 +27,8 @@ decreases-loop average cache₀ norm₀ cache norm = 256 - norm
 loop-holds : tie.Need-loop-norm-init invariant-loop decreases-loop
 loop-holds c = (lit≤ tt, refl, sym (listTo-zero (entry c.args.average)))
 
-cast-byte4-to-int : tie.Need-overflow_cast-norm invariant-loop decreases-loop
-cast-byte4-to-int c = search rules
-
-byte4-to-int-requires : tie.Need-byte4_to_int-requires invariant-loop decreases-loop
-byte4-to-int-requires c κs = search rules
-
-length-to-f32-requires : tie.Need-length_to_f32-len-requires invariant-loop decreases-loop
-length-to-f32-requires c κs = search rules
+length-of-requires : tie.Need-length_of-requires invariant-loop decreases-loop
+length-of-requires c κs = search rules
 
 norm-inverse-requires : tie.Need-norm_inverse-requires invariant-loop decreases-loop
 norm-inverse-requires c κs = search rules
@@ -53,10 +45,6 @@ add-norm c = search rules
 loop-less : tie.Need-loop-norm-smaller invariant-loop decreases-loop
 loop-less c = search rules
 
-length-is : (n : ℕ) → of_int binary32 (pos (byte4ToInt n)) ≡ length_of n
-unfolding length_of
-length-is n = refl
-
 -- one more entry
 filled : (f : ℕ → Float) (t : List Float) (i : ℕ) (v : Float) → i < length t → take i t ≡ listTo i f → v ≡ f i → take (i + 1) (set t i v) ≡ listTo (i + 1) f
 filled f t i v h all e =
@@ -68,12 +56,10 @@ filled f t i v h all e =
 
 loop-again : tie.Need-loop-norm-preserved invariant-loop decreases-loop
 loop-again c =
-    let l = c.before.before.before.before.loop-norm in
-    let a = c.before.before.before.before.before.args.average in
-    let in-range = c.before.before.before.loop-norm-test.true in
-    let v : c.norm_inverse.result ≡ entry a l.norm =
-    c.norm_inverse.ensures
-    ∙ ap (inverse a) (c.before.length_to_f32-len.ensures ∙ ap (λ (z : ℕ). of_int binary32 (pos z)) c.before.before.byte4_to_int.ensures ∙ length-is l.norm) in (
+    let l = c.loop-norm in
+    let a = c.args.average in
+    let in-range = c.loop-norm-test.true in
+    let v : c.norm_inverse.result ≡ entry a l.norm = c.norm_inverse.ensures ∙ ap (inverse a) c.length_of.ensures in (
       search rules,
       length-set l.cache l.norm c.norm_inverse.result ∙ l.invariant.1,
       filled (entry a) l.cache l.norm c.norm_inverse.result (subst (λ (z : ℕ). l.norm < z) (sym l.invariant.1) in-range) l.invariant.2 v,
@@ -93,9 +79,7 @@ new_spec =
     invariant-loop
     decreases-loop
     loop-holds
-    cast-byte4-to-int
-    byte4-to-int-requires
-    length-to-f32-requires
+    length-of-requires
     norm-inverse-requires
     mul-cache
     array-write-cache
