@@ -20,7 +20,7 @@ const RANGE_BUFFER: usize = 16_384;
 pub fn refusal(case: &Case) -> u32 {
     match order(case) {
         0 if wrong_k(case.k) => 11,
-        0 if needed(case).ranges > RANGE_BUFFER => 12,
+        0 if needed(case, &root(case)).ranges > RANGE_BUFFER => 12,
         number => number,
     }
 }

@@ -19,7 +19,8 @@ use std::sync::Arc;
 
 /// The source's index and query for one valid case.
 pub struct Oracle {
-    case: Case,
+    case: Arc<Case>,
+    root: Node,
     segment: Arc<SegmentReader>,
     query: Query,
 }
@@ -28,9 +29,20 @@ impl Oracle {
     pub fn new(case: &Case) -> Oracle {
         let root = Node::decode(&case.query).expect("a valid query");
         Oracle {
-            case: case.clone(),
+            case: Arc::new(case.clone()),
             segment: Arc::new(SegmentReader::new(case)),
             query: tree::query(case, &root),
+            root,
+        }
+    }
+
+    /// Another order over the same index, with the same k and t.
+    pub fn with_order(&self, order: &Node) -> Oracle {
+        Oracle {
+            case: self.case.clone(),
+            segment: self.segment.clone(),
+            query: tree::query(&self.case, order),
+            root: order.clone(),
         }
     }
 
@@ -73,9 +85,8 @@ impl Oracle {
     /// For each query record in turn the cost of its scorer, `None` where it has none. A
     /// PhraseTerm has none of its own.
     pub fn costs(&self) -> Vec<Option<u64>> {
-        let root = Node::decode(&self.case.query).unwrap();
         let cost = |node: &Node| walk::cost(&self.segment, &tree::query(&self.case, node));
-        let nodes = root.all().into_iter();
+        let nodes = self.root.all().into_iter();
         nodes
             .map(|node| (node.kind != PHRASE_TERM).then(|| cost(node)).flatten())
             .collect()

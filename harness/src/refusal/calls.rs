@@ -40,7 +40,7 @@ impl Judge {
     pub fn new(case: &Case) -> Judge {
         let order = order(case);
         let needed = match order {
-            0 => needed(case),
+            0 => needed(case, &root(case)),
             _ => Lengths::default(),
         };
         let n = case.n;
@@ -100,9 +100,8 @@ fn wrong_lists(documents: &[u32], scores: &[u32]) -> bool {
         || scores.iter().any(|bits| *bits > INFINITY)
 }
 
-/// The work buffers that a case with an accepted index and query needs.
-pub(super) fn needed(case: &Case) -> Lengths {
-    let root = root(case);
+/// The work buffers that an accepted order needs over a case's index.
+pub fn needed(case: &Case, root: &Node) -> Lengths {
     let records = root.all();
     let of_kind = |kind| records.iter().filter(move |node| node.kind == kind);
     let ranges = of_kind(RANGE).count();

@@ -1,12 +1,16 @@
 //! `bench` times Search of the library beside the Rust over its plain list cursor, on the same
 //! inputs in one process, at 9,000 and 1,000,000 lots; `bench LOTS` at one size; `bench LOTS WORDS`
-//! only the workloads whose name has these words. It also times the writing of an index beside a
-//! plain writer, at 100,000 and 10,000,000 tokens; `bench write` only that. How to read it is said
-//! in docs/BENCHMARK.md.
+//! only the workload or sheet of that name, or where none is called so those whose name has these
+//! words. It also times the writing of an index beside a plain writer, at 100,000 and 10,000,000
+//! tokens; `bench write` only that. How to read it is said in docs/BENCHMARK.md.
 #![cfg_attr(not(all(oracle, linked)), allow(dead_code, unused_imports))]
 mod machine;
 #[cfg(all(oracle, linked))]
 mod report;
+#[cfg(all(oracle, linked))]
+mod sheet;
+#[cfg(all(oracle, linked))]
+mod targets;
 #[cfg(all(oracle, linked))]
 mod timing;
 #[cfg(all(oracle, linked))]

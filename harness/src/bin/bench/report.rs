@@ -1,4 +1,6 @@
 //! The tables that are printed.
+use crate::sheet;
+use crate::targets::{self, Targets};
 use crate::timing::{Order, Times, least, median};
 use harness::lots::{WORKLOADS, Workload};
 
@@ -11,28 +13,57 @@ pub struct Row {
     repeated: Times,
 }
 
-/// Runs the workloads that are named so over so many lots: so many orders of each, so many rounds.
-pub fn run(n: u32, name: &str, orders: u64, rounds: usize) -> Vec<Row> {
-    println!(
-        "\n{n} lots, {orders} orders of each kind in turn, medians of {rounds} rounds (least)"
-    );
-    println!("times in µs for one call; walk = total - checks; target: walk ÷ Rust at most\n");
-    println!(
-        "{:20} {:8} {:>19} {:>19} {:>19} {:>19} {:>13} {:>6}",
-        "workload", "orders", "total", "checks", "walk", "Rust", "walk ÷ Rust", "target"
-    );
-    let named = WORKLOADS
-        .iter()
-        .filter(|workload| workload.name.contains(name));
+/// Orders of a typed shape, whose words differ in frequency: so it takes more of them.
+const TYPED: u64 = 20;
+
+/// Runs the workloads and sheets that are named so over so many lots: so many orders of each
+/// workload, so many rounds.
+pub fn run(n: u32, words: &str, orders: u64, rounds: usize) -> Vec<Row> {
+    let exact = all_names().any(|name| name == words);
+    let is_named = |name: &str| match exact {
+        true => name == words,
+        false => name.contains(words),
+    };
+    println!("\n{n} lots, medians of {rounds} rounds (least), times in µs for one call");
+    println!("{orders} orders of each kind in turn, of what is typed {TYPED}");
+    println!("walk = total - checks; targets: at most so much of the Rust's time, in turn\n");
+    header();
+    let named = WORKLOADS.iter().filter(|workload| is_named(workload.name));
+    let number = |workload: &Workload| if workload.is_typed() { TYPED } else { orders };
     let rows: Vec<_> = named
-        .map(|workload| row(workload, n, orders, rounds))
+        .map(|workload| row(workload, n, number(workload), rounds))
         .collect();
-    checks(&rows);
+    sheet::run(n, rounds, is_named);
+    if !rows.is_empty() {
+        checks(&rows);
+    }
     rows
 }
 
-fn row(workload: &Workload, n: u32, orders: u64, rounds: usize) -> Row {
-    let order = |seed| Order::new(workload, n, seed);
+/// What can be asked for by name.
+fn all_names() -> impl Iterator<Item = &'static str> {
+    let workloads = WORKLOADS.iter().map(|workload| workload.name);
+    workloads.chain(sheet::NAMES)
+}
+
+fn header() {
+    println!(
+        "{:20} {:8} {:>19} {:>19} {:>19} {:>19} {:>13} {:10} {:>13} {:10}",
+        "workload",
+        "orders",
+        "total",
+        "checks",
+        "walk",
+        "Rust",
+        "total ÷ Rust",
+        "target",
+        "walk ÷ Rust",
+        "target"
+    );
+}
+
+fn row(workload: &'static Workload, n: u32, orders: u64, rounds: usize) -> Row {
+    let order = |seed| Order::alone(workload, n, seed);
     let mut orders: Vec<_> = (0..orders).map(order).collect();
     orders.iter_mut().for_each(Order::agrees);
     let mut row = Row {
@@ -46,69 +77,54 @@ fn row(workload: &Workload, n: u32, orders: u64, rounds: usize) -> Row {
         row.in_turn.add(&mut orders, false);
         row.repeated.add(&mut orders, true);
     }
-    print(&row, "in turn", &row.in_turn);
-    print(&row, "repeated", &row.repeated);
+    print(row.name, "in turn", &row.in_turn, targets::of(row.name));
+    print(row.name, "repeated", &row.repeated, Targets::default());
     row
 }
 
-/// The most that the walk may take of the Rust's time. Where 512 words are lent the checks are
-/// looked at, which are so long that the walk is lost in them.
-fn target(name: &str, n: u32) -> Option<f64> {
-    match name {
-        "rare AND common" if n == 1_000_000 => Some(0.25),
-        "disjunction of 8" | "3 of 8" => Some(0.5),
-        "buyer's order" => Some(0.75),
-        "512 words lent" => None,
-        _ => Some(1.0),
-    }
-}
-
-fn print(row: &Row, orders: &str, times: &Times) {
-    let micros = |times: &[f64]| {
-        let [median, least] = [median(times), least(times)].map(|t| t * 1e6);
-        format!("{median:.1} ({least:.1})")
-    };
+/// A line of the first table. two_versions.sh reads its times by where they stand.
+pub fn print(name: &str, orders: &str, times: &Times, targets: Targets) {
+    let pair = |median: f64, least: f64| format!("{:.1} ({:.1})", median * 1e6, least * 1e6);
+    let both = |times: &[f64]| pair(median(times), least(times));
     let walk = times.walk();
     let least_walk = least(&times.ours) - least(&times.checks);
-    let ratio = median(&walk) / median(&times.rust);
-    let least_ratio = least_walk / least(&times.rust);
-    let target = target(row.name, row.n);
-    let missed = target.is_some_and(|target| ratio > target);
-    let missed = if missed { " missed" } else { "" };
-    let target = target.map_or("-".into(), |target| target.to_string());
+    let (rust, least_rust) = (median(&times.rust), least(&times.rust));
+    let total_part = median(&times.ours) / rust;
+    let walk_part = median(&walk) / rust;
     println!(
-        "{:20} {orders:8} {:>19} {:>19} {:>19} {:>19} {:>13} {target:>6}{missed}",
-        row.name,
-        micros(&times.ours),
-        micros(&times.checks),
-        format!("{:.1} ({:.1})", median(&walk) * 1e6, least_walk * 1e6),
-        micros(&times.rust),
-        format!("{ratio:.2} ({least_ratio:.2})"),
+        "{name:20} {orders:8} {:>19} {:>19} {:>19} {:>19} {:>13} {:10} {:>13} {:10}",
+        both(&times.ours),
+        both(&times.checks),
+        pair(median(&walk), least_walk),
+        both(&times.rust),
+        format!("{total_part:.2} ({:.2})", least(&times.ours) / least_rust),
+        targets::beside(total_part, targets.total),
+        format!("{walk_part:.2} ({:.2})", least_walk / least_rust),
+        targets::beside(walk_part, targets.walk),
     );
 }
 
-/// Bytes checked a second beside a plain sum of the same bytes; the target is a third of its speed.
+/// Time of the checks beside a plain sum of the same bytes.
 fn checks(rows: &[Row]) {
+    println!("\nchecks in turn, GB a second (the best in brackets), and their time beside a");
+    println!("plain sum of the same words, medians; target: at most so many times\n");
     println!(
-        "\nchecks in turn, GB a second (the best in brackets); target: a third of a plain sum\n"
-    );
-    println!(
-        "{:20} {:>12} {:>15} {:>15} {:>9}",
-        "workload", "bytes", "checked", "summed", "part"
+        "{:20} {:>12} {:>15} {:>15} {:>13} {:10}",
+        "workload", "bytes", "checked", "summed", "checks ÷ sum", "target"
     );
     for row in rows.iter().filter(|row| row.bytes >= 4096) {
         let speed = |seconds: f64| row.bytes as f64 / seconds / 1e9;
         let times = &row.in_turn;
         let both =
             |times: &[f64]| format!("{:.2} ({:.2})", speed(median(times)), speed(least(times)));
-        let part = median(&times.sum) / median(&times.checks);
-        let missed = if part < 1.0 / 3.0 { " missed" } else { "" };
+        let part = median(&times.checks) / median(&times.sum);
         println!(
-            "{:20} {:>12} {:>15} {:>15} {part:>9.2}{missed}",
+            "{:20} {:>12} {:>15} {:>15} {part:>13.2} {:10}",
             row.name,
             row.bytes,
             both(&times.checks),
             both(&times.sum),
+            targets::beside(part, Some(targets::of_checks(row.name, row.n))),
         );
     }
 }

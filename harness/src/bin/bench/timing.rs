@@ -1,18 +1,21 @@
 //! An order made ready for both sides, and the times of its calls.
 use harness::answer::Searched;
 use harness::border::{Entries, Library, Search, Work};
-use harness::case::Case;
 use harness::expect::{codes, found_numbers};
-use harness::lots::{self, Workload};
+use harness::lots::lent::Lent;
+use harness::lots::{self, Drawn, Workload};
 use harness::oracle::Oracle;
-use harness::refusal::calls::{FOUND, Judge};
+use harness::refusal::calls::{self, FOUND, Judge, Lengths};
 use std::hint::black_box;
+use std::sync::Arc;
 use std::time::Instant;
 
 /// One order: what is lent, the buffers, and the Rust's index of the same.
 pub struct Order {
-    case: Case,
+    pub name: &'static str,
+    lent: Lent,
     oracle: Oracle,
+    k: u32,
     states: Vec<u32>,
     starts: Vec<i32>,
     other_starts: Vec<i32>,
@@ -22,29 +25,59 @@ pub struct Order {
 }
 
 impl Order {
-    pub fn new(workload: &Workload, n: u32, seed: u64) -> Order {
+    /// An order with a catalogue of its own, which is lent whole.
+    pub fn alone(workload: &Workload, n: u32, seed: u64) -> Order {
         let case = lots::case(workload, n, seed);
         let judge = Judge::new(&case);
         assert_eq!(judge.order, 0);
+        let oracle = Oracle::new(&case);
+        Order::new(workload, Lent::all(case), oracle, &judge.needed)
+    }
+
+    /// So many orders of these kinds over one catalogue, in a drawn order.
+    pub fn sheet(kinds: &[&'static Workload], n: u32, number: usize) -> Vec<Order> {
+        let (case, drawn) = lots::sheet(kinds, n, number, 1);
+        let oracle = Oracle::new(&case);
+        let case = Arc::new(case);
+        let order = |Drawn { workload, order }: Drawn| {
+            let lent = Lent::own(&case, &order);
+            let needed = calls::needed(&case, &order);
+            Order::new(workload, lent, oracle.with_order(&order), &needed)
+        };
+        drawn.into_iter().map(order).collect()
+    }
+
+    fn new(workload: &Workload, lent: Lent, oracle: Oracle, needed: &Lengths) -> Order {
         Order {
-            oracle: Oracle::new(&case),
-            states: vec![0; judge.needed.states],
-            starts: vec![0; judge.needed.starts],
-            other_starts: vec![0; judge.needed.other_starts],
-            ranges: vec![0; judge.needed.ranges],
-            hits: vec![0; case.k as usize],
+            name: workload.name,
+            lent,
+            oracle,
+            k: workload.k,
+            states: vec![0; needed.states],
+            starts: vec![0; needed.starts],
+            other_starts: vec![0; needed.other_starts],
+            ranges: vec![0; needed.ranges],
+            hits: vec![0; workload.k as usize],
             answer: [0; FOUND],
-            case,
         }
     }
 
-    /// The library's Search; with k 0 it is refused 11 after all its checks of index and query.
-    pub fn ours(&mut self, k: u32) -> u32 {
+    /// The library's Search.
+    pub fn ours(&mut self) -> u32 {
+        self.call(self.k)
+    }
+
+    /// The same call with k 0: it is refused 11 after all its checks of index and query.
+    pub fn checks(&mut self) -> u32 {
+        self.call(0)
+    }
+
+    fn call(&mut self, k: u32) -> u32 {
         Library.search(Search {
-            index: self.case.index(),
-            query: &self.case.query,
+            index: self.lent.index(),
+            query: &self.lent.query,
             k,
-            t: self.case.t,
+            t: self.lent.catalogue.t,
             work: Work {
                 states: &mut self.states,
                 starts: &mut self.starts,
@@ -57,26 +90,29 @@ impl Order {
     }
 
     pub fn rust(&self) -> Searched {
-        self.oracle.walk(self.case.k, self.case.t)
+        self.oracle.walk(self.k, self.lent.catalogue.t)
     }
 
+    /// Bytes of the catalogue, where it is lent whole.
     pub fn bytes(&self) -> usize {
-        4 * self.case.words().map(<[u32]>::len).iter().sum::<usize>()
+        let words = self.lent.catalogue.words();
+        4 * words.map(<[u32]>::len).iter().sum::<usize>()
     }
 
     fn sum(&self) -> u32 {
         let sum = |words: &[u32]| words.iter().fold(0u32, |sum, word| sum.wrapping_add(*word));
-        self.case.words().map(sum).iter().fold(0, |a, b| a ^ b)
+        let words = self.lent.catalogue.words();
+        words.map(sum).iter().fold(0, |a, b| a ^ b)
     }
 
     /// Both sides give the same before any time is taken.
     pub fn agrees(&mut self) {
         let right = self.rust();
-        assert_eq!(self.ours(self.case.k), 0);
+        assert_eq!(self.ours(), 0);
         let codes = codes(&right.hits);
         assert_eq!(self.answer, found_numbers(&right));
         assert_eq!(self.hits[..codes.len()], codes);
-        assert_eq!(self.ours(0), 11);
+        assert_eq!(self.checks(), 11);
     }
 }
 
@@ -92,10 +128,9 @@ pub struct Times {
 impl Times {
     /// A round of all sorts of calls.
     pub fn add(&mut self, orders: &mut [Order], repeated: bool) {
-        let k = orders[0].case.k;
-        let ours = |order: &mut Order| _ = black_box(order.ours(k));
+        let ours = |order: &mut Order| _ = black_box(order.ours());
         self.ours.push(time(orders, repeated, ours));
-        let checks = |order: &mut Order| _ = black_box(order.ours(0));
+        let checks = |order: &mut Order| _ = black_box(order.checks());
         self.checks.push(time(orders, repeated, checks));
         let rust = |order: &mut Order| _ = black_box(order.rust());
         self.rust.push(time(orders, repeated, rust));
@@ -118,6 +153,17 @@ pub fn time(orders: &mut [Order], repeated: bool, mut call: impl FnMut(&mut Orde
         call(&mut orders[if repeated { 0 } else { at }]);
     }
     start.elapsed().as_secs_f64() / number as f64
+}
+
+/// Seconds for each order's call, one order after the other.
+pub fn laps(orders: &mut [Order], mut call: impl FnMut(&mut Order)) -> Vec<f64> {
+    let mut before = Instant::now();
+    let mut lap = |order: &mut Order| {
+        call(order);
+        let start = std::mem::replace(&mut before, Instant::now());
+        (before - start).as_secs_f64()
+    };
+    orders.iter_mut().map(&mut lap).collect()
 }
 
 pub fn median(times: &[f64]) -> f64 {
