@@ -1,4 +1,51 @@
 // Bulk scorers: every live match of a scorer tree to the collector, by the loop that suits the root.
 #![tactic(auto)]
 
+ghost use Rattle.std.specs.Prelude.{min, length};
+ghost use Rattle.scorer.specs.Calls.{lent};
+ghost use Rattle.bulk_scorer.specs.Collects.{CollectPre, CollectPost, CollectEnd};
+
+use collector::TopScoreDocCollector;
+
 pub mod everything;
+
+// The kinds of a root that has a loop of its own.
+const TERM: u32 = 1;
+
+const EVERYTHING: u32 = 5;
+
+// The live documents that the tree matches to the collector, numbered on from a document base.
+pub fn collect_matches(
+    st: &mut [u32],
+    max_doc: u32,
+    postings: &[u32],
+    positions: &[u32],
+    norms: &[u8],
+    ranges: &[u32],
+    inverses: &[f32],
+    live: &[u64],
+    a: &mut [i32],
+    b: &mut [i32],
+    depth: u32,
+    doc_base: u32,
+    c: TopScoreDocCollector,
+    heap: &mut [i64],
+) -> TopScoreDocCollector
+    requires { CollectPre (lent max_doc postings.now positions.now ranges.now) norms.now live.now inverses.now (min (length a.old) (length b.old)) st.old depth doc_base c heap.old }
+    ensures collect_post { CollectPost (lent max_doc postings.now positions.now ranges.now) norms.now live.now inverses.now (min (length a.old) (length b.old)) st.old depth doc_base c heap.old result heap.new }
+    ensures collect_end { CollectEnd (lent max_doc postings.now positions.now ranges.now) norms.now live.now inverses.now (min (length a.old) (length b.old)) st.old depth st.new }
+{
+    let kind = st[0];
+    if kind == TERM {
+        return bulk_term::collect_term(
+            st, postings, norms, inverses, live, doc_base, c, heap,
+        );
+    }
+    if kind == EVERYTHING {
+        return everything::collect_everything(st, max_doc, live, doc_base, c, heap);
+    }
+    bulk_window::collect_windows(
+        st, max_doc, postings, positions, norms, ranges, inverses, live, a, b, depth, doc_base, c,
+        heap,
+    )
+}

@@ -2,3 +2,4 @@
 pub mod LiveMatches
 pub mod Sofar
 pub mod Held
+pub mod Begins

@@ -31,6 +31,7 @@ use Rattle.scorer.specs.Calls.{lent}
 use Rattle.leaf_scorer.proofs.Bounds.{ok-mono}
 use Rattle.walk.specs.declared.Listed.{Listed}
 use Rattle.walk.specs.Walks.{liveScored, PageHeld, PageIs}
+use Rattle.bulk_scorer.specs.Collects.{RootHeld}
 use Rattle.order_check.proofs.Rooms.{starts-room}
 use Rattle.inverses.proofs.QueryTables.{query-tables}
 
@@ -61,9 +62,9 @@ module _ (n : ℕ) (fields leaves postings positions norms live columns values q
   pub columns-lent : Columns ix n columns values
   columns-lent = record { documents = refl; columns-are = refl; values-are = refl }
 
-  -- what the two passes give is what the walk asks for
-  pub walk-held : (w : Work) → Asks ix q → workShort ix q w ≡ false → (table : List Float) → FieldTables ix q table → (ranges states : List ℕ) (r : ℕ) → Placed ix ranges (tree_of ix q) 16 0 r states → (from : ℕ) → PageHeld (lent n postings positions ranges) norms live table ix (min w.starts w.otherStarts) (tree_of ix q) 16 0 (take r states) from
-  walk-held w a e table t ranges states r p from = record {
+  -- what the two passes give is what a bulk scorer asks for
+  pub root-held : (w : Work) → Asks ix q → workShort ix q w ≡ false → (table : List Float) → FieldTables ix q table → (ranges states : List ℕ) (r : ℕ) → Placed ix ranges (tree_of ix q) 16 0 r states → RootHeld (lent n postings positions ranges) norms live table ix (min w.starts w.otherStarts) (tree_of ix q) 16 0 (take r states)
+  root-held w a e table t ranges states r p = record {
     lends = record { accepted = a.accepted; documents = refl; postings-are = refl; positions-are = refl };
     norms-are = refl;
     live-are = refl;
@@ -72,5 +73,11 @@ module _ (n : ℕ) (fields leaves postings positions norms live columns values q
       tables = query-tables ix q table a t one none;
       few = query-nodes q a.records-right ix one none;
     };
-    ok = ok-mono ix ranges (tree_of ix q) 16 0 (take r states) 0 from (omega arith) (placed-ok ix ranges (tree_of ix q) 16 0 r states p);
+    held = p.held;
   }
+
+  -- and what the walk asks for
+  pub walk-held : (w : Work) → Asks ix q → workShort ix q w ≡ false → (table : List Float) → FieldTables ix q table → (ranges states : List ℕ) (r : ℕ) → Placed ix ranges (tree_of ix q) 16 0 r states → (from : ℕ) → PageHeld (lent n postings positions ranges) norms live table ix (min w.starts w.otherStarts) (tree_of ix q) 16 0 (take r states) from
+  walk-held w a e table t ranges states r p from =
+      let H = root-held w a e table t ranges states r p in
+      record { lends = H.lends; norms-are = H.norms-are; live-are = H.live-are; scorable = H.scorable; ok = ok-mono ix ranges (tree_of ix q) 16 0 (take r states) 0 from (omega arith) (placed-ok ix ranges (tree_of ix q) 16 0 r states p) }

@@ -13,7 +13,7 @@ ghost use Rattle.inverses.specs.Inverses.{FieldTables};
 ghost use Rattle.order_check.specs.Lends.{work};
 ghost use Rattle.searcher.specs.Answers.{searchedNumbers};
 
-use collector::TopDocs;
+use collector::{TopDocs, TopScoreDocCollector};
 use sim::bm25::Bm25;
 
 #[derive(Clone, Copy)]
@@ -35,7 +35,7 @@ fn find_by(
     values: &[u32],
     q: &[u32],
     inverses: &[f32],
-    t: u32,
+    t: u64,
     states: &mut [u32],
     a: &mut [i32],
     b: &mut [i32],
@@ -49,7 +49,7 @@ fn find_by(
     ensures heap_after { heap.new ≡ written (hitsOf (length heap.old) (fullList (lent max_doc fields.now leaves.now postings.now positions.now norms.now live.now columns.now values.now) (queryTree q.now))) heap.old }
 {
     let size = build::build(max_doc, fields, leaves, columns, values, q, states, ranges);
-    bulk::collect_matches(
+    let c = bulk::collect_matches(
         &mut states[..size],
         max_doc,
         postings,
@@ -60,10 +60,12 @@ fn find_by(
         live,
         a,
         b,
-        t,
         16,
+        0, // one index: its documents keep their numbers
+        TopScoreDocCollector::new(t),
         heap,
-    )
+    );
+    c.top_docs(heap)
 }
 
 // One field's table has 256 places; only an order of more fields pays for all 16.
@@ -78,7 +80,7 @@ fn find(
     columns: &[u32],
     values: &[u32],
     q: &[u32],
-    t: u32,
+    t: u64,
     states: &mut [u32],
     a: &mut [i32],
     b: &mut [i32],
@@ -179,7 +181,7 @@ pub fn search(
         columns,
         values,
         q,
-        t,
+        t as u64,
         states,
         a,
         b,
