@@ -15,12 +15,12 @@ ghost use Rattle.order_check.specs.Lends.{work};
 ghost use Rattle.node_state.specs.Standing.{Standing};
 ghost use Rattle.node_search.specs.Searches.{SearchesWords, Searches, used};
 
-use collector::TopDocs;
+use collector::{TopDocs, TopScoreDocCollector};
 use node_state::NodeState;
 use searcher::search::Searched;
 use weight::NODE_STATE_WORDS;
 
-// As searcher's `find`, but each match is found by the walk: so the states still hold the tree at the end.
+// As searcher's `find`, with what the states hold at the end: the tree, asked for every document.
 fn find(
     max_doc: u32,
     fields: &[u32],
@@ -32,7 +32,7 @@ fn find(
     columns: &[u32],
     values: &[u32],
     q: &[u32],
-    t: u32,
+    t: u64,
     states: &mut [u32],
     a: &mut [i32],
     b: &mut [i32],
@@ -48,7 +48,7 @@ fn find(
     let mut inverses: [f32; 4096] = [0.0; 4096];
     inverses::fill_inverses(fields, leaves, q, &mut inverses);
     let size = build::build(max_doc, fields, leaves, columns, values, q, states, ranges);
-    bulk_default::collect_matches(
+    let c = bulk::collect_matches(
         &mut states[..size],
         max_doc,
         postings,
@@ -59,10 +59,12 @@ fn find(
         live,
         a,
         b,
-        t,
         16,
+        0, // one index: its documents keep their numbers
+        TopScoreDocCollector::new(t),
         heap,
-    )
+    );
+    c.top_docs(heap)
 }
 
 // Search on the words of the first n states.
@@ -122,7 +124,7 @@ fn search_words(
         columns,
         values,
         q,
-        t,
+        t as u64,
         &mut words[..end],
         a,
         b,

@@ -1,11 +1,13 @@
 -- What the loop collects is the full list, and the words hold the tree at its end.
-use Rattle.std.proofs.Common.{length, refl}
+use Rattle.std.proofs.Common.{length, refl, ◌+◌, ◌≤◌, arith}
 use Rattle.meaning.specs.Limits.{noMoreDocs}
 use Rattle.meaning.specs.CallRefusals.{Work}
 use Rattle.index.specs.Slices.{lent}
 use Rattle.order_check.specs.Lends.{work}
 use Rattle.order_check.proofs.Rooms.{states-room, ranges-room}
-use Rattle.searcher.proofs.Preparing.{tree_of, answer-full, leaf-lent, columns-lent, walk-held}
+use Rattle.searcher.proofs.Preparing.{tree_of, answer-full, leaf-lent, columns-lent, root-held}
+use Rattle.walk.specs.Walks.{liveScored}
+use Rattle.bulk_scorer.proofs.Begins.{begin-ready, end-ready, end-answer}
 use Rattle.node_search.proofs.Words.{built-stands}
 use Rattle.node_search.proofs.find.Goals as goal
 
@@ -37,8 +39,8 @@ slice_bounds-collect_matches-end c =
     let columns = columns-lent a.max_doc a.fields.now a.leaves.now a.postings.now a.positions.now a.norms.now a.live.now a.columns.now a.values.now a.q.now in
     (c.build-size.ensures.placed ix asks leaves columns).within
 
-pub collect_matches-requires : goal.collect_matches-requires
-collect_matches-requires c =
+pub collect_matches-c-requires : goal.collect_matches-c-requires
+collect_matches-c-requires c =
     let a = c.args in
     let ix = lent a.max_doc a.fields.now a.leaves.now a.postings.now a.positions.now a.norms.now a.live.now a.columns.now a.values.now in
     let q = a.q.now in
@@ -49,8 +51,24 @@ collect_matches-requires c =
     let leaves = leaf-lent a.max_doc a.fields.now a.leaves.now a.postings.now a.positions.now a.norms.now a.live.now a.columns.now a.values.now q asks in
     let columns = columns-lent a.max_doc a.fields.now a.leaves.now a.postings.now a.positions.now a.norms.now a.live.now a.columns.now a.values.now q in
     let placed = p.ensures.placed ix asks leaves columns in
-    let held = walk-held a.max_doc a.fields.now a.leaves.now a.postings.now a.positions.now a.norms.now a.live.now a.columns.now a.values.now q w asks c.requires.asks.1 i.new.table (i.ensures.field_table ix a.max_doc asks leaves) p.new.ranges p.new.states p.result placed 0 in
-    record { heap_nonzero = c.requires.heap_nonzero; collect_pre = (ix, tree_of ix q, 0, held) }
+    let held = root-held a.max_doc a.fields.now a.leaves.now a.postings.now a.positions.now a.norms.now a.live.now a.columns.now a.values.now q w asks c.requires.asks.1 i.new.table (i.ensures.field_table ix a.max_doc asks leaves) p.new.ranges p.new.states p.result placed in
+    (omega (arith, asks.accepted.documents), begin-ready a.t c.new.result a.heap.now c.new.ensures c.requires.heap_nonzero.0 c.requires.heap_nonzero.1, (ix, tree_of ix q, 0, held))
+
+pub top_docs-requires : goal.top_docs-requires
+top_docs-requires c =
+    let a = c.args in
+    let ix = lent a.max_doc a.fields.now a.leaves.now a.postings.now a.positions.now a.norms.now a.live.now a.columns.now a.values.now in
+    let q = a.q.now in
+    let w : Work = work (length a.states.now) (length a.a.now) (length a.b.now) (length a.ranges.now) in
+    let asks = c.requires.asks.0 in
+    let i = c.fill_inverses in
+    let p = c.build-size in
+    let leaves = leaf-lent a.max_doc a.fields.now a.leaves.now a.postings.now a.positions.now a.norms.now a.live.now a.columns.now a.values.now q asks in
+    let columns = columns-lent a.max_doc a.fields.now a.leaves.now a.postings.now a.positions.now a.norms.now a.live.now a.columns.now a.values.now q in
+    let placed = p.ensures.placed ix asks leaves columns in
+    let held = root-held a.max_doc a.fields.now a.leaves.now a.postings.now a.positions.now a.norms.now a.live.now a.columns.now a.values.now q w asks c.requires.asks.1 i.new.table (i.ensures.field_table ix a.max_doc asks leaves) p.new.ranges p.new.states p.result placed in
+    let k = c.collect_matches-c in
+    end-ready a.t c.new.result a.heap.now c.new.ensures c.requires.heap_nonzero.0 c.requires.heap_nonzero.1 a.max_doc (liveScored ix (tree_of ix q)) k.result k.new.heap (k.ensures.collect_post ix (tree_of ix q) 0 held) noMoreDocs (omega (arith, asks.accepted.documents))
 
 pub returns : goal.returns
 returns c =
@@ -64,9 +82,11 @@ returns c =
     let leaves = leaf-lent a.max_doc a.fields.now a.leaves.now a.postings.now a.positions.now a.norms.now a.live.now a.columns.now a.values.now q asks in
     let columns = columns-lent a.max_doc a.fields.now a.leaves.now a.postings.now a.positions.now a.norms.now a.live.now a.columns.now a.values.now q in
     let placed = p.ensures.placed ix asks leaves columns in
-    let held = walk-held a.max_doc a.fields.now a.leaves.now a.postings.now a.positions.now a.norms.now a.live.now a.columns.now a.values.now q w asks c.requires.asks.1 i.new.table (i.ensures.field_table ix a.max_doc asks leaves) p.new.ranges p.new.states p.result placed 0 in
-    let k = c.collect_matches in
-    let full = answer-full ix q (length a.heap.now) a.t a.heap.now k.new.heap k.result (k.ensures.collect_post ix (tree_of ix q) 0 held) in
+    let held = root-held a.max_doc a.fields.now a.leaves.now a.postings.now a.positions.now a.norms.now a.live.now a.columns.now a.values.now q w asks c.requires.asks.1 i.new.table (i.ensures.field_table ix a.max_doc asks leaves) p.new.ranges p.new.states p.result placed in
+    let k = c.collect_matches-c in
+    let d = c.top_docs in
+    let drawn = end-answer a.t c.new.result a.heap.now c.new.ensures c.requires.heap_nonzero.0 c.requires.heap_nonzero.1 a.max_doc (liveScored ix (tree_of ix q)) k.result k.new.heap (k.ensures.collect_post ix (tree_of ix q) 0 held) d.result d.new.heap d.ensures in
+    let full = answer-full ix q (length a.heap.now) a.t a.heap.now d.new.heap d.result drawn in
     record {
       value = full.0;
       heap_after = full.1;
