@@ -1,0 +1,6 @@
+-- The laws of the cycle.
+pub mod Matching
+pub mod Children
+pub mod Passes
+pub mod Optionals
+pub mod Prohibited

@@ -1,7 +1,7 @@
 // Which documents of a window of 64 a scorer tree matches: the words of a node are its record and then its children's parts.
 #![tactic(auto)]
 
-ghost use Rattle.std.specs.Prelude.{◌≡◌, ◌≤◌, length, get_or, not};
+ghost use Rattle.std.specs.Prelude.{◌≡◌, ◌≤◌, ℕ, length};
 ghost use Rattle.meaning.specs.Limits.{nodeStateWords};
 ghost use Rattle.planes.specs.Counts.{count};
 ghost use Rattle.window_leaf.specs.Asks.{BitsPre, BitsPost};
