@@ -3,3 +3,4 @@ pub mod Records
 pub mod Nodes
 pub mod TermLaws
 pub mod PlaneLaws
+pub mod PhraseNodes
