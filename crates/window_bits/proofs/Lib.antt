@@ -4,3 +4,5 @@ pub mod Children
 pub mod Passes
 pub mod Optionals
 pub mod Prohibited
+pub mod Booleans
+pub mod Nodes

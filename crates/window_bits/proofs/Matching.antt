@@ -1,5 +1,6 @@
 -- Which of some scorers match a document: the two passes over the required, one that matches, and how many. Assumes nothing.
-use Rattle.std.proofs.Common.{◌≡◌, refl, sym, ap, ◌∙◌, Bool, true, false, not, cond, ◌&&◌, ◌||◌, ℕ, zero, suc, ◌+◌, ◌≤◌, ◌<◌, eqb, leb, arith, le-leb}
+use Rattle.std.proofs.Common.{◌≡◌, refl, sym, ap, ◌∙◌, Bool, true, false, not, cond, ◌&&◌, ◌||◌, ℕ, zero, suc, ◌+◌, ◌≤◌, ◌<◌, eqb, leb, arith, le-leb, lt-ltb, le-ltb, ⊎_elim, ltb, ◌-◌}
+use Rattle.std.proofs.lemmas.Bool.{lt-leb, cases_lt}
 use mathlib.Core.Bool.{and-false}
 use Rattle.meaning.specs.Lent.{Index}
 use Rattle.weight.specs.ScorerTree.{nothing, term, phrase, range, everything, Scorer, leaf, boolean, Scorers, end, more, matches, allMatch, anyMatches, matching}
@@ -51,3 +52,11 @@ pub matching-few : (ix : Index) (ss : Scorers) (d : ℕ) → matching ix ss d �
 unfolding matching nodesOf
 matching-few ix end d = omega arith
 matching-few ix (more f s ss) d = omega (arith, at-most-one (matches ix s d), nodes-some s, matching-few ix ss d)
+
+-- ---- at least so many, and more than one less
+pub more-than : (need m : ℕ) → 0 < need → ltb (need - 1) m ≡ leb need m
+more-than need m h =
+    ⊎_elim (λ (l : need - 1 < m). lt-ltb (need - 1) m l ∙ sym (le-leb need m (omega (arith, l, h)))) (λ (l : m ≤ need - 1). le-ltb (need - 1) m l ∙ sym (lt-leb need m (omega (arith, l, h)))) (cases_lt (need - 1) m)
+
+pub too-few : (need m : ℕ) → m < need → leb need m ≡ false
+too-few need m h = lt-leb need m h

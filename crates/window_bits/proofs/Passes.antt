@@ -1,7 +1,7 @@
 -- The required children, asked in two passes: the loop of a pass. Assumes nothing.
-use Rattle.std.proofs.Common.{◌≡◌, refl, sym, ap, ◌∙◌, subst, ⊎_elim, Bool, true, false, not, cond, ◌&&◌, ◌||◌, List, [], ◌++◌, ℕ, ◌+◌, ◌-◌, ◌≤◌, ◌<◌, max, eqb, length, get_or, take, drop, arith, le_refl}
+use Rattle.std.proofs.Common.{◌≡◌, refl, sym, ap, ◌∙◌, subst, subst₂, ⊎_elim, Bool, true, false, not, cond, ◌&&◌, ◌||◌, List, [], ◌++◌, ℕ, ◌+◌, ◌-◌, ◌≤◌, ◌<◌, max, eqb, length, get_or, take, drop, arith, le_refl}
 use Rattle.std.proofs.lemmas.Bool.{false≢true, and_parts, and_from, and_left, and_right, cases_lt}
-use mathlib.Core.Bool.{and-true, and-false, and_assoc}
+use mathlib.Core.Bool.{beq, and-true, and-false, and_assoc}
 use Rattle.meaning.specs.Limits.{nodeStateWords, noMoreDocs}
 use Rattle.meaning.specs.Lent.{Index}
 use Rattle.bits.specs.Bit.{bit}
@@ -12,10 +12,10 @@ use Rattle.leaf_scorer.specs.Calls.{lent}
 use Rattle.window_words.specs.Windowed.{Places, nowhere, placesOf, Windowed, AllWindowed}
 use Rattle.window_words.proofs.Laws.{windowed-less, windowed-mono, kindOf}
 use Rattle.window_words.proofs.Parts.{Part, Each, Asked, all-each, each-all, each-map, Zip, View, zip-start, zip-none, zip-end, zip-stop, zip-front-map, view, part-held, zip-next, zip-skip}
-use Rattle.window_leaf.specs.Asks.{Answers, NodeWindowed, NodeAnswers}
-use Rattle.window_bits.specs.Parts.{isPhrase, askedBefore, askedBy, askedAfter, allOf, SomeWindowed, ChildAt}
+use Rattle.window_leaf.specs.Asks.{Answers, NodeAnswers, BitsPre, TermPre}
+use Rattle.window_bits.specs.Parts.{isPhrase, askedBefore, askedBy, askedAfter, allOf, SomeWindowed, ChildAt, Called}
 use Rattle.window_bits.proofs.Matching.{phrase-kind}
-use Rattle.window_bits.proofs.Children.{AndKnown, each-known, Low, Fresh, stop-is, kind-read, child-facts, child-held, part-length, word-back}
+use Rattle.window_bits.proofs.Children.{AndKnown, each-known, Low, Fresh, child-there, ask-node, ask-term, stop-is, kind-read, child-facts, child-held, part-length, word-back}
 
 -- ---- the parts, of which those of a kind were asked
 abbrev pub SomeAsked : (Scorer → Bool) → Index → List ℕ → ℕ → ℕ → Places → Part
@@ -81,6 +81,18 @@ module _ (ix : Index) (R : List ℕ) (k base : ℕ) where
 -- ---- whether a child is asked, by its kind
 by-kind : (s : Scorer) (kind : ℕ) (t : Bool) → kindOf s ≡ kind → eqb kind 2 ≡ t → isPhrase s ≡ t
 by-kind s kind t e h = phrase-kind s ∙ ap (λ (n : ℕ). eqb n 2) e ∙ h
+
+pub same-test : (x y : Bool) → beq x y ≡ true → x ≡ y
+same-test true true e = refl
+same-test true false e = absurd (false≢true e)
+same-test false true e = absurd (false≢true e)
+same-test false false e = refl
+
+pub other-test : (x y : Bool) → beq x y ≡ false → x ≡ not y
+other-test true true e = absurd (false≢true (sym e))
+other-test true false e = refl
+other-test false true e = refl
+other-test false false e = absurd (false≢true (sym e))
 
 asked-not-before : (last : Bool) → (last && not last) ≡ false
 asked-not-before true = refl
@@ -157,7 +169,18 @@ module _ (ix : Index) (R : List ℕ) (k places : ℕ) (last : Bool) (base want :
   pub pass-fresh : (kind : ℕ) → eqb kind 2 ≡ last → Fresh ix R k base kind (SomeAsked (askedBefore last) ix R k base (placesOf want))
   pass-fresh kind h = record { fresh = λ f s y e q. some-fresh ix R k base (askedBefore last) (placesOf want) f s y (ap (λ (t : Bool). last && not t) (by-kind s kind last e h) ∙ asked-not-before last) q }
 
+  pub pass-there : PassAt ix R k places last base want ss kids w next at → at < length kids → ChildAt kids at
+  pass-there q l = child-there (some-low ix R k base (askedBefore last) (placesOf want)) q.g q.left.zip l
+
   module _ (e : ℕ) (i : e ≡ at + get_or kids (at + 1) 0) where
+    -- what a call of this pass asks
+    module _ (postings positions : List ℕ) (n : ℕ) {a b : ℕ} (called : Called (lent n postings positions R) places a b base want) (lends : Lends ix n postings positions) (q : PassAt ix R k places last base want ss kids w next at) (l : at < length kids) (kind : ℕ) (j : kind ≡ get_or kids at 0) (h : eqb kind 2 ≡ last) where
+      pub pass-node : (a' b' : ℕ) → a' ≡ a → b' ≡ b → BitsPre postings positions R a' b' (take (e - at) (drop at kids)) base w k
+      pass-node a' b' f f' = ask-node (some-low ix R k base (askedBefore last) (placesOf want)) postings positions n called lends kind (pass-fresh kind h) q.g q.left.zip l e i j a' b' w f f' q.left.within
+
+      pub pass-term : kind ≡ 1 → TermPre postings (take (e - at) (drop at kids)) base
+      pass-term f = ask-term (some-low ix R k base (askedBefore last) (placesOf want)) postings positions n called lends kind (pass-fresh kind h) q.g q.left.zip l e i j f
+
     skipped : (g : Scorers) → PassLeft ix R k places last base want ss kids w next at g → at < length kids → eqb (get_or kids at 0) 2 ≡ not last → PassAt ix R k places last base want ss kids w next e
     unfolding allOf
     skipped end s l h = absurd (omega (arith, zip-none s.zip, l))
@@ -183,7 +206,7 @@ module _ (ix : Index) (R : List ℕ) (k places : ℕ) (last : Bool) (base want :
     pub pass-skip : PassAt ix R k places last base want ss kids w next at → at < length kids → eqb (get_or kids at 0) 2 ≡ not last → PassAt ix R k places last base want ss kids w next e
     pass-skip q l h = skipped q.g q.left l h
 
-    module _ (postings positions : List ℕ) (n : ℕ) (lends : Lends ix n postings positions) (r : ℕ) (ys : List ℕ) (next' : ℕ) (m : length ys ≡ length (take (e - at) (drop at kids))) (j : next' ≡ max next (get_or (take at kids ++ (ys ++ drop (e - at) (drop at kids))) (at + 22) 0)) (ans : NodeAnswers (lent n postings positions R) (take (e - at) (drop at kids)) base (placesOf w) k r ys) where
+    module _ (postings positions : List ℕ) (n : ℕ) (lends : Lends ix n postings positions) (r : ℕ) (ys : List ℕ) (next' : ℕ) (m : length ys ≡ length (take (e - at) (drop at kids))) (kids' : List ℕ) (is : kids' ≡ take at kids ++ (ys ++ drop (e - at) (drop at kids))) (j : next' ≡ max next (get_or kids' (at + 22) 0)) (ans : NodeAnswers (lent n postings positions R) (take (e - at) (drop at kids)) base (placesOf w) k r ys) where
       took : (g : Scorers) → PassLeft ix R k places last base want ss kids w next at g → at < length kids → eqb (get_or kids at 0) 2 ≡ last → PassAt ix R k places last base want ss (take at kids ++ (ys ++ drop (e - at) (drop at kids))) r next' e
       unfolding allOf
       took end s l h = absurd (omega (arith, zip-none s.zip, l))
@@ -197,7 +220,7 @@ module _ (ix : Index) (R : List ℕ) (k places : ℕ) (last : Bool) (base want :
           let held = child-held low v postings positions n lends (get_or kids at 0) (pass-fresh (get_or kids at 0) h) e i refl in
           let a = ans ix places x (cond f 1 0) held in
           let among : (p : ℕ) → p < 64 → bit p r ≡ true → bit p w ≡ true = λ p b t. (and_parts (bit p w) (matches ix x (base + p)) (sym (a.0.bits p b) ∙ t)).0 in
-          let next-is : next' ≡ max next (get_or ys 22 0) = j ∙ ap (max next) (word-back kids ys at e 22 (omega (arith, l)) (omega (arith, m, part-length kids at e c i))) in
+          let next-is : next' ≡ max next (get_or ys 22 0) = j ∙ ap (λ (q : List ℕ). max next (get_or q (at + 22) 0)) is ∙ ap (max next) (word-back kids ys at e 22 (omega (arith, l)) (omega (arith, m, part-length kids at e c i))) in
           let one : (d : ℕ) → allOf (askedBy last) ix (more f x g) d ≡ (matches ix x d && allOf (askedBy last) ix g d) = λ d. ap (λ (t : Bool). cond t (matches ix x d) true && allOf (askedBy last) ix g d) yes in
           record {
             g = g;
@@ -211,5 +234,5 @@ module _ (ix : Index) (R : List ℕ) (k places : ℕ) (last : Bool) (base want :
             };
           }
 
-      pub pass-took : PassAt ix R k places last base want ss kids w next at → at < length kids → eqb (get_or kids at 0) 2 ≡ last → PassAt ix R k places last base want ss (take at kids ++ (ys ++ drop (e - at) (drop at kids))) r next' e
-      pass-took q l h = took q.g q.left l h
+      pub pass-took : PassAt ix R k places last base want ss kids w next at → at < length kids → eqb (get_or kids at 0) 2 ≡ last → (w' : ℕ) → w' ≡ r → PassAt ix R k places last base want ss kids' w' next' e
+      pass-took q l h w' u = subst₂ (λ (q' : List ℕ) (v : ℕ). PassAt ix R k places last base want ss q' v next' e) (sym is) (sym u) (took q.g q.left l h)

@@ -1,5 +1,5 @@
 -- The prohibited children: the loop that takes their documents away. Assumes nothing.
-use Rattle.std.proofs.Common.{◌≡◌, refl, sym, ap, ◌∙◌, Bool, true, false, not, cond, ◌&&◌, ◌||◌, List, [], ◌++◌, ℕ, ◌+◌, ◌-◌, ◌≤◌, ◌<◌, length, get_or, take, drop, arith}
+use Rattle.std.proofs.Common.{◌≡◌, refl, sym, ap, subst, ◌∙◌, Bool, true, false, not, cond, ◌&&◌, ◌||◌, List, [], ◌++◌, ℕ, ◌+◌, ◌-◌, ◌≤◌, ◌<◌, length, get_or, take, drop, arith}
 use Rattle.std.proofs.lemmas.Bool.{false≢true, and_parts, and_left}
 use mathlib.Core.Bool.{and-true}
 use Rattle.meaning.specs.Lent.{Index}
@@ -50,7 +50,7 @@ module _ (ix : Index) (R : List ℕ) (k places base want : ℕ) (ss : Scorers) (
   pub excluded-end : ExcludedAt ix R k places base want ss kids w at → length kids ≤ at → ((p : ℕ) → p < 64 → bit p w ≡ (bit p want && not (anyMatches ix ss (base + p)))) × AllWindowed ix R ss k kids (base + 64) base nowhere
   excluded-end q l = ended q.g q.left l
 
-  module _ (e : ℕ) (i : e ≡ at + get_or kids (at + 1) 0) (postings positions : List ℕ) (n : ℕ) (lends : Lends ix n postings positions) (D : Places) (among : (p : ℕ) → p < 64 → bit p w ≡ true → D p ≡ true) (r : ℕ) (ys : List ℕ) (w' : ℕ) (m : length ys ≡ length (take (e - at) (drop at kids))) (o : (p : ℕ) → p < 64 → bit p w' ≡ (bit p w && not (bit p r))) (ans : NodeAnswers (lent n postings positions R) (take (e - at) (drop at kids)) base D k r ys) where
+  module _ (e : ℕ) (i : e ≡ at + get_or kids (at + 1) 0) (postings positions : List ℕ) (n : ℕ) (lends : Lends ix n postings positions) (D : Places) (among : (p : ℕ) → p < 64 → bit p w ≡ true → D p ≡ true) (r : ℕ) (ys : List ℕ) (w' : ℕ) (m : length ys ≡ length (take (e - at) (drop at kids))) (kids' : List ℕ) (is : kids' ≡ take at kids ++ (ys ++ drop (e - at) (drop at kids))) (o : (p : ℕ) → p < 64 → bit p w' ≡ (bit p w && not (bit p r))) (ans : NodeAnswers (lent n postings positions R) (take (e - at) (drop at kids)) base D k r ys) where
     took : (g : Scorers) → ExcludedLeft ix R k places base want ss kids w at g → at < length kids → ExcludedAt ix R k places base want ss (take at kids ++ (ys ++ drop (e - at) (drop at kids))) w' e
     unfolding anyMatches
     took end s l = absurd (omega (arith, zip-none s.zip, l))
@@ -67,5 +67,5 @@ module _ (ix : Index) (R : List ℕ) (k places base want : ℕ) (ss : Scorers) (
           };
         }
 
-    pub excluded-took : ExcludedAt ix R k places base want ss kids w at → at < length kids → ExcludedAt ix R k places base want ss (take at kids ++ (ys ++ drop (e - at) (drop at kids))) w' e
-    excluded-took q l = took q.g q.left l
+    pub excluded-took : ExcludedAt ix R k places base want ss kids w at → at < length kids → ExcludedAt ix R k places base want ss kids' w' e
+    excluded-took q l = subst (λ (q' : List ℕ). ExcludedAt ix R k places base want ss q' w' e) (sym is) (took q.g q.left l)
