@@ -1,16 +1,15 @@
 -- A Boolean's children, asked for a window: the words of its three groups, and the four questions one after the other. Assumes nothing.
-use Rattle.std.proofs.Common.{◌≡◌, refl, sym, ap, ap₂, ◌∙◌, subst, ⊎_elim, Bool, true, false, not, cond, ◌&&◌, ◌||◌, List, [], ◌++◌, ℕ, ◌+◌, ◌-◌, ◌≤◌, ◌<◌, max, leb, ltb, length, get_or, take, drop, take_at, drop_at, append_assoc, append-nil, length-append, arith}
-use Rattle.std.proofs.lemmas.Bool.{false≢true, and_parts, and_from, and_left, and_right, cases_lt}
+use Rattle.std.proofs.Common.{◌≡◌, refl, sym, ap, ap₂, ◌∙◌, subst, ⊎_elim, Bool, true, false, not, cond, ◌&&◌, List, [], ◌++◌, ℕ, ◌+◌, ◌-◌, ◌≤◌, ◌<◌, max, ltb, length, take, drop, take_at, drop_at, append_assoc, append-nil, length-append, arith}
+use Rattle.std.proofs.lemmas.Bool.{false≢true, and_parts, and_from, cases_lt}
 use mathlib.Core.Bool.{and-false}
 use Rattle.meaning.specs.Limits.{noMoreDocs}
 use Rattle.meaning.specs.Lent.{Index}
 use Rattle.bits.specs.Bit.{bit}
-use Rattle.weight.specs.ScorerTree.{Scorers, allMatch, anyMatches, matching}
-use Rattle.weight.specs.State.{sizesOf}
-use Rattle.leaf_scorer.specs.Calls.{lent}
-use Rattle.window_words.specs.Windowed.{Places, nowhere, placesOf, optionalBound, AllWindowed}
+use Rattle.weight.specs.ScorerTree.{Scorers, anyMatches}
+use Rattle.leaf_scorer.specs.Calls.{lent, RoomIn}
+use Rattle.window_words.specs.Windowed.{nowhere, placesOf, optionalBound, AllWindowed}
 use Rattle.window_words.proofs.Laws.{all-less, all-mono, all-length}
-use Rattle.window_leaf.specs.Asks.{Answers}
+use Rattle.window_leaf.specs.Asks.{Answers, Wanted}
 use Rattle.window_bits.specs.Parts.{askedBefore, askedBy, askedAfter, allOf, SomeWindowed, Called, PassPre, PassPost, PartsPre, enough, OptionalPost, ExcludedPost, BooleanWindowed, takes, BooleanKnown}
 use Rattle.window_bits.proofs.Matching.{all-passes}
 use Rattle.window_bits.proofs.Passes.{before-first, between, after-last}
@@ -102,13 +101,13 @@ pub record Entry (postings positions R : List ℕ) (a b : ℕ) (kids : List ℕ)
   pub rs : Scorers
   pub os : Scorers
   pub ps : Scorers
-  pub called : Called (lent n postings positions R) places a b base want
+  pub small : base + 64 ≤ noMoreDocs
+  pub wanted : Wanted n base want
   pub known : BooleanKnown (lent n postings positions R) ix places rs os ps
   pub held : BooleanWindowed ix R rs os ps k e o need kids base base nowhere
 
-called-on : {n places a b base want : ℕ} (postings positions R : List ℕ) → Called (lent n postings positions R) places a b base want → (a' b' w : ℕ) → a' ≡ a → b' ≡ b → ((p : ℕ) → p < 64 → bit p w ≡ true → bit p want ≡ true) → Called (lent n postings positions R) places a' b' base w
-called-on postings positions R c a' b' w f g h =
-    record { small = c.small; wanted = λ p l t. c.wanted p l (h p l t); room = record { in-a = omega (arith, c.room.in-a, f); in_b = omega (arith, c.room.in_b, g) } }
+called-on : {n places a b base want : ℕ} (postings positions R : List ℕ) → base + 64 ≤ noMoreDocs → Wanted n base want → RoomIn places a b → (a' b' : ℕ) → a' ≡ a → b' ≡ b → Called (lent n postings positions R) places a' b' base want
+called-on postings positions R h w r a' b' f g = record { small = h; wanted = w; room = record { in-a = omega (arith, r.in-a, f); in_b = omega (arith, r.in_b, g) } }
 
 module _ {postings positions R : List ℕ} {a b : ℕ} {kids : List ℕ} {e o need base want k : ℕ} (s : Entry postings positions R a b kids e o need base want k) where
   pub words₀ : Three kids s.held.x s.held.v s.held.z e o
@@ -120,12 +119,12 @@ module _ {postings positions R : List ℕ} {a b : ℕ} {kids : List ℕ} {e o ne
   held₁ : SomeWindowed (askedBefore false) s.ix R s.rs k (take e kids) base (placesOf want)
   held₁ = subst (λ (q : List ℕ). SomeWindowed (askedBefore false) s.ix R s.rs k q base (placesOf want)) (sym (three-first words₀)) (before-first s.ix R k base s.rs s.held.x (placesOf want) s.held.required)
 
-  pub first-pre : PassPre postings positions R a b (take e kids) false base want k
-  first-pre = (s.n, s.ix, s.places, s.rs, s.called, s.known.required, held₁)
+  pub first-pre : RoomIn s.places a b → PassPre postings positions R a b (take e kids) false base want k
+  first-pre h = (s.n, s.ix, s.places, s.rs, called-on postings positions R s.small s.wanted h a b refl refl, s.known.required, held₁)
 
   module _ (r₁ next₁ : ℕ) (x₁ : List ℕ) (m₁ : length x₁ ≡ length (take e kids)) (post₁ : PassPost postings positions R a b (take e kids) false base want k r₁ next₁ x₁) (a₁ b₁ : ℕ) (f₁ : a₁ ≡ a) (g₁ : b₁ ≡ b) where
     done₁ : Answers (allOf (askedBy false) s.ix s.rs) base (placesOf want) r₁ next₁ × SomeWindowed (askedAfter false) s.ix R s.rs k x₁ base (placesOf r₁)
-    done₁ = post₁ s.n s.ix s.places s.rs s.called s.known.required held₁
+    done₁ = post₁ s.n s.ix s.places s.rs s.wanted s.known.required held₁
 
     kids₁ : List ℕ
     kids₁ = x₁ ++ drop e kids
@@ -136,20 +135,20 @@ module _ {postings positions R : List ℕ} {a b : ℕ} {kids : List ℕ} {e o ne
     within₁ : (p : ℕ) → p < 64 → bit p r₁ ≡ true → bit p want ≡ true
     within₁ p l t = (and_parts (bit p want) (allOf (askedBy false) s.ix s.rs (base + p)) (sym (done₁.0.bits p l) ∙ t)).0
 
-    called₁ : Called (lent s.n postings positions R) s.places a₁ b₁ base r₁
-    called₁ = called-on postings positions R s.called a₁ b₁ r₁ f₁ g₁ within₁
+    wanted₁ : Wanted s.n base r₁
+    wanted₁ p l t = s.wanted p l (within₁ p l t)
 
     held₂ : AllWindowed s.ix R s.os k (take (o - e) (drop e (x₁ ++ drop e kids))) base base nowhere
     held₂ =
         let c : ℕ = optionalBound need base base in
         subst (λ (q : List ℕ). AllWindowed s.ix R s.os k q base base nowhere) (sym (three-second words₁)) (all-less s.ix R s.os k s.held.v base base (λ p. ltb 0 need && nowhere p) nowhere (λ p l t. absurd (false≢true t)) (all-mono s.ix R s.os k s.held.v c base (λ p. ltb 0 need && nowhere p) base (bound-same (ltb 0 need) base) s.held.optional))
 
-    pub optional-pre : PartsPre postings positions R a₁ b₁ (take (o - e) (drop e (x₁ ++ drop e kids))) base r₁ k
-    optional-pre = (s.n, s.ix, s.places, s.os, called₁, s.known.optional, held₂)
+    pub optional-pre : RoomIn s.places a b → PartsPre postings positions R a₁ b₁ (take (o - e) (drop e (x₁ ++ drop e kids))) base r₁ k
+    optional-pre h = (s.n, s.ix, s.places, s.os, called-on postings positions R s.small wanted₁ h a₁ b₁ f₁ g₁, s.known.optional, held₂)
 
     module _ (r₂ next₂ : ℕ) (v₂ : List ℕ) (m₂ : length v₂ ≡ length (take (o - e) (drop e (x₁ ++ drop e kids)))) (post₂ : OptionalPost postings positions R a₁ b₁ (take (o - e) (drop e (x₁ ++ drop e kids))) need base r₁ k r₂ next₂ v₂) (a₂ b₂ : ℕ) (f₂ : a₂ ≡ a₁) (g₂ : b₂ ≡ b₁) (kids₂ : List ℕ) (is₂ : kids₂ ≡ take e (x₁ ++ drop e kids) ++ (v₂ ++ drop (o - e) (drop e (x₁ ++ drop e kids)))) where
       done₂ : Answers (enough s.ix s.os need) base (placesOf r₁) r₂ next₂ × AllWindowed s.ix R s.os k v₂ (optionalBound need (base + 64) base) base (λ p. ltb 0 need && bit p r₂)
-      done₂ = post₂ s.n s.ix s.places s.os called₁ s.known.optional held₂
+      done₂ = post₂ s.n s.ix s.places s.os wanted₁ s.known.optional held₂
 
       pub words₂ : Three kids₂ x₁ v₂ s.held.z e o
       words₂ = subst (λ (q : List ℕ). Three q x₁ v₂ s.held.z e o) (sym is₂) (put-second words₁ v₂ m₂)
@@ -157,18 +156,18 @@ module _ {postings positions R : List ℕ} {a b : ℕ} {kids : List ℕ} {e o ne
       within₂ : (p : ℕ) → p < 64 → bit p r₂ ≡ true → bit p r₁ ≡ true
       within₂ p l t = (and_parts (bit p r₁) (enough s.ix s.os need (base + p)) (sym (done₂.0.bits p l) ∙ t)).0
 
-      called₂ : Called (lent s.n postings positions R) s.places a₂ b₂ base r₂
-      called₂ = called-on postings positions R called₁ a₂ b₂ r₂ f₂ g₂ within₂
+      wanted₂ : Wanted s.n base r₂
+      wanted₂ p l t = wanted₁ p l (within₂ p l t)
 
       held₃ : AllWindowed s.ix R s.ps k (take (length kids₂ - o) (drop o kids₂)) base base nowhere
       held₃ = subst (λ (q : List ℕ). AllWindowed s.ix R s.ps k q base base nowhere) (sym (three-third words₂)) s.held.prohibited
 
-      pub excluded-pre : PartsPre postings positions R a₂ b₂ (take (length kids₂ - o) (drop o kids₂)) base r₂ k
-      excluded-pre = (s.n, s.ix, s.places, s.ps, called₂, s.known.prohibited, held₃)
+      pub excluded-pre : RoomIn s.places a b → PartsPre postings positions R a₂ b₂ (take (length kids₂ - o) (drop o kids₂)) base r₂ k
+      excluded-pre h = (s.n, s.ix, s.places, s.ps, called-on postings positions R s.small wanted₂ h a₂ b₂ (f₂ ∙ f₁) (g₂ ∙ g₁), s.known.prohibited, held₃)
 
       module _ (r₃ : ℕ) (z₃ : List ℕ) (post₃ : ExcludedPost postings positions R a₂ b₂ (take (length kids₂ - o) (drop o kids₂)) base r₂ k r₃ z₃) (a₃ b₃ : ℕ) (f₃ : a₃ ≡ a₂) (g₃ : b₃ ≡ b₂) (kids₃ : List ℕ) (is₃ : kids₃ ≡ take o kids₂ ++ (z₃ ++ drop (length kids₂ - o) (drop o kids₂))) where
         done₃ : ((p : ℕ) → p < 64 → bit p r₃ ≡ (bit p r₂ && not (anyMatches s.ix s.ps (base + p)))) × AllWindowed s.ix R s.ps k z₃ (base + 64) base nowhere
-        done₃ = post₃ s.n s.ix s.places s.ps called₂ s.known.prohibited held₃
+        done₃ = post₃ s.n s.ix s.places s.ps wanted₂ s.known.prohibited held₃
 
         pub words₃ : Three kids₃ x₁ v₂ z₃ e o
         words₃ = subst (λ (q : List ℕ). Three q x₁ v₂ z₃ e o) (sym is₃) (put-third words₂ z₃)
@@ -176,18 +175,18 @@ module _ {postings positions R : List ℕ} {a b : ℕ} {kids : List ℕ} {e o ne
         within₃ : (p : ℕ) → p < 64 → bit p r₃ ≡ true → bit p r₂ ≡ true
         within₃ p l t = (and_parts (bit p r₂) (not (anyMatches s.ix s.ps (base + p))) (sym (done₃.0 p l) ∙ t)).0
 
-        called₃ : Called (lent s.n postings positions R) s.places a₃ b₃ base r₃
-        called₃ = called-on postings positions R called₂ a₃ b₃ r₃ f₃ g₃ within₃
+        wanted₃ : Wanted s.n base r₃
+        wanted₃ p l t = wanted₂ p l (within₃ p l t)
 
         held₄ : SomeWindowed (askedBefore true) s.ix R s.rs k (take e kids₃) base (placesOf r₃)
         held₄ = subst (λ (q : List ℕ). SomeWindowed (askedBefore true) s.ix R s.rs k q base (placesOf r₃)) (sym (three-first words₃)) (between s.ix R k base s.rs x₁ (placesOf r₁) (placesOf r₃) (λ p l t. within₂ p l (within₃ p l t)) done₁.1)
 
-        pub second-pre : PassPre postings positions R a₃ b₃ (take e kids₃) true base r₃ k
-        second-pre = (s.n, s.ix, s.places, s.rs, called₃, s.known.required, held₄)
+        pub second-pre : RoomIn s.places a b → PassPre postings positions R a₃ b₃ (take e kids₃) true base r₃ k
+        second-pre h = (s.n, s.ix, s.places, s.rs, called-on postings positions R s.small wanted₃ h a₃ b₃ (f₃ ∙ (f₂ ∙ f₁)) (g₃ ∙ (g₂ ∙ g₁)), s.known.required, held₄)
 
         module _ (r₄ next₄ : ℕ) (x₄ : List ℕ) (m₄ : length x₄ ≡ length (take e kids₃)) (post₄ : PassPost postings positions R a₃ b₃ (take e kids₃) true base r₃ k r₄ next₄ x₄) (next₃ next : ℕ) (j₃ : next₃ ≡ max next₁ next₂) (j₄ : next ≡ max next₃ next₄) where
           done₄ : Answers (allOf (askedBy true) s.ix s.rs) base (placesOf r₃) r₄ next₄ × SomeWindowed (askedAfter true) s.ix R s.rs k x₄ base (placesOf r₄)
-          done₄ = post₄ s.n s.ix s.places s.rs called₃ s.known.required held₄
+          done₄ = post₄ s.n s.ix s.places s.rs wanted₃ s.known.required held₄
 
           within₄ : (p : ℕ) → p < 64 → bit p r₄ ≡ true → bit p r₂ ≡ true
           within₄ p l t = within₃ p l (and_parts (bit p r₃) (allOf (askedBy true) s.ix s.rs (base + p)) (sym (done₄.0.bits p l) ∙ t)).0

@@ -1,17 +1,17 @@
 -- A child of a node that is asked by windows: what a question of its part needs, and what the answer says of it. Assumes nothing.
-use Rattle.std.proofs.Common.{get_or-take, get_or-drop, ◌≡◌, refl, sym, ap, ◌∙◌, subst, Bool, true, false, not, cond, ◌&&◌, List, [], ◌++◌, ℕ, ◌+◌, ◌-◌, ◌≤◌, ◌<◌, eqb, length, get_or, take, drop, length-take, length-drop, arith, le_refl, get_or-append-add}
+use Rattle.std.proofs.Common.{get_or-take, get_or-drop, ◌≡◌, refl, sym, ap, ◌∙◌, subst, Bool, true, cond, ◌&&◌, List, ◌++◌, ℕ, ◌+◌, ◌-◌, ◌≤◌, ◌<◌, length, get_or, take, drop, length-take, length-drop, arith, get_or-append-add}
 use lib.ListN.{get_or-append}
 use Rattle.meaning.specs.Limits.{nodeStateWords, noMoreDocs}
 use Rattle.meaning.specs.Lent.{Index}
 use Rattle.bits.specs.Bit.{bit}
-use Rattle.weight.specs.ScorerTree.{Scorer, Scorers, end, more, matches}
+use Rattle.weight.specs.ScorerTree.{Scorer, Scorers, end, more}
 use Rattle.weight.specs.Sound.{Lends, Sound, Sounds, nodes, nodesOf}
-use Rattle.leaf_scorer.specs.Calls.{Lent, lent, RoomIn}
-use Rattle.window_words.specs.Windowed.{Places, nowhere, placesOf, Windowed}
+use Rattle.leaf_scorer.specs.Calls.{lent}
+use Rattle.window_words.specs.Windowed.{nowhere, placesOf, Windowed}
 use Rattle.window_words.proofs.Laws.{windowed-less, windowed-long, windowed-size, windowed-kind, kindOf}
-use Rattle.window_words.proofs.Parts.{Part, Each, Zip, View, zip-none, view, word-at, word-first, part, part-held}
-use Rattle.window_leaf.specs.Asks.{Answers, everywhere, Wanted, NodeWindowed, NodeAnswers, BitsPre, TermPre, TermPost}
-use Rattle.window_bits.specs.Parts.{Called, ChildAt, SomeWindowed}
+use Rattle.window_words.proofs.Parts.{Part, Each, Zip, View, zip-none, view, word-at, word-first, part}
+use Rattle.window_leaf.specs.Asks.{everywhere, NodeWindowed, NodeAnswers, BitsPre, TermPre, TermPost}
+use Rattle.window_bits.specs.Parts.{Called, ChildAt}
 
 -- ---- what is known of each child that is left
 pub record Known (ix : Index) (places : ℕ) (s : Scorer) : Type 0 where

@@ -1,5 +1,5 @@
 -- Which of some scorers match a document: the two passes over the required, one that matches, and how many. Assumes nothing.
-use Rattle.std.proofs.Common.{◌≡◌, refl, sym, ap, ◌∙◌, Bool, true, false, not, cond, ◌&&◌, ◌||◌, ℕ, zero, suc, ◌+◌, ◌≤◌, ◌<◌, eqb, leb, arith, le-leb, lt-ltb, le-ltb, ⊎_elim, ltb, ◌-◌}
+use Rattle.std.proofs.Common.{◌≡◌, refl, sym, ap, ◌∙◌, Bool, true, false, not, cond, ◌&&◌, ◌||◌, ℕ, ◌+◌, ◌≤◌, ◌<◌, eqb, leb, arith, le-leb, lt-ltb, le-ltb, ⊎_elim, ltb, ◌-◌}
 use Rattle.std.proofs.lemmas.Bool.{lt-leb, cases_lt}
 use mathlib.Core.Bool.{and-false}
 use Rattle.meaning.specs.Lent.{Index}

@@ -1,16 +1,16 @@
 -- A Boolean's node, asked for a window: its record and its children's parts, before and after. Assumes nothing.
-use Rattle.std.proofs.Common.{◌≡◌, refl, sym, ap, ap₂, ◌∙◌, subst, Bool, true, false, cond, ◌&&◌, Float, List, [], ◌∷◌, ◌++◌, ℕ, suc, ◌+◌, ◌-◌, ◌*◌, ◌/◌, ◌%◌, ◌≤◌, ◌<◌, ltb, length, get_or, take, drop, take_at, drop_at, append-nil, arith}
+use Rattle.std.proofs.Common.{◌≡◌, refl, sym, ap, ap₂, ◌∙◌, subst, Bool, ◌&&◌, Float, List, [], ◌++◌, ℕ, ◌+◌, ◌-◌, ◌≤◌, ◌<◌, ltb, length, get_or, take, drop, take_at, drop_at, append-nil, arith}
 use Rattle.std.proofs.Math.Option.{Option, none, some}
-use Rattle.std.proofs.lemmas.Bool.{false≢true, and_parts, and_from}
-use Rattle.meaning.specs.Limits.{noMoreDocs, nodeStateWords}
+use Rattle.std.proofs.lemmas.Bool.{and_parts, and_from}
+use Rattle.meaning.specs.Limits.{nodeStateWords}
 use Rattle.meaning.specs.Lent.{Index}
 use Rattle.bits.specs.Bit.{bit}
 use Rattle.bits.proofs.Laws.{halves-joined}
 use Rattle.weight.specs.ScorerTree.{Leaf, nothing, term, phrase, range, everything, Scoring, Joining, oneMore, afterwards, Scorer, leaf, boolean, Scorers, matches}
-use Rattle.weight.specs.State.{State, words_of, size_of, sizesOf}
+use Rattle.weight.specs.State.{State, words_of}
 use Rattle.weight.specs.Held.{KeptIs, JoiningIs, BooleanIs}
-use Rattle.weight.specs.Sound.{Sound, nodes, nodesOf}
-use Rattle.leaf_scorer.specs.Calls.{lent, RoomIn}
+use Rattle.weight.specs.Sound.{Sound, nodes}
+use Rattle.leaf_scorer.specs.Calls.{lent}
 use Rattle.window_words.specs.Windowed.{Places, nowhere, placesOf, optionalBound, Stored, requiredPlaces, optionalPlaces, Windowed, AllWindowed}
 use Rattle.window_words.proofs.Laws.{all-less, windowed-long, windowed-kind, kindOf}
 use Rattle.window_leaf.specs.Asks.{Answers, Wanted, NodeWindowed}
@@ -139,10 +139,10 @@ module _ {n : ℕ} {postings positions R : List ℕ} {ix : Index} {places depth 
           prohibited = h.prohibited;
         })
 
-    module _ (a b want : ℕ) (called : Called (lent n postings positions R) places a b base want) where
+    module _ (a b want : ℕ) (wanted : Wanted n base want) where
       module _ (bits next : ℕ) (w st' : List ℕ) (post : BooleanPost postings positions R a b (take (length st - 32) (drop 32 st)) r o need' base want (depth - 1) bits next w) (put : PutPost (take 32 st ++ (w ++ drop (length st - 32) (drop 32 st))) bits next st') where
         done : Answers (takes ix rs os ps need) base (placesOf want) bits next × BooleanWindowed ix R rs os ps (depth - 1) r o need w (base + 64) base (placesOf bits)
-        done = subst (λ (q : ℕ). Answers (takes ix rs os ps q) base (placesOf want) bits next × BooleanWindowed ix R rs os ps (depth - 1) r o q w (base + 64) base (placesOf bits)) need-same (post n ix places rs os ps called (known-of c j need rs os ps m) parts)
+        done = subst (λ (q : ℕ). Answers (takes ix rs os ps q) base (placesOf want) bits next × BooleanWindowed ix R rs os ps (depth - 1) r o q w (base + 64) base (placesOf bits)) need-same (post n ix places rs os ps wanted (known-of c j need rs os ps m) parts)
 
         written : st' ≡ words_of (answered h.S bits next) ++ w
         written = put h.S w (put-behind h.S (h.x ++ (h.v ++ h.z)) st h.is w)
@@ -181,11 +181,11 @@ module _ {n : ℕ} {postings positions R : List ℕ} {ix : Index} {places depth 
         boolean-after : Answers (matches ix B) base (placesOf want) bits (get_or st' 22 0) × Windowed ix R B depth scores st' (base + 64) base (placesOf want)
         boolean-after = (answers, of-held ix R c j need rs os ps depth scores st' (base + 64) base (placesOf want) held-after)
 
-  module _ (a b want : ℕ) (called : Called (lent n postings positions R) places a b base want) (need' r o : ℕ) (read : BooleanRead st need' r o) where
-    pub node-pre : (s : Scorer) → NodeWindowed (lent n postings positions R) ix places s depth scores st base → get_or st 0 0 ≡ 3 → BooleanPre postings positions R a b (take (length st - 32) (drop 32 st)) r o need' base want (depth - 1)
-    node-pre (leaf l sc) m e = absurd (leaf-not l sc m e)
-    node-pre (boolean c j need rs os ps) m e = (n, ix, places, rs, os, ps, called, known-of c j need rs os ps m, parts need' r o read c j need rs os ps m)
+  module _ (a b want : ℕ) (need' r o : ℕ) (read : BooleanRead st need' r o) where
+    pub node-pre : Called (lent n postings positions R) places a b base want → (s : Scorer) → NodeWindowed (lent n postings positions R) ix places s depth scores st base → get_or st 0 0 ≡ 3 → BooleanPre postings positions R a b (take (length st - 32) (drop 32 st)) r o need' base want (depth - 1)
+    node-pre called (leaf l sc) m e = absurd (leaf-not l sc m e)
+    node-pre called (boolean c j need rs os ps) m e = (n, ix, places, rs, os, ps, called, known-of c j need rs os ps m, parts need' r o read c j need rs os ps m)
 
-    pub node-after : (s : Scorer) → NodeWindowed (lent n postings positions R) ix places s depth scores st base → get_or st 0 0 ≡ 3 → (bits next : ℕ) (w st' : List ℕ) → BooleanPost postings positions R a b (take (length st - 32) (drop 32 st)) r o need' base want (depth - 1) bits next w → PutPost (take 32 st ++ (w ++ drop (length st - 32) (drop 32 st))) bits next st' → Answers (matches ix s) base (placesOf want) bits (get_or st' 22 0) × Windowed ix R s depth scores st' (base + 64) base (placesOf want)
-    node-after (leaf l sc) m e bits next w st' post put = absurd (leaf-not l sc m e)
-    node-after (boolean c j need rs os ps) m e bits next w st' post put = boolean-after need' r o read c j need rs os ps m a b want called bits next w st' post put
+    pub node-after : Wanted n base want → (s : Scorer) → NodeWindowed (lent n postings positions R) ix places s depth scores st base → get_or st 0 0 ≡ 3 → (bits next : ℕ) (w st' : List ℕ) → BooleanPost postings positions R a b (take (length st - 32) (drop 32 st)) r o need' base want (depth - 1) bits next w → PutPost (take 32 st ++ (w ++ drop (length st - 32) (drop 32 st))) bits next st' → Answers (matches ix s) base (placesOf want) bits (get_or st' 22 0) × Windowed ix R s depth scores st' (base + 64) base (placesOf want)
+    node-after wanted (leaf l sc) m e bits next w st' post put = absurd (leaf-not l sc m e)
+    node-after wanted (boolean c j need rs os ps) m e bits next w st' post put = boolean-after need' r o read c j need rs os ps m a b want wanted bits next w st' post put

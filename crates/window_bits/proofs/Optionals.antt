@@ -1,19 +1,19 @@
 -- The optional children: the loop that looks for one that matches, and the loop that counts those that match. Assumes nothing.
-use Rattle.std.proofs.Common.{◌≡◌, refl, sym, ap, ap₂, ◌∙◌, subst, ⊎_elim, Bool, true, false, not, cond, ◌&&◌, ◌||◌, List, [], ◌∷◌, ◌++◌, ℕ, ◌+◌, ◌-◌, ◌*◌, ◌^◌, ◌≤◌, ◌<◌, min, leb, ltb, lt-ltb, length, get_or, take, drop, arith, le_refl}
-use Rattle.std.proofs.lemmas.Bool.{false≢true, and_parts, or_from, cases_lt, cond-true, cond-false}
-use mathlib.Core.Bool.{and-true, and-false, or-false, or_assoc, and-or_distrib_left}
-use Rattle.meaning.specs.Limits.{nodeStateWords, noMoreDocs}
+use Rattle.std.proofs.Common.{◌≡◌, refl, sym, ap, ◌∙◌, subst, Bool, true, false, cond, ◌&&◌, ◌||◌, List, [], ◌∷◌, ◌++◌, ℕ, ◌+◌, ◌-◌, ◌^◌, ◌≤◌, ◌<◌, min, leb, ltb, lt-ltb, length, get_or, take, drop, arith, le_refl}
+use Rattle.std.proofs.lemmas.Bool.{false≢true, and_parts, or_from}
+use mathlib.Core.Bool.{and-false, or-false, or_assoc, and-or_distrib_left}
+use Rattle.meaning.specs.Limits.{noMoreDocs}
 use Rattle.meaning.specs.Lent.{Index}
 use Rattle.bits.specs.Bit.{bit}
 use Rattle.bits.proofs.Laws.{bit-zero}
 use Rattle.planes.specs.Counts.{one, count}
 use Rattle.planes.proofs.Planes.{nothing-carried}
-use Rattle.weight.specs.ScorerTree.{Scorer, Scorers, end, more, matches, anyMatches, matching}
+use Rattle.weight.specs.ScorerTree.{Scorers, end, more, matches, anyMatches, matching}
 use Rattle.weight.specs.Sound.{Lends, Sounds, nodesOf}
 use Rattle.leaf_scorer.specs.Calls.{lent}
-use Rattle.window_words.specs.Windowed.{Places, nowhere, placesOf, optionalBound, Windowed, AllWindowed}
-use Rattle.window_words.proofs.Laws.{windowed-less, windowed-mono, all-less, all-mono, kindOf}
-use Rattle.window_words.proofs.Parts.{Part, Each, Asked, all-each, each-all, Zip, View, zip-start, zip-none, zip-end, view, zip-next}
+use Rattle.window_words.specs.Windowed.{Places, nowhere, placesOf, optionalBound, AllWindowed}
+use Rattle.window_words.proofs.Laws.{windowed-less, windowed-mono, all-less, all-mono}
+use Rattle.window_words.proofs.Parts.{Asked, all-each, each-all, Zip, zip-start, zip-none, zip-end, view, zip-next}
 use Rattle.window_leaf.specs.Asks.{Answers, NodeAnswers, BitsPre, TermPre}
 use Rattle.window_bits.specs.Parts.{ChildAt, CountsAre, Called, enough}
 use Rattle.window_bits.proofs.Matching.{matching-few, any-one, more-than, too-few}

@@ -1,8 +1,8 @@
 -- The required children, asked in two passes: the loop of a pass. Assumes nothing.
-use Rattle.std.proofs.Common.{◌≡◌, refl, sym, ap, ◌∙◌, subst, subst₂, ⊎_elim, Bool, true, false, not, cond, ◌&&◌, ◌||◌, List, [], ◌++◌, ℕ, ◌+◌, ◌-◌, ◌≤◌, ◌<◌, max, eqb, length, get_or, take, drop, arith, le_refl}
+use Rattle.std.proofs.Common.{◌≡◌, refl, sym, ap, ◌∙◌, subst₂, ⊎_elim, Bool, true, false, not, cond, ◌&&◌, ◌||◌, List, ◌++◌, ℕ, ◌+◌, ◌-◌, ◌≤◌, ◌<◌, max, eqb, length, get_or, take, drop, arith, le_refl}
 use Rattle.std.proofs.lemmas.Bool.{false≢true, and_parts, and_from, and_left, and_right, cases_lt}
-use mathlib.Core.Bool.{beq, and-true, and-false, and_assoc}
-use Rattle.meaning.specs.Limits.{nodeStateWords, noMoreDocs}
+use mathlib.Core.Bool.{beq, and-true, and_assoc}
+use Rattle.meaning.specs.Limits.{noMoreDocs}
 use Rattle.meaning.specs.Lent.{Index}
 use Rattle.bits.specs.Bit.{bit}
 use Rattle.bits.proofs.Laws.{bit-zero}
@@ -11,7 +11,7 @@ use Rattle.weight.specs.Sound.{Lends, Sounds, nodesOf}
 use Rattle.leaf_scorer.specs.Calls.{lent}
 use Rattle.window_words.specs.Windowed.{Places, nowhere, placesOf, Windowed, AllWindowed}
 use Rattle.window_words.proofs.Laws.{windowed-less, windowed-mono, kindOf}
-use Rattle.window_words.proofs.Parts.{Part, Each, Asked, all-each, each-all, each-map, Zip, View, zip-start, zip-none, zip-end, zip-stop, zip-front-map, view, part-held, zip-next, zip-skip}
+use Rattle.window_words.proofs.Parts.{Part, Each, all-each, each-all, each-map, Zip, zip-start, zip-none, zip-end, zip-stop, zip-front-map, view, zip-next, zip-skip}
 use Rattle.window_leaf.specs.Asks.{Answers, NodeAnswers, BitsPre, TermPre}
 use Rattle.window_bits.specs.Parts.{isPhrase, askedBefore, askedBy, askedAfter, allOf, SomeWindowed, ChildAt, Called}
 use Rattle.window_bits.proofs.Matching.{phrase-kind}

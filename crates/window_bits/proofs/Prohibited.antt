@@ -1,5 +1,5 @@
 -- The prohibited children: the loop that takes their documents away. Assumes nothing.
-use Rattle.std.proofs.Common.{◌≡◌, refl, sym, ap, subst, ◌∙◌, Bool, true, false, not, cond, ◌&&◌, ◌||◌, List, [], ◌++◌, ℕ, ◌+◌, ◌-◌, ◌≤◌, ◌<◌, length, get_or, take, drop, arith}
+use Rattle.std.proofs.Common.{◌≡◌, refl, sym, ap, subst, ◌∙◌, Bool, true, false, not, cond, ◌&&◌, ◌||◌, List, ◌++◌, ℕ, ◌+◌, ◌-◌, ◌≤◌, ◌<◌, length, get_or, take, drop, arith}
 use Rattle.std.proofs.lemmas.Bool.{false≢true, and_parts, and_left}
 use mathlib.Core.Bool.{and-true}
 use Rattle.meaning.specs.Lent.{Index}
