@@ -4,7 +4,7 @@
 ghost use Rattle.std.specs.Prelude.{◌≡◌, ◌≤◌, length, get_or};
 ghost use Rattle.meaning.specs.Limits.{nodeStateWords};
 ghost use Rattle.window_score.specs.Words.{JoinedIs, ChildIs, ChildThere};
-ghost use Rattle.window_score.specs.Asked.{ScoresPre, ScoresPost, RequiredPre, RequiredPost, OptionalPre, OptionalPost, BooleanPre, BooleanPost};
+ghost use Rattle.window_score.specs.Asked.{ScoresPre, ScoresPost, RequiredPre, RequiredPost, OptionalPre, OptionalPost, BooleanPre, BooleanPost, GroupPre, GroupPost};
 
 use index::wide;
 use sums::{add_constant, add_joined, add_narrowed};
