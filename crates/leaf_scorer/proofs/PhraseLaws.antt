@@ -90,11 +90,11 @@ module _ (terms x w' : List ℕ) (s : State) (at e : ℕ) (is : terms ≡ x ++ (
   pub record-back : (ys : List ℕ) → take at terms ++ (ys ++ drop (e - at) (drop at terms)) ≡ x ++ (ys ++ w')
   record-back ys = rw (span, is, take_at x (words_of s ++ w') at (sym place), drop_at x (words_of s ++ w') at (sym place), drop_at (words_of s) w' nodeStateWords refl)
 
-found-miss : (ix : Index) (t : PhraseTerm) (ts : List PhraseTerm) (d : ℕ) → found (postingAt ix t.leaf d) ≡ false → allFound ix (t ∷ ts) d ≡ false
+pub found-miss : (ix : Index) (t : PhraseTerm) (ts : List PhraseTerm) (d : ℕ) → found (postingAt ix t.leaf d) ≡ false → allFound ix (t ∷ ts) d ≡ false
 unfolding allFound
 found-miss ix t ts d e = rw e
 
-found-rest : (ix : Index) (t : PhraseTerm) (ts : List PhraseTerm) (d : ℕ) → allFound ix ts d ≡ false → allFound ix (t ∷ ts) d ≡ false
+pub found-rest : (ix : Index) (t : PhraseTerm) (ts : List PhraseTerm) (d : ℕ) → allFound ix ts d ≡ false → allFound ix (t ∷ ts) d ≡ false
 unfolding allFound
 found-rest ix t ts d e = rw e (and-false (found (postingAt ix t.leaf d)))
   where
@@ -200,7 +200,7 @@ pub record GatherFacts (postings terms : List ℕ) (at n places : ℕ) : Type 0 
   pub posting : 3 * (get_or terms (at + 6) 0 + get_or terms (at + 8) 0) + 2 < length postings
   pub room : n + 2 < places
 
-take-three : (out : List ℕ) (n a b c : ℕ) → n + 2 < length out → take (n + 3) (set (set (set out n a) (n + 1) b) (n + 2) c) ≡ take n out ++ (a ∷ b ∷ c ∷ [])
+pub take-three : (out : List ℕ) (n a b c : ℕ) → n + 2 < length out → take (n + 3) (set (set (set out n a) (n + 1) b) (n + 2) c) ≡ take n out ++ (a ∷ b ∷ c ∷ [])
 take-three out n a b c h =
     let o1 = set out n a in
     let o2 = set o1 (suc n) b in
@@ -399,7 +399,7 @@ module _ {postings positions : List ℕ} {ix : Index} {places f : ℕ} {ts : Lis
 
 -- ---- `seek_phrase`
 -- the words behind a record
-behind-part : (s : State) (st w : List ℕ) → st ≡ words_of s ++ w → take (length st - nodeStateWords) (drop nodeStateWords st) ≡ w
+pub behind-part : (s : State) (st w : List ℕ) → st ≡ words_of s ++ w → take (length st - nodeStateWords) (drop nodeStateWords st) ≡ w
 behind-part s st w e = let size : length st - nodeStateWords ≡ length w = omega (arith, ap length e) in rw (size, e, take-length)
 
 module _ {ix : Index} {f : ℕ} {ts : List PhraseTerm} {s : State} {st : List ℕ} {b : ℕ} (m : PhraseMoved ix f ts s st b) where

@@ -1,4 +1,4 @@
-// Counts at 64 places as planes of bits.
+// Counts at the 64 places of a word, as planes of bits: plane j has digit j of each count.
 #![tactic(auto)]
 
 ghost use Rattle.std.specs.Prelude.{◌≡◌, ◌&&◌, [], ◌∷◌, ◌++◌, ℕ, ◌+◌, ◌^◌, ◌≤◌, ◌<◌, ltb, length};
@@ -7,11 +7,10 @@ ghost use Rattle.planes.specs.Counts.{one, count};
 
 // Each place that x has counts one more; what is carried out of the last plane is returned.
 pub fn counted(planes: &mut [u64], x: u64) -> u64
-    ensures long { length planes.new ≡ length planes.old }
-    ensures counts { (p : ℕ) → count p (planes.new ++ (result ∷ [])) ≡ one (bit p x) + count p planes.old }
+    ensures { (p : ℕ) → count p (planes.new ++ (result ∷ [])) ≡ one (bit p x) + count p planes.old }
 {
     let mut carry = x;
-    let mut j = 0;
+    let mut j: usize = 0;
     while j < planes.len() {
         let a = planes[j];
         planes[j] = a ^ carry;
@@ -23,18 +22,19 @@ pub fn counted(planes: &mut [u64], x: u64) -> u64
 
 // The wanted places that count more than `least`.
 pub fn above(planes: &[u64], least: u32, want: u64) -> u64
-    requires { (length planes.now ≤ 31) × (least < 2 ^ length planes.now) }
+    requires few { length planes.now ≤ 31 }
+    requires within { least < 2 ^ length planes.now }
     ensures { (p : ℕ) → p < 64 → bit p result ≡ bit p want && ltb least (count p planes.now) }
 {
-    let mut more = 0;
+    let mut more: u64 = 0;
     let mut equal = want;
     let mut j = planes.len();
     while 0 < j {
         j -= 1;
-        if (least >> j as u32) % 2 == 1 {
+        if (least >> (j as u32)) % 2 == 1 {
             equal = equal & planes[j];
         } else {
-            more = more | equal & planes[j];
+            more = more | (equal & planes[j]);
             equal = equal & !planes[j];
         }
     }

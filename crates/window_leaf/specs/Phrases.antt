@@ -1,6 +1,7 @@
 -- A phrase, asked for a window: its terms, its frequency at a place, its planes. Assumes nothing: these are definitions.
-use Rattle.std.specs.Prelude.{◌≡◌, Bool, true, false, cond, List, ◌++◌, ℕ, ◌+◌, ◌*◌, ◌≤◌, ◌<◌, min, length}
-use Rattle.meaning.specs.Limits.{noMoreDocs}
+use Rattle.std.specs.Prelude.{◌≡◌, Bool, true, false, cond, ◌&&◌, ◌||◌, List, ℕ, ◌+◌, ◌*◌, ◌≤◌, ◌<◌, eqb, min, length, get_or}
+use Rattle.meaning.specs.Below.{countBelow}
+use Rattle.meaning.specs.Limits.{noMoreDocs, nodeStateWords}
 use Rattle.meaning.specs.Lent.{Index}
 use Rattle.meaning.specs.Phrase.{PhraseTerm, phraseFrequency}
 use Rattle.index.specs.Accepted.{Accepted}
@@ -8,7 +9,7 @@ use Rattle.weight.specs.ScorerTree.{phrase}
 use Rattle.weight.specs.Sound.{LeafSound}
 use Rattle.leaf_scorer.specs.Phrases.{allFound, LeavesThere, GatheredTo}
 use Rattle.bits.specs.Bit.{bit}
-use Rattle.window_words.specs.Windowed.{Places, nowhere, placesOf, TermsWindowed}
+use Rattle.window_words.specs.Windowed.{Places, nowhere, placesOf, joined, TermsWindowed}
 use Rattle.window_leaf.specs.Asks.{Answers}
 
 -- an accepted index with these postings, and the words of a phrase's terms, not asked yet of the window at base
@@ -35,6 +36,16 @@ pub record TermsAsked (postings : List ℕ) (ix : Index) (ts : List PhraseTerm) 
   pub held : TermsWindowed ix ts terms bound base D
   pub all : (p : ℕ) → p < 64 → D p ≡ true → allFound ix ts (base + p) ≡ true
 
+-- how many documents of a term's window stand before a place: its record begins at a place of the words
+abbrev pub rankAt : List ℕ → ℕ → ℕ → ℕ
+rankAt terms at place = countBelow place (λ q. bit q (joined (get_or terms (at + 20) 0) (get_or terms (at + 21) 0)))
+
+-- .. and that record is there, its run small
+pub record PostingPre (terms : List ℕ) (at place : ℕ) : Type 0 where
+  pub below : place < 64
+  pub fits : at + nodeStateWords ≤ length terms
+  pub small : get_or terms (at + 6) 0 + get_or terms (at + 19) 0 + rankAt terms at place < 3074457345618258602
+
 abbrev pub GatherPre : List ℕ → List ℕ → ℕ → ℕ → ℕ → Type 0
 GatherPre postings terms base place places =
     (place < 64) × ((ix : Index) × (ts : List PhraseTerm) × (D : Places) × (3 * length ts ≤ places) × (D place ≡ true) × TermsAsked postings ix ts base D terms)
@@ -56,6 +67,11 @@ FrequencyPre postings positions terms a b base place =
 abbrev pub FrequencyPost : List ℕ → List ℕ → List ℕ → ℕ → ℕ → ℕ → Type 0
 FrequencyPost postings positions terms base place r =
     (ix : Index) (places f : ℕ) (ts : List PhraseTerm) (D : Places) → D place ≡ true → PhraseAsked postings positions ix places f ts base D terms → r ≡ phraseFrequency ix ts (base + place)
+
+-- one more frequency in the planes: the two digits of it, up to 3, at the place
+pub record Noted (ones twos place frequency ones' twos' : ℕ) : Type 0 where
+  pub ones-are : (q : ℕ) → bit q ones' ≡ bit q ones || eqb q place && bit 0 (min 3 frequency)
+  pub twos-are : (q : ℕ) → bit q twos' ≡ bit q twos || eqb q place && bit 1 (min 3 frequency)
 
 -- the planes of a window: the lower digits of the frequencies at the candidates, up to 3, and nothing elsewhere
 pub record PlanesAre (ix : Index) (ts : List PhraseTerm) (base candidates ones twos : ℕ) : Type 0 where

@@ -1,5 +1,5 @@
 -- A record's run, asked for a window. Assumes nothing: these are definitions.
-use Rattle.std.specs.Prelude.{◌≡◌, Bool, false, List, ◌++◌, ℕ, ◌+◌, ◌*◌, ◌%◌, ◌/◌, ◌≤◌, ◌<◌, length}
+use Rattle.std.specs.Prelude.{◌≡◌, false, List, ◌++◌, ℕ, ◌+◌, ◌*◌, ◌%◌, ◌/◌, ◌≤◌, ◌<◌, length}
 use Rattle.meaning.specs.Limits.{noMoreDocs}
 use Rattle.weight.specs.State.{State, words_of}
 use Rattle.leaf_scorer.specs.Search.{SearchHeld}

@@ -75,7 +75,11 @@ pub fn run_bits(st: &mut [u32], words: &[u32], stride: usize, base: u32) -> u64
     let g = gathered(words, stride, first, number, from, base);
     st[8] = g.at as u32;
     st[19] = from as u32;
-    put(st, g.bits, document_or_end(words, stride, first, number, g.at));
+    put(
+        st,
+        g.bits,
+        document_or_end(words, stride, first, number, g.at),
+    );
     g.bits
 }
 

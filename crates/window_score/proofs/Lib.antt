@@ -1,4 +1,7 @@
--- What the proofs of several functions use.
+-- The laws of this crate's loops and calls.
+pub mod Adding
+pub mod Terms
+pub mod Phrases
 mod Loops
 mod Required
 mod Optional

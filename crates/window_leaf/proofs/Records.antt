@@ -1,0 +1,220 @@
+-- A record whose run was moved over a window: what it stores, and that it is again the record of its term or its range, with the window's documents. Assumes nothing.
+use Rattle.std.proofs.Common.{◌≡◌, refl, sym, ap, ◌∙◌, Bool, true, false, ◌&&◌, ⊎_elim, List, ◌++◌, ℕ, ◌+◌, ◌/◌, ◌%◌, ◌≤◌, ◌<◌, eqb, ltb, get_or, set, arith, ne_eqb, ltb-true, lt-ltb}
+use Rattle.std.proofs.lemmas.Bool.{eqb-false, false≢true}
+use Rattle.meaning.specs.Limits.{noMoreDocs}
+use Rattle.meaning.specs.Lent.{Index, leafFirst, leafNumber, leafDocument, leafCount}
+use Rattle.meaning.specs.Postings.{postingAt, found}
+use Rattle.meaning.specs.Range.{NumericRange, in_range, rangeDocuments}
+use Rattle.meaning.proofs.Below.{any_none, none_below, listed_at, listed_has}
+use Rattle.meaning.proofs.Tests.{decided, cmp}
+use Rattle.index.specs.Accepted.{Accepted}
+use Rattle.index.proofs.PostingAt.{posting-at, posting-none}
+use Rattle.weight.specs.ScorerTree.{Scoring, constant, weighted}
+use Rattle.weight.specs.State.{State, words_of}
+use Rattle.weight.specs.Held.{TermIs, RangeIs, ScoringIs}
+use Rattle.run.specs.Run.{documentAt, Lower}
+use Rattle.bits.specs.Bit.{bit}
+use Rattle.bits.proofs.Laws.{halves-joined}
+use Rattle.leaf_scorer.specs.Search.{SearchHeld}
+use Rattle.leaf_scorer.proofs.LeafLaws.{in_buffer}
+use Rattle.window.specs.Windows.{inRun, Cursor, Gathers}
+use Rattle.window_words.specs.Windowed.{windowBits, TermWindow}
+use Rattle.window_leaf.specs.Runs.{windowAt, PutPost, DocumentPost, RunMoved, RunPost}
+
+-- ---- what a record stores
+-- the bits are joined again
+pub stored-bits : (s : State) (cursor first r next p : ℕ) → bit p (windowBits (windowAt s cursor first r next)) ≡ bit p r
+stored-bits s cursor first r next p = ap (bit p) (halves-joined r)
+
+-- the words of a scoring stay
+pub scoring-kept : (sc : Scoring) (s : State) (cursor first r next : ℕ) → ScoringIs sc s → ScoringIs sc (windowAt s cursor first r next)
+unfolding ScoringIs
+scoring-kept (constant c) s cursor first r next h = h
+scoring-kept (weighted w) s cursor first r next h = h
+
+-- ---- a run, moved
+module _ (words : List ℕ) (stride base : ℕ) (s : State) (w : List ℕ) (st : List ℕ) (h : SearchHeld words stride s w st base) where
+  -- where the search came to, the cursor stands at the window's first document
+  pub lower-cursor : (u from : ℕ) → u ≡ s.cursor → Lower words stride s.first s.number u base from → Cursor words stride s.first s.number base from
+  lower-cursor u from e l =
+      record {
+        within = l.within;
+        passed = λ i g. ⊎_elim (λ a. h.passed i a) (λ a. l.passed i (omega (arith, e)) g) (cmp i s.cursor);
+        ahead = ahead;
+      }
+    where
+      ahead : (i : ℕ) → from ≤ i → i < s.number → base ≤ documentAt words stride s.first i
+      ahead i a b = ⊎_elim (λ (g : i < from). absurd (omega arith)) (λ _. ⊎_elim (λ (g : from < i). omega (arith, l.stops (omega arith), h.run.ascending from i g b)) (λ (g : i ≤ from). let z : from ≡ i = omega arith in omega (arith, ap (λ (k : ℕ). documentAt words stride s.first k) z, l.stops (omega arith))) (cmp from i)) (cmp i from)
+
+  module _ (from at r next : ℕ) (c : Cursor words stride s.first s.number base from) (g : Gathers words stride s.first s.number base from r at) (d : DocumentPost words stride s.first s.number at next) where
+    -- up to the document at the cursor nothing follows the window
+    next-gap : (x : ℕ) → base + 64 ≤ x → x < next → inRun words stride s.first s.number x ≡ false
+    next-gap x a b = any_none s.number (λ i. eqb (documentAt words stride s.first i) x) (λ i m. ne_eqb _ _ (λ (e : documentAt words stride s.first i ≡ x). off i m e))
+      where
+        off : (i : ℕ) → i < s.number → documentAt words stride s.first i ≡ x → ⊥
+        off i m e =
+            ⊎_elim
+            (λ (l : i < at). omega (arith, g.cursor.passed i l))
+            (λ (l : at ≤ i). ⊎_elim (λ (k : at < i). omega (arith, d.there (omega arith), h.run.ascending at i k m)) (λ (k : i ≤ at). let z : at ≡ i = omega arith in omega (arith, d.there (omega arith), ap (λ (j : ℕ). documentAt words stride s.first j) z)) (cmp at i))
+            (cmp i at)
+
+    next-top : next ≤ noMoreDocs
+    next-top = ⊎_elim (λ (l : at < s.number). omega (arith, d.there l, h.small at l)) (λ l. omega (arith, d.ended l)) (cmp at s.number)
+
+    pub run-moved : (st' : List ℕ) → st' ≡ words_of (windowAt s at from r next) ++ w → RunMoved words stride s w base r st'
+    run-moved st' e =
+        record {
+          first = from;
+          cursor = at;
+          next = next;
+          words_are = e;
+          at-first = c;
+          first-within = g.from-within;
+          behind = g.cursor;
+          bits = g.bits;
+          gap = next-gap;
+          top = next-top;
+        }
+
+-- `put`: the bits' halves and the document are stored
+pub put-answer : (st : List ℕ) (r next low high : ℕ) → low ≡ r % 4294967296 → high ≡ r / 4294967296 → PutPost st r next (set (set (set st 20 low) 21 high) 22 next)
+put-answer st r next low high el eh s w e = rw (el, eh, e)
+
+-- the record with its cursor behind the window and the run's first place in it, its answer not stored yet
+abbrev pub placed : State → ℕ → ℕ → State
+placed s cursor first =
+    record {
+      kind = s.kind;
+      size = s.size;
+      cached = s.cached;
+      need = s.need;
+      requiredEnd = s.requiredEnd;
+      optionalEnd = s.optionalEnd;
+      first = s.first;
+      number = s.number;
+      cursor = cursor;
+      offset = s.offset;
+      field = s.field;
+      constant = s.constant;
+      weight = s.weight;
+      afterwards = s.afterwards;
+      groupAt = s.groupAt;
+      scores = s.scores;
+      frequencyOf = s.frequencyOf;
+      frequency = s.frequency;
+      norms = s.norms;
+      windowFirst = first;
+      windowLow = s.windowLow;
+      windowHigh = s.windowHigh;
+      windowNext = s.windowNext;
+      onesLow = s.onesLow;
+      onesHigh = s.onesHigh;
+      twosLow = s.twosLow;
+      twosHigh = s.twosHigh;
+      spare1 = s.spare1;
+      spare2 = s.spare2;
+      spare3 = s.spare3;
+      spare4 = s.spare4;
+      spare5 = s.spare5;
+    }
+
+-- `run_bits`: what it stores before the answer, and what it gives
+module _ (words : List ℕ) (stride base : ℕ) (st : List ℕ) (from at : ℕ) where
+  pub placed-words : (s : State) (w : List ℕ) → st ≡ words_of s ++ w → set (set st 8 at) 19 from ≡ words_of (placed s at from) ++ w
+  placed-words s w e = rw e
+
+  module _ (f n u : ℕ) (ef : f ≡ get_or st 6 0) (en : n ≡ get_or st 7 0) (eu : u ≡ get_or st 8 0) where
+    pub run-answer : (r next : ℕ) (st' : List ℕ) → Lower words stride f n u base from → Gathers words stride f n base from r at → DocumentPost words stride f n at next → PutPost (set (set st 8 at) 19 from) r next st' → RunPost words stride st base r st'
+    run-answer r next st' l g d post s w h =
+        let zf : f ≡ s.first = rw (ef, h.words_are) in
+        let zn : n ≡ s.number = rw (en, h.words_are) in
+        let zu : u ≡ s.cursor = rw (eu, h.words_are) in
+        run-moved words stride base s w st h from at r next
+        (lower-cursor words stride base s w st h u from zu (rw (zf, zn) at l))
+        (rw (zf, zn) at g)
+        (rw (zf, zn) at d)
+        st'
+        (post (placed s at from) w (placed-words s w h.words_are))
+
+-- a run that is the documents of P
+pub run-like : (words : List ℕ) (stride first n : ℕ) (P : ℕ → Bool) → ((i : ℕ) → i < n → P (documentAt words stride first i) ≡ true) → ((d : ℕ) → ((i : ℕ) → i < n → documentAt words stride first i ≡ d → ⊥) → P d ≡ false) → (d : ℕ) → inRun words stride first n d ≡ P d
+run-like words stride first n P hits misses d = ⊎_elim yes no (decided (P d))
+  where
+    At : ℕ → Bool
+    At i = eqb (documentAt words stride first i) d
+
+    yes : P d ≡ true → inRun words stride first n d ≡ P d
+    yes e = ⊎_elim (λ g. g ∙ sym e) (λ g. absurd (false≢true (sym (misses d (λ i m q. eqb-false (documentAt words stride first i) d (none_below n At g i m) q)) ∙ e))) (decided (inRun words stride first n d))
+
+    no : P d ≡ false → inRun words stride first n d ≡ P d
+    no e = any_none n At (λ i m. ne_eqb _ _ (λ (q : documentAt words stride first i ≡ d). false≢true (sym e ∙ ap P (sym q) ∙ hits i m))) ∙ sym e
+
+-- ---- a term, or a phrase's term
+module _ (ix : Index) (acc : Accepted ix) (k l : ℕ) (there : l < leafCount ix) (s : State) (base : ℕ) (is : TermIs ix k l s base) where
+  pub term-run-like : (d : ℕ) → inRun ix.postings 3 s.first s.number d ≡ found (postingAt ix l d)
+  term-run-like d =
+      ap (λ (f : ℕ). inRun ix.postings 3 f s.number d) is.first-is
+      ∙ ap (λ (n : ℕ). inRun ix.postings 3 (leafFirst ix l) n d) is.number_is
+      ∙ run-like ix.postings 3 (leafFirst ix l) (leafNumber ix l) (λ x. found (postingAt ix l x))
+      (λ i g. ap found (posting-at ix l (leafDocument ix l i) (acc.ascending l there) i g refl))
+      (λ x g. ap found (posting-none ix l x g))
+      d
+
+  module _ (w : List ℕ) (r : ℕ) (st' : List ℕ) (m : RunMoved ix.postings 3 s w base r st') where
+    pub term-passed : TermIs ix k l (windowAt s m.cursor m.first r m.next) (base + 64)
+    term-passed =
+        record {
+          kind-is = is.kind-is;
+          size_is = is.size_is;
+          first-is = is.first-is;
+          number_is = is.number_is;
+          field_is = is.field_is;
+          norms-is = is.norms-is;
+          run = record { within = rw is.number_is at m.behind.within; passed = rw is.first-is at m.behind.passed };
+        }
+
+    pub term-window : TermWindow ix l (windowAt s m.cursor m.first r m.next) base
+    term-window =
+        record {
+          first-within = m.first-within;
+          within = rw is.number_is at m.behind.within;
+          before = rw is.first-is at m.at-first.passed;
+          from = rw (is.first-is, is.number_is) at m.at-first.ahead;
+          inside = rw is.first-is at m.behind.passed;
+          ahead = rw (is.first-is, is.number_is) at m.behind.ahead;
+          bits = λ p h. stored-bits s m.cursor m.first r m.next p ∙ m.bits p h ∙ term-run-like (base + p);
+        }
+
+-- ---- a range
+module _ (ix : Index) (acc : Accepted ix) (R : List ℕ) (r : NumericRange) (s : State) (base : ℕ) (is : RangeIs ix R r s base) where
+  range-hit : (i : ℕ) → i < s.number → (ltb (documentAt R 1 s.first i) ix.maxDoc && in_range ix r (documentAt R 1 s.first i)) ≡ true
+  unfolding rangeDocuments
+  range-hit i g =
+      let l = listed_at (in_range ix r) ix.maxDoc i (omega (arith, is.number_is)) in
+      ap (λ (x : ℕ). ltb x ix.maxDoc && in_range ix r x) (in_buffer ix acc R r s base is i g) ∙ rw (lt-ltb _ _ l.0, l.1)
+
+  range-miss : (x : ℕ) → ((i : ℕ) → i < s.number → documentAt R 1 s.first i ≡ x → ⊥) → (ltb x ix.maxDoc && in_range ix r x) ≡ false
+  unfolding rangeDocuments
+  range-miss x g = go (ltb x ix.maxDoc) (in_range ix r x) refl refl
+    where
+      go : (b c : Bool) → ltb x ix.maxDoc ≡ b → in_range ix r x ≡ c → (b && c) ≡ false
+      go false c e f = refl
+      go true false e f = refl
+      go true true e f =
+          let i = listed_has (in_range ix r) ix.maxDoc x (ltb-true x ix.maxDoc e) f in
+          let m : i.0 < s.number = omega (arith, is.number_is, i.1.0) in
+          absurd (g i.0 m (in_buffer ix acc R r s base is i.0 m ∙ i.1.1))
+
+  pub range-run-like : (d : ℕ) → inRun R 1 s.first s.number d ≡ ltb d ix.maxDoc && in_range ix r d
+  range-run-like d = run-like R 1 s.first s.number (λ x. ltb x ix.maxDoc && in_range ix r x) range-hit range-miss d
+
+  pub range-passed : (w : List ℕ) (v : ℕ) (st' : List ℕ) (m : RunMoved R 1 s w base v st') → RangeIs ix R r (windowAt s m.cursor m.first v m.next) (base + 64)
+  range-passed w v st' m =
+      record {
+        kind-is = is.kind-is;
+        size_is = is.size_is;
+        number_is = is.number_is;
+        there = is.there;
+        listed = is.listed;
+        run = record { within = m.behind.within; passed = λ i g. omega (arith, in_buffer ix acc R r s base is i (omega (arith, m.behind.within)), m.behind.passed i g) };
+      }
