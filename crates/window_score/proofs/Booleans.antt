@@ -106,11 +106,11 @@ module _ (kids : List ℕ) (node : Joined) (postings positions norms ranges : Li
           let os-none : os ≡ end = none_left os (omega (arith, none, A.required-end, A.optional-end)) in
           let W = oks-weighted ix ranges rs depth A.x (base + 64) (all-ok ix ranges rs depth A.x (base + 64) base (placesOf want) (omega arith) A.required) in (
             added-as (λ p. narrow (get_or own' p nan)) (goal-score w) want sums sums' (
-              λ p l e.
+                λ p l e.
                 (joined-alone ix (base + p) rs j few (λ m. (first_small ix L.lends.accepted places (base + p) m rs W A.required-scorables.sound few).sign) (get_or own' p nan) (narrow (get_or own' p nan))
                 (summed own own' own-zero want (λ i. scoring (requiredScores ix rs (base + i))) r.0 (nodesOf rs) r.1 p l e) refl).is
                 ∙ ap (λ (o : Scorers). joinedScore j (requiredScores ix rs (base + p)) (narrowedSum (optionalScores ix o (base + p)))) (sym os-none)
-            ) z.0,
+                ) z.0,
             z.1,
             record { x = xs; v = A.v; is = front-back A.x (A.v ++ rest) kids re A.is (required-long w) xs; required = r.2; optional = optional-left w },
           )
@@ -155,11 +155,11 @@ module _ (kids : List ℕ) (node : Joined) (postings positions norms ranges : Li
           let few : nodesOf os ≤ 256 = omega (arith, A.few) in
           let rs-none : rs ≡ end = none_left rs (sym A.required-end ∙ none) in (
             added-as (λ p. narrow (get_or group p nan)) (goal-score w) want sums sums' (
-              λ p l e.
+                λ p l e.
                 let g = group-is (optionalScores ix os (base + p)) (nodesOf os) (get_or group p nan) (narrow (get_or group p nan)) few (summed own group own-zero want (λ i. optionalScores ix os (base + i)) r.0 (nodesOf os) r.1 p l e) refl in
                 (joined-only ix (base + p) os j (narrow (get_or group p nan)) g.0 g.1).is
                 ∙ ap (λ (o : Scorers). joinedScore j (requiredScores ix o (base + p)) (narrowedSum (optionalScores ix os (base + p)))) (sym rs-none)
-            ) z.0,
+                ) z.0,
             z.1,
             record { x = A.x; v = vs; is = back w; required = required-left w; optional = r.2 },
           )

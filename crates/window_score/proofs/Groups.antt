@@ -97,11 +97,11 @@ module _ (kids : List ℕ) (node : Joined) (group : List Float) (postings positi
           let z = join J.0 J.1 J.2 J.3 J.4 J.5 in
           let score : ℕ → Float = λ p. narrow (add binary64 (narrow (get_or own' p nan)) (narrow (get_or group p nan))) in (
             added-as score (goal-score w) want sums sums' (
-              λ p l e.
+                λ p l e.
                 let g = group-at w p l e in
                 (joined-after ix (base + p) rs os (all-few w p l e) (narrow (get_or group p nan)) g.0 g.1 (get_or own' p nan) (narrow (get_or own' p nan)) (add binary64 (narrow (get_or own' p nan)) (narrow (get_or group p nan))) (score p) (summed own own' own-zero want (λ i. scoring (requiredScores ix rs (base + i))) r.0 (nodesOf rs) r.1 p l e) refl refl refl).is
                 ∙ ap (λ (i : Joining). joinedScore i (requiredScores ix rs (base + p)) (narrowedSum (optionalScores ix os (base + p)))) (sym (is-after j rs node.afterwards node.group_at A.joins after))
-            ) z.0,
+                ) z.0,
             z.1,
             r.2,
           )
@@ -198,7 +198,7 @@ module _ (kids : List ℕ) (node : Joined) (group : List Float) (postings positi
                   let N = own-add w in
                   let z = post₄ N.0 N.1 N.2 N.3 in (
                     added-as (λ p. narrow (get_or own₃ p nan)) (goal-score w) want sums sums' (
-                      λ p l e.
+                        λ p l e.
                         let g = group-at w p l e in
                         (joined-more ix (base + p) rs os (all-few w p l e) (narrow (get_or group p nan)) g.0 g.1 m.0 (get_or own₁ p nan) (get_or own₂ p nan) (get_or own₃ p nan) (narrow (get_or own₃ p nan))
                         (summed own own₁ own-zero want (λ i. scoring (requiredScores ix (first_of m.0 rs) (base + i))) F.0 (nodesOf (first_of m.0 rs)) F.1 p l e)
@@ -206,7 +206,7 @@ module _ (kids : List ℕ) (node : Joined) (group : List Float) (postings positi
                         (record { is = R.0.wanted p l e; small = R.1.small p l })
                         refl).is
                         ∙ ap (λ (i : Joining). joinedScore i (requiredScores ix rs (base + p)) (narrowedSum (optionalScores ix os (base + p)))) (sym m.1)
-                    ) z.0,
+                        ) z.0,
                     z.1,
                     subst (λ (l : List ℕ). AllWindowed ix ranges rs depth l (base + 64) (base + 64) nowhere) (sym (rest-back xs ys kids ga (cut-fits w) long)) (all-join ix ranges depth m.0 rs xs ys (base + 64) (base + 64) nowhere F.2 R.2),
                   )

@@ -154,7 +154,7 @@ module _ (ix : Index) (ranges : List ℕ) (table : List Float) (places k o : ℕ
           λ i m t. absurd (false≢true t),
           all-less ix ranges rs (k - 1) B.x (base + 64) (base + 64) nowhere (requiredPlaces ix S (base + 64) nowhere) (λ i m t. absurd (false≢true t)) B.required,
           all-less ix ranges os (k - 1) B.v (optionalBound need (base + 64) (base + 64)) (base + 64) nowhere (optionalPlaces ix S need (base + 64) nowhere) (λ i m t. absurd (false≢true (and_parts (ltb 0 need) false t).1))
-          (subst (λ (b : ℕ). AllWindowed ix ranges os (k - 1) B.v b (base + 64) nowhere) (bound-same (ltb 0 need) (base + 64)) B.optional),
+              (subst (λ (b : ℕ). AllWindowed ix ranges os (k - 1) B.v b (base + 64) nowhere) (bound-same (ltb 0 need) (base + 64)) B.optional),
           all-forget ix ranges ps (k - 1) p.3 (base + 64) base nowhere (base + 64) (le_refl _) (omega arith) p.12,
         );
       }

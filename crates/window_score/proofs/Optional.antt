@@ -189,7 +189,7 @@ module _ (kids₀ : List ℕ) (need : ℕ) (postings positions norms ranges : Li
         let M : ℕ → Bool = λ p. matches w.1 m.T (base + p) in (
           m.g,
           subst (λ (k : List ℕ). Walk (frame w) m.g k e sums') (sym (m.back ys))
-          (walk-took m.walk e m.stop x sums' (λ p l i. and-on (bit p want) (M p) (bit p x) (m.bits p l) i) (λ p l i. and-off (bit p want) (M p) (bit p x) (m.bits p l) i) (r w).added (r w).small ys (len ∙ m.long) (r w).parts),
+              (walk-took m.walk e m.stop x sums' (λ p l i. and-on (bit p want) (M p) (bit p x) (m.bits p l) i) (λ p l i. and-off (bit p want) (M p) (bit p x) (m.bits p l) i) (r w).added (r w).small ys (len ∙ m.long) (r w).parts),
         )
 
     kept : (ys : List ℕ) (sums' : List Float) → ys ≡ y' → OptionalAt (put kids' at e ys) e sums' → OptionalAt kids' e sums'
@@ -198,15 +198,15 @@ module _ (kids₀ : List ℕ) (need : ℕ) (postings positions norms ranges : Li
     pub optional-left : x ≡ 0 → OptionalAt kids' e sums
     optional-left none =
         kept y' sums refl (
-          took y' sums refl (
-            λ w.
-              let m = I w in
-              record {
-                added = added-none (λ p. scorerScore w.1 m.T (base + p)) x sums none;
-                small = sums-more m.walk.q (m.walk.q + nodes m.T) sums (omega arith) m.walk.small;
-                parts = windowed-forget w.1 ranges m.T depth (cond m.f 1 0) y' (base + 64) base (placesOf x) (base + 64) (le_refl _) (omega arith) m.held;
-              }
-          )
+        took y' sums refl (
+        λ w.
+        let m = I w in
+        record {
+          added = added-none (λ p. scorerScore w.1 m.T (base + p)) x sums none;
+          small = sums-more m.walk.q (m.walk.q + nodes m.T) sums (omega arith) m.walk.small;
+          parts = windowed-forget w.1 ranges m.T depth (cond m.f 1 0) y' (base + 64) base (placesOf x) (base + 64) (le_refl _) (omega arith) m.held;
+        }
+        )
         )
 
     module _ (a' b' : ℕ) (same-a : a' ≡ a) (same-b : b' ≡ b) where

@@ -89,13 +89,13 @@ module _ (kids₀ postings positions norms ranges : List ℕ) (table : List Floa
         pub required-skip : (get_or kids (at + 15) 0 ≡ 1 → ⊥) → RequiredAt kids e sums
         required-skip filter =
             kept y sums refl (
-              λ w.
-                let c = child w in
-                let none : c.0 ≡ false = no-score c.0 (get_or kids (at + 15) 0) (walk-scores c.3) filter in (
-                  c.2,
-                  walk-took c.3 e stop 0 sums (λ p m i. bit-zero p ∙ sym none) (λ p m i. bit-zero p) (added-none (λ p. scorerScore w.1 c.1 (base + p)) 0 sums refl) (sums-more c.3.q (c.3.q + nodes c.1) sums (omega arith) c.3.small) y refl
+            λ w.
+            let c = child w in
+            let none : c.0 ≡ false = no-score c.0 (get_or kids (at + 15) 0) (walk-scores c.3) filter in (
+              c.2,
+              walk-took c.3 e stop 0 sums (λ p m i. bit-zero p ∙ sym none) (λ p m i. bit-zero p) (added-none (λ p. scorerScore w.1 c.1 (base + p)) 0 sums refl) (sums-more c.3.q (c.3.q + nodes c.1) sums (omega arith) c.3.small) y refl
                   (windowed-forget w.1 ranges c.1 depth (cond c.0 1 0) y (base + 64) base (placesOf want) (base + 64) (le_refl _) (omega arith) (walk-part c.3 e stop)),
-                )
+            )
             )
 
         module _ (must : get_or kids (at + 15) 0 ≡ 1) (a' b' : ℕ) (same-a : a' ≡ a) (same-b : b' ≡ b) where
