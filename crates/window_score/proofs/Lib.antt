@@ -1,4 +1,11 @@
--- The laws of this crate's loops.
+-- The laws of this crate's loops and calls.
 pub mod Adding
 pub mod Terms
 pub mod Phrases
+mod Loops
+mod Required
+mod Optional
+mod Splits
+mod Groups
+mod Booleans
+mod Nodes

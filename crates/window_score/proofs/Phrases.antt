@@ -2,15 +2,14 @@
 use mathlib.Core.Path.{◌≡◌, refl, sym, ap, subst, ◌∙◌}
 use mathlib.Core.Logic.{⊎_elim}
 use mathlib.Core.Bool.{Bool, true, false, not, cond, ◌&&◌, false≢true}
-use mathlib.Core.List.{List, [], ◌∷◌, ◌++◌}
+use mathlib.Core.List.{List, ◌++◌}
 use Prim.Native.Nat.{ℕ, ◌+◌, ◌-◌, ◌*◌, ◌^◌, ◌≤◌, ◌<◌, min}
 use native.Mathlib.Omega.{arith}
 use lib.Dec.{T, ltb}
 use lib.ListN.{length, get_or, set, take, drop, length-set}
 use lib.Seq.{take-length}
 use lib.Ieee.{Float, nan, binary64, is_nan, add}
-use borrow.Author.Tests.{ltb-true, lt-ltb}
-use Rattle.meaning.specs.Limits.{noMoreDocs, nodeStateWords}
+use Rattle.meaning.specs.Limits.{nodeStateWords}
 use Rattle.meaning.specs.Lent.{Index}
 use Rattle.meaning.specs.Phrase.{PhraseTerm, phraseFrequency}
 use Rattle.meaning.specs.Score.{fieldScore}
@@ -18,7 +17,7 @@ use Rattle.meaning.proofs.Tests.{decided, cmp}
 use Rattle.std.proofs.lemmas.Bool.{cases_eq}
 use Rattle.ieee754.specs.Nonneg.{AtMost}
 use Rattle.ieee754.proofs.Bounds.{atmost-number}
-use Rattle.weight.specs.ScorerTree.{nothing, term, phrase, range, everything, Scoring, constant, weighted, Scorer, leaf, boolean, matches, leafMatches, leafScore, scorerScore}
+use Rattle.weight.specs.ScorerTree.{nothing, term, phrase, range, everything, constant, weighted, Scorer, leaf, boolean, matches, leafMatches, leafScore, scorerScore}
 use Rattle.weight.specs.State.{State, words_of}
 use Rattle.weight.specs.Held.{FloatIs, ScoringIs}
 use Rattle.weight.specs.Sound.{LeafSound, Sound, FieldTable, LeafTable, Tables, nodes}
@@ -34,9 +33,8 @@ use Rattle.window_words.proofs.Laws.{windowed-kind, windowed-long, kindOf}
 use Rattle.window_leaf.specs.declared.phrases.Planes.{Planes}
 use Rattle.window_leaf.specs.Phrases.{PhraseAsked, FrequencyPre, FrequencyPost}
 use Rattle.window_score.specs.Words.{PlanesRead, PlanedIs}
-use Rattle.window_score.specs.Sums.{Sums, Added}
 use Rattle.window_score.specs.Asked.{WindowLent, NodeAsked, PhrasePre, PhrasePost}
-use Rattle.window_score.proofs.Adding.{Adding, adding-start, adding-step, adding-done, place-wanted}
+use Rattle.window_score.proofs.Adding.{Adding, adding-step, adding-done}
 use Rattle.window_score.proofs.Terms.{field-place, leaf-added}
 
 -- the words behind a record
@@ -191,20 +189,13 @@ module _ (st postings positions norms : List ℕ) (table : List Float) (a b base
     pub pre-long : nodeStateWords ≤ length st
     pre-long = windowed-long P.2.2.1 P.2.0 P.2.2.3 P.2.1 P.2.2.4 st (base + 64) base (placesOf want) P.2.2.7.held
 
-    pub pre-small : base + 64 ≤ noMoreDocs
-    pre-small = P.2.2.6.small
-
-    pub phrase-start : PhraseAdding st postings positions norms table a b base want want sums sums
-    phrase-start = record { long = P.2.2.8.long; wants = λ p e. e; each = λ ranges depth max ix places S scores q L H. adding-start (λ p x. add binary64 x (scorerScore ix S (base + p))) want sums P.2.2.8.long }
-
     pre-in : PhraseIn P.2.2.1 table P.2.2.2 st base want P.2.2.3
     pre-in = phrase-in P.2.2.1 P.2.0 table P.2.2.2 P.2.1 P.2.2.4 st base want P.2.2.5 P.2.2.3 P.2.2.7 P.0 P.1
 
     module _ (p : ℕ) (l : p < 64) (e : bit p want ≡ true) where
       pub pre-frequency : (a' b' : ℕ) → a' ≡ a → b' ≡ b → (bytes : (i : ℕ) → get_or norms i 0 < 256) (n : Node) → NodeIs st n → FrequencyPre postings positions (behind st) a' b' base p
       pre-frequency a' b' f g bytes n N =
-          let i = pre-in in
-          (
+          let i = pre-in in (
             l,
             (
               P.2.2.1,

@@ -9,7 +9,7 @@ use lib.Dec.{T}
 use lib.ListN.{length, get_or}
 use lib.Ieee.{Float, binary32, is_nan, nan_bits, of_bits}
 use Rattle.meaning.specs.Below.{anyBelow, countBelow, lastBelow}
-use Rattle.meaning.specs.Limits.{noMoreDocs, nodeStateWords, largestFrequency}
+use Rattle.meaning.specs.Limits.{nodeStateWords, largestFrequency}
 use Rattle.meaning.specs.Lent.{Index, leafCount, leafField, leafFirst, leafNumber, leafDocument, leafFrequency}
 use Rattle.meaning.specs.Postings.{postingAt, found, frequencyOf}
 use Rattle.meaning.specs.Score.{fieldScore}
@@ -227,10 +227,10 @@ Scores ix ranges S depth scores st base want q sums sums' =
 -- a leaf's scores were added, and its words stay
 pub leaf-added : (ix : Index) (ranges : List ℕ) (table : List Float) (places : ℕ) (S : Scorer) (depth scores : ℕ) (st : List ℕ) (base want q : ℕ) (sums sums' : List Float) → nodes S ≡ 1 → NodeAsked ix ranges table places S depth scores st base want q → Sums q sums → length sums' ≡ 64 → (score : ℕ → Float) → Added score want sums sums' → ((p : ℕ) → p < 64 → bit p want ≡ true → (score p ≡ scorerScore ix S (base + p)) × AtMost (2 ^ 29) (score p)) → Scores ix ranges S depth scores st base want q sums sums'
 leaf-added ix ranges table places S depth scores st base want q sums sums' one H K long score A h = (
-    added-same score want sums sums' A (λ p. scorerScore ix S (base + p)) (λ p l e. (h p l e).0),
-    subst (λ (r : ℕ). Sums (q + r) sums') (sym one) (added-small score want sums sums' A q 1 (omega (arith, one, H.few)) K long (λ p l e. small (score p) (h p l e).1)),
-    windowed-forget ix ranges S depth scores st (base + 64) base (placesOf want) (base + 64) (omega arith) (omega arith) H.held,
-  )
+  added-same score want sums sums' A (λ p. scorerScore ix S (base + p)) (λ p l e. (h p l e).0),
+  subst (λ (r : ℕ). Sums (q + r) sums') (sym one) (added-small score want sums sums' A q 1 (omega (arith, one, H.few)) K long (λ p l e. small (score p) (h p l e).1)),
+  windowed-forget ix ranges S depth scores st (base + 64) base (placesOf want) (base + 64) (omega arith) (omega arith) H.held,
+)
   where
     small : (x : Float) → AtMost (2 ^ 29) x → AtMost (1 * 2 ^ 29) x
     small x i = i
@@ -240,12 +240,6 @@ module _ (st postings norms : List ℕ) (table : List Float) (base want : ℕ) (
   module _ (P : TermPre st postings norms table base want sums) where
     pub pre-long : nodeStateWords ≤ length st
     pre-long = windowed-long P.1.5.1 P.1.1 P.1.5.3 P.1.4 P.1.5.4 st (base + 64) base (placesOf want) P.1.5.7.held
-
-    pub pre-small : base + 64 ≤ noMoreDocs
-    pre-small = P.1.5.6.small
-
-    pub pre-sums : length sums ≡ 64
-    pre-sums = P.1.5.8.long
 
     pre-in : TermIn P.1.5.1 table st base want P.1.5.3
     pre-in = term-in P.1.5.1 P.1.1 table P.1.5.2 P.1.4 P.1.5.4 st base want P.1.5.5 P.1.5.3 P.1.5.7 P.0

@@ -58,7 +58,11 @@ fn planed(planes: Planes, place: u32) -> u32
     requires { place < 64 }
     ensures { PlanedIs planes place result }
 {
-    let one: u32 = if bits::is_set(planes.ones, place) { 1 } else { 0 };
+    let one: u32 = if bits::is_set(planes.ones, place) {
+        1
+    } else {
+        0
+    };
     if bits::is_set(planes.twos, place) {
         return 2 + one;
     }
@@ -88,7 +92,15 @@ pub fn phrase_scores(
         let place = bits::lowest(left);
         let mut frequency = planed(planes, place);
         if frequency == 3 {
-            frequency = frequency_at(&st[NODE_STATE_WORDS..], postings, positions, a, b, base, place);
+            frequency = frequency_at(
+                &st[NODE_STATE_WORDS..],
+                postings,
+                positions,
+                a,
+                b,
+                base,
+                place,
+            );
         }
         let s = weighted(norms, inverses, n, frequency, base + place);
         let at = wide(place);

@@ -4,7 +4,7 @@
 ghost use Rattle.std.specs.Prelude.{◌≡◌, ◌≤◌, length, get_or};
 ghost use Rattle.meaning.specs.Limits.{nodeStateWords};
 ghost use Rattle.window_score.specs.Words.{JoinedIs, ChildIs, ChildThere};
-ghost use Rattle.window_score.specs.Asked.{ScoresPre, ScoresPost, RequiredPre, RequiredPost, OptionalPre, OptionalPost, BooleanPre, BooleanPost};
+ghost use Rattle.window_score.specs.Asked.{ScoresPre, ScoresPost, RequiredPre, RequiredPost, OptionalPre, OptionalPost, BooleanPre, BooleanPost, GroupPre, GroupPost};
 
 use index::wide;
 use sums::{add_constant, add_joined, add_narrowed};
@@ -96,12 +96,28 @@ pub fn node_scores(
         return;
     }
     if kind == PHRASE {
-        leaf::phrase_scores(st, postings, positions, norms, inverses, a, b, base, want, sums);
+        leaf::phrase_scores(
+            st, postings, positions, norms, inverses, a, b, base, want, sums,
+        );
         return;
     }
     if kind == BOOLEAN {
         let n = joined_at(st);
-        boolean_scores(&mut st[NODE_STATE_WORDS..], n, postings, positions, norms, ranges, inverses, a, b, base, want, sums, depth - 1);
+        boolean_scores(
+            &mut st[NODE_STATE_WORDS..],
+            n,
+            postings,
+            positions,
+            norms,
+            ranges,
+            inverses,
+            a,
+            b,
+            base,
+            want,
+            sums,
+            depth - 1,
+        );
         return;
     }
     add_constant(0.0, want, sums);
@@ -131,17 +147,59 @@ fn boolean_scores(
     let optional_end = n.optional;
     if end == optional_end {
         let mut own = [0.0f64; 64];
-        required_scores(&mut kids[..end], postings, positions, norms, ranges, inverses, a, b, base, want, &mut own, depth);
+        required_scores(
+            &mut kids[..end],
+            postings,
+            positions,
+            norms,
+            ranges,
+            inverses,
+            a,
+            b,
+            base,
+            want,
+            &mut own,
+            depth,
+        );
         add_narrowed(&own, want, sums);
         return;
     }
     let mut group = [0.0f64; 64];
-    optional_scores(&mut kids[end..optional_end], n.need, postings, positions, norms, ranges, inverses, a, b, base, want, &mut group, depth);
+    optional_scores(
+        &mut kids[end..optional_end],
+        n.need,
+        postings,
+        positions,
+        norms,
+        ranges,
+        inverses,
+        a,
+        b,
+        base,
+        want,
+        &mut group,
+        depth,
+    );
     if end == 0 {
         add_narrowed(&group, want, sums);
         return;
     }
-    joined_scores(&mut kids[..end], n, &group, postings, positions, norms, ranges, inverses, a, b, base, want, sums, depth);
+    joined_scores(
+        &mut kids[..end],
+        n,
+        &group,
+        postings,
+        positions,
+        norms,
+        ranges,
+        inverses,
+        a,
+        b,
+        base,
+        want,
+        sums,
+        depth,
+    );
 }
 
 // A Boolean with required children and a group, whose sums are given.
@@ -167,14 +225,42 @@ fn joined_scores(
 {
     let mut own = [0.0f64; 64];
     if n.afterwards == 1 {
-        required_scores(kids, postings, positions, norms, ranges, inverses, a, b, base, want, &mut own, depth);
+        required_scores(
+            kids, postings, positions, norms, ranges, inverses, a, b, base, want, &mut own, depth,
+        );
         add_joined(&own, group, want, sums);
         return;
     }
     let at = n.group_at;
-    required_scores(&mut kids[..at], postings, positions, norms, ranges, inverses, a, b, base, want, &mut own, depth);
+    required_scores(
+        &mut kids[..at],
+        postings,
+        positions,
+        norms,
+        ranges,
+        inverses,
+        a,
+        b,
+        base,
+        want,
+        &mut own,
+        depth,
+    );
     add_narrowed(group, want, &mut own);
-    required_scores(&mut kids[at..], postings, positions, norms, ranges, inverses, a, b, base, want, &mut own, depth);
+    required_scores(
+        &mut kids[at..],
+        postings,
+        positions,
+        norms,
+        ranges,
+        inverses,
+        a,
+        b,
+        base,
+        want,
+        &mut own,
+        depth,
+    );
     add_narrowed(&own, want, sums);
 }
 
@@ -205,7 +291,20 @@ fn required_scores(
             if k.kind == TERM {
                 leaf::term_scores(&kids[at..end], postings, norms, inverses, base, want, sums);
             } else {
-                node_scores(&mut kids[at..end], postings, positions, norms, ranges, inverses, a, b, base, want, sums, depth);
+                node_scores(
+                    &mut kids[at..end],
+                    postings,
+                    positions,
+                    norms,
+                    ranges,
+                    inverses,
+                    a,
+                    b,
+                    base,
+                    want,
+                    sums,
+                    depth,
+                );
             }
         }
         at = end;
@@ -237,7 +336,17 @@ fn optional_scores(
         let k = child_at(kids, at);
         let end = k.end;
         let x = if need == 0 {
-            node_bits(&mut kids[at..end], postings, positions, ranges, a, b, base, want, depth)
+            node_bits(
+                &mut kids[at..end],
+                postings,
+                positions,
+                ranges,
+                a,
+                b,
+                base,
+                want,
+                depth,
+            )
         } else {
             bits::both(want, k.bits)
         };
@@ -245,7 +354,20 @@ fn optional_scores(
             if k.kind == TERM {
                 leaf::term_scores(&kids[at..end], postings, norms, inverses, base, x, sums);
             } else {
-                node_scores(&mut kids[at..end], postings, positions, norms, ranges, inverses, a, b, base, x, sums, depth);
+                node_scores(
+                    &mut kids[at..end],
+                    postings,
+                    positions,
+                    norms,
+                    ranges,
+                    inverses,
+                    a,
+                    b,
+                    base,
+                    x,
+                    sums,
+                    depth,
+                );
             }
         }
         at = end;

@@ -1,4 +1,4 @@
-use Rattle.std.proofs.Common.{ℕ, ◌+◌, length, arith}
+use Rattle.std.proofs.Common.{◌+◌, length, arith}
 use Rattle.leaf_score.proofs.Leaves.{Weighs}
 use Rattle.window_score.proofs.Phrases.{Frequency, read-worked-out, read-planed, pre-long, pre-frequency, pre-weighs, pre-number, phrase-step, phrase-done}
 use Rattle.window_score.proofs.leaf.phrase_scores.Goals as goal

@@ -1,4 +1,4 @@
-use Rattle.std.proofs.Common.{ℕ, length}
+use Rattle.std.proofs.Common.{length}
 use Rattle.window_score.proofs.Phrases.{PhraseAdding}
 use Rattle.window_score.proofs.leaf.phrase_scores.Given as goal
 

@@ -1,0 +1,34 @@
+-- The measures of the cycle, and what its loops keep. Assumes nothing.
+use Rattle.std.proofs.Common.{length, ◌-◌, ◌≡◌, ◌≤◌, get_or, ℕ, ◌+◌, ◌*◌, ◌<◌}
+use Rattle.window_score.proofs.Required.{RequiredAt}
+use Rattle.window_score.proofs.Optional.{OptionalAt}
+use Rattle.window_score.proofs.+boolean_scores_joined_scores_node_scores_optional_scores_required_scores.Given as goal
+
+abbrev pub decreases-boolean_scores : goal.decreases-boolean_scores
+decreases-boolean_scores l = 4 * l.depth + 3
+
+abbrev pub decreases-joined_scores : goal.decreases-joined_scores
+decreases-joined_scores l = 4 * l.depth + 2
+
+abbrev pub decreases-node_scores : goal.decreases-node_scores
+decreases-node_scores l = 4 * l.depth
+
+abbrev pub decreases-optional_scores : goal.decreases-optional_scores
+decreases-optional_scores l = 4 * l.depth + 1
+
+abbrev pub decreases-required_scores : goal.decreases-required_scores
+decreases-required_scores l = 4 * l.depth + 1
+
+abbrev pub decreases-optional_scores-loop-at : goal.decreases-optional_scores-loop-at
+decreases-optional_scores-loop-at l = length l.kids - l.at
+
+abbrev pub decreases-required_scores-loop-at : goal.decreases-required_scores-loop-at
+decreases-required_scores-loop-at l = length l.kids - l.at
+
+abbrev pub invariant-optional_scores-loop-at : goal.invariant-optional_scores-loop-at
+invariant-optional_scores-loop-at l =
+    (length l.kids ≡ length l.fn.kids) × (length l.a ≡ length l.fn.a) × (length l.b ≡ length l.fn.b) × OptionalAt l.fn.kids l.fn.need l.fn.postings l.fn.positions l.fn.norms l.fn.ranges l.fn.inverses (length l.fn.a) (length l.fn.b) l.fn.base l.fn.want l.fn.sums l.fn.depth l.kids l.at l.sums
+
+abbrev pub invariant-required_scores-loop-at : goal.invariant-required_scores-loop-at
+invariant-required_scores-loop-at l =
+    (length l.kids ≡ length l.fn.kids) × (length l.a ≡ length l.fn.a) × (length l.b ≡ length l.fn.b) × RequiredAt l.fn.kids l.fn.postings l.fn.positions l.fn.norms l.fn.ranges l.fn.inverses (length l.fn.a) (length l.fn.b) l.fn.base l.fn.want l.fn.sums l.fn.depth l.kids l.at l.sums

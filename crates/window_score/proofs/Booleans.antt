@@ -1,0 +1,191 @@
+-- A Boolean's children, call by call: the required alone, the group alone, or the group and then both. Assumes nothing.
+use Rattle.std.proofs.Common.{◌≡◌, refl, sym, ap, subst, ◌∙◌, Bool, true, false, cond, ◌&&◌, List, ◌++◌, ℕ, ◌+◌, ◌-◌, ◌*◌, ◌^◌, ◌≤◌, ◌<◌, ltb, length, get_or, take, drop, append_assoc, length-append, take_at, drop_at, le_refl, arith}
+use Rattle.std.specs.Prelude.{Float}
+use Rattle.std.specs.Float.{nan}
+use Rattle.meaning.specs.Lent.{Index}
+use Rattle.meaning.specs.Ieee754.{zeroFloat, narrow, sumFrom, narrowedSum}
+use Rattle.bits.specs.Bit.{bit}
+use Rattle.weight.specs.ScorerTree.{Scorers, end, Joining, scoring, requiredScores, optionalScores, joinedScore}
+use Rattle.weight.specs.State.{sizesOf}
+use Rattle.weight.specs.Sound.{nodesOf}
+use Rattle.score.proofs.Alone.{none_left, joined-alone, joined-only}
+use Rattle.score.proofs.Join.{group-is}
+use Rattle.score.proofs.Small.{first_small, oks-weighted}
+use Rattle.window_words.specs.Windowed.{Places, nowhere, placesOf, optionalBound, AllWindowed}
+use Rattle.window_words.proofs.Laws.{all-length, all-forget, all-ok}
+use Rattle.window_score.specs.declared.Joined.{Joined}
+use Rattle.window_score.specs.Sums.{Sums, AddedAll, NarrowedPre, NarrowedPost}
+use Rattle.window_score.specs.Asked.{RequiredAsked, RequiredPre, RequiredPost, OptionalAsked, OptionalPre, OptionalPost, BooleanLeft, BooleanPre, BooleanPost, GroupAsked, GroupPre, GroupPost}
+use Rattle.window_score.proofs.Loops.{put, sums-more}
+use Rattle.window_score.proofs.Required.{lent-at}
+use Rattle.window_score.proofs.Splits.{Zeros, zero-sums}
+use Rattle.window_score.proofs.Groups.{added-as, summed}
+
+-- ---- a list in three parts
+mid-part : (x v z kids : List ℕ) (a e : ℕ) → kids ≡ x ++ (v ++ z) → length x ≡ a → a + length v ≡ e → take (e - a) (drop a kids) ≡ v
+mid-part x v z kids a e i l m = let s : length v ≡ e - a = omega (arith, m) in rw (i, drop_at x (v ++ z) a l, take_at v z (e - a) s)
+
+mid_back : (x v z kids : List ℕ) (a e : ℕ) → kids ≡ x ++ (v ++ z) → length x ≡ a → a + length v ≡ e → (ys : List ℕ) → put kids a e ys ≡ x ++ (ys ++ z)
+mid_back x v z kids a e i l m ys = let s : length v ≡ e - a = omega (arith, m) in rw (i, take_at x (v ++ z) a l, drop_at x (v ++ z) a l, drop_at v z (e - a) s)
+
+front-part : (x y kids : List ℕ) (a : ℕ) → kids ≡ x ++ y → length x ≡ a → take a kids ≡ x
+front-part x y kids a i l = rw (i, take_at x y a l)
+
+front-back : (x y kids : List ℕ) (a : ℕ) → kids ≡ x ++ y → length x ≡ a → (ys : List ℕ) → ys ++ drop a kids ≡ ys ++ y
+front-back x y kids a i l ys = rw (i, drop_at x y a l)
+
+bound-below : (t : Bool) (b base : ℕ) → base ≤ b → cond t b base ≤ b
+bound-below true b base h = le_refl b
+bound-below false b base h = h
+
+module _ (kids : List ℕ) (node : Joined) (postings positions norms ranges : List ℕ) (table : List Float) (a b base want : ℕ) (sums : List Float) (depth : ℕ) where
+  abbrev pub Asks : Type 0
+  Asks = BooleanPre kids node postings positions norms ranges table a b base want sums depth
+
+  abbrev re : ℕ
+  re = node.required
+
+  abbrev oe : ℕ
+  oe = node.optional
+
+  abbrev goal-score : Asks → ℕ → Float
+  goal-score w p = joinedScore w.3 (requiredScores w.1 w.4 (base + p)) (narrowedSum (optionalScores w.1 w.5 (base + p)))
+
+  required-long : (w : Asks) → length w.9.x ≡ re
+  required-long w = all-length w.1 ranges w.4 depth w.9.x (base + 64) base (placesOf want) w.9.required ∙ sym w.9.required-end
+
+  optional-long : (w : Asks) → re + length w.9.v ≡ oe
+  optional-long w =
+      omega (arith, all-length w.1 ranges w.5 depth w.9.v (optionalBound node.need (base + 64) base) base (λ p. ltb 0 node.need && bit p want) w.9.optional, w.9.required-end, w.9.optional-end)
+
+  pub parts-lie : Asks → oe ≤ length kids
+  parts-lie w =
+      omega (arith, required-long w, optional-long w, ap length w.9.is, length-append w.9.x (w.9.v ++ w.6), length-append w.9.v w.6)
+
+  pub required-lies : Asks → re ≤ oe
+  required-lies w = omega (arith, optional-long w)
+
+  front-is : (w : Asks) → take re kids ≡ w.9.x
+  front-is w = front-part w.9.x (w.9.v ++ w.6) kids re w.9.is (required-long w)
+
+  -- what was asked is forgotten
+  required-left : (w : Asks) → AllWindowed w.1 ranges w.4 depth w.9.x (base + 64) (base + 64) nowhere
+  required-left w = all-forget w.1 ranges w.4 depth w.9.x (base + 64) base (placesOf want) (base + 64) (le_refl _) (omega arith) w.9.required
+
+  optional-left : (w : Asks) → AllWindowed w.1 ranges w.5 depth w.9.v (base + 64) (base + 64) nowhere
+  optional-left w =
+      all-forget w.1 ranges w.5 depth w.9.v (optionalBound node.need (base + 64) base) base (λ p. ltb 0 node.need && bit p want) (base + 64)
+      (bound-below (ltb 0 node.need) (base + 64) base (omega arith)) (omega arith) w.9.optional
+
+  module _ (own : List Float) (own-zero : Zeros own) where
+    -- ---- no optional children
+    alone-asked : (w : Asks) → RequiredAsked w.1 ranges table w.2 w.4 depth (take re kids) base want 0
+    alone-asked w =
+        record { scorables = w.9.required-scorables; match = w.9.match; held = subst (λ (v : List ℕ). AllWindowed w.1 ranges w.4 depth v (base + 64) base (placesOf want)) (sym (front-is w)) w.9.required }
+
+    pub alone-ask : Asks → RequiredPre (take re kids) postings positions norms ranges table a b base want own depth
+    alone-ask w = (w.0, w.1, w.2, w.4, 0, w.8, alone-asked w, zero-sums own own-zero)
+
+    module _ (xs : List ℕ) (own' : List Float) (post : RequiredPost (take re kids) postings positions norms ranges table a b base want own depth xs own') where
+      alone-own : (w : Asks) → AddedAll (λ p. scoring (requiredScores w.1 w.4 (base + p))) want own own' × Sums (0 + nodesOf w.4) own' × AllWindowed w.1 ranges w.4 depth xs (base + 64) (base + 64) nowhere
+      alone-own w = post w.0 w.1 w.2 w.4 0 w.8 (alone-asked w) (zero-sums own own-zero)
+
+      pub alone-add : Asks → NarrowedPre own' sums
+      alone-add w =
+          let r = nodesOf w.4 + nodesOf w.5 in
+          (w.7, r, (w.9.few, w.10), sums-more (0 + nodesOf w.4) r own' (omega arith) (alone-own w).1)
+
+      pub alone-done : re ≡ oe → (sums' : List Float) → NarrowedPost own' want sums sums' → BooleanPost kids node postings positions norms ranges table a b base want sums depth (xs ++ drop re kids) sums'
+      unfolding alone-add
+      alone-done none sums' add n ix places j rs os rest q L A S =
+          let w : Asks = (n, ix, places, j, rs, os, rest, q, L, A, S) in
+          let r = alone-own w in
+          let N = alone-add w in
+          let z = add N.0 N.1 N.2 N.3 in
+          let few : nodesOf rs ≤ 256 = omega (arith, A.few) in
+          let os-none : os ≡ end = none_left os (omega (arith, none, A.required-end, A.optional-end)) in
+          let W = oks-weighted ix ranges rs depth A.x (base + 64) (all-ok ix ranges rs depth A.x (base + 64) base (placesOf want) (omega arith) A.required) in (
+            added-as (λ p. narrow (get_or own' p nan)) (goal-score w) want sums sums' (
+                λ p l e.
+                (joined-alone ix (base + p) rs j few (λ m. (first_small ix L.lends.accepted places (base + p) m rs W A.required-scorables.sound few).sign) (get_or own' p nan) (narrow (get_or own' p nan))
+                (summed own own' own-zero want (λ i. scoring (requiredScores ix rs (base + i))) r.0 (nodesOf rs) r.1 p l e) refl).is
+                ∙ ap (λ (o : Scorers). joinedScore j (requiredScores ix rs (base + p)) (narrowedSum (optionalScores ix o (base + p)))) (sym os-none)
+                ) z.0,
+            z.1,
+            record { x = xs; v = A.v; is = front-back A.x (A.v ++ rest) kids re A.is (required-long w) xs; required = r.2; optional = optional-left w },
+          )
+
+    -- ---- the group
+    abbrev group-parts : List ℕ
+    group-parts = take (oe - re) (drop re kids)
+
+    group-asked : (w : Asks) → OptionalAsked w.1 ranges table w.2 w.5 node.need depth group-parts base want 0
+    group-asked w =
+        record {
+          scorables = w.9.optional-scorables;
+          held = subst (λ (v : List ℕ). AllWindowed w.1 ranges w.5 depth v (optionalBound node.need (base + 64) base) base (λ p. ltb 0 node.need && bit p want)) (sym (mid-part w.9.x w.9.v w.6 kids re oe w.9.is (required-long w) (optional-long w))) w.9.optional;
+        }
+
+    pub group-ask : Asks → OptionalPre group-parts node.need postings positions norms ranges table a b base want own depth
+    group-ask w = (w.0, w.1, w.2, w.5, 0, w.8, group-asked w, zero-sums own own-zero)
+
+    module _ (vs : List ℕ) (group : List Float) (post : OptionalPost group-parts node.need postings positions norms ranges table a b base want own depth vs group) where
+      group-own : (w : Asks) → AddedAll (λ p. optionalScores w.1 w.5 (base + p)) want own group × Sums (0 + nodesOf w.5) group × AllWindowed w.1 ranges w.5 depth vs (base + 64) (base + 64) nowhere
+      group-own w = post w.0 w.1 w.2 w.5 0 w.8 (group-asked w) (zero-sums own own-zero)
+
+      abbrev pub kids₁ : List ℕ
+      kids₁ = put kids re oe vs
+
+      back : (w : Asks) → kids₁ ≡ w.9.x ++ (vs ++ w.6)
+      back w = mid_back w.9.x w.9.v w.6 kids re oe w.9.is (required-long w) (optional-long w) vs
+
+      -- no required children: the group is the score
+      pub only-add : Asks → NarrowedPre group sums
+      only-add w =
+          let r = nodesOf w.4 + nodesOf w.5 in
+          (w.7, r, (w.9.few, w.10), sums-more (0 + nodesOf w.5) r group (omega arith) (group-own w).1)
+
+      pub only-done : re ≡ 0 → (sums' : List Float) → NarrowedPost group want sums sums' → BooleanPost kids node postings positions norms ranges table a b base want sums depth kids₁ sums'
+      unfolding only-add
+      only-done none sums' add n ix places j rs os rest q L A S =
+          let w : Asks = (n, ix, places, j, rs, os, rest, q, L, A, S) in
+          let r = group-own w in
+          let N = only-add w in
+          let z = add N.0 N.1 N.2 N.3 in
+          let few : nodesOf os ≤ 256 = omega (arith, A.few) in
+          let rs-none : rs ≡ end = none_left rs (sym A.required-end ∙ none) in (
+            added-as (λ p. narrow (get_or group p nan)) (goal-score w) want sums sums' (
+                λ p l e.
+                let g = group-is (optionalScores ix os (base + p)) (nodesOf os) (get_or group p nan) (narrow (get_or group p nan)) few (summed own group own-zero want (λ i. optionalScores ix os (base + i)) r.0 (nodesOf os) r.1 p l e) refl in
+                (joined-only ix (base + p) os j (narrow (get_or group p nan)) g.0 g.1).is
+                ∙ ap (λ (o : Scorers). joinedScore j (requiredScores ix o (base + p)) (narrowedSum (optionalScores ix os (base + p)))) (sym rs-none)
+                ) z.0,
+            z.1,
+            record { x = A.x; v = vs; is = back w; required = required-left w; optional = r.2 },
+          )
+
+      -- both
+      module _ (a' b' : ℕ) (same-a : a' ≡ a) (same-b : b' ≡ b) where
+        both-asked : (w : Asks) → GroupAsked w.1 ranges table w.2 w.3 w.4 w.5 node depth (take re kids₁) base want w.7 group
+        both-asked w =
+            let r = group-own w in
+            record {
+              required = record {
+                scorables = w.9.required-scorables;
+                match = w.9.match;
+                held = subst (λ (v : List ℕ). AllWindowed w.1 ranges w.4 depth v (base + 64) base (placesOf want)) (sym (front-part w.9.x (vs ++ w.6) kids₁ re (back w) (required-long w))) w.9.required;
+              };
+              few = w.9.few;
+              joins = w.9.joins;
+              group-is = λ p l e. (summed own group own-zero want (λ i. optionalScores w.1 w.5 (base + i)) r.0 (nodesOf w.5) r.1 p l e).is;
+              group-sums = sums-more (0 + nodesOf w.5) (nodesOf w.5) group (omega arith) r.1;
+            }
+
+        pub both-ask : Asks → GroupPre (take re kids₁) node group postings positions norms ranges table a' b' base want sums depth
+        both-ask w = (w.0, w.1, w.2, w.3, w.4, w.5, w.7, lent-at a' b' want same-a same-b (λ p l e. e) w.8, both-asked w, w.10)
+
+        pub both-done : (xs : List ℕ) (sums' : List Float) → GroupPost (take re kids₁) node group postings positions norms ranges table a' b' base want sums depth xs sums' → BooleanPost kids node postings positions norms ranges table a b base want sums depth (xs ++ drop re kids₁) sums'
+        both-done xs sums' join n ix places j rs os rest q L A S =
+            let w : Asks = (n, ix, places, j, rs, os, rest, q, L, A, S) in
+            let r = join n ix places j rs os q (lent-at a' b' want same-a same-b (λ p l e. e) L) (both-asked w) S in
+            (r.0, r.1, record { x = xs; v = vs; is = front-back A.x (vs ++ rest) kids₁ re (back w) (required-long w) xs; required = r.2; optional = (group-own w).2 })
