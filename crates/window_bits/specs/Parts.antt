@@ -3,7 +3,7 @@ use Rattle.std.specs.Prelude.{◌≡◌, Bool, true, false, not, cond, ◌&&◌,
 use Rattle.meaning.specs.Limits.{noMoreDocs, nodeStateWords}
 use Rattle.meaning.specs.Lent.{Index}
 use Rattle.bits.specs.Bit.{bit}
-use Rattle.weight.specs.ScorerTree.{nothing, term, phrase, range, everything, Leaf, Scorer, leaf, boolean, Scorers, end, more, matches, allMatch, anyMatches, matching}
+use Rattle.weight.specs.ScorerTree.{nothing, term, phrase, range, everything, Scorer, leaf, boolean, Scorers, end, more, matches, allMatch, anyMatches, matching}
 use Rattle.weight.specs.State.{sizesOf}
 use Rattle.weight.specs.Sound.{Lends, Sounds, nodesOf}
 use Rattle.leaf_scorer.specs.Calls.{Lent, lent, RoomIn}
@@ -58,7 +58,7 @@ PassPre postings positions ranges a b kids last base want depth =
 
 abbrev pub PassPost : List ℕ → List ℕ → List ℕ → ℕ → ℕ → List ℕ → Bool → ℕ → ℕ → ℕ → ℕ → ℕ → List ℕ → Type 0
 PassPost postings positions ranges a b kids last base want depth r next kids' =
-    (n : ℕ) (ix : Index) (places : ℕ) (ss : Scorers) → Called (lent n postings positions ranges) places a b base want → PartsKnown (lent n postings positions ranges) ix places ss → SomeWindowed (askedBefore last) ix ranges ss depth kids base (placesOf want) → Answers (allOf (askedBy last) ix ss) base (placesOf want) r next × SomeWindowed (askedAfter last) ix ranges ss depth kids' base (placesOf r)
+    (n : ℕ) (ix : Index) (places : ℕ) (ss : Scorers) → Wanted n base want → PartsKnown (lent n postings positions ranges) ix places ss → SomeWindowed (askedBefore last) ix ranges ss depth kids base (placesOf want) → Answers (allOf (askedBy last) ix ss) base (placesOf want) r next × SomeWindowed (askedAfter last) ix ranges ss depth kids' base (placesOf r)
 
 -- ---- the optional children, of which `need` must match, and the prohibited
 abbrev pub PartsPre : List ℕ → List ℕ → List ℕ → ℕ → ℕ → List ℕ → ℕ → ℕ → ℕ → Type 0
@@ -72,7 +72,7 @@ enough ix ss need d = leb need (matching ix ss d)
 -- where none is needed nothing is asked
 abbrev pub OptionalPost : List ℕ → List ℕ → List ℕ → ℕ → ℕ → List ℕ → ℕ → ℕ → ℕ → ℕ → ℕ → ℕ → List ℕ → Type 0
 OptionalPost postings positions ranges a b kids need base want depth r next kids' =
-    (n : ℕ) (ix : Index) (places : ℕ) (ss : Scorers) → Called (lent n postings positions ranges) places a b base want → PartsKnown (lent n postings positions ranges) ix places ss → AllWindowed ix ranges ss depth kids base base nowhere → Answers (enough ix ss need) base (placesOf want) r next × AllWindowed ix ranges ss depth kids' (optionalBound need (base + 64) base) base (λ p. ltb 0 need && bit p r)
+    (n : ℕ) (ix : Index) (places : ℕ) (ss : Scorers) → Wanted n base want → PartsKnown (lent n postings positions ranges) ix places ss → AllWindowed ix ranges ss depth kids base base nowhere → Answers (enough ix ss need) base (placesOf want) r next × AllWindowed ix ranges ss depth kids' (optionalBound need (base + 64) base) base (λ p. ltb 0 need && bit p r)
 
 -- the planes' count of those that match, and a document before which none matches after the window
 pub record CountsAre (ix : Index) (ss : Scorers) (base want : ℕ) (count : ℕ → ℕ) (next : ℕ) : Type 0 where
@@ -82,17 +82,17 @@ pub record CountsAre (ix : Index) (ss : Scorers) (base want : ℕ) (count : ℕ 
 
 abbrev pub CountPost : List ℕ → List ℕ → List ℕ → ℕ → ℕ → List ℕ → ℕ → ℕ → ℕ → (ℕ → ℕ) → ℕ → List ℕ → Type 0
 CountPost postings positions ranges a b kids base want depth count next kids' =
-    (n : ℕ) (ix : Index) (places : ℕ) (ss : Scorers) → Called (lent n postings positions ranges) places a b base want → PartsKnown (lent n postings positions ranges) ix places ss → AllWindowed ix ranges ss depth kids base base nowhere → CountsAre ix ss base want count next × AllWindowed ix ranges ss depth kids' (base + 64) base (placesOf want)
+    (n : ℕ) (ix : Index) (places : ℕ) (ss : Scorers) → Wanted n base want → PartsKnown (lent n postings positions ranges) ix places ss → AllWindowed ix ranges ss depth kids base base nowhere → CountsAre ix ss base want count next × AllWindowed ix ranges ss depth kids' (base + 64) base (placesOf want)
 
 -- any of them
 abbrev pub AnyPost : List ℕ → List ℕ → List ℕ → ℕ → ℕ → List ℕ → ℕ → ℕ → ℕ → ℕ → ℕ → List ℕ → Type 0
 AnyPost postings positions ranges a b kids base want depth r next kids' =
-    (n : ℕ) (ix : Index) (places : ℕ) (ss : Scorers) → Called (lent n postings positions ranges) places a b base want → PartsKnown (lent n postings positions ranges) ix places ss → AllWindowed ix ranges ss depth kids base base nowhere → Answers (anyMatches ix ss) base (placesOf want) r next × AllWindowed ix ranges ss depth kids' (base + 64) base (placesOf want)
+    (n : ℕ) (ix : Index) (places : ℕ) (ss : Scorers) → Wanted n base want → PartsKnown (lent n postings positions ranges) ix places ss → AllWindowed ix ranges ss depth kids base base nowhere → Answers (anyMatches ix ss) base (placesOf want) r next × AllWindowed ix ranges ss depth kids' (base + 64) base (placesOf want)
 
 -- the wanted documents that none of the prohibited matches
 abbrev pub ExcludedPost : List ℕ → List ℕ → List ℕ → ℕ → ℕ → List ℕ → ℕ → ℕ → ℕ → ℕ → List ℕ → Type 0
 ExcludedPost postings positions ranges a b kids base want depth r kids' =
-    (n : ℕ) (ix : Index) (places : ℕ) (ss : Scorers) → Called (lent n postings positions ranges) places a b base want → PartsKnown (lent n postings positions ranges) ix places ss → AllWindowed ix ranges ss depth kids base base nowhere → ((p : ℕ) → p < 64 → bit p r ≡ (bit p want && not (anyMatches ix ss (base + p)))) × AllWindowed ix ranges ss depth kids' (base + 64) base nowhere
+    (n : ℕ) (ix : Index) (places : ℕ) (ss : Scorers) → Wanted n base want → PartsKnown (lent n postings positions ranges) ix places ss → AllWindowed ix ranges ss depth kids base base nowhere → ((p : ℕ) → p < 64 → bit p r ≡ (bit p want && not (anyMatches ix ss (base + p)))) × AllWindowed ix ranges ss depth kids' (base + 64) base nowhere
 
 -- ---- a Boolean
 -- the parts of its children, with where the required and the optional end, and the places that were asked
@@ -123,7 +123,7 @@ BooleanPre postings positions ranges a b kids requiredEnd optionalEnd need base 
 -- its answer; what its score needs of the children stands at the documents that it takes
 abbrev pub BooleanPost : List ℕ → List ℕ → List ℕ → ℕ → ℕ → List ℕ → ℕ → ℕ → ℕ → ℕ → ℕ → ℕ → ℕ → ℕ → List ℕ → Type 0
 BooleanPost postings positions ranges a b kids requiredEnd optionalEnd need base want depth r next kids' =
-    (n : ℕ) (ix : Index) (places : ℕ) (rs os ps : Scorers) → Called (lent n postings positions ranges) places a b base want → BooleanKnown (lent n postings positions ranges) ix places rs os ps → BooleanWindowed ix ranges rs os ps depth requiredEnd optionalEnd need kids base base nowhere → Answers (takes ix rs os ps need) base (placesOf want) r next × BooleanWindowed ix ranges rs os ps depth requiredEnd optionalEnd need kids' (base + 64) base (placesOf r)
+    (n : ℕ) (ix : Index) (places : ℕ) (rs os ps : Scorers) → Wanted n base want → BooleanKnown (lent n postings positions ranges) ix places rs os ps → BooleanWindowed ix ranges rs os ps depth requiredEnd optionalEnd need kids base base nowhere → Answers (takes ix rs os ps need) base (placesOf want) r next × BooleanWindowed ix ranges rs os ps depth requiredEnd optionalEnd need kids' (base + 64) base (placesOf r)
 
 -- ---- what is read of a record
 pub record BooleanRead (st : List ℕ) (n r o : ℕ) : Type 0 where

@@ -1,7 +1,7 @@
 // Which documents of a window of 64 a scorer tree matches: the words of a node are its record and then its children's parts.
 #![tactic(auto)]
 
-ghost use Rattle.std.specs.Prelude.{◌≡◌, ◌≤◌, length, get_or, not};
+ghost use Rattle.std.specs.Prelude.{◌≡◌, ◌≤◌, ℕ, length};
 ghost use Rattle.meaning.specs.Limits.{nodeStateWords};
 ghost use Rattle.planes.specs.Counts.{count};
 ghost use Rattle.window_leaf.specs.Asks.{BitsPre, BitsPost};
@@ -113,10 +113,53 @@ fn boolean_bits(
 {
     let end = n.required;
     let optional_end = n.optional;
-    let r = required_bits(&mut kids[..end], postings, positions, ranges, a, b, false, base, want, depth);
-    let o = optional_bits(&mut kids[end..optional_end], postings, positions, ranges, a, b, n.need, base, r.bits, depth);
-    let w = excluded_bits(&mut kids[optional_end..], postings, positions, ranges, a, b, base, o.bits, depth);
-    let p = required_bits(&mut kids[..end], postings, positions, ranges, a, b, true, base, w, depth);
+    let r = required_bits(
+        &mut kids[..end],
+        postings,
+        positions,
+        ranges,
+        a,
+        b,
+        false,
+        base,
+        want,
+        depth,
+    );
+    let o = optional_bits(
+        &mut kids[end..optional_end],
+        postings,
+        positions,
+        ranges,
+        a,
+        b,
+        n.need,
+        base,
+        r.bits,
+        depth,
+    );
+    let w = excluded_bits(
+        &mut kids[optional_end..],
+        postings,
+        positions,
+        ranges,
+        a,
+        b,
+        base,
+        o.bits,
+        depth,
+    );
+    let p = required_bits(
+        &mut kids[..end],
+        postings,
+        positions,
+        ranges,
+        a,
+        b,
+        true,
+        base,
+        w,
+        depth,
+    );
     Found {
         bits: p.bits,
         next: later(later(r.next, o.next), p.next),
@@ -153,7 +196,17 @@ fn required_bits(
             if k.kind == TERM {
                 w = bits::both(w, term_bits(&mut kids[at..end], postings, base));
             } else {
-                w = node_bits(&mut kids[at..end], postings, positions, ranges, a, b, base, w, depth);
+                w = node_bits(
+                    &mut kids[at..end],
+                    postings,
+                    positions,
+                    ranges,
+                    a,
+                    b,
+                    base,
+                    w,
+                    depth,
+                );
             }
             next = later(next, kids[at + 22]);
         }
@@ -180,19 +233,39 @@ fn optional_bits(
     ensures { OptionalPost postings.now positions.now ranges.now (length a.old) (length b.old) kids.old need base want depth result.bits result.next kids.new }
 {
     if need == 0 {
-        return Found { bits: want, next: base + 64 };
+        return Found {
+            bits: want,
+            next: base + 64,
+        };
     }
     if want == 0 {
-        return Found { bits: want, next: base + 64 };
+        return Found {
+            bits: want,
+            next: base + 64,
+        };
     }
     if need == 1 {
         return any_bits(kids, postings, positions, ranges, a, b, base, want, depth);
     }
     if MOST < need {
-        return Found { bits: 0, next: base + 64 };
+        return Found {
+            bits: 0,
+            next: base + 64,
+        };
     }
     let mut planes = [0u64; PLANES];
-    let next = counted_bits(kids, postings, positions, ranges, a, b, &mut planes, base, want, depth);
+    let next = counted_bits(
+        kids,
+        postings,
+        positions,
+        ranges,
+        a,
+        b,
+        &mut planes,
+        base,
+        want,
+        depth,
+    );
     Found {
         bits: planes::above(&planes, need - 1, want),
         next,
@@ -222,9 +295,25 @@ fn any_bits(
         let k = child_at(kids, at);
         let end = k.end;
         if k.kind == TERM {
-            w = bits::either(w, bits::both(want, term_bits(&mut kids[at..end], postings, base)));
+            w = bits::either(
+                w,
+                bits::both(want, term_bits(&mut kids[at..end], postings, base)),
+            );
         } else {
-            w = bits::either(w, node_bits(&mut kids[at..end], postings, positions, ranges, a, b, base, want, depth));
+            w = bits::either(
+                w,
+                node_bits(
+                    &mut kids[at..end],
+                    postings,
+                    positions,
+                    ranges,
+                    a,
+                    b,
+                    base,
+                    want,
+                    depth,
+                ),
+            );
         }
         next = sooner(next, kids[at + 22]);
         at = end;
@@ -259,7 +348,20 @@ fn counted_bits(
         if k.kind == TERM {
             let _carry = planes::counted(planes, term_bits(&mut kids[at..end], postings, base));
         } else {
-            let _carry = planes::counted(planes, node_bits(&mut kids[at..end], postings, positions, ranges, a, b, base, want, depth));
+            let _carry = planes::counted(
+                planes,
+                node_bits(
+                    &mut kids[at..end],
+                    postings,
+                    positions,
+                    ranges,
+                    a,
+                    b,
+                    base,
+                    want,
+                    depth,
+                ),
+            );
         }
         next = sooner(next, kids[at + 22]);
         at = end;
@@ -294,7 +396,20 @@ fn excluded_bits(
         if k.kind == TERM {
             w = bits::without(w, term_bits(&mut kids[at..end], postings, base));
         } else {
-            w = bits::without(w, node_bits(&mut kids[at..end], postings, positions, ranges, a, b, base, w, depth));
+            w = bits::without(
+                w,
+                node_bits(
+                    &mut kids[at..end],
+                    postings,
+                    positions,
+                    ranges,
+                    a,
+                    b,
+                    base,
+                    w,
+                    depth,
+                ),
+            );
         }
         at = end;
     }

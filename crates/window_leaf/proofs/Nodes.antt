@@ -1,23 +1,23 @@
 -- What a node without children answers of a window: a term with the postings alone, a range with the range buffer, the others with what they store. Assumes nothing.
-use Rattle.std.proofs.Common.{◌≡◌, refl, sym, ap, subst, ◌∙◌, Bool, true, false, ◌&&◌, ⊎_elim, List, ◌++◌, ℕ, ◌+◌, ◌≤◌, ◌<◌, ltb, length, get_or, le_refl, arith, lt-ltb}
+use Rattle.std.proofs.Common.{◌≡◌, refl, sym, ap, subst, ◌∙◌, Bool, true, ◌&&◌, ⊎_elim, List, ◌++◌, ℕ, ◌+◌, ◌≤◌, ◌<◌, ltb, length, get_or, le_refl, arith, lt-ltb}
 use Rattle.std.proofs.lemmas.Bool.{eqb-false}
 use mathlib.Core.Bool.{and-false}
 use Rattle.meaning.specs.Limits.{noMoreDocs}
 use Rattle.meaning.specs.Lent.{Index}
 use Rattle.meaning.proofs.Tests.{decided}
 use Rattle.weight.specs.ScorerTree.{nothing, term, phrase, range, everything, Scoring, Scorer, leaf, boolean, leafMatches, matches}
-use Rattle.weight.specs.State.{State, words_of}
+use Rattle.weight.specs.State.{State}
 use Rattle.weight.specs.Sound.{LeafSound, Sound}
 use Rattle.bits.specs.Bit.{bit}
-use Rattle.bits.proofs.Laws.{bit-zero, halves-joined}
+use Rattle.bits.proofs.Laws.{bit-zero}
 use Rattle.leaf_scorer.specs.Calls.{Lent}
 use Rattle.leaf_scorer.specs.Search.{SearchHeld}
 use Rattle.leaf_scorer.proofs.LeafLaws.{term-run, range-run}
 use Rattle.window.specs.Windows.{inRun}
-use Rattle.window_words.specs.Windowed.{Places, nowhere, placesOf, Stored, LeafWindowed, Windowed}
+use Rattle.window_words.specs.Windowed.{nowhere, placesOf, Stored, LeafWindowed, Windowed}
 use Rattle.window_words.proofs.Laws.{kindOf, windowed-kind, windowed-less}
 use Rattle.window_leaf.specs.Asks.{Answers, everywhere, Wanted, NodeWindowed}
-use Rattle.window_leaf.specs.Runs.{windowAt, answered, PutPre, PutPost, RunMoved, RunPre, RunPost}
+use Rattle.window_leaf.specs.Runs.{windowAt, answered, PutPre, PutPost, RunMoved, RunPost}
 use Rattle.window_leaf.proofs.Records.{stored-bits, scoring-kept, term-run-like, term-passed, term-window, range-run-like, range-passed}
 
 -- ---- what a moved run answers, where it is the documents of P

@@ -1,4 +1,4 @@
-use Rattle.std.proofs.Common.{◌≡◌, refl, ap, List, ◌+◌, ◌<◌, ◌≤◌, length, ℕ, arith}
+use Rattle.std.proofs.Common.{refl, ◌+◌, ◌≤◌, length, arith}
 use Rattle.leaf_scorer.specs.Calls.{lent}
 use Rattle.meaning.specs.Limits.{nodeStateWords}
 use Rattle.window_words.specs.Windowed.{nowhere}
