@@ -1,5 +1,5 @@
 -- The answers of the cycle: a node's scores, a Boolean's, and those of its children. Assumes nothing.
-use Rattle.std.proofs.Common.{refl, sym, ◌∙◌, ap, subst, length, take, drop, ◌+◌, ◌-◌, ◌*◌, ℕ, arith}
+use Rattle.std.proofs.Common.{refl, sym, ◌∙◌, length, arith}
 use Rattle.window_score.proofs.Loops.{call}
 use Rattle.window_score.proofs.Required.{required-start, required-end, required-there, required-skip, required-child, required-term, required-took, required-term-took}
 use Rattle.window_score.proofs.Optional.{OptionalTaken, taken-as, optional-start, optional-end, optional-there, optional-ask, optional-asked, optional-stored, optional-left, optional-child, optional-term, optional-took, optional-term-took}

@@ -1,5 +1,5 @@
 -- The measures of the cycle, and what its loops keep. Assumes nothing.
-use Rattle.std.proofs.Common.{length, ◌-◌, ◌≡◌, ◌≤◌, get_or, ℕ, ◌+◌, ◌*◌, ◌<◌}
+use Rattle.std.proofs.Common.{length, ◌-◌, ◌≡◌, ◌+◌, ◌*◌}
 use Rattle.window_score.proofs.Loops.{call}
 use Rattle.window_score.proofs.Required.{RequiredAt}
 use Rattle.window_score.proofs.Optional.{OptionalAt}
