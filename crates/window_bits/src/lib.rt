@@ -366,7 +366,7 @@ fn any_bits(
                 ),
             );
         }
-        next = sooner(next, kids[at + 22]);
+        next = sooner(next, kids[at + 22]); // the first that any of them may match
         at = end;
     }
     Found { bits: w, next }
