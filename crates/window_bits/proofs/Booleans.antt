@@ -1,6 +1,6 @@
 -- A Boolean's children, asked for a window: the words of its three groups, and the four questions one after the other. Assumes nothing.
-use Rattle.std.proofs.Common.{◌≡◌, refl, sym, ap, ap₂, ◌∙◌, subst, ⊎_elim, Bool, true, false, not, cond, ◌&&◌, List, [], ◌++◌, ℕ, ◌+◌, ◌-◌, ◌≤◌, ◌<◌, max, ltb, length, take, drop, take_at, drop_at, append_assoc, append-nil, length-append, arith}
-use Rattle.std.proofs.lemmas.Bool.{false≢true, and_parts, and_from, cases_lt}
+use Rattle.std.proofs.Common.{◌≡◌, refl, sym, ap, ap₂, ◌∙◌, subst, inl, inr, ⊎_elim, Bool, true, false, not, cond, ◌&&◌, List, [], ◌++◌, ℕ, ◌+◌, ◌-◌, ◌≤◌, ◌<◌, max, ltb, length, take, drop, take_at, drop_at, append_assoc, append-nil, length-append, arith}
+use Rattle.std.proofs.lemmas.Bool.{false≢true, and_parts, and_from, cases_lt, false_from_ne_true}
 use mathlib.Core.Bool.{and-false}
 use Rattle.meaning.specs.Limits.{noMoreDocs}
 use Rattle.meaning.specs.Lent.{Index}
@@ -10,7 +10,7 @@ use Rattle.leaf_scorer.specs.Calls.{lent, RoomIn}
 use Rattle.window_words.specs.Windowed.{nowhere, placesOf, optionalBound, AllWindowed}
 use Rattle.window_words.proofs.Laws.{all-less, all-mono, all-length}
 use Rattle.window_leaf.specs.Asks.{Answers, Wanted}
-use Rattle.window_bits.specs.Parts.{askedBefore, askedBy, askedAfter, allOf, SomeWindowed, Called, PassPre, PassPost, PartsPre, enough, OptionalPost, ExcludedPost, BooleanWindowed, takes, BooleanKnown}
+use Rattle.window_bits.specs.Parts.{askedBefore, askedBy, askedAfter, allOf, Through, SomeWindowed, Called, PassPre, PassPost, PhrasesPost, PartsPre, enough, OptionalPost, ExcludedPost, BooleanWindowed, takes, BooleanKnown}
 use Rattle.window_bits.proofs.Matching.{all-passes}
 use Rattle.window_bits.proofs.Passes.{before-first, between, after-last}
 
@@ -122,8 +122,8 @@ module _ {postings positions R : List ℕ} {a b : ℕ} {kids : List ℕ} {e o ne
   pub first-pre : RoomIn s.places a b → PassPre postings positions R a b (take e kids) false base want k
   first-pre h = (s.n, s.ix, s.places, s.rs, called-on postings positions R s.small s.wanted h a b refl refl, s.known.required, held₁)
 
-  module _ (r₁ next₁ : ℕ) (x₁ : List ℕ) (m₁ : length x₁ ≡ length (take e kids)) (post₁ : PassPost postings positions R a b (take e kids) false base want k r₁ next₁ x₁) (a₁ b₁ : ℕ) (f₁ : a₁ ≡ a) (g₁ : b₁ ≡ b) where
-    done₁ : Answers (allOf (askedBy false) s.ix s.rs) base (placesOf want) r₁ next₁ × SomeWindowed (askedAfter false) s.ix R s.rs k x₁ base (placesOf r₁)
+  module _ (r₁ next₁ : ℕ) (skip : Bool) (x₁ : List ℕ) (m₁ : length x₁ ≡ length (take e kids)) (post₁ : PassPost postings positions R a b (take e kids) false base want k r₁ next₁ skip x₁) (a₁ b₁ : ℕ) (f₁ : a₁ ≡ a) (g₁ : b₁ ≡ b) where
+    done₁ : Answers (allOf (askedBy false) s.ix s.rs) base (placesOf want) r₁ next₁ × SomeWindowed (askedAfter false) s.ix R s.rs k x₁ base (placesOf r₁) × (skip ≡ false → Through false s.rs r₁)
     done₁ = post₁ s.n s.ix s.places s.rs s.wanted s.known.required held₁
 
     kids₁ : List ℕ
@@ -181,12 +181,15 @@ module _ {postings positions R : List ℕ} {a b : ℕ} {kids : List ℕ} {e o ne
         held₄ : SomeWindowed (askedBefore true) s.ix R s.rs k (take e kids₃) base (placesOf r₃)
         held₄ = subst (λ (q : List ℕ). SomeWindowed (askedBefore true) s.ix R s.rs k q base (placesOf r₃)) (sym (three-first words₃)) (between s.ix R k base s.rs x₁ (placesOf r₁) (placesOf r₃) (λ p l t. within₂ p l (within₃ p l t)) done₁.1)
 
+        through₄ : skip ≡ false → Through false s.rs r₃
+        through₄ h = ⊎_elim (λ none. inl (λ p l. false_from_ne_true (bit p r₃) (λ t. false≢true (sym (none p l) ∙ within₂ p l (within₃ p l t))))) (λ t. inr t) (done₁.2 h)
+
         pub second-pre : RoomIn s.places a b → PassPre postings positions R a₃ b₃ (take e kids₃) true base r₃ k
         second-pre h = (s.n, s.ix, s.places, s.rs, called-on postings positions R s.small wanted₃ h a₃ b₃ (f₃ ∙ (f₂ ∙ f₁)) (g₃ ∙ (g₂ ∙ g₁)), s.known.required, held₄)
 
-        module _ (r₄ next₄ : ℕ) (x₄ : List ℕ) (m₄ : length x₄ ≡ length (take e kids₃)) (post₄ : PassPost postings positions R a₃ b₃ (take e kids₃) true base r₃ k r₄ next₄ x₄) (next₃ next : ℕ) (j₃ : next₃ ≡ max next₁ next₂) (j₄ : next ≡ max next₃ next₄) where
+        module _ (r₄ next₄ : ℕ) (x₄ : List ℕ) (m₄ : length x₄ ≡ length (take e kids₃)) (post₄ : PhrasesPost postings positions R a₃ b₃ (take e kids₃) skip base r₃ k r₄ next₄ x₄) (next₃ next : ℕ) (j₃ : next₃ ≡ max next₁ next₂) (j₄ : next ≡ max next₃ next₄) where
           done₄ : Answers (allOf (askedBy true) s.ix s.rs) base (placesOf r₃) r₄ next₄ × SomeWindowed (askedAfter true) s.ix R s.rs k x₄ base (placesOf r₄)
-          done₄ = post₄ s.n s.ix s.places s.rs wanted₃ s.known.required held₄
+          done₄ = post₄ s.n s.ix s.places s.rs wanted₃ s.known.required held₄ through₄
 
           within₄ : (p : ℕ) → p < 64 → bit p r₄ ≡ true → bit p r₂ ≡ true
           within₄ p l t = within₃ p l (and_parts (bit p r₃) (allOf (askedBy true) s.ix s.rs (base + p)) (sym (done₄.0.bits p l) ∙ t)).0

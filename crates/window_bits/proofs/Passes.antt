@@ -1,6 +1,6 @@
 -- The required children, asked in two passes: the loop of a pass. Assumes nothing.
-use Rattle.std.proofs.Common.{◌≡◌, refl, sym, ap, ◌∙◌, subst₂, ⊎_elim, Bool, true, false, not, cond, ◌&&◌, ◌||◌, List, ◌++◌, ℕ, ◌+◌, ◌-◌, ◌≤◌, ◌<◌, max, eqb, length, get_or, take, drop, arith, le_refl}
-use Rattle.std.proofs.lemmas.Bool.{false≢true, and_parts, and_from, and_left, and_right, cases_lt}
+use Rattle.std.proofs.Common.{◌≡◌, refl, sym, ap, ◌∙◌, subst₂, inl, inr, ⊎_elim, Bool, true, false, not, cond, ◌&&◌, ◌||◌, List, ◌++◌, ℕ, ◌+◌, ◌-◌, ◌≤◌, ◌<◌, max, eqb, length, get_or, take, drop, arith, le_refl}
+use Rattle.std.proofs.lemmas.Bool.{false≢true, true≢false, not-true, and_parts, and_from, and_left, and_right, cases_lt}
 use mathlib.Core.Bool.{beq, and-true, and_assoc}
 use Rattle.meaning.specs.Limits.{noMoreDocs}
 use Rattle.meaning.specs.Lent.{Index}
@@ -13,7 +13,7 @@ use Rattle.window_words.specs.Windowed.{Places, nowhere, placesOf, Windowed, All
 use Rattle.window_words.proofs.Laws.{windowed-less, windowed-mono, kindOf}
 use Rattle.window_words.proofs.Parts.{Part, Each, all-each, each-all, each-map, Zip, zip-start, zip-none, zip-end, zip-stop, zip-front-map, view, zip-next, zip-skip}
 use Rattle.window_leaf.specs.Asks.{Answers, NodeAnswers, BitsPre, TermPre}
-use Rattle.window_bits.specs.Parts.{isPhrase, askedBefore, askedBy, askedAfter, allOf, SomeWindowed, ChildAt, Called}
+use Rattle.window_bits.specs.Parts.{isPhrase, askedBefore, askedBy, askedAfter, allOf, asksAll, Through, SomeWindowed, ChildAt, Called}
 use Rattle.window_bits.proofs.Matching.{phrase-kind}
 use Rattle.window_bits.proofs.Children.{AndKnown, each-known, Low, Fresh, child-there, ask-node, ask-term, stop-is, kind-read, child-facts, child-held, part-length, word-back}
 
@@ -78,6 +78,37 @@ module _ (ix : Index) (R : List ℕ) (k base : ℕ) where
   pub after-last : (ss : Scorers) (w : List ℕ) (D : Places) → SomeWindowed (askedAfter true) ix R ss k w base D → AllWindowed ix R ss k w (base + 64) base D
   after-last ss w D q = each-all ix R ss k w (base + 64) base D (some-each (askedAfter true) ix R ss k w base D q)
 
+before-after : (last q : Bool) → (last && q) ≡ true → (last || q) ≡ true
+before-after true q e = refl
+before-after false q e = absurd (false≢true e)
+
+-- ---- the second pass where it has nothing to ask
+module _ (ix : Index) (R : List ℕ) (k base want : ℕ) where
+  -- no child is a phrase
+  no-phrase : (ss : Scorers) → asksAll false ss ≡ true → (d : ℕ) → allOf (askedBy true) ix ss d ≡ true
+  unfolding asksAll allOf
+  no-phrase end h d = refl
+  no-phrase (more f s ss) h d =
+      let u = and_parts (not (isPhrase s)) (asksAll false ss) h in
+      ap (λ (t : Bool). cond t (matches ix s d) true && allOf (askedBy true) ix ss d) (not-true (isPhrase s) u.0) ∙ no-phrase ss u.1 d
+
+  all-asked : (ss : Scorers) (w : List ℕ) → asksAll false ss ≡ true → SomeWindowed (askedBefore true) ix R ss k w base (placesOf want) → SomeWindowed (askedAfter true) ix R ss k w base (placesOf want)
+  unfolding asksAll SomeWindowed
+  all-asked end w h q = q
+  all-asked (more f s ss) w h q =
+      let u = and_parts (not (isPhrase s)) (asksAll false ss) h in
+      (q.0, q.1, q.2, some-some ix R k base (askedBefore true) (askedAfter true) (placesOf want) (placesOf want) f s q.0 (λ e. refl) (λ p l e. and_from (not (isPhrase s)) (bit p want) u.0 e) q.3, all-asked ss q.1 u.1 q.4)
+
+  pub pass-through : (ss : Scorers) (kids : List ℕ) → base + 64 ≤ noMoreDocs → Through false ss want → SomeWindowed (askedBefore true) ix R ss k kids base (placesOf want) → Answers (allOf (askedBy true) ix ss) base (placesOf want) want (base + 64) × SomeWindowed (askedAfter true) ix R ss k kids base (placesOf want)
+  pass-through ss kids small (inl none) q = (
+    record { bits = λ p l. none p l ∙ sym (and_left (bit p want) (allOf (askedBy true) ix ss (base + p)) (none p l)); gap = λ d a b. absurd (omega (arith, a, b)); top = small },
+    each-some (askedAfter true) ix R ss k kids base (placesOf want) (each-map (λ f s y. some-some ix R k base (askedBefore true) (askedAfter true) (placesOf want) (placesOf want) f s y (before-after true (not (isPhrase s))) (λ p l t. absurd (false≢true (sym (none p l) ∙ t)))) ss kids (some-each (askedBefore true) ix R ss k kids base (placesOf want) q)),
+  )
+  pass-through ss kids small (inr h) q = (
+    record { bits = λ p l. sym (and-true (bit p want)) ∙ ap (λ (t : Bool). bit p want && t) (sym (no-phrase ss h (base + p))); gap = λ d a b. absurd (omega (arith, a, b)); top = small },
+    all-asked ss kids h q,
+  )
+
 -- ---- whether a child is asked, by its kind
 by-kind : (s : Scorer) (kind : ℕ) (t : Bool) → kindOf s ≡ kind → eqb kind 2 ≡ t → isPhrase s ≡ t
 by-kind s kind t e h = phrase-kind s ∙ ap (λ (n : ℕ). eqb n 2) e ∙ h
@@ -114,24 +145,21 @@ same-sides : (last : Bool) → (last || not (not last)) ≡ (last && not (not la
 same-sides true = refl
 same-sides false = refl
 
-before-after : (last q : Bool) → (last && q) ≡ true → (last || q) ≡ true
-before-after true q e = refl
-before-after false q e = absurd (false≢true e)
-
 -- ---- the loop
-pub record PassLeft (ix : Index) (R : List ℕ) (k places : ℕ) (last : Bool) (base want : ℕ) (ss : Scorers) (kids : List ℕ) (w next at : ℕ) (g : Scorers) : Type 0 where
+pub record PassLeft (ix : Index) (R : List ℕ) (k places : ℕ) (last : Bool) (base want : ℕ) (ss : Scorers) (kids : List ℕ) (w next at : ℕ) (skip : Bool) (g : Scorers) : Type 0 where
   pub zip : Zip (AndKnown ix places (SomeAsked (askedBefore last) ix R k base (placesOf want))) (SomeAsked (askedAfter last) ix R k base (placesOf w)) ss g kids at
   pub within : (p : ℕ) → p < 64 → bit p w ≡ true → bit p want ≡ true
   pub bits : (p : ℕ) → p < 64 → (bit p w && allOf (askedBy last) ix g (base + p)) ≡ (bit p want && allOf (askedBy last) ix ss (base + p))
   pub under : (d : ℕ) → allOf (askedBy last) ix g d ≡ false → allOf (askedBy last) ix ss d ≡ false
   pub gap : (d : ℕ) → base + 64 ≤ d → d < next → allOf (askedBy last) ix ss d ≡ false
   pub top : next ≤ noMoreDocs
+  pub none-skipped : skip ≡ false → asksAll last g ≡ true → asksAll last ss ≡ true
 
-pub record PassAt (ix : Index) (R : List ℕ) (k places : ℕ) (last : Bool) (base want : ℕ) (ss : Scorers) (kids : List ℕ) (w next at : ℕ) : Type 0 where
+pub record PassAt (ix : Index) (R : List ℕ) (k places : ℕ) (last : Bool) (base want : ℕ) (ss : Scorers) (kids : List ℕ) (w next at : ℕ) (skip : Bool) : Type 0 where
   pub g : Scorers
-  pub left : PassLeft ix R k places last base want ss kids w next at g
+  pub left : PassLeft ix R k places last base want ss kids w next at skip g
 
-pub pass-start : (ix : Index) (R : List ℕ) (k places : ℕ) (last : Bool) (base want : ℕ) (ss : Scorers) (kids : List ℕ) → base + 64 ≤ noMoreDocs → Sounds ix places ss → nodesOf ss ≤ 255 → SomeWindowed (askedBefore last) ix R ss k kids base (placesOf want) → PassAt ix R k places last base want ss kids want (base + 64) 0
+pub pass-start : (ix : Index) (R : List ℕ) (k places : ℕ) (last : Bool) (base want : ℕ) (ss : Scorers) (kids : List ℕ) → base + 64 ≤ noMoreDocs → Sounds ix places ss → nodesOf ss ≤ 255 → SomeWindowed (askedBefore last) ix R ss k kids base (placesOf want) → PassAt ix R k places last base want ss kids want (base + 64) 0 false
 pass-start ix R k places last base want ss kids small h n q =
     record {
       g = ss;
@@ -142,46 +170,48 @@ pass-start ix R k places last base want ss kids small h n q =
         under = λ d e. e;
         gap = λ d a b. absurd (omega (arith, a, b));
         top = small;
+        none-skipped = λ z t. t;
       };
     }
 
-module _ (ix : Index) (R : List ℕ) (k places : ℕ) (last : Bool) (base want : ℕ) (ss : Scorers) (kids : List ℕ) (w next at : ℕ) where
+module _ (ix : Index) (R : List ℕ) (k places : ℕ) (last : Bool) (base want : ℕ) (ss : Scorers) (kids : List ℕ) (w next at : ℕ) (skip : Bool) where
   -- nothing is wanted any more: the others are not asked
-  pub pass-stop : PassAt ix R k places last base want ss kids w next at → w ≡ 0 → Answers (allOf (askedBy last) ix ss) base (placesOf want) w next × SomeWindowed (askedAfter last) ix R ss k kids base (placesOf w)
+  pub pass-stop : PassAt ix R k places last base want ss kids w next at skip → w ≡ 0 → Answers (allOf (askedBy last) ix ss) base (placesOf want) w next × SomeWindowed (askedAfter last) ix R ss k kids base (placesOf w) × Through last ss w
   pass-stop q e =
       let none : (p : ℕ) → bit p w ≡ false = λ p. ap (bit p) e ∙ bit-zero p in
       let s = q.left in (
         record { bits = λ p l. none p ∙ sym (sym (s.bits p l) ∙ and_left (bit p w) (allOf (askedBy last) ix q.g (base + p)) (none p)); gap = s.gap; top = s.top },
         each-some (askedAfter last) ix R ss k kids base (placesOf w) (zip-stop (λ f x y h. some-some ix R k base (askedBefore last) (askedAfter last) (placesOf want) (placesOf w) f x y (before-after last (not (isPhrase x))) (λ p l t. absurd (false≢true (sym (and_right (askedAfter last x) (bit p w) (none p)) ∙ t))) h.1) s.zip),
+        inl (λ p l. none p),
       )
 
-  ended : (g : Scorers) → PassLeft ix R k places last base want ss kids w next at g → length kids ≤ at → Answers (allOf (askedBy last) ix ss) base (placesOf want) w next × SomeWindowed (askedAfter last) ix R ss k kids base (placesOf w)
-  unfolding allOf
-  ended end s l = (record { bits = λ p h. sym (and-true (bit p w)) ∙ s.bits p h; gap = s.gap; top = s.top }, each-some (askedAfter last) ix R ss k kids base (placesOf w) (zip-end s.zip))
+  ended : (g : Scorers) → PassLeft ix R k places last base want ss kids w next at skip g → length kids ≤ at → Answers (allOf (askedBy last) ix ss) base (placesOf want) w next × SomeWindowed (askedAfter last) ix R ss k kids base (placesOf w) × (skip ≡ false → Through last ss w)
+  unfolding allOf asksAll
+  ended end s l = (record { bits = λ p h. sym (and-true (bit p w)) ∙ s.bits p h; gap = s.gap; top = s.top }, each-some (askedAfter last) ix R ss k kids base (placesOf w) (zip-end s.zip), λ z. inr (s.none-skipped z refl))
   ended (more f x g) s l =
       let v = view s.zip in
       let c = child-facts (some-low ix R k base (askedBefore last) (placesOf want)) v in
       absurd (omega (arith, c.long, c.fits, l))
 
-  pub pass-end : PassAt ix R k places last base want ss kids w next at → length kids ≤ at → Answers (allOf (askedBy last) ix ss) base (placesOf want) w next × SomeWindowed (askedAfter last) ix R ss k kids base (placesOf w)
+  pub pass-end : PassAt ix R k places last base want ss kids w next at skip → length kids ≤ at → Answers (allOf (askedBy last) ix ss) base (placesOf want) w next × SomeWindowed (askedAfter last) ix R ss k kids base (placesOf w) × (skip ≡ false → Through last ss w)
   pass-end q l = ended q.g q.left l
 
   pub pass-fresh : (kind : ℕ) → eqb kind 2 ≡ last → Fresh ix R k base kind (SomeAsked (askedBefore last) ix R k base (placesOf want))
   pass-fresh kind h = record { fresh = λ f s y e q. some-fresh ix R k base (askedBefore last) (placesOf want) f s y (ap (λ (t : Bool). last && not t) (by-kind s kind last e h) ∙ asked-not-before last) q }
 
-  pub pass-there : PassAt ix R k places last base want ss kids w next at → at < length kids → ChildAt kids at
+  pub pass-there : PassAt ix R k places last base want ss kids w next at skip → at < length kids → ChildAt kids at
   pass-there q l = child-there (some-low ix R k base (askedBefore last) (placesOf want)) q.g q.left.zip l
 
   module _ (e : ℕ) (i : e ≡ at + get_or kids (at + 1) 0) where
     -- what a call of this pass asks
-    module _ (postings positions : List ℕ) (n : ℕ) {a b : ℕ} (called : Called (lent n postings positions R) places a b base want) (lends : Lends ix n postings positions) (q : PassAt ix R k places last base want ss kids w next at) (l : at < length kids) (kind : ℕ) (j : kind ≡ get_or kids at 0) (h : eqb kind 2 ≡ last) where
+    module _ (postings positions : List ℕ) (n : ℕ) {a b : ℕ} (called : Called (lent n postings positions R) places a b base want) (lends : Lends ix n postings positions) (q : PassAt ix R k places last base want ss kids w next at skip) (l : at < length kids) (kind : ℕ) (j : kind ≡ get_or kids at 0) (h : eqb kind 2 ≡ last) where
       pub pass-node : (a' b' : ℕ) → a' ≡ a → b' ≡ b → BitsPre postings positions R a' b' (take (e - at) (drop at kids)) base w k
       pass-node a' b' f f' = ask-node (some-low ix R k base (askedBefore last) (placesOf want)) postings positions n called lends kind (pass-fresh kind h) q.g q.left.zip l e i j a' b' w f f' q.left.within
 
       pub pass-term : kind ≡ 1 → TermPre postings (take (e - at) (drop at kids)) base
       pass-term f = ask-term (some-low ix R k base (askedBefore last) (placesOf want)) postings positions n called lends kind (pass-fresh kind h) q.g q.left.zip l e i j f
 
-    skipped : (g : Scorers) → PassLeft ix R k places last base want ss kids w next at g → at < length kids → eqb (get_or kids at 0) 2 ≡ not last → PassAt ix R k places last base want ss kids w next e
+    skipped : (g : Scorers) → PassLeft ix R k places last base want ss kids w next at skip g → at < length kids → eqb (get_or kids at 0) 2 ≡ not last → PassAt ix R k places last base want ss kids w next e true
     unfolding allOf
     skipped end s l h = absurd (omega (arith, zip-none s.zip, l))
     skipped (more f x g) s l h =
@@ -200,15 +230,16 @@ module _ (ix : Index) (R : List ℕ) (k places : ℕ) (last : Bool) (base want :
             under = λ d t. s.under d (one d ∙ t);
             gap = s.gap;
             top = s.top;
+            none-skipped = λ z. absurd (true≢false z);
           };
         }
 
-    pub pass-skip : PassAt ix R k places last base want ss kids w next at → at < length kids → eqb (get_or kids at 0) 2 ≡ not last → PassAt ix R k places last base want ss kids w next e
+    pub pass-skip : PassAt ix R k places last base want ss kids w next at skip → at < length kids → eqb (get_or kids at 0) 2 ≡ not last → PassAt ix R k places last base want ss kids w next e true
     pass-skip q l h = skipped q.g q.left l h
 
     module _ (postings positions : List ℕ) (n : ℕ) (lends : Lends ix n postings positions) (r : ℕ) (ys : List ℕ) (next' : ℕ) (m : length ys ≡ length (take (e - at) (drop at kids))) (kids' : List ℕ) (is : kids' ≡ take at kids ++ (ys ++ drop (e - at) (drop at kids))) (j : next' ≡ max next (get_or kids' (at + 22) 0)) (ans : NodeAnswers (lent n postings positions R) (take (e - at) (drop at kids)) base (placesOf w) k r ys) where
-      took : (g : Scorers) → PassLeft ix R k places last base want ss kids w next at g → at < length kids → eqb (get_or kids at 0) 2 ≡ last → PassAt ix R k places last base want ss (take at kids ++ (ys ++ drop (e - at) (drop at kids))) r next' e
-      unfolding allOf
+      took : (g : Scorers) → PassLeft ix R k places last base want ss kids w next at skip g → at < length kids → eqb (get_or kids at 0) 2 ≡ last → PassAt ix R k places last base want ss (take at kids ++ (ys ++ drop (e - at) (drop at kids))) r next' e skip
+      unfolding allOf asksAll
       took end s l h = absurd (omega (arith, zip-none s.zip, l))
       took (more f x g) s l h =
           let v = view s.zip in
@@ -231,8 +262,9 @@ module _ (ix : Index) (R : List ℕ) (k places : ℕ) (last : Bool) (base want :
               under = λ d t. s.under d (one d ∙ and_right (matches ix x d) (allOf (askedBy last) ix g d) t);
               gap = λ d b t. ⊎_elim (λ o. s.gap d b o) (λ o. s.under d (one d ∙ and_left (matches ix x d) (allOf (askedBy last) ix g d) (a.0.gap d b (omega (arith, next-is, t, o))))) (cases_lt d next);
               top = omega (arith, next-is, s.top, a.0.top);
+              none-skipped = λ z t. s.none-skipped z (and_from (askedBy last x) (asksAll last g) yes t);
             };
           }
 
-      pub pass-took : PassAt ix R k places last base want ss kids w next at → at < length kids → eqb (get_or kids at 0) 2 ≡ last → (w' : ℕ) → w' ≡ r → PassAt ix R k places last base want ss kids' w' next' e
-      pass-took q l h w' u = subst₂ (λ (q' : List ℕ) (v : ℕ). PassAt ix R k places last base want ss q' v next' e) (sym is) (sym u) (took q.g q.left l h)
+      pub pass-took : PassAt ix R k places last base want ss kids w next at skip → at < length kids → eqb (get_or kids at 0) 2 ≡ last → (w' : ℕ) → w' ≡ r → PassAt ix R k places last base want ss kids' w' next' e skip
+      pass-took q l h w' u = subst₂ (λ (q' : List ℕ) (v : ℕ). PassAt ix R k places last base want ss q' v next' e skip) (sym is) (sym u) (took q.g q.left l h)

@@ -1,5 +1,5 @@
 -- The parts of some children, asked of a window, and those of a Boolean. Assumes nothing: these are definitions.
-use Rattle.std.specs.Prelude.{◌≡◌, Bool, true, false, not, cond, ◌&&◌, ◌||◌, List, [], ◌++◌, ℕ, ◌+◌, ◌≤◌, ◌<◌, leb, ltb, length, get_or}
+use Rattle.std.specs.Prelude.{◌≡◌, ◌⊎◌, Bool, true, false, not, cond, ◌&&◌, ◌||◌, List, [], ◌++◌, ℕ, ◌+◌, ◌≤◌, ◌<◌, leb, ltb, length, get_or}
 use Rattle.meaning.specs.Limits.{noMoreDocs, nodeStateWords}
 use Rattle.meaning.specs.Lent.{Index}
 use Rattle.bits.specs.Bit.{bit}
@@ -34,6 +34,15 @@ unfoldable pub allOf : (Scorer → Bool) → Index → Scorers → ℕ → Bool
 allOf A ix end d = true
 allOf A ix (more f s ss) d = cond (A s) (matches ix s d) true && allOf A ix ss d
 
+-- a pass asks all of them
+unfoldable pub asksAll : Bool → Scorers → Bool
+asksAll last end = true
+asksAll last (more f s ss) = askedBy last s && asksAll last ss
+
+-- after a pass that left w, the other has nothing to ask
+abbrev pub Through : Bool → Scorers → ℕ → Type 0
+Through last ss w = ((p : ℕ) → p < 64 → bit p w ≡ false) ⊎ (asksAll last ss ≡ true)
+
 -- the parts, of which those of a kind were asked at the places D of the window at base
 unfoldable pub SomeWindowed : (Scorer → Bool) → Index → List ℕ → Scorers → ℕ → List ℕ → ℕ → Places → Type 0
 SomeWindowed A ix ranges end depth w base D = w ≡ []
@@ -56,9 +65,14 @@ abbrev pub PassPre : List ℕ → List ℕ → List ℕ → ℕ → ℕ → List
 PassPre postings positions ranges a b kids last base want depth =
     (n : ℕ) × (ix : Index) × (places : ℕ) × (ss : Scorers) × Called (lent n postings positions ranges) places a b base want × PartsKnown (lent n postings positions ranges) ix places ss × SomeWindowed (askedBefore last) ix ranges ss depth kids base (placesOf want)
 
-abbrev pub PassPost : List ℕ → List ℕ → List ℕ → ℕ → ℕ → List ℕ → Bool → ℕ → ℕ → ℕ → ℕ → ℕ → List ℕ → Type 0
-PassPost postings positions ranges a b kids last base want depth r next kids' =
-    (n : ℕ) (ix : Index) (places : ℕ) (ss : Scorers) → Wanted n base want → PartsKnown (lent n postings positions ranges) ix places ss → SomeWindowed (askedBefore last) ix ranges ss depth kids base (placesOf want) → Answers (allOf (askedBy last) ix ss) base (placesOf want) r next × SomeWindowed (askedAfter last) ix ranges ss depth kids' base (placesOf r)
+abbrev pub PassPost : List ℕ → List ℕ → List ℕ → ℕ → ℕ → List ℕ → Bool → ℕ → ℕ → ℕ → ℕ → ℕ → Bool → List ℕ → Type 0
+PassPost postings positions ranges a b kids last base want depth r next skipped kids' =
+    (n : ℕ) (ix : Index) (places : ℕ) (ss : Scorers) → Wanted n base want → PartsKnown (lent n postings positions ranges) ix places ss → SomeWindowed (askedBefore last) ix ranges ss depth kids base (placesOf want) → Answers (allOf (askedBy last) ix ss) base (placesOf want) r next × SomeWindowed (askedAfter last) ix ranges ss depth kids' base (placesOf r) × (skipped ≡ false → Through last ss r)
+
+-- the second pass, which is not made where the first skipped none
+abbrev pub PhrasesPost : List ℕ → List ℕ → List ℕ → ℕ → ℕ → List ℕ → Bool → ℕ → ℕ → ℕ → ℕ → ℕ → List ℕ → Type 0
+PhrasesPost postings positions ranges a b kids skipped base want depth r next kids' =
+    (n : ℕ) (ix : Index) (places : ℕ) (ss : Scorers) → Wanted n base want → PartsKnown (lent n postings positions ranges) ix places ss → SomeWindowed (askedBefore true) ix ranges ss depth kids base (placesOf want) → (skipped ≡ false → Through false ss want) → Answers (allOf (askedBy true) ix ss) base (placesOf want) r next × SomeWindowed (askedAfter true) ix ranges ss depth kids' base (placesOf r)
 
 -- ---- the optional children, of which `need` must match, and the prohibited
 abbrev pub PartsPre : List ℕ → List ℕ → List ℕ → ℕ → ℕ → List ℕ → ℕ → ℕ → ℕ → Type 0

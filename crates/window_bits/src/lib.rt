@@ -1,11 +1,11 @@
 // Which documents of a window of 64 a scorer tree matches: the words of a node are its record and then its children's parts.
 #![tactic(auto)]
 
-ghost use Rattle.std.specs.Prelude.{◌≡◌, ◌≤◌, ℕ, length};
+ghost use Rattle.std.specs.Prelude.{◌≡◌, ◌≤◌, true, ℕ, length};
 ghost use Rattle.meaning.specs.Limits.{nodeStateWords};
 ghost use Rattle.planes.specs.Counts.{count};
 ghost use Rattle.window_leaf.specs.Asks.{BitsPre, BitsPost};
-ghost use Rattle.window_bits.specs.Parts.{PassPre, PassPost, PartsPre, OptionalPost, CountPost, AnyPost, ExcludedPost, BooleanPre, BooleanPost, BooleanRead, ChildAt, ChildRead};
+ghost use Rattle.window_bits.specs.Parts.{PassPre, PassPost, PhrasesPost, PartsPre, OptionalPost, CountPost, AnyPost, ExcludedPost, BooleanPre, BooleanPost, BooleanRead, ChildAt, ChildRead};
 
 use index::wide;
 use leaf_scorer::NO_MORE_DOCS;
@@ -41,6 +41,14 @@ fn boolean_at(st: &[u32]) -> Boolean
     }
 }
 
+// What a pass over the required children leaves of the wanted documents, and whether it left a child to the other pass.
+#[derive(Clone, Copy)]
+pub struct Pass {
+    pub bits: u64,
+    pub next: u32,
+    pub skipped: bool,
+}
+
 // What a loop over parts reads of a child: its kind, and where its part ends.
 #[derive(Clone, Copy)]
 pub struct Child {
@@ -59,7 +67,7 @@ fn child_at(kids: &[u32], at: usize) -> Child
 }
 
 // The wanted documents of the window that the node matches.
-#[cycle(any_bits_boolean_bits_counted_bits_excluded_bits_node_bits_optional_bits_required_bits)]
+#[cycle(any_bits_boolean_bits_counted_bits_excluded_bits_node_bits_optional_bits_phrase_bits_required_bits)]
 pub fn node_bits(
     st: &mut [u32],
     postings: &[u32],
@@ -95,7 +103,7 @@ pub fn node_bits(
 }
 
 // The required children, cheapest first, but for phrases; then the optional, the prohibited, and last the phrases, whose positions cost most.
-#[cycle(any_bits_boolean_bits_counted_bits_excluded_bits_node_bits_optional_bits_required_bits)]
+#[cycle(any_bits_boolean_bits_counted_bits_excluded_bits_node_bits_optional_bits_phrase_bits_required_bits)]
 fn boolean_bits(
     kids: &mut [u32],
     postings: &[u32],
@@ -148,14 +156,14 @@ fn boolean_bits(
         o.bits,
         depth,
     );
-    let p = required_bits(
+    let p = phrase_bits(
         &mut kids[..end],
         postings,
         positions,
         ranges,
         a,
         b,
-        true,
+        r.skipped,
         base,
         w,
         depth,
@@ -166,8 +174,40 @@ fn boolean_bits(
     }
 }
 
+// The second pass over the required children, where the first skipped some.
+#[cycle(any_bits_boolean_bits_counted_bits_excluded_bits_node_bits_optional_bits_phrase_bits_required_bits)]
+fn phrase_bits(
+    kids: &mut [u32],
+    postings: &[u32],
+    positions: &[u32],
+    ranges: &[u32],
+    a: &mut [i32],
+    b: &mut [i32],
+    skipped: bool,
+    base: u32,
+    want: u64,
+    depth: u32,
+) -> Found
+    requires { PassPre postings.now positions.now ranges.now (length a.old) (length b.old) kids.old true base want depth }
+    ensures { PhrasesPost postings.now positions.now ranges.now (length a.old) (length b.old) kids.old skipped base want depth result.bits result.next kids.new }
+{
+    if skipped {
+        let p = required_bits(
+            kids, postings, positions, ranges, a, b, true, base, want, depth,
+        );
+        return Found {
+            bits: p.bits,
+            next: p.next,
+        };
+    }
+    Found {
+        bits: want,
+        next: base + 64,
+    }
+}
+
 // Each child of the pass is asked for what those before it left, and none once nothing is left.
-#[cycle(any_bits_boolean_bits_counted_bits_excluded_bits_node_bits_optional_bits_required_bits)]
+#[cycle(any_bits_boolean_bits_counted_bits_excluded_bits_node_bits_optional_bits_phrase_bits_required_bits)]
 fn required_bits(
     kids: &mut [u32],
     postings: &[u32],
@@ -179,16 +219,21 @@ fn required_bits(
     base: u32,
     want: u64,
     depth: u32,
-) -> Found
+) -> Pass
     requires { PassPre postings.now positions.now ranges.now (length a.old) (length b.old) kids.old last base want depth }
-    ensures { PassPost postings.now positions.now ranges.now (length a.old) (length b.old) kids.old last base want depth result.bits result.next kids.new }
+    ensures { PassPost postings.now positions.now ranges.now (length a.old) (length b.old) kids.old last base want depth result.bits result.next result.skipped kids.new }
 {
     let mut w = want;
     let mut next = base + 64;
+    let mut skipped = false;
     let mut at = 0;
     while at < kids.len() {
         if w == 0 {
-            return Found { bits: w, next };
+            return Pass {
+                bits: w,
+                next,
+                skipped: false,
+            };
         }
         let k = child_at(kids, at);
         let end = k.end;
@@ -209,14 +254,20 @@ fn required_bits(
                 );
             }
             next = later(next, kids[at + 22]);
+        } else {
+            skipped = true;
         }
         at = end;
     }
-    Found { bits: w, next }
+    Pass {
+        bits: w,
+        next,
+        skipped,
+    }
 }
 
 // Those of the wanted documents that at least `need` of the children match; where none is needed they are asked with the score.
-#[cycle(any_bits_boolean_bits_counted_bits_excluded_bits_node_bits_optional_bits_required_bits)]
+#[cycle(any_bits_boolean_bits_counted_bits_excluded_bits_node_bits_optional_bits_phrase_bits_required_bits)]
 fn optional_bits(
     kids: &mut [u32],
     postings: &[u32],
@@ -273,7 +324,7 @@ fn optional_bits(
 }
 
 // Those that some child matches.
-#[cycle(any_bits_boolean_bits_counted_bits_excluded_bits_node_bits_optional_bits_required_bits)]
+#[cycle(any_bits_boolean_bits_counted_bits_excluded_bits_node_bits_optional_bits_phrase_bits_required_bits)]
 fn any_bits(
     kids: &mut [u32],
     postings: &[u32],
@@ -315,14 +366,14 @@ fn any_bits(
                 ),
             );
         }
-        next = sooner(next, kids[at + 22]);
+        next = sooner(next, kids[at + 22]); // the first that any of them may match
         at = end;
     }
     Found { bits: w, next }
 }
 
 // How many children match each wanted document, as planes of bits; gives a document before which none matches after the window.
-#[cycle(any_bits_boolean_bits_counted_bits_excluded_bits_node_bits_optional_bits_required_bits)]
+#[cycle(any_bits_boolean_bits_counted_bits_excluded_bits_node_bits_optional_bits_phrase_bits_required_bits)]
 fn counted_bits(
     kids: &mut [u32],
     postings: &[u32],
@@ -370,7 +421,7 @@ fn counted_bits(
 }
 
 // The wanted documents that no prohibited child matches.
-#[cycle(any_bits_boolean_bits_counted_bits_excluded_bits_node_bits_optional_bits_required_bits)]
+#[cycle(any_bits_boolean_bits_counted_bits_excluded_bits_node_bits_optional_bits_phrase_bits_required_bits)]
 fn excluded_bits(
     kids: &mut [u32],
     postings: &[u32],

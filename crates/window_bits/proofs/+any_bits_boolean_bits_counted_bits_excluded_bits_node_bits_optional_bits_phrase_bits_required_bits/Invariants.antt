@@ -9,7 +9,7 @@ use Rattle.window_bits.specs.Parts.{askedBefore, SomeWindowed, PartsKnown}
 use Rattle.window_bits.proofs.Passes.{PassAt}
 use Rattle.window_bits.proofs.Optionals.{AnyAt, CountAt}
 use Rattle.window_bits.proofs.Prohibited.{ExcludedAt}
-use Rattle.window_bits.proofs.+any_bits_boolean_bits_counted_bits_excluded_bits_node_bits_optional_bits_required_bits.Given as goal
+use Rattle.window_bits.proofs.+any_bits_boolean_bits_counted_bits_excluded_bits_node_bits_optional_bits_phrase_bits_required_bits.Given as goal
 
 abbrev pub decreases-any_bits : goal.decreases-any_bits
 decreases-any_bits l = l.depth * 8 + 1
@@ -29,13 +29,16 @@ decreases-node_bits l = l.depth * 8
 abbrev pub decreases-optional_bits : goal.decreases-optional_bits
 decreases-optional_bits l = l.depth * 8 + 3
 
+abbrev pub decreases-phrase_bits : goal.decreases-phrase_bits
+decreases-phrase_bits l = l.depth * 8 + 2
+
 abbrev pub decreases-required_bits : goal.decreases-required_bits
 decreases-required_bits l = l.depth * 8 + 1
 
 -- for all that fit the words at entry
-abbrev pub PassKept : List ℕ → List ℕ → List ℕ → ℕ → ℕ → List ℕ → Bool → ℕ → ℕ → ℕ → List ℕ → ℕ → ℕ → ℕ → Type 0
-PassKept postings positions ranges a b kids₀ last base want depth kids w next at =
-    (n : ℕ) (ix : Index) (places : ℕ) (ss : Scorers) → Wanted n base want → PartsKnown (lent n postings positions ranges) ix places ss → SomeWindowed (askedBefore last) ix ranges ss depth kids₀ base (placesOf want) → PassAt ix ranges depth places last base want ss kids w next at
+abbrev pub PassKept : List ℕ → List ℕ → List ℕ → ℕ → ℕ → List ℕ → Bool → ℕ → ℕ → ℕ → List ℕ → ℕ → ℕ → ℕ → Bool → Type 0
+PassKept postings positions ranges a b kids₀ last base want depth kids w next at skip =
+    (n : ℕ) (ix : Index) (places : ℕ) (ss : Scorers) → Wanted n base want → PartsKnown (lent n postings positions ranges) ix places ss → SomeWindowed (askedBefore last) ix ranges ss depth kids₀ base (placesOf want) → PassAt ix ranges depth places last base want ss kids w next at skip
 
 abbrev pub AnyKept : List ℕ → List ℕ → List ℕ → ℕ → ℕ → List ℕ → ℕ → ℕ → ℕ → List ℕ → ℕ → ℕ → ℕ → Type 0
 AnyKept postings positions ranges a b kids₀ base want depth kids w next at =
@@ -68,7 +71,7 @@ abbrev pub decreases-excluded_bits-loop-at : goal.decreases-excluded_bits-loop-a
 decreases-excluded_bits-loop-at l = length l.initial.kids - l.at
 
 abbrev pub invariant-required_bits-loop-at : goal.invariant-required_bits-loop-at
-invariant-required_bits-loop-at l = PassKept l.postings l.positions l.ranges (length l.fn.a) (length l.fn.b) l.fn.kids l.last l.base l.want l.depth l.kids l.w l.next l.at
+invariant-required_bits-loop-at l = PassKept l.postings l.positions l.ranges (length l.fn.a) (length l.fn.b) l.fn.kids l.last l.base l.want l.depth l.kids l.w l.next l.at l.skipped
 
 abbrev pub decreases-required_bits-loop-at : goal.decreases-required_bits-loop-at
 decreases-required_bits-loop-at l = length l.initial.kids - l.at

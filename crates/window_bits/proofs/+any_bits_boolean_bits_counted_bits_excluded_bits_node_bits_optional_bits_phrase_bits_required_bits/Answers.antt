@@ -6,14 +6,14 @@ use Rattle.leaf_scorer.specs.Calls.{lent}
 use Rattle.window_words.specs.Windowed.{nowhere, placesOf}
 use Rattle.window_leaf.specs.Asks.{everywhere}
 use Rattle.window_bits.proofs.Children.{term-answers}
-use Rattle.window_bits.proofs.Passes.{same-test, other-test, pass-start, pass-stop, pass-end, pass-there, pass-node, pass-term, pass-took, pass-skip}
+use Rattle.window_bits.proofs.Passes.{same-test, other-test, pass-through, pass-start, pass-stop, pass-end, pass-there, pass-node, pass-term, pass-took, pass-skip}
 use Rattle.window_bits.proofs.Optionals.{walk_there, walk_node, walk_term, any-start, any-end, any-took, count-start, count-end, count-took, nothing-wanted, one-enough, too-many, counted-enough}
 use Rattle.window_bits.proofs.Prohibited.{excluded-start, excluded-stop, excluded-end, excluded-took}
 use Rattle.window_bits.proofs.Booleans.{Entry, three-length, three-first, words₀, first-pre, words₁, optional-pre, words₂, excluded-pre, words₃, second-pre, boolean-answers}
 use Rattle.window_bits.proofs.Nodes.{node-long, node-deep, node-put, node-pre, node-after}
 use Rattle.planes.proofs.Planes.{count-zeros}
-use Rattle.window_bits.proofs.+any_bits_boolean_bits_counted_bits_excluded_bits_node_bits_optional_bits_required_bits.Goals.{required_bits-then-k-eq-TERM, required_bits-else-k-eq-TERM, any_bits-then-k-eq-TERM, any_bits-else-k-eq-TERM, counted_bits-then-k-eq-TERM, counted_bits-else-k-eq-TERM}
-use Rattle.window_bits.proofs.+any_bits_boolean_bits_counted_bits_excluded_bits_node_bits_optional_bits_required_bits.Goals as goal
+use Rattle.window_bits.proofs.+any_bits_boolean_bits_counted_bits_excluded_bits_node_bits_optional_bits_phrase_bits_required_bits.Goals.{required_bits-then-k-eq-TERM, required_bits-else-k-eq-TERM, any_bits-then-k-eq-TERM, any_bits-else-k-eq-TERM, counted_bits-then-k-eq-TERM, counted_bits-else-k-eq-TERM}
+use Rattle.window_bits.proofs.+any_bits_boolean_bits_counted_bits_excluded_bits_node_bits_optional_bits_phrase_bits_required_bits.Goals as goal
 
 pub any_bits-loop-at-init : goal.any_bits-loop-at-init
 any_bits-loop-at-init t c =
@@ -109,14 +109,14 @@ pub boolean_bits-slice_bounds-optional_bits-end : goal.boolean_bits-slice_bounds
 boolean_bits-slice_bounds-optional_bits-end t c =
     let r = c.requires in
     let s : Entry c.args.postings.now c.args.positions.now c.args.ranges.now (length c.args.a.now) (length c.args.b.now) c.args.kids.now c.args.n.required c.args.n.optional c.args.n.need c.args.base c.args.want c.args.depth = record { n = r.0; ix = r.1; places = r.2; rs = r.3; os = r.4; ps = r.5; small = r.6.small; wanted = r.6.wanted; known = r.7; held = r.8 } in
-    let w = words₁ s c.required_bits-r.result.bits c.required_bits-r.result.next c.required_bits-r.new.kids c.required_bits-r.auto.kids c.required_bits-r.ensures (length c.required_bits-r.new.a) (length c.required_bits-r.new.b) c.required_bits-r.auto.a c.required_bits-r.auto.b in
+    let w = words₁ s c.required_bits-r.result.bits c.required_bits-r.result.next c.required_bits-r.result.skipped c.required_bits-r.new.kids c.required_bits-r.auto.kids c.required_bits-r.ensures (length c.required_bits-r.new.a) (length c.required_bits-r.new.b) c.required_bits-r.auto.a c.required_bits-r.auto.b in
     omega (arith, three-length w, w.first-end, w.second-end)
 
 pub boolean_bits-optional_bits-o-requires : goal.boolean_bits-optional_bits-o-requires
 boolean_bits-optional_bits-o-requires t c =
     let r = c.requires in
     let s : Entry c.args.postings.now c.args.positions.now c.args.ranges.now (length c.args.a.now) (length c.args.b.now) c.args.kids.now c.args.n.required c.args.n.optional c.args.n.need c.args.base c.args.want c.args.depth = record { n = r.0; ix = r.1; places = r.2; rs = r.3; os = r.4; ps = r.5; small = r.6.small; wanted = r.6.wanted; known = r.7; held = r.8 } in
-    (omega arith, optional-pre s c.required_bits-r.result.bits c.required_bits-r.result.next c.required_bits-r.new.kids c.required_bits-r.auto.kids c.required_bits-r.ensures (length c.required_bits-r.new.a) (length c.required_bits-r.new.b) c.required_bits-r.auto.a c.required_bits-r.auto.b r.6.room)
+    (omega arith, optional-pre s c.required_bits-r.result.bits c.required_bits-r.result.next c.required_bits-r.result.skipped c.required_bits-r.new.kids c.required_bits-r.auto.kids c.required_bits-r.ensures (length c.required_bits-r.new.a) (length c.required_bits-r.new.b) c.required_bits-r.auto.a c.required_bits-r.auto.b r.6.room)
 
 pub boolean_bits-offset_bounds-kids-optional_end : goal.boolean_bits-offset_bounds-kids-optional_end
 boolean_bits-offset_bounds-kids-optional_end t c =
@@ -129,47 +129,47 @@ pub boolean_bits-slice_bounds-excluded_bits-count : goal.boolean_bits-slice_boun
 boolean_bits-slice_bounds-excluded_bits-count t c =
     let r = c.requires in
     let s : Entry c.args.postings.now c.args.positions.now c.args.ranges.now (length c.args.a.now) (length c.args.b.now) c.args.kids.now c.args.n.required c.args.n.optional c.args.n.need c.args.base c.args.want c.args.depth = record { n = r.0; ix = r.1; places = r.2; rs = r.3; os = r.4; ps = r.5; small = r.6.small; wanted = r.6.wanted; known = r.7; held = r.8 } in
-    let w = words₂ s c.required_bits-r.result.bits c.required_bits-r.result.next c.required_bits-r.new.kids c.required_bits-r.auto.kids c.required_bits-r.ensures (length c.required_bits-r.new.a) (length c.required_bits-r.new.b) c.required_bits-r.auto.a c.required_bits-r.auto.b c.optional_bits-o.result.bits c.optional_bits-o.result.next c.optional_bits-o.new.kids c.optional_bits-o.auto.kids c.optional_bits-o.ensures (length c.optional_bits-o.new.a) (length c.optional_bits-o.new.b) c.optional_bits-o.auto.a c.optional_bits-o.auto.b _ refl in
+    let w = words₂ s c.required_bits-r.result.bits c.required_bits-r.result.next c.required_bits-r.result.skipped c.required_bits-r.new.kids c.required_bits-r.auto.kids c.required_bits-r.ensures (length c.required_bits-r.new.a) (length c.required_bits-r.new.b) c.required_bits-r.auto.a c.required_bits-r.auto.b c.optional_bits-o.result.bits c.optional_bits-o.result.next c.optional_bits-o.new.kids c.optional_bits-o.auto.kids c.optional_bits-o.ensures (length c.optional_bits-o.new.a) (length c.optional_bits-o.new.b) c.optional_bits-o.auto.a c.optional_bits-o.auto.b _ refl in
     omega (arith, three-length w, w.second-end)
 
 pub boolean_bits-slice_bounds-excluded_bits-start : goal.boolean_bits-slice_bounds-excluded_bits-start
 boolean_bits-slice_bounds-excluded_bits-start t c =
     let r = c.requires in
     let s : Entry c.args.postings.now c.args.positions.now c.args.ranges.now (length c.args.a.now) (length c.args.b.now) c.args.kids.now c.args.n.required c.args.n.optional c.args.n.need c.args.base c.args.want c.args.depth = record { n = r.0; ix = r.1; places = r.2; rs = r.3; os = r.4; ps = r.5; small = r.6.small; wanted = r.6.wanted; known = r.7; held = r.8 } in
-    let w = words₂ s c.required_bits-r.result.bits c.required_bits-r.result.next c.required_bits-r.new.kids c.required_bits-r.auto.kids c.required_bits-r.ensures (length c.required_bits-r.new.a) (length c.required_bits-r.new.b) c.required_bits-r.auto.a c.required_bits-r.auto.b c.optional_bits-o.result.bits c.optional_bits-o.result.next c.optional_bits-o.new.kids c.optional_bits-o.auto.kids c.optional_bits-o.ensures (length c.optional_bits-o.new.a) (length c.optional_bits-o.new.b) c.optional_bits-o.auto.a c.optional_bits-o.auto.b _ refl in
+    let w = words₂ s c.required_bits-r.result.bits c.required_bits-r.result.next c.required_bits-r.result.skipped c.required_bits-r.new.kids c.required_bits-r.auto.kids c.required_bits-r.ensures (length c.required_bits-r.new.a) (length c.required_bits-r.new.b) c.required_bits-r.auto.a c.required_bits-r.auto.b c.optional_bits-o.result.bits c.optional_bits-o.result.next c.optional_bits-o.new.kids c.optional_bits-o.auto.kids c.optional_bits-o.ensures (length c.optional_bits-o.new.a) (length c.optional_bits-o.new.b) c.optional_bits-o.auto.a c.optional_bits-o.auto.b _ refl in
     omega (arith, three-length w, w.second-end)
 
 pub boolean_bits-excluded_bits-w-requires : goal.boolean_bits-excluded_bits-w-requires
 boolean_bits-excluded_bits-w-requires t c =
     let r = c.requires in
     let s : Entry c.args.postings.now c.args.positions.now c.args.ranges.now (length c.args.a.now) (length c.args.b.now) c.args.kids.now c.args.n.required c.args.n.optional c.args.n.need c.args.base c.args.want c.args.depth = record { n = r.0; ix = r.1; places = r.2; rs = r.3; os = r.4; ps = r.5; small = r.6.small; wanted = r.6.wanted; known = r.7; held = r.8 } in
-    (omega arith, excluded-pre s c.required_bits-r.result.bits c.required_bits-r.result.next c.required_bits-r.new.kids c.required_bits-r.auto.kids c.required_bits-r.ensures (length c.required_bits-r.new.a) (length c.required_bits-r.new.b) c.required_bits-r.auto.a c.required_bits-r.auto.b c.optional_bits-o.result.bits c.optional_bits-o.result.next c.optional_bits-o.new.kids c.optional_bits-o.auto.kids c.optional_bits-o.ensures (length c.optional_bits-o.new.a) (length c.optional_bits-o.new.b) c.optional_bits-o.auto.a c.optional_bits-o.auto.b _ refl r.6.room)
+    (omega arith, excluded-pre s c.required_bits-r.result.bits c.required_bits-r.result.next c.required_bits-r.result.skipped c.required_bits-r.new.kids c.required_bits-r.auto.kids c.required_bits-r.ensures (length c.required_bits-r.new.a) (length c.required_bits-r.new.b) c.required_bits-r.auto.a c.required_bits-r.auto.b c.optional_bits-o.result.bits c.optional_bits-o.result.next c.optional_bits-o.new.kids c.optional_bits-o.auto.kids c.optional_bits-o.ensures (length c.optional_bits-o.new.a) (length c.optional_bits-o.new.b) c.optional_bits-o.auto.a c.optional_bits-o.auto.b _ refl r.6.room)
 
-pub boolean_bits-slice_bounds-required_bits-end-3 : goal.boolean_bits-slice_bounds-required_bits-end-3
-boolean_bits-slice_bounds-required_bits-end-3 t c =
+pub boolean_bits-slice_bounds-phrase_bits-end : goal.boolean_bits-slice_bounds-phrase_bits-end
+boolean_bits-slice_bounds-phrase_bits-end t c =
     let r = c.requires in
     let s : Entry c.args.postings.now c.args.positions.now c.args.ranges.now (length c.args.a.now) (length c.args.b.now) c.args.kids.now c.args.n.required c.args.n.optional c.args.n.need c.args.base c.args.want c.args.depth = record { n = r.0; ix = r.1; places = r.2; rs = r.3; os = r.4; ps = r.5; small = r.6.small; wanted = r.6.wanted; known = r.7; held = r.8 } in
-    let w = words₃ s c.required_bits-r.result.bits c.required_bits-r.result.next c.required_bits-r.new.kids c.required_bits-r.auto.kids c.required_bits-r.ensures (length c.required_bits-r.new.a) (length c.required_bits-r.new.b) c.required_bits-r.auto.a c.required_bits-r.auto.b c.optional_bits-o.result.bits c.optional_bits-o.result.next c.optional_bits-o.new.kids c.optional_bits-o.auto.kids c.optional_bits-o.ensures (length c.optional_bits-o.new.a) (length c.optional_bits-o.new.b) c.optional_bits-o.auto.a c.optional_bits-o.auto.b _ refl c.excluded_bits-w.result c.excluded_bits-w.new.kids c.excluded_bits-w.ensures (length c.excluded_bits-w.new.a) (length c.excluded_bits-w.new.b) c.excluded_bits-w.auto.a c.excluded_bits-w.auto.b _ refl in
+    let w = words₃ s c.required_bits-r.result.bits c.required_bits-r.result.next c.required_bits-r.result.skipped c.required_bits-r.new.kids c.required_bits-r.auto.kids c.required_bits-r.ensures (length c.required_bits-r.new.a) (length c.required_bits-r.new.b) c.required_bits-r.auto.a c.required_bits-r.auto.b c.optional_bits-o.result.bits c.optional_bits-o.result.next c.optional_bits-o.new.kids c.optional_bits-o.auto.kids c.optional_bits-o.ensures (length c.optional_bits-o.new.a) (length c.optional_bits-o.new.b) c.optional_bits-o.auto.a c.optional_bits-o.auto.b _ refl c.excluded_bits-w.result c.excluded_bits-w.new.kids c.excluded_bits-w.ensures (length c.excluded_bits-w.new.a) (length c.excluded_bits-w.new.b) c.excluded_bits-w.auto.a c.excluded_bits-w.auto.b _ refl in
     omega (arith, three-length w, w.first-end)
 
-pub boolean_bits-slice_bounds-required_bits-end-4 : goal.boolean_bits-slice_bounds-required_bits-end-4
-boolean_bits-slice_bounds-required_bits-end-4 t c =
+pub boolean_bits-slice_bounds-phrase_bits-end-2 : goal.boolean_bits-slice_bounds-phrase_bits-end-2
+boolean_bits-slice_bounds-phrase_bits-end-2 t c =
     let r = c.requires in
     let s : Entry c.args.postings.now c.args.positions.now c.args.ranges.now (length c.args.a.now) (length c.args.b.now) c.args.kids.now c.args.n.required c.args.n.optional c.args.n.need c.args.base c.args.want c.args.depth = record { n = r.0; ix = r.1; places = r.2; rs = r.3; os = r.4; ps = r.5; small = r.6.small; wanted = r.6.wanted; known = r.7; held = r.8 } in
-    let w = words₃ s c.required_bits-r.result.bits c.required_bits-r.result.next c.required_bits-r.new.kids c.required_bits-r.auto.kids c.required_bits-r.ensures (length c.required_bits-r.new.a) (length c.required_bits-r.new.b) c.required_bits-r.auto.a c.required_bits-r.auto.b c.optional_bits-o.result.bits c.optional_bits-o.result.next c.optional_bits-o.new.kids c.optional_bits-o.auto.kids c.optional_bits-o.ensures (length c.optional_bits-o.new.a) (length c.optional_bits-o.new.b) c.optional_bits-o.auto.a c.optional_bits-o.auto.b _ refl c.excluded_bits-w.result c.excluded_bits-w.new.kids c.excluded_bits-w.ensures (length c.excluded_bits-w.new.a) (length c.excluded_bits-w.new.b) c.excluded_bits-w.auto.a c.excluded_bits-w.auto.b _ refl in
+    let w = words₃ s c.required_bits-r.result.bits c.required_bits-r.result.next c.required_bits-r.result.skipped c.required_bits-r.new.kids c.required_bits-r.auto.kids c.required_bits-r.ensures (length c.required_bits-r.new.a) (length c.required_bits-r.new.b) c.required_bits-r.auto.a c.required_bits-r.auto.b c.optional_bits-o.result.bits c.optional_bits-o.result.next c.optional_bits-o.new.kids c.optional_bits-o.auto.kids c.optional_bits-o.ensures (length c.optional_bits-o.new.a) (length c.optional_bits-o.new.b) c.optional_bits-o.auto.a c.optional_bits-o.auto.b _ refl c.excluded_bits-w.result c.excluded_bits-w.new.kids c.excluded_bits-w.ensures (length c.excluded_bits-w.new.a) (length c.excluded_bits-w.new.b) c.excluded_bits-w.auto.a c.excluded_bits-w.auto.b _ refl in
     w.first-end ∙ ap length (sym (three-first w))
 
-pub boolean_bits-required_bits-p-requires : goal.boolean_bits-required_bits-p-requires
-boolean_bits-required_bits-p-requires t c =
+pub boolean_bits-phrase_bits-p-requires : goal.boolean_bits-phrase_bits-p-requires
+boolean_bits-phrase_bits-p-requires t c =
     let r = c.requires in
     let s : Entry c.args.postings.now c.args.positions.now c.args.ranges.now (length c.args.a.now) (length c.args.b.now) c.args.kids.now c.args.n.required c.args.n.optional c.args.n.need c.args.base c.args.want c.args.depth = record { n = r.0; ix = r.1; places = r.2; rs = r.3; os = r.4; ps = r.5; small = r.6.small; wanted = r.6.wanted; known = r.7; held = r.8 } in
-    (omega arith, second-pre s c.required_bits-r.result.bits c.required_bits-r.result.next c.required_bits-r.new.kids c.required_bits-r.auto.kids c.required_bits-r.ensures (length c.required_bits-r.new.a) (length c.required_bits-r.new.b) c.required_bits-r.auto.a c.required_bits-r.auto.b c.optional_bits-o.result.bits c.optional_bits-o.result.next c.optional_bits-o.new.kids c.optional_bits-o.auto.kids c.optional_bits-o.ensures (length c.optional_bits-o.new.a) (length c.optional_bits-o.new.b) c.optional_bits-o.auto.a c.optional_bits-o.auto.b _ refl c.excluded_bits-w.result c.excluded_bits-w.new.kids c.excluded_bits-w.ensures (length c.excluded_bits-w.new.a) (length c.excluded_bits-w.new.b) c.excluded_bits-w.auto.a c.excluded_bits-w.auto.b _ refl r.6.room)
+    (omega arith, second-pre s c.required_bits-r.result.bits c.required_bits-r.result.next c.required_bits-r.result.skipped c.required_bits-r.new.kids c.required_bits-r.auto.kids c.required_bits-r.ensures (length c.required_bits-r.new.a) (length c.required_bits-r.new.b) c.required_bits-r.auto.a c.required_bits-r.auto.b c.optional_bits-o.result.bits c.optional_bits-o.result.next c.optional_bits-o.new.kids c.optional_bits-o.auto.kids c.optional_bits-o.ensures (length c.optional_bits-o.new.a) (length c.optional_bits-o.new.b) c.optional_bits-o.auto.a c.optional_bits-o.auto.b _ refl c.excluded_bits-w.result c.excluded_bits-w.new.kids c.excluded_bits-w.ensures (length c.excluded_bits-w.new.a) (length c.excluded_bits-w.new.b) c.excluded_bits-w.auto.a c.excluded_bits-w.auto.b _ refl r.6.room)
 
 pub boolean_bits-returns : goal.boolean_bits-returns
 boolean_bits-returns t c =
     λ n ix places rs os ps u v p.
     let s : Entry c.args.postings.now c.args.positions.now c.args.ranges.now (length c.args.a.now) (length c.args.b.now) c.args.kids.now c.args.n.required c.args.n.optional c.args.n.need c.args.base c.args.want c.args.depth = record { n = n; ix = ix; places = places; rs = rs; os = os; ps = ps; small = c.requires.6.small; wanted = u; known = v; held = p } in
-    boolean-answers s c.required_bits-r.result.bits c.required_bits-r.result.next c.required_bits-r.new.kids c.required_bits-r.auto.kids c.required_bits-r.ensures (length c.required_bits-r.new.a) (length c.required_bits-r.new.b) c.required_bits-r.auto.a c.required_bits-r.auto.b c.optional_bits-o.result.bits c.optional_bits-o.result.next c.optional_bits-o.new.kids c.optional_bits-o.auto.kids c.optional_bits-o.ensures (length c.optional_bits-o.new.a) (length c.optional_bits-o.new.b) c.optional_bits-o.auto.a c.optional_bits-o.auto.b _ refl c.excluded_bits-w.result c.excluded_bits-w.new.kids c.excluded_bits-w.ensures (length c.excluded_bits-w.new.a) (length c.excluded_bits-w.new.b) c.excluded_bits-w.auto.a c.excluded_bits-w.auto.b _ refl c.required_bits-p.result.bits c.required_bits-p.result.next c.required_bits-p.new.kids c.required_bits-p.auto.kids c.required_bits-p.ensures c.later.result c.later-2.result c.later.ensures c.later-2.ensures
+    boolean-answers s c.required_bits-r.result.bits c.required_bits-r.result.next c.required_bits-r.result.skipped c.required_bits-r.new.kids c.required_bits-r.auto.kids c.required_bits-r.ensures (length c.required_bits-r.new.a) (length c.required_bits-r.new.b) c.required_bits-r.auto.a c.required_bits-r.auto.b c.optional_bits-o.result.bits c.optional_bits-o.result.next c.optional_bits-o.new.kids c.optional_bits-o.auto.kids c.optional_bits-o.ensures (length c.optional_bits-o.new.a) (length c.optional_bits-o.new.b) c.optional_bits-o.auto.a c.optional_bits-o.auto.b _ refl c.excluded_bits-w.result c.excluded_bits-w.new.kids c.excluded_bits-w.ensures (length c.excluded_bits-w.new.a) (length c.excluded_bits-w.new.b) c.excluded_bits-w.auto.a c.excluded_bits-w.auto.b _ refl c.phrase_bits-p.result.bits c.phrase_bits-p.result.next c.phrase_bits-p.new.kids c.phrase_bits-p.auto.kids c.phrase_bits-p.ensures c.later.result c.later-2.result c.later.ensures c.later-2.ensures
 
 pub counted_bits-loop-at-init : goal.counted_bits-loop-at-init
 counted_bits-loop-at-init t c =
@@ -364,25 +364,36 @@ pub optional_bits-returns : goal.optional_bits-returns
 optional_bits-returns t c =
     λ n ix places ss u v p. counted-enough ix c.args.ranges.now c.args.depth c.args.base c.args.want ss c.counted_bits-next.new.kids c.args.need (omega (arith, c.if-need-eq0.false)) c.counted_bits-next.new.planes c.above.result c.counted_bits-next.result (c.counted_bits-next.ensures.count_post n ix places ss u v p) c.above.ensures
 
+pub phrase_bits-required_bits-p-requires : goal.phrase_bits-required_bits-p-requires
+phrase_bits-required_bits-p-requires t c = (omega arith, c.requires)
+
+pub phrase_bits-returns-then-skipped : goal.phrase_bits-returns-then-skipped
+phrase_bits-returns-then-skipped t c =
+    λ n ix places ss u v p h. let r = c.required_bits-p.ensures n ix places ss u v p in (r.0, r.1)
+
+pub phrase_bits-returns : goal.phrase_bits-returns
+phrase_bits-returns t c =
+    λ n ix places ss u v p h. pass-through ix c.args.ranges.now c.args.depth c.args.base c.args.want ss c.args.kids.now c.requires.4.small (h c.if-skipped.false) p
+
 pub required_bits-loop-at-init : goal.required_bits-loop-at-init
 required_bits-loop-at-init t c =
     λ n ix places ss u v p. pass-start ix c.args.ranges.now c.args.depth places c.args.last c.args.base c.args.want ss c.args.kids.now c.requires.4.small v.sounds v.few p
 
 pub required_bits-returns-then-w-eq0 : goal.required_bits-returns-then-w-eq0
 required_bits-returns-then-w-eq0 t c =
-    λ n ix places ss u v p. pass-stop ix c.args.ranges.now c.args.depth places c.args.last c.args.base c.args.want ss c.loop-at.kids c.loop-at.w c.loop-at.next c.loop-at.at (c.loop-at.invariant n ix places ss u v p) c.if-w-eq0.true
+    λ n ix places ss u v p. let r = pass-stop ix c.args.ranges.now c.args.depth places c.args.last c.args.base c.args.want ss c.loop-at.kids c.loop-at.w c.loop-at.next c.loop-at.at c.loop-at.skipped (c.loop-at.invariant n ix places ss u v p) c.if-w-eq0.true in (r.0, r.1, λ z. r.2)
 
 pub required_bits-child_at-k-requires : goal.required_bits-child_at-k-requires
 required_bits-child_at-k-requires t c =
     let r = c.requires in
     let q = c.loop-at.invariant r.0 r.1 r.2 r.3 r.4.wanted r.5 r.6 in
-    pass-there r.1 c.args.ranges.now c.args.depth r.2 c.args.last c.args.base c.args.want r.3 c.loop-at.kids c.loop-at.w c.loop-at.next c.loop-at.at q c.loop-at-test.true
+    pass-there r.1 c.args.ranges.now c.args.depth r.2 c.args.last c.args.base c.args.want r.3 c.loop-at.kids c.loop-at.w c.loop-at.next c.loop-at.at c.loop-at.skipped q c.loop-at-test.true
 
 pub required_bits-slice_bounds-term_bits-end : goal.required_bits-slice_bounds-term_bits-end
 required_bits-slice_bounds-term_bits-end t c =
     let r = c.requires in
     let q = c.loop-at.invariant r.0 r.1 r.2 r.3 r.4.wanted r.5 r.6 in
-    let h = pass-there r.1 c.args.ranges.now c.args.depth r.2 c.args.last c.args.base c.args.want r.3 c.loop-at.kids c.loop-at.w c.loop-at.next c.loop-at.at q c.loop-at-test.true in
+    let h = pass-there r.1 c.args.ranges.now c.args.depth r.2 c.args.last c.args.base c.args.want r.3 c.loop-at.kids c.loop-at.w c.loop-at.next c.loop-at.at c.loop-at.skipped q c.loop-at-test.true in
     omega (arith, h.long, h.fits, c.child_at-k.ensures.end)
 
 pub required_bits-term_bits-requires : goal.required_bits-term_bits-requires
@@ -390,13 +401,13 @@ required_bits-term_bits-requires t c =
     let r = c.requires in
     let q = c.loop-at.invariant r.0 r.1 r.2 r.3 r.4.wanted r.5 r.6 in
     let h : eqb c.child_at-k.result.kind 2 ≡ c.args.last = same-test (eqb c.child_at-k.result.kind 2) c.args.last c.if-k-last.true in
-    pass-term r.1 c.args.ranges.now c.args.depth r.2 c.args.last c.args.base c.args.want r.3 c.loop-at.kids c.loop-at.w c.loop-at.next c.loop-at.at c.child_at-k.result.end c.child_at-k.ensures.end c.args.postings.now c.args.positions.now r.0 r.4 r.5.lends q c.loop-at-test.true c.child_at-k.result.kind c.child_at-k.ensures.kind h c.if-k-eq-TERM.true
+    pass-term r.1 c.args.ranges.now c.args.depth r.2 c.args.last c.args.base c.args.want r.3 c.loop-at.kids c.loop-at.w c.loop-at.next c.loop-at.at c.loop-at.skipped c.child_at-k.result.end c.child_at-k.ensures.end c.args.postings.now c.args.positions.now r.0 r.4 r.5.lends q c.loop-at-test.true c.child_at-k.result.kind c.child_at-k.ensures.kind h c.if-k-eq-TERM.true
 
 pub required_bits-slice_bounds-node_bits-end : goal.required_bits-slice_bounds-node_bits-end
 required_bits-slice_bounds-node_bits-end t c =
     let r = c.requires in
     let q = c.loop-at.invariant r.0 r.1 r.2 r.3 r.4.wanted r.5 r.6 in
-    let h = pass-there r.1 c.args.ranges.now c.args.depth r.2 c.args.last c.args.base c.args.want r.3 c.loop-at.kids c.loop-at.w c.loop-at.next c.loop-at.at q c.loop-at-test.true in
+    let h = pass-there r.1 c.args.ranges.now c.args.depth r.2 c.args.last c.args.base c.args.want r.3 c.loop-at.kids c.loop-at.w c.loop-at.next c.loop-at.at c.loop-at.skipped q c.loop-at-test.true in
     omega (arith, h.long, h.fits, c.child_at-k.ensures.end)
 
 pub required_bits-node_bits-w-requires : goal.required_bits-node_bits-w-requires
@@ -404,20 +415,20 @@ required_bits-node_bits-w-requires t c =
     let r = c.requires in
     let q = c.loop-at.invariant r.0 r.1 r.2 r.3 r.4.wanted r.5 r.6 in
     let h : eqb c.child_at-k.result.kind 2 ≡ c.args.last = same-test (eqb c.child_at-k.result.kind 2) c.args.last c.if-k-last.true in
-    (omega arith, pass-node r.1 c.args.ranges.now c.args.depth r.2 c.args.last c.args.base c.args.want r.3 c.loop-at.kids c.loop-at.w c.loop-at.next c.loop-at.at c.child_at-k.result.end c.child_at-k.ensures.end c.args.postings.now c.args.positions.now r.0 r.4 r.5.lends q c.loop-at-test.true c.child_at-k.result.kind c.child_at-k.ensures.kind h (length c.loop-at.a) (length c.loop-at.b) c.loop-at.auto.a c.loop-at.auto.b)
+    (omega arith, pass-node r.1 c.args.ranges.now c.args.depth r.2 c.args.last c.args.base c.args.want r.3 c.loop-at.kids c.loop-at.w c.loop-at.next c.loop-at.at c.loop-at.skipped c.child_at-k.result.end c.child_at-k.ensures.end c.args.postings.now c.args.positions.now r.0 r.4 r.5.lends q c.loop-at-test.true c.child_at-k.result.kind c.child_at-k.ensures.kind h (length c.loop-at.a) (length c.loop-at.b) c.loop-at.auto.a c.loop-at.auto.b)
 
 pub required_bits-bounds-kids-at : goal.required_bits-bounds-kids-at
 required_bits-bounds-kids-at t c =
     let r = c.requires in
     let q = c.loop-at.invariant r.0 r.1 r.2 r.3 r.4.wanted r.5 r.6 in
-    let h = pass-there r.1 c.args.ranges.now c.args.depth r.2 c.args.last c.args.base c.args.want r.3 c.loop-at.kids c.loop-at.w c.loop-at.next c.loop-at.at q c.loop-at-test.true in
+    let h = pass-there r.1 c.args.ranges.now c.args.depth r.2 c.args.last c.args.base c.args.want r.3 c.loop-at.kids c.loop-at.w c.loop-at.next c.loop-at.at c.loop-at.skipped q c.loop-at-test.true in
     omega (arith, h.long, h.fits, c.if-k-eq-TERM.auto.kids, c.loop-at.auto.kids)
 
 pub required_bits-loop-at-smaller-after-k-eq-TERM : goal.required_bits-loop-at-smaller-after-k-eq-TERM
 required_bits-loop-at-smaller-after-k-eq-TERM t c =
     let r = c.requires in
     let q = c.loop-at.invariant r.0 r.1 r.2 r.3 r.4.wanted r.5 r.6 in
-    let h = pass-there r.1 c.args.ranges.now c.args.depth r.2 c.args.last c.args.base c.args.want r.3 c.loop-at.kids c.loop-at.w c.loop-at.next c.loop-at.at q c.loop-at-test.true in
+    let h = pass-there r.1 c.args.ranges.now c.args.depth r.2 c.args.last c.args.base c.args.want r.3 c.loop-at.kids c.loop-at.w c.loop-at.next c.loop-at.at c.loop-at.skipped q c.loop-at-test.true in
     omega (arith, h.long, h.fits, c.child_at-k.ensures.end, c.loop-at-test.true, c.loop-at.auto.kids)
 
 pub required_bits-loop-at-preserved-after-k-eq-TERM : goal.required_bits-loop-at-preserved-after-k-eq-TERM
@@ -426,23 +437,23 @@ required_bits-loop-at-preserved-after-k-eq-TERM t c =
     let q = c.loop-at.invariant n ix places ss u v p in
     let h : eqb (get_or c.loop-at.kids c.loop-at.at 0) 2 ≡ c.args.last = ap (λ (x : ℕ). eqb x 2) (sym c.child_at-k.ensures.kind) ∙ same-test (eqb c.child_at-k.result.kind 2) c.args.last c.if-k-last.true in
     elim c.if-k-eq-TERM.branch [
-      | required_bits-then-k-eq-TERM w ↦ pass-took ix c.args.ranges.now c.args.depth places c.args.last c.args.base c.args.want ss c.loop-at.kids c.loop-at.w c.loop-at.next c.loop-at.at c.child_at-k.result.end c.child_at-k.ensures.end c.args.postings.now c.args.positions.now n v.lends w.both-w.result w.term_bits.new.st c.later-next.result w.term_bits.auto.st c.if-k-eq-TERM.kids w.kids-is c.later-next.ensures (term-answers n c.args.postings.now c.args.positions.now c.args.ranges.now (take (c.child_at-k.result.end - c.loop-at.at) (drop c.loop-at.at c.loop-at.kids)) c.args.base c.args.depth c.loop-at.w w.term_bits.result w.both-w.result w.term_bits.new.st w.both-w.ensures w.term_bits.ensures) q c.loop-at-test.true h c.if-k-eq-TERM.w w.w-is
-      | required_bits-else-k-eq-TERM w ↦ pass-took ix c.args.ranges.now c.args.depth places c.args.last c.args.base c.args.want ss c.loop-at.kids c.loop-at.w c.loop-at.next c.loop-at.at c.child_at-k.result.end c.child_at-k.ensures.end c.args.postings.now c.args.positions.now n v.lends w.node_bits-w.result w.node_bits-w.new.st c.later-next.result w.node_bits-w.auto.st c.if-k-eq-TERM.kids w.kids-is c.later-next.ensures (w.node_bits-w.ensures n (λ p' b t. u p' b (q.left.within p' b t))) q c.loop-at-test.true h c.if-k-eq-TERM.w w.w-is
+      | required_bits-then-k-eq-TERM w ↦ pass-took ix c.args.ranges.now c.args.depth places c.args.last c.args.base c.args.want ss c.loop-at.kids c.loop-at.w c.loop-at.next c.loop-at.at c.loop-at.skipped c.child_at-k.result.end c.child_at-k.ensures.end c.args.postings.now c.args.positions.now n v.lends w.both-w.result w.term_bits.new.st c.later-next.result w.term_bits.auto.st c.if-k-eq-TERM.kids w.kids-is c.later-next.ensures (term-answers n c.args.postings.now c.args.positions.now c.args.ranges.now (take (c.child_at-k.result.end - c.loop-at.at) (drop c.loop-at.at c.loop-at.kids)) c.args.base c.args.depth c.loop-at.w w.term_bits.result w.both-w.result w.term_bits.new.st w.both-w.ensures w.term_bits.ensures) q c.loop-at-test.true h c.if-k-eq-TERM.w w.w-is
+      | required_bits-else-k-eq-TERM w ↦ pass-took ix c.args.ranges.now c.args.depth places c.args.last c.args.base c.args.want ss c.loop-at.kids c.loop-at.w c.loop-at.next c.loop-at.at c.loop-at.skipped c.child_at-k.result.end c.child_at-k.ensures.end c.args.postings.now c.args.positions.now n v.lends w.node_bits-w.result w.node_bits-w.new.st c.later-next.result w.node_bits-w.auto.st c.if-k-eq-TERM.kids w.kids-is c.later-next.ensures (w.node_bits-w.ensures n (λ p' b t. u p' b (q.left.within p' b t))) q c.loop-at-test.true h c.if-k-eq-TERM.w w.w-is
     ]
 
 pub required_bits-loop-at-smaller : goal.required_bits-loop-at-smaller
 required_bits-loop-at-smaller t c =
     let r = c.requires in
     let q = c.loop-at.invariant r.0 r.1 r.2 r.3 r.4.wanted r.5 r.6 in
-    let h = pass-there r.1 c.args.ranges.now c.args.depth r.2 c.args.last c.args.base c.args.want r.3 c.loop-at.kids c.loop-at.w c.loop-at.next c.loop-at.at q c.loop-at-test.true in
+    let h = pass-there r.1 c.args.ranges.now c.args.depth r.2 c.args.last c.args.base c.args.want r.3 c.loop-at.kids c.loop-at.w c.loop-at.next c.loop-at.at c.loop-at.skipped q c.loop-at-test.true in
     omega (arith, h.long, h.fits, c.child_at-k.ensures.end, c.loop-at-test.true, c.loop-at.auto.kids)
 
 pub required_bits-loop-at-preserved : goal.required_bits-loop-at-preserved
 required_bits-loop-at-preserved t c =
     λ n ix places ss u v p.
     let h : eqb (get_or c.loop-at.kids c.loop-at.at 0) 2 ≡ not c.args.last = ap (λ (x : ℕ). eqb x 2) (sym c.child_at-k.ensures.kind) ∙ other-test (eqb c.child_at-k.result.kind 2) c.args.last c.if-k-last.false in
-    pass-skip ix c.args.ranges.now c.args.depth places c.args.last c.args.base c.args.want ss c.loop-at.kids c.loop-at.w c.loop-at.next c.loop-at.at c.child_at-k.result.end c.child_at-k.ensures.end (c.loop-at.invariant n ix places ss u v p) c.loop-at-test.true h
+    pass-skip ix c.args.ranges.now c.args.depth places c.args.last c.args.base c.args.want ss c.loop-at.kids c.loop-at.w c.loop-at.next c.loop-at.at c.loop-at.skipped c.child_at-k.result.end c.child_at-k.ensures.end (c.loop-at.invariant n ix places ss u v p) c.loop-at-test.true h
 
 pub required_bits-returns : goal.required_bits-returns
 required_bits-returns t c =
-    λ n ix places ss u v p. pass-end ix c.args.ranges.now c.args.depth places c.args.last c.args.base c.args.want ss c.loop-at.kids c.loop-at.w c.loop-at.next c.loop-at.at (c.loop-at.invariant n ix places ss u v p) c.loop-at-test.false
+    λ n ix places ss u v p. pass-end ix c.args.ranges.now c.args.depth places c.args.last c.args.base c.args.want ss c.loop-at.kids c.loop-at.w c.loop-at.next c.loop-at.at c.loop-at.skipped (c.loop-at.invariant n ix places ss u v p) c.loop-at-test.false
