@@ -1,21 +1,19 @@
 -- A Boolean's children, call by call: the required alone, the group alone, or the group and then both. Assumes nothing.
-use Rattle.std.proofs.Common.{◌≡◌, refl, sym, ap, subst, ◌∙◌, Bool, true, false, cond, ◌&&◌, List, ◌++◌, ℕ, ◌+◌, ◌-◌, ◌*◌, ◌^◌, ◌≤◌, ◌<◌, ltb, length, get_or, take, drop, append_assoc, length-append, take_at, drop_at, le_refl, arith}
+use Rattle.std.proofs.Common.{◌≡◌, refl, sym, ap, subst, ◌∙◌, Bool, true, false, cond, ◌&&◌, List, ◌++◌, ℕ, ◌+◌, ◌-◌, ◌≤◌, ltb, length, get_or, take, drop, length-append, take_at, drop_at, le_refl, arith}
 use Rattle.std.specs.Prelude.{Float}
 use Rattle.std.specs.Float.{nan}
-use Rattle.meaning.specs.Lent.{Index}
-use Rattle.meaning.specs.Ieee754.{zeroFloat, narrow, sumFrom, narrowedSum}
+use Rattle.meaning.specs.Ieee754.{narrow, narrowedSum}
 use Rattle.bits.specs.Bit.{bit}
-use Rattle.weight.specs.ScorerTree.{Scorers, end, Joining, scoring, requiredScores, optionalScores, joinedScore}
-use Rattle.weight.specs.State.{sizesOf}
+use Rattle.weight.specs.ScorerTree.{Scorers, end, scoring, requiredScores, optionalScores, joinedScore}
 use Rattle.weight.specs.Sound.{nodesOf}
 use Rattle.score.proofs.Alone.{none_left, joined-alone, joined-only}
 use Rattle.score.proofs.Join.{group-is}
 use Rattle.score.proofs.Small.{first_small, oks-weighted}
-use Rattle.window_words.specs.Windowed.{Places, nowhere, placesOf, optionalBound, AllWindowed}
+use Rattle.window_words.specs.Windowed.{nowhere, placesOf, optionalBound, AllWindowed}
 use Rattle.window_words.proofs.Laws.{all-length, all-forget, all-ok}
 use Rattle.window_score.specs.declared.Joined.{Joined}
 use Rattle.window_score.specs.Sums.{Sums, AddedAll, NarrowedPre, NarrowedPost}
-use Rattle.window_score.specs.Asked.{RequiredAsked, RequiredPre, RequiredPost, OptionalAsked, OptionalPre, OptionalPost, BooleanLeft, BooleanPre, BooleanPost, GroupAsked, GroupPre, GroupPost}
+use Rattle.window_score.specs.Asked.{RequiredAsked, RequiredPre, RequiredPost, OptionalAsked, OptionalPre, OptionalPost, BooleanPre, BooleanPost, GroupAsked, GroupPre, GroupPost}
 use Rattle.window_score.proofs.Loops.{put, sums-more}
 use Rattle.window_score.proofs.Required.{lent-at}
 use Rattle.window_score.proofs.Splits.{Zeros, zero-sums}

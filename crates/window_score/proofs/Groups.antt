@@ -1,18 +1,16 @@
 -- A Boolean with required children and a group whose sums are given, call by call: the required scores all in one, or before and after the place where the group joins. Assumes nothing.
-use Rattle.std.proofs.Common.{◌≡◌, refl, sym, ap, subst, ◌∙◌, Bool, true, false, cond, List, [], ◌++◌, ℕ, ◌+◌, ◌-◌, ◌*◌, ◌^◌, ◌≤◌, ◌<◌, length, get_or, take, drop, append-nil, length-append, length-take, take_at, drop_at, le_refl, arith}
+use Rattle.std.proofs.Common.{◌≡◌, refl, sym, ap, subst, ◌∙◌, true, List, [], ◌++◌, ℕ, ◌+◌, ◌-◌, ◌*◌, ◌^◌, ◌≤◌, ◌<◌, length, get_or, take, drop, append-nil, length-append, length-take, take_at, drop_at, arith}
 use Rattle.std.proofs.Math.Seq.{take-length, drop-length}
 use Rattle.std.specs.Prelude.{Float}
 use Rattle.std.specs.Float.{nan, binary64}
 use Rattle.std.specs.Float.Ieee.{add}
-use Rattle.meaning.specs.Lent.{Index}
 use Rattle.meaning.specs.Ieee754.{zeroFloat, narrow, sumFrom, narrowedSum}
 use Rattle.ieee754.specs.Nonneg.{AtMost}
 use Rattle.bits.specs.Bit.{bit}
 use Rattle.weight.specs.ScorerTree.{Scorers, Joining, oneMore, afterwards, scoring, requiredScores, optionalScores, joinedScore}
 use Rattle.weight.specs.State.{sizesOfFirst}
 use Rattle.weight.specs.Sound.{nodesOf}
-use Rattle.leaf_score.proofs.Bounds.{scores-narrow}
-use Rattle.score.specs.Asked.{Scorables, JoinsAt, SumIs}
+use Rattle.score.specs.Asked.{JoinsAt, SumIs}
 use Rattle.score.proofs.Join.{first_of, rest_of, first-sounds, first-tables, first-nodes, first_matches, group-is, joined-more, joined-after}
 use Rattle.window_words.specs.Windowed.{nowhere, placesOf, AllWindowed}
 use Rattle.window_score.specs.declared.Joined.{Joined}

@@ -24,7 +24,7 @@ use Rattle.window_words.specs.Windowed.{Places, nowhere, placesOf, requiredPlace
 use Rattle.window_words.proofs.Laws.{kindOf, windowed-long, windowed-kind, windowed-forget, all-less, all-forget}
 use Rattle.window_score.specs.declared.Joined.{Joined}
 use Rattle.window_score.specs.Words.{JoinedIs}
-use Rattle.window_score.specs.Sums.{Sums, ConstantPre, ConstantPost}
+use Rattle.window_score.specs.Sums.{ConstantPre, ConstantPost}
 use Rattle.window_score.specs.Asked.{NodeAsked, ScoresPre, ScoresPost, BooleanAsked, BooleanLeft, BooleanPre, BooleanPost}
 use Rattle.window_score.proofs.Loops.{put, sums-more}
 use Rattle.window_score.proofs.Groups.{added-as}

@@ -1,11 +1,10 @@
 -- The loop over the optional children, in the words of its contract: each is asked where none is needed, else its stored bits serve, and its score is added where it matches. Assumes nothing.
-use Rattle.std.proofs.Common.{◌≡◌, refl, sym, ap, subst, ◌∙◌, Bool, true, false, cond, ◌&&◌, List, ◌++◌, ℕ, ◌+◌, ◌-◌, ◌*◌, ◌≤◌, ◌<◌, ltb, length, get_or, take, drop, length-take, length-drop, take_at, drop_at, le_refl, arith}
+use Rattle.std.proofs.Common.{◌≡◌, refl, sym, ap, subst, ◌∙◌, Bool, true, false, cond, ◌&&◌, List, ◌++◌, ℕ, ◌+◌, ◌-◌, ◌≤◌, ◌<◌, ltb, length, get_or, take, drop, length-take, length-drop, take_at, drop_at, le_refl, arith}
 use Rattle.std.proofs.lemmas.Bool.{false≢true, and_parts, lt-ltb}
 use Rattle.std.specs.Prelude.{Float}
 use Rattle.std.specs.Float.{nan}
 use Rattle.meaning.specs.Ieee754.{sumFrom}
 use Rattle.bits.specs.Bit.{bit}
-use Rattle.bits.proofs.Laws.{bit-zero}
 use Rattle.weight.specs.ScorerTree.{Scorer, Scorers, more, matches, scorerScore}
 use Rattle.weight.specs.Sound.{nodes, nodesOf}
 use Rattle.leaf_scorer.specs.Calls.{lent}

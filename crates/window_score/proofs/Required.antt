@@ -1,19 +1,18 @@
 -- The loop over the required children, in the words of its contract: the scores of the Musts are added, the parts of the Filters only forgotten. Assumes nothing.
-use Rattle.std.proofs.Common.{◌≡◌, refl, sym, ap, subst, ◌∙◌, Bool, true, false, cond, List, ◌++◌, ℕ, ◌+◌, ◌-◌, ◌*◌, ◌≤◌, ◌<◌, length, get_or, take, drop, le_refl, arith}
+use Rattle.std.proofs.Common.{◌≡◌, refl, sym, ap, subst, ◌∙◌, Bool, true, false, cond, List, ℕ, ◌+◌, ◌-◌, ◌≤◌, ◌<◌, length, get_or, take, drop, le_refl, arith}
 use Rattle.std.specs.Prelude.{Float}
 use Rattle.std.specs.Float.{nan}
 use Rattle.meaning.specs.Lent.{Index}
 use Rattle.meaning.specs.Ieee754.{sumFrom}
 use Rattle.bits.specs.Bit.{bit}
 use Rattle.bits.proofs.Laws.{bit-zero}
-use Rattle.weight.specs.ScorerTree.{Scorer, Scorers, more, matches, scorerScore}
+use Rattle.weight.specs.ScorerTree.{Scorer, Scorers, more, scorerScore}
 use Rattle.weight.specs.Sound.{nodes, nodesOf}
 use Rattle.score.proofs.Parts.{part_same}
 use Rattle.score.proofs.Sums.{scores-word, required-counted, required-matched}
-use Rattle.window_words.specs.Windowed.{placesOf, Windowed}
+use Rattle.window_words.specs.Windowed.{placesOf}
 use Rattle.window_words.proofs.Laws.{windowed-kind, windowed-forget}
 use Rattle.window_score.specs.Words.{ChildThere}
-use Rattle.window_score.specs.Sums.{Sums}
 use Rattle.window_score.specs.Asked.{WindowLent, NodeAsked, ScoresPre, ScoresPost, TermPre, TermPost, RequiredPre, RequiredPost}
 use Rattle.window_score.proofs.Loops.{put, sums-more, added-none, Frame, Walk, walk-start, walk-open, walk-end, walk-there, walk-kind, walk-scores, walk-scorable, walk-few, walk-matched, walk-part, walk-took}
 

@@ -1,5 +1,5 @@
 -- The parts of some children that are asked by windows, split after the first of them and put together again, and sums that are all 0. Assumes nothing.
-use Rattle.std.proofs.Common.{◌≡◌, refl, sym, ap, subst, ◌∙◌, cond, List, [], ◌++◌, ℕ, zero, suc, ◌+◌, ◌*◌, ◌^◌, ◌≤◌, ◌<◌, length, get_or, append_assoc, length-append, arith}
+use Rattle.std.proofs.Common.{◌≡◌, refl, sym, ap, subst, ◌∙◌, cond, List, [], ◌++◌, ℕ, zero, suc, ◌*◌, ◌^◌, ◌<◌, length, get_or, append_assoc, length-append, arith}
 use Rattle.std.proofs.lemmas.List.{length-replicate, get_or-replicate}
 use Rattle.std.specs.Prelude.{Float, replicate}
 use Rattle.std.specs.Float.{nan}

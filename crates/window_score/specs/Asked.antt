@@ -1,18 +1,17 @@
 -- What the scores of a window ask and give, of a node and of the parts of some children. Assumes nothing: these are definitions.
-use Rattle.std.specs.Prelude.{◌≡◌, true, false, cond, ◌&&◌, List, ◌++◌, ℕ, ◌+◌, ◌*◌, ◌^◌, ◌≤◌, ◌<◌, ltb, length, get_or, Float}
+use Rattle.std.specs.Prelude.{◌≡◌, true, ◌&&◌, List, ◌++◌, ℕ, ◌+◌, ◌≤◌, ◌<◌, ltb, get_or, Float}
 use Rattle.std.specs.Float.{nan}
 use Rattle.meaning.specs.Limits.{noMoreDocs}
 use Rattle.meaning.specs.Lent.{Index}
 use Rattle.meaning.specs.Ieee754.{zeroFloat, sumFrom, narrowedSum}
-use Rattle.ieee754.specs.Nonneg.{AtMost}
 use Rattle.bits.specs.Bit.{bit}
 use Rattle.weight.specs.ScorerTree.{Scorer, Scorers, Joining, matches, allMatch, scorerScore, scoring, requiredScores, optionalScores, joinedScore}
 use Rattle.weight.specs.State.{sizesOf}
 use Rattle.weight.specs.Sound.{Lends, nodes, nodesOf}
-use Rattle.leaf_scorer.specs.Calls.{Lent, lent, RoomIn}
+use Rattle.leaf_scorer.specs.Calls.{RoomIn}
 use Rattle.leaf_score.specs.Asked.{Scorable}
 use Rattle.score.specs.Asked.{Scorables, JoinsAt}
-use Rattle.window_words.specs.Windowed.{Places, nowhere, placesOf, optionalBound, Windowed, AllWindowed}
+use Rattle.window_words.specs.Windowed.{nowhere, placesOf, optionalBound, Windowed, AllWindowed}
 use Rattle.window_leaf.specs.Asks.{Wanted}
 use Rattle.window_score.specs.Sums.{Sums, Added, AddedAll}
 use Rattle.window_score.specs.declared.Joined.{Joined}

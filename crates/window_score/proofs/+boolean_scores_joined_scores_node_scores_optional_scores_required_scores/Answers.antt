@@ -1,5 +1,5 @@
 -- The answers of the cycle: a node's scores, a Boolean's, and those of its children. Assumes nothing.
-use Rattle.std.proofs.Common.{refl, sym, ◌∙◌, ap, subst, length, take, drop, ◌+◌, ◌-◌, ◌*◌, ℕ, arith}
+use Rattle.std.proofs.Common.{refl, sym, ◌∙◌, length, arith}
 use Rattle.window_score.proofs.Required.{required-start, required-end, required-there, required-skip, required-child, required-term, required-took, required-term-took}
 use Rattle.window_score.proofs.Optional.{OptionalTaken, taken-as, optional-start, optional-end, optional-there, optional-ask, optional-asked, optional-stored, optional-left, optional-child, optional-term, optional-took, optional-term-took}
 use Rattle.window_score.proofs.Splits.{zeros}
@@ -245,13 +245,13 @@ optional_scores-child_at-k-requires t c =
     optional-there c.args.kids.now c.args.need c.args.postings.now c.args.positions.now c.args.norms.now c.args.ranges.now c.args.inverses.now (length c.args.a.now) (length c.args.b.now) c.args.base c.args.want c.args.sums.now c.args.depth c.loop-at.kids c.loop-at.at c.loop-at.sums c.loop-at.invariant.3 c.loop-at-test.true c.requires
 
 -- src/lib.rt:241:23
-pub optional_scores-slice_bounds-node_bits-end : goal.optional_scores-slice_bounds-node_bits-end
-optional_scores-slice_bounds-node_bits-end t c =
+pub optional_scores-slice_bounds-child_bits-end : goal.optional_scores-slice_bounds-child_bits-end
+optional_scores-slice_bounds-child_bits-end t c =
     omega (arith, c.child_at-k.ensures.end_is, (optional-there c.args.kids.now c.args.need c.args.postings.now c.args.positions.now c.args.norms.now c.args.ranges.now c.args.inverses.now (length c.args.a.now) (length c.args.b.now) c.args.base c.args.want c.args.sums.now c.args.depth c.loop-at.kids c.loop-at.at c.loop-at.sums c.loop-at.invariant.3 c.loop-at-test.true c.requires).fits)
 
 -- src/lib.rt:241:13
-pub optional_scores-node_bits-x-requires : goal.optional_scores-node_bits-x-requires
-optional_scores-node_bits-x-requires t c =
+pub optional_scores-child_bits-x-requires : goal.optional_scores-child_bits-x-requires
+optional_scores-child_bits-x-requires t c =
     optional-ask c.args.kids.now c.args.need c.args.postings.now c.args.positions.now c.args.norms.now c.args.ranges.now c.args.inverses.now (length c.args.a.now) (length c.args.b.now) c.args.base c.args.want c.args.sums.now c.args.depth c.loop-at.kids c.loop-at.at c.loop-at.sums c.loop-at.invariant.3 c.loop-at-test.true c.child_at-k.result.end c.child_at-k.ensures.end_is c.if-need-eq0.true (length c.loop-at.a) (length c.loop-at.b) c.loop-at.invariant.1 c.loop-at.invariant.2 c.requires
 
 -- src/lib.rt:247:35
@@ -263,7 +263,7 @@ optional_scores-slice_bounds-term_scores-end t c =
 -- src/lib.rt:247:17
 pub optional_scores-term_scores-requires : goal.optional_scores-term_scores-requires
 optional_scores-term_scores-requires t c =
-    let T : OptionalTaken c.args.kids.now c.args.need c.args.postings.now c.args.positions.now c.args.norms.now c.args.ranges.now c.args.inverses.now (length c.args.a.now) (length c.args.b.now) c.args.base c.args.want c.args.sums.now c.args.depth c.loop-at.kids c.if-need-eq0.kids c.loop-at.at c.child_at-k.result.end c.if-need-eq0.x c.loop-at.sums = elim c.if-need-eq0.branch [ optional_scores-then-need-eq0 w ↦ taken-as c.args.kids.now c.args.need c.args.postings.now c.args.positions.now c.args.norms.now c.args.ranges.now c.args.inverses.now (length c.args.a.now) (length c.args.b.now) c.args.base c.args.want c.args.sums.now c.args.depth c.loop-at.kids _ c.if-need-eq0.kids c.loop-at.at c.child_at-k.result.end w.node_bits-x.result c.if-need-eq0.x c.loop-at.sums w.kids-is w.x-is (optional-asked c.args.kids.now c.args.need c.args.postings.now c.args.positions.now c.args.norms.now c.args.ranges.now c.args.inverses.now (length c.args.a.now) (length c.args.b.now) c.args.base c.args.want c.args.sums.now c.args.depth c.loop-at.kids c.loop-at.at c.loop-at.sums c.loop-at.invariant.3 c.loop-at-test.true c.child_at-k.result.end c.child_at-k.ensures.end_is w.if-need-eq0.true (length c.loop-at.a) (length c.loop-at.b) c.loop-at.invariant.1 c.loop-at.invariant.2 w.node_bits-x.result w.node_bits-x.new.st w.node_bits-x.auto.st w.node_bits-x.ensures) | optional_scores-else-need-eq0 w ↦ taken-as c.args.kids.now c.args.need c.args.postings.now c.args.positions.now c.args.norms.now c.args.ranges.now c.args.inverses.now (length c.args.a.now) (length c.args.b.now) c.args.base c.args.want c.args.sums.now c.args.depth c.loop-at.kids c.loop-at.kids c.if-need-eq0.kids c.loop-at.at c.child_at-k.result.end w.both-x.result c.if-need-eq0.x c.loop-at.sums w.kids-is w.x-is (optional-stored c.args.kids.now c.args.need c.args.postings.now c.args.positions.now c.args.norms.now c.args.ranges.now c.args.inverses.now (length c.args.a.now) (length c.args.b.now) c.args.base c.args.want c.args.sums.now c.args.depth c.loop-at.kids c.loop-at.at c.loop-at.sums c.loop-at.invariant.3 c.loop-at-test.true c.child_at-k.result.end c.child_at-k.ensures.end_is w.if-need-eq0.false w.both-x.result c.child_at-k.result.bits w.both-x.ensures c.child_at-k.ensures.bits-are) ] in optional-term c.args.kids.now c.args.need c.args.postings.now c.args.positions.now c.args.norms.now c.args.ranges.now c.args.inverses.now (length c.args.a.now) (length c.args.b.now) c.args.base c.args.want c.args.sums.now c.args.depth c.loop-at.kids c.if-need-eq0.kids c.loop-at.at c.child_at-k.result.end c.if-need-eq0.x c.loop-at.sums T (length c.if-need-eq0.a) (length c.if-need-eq0.b) (c.if-need-eq0.auto.a ∙ c.loop-at.invariant.1) (c.if-need-eq0.auto.b ∙ c.loop-at.invariant.2) (sym c.child_at-k.ensures.kind-is ∙ c.if-k-eq-TERM.true) c.requires
+    let T : OptionalTaken c.args.kids.now c.args.need c.args.postings.now c.args.positions.now c.args.norms.now c.args.ranges.now c.args.inverses.now (length c.args.a.now) (length c.args.b.now) c.args.base c.args.want c.args.sums.now c.args.depth c.loop-at.kids c.if-need-eq0.kids c.loop-at.at c.child_at-k.result.end c.if-need-eq0.x c.loop-at.sums = elim c.if-need-eq0.branch [ optional_scores-then-need-eq0 w ↦ taken-as c.args.kids.now c.args.need c.args.postings.now c.args.positions.now c.args.norms.now c.args.ranges.now c.args.inverses.now (length c.args.a.now) (length c.args.b.now) c.args.base c.args.want c.args.sums.now c.args.depth c.loop-at.kids _ c.if-need-eq0.kids c.loop-at.at c.child_at-k.result.end w.child_bits-x.result c.if-need-eq0.x c.loop-at.sums w.kids-is w.x-is (optional-asked c.args.kids.now c.args.need c.args.postings.now c.args.positions.now c.args.norms.now c.args.ranges.now c.args.inverses.now (length c.args.a.now) (length c.args.b.now) c.args.base c.args.want c.args.sums.now c.args.depth c.loop-at.kids c.loop-at.at c.loop-at.sums c.loop-at.invariant.3 c.loop-at-test.true c.child_at-k.result.end c.child_at-k.ensures.end_is w.if-need-eq0.true (length c.loop-at.a) (length c.loop-at.b) c.loop-at.invariant.1 c.loop-at.invariant.2 w.child_bits-x.result w.child_bits-x.new.st w.child_bits-x.auto.st w.child_bits-x.ensures) | optional_scores-else-need-eq0 w ↦ taken-as c.args.kids.now c.args.need c.args.postings.now c.args.positions.now c.args.norms.now c.args.ranges.now c.args.inverses.now (length c.args.a.now) (length c.args.b.now) c.args.base c.args.want c.args.sums.now c.args.depth c.loop-at.kids c.loop-at.kids c.if-need-eq0.kids c.loop-at.at c.child_at-k.result.end w.both-x.result c.if-need-eq0.x c.loop-at.sums w.kids-is w.x-is (optional-stored c.args.kids.now c.args.need c.args.postings.now c.args.positions.now c.args.norms.now c.args.ranges.now c.args.inverses.now (length c.args.a.now) (length c.args.b.now) c.args.base c.args.want c.args.sums.now c.args.depth c.loop-at.kids c.loop-at.at c.loop-at.sums c.loop-at.invariant.3 c.loop-at-test.true c.child_at-k.result.end c.child_at-k.ensures.end_is w.if-need-eq0.false w.both-x.result c.child_at-k.result.bits w.both-x.ensures c.child_at-k.ensures.bits-are) ] in optional-term c.args.kids.now c.args.need c.args.postings.now c.args.positions.now c.args.norms.now c.args.ranges.now c.args.inverses.now (length c.args.a.now) (length c.args.b.now) c.args.base c.args.want c.args.sums.now c.args.depth c.loop-at.kids c.if-need-eq0.kids c.loop-at.at c.child_at-k.result.end c.if-need-eq0.x c.loop-at.sums T (length c.if-need-eq0.a) (length c.if-need-eq0.b) (c.if-need-eq0.auto.a ∙ c.loop-at.invariant.1) (c.if-need-eq0.auto.b ∙ c.loop-at.invariant.2) (sym c.child_at-k.ensures.kind-is ∙ c.if-k-eq-TERM.true) c.requires
 
 -- src/lib.rt:249:29
 pub optional_scores-slice_bounds-node_scores-end :
@@ -274,7 +274,7 @@ optional_scores-slice_bounds-node_scores-end t c =
 -- src/lib.rt:249:17
 pub optional_scores-node_scores-requires : goal.optional_scores-node_scores-requires
 optional_scores-node_scores-requires t c =
-    let T : OptionalTaken c.args.kids.now c.args.need c.args.postings.now c.args.positions.now c.args.norms.now c.args.ranges.now c.args.inverses.now (length c.args.a.now) (length c.args.b.now) c.args.base c.args.want c.args.sums.now c.args.depth c.loop-at.kids c.if-need-eq0.kids c.loop-at.at c.child_at-k.result.end c.if-need-eq0.x c.loop-at.sums = elim c.if-need-eq0.branch [ optional_scores-then-need-eq0 w ↦ taken-as c.args.kids.now c.args.need c.args.postings.now c.args.positions.now c.args.norms.now c.args.ranges.now c.args.inverses.now (length c.args.a.now) (length c.args.b.now) c.args.base c.args.want c.args.sums.now c.args.depth c.loop-at.kids _ c.if-need-eq0.kids c.loop-at.at c.child_at-k.result.end w.node_bits-x.result c.if-need-eq0.x c.loop-at.sums w.kids-is w.x-is (optional-asked c.args.kids.now c.args.need c.args.postings.now c.args.positions.now c.args.norms.now c.args.ranges.now c.args.inverses.now (length c.args.a.now) (length c.args.b.now) c.args.base c.args.want c.args.sums.now c.args.depth c.loop-at.kids c.loop-at.at c.loop-at.sums c.loop-at.invariant.3 c.loop-at-test.true c.child_at-k.result.end c.child_at-k.ensures.end_is w.if-need-eq0.true (length c.loop-at.a) (length c.loop-at.b) c.loop-at.invariant.1 c.loop-at.invariant.2 w.node_bits-x.result w.node_bits-x.new.st w.node_bits-x.auto.st w.node_bits-x.ensures) | optional_scores-else-need-eq0 w ↦ taken-as c.args.kids.now c.args.need c.args.postings.now c.args.positions.now c.args.norms.now c.args.ranges.now c.args.inverses.now (length c.args.a.now) (length c.args.b.now) c.args.base c.args.want c.args.sums.now c.args.depth c.loop-at.kids c.loop-at.kids c.if-need-eq0.kids c.loop-at.at c.child_at-k.result.end w.both-x.result c.if-need-eq0.x c.loop-at.sums w.kids-is w.x-is (optional-stored c.args.kids.now c.args.need c.args.postings.now c.args.positions.now c.args.norms.now c.args.ranges.now c.args.inverses.now (length c.args.a.now) (length c.args.b.now) c.args.base c.args.want c.args.sums.now c.args.depth c.loop-at.kids c.loop-at.at c.loop-at.sums c.loop-at.invariant.3 c.loop-at-test.true c.child_at-k.result.end c.child_at-k.ensures.end_is w.if-need-eq0.false w.both-x.result c.child_at-k.result.bits w.both-x.ensures c.child_at-k.ensures.bits-are) ] in (omega (arith, c.decreases), optional-child c.args.kids.now c.args.need c.args.postings.now c.args.positions.now c.args.norms.now c.args.ranges.now c.args.inverses.now (length c.args.a.now) (length c.args.b.now) c.args.base c.args.want c.args.sums.now c.args.depth c.loop-at.kids c.if-need-eq0.kids c.loop-at.at c.child_at-k.result.end c.if-need-eq0.x c.loop-at.sums T (length c.if-need-eq0.a) (length c.if-need-eq0.b) (c.if-need-eq0.auto.a ∙ c.loop-at.invariant.1) (c.if-need-eq0.auto.b ∙ c.loop-at.invariant.2) c.requires)
+    let T : OptionalTaken c.args.kids.now c.args.need c.args.postings.now c.args.positions.now c.args.norms.now c.args.ranges.now c.args.inverses.now (length c.args.a.now) (length c.args.b.now) c.args.base c.args.want c.args.sums.now c.args.depth c.loop-at.kids c.if-need-eq0.kids c.loop-at.at c.child_at-k.result.end c.if-need-eq0.x c.loop-at.sums = elim c.if-need-eq0.branch [ optional_scores-then-need-eq0 w ↦ taken-as c.args.kids.now c.args.need c.args.postings.now c.args.positions.now c.args.norms.now c.args.ranges.now c.args.inverses.now (length c.args.a.now) (length c.args.b.now) c.args.base c.args.want c.args.sums.now c.args.depth c.loop-at.kids _ c.if-need-eq0.kids c.loop-at.at c.child_at-k.result.end w.child_bits-x.result c.if-need-eq0.x c.loop-at.sums w.kids-is w.x-is (optional-asked c.args.kids.now c.args.need c.args.postings.now c.args.positions.now c.args.norms.now c.args.ranges.now c.args.inverses.now (length c.args.a.now) (length c.args.b.now) c.args.base c.args.want c.args.sums.now c.args.depth c.loop-at.kids c.loop-at.at c.loop-at.sums c.loop-at.invariant.3 c.loop-at-test.true c.child_at-k.result.end c.child_at-k.ensures.end_is w.if-need-eq0.true (length c.loop-at.a) (length c.loop-at.b) c.loop-at.invariant.1 c.loop-at.invariant.2 w.child_bits-x.result w.child_bits-x.new.st w.child_bits-x.auto.st w.child_bits-x.ensures) | optional_scores-else-need-eq0 w ↦ taken-as c.args.kids.now c.args.need c.args.postings.now c.args.positions.now c.args.norms.now c.args.ranges.now c.args.inverses.now (length c.args.a.now) (length c.args.b.now) c.args.base c.args.want c.args.sums.now c.args.depth c.loop-at.kids c.loop-at.kids c.if-need-eq0.kids c.loop-at.at c.child_at-k.result.end w.both-x.result c.if-need-eq0.x c.loop-at.sums w.kids-is w.x-is (optional-stored c.args.kids.now c.args.need c.args.postings.now c.args.positions.now c.args.norms.now c.args.ranges.now c.args.inverses.now (length c.args.a.now) (length c.args.b.now) c.args.base c.args.want c.args.sums.now c.args.depth c.loop-at.kids c.loop-at.at c.loop-at.sums c.loop-at.invariant.3 c.loop-at-test.true c.child_at-k.result.end c.child_at-k.ensures.end_is w.if-need-eq0.false w.both-x.result c.child_at-k.result.bits w.both-x.ensures c.child_at-k.ensures.bits-are) ] in (omega (arith, c.decreases), optional-child c.args.kids.now c.args.need c.args.postings.now c.args.positions.now c.args.norms.now c.args.ranges.now c.args.inverses.now (length c.args.a.now) (length c.args.b.now) c.args.base c.args.want c.args.sums.now c.args.depth c.loop-at.kids c.if-need-eq0.kids c.loop-at.at c.child_at-k.result.end c.if-need-eq0.x c.loop-at.sums T (length c.if-need-eq0.a) (length c.if-need-eq0.b) (c.if-need-eq0.auto.a ∙ c.loop-at.invariant.1) (c.if-need-eq0.auto.b ∙ c.loop-at.invariant.2) c.requires)
 
 -- src/lib.rt:237:5
 pub optional_scores-loop-at-smaller-then-k-eq-TERM :
@@ -286,7 +286,7 @@ optional_scores-loop-at-smaller-then-k-eq-TERM t c =
 pub optional_scores-loop-at-preserved-then-k-eq-TERM :
     goal.optional_scores-loop-at-preserved-then-k-eq-TERM
 optional_scores-loop-at-preserved-then-k-eq-TERM t c =
-    let T : OptionalTaken c.args.kids.now c.args.need c.args.postings.now c.args.positions.now c.args.norms.now c.args.ranges.now c.args.inverses.now (length c.args.a.now) (length c.args.b.now) c.args.base c.args.want c.args.sums.now c.args.depth c.loop-at.kids c.if-need-eq0.kids c.loop-at.at c.child_at-k.result.end c.if-need-eq0.x c.loop-at.sums = elim c.if-need-eq0.branch [ optional_scores-then-need-eq0 w ↦ taken-as c.args.kids.now c.args.need c.args.postings.now c.args.positions.now c.args.norms.now c.args.ranges.now c.args.inverses.now (length c.args.a.now) (length c.args.b.now) c.args.base c.args.want c.args.sums.now c.args.depth c.loop-at.kids _ c.if-need-eq0.kids c.loop-at.at c.child_at-k.result.end w.node_bits-x.result c.if-need-eq0.x c.loop-at.sums w.kids-is w.x-is (optional-asked c.args.kids.now c.args.need c.args.postings.now c.args.positions.now c.args.norms.now c.args.ranges.now c.args.inverses.now (length c.args.a.now) (length c.args.b.now) c.args.base c.args.want c.args.sums.now c.args.depth c.loop-at.kids c.loop-at.at c.loop-at.sums c.loop-at.invariant.3 c.loop-at-test.true c.child_at-k.result.end c.child_at-k.ensures.end_is w.if-need-eq0.true (length c.loop-at.a) (length c.loop-at.b) c.loop-at.invariant.1 c.loop-at.invariant.2 w.node_bits-x.result w.node_bits-x.new.st w.node_bits-x.auto.st w.node_bits-x.ensures) | optional_scores-else-need-eq0 w ↦ taken-as c.args.kids.now c.args.need c.args.postings.now c.args.positions.now c.args.norms.now c.args.ranges.now c.args.inverses.now (length c.args.a.now) (length c.args.b.now) c.args.base c.args.want c.args.sums.now c.args.depth c.loop-at.kids c.loop-at.kids c.if-need-eq0.kids c.loop-at.at c.child_at-k.result.end w.both-x.result c.if-need-eq0.x c.loop-at.sums w.kids-is w.x-is (optional-stored c.args.kids.now c.args.need c.args.postings.now c.args.positions.now c.args.norms.now c.args.ranges.now c.args.inverses.now (length c.args.a.now) (length c.args.b.now) c.args.base c.args.want c.args.sums.now c.args.depth c.loop-at.kids c.loop-at.at c.loop-at.sums c.loop-at.invariant.3 c.loop-at-test.true c.child_at-k.result.end c.child_at-k.ensures.end_is w.if-need-eq0.false w.both-x.result c.child_at-k.result.bits w.both-x.ensures c.child_at-k.ensures.bits-are) ] in (c.if-need-eq0.auto.kids ∙ c.loop-at.invariant.0, c.if-need-eq0.auto.a ∙ c.loop-at.invariant.1, c.if-need-eq0.auto.b ∙ c.loop-at.invariant.2, optional-term-took c.args.kids.now c.args.need c.args.postings.now c.args.positions.now c.args.norms.now c.args.ranges.now c.args.inverses.now (length c.args.a.now) (length c.args.b.now) c.args.base c.args.want c.args.sums.now c.args.depth c.loop-at.kids c.if-need-eq0.kids c.loop-at.at c.child_at-k.result.end c.if-need-eq0.x c.loop-at.sums T (length c.if-need-eq0.a) (length c.if-need-eq0.b) (c.if-need-eq0.auto.a ∙ c.loop-at.invariant.1) (c.if-need-eq0.auto.b ∙ c.loop-at.invariant.2) c.term_scores.new.sums c.term_scores.ensures)
+    let T : OptionalTaken c.args.kids.now c.args.need c.args.postings.now c.args.positions.now c.args.norms.now c.args.ranges.now c.args.inverses.now (length c.args.a.now) (length c.args.b.now) c.args.base c.args.want c.args.sums.now c.args.depth c.loop-at.kids c.if-need-eq0.kids c.loop-at.at c.child_at-k.result.end c.if-need-eq0.x c.loop-at.sums = elim c.if-need-eq0.branch [ optional_scores-then-need-eq0 w ↦ taken-as c.args.kids.now c.args.need c.args.postings.now c.args.positions.now c.args.norms.now c.args.ranges.now c.args.inverses.now (length c.args.a.now) (length c.args.b.now) c.args.base c.args.want c.args.sums.now c.args.depth c.loop-at.kids _ c.if-need-eq0.kids c.loop-at.at c.child_at-k.result.end w.child_bits-x.result c.if-need-eq0.x c.loop-at.sums w.kids-is w.x-is (optional-asked c.args.kids.now c.args.need c.args.postings.now c.args.positions.now c.args.norms.now c.args.ranges.now c.args.inverses.now (length c.args.a.now) (length c.args.b.now) c.args.base c.args.want c.args.sums.now c.args.depth c.loop-at.kids c.loop-at.at c.loop-at.sums c.loop-at.invariant.3 c.loop-at-test.true c.child_at-k.result.end c.child_at-k.ensures.end_is w.if-need-eq0.true (length c.loop-at.a) (length c.loop-at.b) c.loop-at.invariant.1 c.loop-at.invariant.2 w.child_bits-x.result w.child_bits-x.new.st w.child_bits-x.auto.st w.child_bits-x.ensures) | optional_scores-else-need-eq0 w ↦ taken-as c.args.kids.now c.args.need c.args.postings.now c.args.positions.now c.args.norms.now c.args.ranges.now c.args.inverses.now (length c.args.a.now) (length c.args.b.now) c.args.base c.args.want c.args.sums.now c.args.depth c.loop-at.kids c.loop-at.kids c.if-need-eq0.kids c.loop-at.at c.child_at-k.result.end w.both-x.result c.if-need-eq0.x c.loop-at.sums w.kids-is w.x-is (optional-stored c.args.kids.now c.args.need c.args.postings.now c.args.positions.now c.args.norms.now c.args.ranges.now c.args.inverses.now (length c.args.a.now) (length c.args.b.now) c.args.base c.args.want c.args.sums.now c.args.depth c.loop-at.kids c.loop-at.at c.loop-at.sums c.loop-at.invariant.3 c.loop-at-test.true c.child_at-k.result.end c.child_at-k.ensures.end_is w.if-need-eq0.false w.both-x.result c.child_at-k.result.bits w.both-x.ensures c.child_at-k.ensures.bits-are) ] in (c.if-need-eq0.auto.kids ∙ c.loop-at.invariant.0, c.if-need-eq0.auto.a ∙ c.loop-at.invariant.1, c.if-need-eq0.auto.b ∙ c.loop-at.invariant.2, optional-term-took c.args.kids.now c.args.need c.args.postings.now c.args.positions.now c.args.norms.now c.args.ranges.now c.args.inverses.now (length c.args.a.now) (length c.args.b.now) c.args.base c.args.want c.args.sums.now c.args.depth c.loop-at.kids c.if-need-eq0.kids c.loop-at.at c.child_at-k.result.end c.if-need-eq0.x c.loop-at.sums T (length c.if-need-eq0.a) (length c.if-need-eq0.b) (c.if-need-eq0.auto.a ∙ c.loop-at.invariant.1) (c.if-need-eq0.auto.b ∙ c.loop-at.invariant.2) c.term_scores.new.sums c.term_scores.ensures)
 
 -- src/lib.rt:237:5
 pub optional_scores-loop-at-smaller-else-k-eq-TERM :
@@ -298,7 +298,7 @@ optional_scores-loop-at-smaller-else-k-eq-TERM t c =
 pub optional_scores-loop-at-preserved-else-k-eq-TERM :
     goal.optional_scores-loop-at-preserved-else-k-eq-TERM
 optional_scores-loop-at-preserved-else-k-eq-TERM t c =
-    let T : OptionalTaken c.args.kids.now c.args.need c.args.postings.now c.args.positions.now c.args.norms.now c.args.ranges.now c.args.inverses.now (length c.args.a.now) (length c.args.b.now) c.args.base c.args.want c.args.sums.now c.args.depth c.loop-at.kids c.if-need-eq0.kids c.loop-at.at c.child_at-k.result.end c.if-need-eq0.x c.loop-at.sums = elim c.if-need-eq0.branch [ optional_scores-then-need-eq0 w ↦ taken-as c.args.kids.now c.args.need c.args.postings.now c.args.positions.now c.args.norms.now c.args.ranges.now c.args.inverses.now (length c.args.a.now) (length c.args.b.now) c.args.base c.args.want c.args.sums.now c.args.depth c.loop-at.kids _ c.if-need-eq0.kids c.loop-at.at c.child_at-k.result.end w.node_bits-x.result c.if-need-eq0.x c.loop-at.sums w.kids-is w.x-is (optional-asked c.args.kids.now c.args.need c.args.postings.now c.args.positions.now c.args.norms.now c.args.ranges.now c.args.inverses.now (length c.args.a.now) (length c.args.b.now) c.args.base c.args.want c.args.sums.now c.args.depth c.loop-at.kids c.loop-at.at c.loop-at.sums c.loop-at.invariant.3 c.loop-at-test.true c.child_at-k.result.end c.child_at-k.ensures.end_is w.if-need-eq0.true (length c.loop-at.a) (length c.loop-at.b) c.loop-at.invariant.1 c.loop-at.invariant.2 w.node_bits-x.result w.node_bits-x.new.st w.node_bits-x.auto.st w.node_bits-x.ensures) | optional_scores-else-need-eq0 w ↦ taken-as c.args.kids.now c.args.need c.args.postings.now c.args.positions.now c.args.norms.now c.args.ranges.now c.args.inverses.now (length c.args.a.now) (length c.args.b.now) c.args.base c.args.want c.args.sums.now c.args.depth c.loop-at.kids c.loop-at.kids c.if-need-eq0.kids c.loop-at.at c.child_at-k.result.end w.both-x.result c.if-need-eq0.x c.loop-at.sums w.kids-is w.x-is (optional-stored c.args.kids.now c.args.need c.args.postings.now c.args.positions.now c.args.norms.now c.args.ranges.now c.args.inverses.now (length c.args.a.now) (length c.args.b.now) c.args.base c.args.want c.args.sums.now c.args.depth c.loop-at.kids c.loop-at.at c.loop-at.sums c.loop-at.invariant.3 c.loop-at-test.true c.child_at-k.result.end c.child_at-k.ensures.end_is w.if-need-eq0.false w.both-x.result c.child_at-k.result.bits w.both-x.ensures c.child_at-k.ensures.bits-are) ] in (back-length c.if-need-eq0.kids c.node_scores.new.st c.loop-at.at c.child_at-k.result.end c.node_scores.auto.st ∙ c.if-need-eq0.auto.kids ∙ c.loop-at.invariant.0, c.node_scores.auto.a ∙ c.if-need-eq0.auto.a ∙ c.loop-at.invariant.1, c.node_scores.auto.b ∙ c.if-need-eq0.auto.b ∙ c.loop-at.invariant.2, optional-took c.args.kids.now c.args.need c.args.postings.now c.args.positions.now c.args.norms.now c.args.ranges.now c.args.inverses.now (length c.args.a.now) (length c.args.b.now) c.args.base c.args.want c.args.sums.now c.args.depth c.loop-at.kids c.if-need-eq0.kids c.loop-at.at c.child_at-k.result.end c.if-need-eq0.x c.loop-at.sums T (length c.if-need-eq0.a) (length c.if-need-eq0.b) (c.if-need-eq0.auto.a ∙ c.loop-at.invariant.1) (c.if-need-eq0.auto.b ∙ c.loop-at.invariant.2) c.node_scores.new.st c.node_scores.new.sums c.node_scores.auto.st c.node_scores.ensures)
+    let T : OptionalTaken c.args.kids.now c.args.need c.args.postings.now c.args.positions.now c.args.norms.now c.args.ranges.now c.args.inverses.now (length c.args.a.now) (length c.args.b.now) c.args.base c.args.want c.args.sums.now c.args.depth c.loop-at.kids c.if-need-eq0.kids c.loop-at.at c.child_at-k.result.end c.if-need-eq0.x c.loop-at.sums = elim c.if-need-eq0.branch [ optional_scores-then-need-eq0 w ↦ taken-as c.args.kids.now c.args.need c.args.postings.now c.args.positions.now c.args.norms.now c.args.ranges.now c.args.inverses.now (length c.args.a.now) (length c.args.b.now) c.args.base c.args.want c.args.sums.now c.args.depth c.loop-at.kids _ c.if-need-eq0.kids c.loop-at.at c.child_at-k.result.end w.child_bits-x.result c.if-need-eq0.x c.loop-at.sums w.kids-is w.x-is (optional-asked c.args.kids.now c.args.need c.args.postings.now c.args.positions.now c.args.norms.now c.args.ranges.now c.args.inverses.now (length c.args.a.now) (length c.args.b.now) c.args.base c.args.want c.args.sums.now c.args.depth c.loop-at.kids c.loop-at.at c.loop-at.sums c.loop-at.invariant.3 c.loop-at-test.true c.child_at-k.result.end c.child_at-k.ensures.end_is w.if-need-eq0.true (length c.loop-at.a) (length c.loop-at.b) c.loop-at.invariant.1 c.loop-at.invariant.2 w.child_bits-x.result w.child_bits-x.new.st w.child_bits-x.auto.st w.child_bits-x.ensures) | optional_scores-else-need-eq0 w ↦ taken-as c.args.kids.now c.args.need c.args.postings.now c.args.positions.now c.args.norms.now c.args.ranges.now c.args.inverses.now (length c.args.a.now) (length c.args.b.now) c.args.base c.args.want c.args.sums.now c.args.depth c.loop-at.kids c.loop-at.kids c.if-need-eq0.kids c.loop-at.at c.child_at-k.result.end w.both-x.result c.if-need-eq0.x c.loop-at.sums w.kids-is w.x-is (optional-stored c.args.kids.now c.args.need c.args.postings.now c.args.positions.now c.args.norms.now c.args.ranges.now c.args.inverses.now (length c.args.a.now) (length c.args.b.now) c.args.base c.args.want c.args.sums.now c.args.depth c.loop-at.kids c.loop-at.at c.loop-at.sums c.loop-at.invariant.3 c.loop-at-test.true c.child_at-k.result.end c.child_at-k.ensures.end_is w.if-need-eq0.false w.both-x.result c.child_at-k.result.bits w.both-x.ensures c.child_at-k.ensures.bits-are) ] in (back-length c.if-need-eq0.kids c.node_scores.new.st c.loop-at.at c.child_at-k.result.end c.node_scores.auto.st ∙ c.if-need-eq0.auto.kids ∙ c.loop-at.invariant.0, c.node_scores.auto.a ∙ c.if-need-eq0.auto.a ∙ c.loop-at.invariant.1, c.node_scores.auto.b ∙ c.if-need-eq0.auto.b ∙ c.loop-at.invariant.2, optional-took c.args.kids.now c.args.need c.args.postings.now c.args.positions.now c.args.norms.now c.args.ranges.now c.args.inverses.now (length c.args.a.now) (length c.args.b.now) c.args.base c.args.want c.args.sums.now c.args.depth c.loop-at.kids c.if-need-eq0.kids c.loop-at.at c.child_at-k.result.end c.if-need-eq0.x c.loop-at.sums T (length c.if-need-eq0.a) (length c.if-need-eq0.b) (c.if-need-eq0.auto.a ∙ c.loop-at.invariant.1) (c.if-need-eq0.auto.b ∙ c.loop-at.invariant.2) c.node_scores.new.st c.node_scores.new.sums c.node_scores.auto.st c.node_scores.ensures)
 
 -- src/lib.rt:237:5
 pub optional_scores-loop-at-smaller : goal.optional_scores-loop-at-smaller
@@ -308,7 +308,7 @@ optional_scores-loop-at-smaller t c =
 -- src/lib.rt:237:5
 pub optional_scores-loop-at-preserved : goal.optional_scores-loop-at-preserved
 optional_scores-loop-at-preserved t c =
-    let T : OptionalTaken c.args.kids.now c.args.need c.args.postings.now c.args.positions.now c.args.norms.now c.args.ranges.now c.args.inverses.now (length c.args.a.now) (length c.args.b.now) c.args.base c.args.want c.args.sums.now c.args.depth c.loop-at.kids c.if-need-eq0.kids c.loop-at.at c.child_at-k.result.end c.if-need-eq0.x c.loop-at.sums = elim c.if-need-eq0.branch [ optional_scores-then-need-eq0 w ↦ taken-as c.args.kids.now c.args.need c.args.postings.now c.args.positions.now c.args.norms.now c.args.ranges.now c.args.inverses.now (length c.args.a.now) (length c.args.b.now) c.args.base c.args.want c.args.sums.now c.args.depth c.loop-at.kids _ c.if-need-eq0.kids c.loop-at.at c.child_at-k.result.end w.node_bits-x.result c.if-need-eq0.x c.loop-at.sums w.kids-is w.x-is (optional-asked c.args.kids.now c.args.need c.args.postings.now c.args.positions.now c.args.norms.now c.args.ranges.now c.args.inverses.now (length c.args.a.now) (length c.args.b.now) c.args.base c.args.want c.args.sums.now c.args.depth c.loop-at.kids c.loop-at.at c.loop-at.sums c.loop-at.invariant.3 c.loop-at-test.true c.child_at-k.result.end c.child_at-k.ensures.end_is w.if-need-eq0.true (length c.loop-at.a) (length c.loop-at.b) c.loop-at.invariant.1 c.loop-at.invariant.2 w.node_bits-x.result w.node_bits-x.new.st w.node_bits-x.auto.st w.node_bits-x.ensures) | optional_scores-else-need-eq0 w ↦ taken-as c.args.kids.now c.args.need c.args.postings.now c.args.positions.now c.args.norms.now c.args.ranges.now c.args.inverses.now (length c.args.a.now) (length c.args.b.now) c.args.base c.args.want c.args.sums.now c.args.depth c.loop-at.kids c.loop-at.kids c.if-need-eq0.kids c.loop-at.at c.child_at-k.result.end w.both-x.result c.if-need-eq0.x c.loop-at.sums w.kids-is w.x-is (optional-stored c.args.kids.now c.args.need c.args.postings.now c.args.positions.now c.args.norms.now c.args.ranges.now c.args.inverses.now (length c.args.a.now) (length c.args.b.now) c.args.base c.args.want c.args.sums.now c.args.depth c.loop-at.kids c.loop-at.at c.loop-at.sums c.loop-at.invariant.3 c.loop-at-test.true c.child_at-k.result.end c.child_at-k.ensures.end_is w.if-need-eq0.false w.both-x.result c.child_at-k.result.bits w.both-x.ensures c.child_at-k.ensures.bits-are) ] in (c.if-need-eq0.auto.kids ∙ c.loop-at.invariant.0, c.if-need-eq0.auto.a ∙ c.loop-at.invariant.1, c.if-need-eq0.auto.b ∙ c.loop-at.invariant.2, optional-left c.args.kids.now c.args.need c.args.postings.now c.args.positions.now c.args.norms.now c.args.ranges.now c.args.inverses.now (length c.args.a.now) (length c.args.b.now) c.args.base c.args.want c.args.sums.now c.args.depth c.loop-at.kids c.if-need-eq0.kids c.loop-at.at c.child_at-k.result.end c.if-need-eq0.x c.loop-at.sums T c.if-x-ne0.false)
+    let T : OptionalTaken c.args.kids.now c.args.need c.args.postings.now c.args.positions.now c.args.norms.now c.args.ranges.now c.args.inverses.now (length c.args.a.now) (length c.args.b.now) c.args.base c.args.want c.args.sums.now c.args.depth c.loop-at.kids c.if-need-eq0.kids c.loop-at.at c.child_at-k.result.end c.if-need-eq0.x c.loop-at.sums = elim c.if-need-eq0.branch [ optional_scores-then-need-eq0 w ↦ taken-as c.args.kids.now c.args.need c.args.postings.now c.args.positions.now c.args.norms.now c.args.ranges.now c.args.inverses.now (length c.args.a.now) (length c.args.b.now) c.args.base c.args.want c.args.sums.now c.args.depth c.loop-at.kids _ c.if-need-eq0.kids c.loop-at.at c.child_at-k.result.end w.child_bits-x.result c.if-need-eq0.x c.loop-at.sums w.kids-is w.x-is (optional-asked c.args.kids.now c.args.need c.args.postings.now c.args.positions.now c.args.norms.now c.args.ranges.now c.args.inverses.now (length c.args.a.now) (length c.args.b.now) c.args.base c.args.want c.args.sums.now c.args.depth c.loop-at.kids c.loop-at.at c.loop-at.sums c.loop-at.invariant.3 c.loop-at-test.true c.child_at-k.result.end c.child_at-k.ensures.end_is w.if-need-eq0.true (length c.loop-at.a) (length c.loop-at.b) c.loop-at.invariant.1 c.loop-at.invariant.2 w.child_bits-x.result w.child_bits-x.new.st w.child_bits-x.auto.st w.child_bits-x.ensures) | optional_scores-else-need-eq0 w ↦ taken-as c.args.kids.now c.args.need c.args.postings.now c.args.positions.now c.args.norms.now c.args.ranges.now c.args.inverses.now (length c.args.a.now) (length c.args.b.now) c.args.base c.args.want c.args.sums.now c.args.depth c.loop-at.kids c.loop-at.kids c.if-need-eq0.kids c.loop-at.at c.child_at-k.result.end w.both-x.result c.if-need-eq0.x c.loop-at.sums w.kids-is w.x-is (optional-stored c.args.kids.now c.args.need c.args.postings.now c.args.positions.now c.args.norms.now c.args.ranges.now c.args.inverses.now (length c.args.a.now) (length c.args.b.now) c.args.base c.args.want c.args.sums.now c.args.depth c.loop-at.kids c.loop-at.at c.loop-at.sums c.loop-at.invariant.3 c.loop-at-test.true c.child_at-k.result.end c.child_at-k.ensures.end_is w.if-need-eq0.false w.both-x.result c.child_at-k.result.bits w.both-x.ensures c.child_at-k.ensures.bits-are) ] in (c.if-need-eq0.auto.kids ∙ c.loop-at.invariant.0, c.if-need-eq0.auto.a ∙ c.loop-at.invariant.1, c.if-need-eq0.auto.b ∙ c.loop-at.invariant.2, optional-left c.args.kids.now c.args.need c.args.postings.now c.args.positions.now c.args.norms.now c.args.ranges.now c.args.inverses.now (length c.args.a.now) (length c.args.b.now) c.args.base c.args.want c.args.sums.now c.args.depth c.loop-at.kids c.if-need-eq0.kids c.loop-at.at c.child_at-k.result.end c.if-need-eq0.x c.loop-at.sums T c.if-x-ne0.false)
 
 -- src/lib.rt:217:1
 pub optional_scores-returns : goal.optional_scores-returns

@@ -1,5 +1,5 @@
 -- The measures of the cycle, and what its loops keep. Assumes nothing.
-use Rattle.std.proofs.Common.{length, ◌-◌, ◌≡◌, ◌≤◌, get_or, ℕ, ◌+◌, ◌*◌, ◌<◌}
+use Rattle.std.proofs.Common.{length, ◌-◌, ◌≡◌, ◌+◌, ◌*◌}
 use Rattle.window_score.proofs.Required.{RequiredAt}
 use Rattle.window_score.proofs.Optional.{OptionalAt}
 use Rattle.window_score.proofs.+boolean_scores_joined_scores_node_scores_optional_scores_required_scores.Given as goal
