@@ -1,5 +1,5 @@
 -- The loop over windows of 64 documents, from any scorer tree to the collector. Assumes nothing: these are definitions.
-use Rattle.std.specs.Prelude.{◌≡◌, Bool, true, ◌&&◌, List, map, ℕ, ◌+◌, ◌%◌, ◌≤◌, ◌<◌, max, ltb, T, length, get_or, ℤ, Float}
+use Rattle.std.specs.Prelude.{◌≡◌, true, ◌&&◌, List, map, ℕ, ◌+◌, ◌%◌, ◌≤◌, ◌<◌, max, ltb, T, length, get_or, ℤ, Float}
 use Rattle.std.specs.Float.{nan}
 use Rattle.meaning.specs.Limits.{noMoreDocs}
 use Rattle.meaning.specs.Lent.{Index}

@@ -9,7 +9,7 @@ ghost use Rattle.bulk_window.specs.Windows.{LiveWord, LiveBits, NextWindow, Plac
 use collector::TopScoreDocCollector;
 use index::wide;
 use window_bits::node_bits;
-use window_score::node_scores;
+use window_score::root::root_scores;
 
 // Every document of a window.
 const ALL: u64 = 18446744073709551615;
@@ -96,7 +96,7 @@ fn collect_window(
         return c;
     }
     let mut sums = [0.0f64; 64];
-    node_scores(
+    root_scores(
         st, postings, positions, norms, ranges, inverses, a, b, base, places, &mut sums, depth,
     );
     collect_places(c, heap, doc_base + base, places, &sums)
@@ -130,7 +130,8 @@ pub fn collect_windows(
         let places = node_bits(st, postings, positions, ranges, a, b, base, want, depth);
         let next = st[22];
         c = collect_window(
-            st, postings, positions, norms, ranges, inverses, a, b, base, places, depth, doc_base, c, heap,
+            st, postings, positions, norms, ranges, inverses, a, b, base, places, depth, doc_base,
+            c, heap,
         );
         base = next_window(base, next);
     }

@@ -1,5 +1,5 @@
 -- A Boolean's children, call by call: the required alone, the group alone, or the group and then both. Assumes nothing.
-use Rattle.std.proofs.Common.{◌≡◌, refl, sym, ap, subst, ◌∙◌, Bool, true, false, cond, ◌&&◌, List, ◌++◌, ℕ, ◌+◌, ◌-◌, ◌≤◌, ltb, length, get_or, take, drop, length-append, take_at, drop_at, le_refl, arith}
+use Rattle.std.proofs.Common.{◌≡◌, refl, sym, ap, subst, ◌∙◌, Bool, true, false, cond, ◌&&◌, List, ◌++◌, ℕ, ◌+◌, ◌-◌, ◌≤◌, ltb, length, get_or, take, drop, length-append, take_at, drop_at, le_refl, arith, ◌<◌}
 use Rattle.std.specs.Prelude.{Float}
 use Rattle.std.specs.Float.{nan}
 use Rattle.meaning.specs.Ieee754.{narrow, narrowedSum}
@@ -12,11 +12,11 @@ use Rattle.score.proofs.Small.{first_small, oks-weighted}
 use Rattle.window_words.specs.Windowed.{nowhere, placesOf, optionalBound, AllWindowed}
 use Rattle.window_words.proofs.Laws.{all-length, all-forget, all-ok}
 use Rattle.window_score.specs.declared.Joined.{Joined}
-use Rattle.window_score.specs.Sums.{Sums, AddedAll, NarrowedPre, NarrowedPost}
-use Rattle.window_score.specs.Asked.{RequiredAsked, RequiredPre, RequiredPost, OptionalAsked, OptionalPre, OptionalPost, BooleanPre, BooleanPost, GroupAsked, GroupPre, GroupPost}
+use Rattle.window_score.specs.Sums.{Sums, Zeros, NarrowedIs, AddedAll, NarrowedPre, NarrowedPost}
+use Rattle.window_score.specs.Asked.{BooleanLeft, RequiredAsked, RequiredPre, RequiredPost, OptionalAsked, OptionalPre, OptionalPost, BooleanPre, BooleanPost, GroupAsked, GroupPre, GroupPost, PartPre, PartPost}
 use Rattle.window_score.proofs.Loops.{put, sums-more}
 use Rattle.window_score.proofs.Required.{lent-at}
-use Rattle.window_score.proofs.Splits.{Zeros, zero-sums}
+use Rattle.window_score.proofs.Splits.{zero-sums}
 use Rattle.window_score.proofs.Groups.{added-as, summed}
 
 -- ---- a list in three parts
@@ -88,6 +88,26 @@ module _ (kids : List ℕ) (node : Joined) (postings positions norms ranges : Li
       alone-own : (w : Asks) → AddedAll (λ p. scoring (requiredScores w.1 w.4 (base + p))) want own own' × Sums (0 + nodesOf w.4) own' × AllWindowed w.1 ranges w.4 depth xs (base + 64) (base + 64) nowhere
       alone-own w = post w.0 w.1 w.2 w.4 0 w.8 (alone-asked w) (zero-sums own own-zero)
 
+      alone-few : (w : Asks) → nodesOf w.4 ≤ 256
+      alone-few w = let f = w.9.few in omega (arith, f)
+
+      pub alone-score : re ≡ oe → (w : Asks) (p : ℕ) → p < 64 → bit p want ≡ true → narrow (get_or own' p nan) ≡ goal-score w p
+      alone-score none w p l e =
+          let r = alone-own w in
+          let ix = w.1 in
+          let rs = w.4 in
+          let os-none : w.5 ≡ end = none_left w.5 (omega (arith, none, w.9.required-end, w.9.optional-end)) in
+          let W = oks-weighted ix ranges rs depth w.9.x (base + 64) (all-ok ix ranges rs depth w.9.x (base + 64) base (placesOf want) (omega arith) w.9.required) in
+          (joined-alone ix (base + p) rs w.3 (alone-few w) (λ m. (first_small ix w.8.lends.accepted w.2 (base + p) m rs W w.9.required-scorables.sound (alone-few w)).sign) (get_or own' p nan) (narrow (get_or own' p nan))
+          (summed own own' own-zero want (λ i. scoring (requiredScores ix rs (base + i))) r.0 (nodesOf rs) r.1 p l e) refl).is
+          ∙ ap (λ (o : Scorers). joinedScore w.3 (requiredScores ix rs (base + p)) (narrowedSum (optionalScores ix o (base + p)))) (sym os-none)
+
+      alone-left : (w : Asks) → BooleanLeft w.1 ranges w.4 w.5 depth w.6 (xs ++ drop re kids) base
+      alone-left w = record { x = xs; v = w.9.v; is = front-back w.9.x (w.9.v ++ w.6) kids re w.9.is (required-long w) xs; required = (alone-own w).2; optional = optional-left w }
+
+      pub alone-root : re ≡ oe → (w : Asks) → NarrowedIs (goal-score w) want own own' × BooleanLeft w.1 ranges w.4 w.5 depth w.6 (xs ++ drop re kids) base
+      alone-root none w = (record { long = (alone-own w).1.long; wanted = alone-score none w; others = (alone-own w).0.others }, alone-left w)
+
       pub alone-add : Asks → NarrowedPre own' sums
       alone-add w =
           let r = nodesOf w.4 + nodesOf w.5 in
@@ -97,21 +117,9 @@ module _ (kids : List ℕ) (node : Joined) (postings positions norms ranges : Li
       unfolding alone-add
       alone-done none sums' add n ix places j rs os rest q L A S =
           let w : Asks = (n, ix, places, j, rs, os, rest, q, L, A, S) in
-          let r = alone-own w in
           let N = alone-add w in
           let z = add N.0 N.1 N.2 N.3 in
-          let few : nodesOf rs ≤ 256 = omega (arith, A.few) in
-          let os-none : os ≡ end = none_left os (omega (arith, none, A.required-end, A.optional-end)) in
-          let W = oks-weighted ix ranges rs depth A.x (base + 64) (all-ok ix ranges rs depth A.x (base + 64) base (placesOf want) (omega arith) A.required) in (
-            added-as (λ p. narrow (get_or own' p nan)) (goal-score w) want sums sums' (
-                λ p l e.
-                (joined-alone ix (base + p) rs j few (λ m. (first_small ix L.lends.accepted places (base + p) m rs W A.required-scorables.sound few).sign) (get_or own' p nan) (narrow (get_or own' p nan))
-                (summed own own' own-zero want (λ i. scoring (requiredScores ix rs (base + i))) r.0 (nodesOf rs) r.1 p l e) refl).is
-                ∙ ap (λ (o : Scorers). joinedScore j (requiredScores ix rs (base + p)) (narrowedSum (optionalScores ix o (base + p)))) (sym os-none)
-                ) z.0,
-            z.1,
-            record { x = xs; v = A.v; is = front-back A.x (A.v ++ rest) kids re A.is (required-long w) xs; required = r.2; optional = optional-left w },
-          )
+          (added-as (λ p. narrow (get_or own' p nan)) (goal-score w) want sums sums' (alone-score none w) z.0, z.1, alone-left w)
 
     -- ---- the group
     abbrev group-parts : List ℕ
@@ -138,6 +146,25 @@ module _ (kids : List ℕ) (node : Joined) (postings positions norms ranges : Li
       back w = mid_back w.9.x w.9.v w.6 kids re oe w.9.is (required-long w) (optional-long w) vs
 
       -- no required children: the group is the score
+      only-few : (w : Asks) → nodesOf w.5 ≤ 256
+      only-few w = let f = w.9.few in omega (arith, f)
+
+      pub only-score : re ≡ 0 → (w : Asks) (p : ℕ) → p < 64 → bit p want ≡ true → narrow (get_or group p nan) ≡ goal-score w p
+      only-score none w p l e =
+          let r = group-own w in
+          let ix = w.1 in
+          let os = w.5 in
+          let rs-none : w.4 ≡ end = none_left w.4 (sym w.9.required-end ∙ none) in
+          let g = group-is (optionalScores ix os (base + p)) (nodesOf os) (get_or group p nan) (narrow (get_or group p nan)) (only-few w) (summed own group own-zero want (λ i. optionalScores ix os (base + i)) r.0 (nodesOf os) r.1 p l e) refl in
+          (joined-only ix (base + p) os w.3 (narrow (get_or group p nan)) g.0 g.1).is
+          ∙ ap (λ (o : Scorers). joinedScore w.3 (requiredScores ix o (base + p)) (narrowedSum (optionalScores ix os (base + p)))) (sym rs-none)
+
+      only-left : (w : Asks) → BooleanLeft w.1 ranges w.4 w.5 depth w.6 kids₁ base
+      only-left w = record { x = w.9.x; v = vs; is = back w; required = required-left w; optional = (group-own w).2 }
+
+      pub only-root : re ≡ 0 → (w : Asks) → NarrowedIs (goal-score w) want own group × BooleanLeft w.1 ranges w.4 w.5 depth w.6 kids₁ base
+      only-root none w = (record { long = (group-own w).1.long; wanted = only-score none w; others = (group-own w).0.others }, only-left w)
+
       pub only-add : Asks → NarrowedPre group sums
       only-add w =
           let r = nodesOf w.4 + nodesOf w.5 in
@@ -147,20 +174,9 @@ module _ (kids : List ℕ) (node : Joined) (postings positions norms ranges : Li
       unfolding only-add
       only-done none sums' add n ix places j rs os rest q L A S =
           let w : Asks = (n, ix, places, j, rs, os, rest, q, L, A, S) in
-          let r = group-own w in
           let N = only-add w in
           let z = add N.0 N.1 N.2 N.3 in
-          let few : nodesOf os ≤ 256 = omega (arith, A.few) in
-          let rs-none : rs ≡ end = none_left rs (sym A.required-end ∙ none) in (
-            added-as (λ p. narrow (get_or group p nan)) (goal-score w) want sums sums' (
-                λ p l e.
-                let g = group-is (optionalScores ix os (base + p)) (nodesOf os) (get_or group p nan) (narrow (get_or group p nan)) few (summed own group own-zero want (λ i. optionalScores ix os (base + i)) r.0 (nodesOf os) r.1 p l e) refl in
-                (joined-only ix (base + p) os j (narrow (get_or group p nan)) g.0 g.1).is
-                ∙ ap (λ (o : Scorers). joinedScore j (requiredScores ix o (base + p)) (narrowedSum (optionalScores ix os (base + p)))) (sym rs-none)
-                ) z.0,
-            z.1,
-            record { x = A.x; v = vs; is = back w; required = required-left w; optional = r.2 },
-          )
+          (added-as (λ p. narrow (get_or group p nan)) (goal-score w) want sums sums' (only-score none w) z.0, z.1, only-left w)
 
       -- both
       module _ (a' b' : ℕ) (same-a : a' ≡ a) (same-b : b' ≡ b) where
@@ -187,3 +203,16 @@ module _ (kids : List ℕ) (node : Joined) (postings positions norms ranges : Li
             let w : Asks = (n, ix, places, j, rs, os, rest, q, L, A, S) in
             let r = join n ix places j rs os q (lent-at a' b' want same-a same-b (λ p l e. e) L) (both-asked w) S in
             (r.0, r.1, record { x = xs; v = vs; is = front-back A.x (vs ++ rest) kids₁ re (back w) (required-long w) xs; required = r.2; optional = (group-own w).2 })
+
+-- ---- the children of a root that has but one part, whose sums were 0
+module _ (kids : List ℕ) (node : Joined) (postings positions norms ranges : List ℕ) (table : List Float) (a b base want : ℕ) (sums : List Float) (depth : ℕ) (w : PartPre kids node postings positions norms ranges table a b base want sums depth) where
+  pub part-as : BooleanPre kids node postings positions norms ranges table a b base want sums depth
+  part-as = let r = w.2 in (r.0, r.1, r.2, r.3, r.4, r.5, r.6, 0, r.7, r.8, zero-sums sums w.1)
+
+  pub part-alone : node.required ≡ node.optional → (xs : List ℕ) (sums' : List Float) → RequiredPost (take node.required kids) postings positions norms ranges table a b base want sums depth xs sums' → PartPost kids node postings positions norms ranges table a b base want sums depth (xs ++ drop node.required kids) sums'
+  part-alone none xs sums' post n ix places j rs os rest L A =
+      alone-root kids node postings positions norms ranges table a b base want sums depth sums w.1 xs sums' post none (n, ix, places, j, rs, os, rest, 0, L, A, zero-sums sums w.1)
+
+  pub part-only : (node.required ≡ node.optional → ⊥) → (vs : List ℕ) (sums' : List Float) → OptionalPost (take (node.optional - node.required) (drop node.required kids)) node.need postings positions norms ranges table a b base want sums depth vs sums' → PartPost kids node postings positions norms ranges table a b base want sums depth (put kids node.required node.optional vs) sums'
+  part-only some vs sums' post n ix places j rs os rest L A =
+      only-root kids node postings positions norms ranges table a b base want sums depth sums w.1 vs sums' post (w.0 some) (n, ix, places, j, rs, os, rest, 0, L, A, zero-sums sums w.1)

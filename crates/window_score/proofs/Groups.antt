@@ -14,11 +14,11 @@ use Rattle.score.specs.Asked.{JoinsAt, SumIs}
 use Rattle.score.proofs.Join.{first_of, rest_of, first-sounds, first-tables, first-nodes, first_matches, group-is, joined-more, joined-after}
 use Rattle.window_words.specs.Windowed.{nowhere, placesOf, AllWindowed}
 use Rattle.window_score.specs.declared.Joined.{Joined}
-use Rattle.window_score.specs.Sums.{Sums, Added, AddedAll, NarrowedPre, NarrowedPost, JoinedPre, JoinedPost}
+use Rattle.window_score.specs.Sums.{Sums, Zeros, Added, AddedAll, NarrowedPre, NarrowedPost, JoinedPre, JoinedPost}
 use Rattle.window_score.specs.Asked.{RequiredAsked, RequiredPre, RequiredPost, GroupPre, GroupPost}
 use Rattle.window_score.proofs.Loops.{put, sums-more}
 use Rattle.window_score.proofs.Required.{lent-at}
-use Rattle.window_score.proofs.Splits.{Split, all-split, all-join, Zeros, zero-sums}
+use Rattle.window_score.proofs.Splits.{Split, all-split, all-join, zero-sums}
 
 -- which way the group joins
 no-after : (j : Joining) (rs : Scorers) (a b : ℕ) → JoinsAt j rs a b → (a ≡ 1 → ⊥) → (m : ℕ) × (j ≡ oneMore m) × (b ≡ sizesOfFirst m rs)

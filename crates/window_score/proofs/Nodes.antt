@@ -5,7 +5,7 @@ use Rattle.std.proofs.Math.Option.{none, some}
 use Rattle.std.proofs.Math.Seq.{take-length, drop-length}
 use Rattle.std.proofs.lemmas.Bool.{false≢true, and_parts}
 use Rattle.std.specs.Prelude.{Float}
-use Rattle.std.specs.Float.{binary32}
+use Rattle.std.specs.Float.{nan, binary32}
 use Rattle.std.specs.Float.Ieee.{of_bits, nan_bits}
 use Rattle.meaning.specs.Limits.{nodeStateWords}
 use Rattle.meaning.specs.Lent.{Index}
@@ -21,13 +21,16 @@ use Rattle.leaf_score.proofs.Bounds.{scores-more, zero-32}
 use Rattle.leaf_score.proofs.Weights.{float_back, float-number}
 use Rattle.score.specs.Asked.{JoinsAt}
 use Rattle.window_words.specs.Windowed.{Places, nowhere, placesOf, requiredPlaces, optionalPlaces, optionalBound, Windowed, AllWindowed}
-use Rattle.window_words.proofs.Laws.{kindOf, windowed-long, windowed-kind, windowed-forget, all-less, all-forget}
+use Rattle.window_words.proofs.Laws.{kindOf, windowed-ok, windowed-long, windowed-kind, windowed-forget, all-less, all-forget}
 use Rattle.window_score.specs.declared.Joined.{Joined}
 use Rattle.window_score.specs.Words.{JoinedIs}
 use Rattle.window_score.specs.Sums.{ConstantPre, ConstantPost}
-use Rattle.window_score.specs.Asked.{NodeAsked, ScoresPre, ScoresPost, BooleanAsked, BooleanLeft, BooleanPre, BooleanPost}
+use Rattle.window_score.specs.Asked.{WindowLent, NodeAsked, ScoresPre, ScoresPost, BooleanAsked, BooleanLeft, BooleanPre, BooleanPost, RootPre, RootPost, PartPre, PartPost, OnePart}
 use Rattle.window_score.proofs.Loops.{put, sums-more}
 use Rattle.window_score.proofs.Groups.{added-as}
+use Rattle.window_score.proofs.Splits.{zero-sums}
+use Rattle.window_score.proofs.Alone.{sum-narrowed}
+use Rattle.score.proofs.Small.{ok-weighted}
 
 -- ---- the score words of a record
 -- a score that is the same for each document
@@ -237,3 +240,40 @@ module _ (st postings positions norms ranges : List ℕ) (table : List Float) (a
             sums-more (q + (nodesOf B.rs + nodesOf B.os)) (q + nodes S) sums' (omega (arith, B.fewer)) z.1,
             B.done kids' z.2,
           )
+
+-- ---- a root, whose sums were 0
+module _ (st postings positions norms ranges : List ℕ) (table : List Float) (a b base want : ℕ) (sums : List Float) (depth : ℕ) where
+  abbrev pub RootAsks : Type 0
+  RootAsks = RootPre st postings positions norms ranges table a b base want sums depth
+
+  abbrev RootGives : List ℕ → List Float → Type 0
+  RootGives st' sums' = RootPost st postings positions norms ranges table a b base want sums depth st' sums'
+
+  pub root-as : RootAsks → ScoresPre st postings positions norms ranges table a b base want sums depth
+  root-as w = let r = w.1 in (r.0, r.1, r.2, r.3, r.4, 0, r.5, r.6, zero-sums sums w.0)
+
+  pub root-done : RootAsks → (st' : List ℕ) (sums' : List Float) → ScoresPost st postings positions norms ranges table a b base want sums depth st' sums' → RootGives st' sums'
+  root-done w st' sums' post n ix places S sc L A =
+      let z = post n ix places S sc 0 L A (zero-sums sums w.0) in
+      let W = ok-weighted ix ranges S depth sc st (base + 64) (windowed-ok ix ranges S depth sc st (base + 64) base (placesOf want) (omega arith) A.held) in
+      (record { long = z.1.long; wanted = λ p l e. sum-narrowed ix L.lends.accepted places S W A.scorable.sound A.scorable.few (base + p) (get_or sums p nan) (w.0.zero p l) (get_or sums' p nan) (z.0.wanted p l e); others = z.0.others }, z.2)
+
+  module _ (other : get_or st 11 0 ≡ 1 → ⊥) (is-boolean : get_or st 0 0 ≡ 3) (n : Joined) (N : JoinedIs st n) where
+    abbrev root-parts : List ℕ
+    root-parts = take (length st - nodeStateWords) (drop nodeStateWords st)
+
+    root-here : (m : ℕ) (ix : Index) (places : ℕ) (S : Scorer) (sc : ℕ) → WindowLent ix m postings positions norms places a b base want → NodeAsked ix ranges table places S depth sc st base want 0 → BooleanAt ix ranges table places depth sc st base want 0 n N S
+    root-here m ix places S sc L A =
+        boolean-at ix ranges table places depth sc st base want 0 n N S A (sym (windowed-kind ix ranges S depth sc st (base + 64) base (placesOf want) A.held) ∙ is-boolean) other
+
+    pub root-deep : RootAsks → 0 < depth
+    root-deep w = let r = w.1 in (root-here r.0 r.1 r.2 r.3 r.4 r.5 r.6).deep
+
+    pub root-ask : OnePart n → RootAsks → PartPre root-parts n postings positions norms ranges table a b base want sums (depth - 1)
+    root-ask one w = let r = w.1 in let B = root-here r.0 r.1 r.2 r.3 r.4 r.5 r.6 in (one, w.0, (r.0, r.1, r.2, B.j, B.rs, B.os, B.rest, r.5, B.asked))
+
+    pub root-part : (kids' : List ℕ) (sums' : List Float) → PartPost root-parts n postings positions norms ranges table a b base want sums (depth - 1) kids' sums' → RootGives (put st nodeStateWords (length st) kids') sums'
+    root-part kids' sums' post m ix places S sc L A =
+        let B = root-here m ix places S sc L A in
+        let z = post m ix places B.j B.rs B.os B.rest L B.asked in
+        (record { long = z.0.long; wanted = λ p l e. z.0.wanted p l e ∙ B.score (base + p); others = z.0.others }, B.done kids' z.1)

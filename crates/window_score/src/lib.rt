@@ -14,6 +14,7 @@ use window_bits::node_bits;
 use window_leaf::term_bits;
 
 pub mod leaf;
+pub mod root;
 pub mod sums;
 
 const TERM: u32 = 1;

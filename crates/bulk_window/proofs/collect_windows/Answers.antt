@@ -1,5 +1,5 @@
 -- Window after window: what the tree matches is collected, and nothing lies in between.
-use Rattle.std.proofs.Common.{◌≡◌, refl, sym, ◌∙◌, ◌≤◌, ◌<◌, length, min, arith, get_or}
+use Rattle.std.proofs.Common.{refl, length, min, arith, get_or}
 use Rattle.leaf_scorer.specs.Calls.{lent}
 use Rattle.bulk_scorer.proofs.Held.{root-words}
 use Rattle.bulk_window.proofs.Loop.{loop-start, loop-end, loop-done, loop-step, window-small, window-next, window-scores}
