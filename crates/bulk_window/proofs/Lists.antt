@@ -19,10 +19,10 @@ list-split P base (suc k) =
     ∙ ap (λ (l : List ℕ). l ++ cond (P (base + k)) ((base + k) ∷ []) []) (list-split P base k)
     ∙ append_assoc (listBelow base P) (map (λ p. base + p) xs) (cond (P (base + k)) ((base + k) ∷ []) [])
     ∙ ap (λ (l : List ℕ). listBelow base P ++ l) (ap (λ (l : List ℕ). map (λ p. base + p) xs ++ l) (one (P (base + k))) ∙ sym (map-append (λ p. base + p) xs (cond (P (base + k)) (k ∷ []) [])))
-    where
-      one : (b : Bool) → cond b ((base + k) ∷ []) [] ≡ map (λ p. base + p) (cond b (k ∷ []) [])
-      one true = refl
-      one false = refl
+  where
+    one : (b : Bool) → cond b ((base + k) ∷ []) [] ≡ map (λ p. base + p) (cond b (k ∷ []) [])
+    one true = refl
+    one false = refl
 
 -- where none lies between, those below the one are those below the other
 pub list-skip : (P : ℕ → Bool) (a b : ℕ) → a ≤ b → ((d : ℕ) → a ≤ d → d < b → P d ≡ false) → listBelow b P ≡ listBelow a P
@@ -32,7 +32,7 @@ list-skip P a (suc b) l h =
     ⊎_elim
     (λ (e : a ≡ suc b). ap (λ n. listBelow n P) (sym e))
     (λ (g : a < suc b).
-        ap (λ (t : Bool). listBelow b P ++ cond t (b ∷ []) []) (h b (omega (arith, g)) (omega arith)) ∙ append-nil (listBelow b P) ∙ list-skip P a b (omega (arith, g)) (λ d m n. h d m (omega (arith, n))))
+    ap (λ (t : Bool). listBelow b P ++ cond t (b ∷ []) []) (h b (omega (arith, g)) (omega arith)) ∙ append-nil (listBelow b P) ∙ list-skip P a b (omega (arith, g)) (λ d m n. h d m (omega (arith, n))))
     (eq-or-lt_of_le l)
 
 -- over those below n that P takes, two maps that agree there are one
@@ -44,7 +44,7 @@ map-same P f g (suc n) h =
     ∙ ap (λ l. l ++ map f (cond (P n) (n ∷ []) [])) (map-same P f g n (λ p l e. h p (omega (arith, l)) e))
     ∙ ap (λ l. map g (listBelow n P) ++ l) (one (P n) refl)
     ∙ sym (map-append g (listBelow n P) (cond (P n) (n ∷ []) []))
-    where
-      one : (b : Bool) → P n ≡ b → map f (cond b (n ∷ []) []) ≡ map g (cond b (n ∷ []) [])
-      one true e = ap (λ x. x ∷ []) (h n (omega arith) e)
-      one false e = refl
+  where
+    one : (b : Bool) → P n ≡ b → map f (cond b (n ∷ []) []) ≡ map g (cond b (n ∷ []) [])
+    one true e = ap (λ x. x ∷ []) (h n (omega arith) e)
+    one false e = refl

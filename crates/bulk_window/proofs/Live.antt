@@ -1,5 +1,5 @@
 -- The live word of a window, and its cut at the number of documents. Assumes nothing.
-use Rattle.std.proofs.Common.{◌≡◌, refl, sym, ap, ◌∙◌, Bool, true, false, cond, ◌&&◌, List, ℕ, ◌+◌, ◌-◌, ◌*◌, ◌/◌, ◌%◌, ◌^◌, ◌≤◌, ◌<◌, eqb, ltb, length, get_or, arith, lt-ltb, le-ltb, ne_eqb}
+use Rattle.std.proofs.Common.{◌≡◌, refl, sym, ap, ◌∙◌, Bool, true, false, ◌&&◌, List, ℕ, ◌+◌, ◌-◌, ◌/◌, ◌%◌, ◌≤◌, ◌<◌, eqb, ltb, length, get_or, arith, lt-ltb, le-ltb, ne_eqb}
 use Rattle.meaning.specs.Live.{isLive}
 use Rattle.index.specs.Slices.{liveOnly}
 use Rattle.meaning.proofs.Tests.{cmp}

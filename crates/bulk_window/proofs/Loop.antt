@@ -1,8 +1,8 @@
 -- The loop over windows: the live matches before a window are collected. Assumes nothing.
-use Rattle.std.proofs.Common.{◌≡◌, refl, sym, ap, subst, ◌∙◌, Bool, true, false, ◌&&◌, List, [], ◌∷◌, ◌++◌, map, ℕ, zero, suc, ◌+◌, ◌-◌, ◌*◌, ◌%◌, ◌≤◌, ◌<◌, min, max, ltb, length, get_or, ℤ, arith, lt-ltb, le-ltb, ⊎_elim}
+use Rattle.std.proofs.Common.{◌≡◌, refl, sym, ap, subst, ◌∙◌, Bool, true, false, ◌&&◌, List, [], ◌∷◌, ◌++◌, map, ℕ, ◌+◌, ◌-◌, ◌*◌, ◌≤◌, ◌<◌, min, ltb, length, get_or, ℤ, arith, lt-ltb, le-ltb, ⊎_elim}
 use Rattle.std.specs.Prelude.{Float}
 use mathlib.Core.List.{append_assoc, append-nil}
-use mathlib.Core.Bool.{and_assoc, and-false, false≢true}
+use mathlib.Core.Bool.{and_assoc, false≢true}
 use Rattle.meaning.proofs.Tests.{cmp}
 use Rattle.meaning.specs.Below.{listBelow}
 use Rattle.meaning.proofs.Below.{list_same}
@@ -26,7 +26,7 @@ use Rattle.window_leaf.specs.Asks.{Answers, Wanted, NodeWindowed, BitsPre, BitsP
 use Rattle.window_score.specs.Asked.{WindowLent, NodeAsked}
 use Rattle.bulk_scorer.specs.Collects.{RootHeld, numbered, Continued}
 use Rattle.bulk_scorer.proofs.LiveMatches.{live_of, live-there, not-match, not-below}
-use Rattle.bulk_window.specs.Windows.{LiveBits, NextWindow, placed, PlacesBelow, WindowPre, WindowPost}
+use Rattle.bulk_window.specs.Windows.{LiveBits, NextWindow, placed, WindowPre, WindowPost}
 use Rattle.bulk_window.proofs.Lists.{list-split, list-skip}
 
 and-left : (a b : Bool) → a && b ≡ true → a ≡ true

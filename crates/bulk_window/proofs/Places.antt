@@ -1,14 +1,13 @@
 -- The loop over the set places of a window: those done are collected. Assumes nothing.
-use Rattle.std.proofs.Common.{◌≡◌, refl, sym, ap, subst, ◌∙◌, Bool, true, false, not, ◌&&◌, List, [], ◌∷◌, ◌++◌, map, ℕ, suc, ◌+◌, ◌≤◌, ◌<◌, eqb, eq-eqb, length, get_or, ℤ, arith, ⊎_elim}
+use Rattle.std.proofs.Common.{◌≡◌, refl, sym, ap, subst, ◌∙◌, Bool, true, false, not, ◌&&◌, List, [], ◌∷◌, ◌++◌, map, ℕ, suc, ◌+◌, ◌≤◌, ◌<◌, eqb, eq-eqb, length, ℤ, arith, ⊎_elim}
 use Rattle.std.specs.Prelude.{Float}
 use mathlib.Core.List.{append_assoc, append-nil}
-use mathlib.Core.Bool.{and-false, false≢true}
+use mathlib.Core.Bool.{false≢true}
 use native.Mathlib.Nat.{eq-or-lt_of_le}
 use Rattle.meaning.proofs.Tests.{cmp}
 use Rattle.meaning.specs.FullList.{ScoreDoc}
 use Rattle.bits.specs.Bit.{bit, setBits, LowestBit}
 use Rattle.bits.proofs.Lists.{none-left}
-use Rattle.bits.proofs.Laws.{bit-zero}
 use Rattle.collector.specs.declared.TopScoreDocCollector.{TopScoreDocCollector}
 use Rattle.collector.specs.Collected.{Collected, Ready, Extended}
 use Rattle.collector.proofs.Beginning.{collected-later}

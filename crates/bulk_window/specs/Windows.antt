@@ -1,11 +1,11 @@
 -- The loop over windows of 64 documents, from any scorer tree to the collector. Assumes nothing: these are definitions.
-use Rattle.std.specs.Prelude.{◌≡◌, Bool, true, ◌&&◌, List, map, ℕ, ◌+◌, ◌%◌, ◌≤◌, ◌<◌, max, ltb, T, length, get_or, ℤ, Float}
+use Rattle.std.specs.Prelude.{◌≡◌, true, ◌&&◌, List, map, ℕ, ◌+◌, ◌%◌, ◌≤◌, ◌<◌, max, ltb, T, length, get_or, ℤ, Float}
 use Rattle.std.specs.Float.{nan}
 use Rattle.meaning.specs.Limits.{noMoreDocs}
 use Rattle.meaning.specs.Lent.{Index}
 use Rattle.meaning.specs.Live.{isLive}
 use Rattle.meaning.specs.FullList.{ScoreDoc}
-use Rattle.meaning.specs.Ieee754.{narrow}
+use Rattle.meaning.specs.Ieee754.{zeroFloat, narrow}
 use Rattle.ieee754.specs.Nonneg.{signClear}
 use Rattle.bits.specs.Bit.{bit, setBits}
 use Rattle.collector.specs.declared.TopScoreDocCollector.{TopScoreDocCollector}
@@ -14,6 +14,7 @@ use Rattle.index.specs.Slices.{liveOnly}
 use Rattle.weight.specs.ScorerTree.{Scorer, scorerScore}
 use Rattle.bulk_scorer.specs.Collects.{Continued}
 use Rattle.window_words.specs.Windowed.{nowhere, Windowed}
+use Rattle.window_score.specs.Sums.{At}
 use Rattle.window_score.specs.Asked.{WindowLent, NodeAsked}
 
 -- the live word of a window
@@ -46,6 +47,11 @@ PlacesPre first places sums c heap =
 abbrev pub PlacesPost : ℕ → ℕ → List Float → TopScoreDocCollector → List ℤ → TopScoreDocCollector → List ℤ → Type 0
 PlacesPost first places sums c heap c' heap' =
     (n : ℕ) → PlacesBelow n places → Continued first n (placed (λ p. narrow (get_or sums p nan)) places) c heap c' heap'
+
+-- the sums at the places are 0, and the others stay
+pub record Cleared (places : ℕ) (sums sums' : List Float) : Type 0 where
+  pub long : length sums' ≡ 64
+  pub at : At (λ p x. zeroFloat) places sums sums'
 
 -- a tree that was asked of the window and takes the documents at the places, before the collector
 abbrev pub WindowPre : List ℕ → List ℕ → List ℕ → List ℕ → List ℕ → List Float → ℕ → ℕ → ℕ → ℕ → ℕ → ℕ → TopScoreDocCollector → List ℤ → Type 0

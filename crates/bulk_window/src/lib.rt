@@ -4,12 +4,13 @@
 ghost use Rattle.std.specs.Prelude.{◌≡◌, ◌+◌, ◌*◌, ◌%◌, ◌≤◌, ◌<◌, length, min};
 ghost use Rattle.leaf_scorer.specs.Calls.{lent};
 ghost use Rattle.bulk_scorer.specs.Collects.{CollectPre, CollectPost, CollectEnd};
-ghost use Rattle.bulk_window.specs.Windows.{LiveWord, LiveBits, NextWindow, PlacesPre, PlacesPost, WindowPre, WindowPost};
+ghost use Rattle.bulk_window.specs.Windows.{LiveWord, LiveBits, NextWindow, PlacesPre, PlacesPost, WindowPre, WindowPost, Cleared};
+ghost use Rattle.window_score.specs.Sums.{Zeros};
 
 use collector::TopScoreDocCollector;
 use index::wide;
 use window_bits::node_bits;
-use window_score::node_scores;
+use window_score::root::root_scores;
 
 // Every document of a window.
 const ALL: u64 = 18446744073709551615;
@@ -51,28 +52,31 @@ fn next_window(base: u32, next: u32) -> u32
     next - next % 64
 }
 
-// The documents at some places of a window to the collector, in rising order, each with its sum narrowed.
+// The documents at some places of a window to the collector, in rising order, each with its sum narrowed; these sums are 0 then.
 fn collect_places(
     c: TopScoreDocCollector,
     heap: &mut [i64],
     first: u32,
     places: u64,
-    sums: &[f64],
+    sums: &mut [f64],
 ) -> TopScoreDocCollector
-    requires { PlacesPre first places sums.now c heap.old }
-    ensures { PlacesPost first places sums.now c heap.old result heap.new }
+    requires { PlacesPre first places sums.old c heap.old }
+    ensures collected { PlacesPost first places sums.old c heap.old result heap.new }
+    ensures cleared { Cleared places sums.old sums.new }
 {
     let mut c = c;
     let mut left = places;
     while left != 0 {
         let place = bits::lowest(left);
-        c = c.stepped(heap, first + place, ieee754::narrow(sums[wide(place)]));
+        let at = wide(place);
+        c = c.stepped(heap, first + place, ieee754::narrow(sums[at]));
+        sums[at] = 0.0;
         left = bits::without_lowest(left);
     }
     c
 }
 
-// The documents of a window that the tree matches, to the collector with their scores.
+// The documents of a window that the tree matches, to the collector with their scores. All sums are 0 before and after.
 fn collect_window(
     st: &mut [u32],
     postings: &[u32],
@@ -84,22 +88,24 @@ fn collect_window(
     b: &mut [i32],
     base: u32,
     places: u64,
+    sums: &mut [f64],
     depth: u32,
     doc_base: u32,
     c: TopScoreDocCollector,
     heap: &mut [i64],
 ) -> TopScoreDocCollector
-    requires { WindowPre st.old postings.now positions.now norms.now ranges.now inverses.now (length a.old) (length b.old) base places depth doc_base c heap.old }
-    ensures { WindowPost st.old postings.now positions.now norms.now ranges.now inverses.now (length a.old) (length b.old) base places depth doc_base c heap.old result heap.new st.new }
+    requires zeros { Zeros sums.old }
+    requires window { WindowPre st.old postings.now positions.now norms.now ranges.now inverses.now (length a.old) (length b.old) base places depth doc_base c heap.old }
+    ensures zeros { Zeros sums.new }
+    ensures window { WindowPost st.old postings.now positions.now norms.now ranges.now inverses.now (length a.old) (length b.old) base places depth doc_base c heap.old result heap.new st.new }
 {
     if places == 0 {
         return c;
     }
-    let mut sums = [0.0f64; 64];
-    node_scores(
-        st, postings, positions, norms, ranges, inverses, a, b, base, places, &mut sums, depth,
+    root_scores(
+        st, postings, positions, norms, ranges, inverses, a, b, base, places, sums, depth,
     );
-    collect_places(c, heap, doc_base + base, places, &sums)
+    collect_places(c, heap, doc_base + base, places, sums)
 }
 
 // The live documents that the tree matches to the collector, numbered on from a document base.
@@ -124,13 +130,15 @@ pub fn collect_windows(
     ensures collect_end { CollectEnd (lent max_doc postings.now positions.now ranges.now) norms.now live.now inverses.now (min (length a.old) (length b.old)) st.old depth st.new }
 {
     let mut c = c;
+    let mut sums = [0.0f64; 64];
     let mut base = 0;
     while base < max_doc {
         let want = live_bits(live, base, max_doc);
         let places = node_bits(st, postings, positions, ranges, a, b, base, want, depth);
         let next = st[22];
         c = collect_window(
-            st, postings, positions, norms, ranges, inverses, a, b, base, places, depth, doc_base, c, heap,
+            st, postings, positions, norms, ranges, inverses, a, b, base, places, &mut sums, depth,
+            doc_base, c, heap,
         );
         base = next_window(base, next);
     }

@@ -14,11 +14,11 @@ use Rattle.score.specs.Asked.{JoinsAt, SumIs}
 use Rattle.score.proofs.Join.{first_of, rest_of, first-sounds, first-tables, first-nodes, first_matches, group-is, joined-more, joined-after}
 use Rattle.window_words.specs.Windowed.{nowhere, placesOf, AllWindowed}
 use Rattle.window_score.specs.declared.Joined.{Joined}
-use Rattle.window_score.specs.Sums.{Sums, Added, AddedAll, NarrowedPre, NarrowedPost, JoinedPre, JoinedPost}
+use Rattle.window_score.specs.Sums.{Sums, Zeros, Added, AddedAll, NarrowedPre, NarrowedPost, JoinedPre, JoinedPost}
 use Rattle.window_score.specs.Asked.{RequiredAsked, RequiredPre, RequiredPost, GroupPre, GroupPost}
-use Rattle.window_score.proofs.Loops.{Call, put, sums-more}
+use Rattle.window_score.proofs.Loops.{put, sums-more}
 use Rattle.window_score.proofs.Required.{lent-at}
-use Rattle.window_score.proofs.Splits.{Split, all-split, all-join, Zeros, zero-sums}
+use Rattle.window_score.proofs.Splits.{Split, all-split, all-join, zero-sums}
 
 -- which way the group joins
 no-after : (j : Joining) (rs : Scorers) (a b : ℕ) → JoinsAt j rs a b → (a ≡ 1 → ⊥) → (m : ℕ) × (j ≡ oneMore m) × (b ≡ sizesOfFirst m rs)
@@ -56,37 +56,37 @@ rest-back xs ys kids at l len =
     let none : drop (length (xs ++ r) - at) (drop at (xs ++ r)) ≡ [] = ap (drop (length (xs ++ r) - at)) (drop_at xs r at n) ∙ ap (λ (i : ℕ). drop i r) m ∙ drop-length r in
     ap (λ (t : List ℕ). t ++ (ys ++ drop (length (xs ++ r) - at) (drop at (xs ++ r)))) (take_at xs r at n) ∙ ap (λ (t : List ℕ). xs ++ (ys ++ t)) none ∙ ap (λ (t : List ℕ). xs ++ t) (append-nil ys)
 
-module _ (K : Call) (node : Joined) (group : List Float) where
+module _ (kids : List ℕ) (node : Joined) (group : List Float) (postings positions norms ranges : List ℕ) (table : List Float) (a b base want : ℕ) (sums : List Float) (depth : ℕ) where
   abbrev pub Asks : Type 0
-  Asks = GroupPre K.kids node group K.postings K.positions K.norms K.ranges K.table K.a K.b K.base K.want K.sums K.depth
+  Asks = GroupPre kids node group postings positions norms ranges table a b base want sums depth
 
   abbrev goal-score : Asks → ℕ → Float
-  goal-score w p = joinedScore w.3 (requiredScores w.1 w.4 (K.base + p)) (narrowedSum (optionalScores w.1 w.5 (K.base + p)))
+  goal-score w p = joinedScore w.3 (requiredScores w.1 w.4 (base + p)) (narrowedSum (optionalScores w.1 w.5 (base + p)))
 
   -- the group's score at a wanted place
-  module _ (w : Asks) (p : ℕ) (l : p < 64) (e : bit p K.want ≡ true) where
+  module _ (w : Asks) (p : ℕ) (l : p < 64) (e : bit p want ≡ true) where
     os-few : nodesOf w.5 ≤ 256
     os-few = let f = w.8.few in omega (arith, f)
 
     all-few : nodesOf w.4 + nodesOf w.5 ≤ 256
     all-few = let f = w.8.few in omega (arith, f)
 
-    group-at : (narrow (get_or group p nan) ≡ narrowedSum (optionalScores w.1 w.5 (K.base + p))) × AtMost (nodesOf w.5 * 2 ^ 29) (narrow (get_or group p nan))
-    group-at = group-is (optionalScores w.1 w.5 (K.base + p)) (nodesOf w.5) (get_or group p nan) (narrow (get_or group p nan)) os-few (record { is = w.8.group-is p l e; small = w.8.group-sums.small p l }) refl
+    group-at : (narrow (get_or group p nan) ≡ narrowedSum (optionalScores w.1 w.5 (base + p))) × AtMost (nodesOf w.5 * 2 ^ 29) (narrow (get_or group p nan))
+    group-at = group-is (optionalScores w.1 w.5 (base + p)) (nodesOf w.5) (get_or group p nan) (narrow (get_or group p nan)) os-few (record { is = w.8.group-is p l e; small = w.8.group-sums.small p l }) refl
 
   module _ (own : List Float) (own-zero : Zeros own) where
     -- ---- the group joins after the required sum is narrowed
-    pub after-ask : Asks → RequiredPre K.kids K.postings K.positions K.norms K.ranges K.table K.a K.b K.base K.want own K.depth
+    pub after-ask : Asks → RequiredPre kids postings positions norms ranges table a b base want own depth
     after-ask w = (w.0, w.1, w.2, w.4, 0, w.7, w.8.required, zero-sums own own-zero)
 
-    module _ (kids' : List ℕ) (own' : List Float) (post : RequiredPost K.kids K.postings K.positions K.norms K.ranges K.table K.a K.b K.base K.want own K.depth kids' own') where
-      after-own : (w : Asks) → AddedAll (λ p. scoring (requiredScores w.1 w.4 (K.base + p))) K.want own own' × Sums (0 + nodesOf w.4) own' × AllWindowed w.1 K.ranges w.4 K.depth kids' (K.base + 64) (K.base + 64) nowhere
+    module _ (kids' : List ℕ) (own' : List Float) (post : RequiredPost kids postings positions norms ranges table a b base want own depth kids' own') where
+      after-own : (w : Asks) → AddedAll (λ p. scoring (requiredScores w.1 w.4 (base + p))) want own own' × Sums (0 + nodesOf w.4) own' × AllWindowed w.1 ranges w.4 depth kids' (base + 64) (base + 64) nowhere
       after-own w = post w.0 w.1 w.2 w.4 0 w.7 w.8.required (zero-sums own own-zero)
 
-      pub after-join : Asks → JoinedPre own' group K.sums
+      pub after-join : Asks → JoinedPre own' group sums
       after-join w = (w.6, nodesOf w.4, nodesOf w.5, (w.8.few, w.9), sums-more (0 + nodesOf w.4) (nodesOf w.4) own' (omega arith) (after-own w).1, w.8.group-sums)
 
-      pub after-done : node.afterwards ≡ 1 → (sums' : List Float) → JoinedPost own' group K.want K.sums sums' → GroupPost K.kids node group K.postings K.positions K.norms K.ranges K.table K.a K.b K.base K.want K.sums K.depth kids' sums'
+      pub after-done : node.afterwards ≡ 1 → (sums' : List Float) → JoinedPost own' group want sums sums' → GroupPost kids node group postings positions norms ranges table a b base want sums depth kids' sums'
       unfolding after-join
       after-done after sums' join n ix places j rs os q L A S =
           let w : Asks = (n, ix, places, j, rs, os, q, L, A, S) in
@@ -94,11 +94,11 @@ module _ (K : Call) (node : Joined) (group : List Float) where
           let J = after-join w in
           let z = join J.0 J.1 J.2 J.3 J.4 J.5 in
           let score : ℕ → Float = λ p. narrow (add binary64 (narrow (get_or own' p nan)) (narrow (get_or group p nan))) in (
-            added-as score (goal-score w) K.want K.sums sums' (
+            added-as score (goal-score w) want sums sums' (
                 λ p l e.
                 let g = group-at w p l e in
-                (joined-after ix (K.base + p) rs os (all-few w p l e) (narrow (get_or group p nan)) g.0 g.1 (get_or own' p nan) (narrow (get_or own' p nan)) (add binary64 (narrow (get_or own' p nan)) (narrow (get_or group p nan))) (score p) (summed own own' own-zero K.want (λ i. scoring (requiredScores ix rs (K.base + i))) r.0 (nodesOf rs) r.1 p l e) refl refl refl).is
-                ∙ ap (λ (i : Joining). joinedScore i (requiredScores ix rs (K.base + p)) (narrowedSum (optionalScores ix os (K.base + p)))) (sym (is-after j rs node.afterwards node.group_at A.joins after))
+                (joined-after ix (base + p) rs os (all-few w p l e) (narrow (get_or group p nan)) g.0 g.1 (get_or own' p nan) (narrow (get_or own' p nan)) (add binary64 (narrow (get_or own' p nan)) (narrow (get_or group p nan))) (score p) (summed own own' own-zero want (λ i. scoring (requiredScores ix rs (base + i))) r.0 (nodesOf rs) r.1 p l e) refl refl refl).is
+                ∙ ap (λ (i : Joining). joinedScore i (requiredScores ix rs (base + p)) (narrowedSum (optionalScores ix os (base + p)))) (sym (is-after j rs node.afterwards node.group_at A.joins after))
                 ) z.0,
             z.1,
             r.2,
@@ -112,36 +112,36 @@ module _ (K : Call) (node : Joined) (group : List Float) where
       m-of : (w : Asks) → (m : ℕ) × (w.3 ≡ oneMore m) × (ga ≡ sizesOfFirst m w.4)
       m-of w = no-after w.3 w.4 node.afterwards ga w.8.joins other
 
-      abbrev cut : (w : Asks) → Split w.1 K.ranges K.depth (m-of w).0 w.4 K.kids (K.base + 64) K.base (placesOf K.want)
-      cut w = all-split w.1 K.ranges K.depth (m-of w).0 w.4 K.kids (K.base + 64) K.base (placesOf K.want) w.8.required.held
+      abbrev cut : (w : Asks) → Split w.1 ranges depth (m-of w).0 w.4 kids (base + 64) base (placesOf want)
+      cut w = all-split w.1 ranges depth (m-of w).0 w.4 kids (base + 64) base (placesOf want) w.8.required.held
 
       at-cut : (w : Asks) → length (cut w).x ≡ ga
       at-cut w = (cut w).place ∙ sym (m-of w).2
 
-      pub cut-fits : Asks → ga ≤ length K.kids
+      pub cut-fits : Asks → ga ≤ length kids
       cut-fits w = omega (arith, ap length (cut w).is, length-append (cut w).x (cut w).y, at-cut w)
 
-      front-is : (w : Asks) → take ga K.kids ≡ (cut w).x
+      front-is : (w : Asks) → take ga kids ≡ (cut w).x
       front-is w = ap (take ga) (cut w).is ∙ take_at (cut w).x (cut w).y ga (at-cut w)
 
-      back-is : (w : Asks) → drop ga K.kids ≡ (cut w).y
+      back-is : (w : Asks) → drop ga kids ≡ (cut w).y
       back-is w = ap (drop ga) (cut w).is ∙ drop_at (cut w).x (cut w).y ga (at-cut w)
 
-      front-asked : (w : Asks) → RequiredAsked w.1 K.ranges K.table w.2 (first_of (m-of w).0 w.4) K.depth (take ga K.kids) K.base K.want 0
+      front-asked : (w : Asks) → RequiredAsked w.1 ranges table w.2 (first_of (m-of w).0 w.4) depth (take ga kids) base want 0
       front-asked w =
           let m = (m-of w).0 in
           let s = w.8.required.scorables in
           record {
-            scorables = record { sound = (first-sounds w.1 w.2 m w.4 s.sound).0; tables = (first-tables w.1 K.table m w.4 s.tables).0; few = omega (arith, s.few, first-nodes m w.4) };
-            match = λ p l e. (first_matches w.1 (K.base + p) m w.4 (w.8.required.match p l e)).0;
-            held = subst (λ (v : List ℕ). AllWindowed w.1 K.ranges (first_of m w.4) K.depth v (K.base + 64) K.base (placesOf K.want)) (sym (front-is w)) (cut w).first;
+            scorables = record { sound = (first-sounds w.1 w.2 m w.4 s.sound).0; tables = (first-tables w.1 table m w.4 s.tables).0; few = omega (arith, s.few, first-nodes m w.4) };
+            match = λ p l e. (first_matches w.1 (base + p) m w.4 (w.8.required.match p l e)).0;
+            held = subst (λ (v : List ℕ). AllWindowed w.1 ranges (first_of m w.4) depth v (base + 64) base (placesOf want)) (sym (front-is w)) (cut w).first;
           }
 
-      pub front-ask : Asks → RequiredPre (take ga K.kids) K.postings K.positions K.norms K.ranges K.table K.a K.b K.base K.want own K.depth
+      pub front-ask : Asks → RequiredPre (take ga kids) postings positions norms ranges table a b base want own depth
       front-ask w = (w.0, w.1, w.2, first_of (m-of w).0 w.4, 0, w.7, front-asked w, zero-sums own own-zero)
 
-      module _ (xs : List ℕ) (own₁ : List Float) (long : length xs ≡ length (take ga K.kids)) (post₁ : RequiredPost (take ga K.kids) K.postings K.positions K.norms K.ranges K.table K.a K.b K.base K.want own K.depth xs own₁) where
-        front-own : (w : Asks) → AddedAll (λ p. scoring (requiredScores w.1 (first_of (m-of w).0 w.4) (K.base + p))) K.want own own₁ × Sums (0 + nodesOf (first_of (m-of w).0 w.4)) own₁ × AllWindowed w.1 K.ranges (first_of (m-of w).0 w.4) K.depth xs (K.base + 64) (K.base + 64) nowhere
+      module _ (xs : List ℕ) (own₁ : List Float) (long : length xs ≡ length (take ga kids)) (post₁ : RequiredPost (take ga kids) postings positions norms ranges table a b base want own depth xs own₁) where
+        front-own : (w : Asks) → AddedAll (λ p. scoring (requiredScores w.1 (first_of (m-of w).0 w.4) (base + p))) want own own₁ × Sums (0 + nodesOf (first_of (m-of w).0 w.4)) own₁ × AllWindowed w.1 ranges (first_of (m-of w).0 w.4) depth xs (base + 64) (base + 64) nowhere
         front-own w = post₁ w.0 w.1 w.2 (first_of (m-of w).0 w.4) 0 w.7 (front-asked w) (zero-sums own own-zero)
 
         pub group-add : Asks → NarrowedPre group own₁
@@ -150,42 +150,42 @@ module _ (K : Call) (node : Joined) (group : List Float) where
             let f = w.8.few in
             (F, nodesOf w.5, (omega (arith, f, first-nodes (m-of w).0 w.4), sums-more (0 + F) F own₁ (omega arith) (front-own w).1), w.8.group-sums)
 
-        module _ (own₂ : List Float) (post₂ : NarrowedPost group K.want own₁ own₂) where
-          group-own : (w : Asks) → Added (λ p. narrow (get_or group p nan)) K.want own₁ own₂ × Sums (nodesOf (first_of (m-of w).0 w.4) + nodesOf w.5) own₂
+        module _ (own₂ : List Float) (post₂ : NarrowedPost group want own₁ own₂) where
+          group-own : (w : Asks) → Added (λ p. narrow (get_or group p nan)) want own₁ own₂ × Sums (nodesOf (first_of (m-of w).0 w.4) + nodesOf w.5) own₂
           unfolding group-add
           group-own w = let G = group-add w in post₂ G.0 G.1 G.2 G.3
 
-          rest-asked : (w : Asks) → RequiredAsked w.1 K.ranges K.table w.2 (rest_of (m-of w).0 w.4) K.depth (take (length (xs ++ drop ga K.kids) - ga) (drop ga (xs ++ drop ga K.kids))) K.base K.want (nodesOf (first_of (m-of w).0 w.4) + nodesOf w.5)
+          rest-asked : (w : Asks) → RequiredAsked w.1 ranges table w.2 (rest_of (m-of w).0 w.4) depth (take (length (xs ++ drop ga kids) - ga) (drop ga (xs ++ drop ga kids))) base want (nodesOf (first_of (m-of w).0 w.4) + nodesOf w.5)
           rest-asked w =
               let m = (m-of w).0 in
               let s = w.8.required.scorables in
               let f = w.8.few in
               record {
-                scorables = record { sound = (first-sounds w.1 w.2 m w.4 s.sound).1; tables = (first-tables w.1 K.table m w.4 s.tables).1; few = omega (arith, f, first-nodes m w.4) };
-                match = λ p l e. (first_matches w.1 (K.base + p) m w.4 (w.8.required.match p l e)).1;
-                held = subst (λ (v : List ℕ). AllWindowed w.1 K.ranges (rest_of m w.4) K.depth v (K.base + 64) K.base (placesOf K.want)) (sym (rest-part xs K.kids ga (cut-fits w) long ∙ back-is w)) (cut w).rest;
+                scorables = record { sound = (first-sounds w.1 w.2 m w.4 s.sound).1; tables = (first-tables w.1 table m w.4 s.tables).1; few = omega (arith, f, first-nodes m w.4) };
+                match = λ p l e. (first_matches w.1 (base + p) m w.4 (w.8.required.match p l e)).1;
+                held = subst (λ (v : List ℕ). AllWindowed w.1 ranges (rest_of m w.4) depth v (base + 64) base (placesOf want)) (sym (rest-part xs kids ga (cut-fits w) long ∙ back-is w)) (cut w).rest;
               }
 
           abbrev y : List ℕ
-          y = take (length (xs ++ drop ga K.kids) - ga) (drop ga (xs ++ drop ga K.kids))
+          y = take (length (xs ++ drop ga kids) - ga) (drop ga (xs ++ drop ga kids))
 
-          module _ (a' b' : ℕ) (same-a : a' ≡ K.a) (same-b : b' ≡ K.b) where
-            pub rest-ask : Asks → RequiredPre y K.postings K.positions K.norms K.ranges K.table a' b' K.base K.want own₂ K.depth
-            rest-ask w = (w.0, w.1, w.2, rest_of (m-of w).0 w.4, nodesOf (first_of (m-of w).0 w.4) + nodesOf w.5, lent-at a' b' K.want same-a same-b (λ p l e. e) w.7, rest-asked w, (group-own w).1)
+          module _ (a' b' : ℕ) (same-a : a' ≡ a) (same-b : b' ≡ b) where
+            pub rest-ask : Asks → RequiredPre y postings positions norms ranges table a' b' base want own₂ depth
+            rest-ask w = (w.0, w.1, w.2, rest_of (m-of w).0 w.4, nodesOf (first_of (m-of w).0 w.4) + nodesOf w.5, lent-at a' b' want same-a same-b (λ p l e. e) w.7, rest-asked w, (group-own w).1)
 
-            module _ (ys : List ℕ) (own₃ : List Float) (post₃ : RequiredPost y K.postings K.positions K.norms K.ranges K.table a' b' K.base K.want own₂ K.depth ys own₃) where
-              rest-own : (w : Asks) → AddedAll (λ p. scoring (requiredScores w.1 (rest_of (m-of w).0 w.4) (K.base + p))) K.want own₂ own₃ × Sums (nodesOf (first_of (m-of w).0 w.4) + nodesOf w.5 + nodesOf (rest_of (m-of w).0 w.4)) own₃ × AllWindowed w.1 K.ranges (rest_of (m-of w).0 w.4) K.depth ys (K.base + 64) (K.base + 64) nowhere
+            module _ (ys : List ℕ) (own₃ : List Float) (post₃ : RequiredPost y postings positions norms ranges table a' b' base want own₂ depth ys own₃) where
+              rest-own : (w : Asks) → AddedAll (λ p. scoring (requiredScores w.1 (rest_of (m-of w).0 w.4) (base + p))) want own₂ own₃ × Sums (nodesOf (first_of (m-of w).0 w.4) + nodesOf w.5 + nodesOf (rest_of (m-of w).0 w.4)) own₃ × AllWindowed w.1 ranges (rest_of (m-of w).0 w.4) depth ys (base + 64) (base + 64) nowhere
               unfolding rest-ask
               rest-own w = let R = rest-ask w in post₃ R.0 R.1 R.2 R.3 R.4 R.5 R.6 R.7
 
-              pub own-add : Asks → NarrowedPre own₃ K.sums
+              pub own-add : Asks → NarrowedPre own₃ sums
               own-add w =
                   let m = (m-of w).0 in
                   let all = nodesOf (first_of m w.4) + nodesOf w.5 + nodesOf (rest_of m w.4) in
                   let r = nodesOf w.4 + nodesOf w.5 in
                   (w.6, r, (w.8.few, w.9), sums-more all r own₃ (omega (arith, first-nodes m w.4)) (rest-own w).1)
 
-              pub more-done : (sums' : List Float) → NarrowedPost own₃ K.want K.sums sums' → GroupPost K.kids node group K.postings K.positions K.norms K.ranges K.table K.a K.b K.base K.want K.sums K.depth (put (xs ++ drop ga K.kids) ga (length (xs ++ drop ga K.kids)) ys) sums'
+              pub more-done : (sums' : List Float) → NarrowedPost own₃ want sums sums' → GroupPost kids node group postings positions norms ranges table a b base want sums depth (put (xs ++ drop ga kids) ga (length (xs ++ drop ga kids)) ys) sums'
               unfolding own-add
               more-done sums' post₄ n ix places j rs os q L A S =
                   let w : Asks = (n, ix, places, j, rs, os, q, L, A, S) in
@@ -195,16 +195,16 @@ module _ (K : Call) (node : Joined) (group : List Float) where
                   let R = rest-own w in
                   let N = own-add w in
                   let z = post₄ N.0 N.1 N.2 N.3 in (
-                    added-as (λ p. narrow (get_or own₃ p nan)) (goal-score w) K.want K.sums sums' (
+                    added-as (λ p. narrow (get_or own₃ p nan)) (goal-score w) want sums sums' (
                         λ p l e.
                         let g = group-at w p l e in
-                        (joined-more ix (K.base + p) rs os (all-few w p l e) (narrow (get_or group p nan)) g.0 g.1 m.0 (get_or own₁ p nan) (get_or own₂ p nan) (get_or own₃ p nan) (narrow (get_or own₃ p nan))
-                        (summed own own₁ own-zero K.want (λ i. scoring (requiredScores ix (first_of m.0 rs) (K.base + i))) F.0 (nodesOf (first_of m.0 rs)) F.1 p l e)
+                        (joined-more ix (base + p) rs os (all-few w p l e) (narrow (get_or group p nan)) g.0 g.1 m.0 (get_or own₁ p nan) (get_or own₂ p nan) (get_or own₃ p nan) (narrow (get_or own₃ p nan))
+                        (summed own own₁ own-zero want (λ i. scoring (requiredScores ix (first_of m.0 rs) (base + i))) F.0 (nodesOf (first_of m.0 rs)) F.1 p l e)
                         (G.0.wanted p l e)
                         (record { is = R.0.wanted p l e; small = R.1.small p l })
                         refl).is
-                        ∙ ap (λ (i : Joining). joinedScore i (requiredScores ix rs (K.base + p)) (narrowedSum (optionalScores ix os (K.base + p)))) (sym m.1)
+                        ∙ ap (λ (i : Joining). joinedScore i (requiredScores ix rs (base + p)) (narrowedSum (optionalScores ix os (base + p)))) (sym m.1)
                         ) z.0,
                     z.1,
-                    subst (λ (l : List ℕ). AllWindowed ix K.ranges rs K.depth l (K.base + 64) (K.base + 64) nowhere) (sym (rest-back xs ys K.kids ga (cut-fits w) long)) (all-join ix K.ranges K.depth m.0 rs xs ys (K.base + 64) (K.base + 64) nowhere F.2 R.2),
+                    subst (λ (l : List ℕ). AllWindowed ix ranges rs depth l (base + 64) (base + 64) nowhere) (sym (rest-back xs ys kids ga (cut-fits w) long)) (all-join ix ranges depth m.0 rs xs ys (base + 64) (base + 64) nowhere F.2 R.2),
                   )

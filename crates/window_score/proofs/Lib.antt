@@ -8,4 +8,5 @@ mod Optional
 mod Splits
 mod Groups
 mod Booleans
+mod Alone
 mod Nodes

@@ -34,25 +34,6 @@ unfolding sumFrom
 left-step true s s' y xs total h k e = ap (λ (z : Float). sumFrom z xs) (h refl) ∙ e
 left-step false s s' y xs total h k e = ap (λ (z : Float). sumFrom z xs) (k refl) ∙ e
 
--- ---- what a function of the cycle is called with: the words of its node or of its parts, what is lent, the lengths of the phrase buffers, the window and the sums
-pub record Call : Type 0 where
-  pub kids : List ℕ
-  pub postings : List ℕ
-  pub positions : List ℕ
-  pub norms : List ℕ
-  pub ranges : List ℕ
-  pub table : List Float
-  pub a : ℕ
-  pub b : ℕ
-  pub base : ℕ
-  pub want : ℕ
-  pub sums : List Float
-  pub depth : ℕ
-
-abbrev pub call : List ℕ → List ℕ → List ℕ → List ℕ → List ℕ → List Float → ℕ → ℕ → ℕ → ℕ → List Float → ℕ → Call
-call kids postings positions norms ranges table a b base want sums depth =
-    record { kids = kids; postings = postings; positions = positions; norms = norms; ranges = ranges; table = table; a = a; b = b; base = base; want = want; sums = sums; depth = depth }
-
 -- another part in the place of the one at at
 abbrev pub put : List ℕ → ℕ → ℕ → List ℕ → List ℕ
 put kids at e ys = take at kids ++ (ys ++ drop (e - at) (drop at kids))

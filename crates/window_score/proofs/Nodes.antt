@@ -5,7 +5,7 @@ use Rattle.std.proofs.Math.Option.{none, some}
 use Rattle.std.proofs.Math.Seq.{take-length, drop-length}
 use Rattle.std.proofs.lemmas.Bool.{false≢true, and_parts}
 use Rattle.std.specs.Prelude.{Float}
-use Rattle.std.specs.Float.{binary32}
+use Rattle.std.specs.Float.{nan, binary32}
 use Rattle.std.specs.Float.Ieee.{of_bits, nan_bits}
 use Rattle.meaning.specs.Limits.{nodeStateWords}
 use Rattle.meaning.specs.Lent.{Index}
@@ -21,13 +21,16 @@ use Rattle.leaf_score.proofs.Bounds.{scores-more, zero-32}
 use Rattle.leaf_score.proofs.Weights.{float_back, float-number}
 use Rattle.score.specs.Asked.{JoinsAt}
 use Rattle.window_words.specs.Windowed.{Places, nowhere, placesOf, requiredPlaces, optionalPlaces, optionalBound, Windowed, AllWindowed}
-use Rattle.window_words.proofs.Laws.{kindOf, windowed-long, windowed-kind, windowed-forget, all-less, all-forget}
+use Rattle.window_words.proofs.Laws.{kindOf, windowed-ok, windowed-long, windowed-kind, windowed-forget, all-less, all-forget}
 use Rattle.window_score.specs.declared.Joined.{Joined}
 use Rattle.window_score.specs.Words.{JoinedIs}
 use Rattle.window_score.specs.Sums.{ConstantPre, ConstantPost}
-use Rattle.window_score.specs.Asked.{NodeAsked, ScoresPre, ScoresPost, BooleanAsked, BooleanLeft, BooleanPre, BooleanPost}
-use Rattle.window_score.proofs.Loops.{Call, put, sums-more}
+use Rattle.window_score.specs.Asked.{WindowLent, NodeAsked, ScoresPre, ScoresPost, BooleanAsked, BooleanLeft, BooleanPre, BooleanPost, RootPre, RootPost, PartPre, PartPost, OnePart}
+use Rattle.window_score.proofs.Loops.{put, sums-more}
 use Rattle.window_score.proofs.Groups.{added-as}
+use Rattle.window_score.proofs.Splits.{zero-sums}
+use Rattle.window_score.proofs.Alone.{sum-narrowed}
+use Rattle.score.proofs.Small.{ok-weighted}
 
 -- ---- the score words of a record
 -- a score that is the same for each document
@@ -160,80 +163,117 @@ module _ (ix : Index) (ranges : List ℕ) (table : List Float) (places k o : ℕ
       }
 
 -- ---- the calls
-module _ (K : Call) where
+module _ (st postings positions norms ranges : List ℕ) (table : List Float) (a b base want : ℕ) (sums : List Float) (depth : ℕ) where
   abbrev pub Asks : Type 0
-  Asks = ScoresPre K.kids K.postings K.positions K.norms K.ranges K.table K.a K.b K.base K.want K.sums K.depth
+  Asks = ScoresPre st postings positions norms ranges table a b base want sums depth
 
   abbrev Gives : List ℕ → List Float → Type 0
-  Gives st' sums' = ScoresPost K.kids K.postings K.positions K.norms K.ranges K.table K.a K.b K.base K.want K.sums K.depth st' sums'
+  Gives st' sums' = ScoresPost st postings positions norms ranges table a b base want sums depth st' sums'
 
-  pub node-long : Asks → nodeStateWords ≤ length K.kids
-  node-long w = windowed-long w.1 K.ranges w.3 K.depth w.4 K.kids (K.base + 64) K.base (placesOf K.want) w.7.held
+  pub node-long : Asks → nodeStateWords ≤ length st
+  node-long w = windowed-long w.1 ranges w.3 depth w.4 st (base + 64) base (placesOf want) w.7.held
 
-  kind : (w : Asks) → get_or K.kids 0 0 ≡ kindOf w.3
-  kind w = windowed-kind w.1 K.ranges w.3 K.depth w.4 K.kids (K.base + 64) K.base (placesOf K.want) w.7.held
+  kind : (w : Asks) → get_or st 0 0 ≡ kindOf w.3
+  kind w = windowed-kind w.1 ranges w.3 depth w.4 st (base + 64) base (placesOf want) w.7.held
 
   -- the same score for each document, and the words as they were
   module _ (score : Float) (each : (w : Asks) → ((d : ℕ) → score ≡ scorerScore w.1 w.3 d) × AtMost (nodes w.3 * 2 ^ 29) score) where
-    each-ask : Asks → ConstantPre score K.sums
+    each-ask : Asks → ConstantPre score sums
     each-ask w = (w.5, nodes w.3, (w.7.few, w.8), (each w).1)
 
-    each-done : (sums' : List Float) → ConstantPost score K.want K.sums sums' → Gives K.kids sums'
+    each-done : (sums' : List Float) → ConstantPost score want sums sums' → Gives st sums'
     each-done sums' add n ix places S sc q L A s =
         let w : Asks = (n, ix, places, S, sc, q, L, A, s) in
         let z = add q (nodes S) (A.few, s) (each w).1 in
-        (added-as (λ p. score) (λ p. scorerScore ix S (K.base + p)) K.want K.sums sums' (λ p l e. (each w).0 (K.base + p)) z.0, z.1, windowed-forget ix K.ranges S K.depth sc K.kids (K.base + 64) K.base (placesOf K.want) (K.base + 64) (le_refl _) (omega arith) A.held)
+        (added-as (λ p. score) (λ p. scorerScore ix S (base + p)) want sums sums' (λ p l e. (each w).0 (base + p)) z.0, z.1, windowed-forget ix ranges S depth sc st (base + 64) base (placesOf want) (base + 64) (le_refl _) (omega arith) A.held)
 
-  module _ (is : get_or K.kids 11 0 ≡ 1) where
-    same : (w : Asks) → Same w.1 w.3 (get_or K.kids 12 0)
-    same w = same-at w.1 K.ranges w.3 K.depth w.4 K.kids (K.base + 64) K.base (placesOf K.want) w.7.held is
+  module _ (is : get_or st 11 0 ≡ 1) where
+    same : (w : Asks) → Same w.1 w.3 (get_or st 12 0)
+    same w = same-at w.1 ranges w.3 depth w.4 st (base + 64) base (placesOf want) w.7.held is
 
-    pub constant-number : Asks → T (not (nan_bits binary32 (get_or K.kids 12 0)))
+    pub constant-number : Asks → T (not (nan_bits binary32 (get_or st 12 0)))
     constant-number w = (same w).number
 
-    pub constant-ask : Asks → ConstantPre (of_bits binary32 (get_or K.kids 12 0)) K.sums
-    constant-ask = each-ask (of_bits binary32 (get_or K.kids 12 0)) (λ w. ((same w).is, (same w).small))
+    pub constant-ask : Asks → ConstantPre (of_bits binary32 (get_or st 12 0)) sums
+    constant-ask = each-ask (of_bits binary32 (get_or st 12 0)) (λ w. ((same w).is, (same w).small))
 
-    pub constant-done : (sums' : List Float) → ConstantPost (of_bits binary32 (get_or K.kids 12 0)) K.want K.sums sums' → Gives K.kids sums'
-    constant-done = each-done (of_bits binary32 (get_or K.kids 12 0)) (λ w. ((same w).is, (same w).small))
+    pub constant-done : (sums' : List Float) → ConstantPost (of_bits binary32 (get_or st 12 0)) want sums sums' → Gives st sums'
+    constant-done = each-done (of_bits binary32 (get_or st 12 0)) (λ w. ((same w).is, (same w).small))
 
-  module _ (other : get_or K.kids 11 0 ≡ 1 → ⊥) where
-    pub phrase-weighted : Asks → get_or K.kids 11 0 ≡ 0
-    phrase-weighted w = weighted-at w.1 K.ranges w.3 K.depth w.4 K.kids (K.base + 64) K.base (placesOf K.want) w.7.held other
+  module _ (other : get_or st 11 0 ≡ 1 → ⊥) where
+    pub phrase-weighted : Asks → get_or st 11 0 ≡ 0
+    phrase-weighted w = weighted-at w.1 ranges w.3 depth w.4 st (base + 64) base (placesOf want) w.7.held other
 
     -- neither a term, a phrase nor a Boolean
-    module _ (no-term : get_or K.kids 0 0 ≡ 1 → ⊥) (no-phrase : get_or K.kids 0 0 ≡ 2 → ⊥) (no-boolean : get_or K.kids 0 0 ≡ 3 → ⊥) where
+    module _ (no-term : get_or st 0 0 ≡ 1 → ⊥) (no-phrase : get_or st 0 0 ≡ 2 → ⊥) (no-boolean : get_or st 0 0 ≡ 3 → ⊥) where
       zeroed : (w : Asks) → ((d : ℕ) → of_bits binary32 0 ≡ scorerScore w.1 w.3 d) × AtMost (nodes w.3 * 2 ^ 29) (of_bits binary32 0)
       zeroed w =
-          let z = zero-at w.1 K.ranges w.3 K.depth w.4 K.kids (K.base + 64) K.base (placesOf K.want) w.7.held other (λ e. no-term (kind w ∙ e)) (λ e. no-phrase (kind w ∙ e)) (λ e. no-boolean (kind w ∙ e)) in
+          let z = zero-at w.1 ranges w.3 depth w.4 st (base + 64) base (placesOf want) w.7.held other (λ e. no-term (kind w ∙ e)) (λ e. no-phrase (kind w ∙ e)) (λ e. no-boolean (kind w ∙ e)) in
           ((λ d. zero-32 ∙ z.0 d), subst (λ (x : Float). AtMost (nodes w.3 * 2 ^ 29) x) (sym zero-32) (zero-atmost _))
 
-      pub zero-ask : Asks → ConstantPre (of_bits binary32 0) K.sums
+      pub zero-ask : Asks → ConstantPre (of_bits binary32 0) sums
       zero-ask = each-ask (of_bits binary32 0) zeroed
 
-      pub zero-done : (sums' : List Float) → ConstantPost (of_bits binary32 0) K.want K.sums sums' → Gives K.kids sums'
+      pub zero-done : (sums' : List Float) → ConstantPost (of_bits binary32 0) want sums sums' → Gives st sums'
       zero-done = each-done (of_bits binary32 0) zeroed
 
     -- a Boolean
-    module _ (is-boolean : get_or K.kids 0 0 ≡ 3) (n : Joined) (N : JoinedIs K.kids n) where
-      here : (w : Asks) → BooleanAt w.1 K.ranges K.table w.2 K.depth w.4 K.kids K.base K.want w.5 n N w.3
-      here w = boolean-at w.1 K.ranges K.table w.2 K.depth w.4 K.kids K.base K.want w.5 n N w.3 w.7 (sym (kind w) ∙ is-boolean) other
+    module _ (is-boolean : get_or st 0 0 ≡ 3) (n : Joined) (N : JoinedIs st n) where
+      here : (w : Asks) → BooleanAt w.1 ranges table w.2 depth w.4 st base want w.5 n N w.3
+      here w = boolean-at w.1 ranges table w.2 depth w.4 st base want w.5 n N w.3 w.7 (sym (kind w) ∙ is-boolean) other
 
-      pub boolean-deep : Asks → 0 < K.depth
+      pub boolean-deep : Asks → 0 < depth
       boolean-deep w = (here w).deep
 
       abbrev parts : List ℕ
-      parts = take (length K.kids - nodeStateWords) (drop nodeStateWords K.kids)
+      parts = take (length st - nodeStateWords) (drop nodeStateWords st)
 
-      pub boolean-ask : Asks → BooleanPre parts n K.postings K.positions K.norms K.ranges K.table K.a K.b K.base K.want K.sums (K.depth - 1)
+      pub boolean-ask : Asks → BooleanPre parts n postings positions norms ranges table a b base want sums (depth - 1)
       boolean-ask w = let B = here w in (w.0, w.1, w.2, B.j, B.rs, B.os, B.rest, w.5, w.6, B.asked, w.8)
 
-      pub boolean-done : (kids' : List ℕ) (sums' : List Float) → BooleanPost parts n K.postings K.positions K.norms K.ranges K.table K.a K.b K.base K.want K.sums (K.depth - 1) kids' sums' → Gives (put K.kids nodeStateWords (length K.kids) kids') sums'
+      pub boolean-done : (kids' : List ℕ) (sums' : List Float) → BooleanPost parts n postings positions norms ranges table a b base want sums (depth - 1) kids' sums' → Gives (put st nodeStateWords (length st) kids') sums'
       boolean-done kids' sums' post m ix places S sc q L A s =
           let w : Asks = (m, ix, places, S, sc, q, L, A, s) in
           let B = here w in
           let z = post m ix places B.j B.rs B.os B.rest q L B.asked s in (
-            added-as (λ p. joinedScore B.j (requiredScores ix B.rs (K.base + p)) (narrowedSum (optionalScores ix B.os (K.base + p)))) (λ p. scorerScore ix S (K.base + p)) K.want K.sums sums' (λ p l e. B.score (K.base + p)) z.0,
+            added-as (λ p. joinedScore B.j (requiredScores ix B.rs (base + p)) (narrowedSum (optionalScores ix B.os (base + p)))) (λ p. scorerScore ix S (base + p)) want sums sums' (λ p l e. B.score (base + p)) z.0,
             sums-more (q + (nodesOf B.rs + nodesOf B.os)) (q + nodes S) sums' (omega (arith, B.fewer)) z.1,
             B.done kids' z.2,
           )
+
+-- ---- a root, whose sums were 0
+module _ (st postings positions norms ranges : List ℕ) (table : List Float) (a b base want : ℕ) (sums : List Float) (depth : ℕ) where
+  abbrev pub RootAsks : Type 0
+  RootAsks = RootPre st postings positions norms ranges table a b base want sums depth
+
+  abbrev RootGives : List ℕ → List Float → Type 0
+  RootGives st' sums' = RootPost st postings positions norms ranges table a b base want sums depth st' sums'
+
+  pub root-as : RootAsks → ScoresPre st postings positions norms ranges table a b base want sums depth
+  root-as w = let r = w.1 in (r.0, r.1, r.2, r.3, r.4, 0, r.5, r.6, zero-sums sums w.0)
+
+  pub root-done : RootAsks → (st' : List ℕ) (sums' : List Float) → ScoresPost st postings positions norms ranges table a b base want sums depth st' sums' → RootGives st' sums'
+  root-done w st' sums' post n ix places S sc L A =
+      let z = post n ix places S sc 0 L A (zero-sums sums w.0) in
+      let W = ok-weighted ix ranges S depth sc st (base + 64) (windowed-ok ix ranges S depth sc st (base + 64) base (placesOf want) (omega arith) A.held) in
+      (record { long = z.1.long; wanted = λ p l e. sum-narrowed ix L.lends.accepted places S W A.scorable.sound A.scorable.few (base + p) (get_or sums p nan) (w.0.zero p l) (get_or sums' p nan) (z.0.wanted p l e); others = z.0.others }, z.2)
+
+  module _ (other : get_or st 11 0 ≡ 1 → ⊥) (is-boolean : get_or st 0 0 ≡ 3) (n : Joined) (N : JoinedIs st n) where
+    abbrev root-parts : List ℕ
+    root-parts = take (length st - nodeStateWords) (drop nodeStateWords st)
+
+    root-here : (m : ℕ) (ix : Index) (places : ℕ) (S : Scorer) (sc : ℕ) → WindowLent ix m postings positions norms places a b base want → NodeAsked ix ranges table places S depth sc st base want 0 → BooleanAt ix ranges table places depth sc st base want 0 n N S
+    root-here m ix places S sc L A =
+        boolean-at ix ranges table places depth sc st base want 0 n N S A (sym (windowed-kind ix ranges S depth sc st (base + 64) base (placesOf want) A.held) ∙ is-boolean) other
+
+    pub root-deep : RootAsks → 0 < depth
+    root-deep w = let r = w.1 in (root-here r.0 r.1 r.2 r.3 r.4 r.5 r.6).deep
+
+    pub root-ask : OnePart n → RootAsks → PartPre root-parts n postings positions norms ranges table a b base want sums (depth - 1)
+    root-ask one w = let r = w.1 in let B = root-here r.0 r.1 r.2 r.3 r.4 r.5 r.6 in (one, w.0, (r.0, r.1, r.2, B.j, B.rs, B.os, B.rest, r.5, B.asked))
+
+    pub root-part : (kids' : List ℕ) (sums' : List Float) → PartPost root-parts n postings positions norms ranges table a b base want sums (depth - 1) kids' sums' → RootGives (put st nodeStateWords (length st) kids') sums'
+    root-part kids' sums' post m ix places S sc L A =
+        let B = root-here m ix places S sc L A in
+        let z = post m ix places B.j B.rs B.os B.rest L B.asked in
+        (record { long = z.0.long; wanted = λ p l e. z.0.wanted p l e ∙ B.score (base + p); others = z.0.others }, B.done kids' z.1)

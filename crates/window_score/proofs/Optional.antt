@@ -16,7 +16,7 @@ use Rattle.window_leaf.specs.Asks.{NodeWindowed, BitsPre, BitsPost}
 use Rattle.window_score.specs.Words.{ChildThere}
 use Rattle.window_score.specs.Sums.{Sums, Added}
 use Rattle.window_score.specs.Asked.{WindowLent, NodeAsked, ScoresPre, ScoresPost, TermPre, TermPost, OptionalPre, OptionalPost}
-use Rattle.window_score.proofs.Loops.{Call, put, sums-more, added-none, Frame, Walk, walk-start, walk-open, walk-end, walk-there, walk-kind, walk-bits, walk-scorable, walk-few, walk-part, walk-took}
+use Rattle.window_score.proofs.Loops.{put, sums-more, added-none, Frame, Walk, walk-start, walk-open, walk-end, walk-there, walk-kind, walk-bits, walk-scorable, walk-few, walk-part, walk-took}
 use Rattle.window_score.proofs.Required.{lent-at}
 
 -- ---- bits
@@ -51,25 +51,25 @@ put-again kids ys zs at e l len h =
     let g : drop (e - at) (drop at (put kids at e ys)) ≡ r = ap (drop (e - at)) (drop_at (take at kids) (ys ++ r) at n) ∙ drop_at ys r (e - at) m in
     ap (λ (t : List ℕ). t ++ (zs ++ drop (e - at) (drop at (put kids at e ys)))) f ∙ ap (λ (t : List ℕ). take at kids ++ (zs ++ t)) g
 
-module _ (K : Call) (need : ℕ) where
+module _ (kids₀ : List ℕ) (need : ℕ) (postings positions norms ranges : List ℕ) (table : List Float) (a b base want : ℕ) (sums₀ : List Float) (depth : ℕ) where
   abbrev pub Asks : Type 0
-  Asks = OptionalPre K.kids need K.postings K.positions K.norms K.ranges K.table K.a K.b K.base K.want K.sums K.depth
+  Asks = OptionalPre kids₀ need postings positions norms ranges table a b base want sums₀ depth
 
   abbrev pub frame : Asks → Frame
   frame w =
       record {
-        counts = λ p. matches-at w.1 (K.base + p);
+        counts = λ p. matches-at w.1 (base + p);
         ix = w.1;
-        ranges = K.ranges;
-        table = K.table;
+        ranges = ranges;
+        table = table;
         places = w.2;
-        depth = K.depth;
-        bound = optionalBound need (K.base + 64) K.base;
-        base = K.base;
-        asked = λ p. ltb 0 need && bit p K.want;
-        want = K.want;
+        depth = depth;
+        bound = optionalBound need (base + 64) base;
+        base = base;
+        asked = λ p. ltb 0 need && bit p want;
+        want = want;
         all = w.3;
-        start = K.sums;
+        start = sums₀;
         most = w.4 + nodesOf w.3;
       }
 
@@ -83,8 +83,8 @@ module _ (K : Call) (need : ℕ) where
     pub g : Scorers
     pub walk : Walk (frame w) (more f T g) kids at sums
     pub stop : e ≡ at + get_or kids (at + 1) 0
-    pub held : Windowed w.1 K.ranges T K.depth (cond f 1 0) (take (e - at) (drop at kids')) (K.base + 64) K.base (placesOf x)
-    pub bits : (p : ℕ) → p < 64 → bit p x ≡ (bit p K.want && matches w.1 T (K.base + p))
+    pub held : Windowed w.1 ranges T depth (cond f 1 0) (take (e - at) (drop at kids')) (base + 64) base (placesOf x)
+    pub bits : (p : ℕ) → p < 64 → bit p x ≡ (bit p want && matches w.1 T (base + p))
     pub long : length (take (e - at) (drop at kids')) ≡ length (take (e - at) (drop at kids))
     pub back : (ys : List ℕ) → put kids' at e ys ≡ put kids at e ys
 
@@ -94,15 +94,15 @@ module _ (K : Call) (need : ℕ) where
   pub taken-as : (kids k kids' : List ℕ) (at e x x' : ℕ) (sums : List Float) → kids' ≡ k → x' ≡ x → OptionalTaken kids k at e x sums → OptionalTaken kids kids' at e x' sums
   taken-as kids k kids' at e x x' sums h i t = rw (h, i) t
 
-  pub optional-start : OptionalAt K.kids 0 K.sums
-  optional-start w = (w.3, walk-start (frame w) K.kids w.4 (le_refl _) w.6.held w.7 w.6.scorables.sound w.6.scorables.tables (λ p l i. optional-matched w.1 w.3 (K.base + p)))
+  pub optional-start : OptionalAt kids₀ 0 sums₀
+  optional-start w = (w.3, walk-start (frame w) kids₀ w.4 (le_refl _) w.6.held w.7 w.6.scorables.sound w.6.scorables.tables (λ p l i. optional-matched w.1 w.3 (base + p)))
 
   module _ (kids : List ℕ) (at : ℕ) (sums : List Float) (I : OptionalAt kids at sums) where
-    pub optional-end : length kids ≤ at → OptionalPost K.kids need K.postings K.positions K.norms K.ranges K.table K.a K.b K.base K.want K.sums K.depth kids sums
+    pub optional-end : length kids ≤ at → OptionalPost kids₀ need postings positions norms ranges table a b base want sums₀ depth kids sums
     optional-end l n ix places ss q L A S =
         let w : Asks = (n, ix, places, ss, q, L, A, S) in
         let E = walk-end (I w).0 (I w).1 l in
-        (record { wanted = λ p m i. E.added.wanted p m i ∙ ap (λ (xs : List Float). sumFrom (get_or K.sums p nan) xs) (optional-counted ix ss (K.base + p)); others = E.added.others }, E.small, E.parts)
+        (record { wanted = λ p m i. E.added.wanted p m i ∙ ap (λ (xs : List Float). sumFrom (get_or sums₀ p nan) xs) (optional-counted ix ss (base + p)); others = E.added.others }, E.small, E.parts)
 
     module _ (l : at < length kids) where
       -- the child at the place
@@ -117,8 +117,8 @@ module _ (K : Call) (need : ℕ) where
         y = take (e - at) (drop at kids)
 
         -- where none is needed, it was not asked
-        module _ (none : need ≡ 0) (a' b' : ℕ) (same-a : a' ≡ K.a) (same-b : b' ≡ K.b) where
-          node : (w : Asks) → NodeWindowed (lent w.0 K.postings K.positions K.ranges) w.1 w.2 (child w).1 K.depth (cond (child w).0 1 0) y K.base
+        module _ (none : need ≡ 0) (a' b' : ℕ) (same-a : a' ≡ a) (same-b : b' ≡ b) where
+          node : (w : Asks) → NodeWindowed (lent w.0 postings positions ranges) w.1 w.2 (child w).1 depth (cond (child w).0 1 0) y base
           node w =
               let c = child w in
               let s = walk-scorable c.3 w.6.scorables.few in
@@ -126,16 +126,16 @@ module _ (K : Call) (need : ℕ) where
                 lends = w.5.lends;
                 sound = s.sound;
                 few = s.few;
-                held = subst (λ (i : ℕ). Windowed w.1 K.ranges c.1 K.depth (cond c.0 1 0) y (optionalBound i (K.base + 64) K.base) K.base (λ p. ltb 0 i && bit p K.want)) none (walk-part c.3 e stop);
+                held = subst (λ (i : ℕ). Windowed w.1 ranges c.1 depth (cond c.0 1 0) y (optionalBound i (base + 64) base) base (λ p. ltb 0 i && bit p want)) none (walk-part c.3 e stop);
               }
 
-          pub optional-ask : Asks → BitsPre K.postings K.positions K.ranges a' b' y K.base K.want K.depth
+          pub optional-ask : Asks → BitsPre postings positions ranges a' b' y base want depth
           optional-ask w =
               let c = child w in
-              let L = lent-at a' b' K.want same-a same-b (λ p m i. i) w.5 in
+              let L = lent-at a' b' want same-a same-b (λ p m i. i) w.5 in
               (L.small, (w.0, w.1, w.2, c.1, cond c.0 1 0, L.wanted, L.room, node w))
 
-          pub optional-asked : (r : ℕ) (ys : List ℕ) → length ys ≡ length y → BitsPost K.postings K.positions K.ranges a' b' y K.base K.want K.depth r ys → OptionalTaken kids (put kids at e ys) at e r sums
+          pub optional-asked : (r : ℕ) (ys : List ℕ) → length ys ≡ length y → BitsPost postings positions ranges a' b' y base want depth r ys → OptionalTaken kids (put kids at e ys) at e r sums
           optional-asked r ys len post w =
               let c = child w in
               let t = walk-there c.3 in
@@ -148,26 +148,26 @@ module _ (K : Call) (need : ℕ) where
                 g = c.2;
                 walk = c.3;
                 stop = stop;
-                held = subst (λ (v : List ℕ). Windowed w.1 K.ranges c.1 K.depth (cond c.0 1 0) v (K.base + 64) K.base (placesOf r)) (sym same) (windowed-less w.1 K.ranges c.1 K.depth (cond c.0 1 0) ys (K.base + 64) K.base (placesOf K.want) (placesOf r) (λ p m i. (and_parts (bit p K.want) (matches w.1 c.1 (K.base + p)) (sym (q.0.bits p m) ∙ i)).0) q.1);
+                held = subst (λ (v : List ℕ). Windowed w.1 ranges c.1 depth (cond c.0 1 0) v (base + 64) base (placesOf r)) (sym same) (windowed-less w.1 ranges c.1 depth (cond c.0 1 0) ys (base + 64) base (placesOf want) (placesOf r) (λ p m i. (and_parts (bit p want) (matches w.1 c.1 (base + p)) (sym (q.0.bits p m) ∙ i)).0) q.1);
                 bits = q.0.bits;
                 long = ap length same ∙ len;
                 back = λ zs. put-again kids ys zs at e (omega (arith, l)) len fits;
               }
 
         -- else its stored bits serve
-        pub optional-stored : (need ≡ 0 → ⊥) → (x u : ℕ) → ((p : ℕ) → bit p x ≡ (bit p K.want && bit p u)) → u ≡ joined (get_or kids (at + 20) 0) (get_or kids (at + 21) 0) → OptionalTaken kids kids at e x sums
+        pub optional-stored : (need ≡ 0 → ⊥) → (x u : ℕ) → ((p : ℕ) → bit p x ≡ (bit p want && bit p u)) → u ≡ joined (get_or kids (at + 20) 0) (get_or kids (at + 21) 0) → OptionalTaken kids kids at e x sums
         optional-stored some x u both u-is w =
             let c = child w in
             let on : ltb 0 need ≡ true = positive need some in
-            let held : Windowed w.1 K.ranges c.1 K.depth (cond c.0 1 0) y (K.base + 64) K.base (placesOf K.want) = subst (λ (t : Bool). Windowed w.1 K.ranges c.1 K.depth (cond c.0 1 0) y (cond t (K.base + 64) K.base) K.base (λ p. t && bit p K.want)) on (walk-part c.3 e stop) in
+            let held : Windowed w.1 ranges c.1 depth (cond c.0 1 0) y (base + 64) base (placesOf want) = subst (λ (t : Bool). Windowed w.1 ranges c.1 depth (cond c.0 1 0) y (cond t (base + 64) base) base (λ p. t && bit p want)) on (walk-part c.3 e stop) in
             record {
               f = c.0;
               T = c.1;
               g = c.2;
               walk = c.3;
               stop = stop;
-              held = windowed-less w.1 K.ranges c.1 K.depth (cond c.0 1 0) y (K.base + 64) K.base (placesOf K.want) (placesOf x) (λ p m i. (and_parts (bit p K.want) (bit p u) (sym (both p) ∙ i)).0) held;
-              bits = λ p m. both p ∙ and-where (bit p K.want) (bit p u) (matches w.1 c.1 (K.base + p)) (λ i. ap (bit p) u-is ∙ walk-bits c.3 p m (ap (λ (t : Bool). t && bit p K.want) on ∙ i));
+              held = windowed-less w.1 ranges c.1 depth (cond c.0 1 0) y (base + 64) base (placesOf want) (placesOf x) (λ p m i. (and_parts (bit p want) (bit p u) (sym (both p) ∙ i)).0) held;
+              bits = λ p m. both p ∙ and-where (bit p want) (bit p u) (matches w.1 c.1 (base + p)) (λ i. ap (bit p) u-is ∙ walk-bits c.3 p m (ap (λ (t : Bool). t && bit p want) on ∙ i));
               long = refl;
               back = λ zs. refl;
             }
@@ -178,17 +178,17 @@ module _ (K : Call) (need : ℕ) where
     y' = take (e - at) (drop at kids')
 
     pub record Scored (w : Asks) (ys : List ℕ) (sums' : List Float) : Type 0 where
-      pub added : Added (λ p. scorerScore w.1 (I w).T (K.base + p)) x sums sums'
+      pub added : Added (λ p. scorerScore w.1 (I w).T (base + p)) x sums sums'
       pub small : Sums ((I w).walk.q + nodes (I w).T) sums'
-      pub parts : Windowed w.1 K.ranges (I w).T K.depth (cond (I w).f 1 0) ys (K.base + 64) (K.base + 64) nowhere
+      pub parts : Windowed w.1 ranges (I w).T depth (cond (I w).f 1 0) ys (base + 64) (base + 64) nowhere
 
     took : (ys : List ℕ) (sums' : List Float) → length ys ≡ length y' → ((w : Asks) → Scored w ys sums') → OptionalAt (put kids' at e ys) e sums'
     took ys sums' len r w =
         let m = I w in
-        let M : ℕ → Bool = λ p. matches w.1 m.T (K.base + p) in (
+        let M : ℕ → Bool = λ p. matches w.1 m.T (base + p) in (
           m.g,
           subst (λ (k : List ℕ). Walk (frame w) m.g k e sums') (sym (m.back ys))
-              (walk-took m.walk e m.stop x sums' (λ p l i. and-on (bit p K.want) (M p) (bit p x) (m.bits p l) i) (λ p l i. and-off (bit p K.want) (M p) (bit p x) (m.bits p l) i) (r w).added (r w).small ys (len ∙ m.long) (r w).parts),
+              (walk-took m.walk e m.stop x sums' (λ p l i. and-on (bit p want) (M p) (bit p x) (m.bits p l) i) (λ p l i. and-off (bit p want) (M p) (bit p x) (m.bits p l) i) (r w).added (r w).small ys (len ∙ m.long) (r w).parts),
         )
 
     kept : (ys : List ℕ) (sums' : List Float) → ys ≡ y' → OptionalAt (put kids' at e ys) e sums' → OptionalAt kids' e sums'
@@ -201,34 +201,34 @@ module _ (K : Call) (need : ℕ) where
         λ w.
         let m = I w in
         record {
-          added = added-none (λ p. scorerScore w.1 m.T (K.base + p)) x sums none;
+          added = added-none (λ p. scorerScore w.1 m.T (base + p)) x sums none;
           small = sums-more m.walk.q (m.walk.q + nodes m.T) sums (omega arith) m.walk.small;
-          parts = windowed-forget w.1 K.ranges m.T K.depth (cond m.f 1 0) y' (K.base + 64) K.base (placesOf x) (K.base + 64) (le_refl _) (omega arith) m.held;
+          parts = windowed-forget w.1 ranges m.T depth (cond m.f 1 0) y' (base + 64) base (placesOf x) (base + 64) (le_refl _) (omega arith) m.held;
         }
         )
         )
 
-    module _ (a' b' : ℕ) (same-a : a' ≡ K.a) (same-b : b' ≡ K.b) where
-      asked : (w : Asks) → NodeAsked w.1 K.ranges K.table w.2 (I w).T K.depth (cond (I w).f 1 0) y' K.base x (I w).walk.q
+    module _ (a' b' : ℕ) (same-a : a' ≡ a) (same-b : b' ≡ b) where
+      asked : (w : Asks) → NodeAsked w.1 ranges table w.2 (I w).T depth (cond (I w).f 1 0) y' base x (I w).walk.q
       asked w =
           let m = I w in
-          record { scorable = walk-scorable m.walk w.6.scorables.few; few = walk-few m.walk w.6.scorables.few; match = λ p l i. (and_parts (bit p K.want) (matches w.1 m.T (K.base + p)) (sym (m.bits p l) ∙ i)).1; held = m.held }
+          record { scorable = walk-scorable m.walk w.6.scorables.few; few = walk-few m.walk w.6.scorables.few; match = λ p l i. (and_parts (bit p want) (matches w.1 m.T (base + p)) (sym (m.bits p l) ∙ i)).1; held = m.held }
 
-      there : (w : Asks) → WindowLent w.1 w.0 K.postings K.positions K.norms w.2 a' b' K.base x
-      there w = lent-at a' b' x same-a same-b (λ p l i. (and_parts (bit p K.want) (matches w.1 (I w).T (K.base + p)) (sym ((I w).bits p l) ∙ i)).0) w.5
+      there : (w : Asks) → WindowLent w.1 w.0 postings positions norms w.2 a' b' base x
+      there w = lent-at a' b' x same-a same-b (λ p l i. (and_parts (bit p want) (matches w.1 (I w).T (base + p)) (sym ((I w).bits p l) ∙ i)).0) w.5
 
-      pub optional-child : Asks → ScoresPre y' K.postings K.positions K.norms K.ranges K.table a' b' K.base x sums K.depth
+      pub optional-child : Asks → ScoresPre y' postings positions norms ranges table a' b' base x sums depth
       optional-child w = let m = I w in (w.0, w.1, w.2, m.T, cond m.f 1 0, m.walk.q, there w, asked w, m.walk.small)
 
-      pub optional-term : get_or kids at 0 ≡ 1 → Asks → TermPre y' K.postings K.norms K.table K.base x sums
+      pub optional-term : get_or kids at 0 ≡ 1 → Asks → TermPre y' postings norms table base x sums
       optional-term k w =
           let m = I w in
-          (windowed-kind w.1 K.ranges m.T K.depth (cond m.f 1 0) y' (K.base + 64) K.base (placesOf x) m.held ∙ sym (walk-kind m.walk) ∙ k, (K.positions, K.ranges, a', b', K.depth, optional-child w))
+          (windowed-kind w.1 ranges m.T depth (cond m.f 1 0) y' (base + 64) base (placesOf x) m.held ∙ sym (walk-kind m.walk) ∙ k, (positions, ranges, a', b', depth, optional-child w))
 
-      pub optional-took : (ys : List ℕ) (sums' : List Float) → length ys ≡ length y' → ScoresPost y' K.postings K.positions K.norms K.ranges K.table a' b' K.base x sums K.depth ys sums' → OptionalAt (put kids' at e ys) e sums'
+      pub optional-took : (ys : List ℕ) (sums' : List Float) → length ys ≡ length y' → ScoresPost y' postings positions norms ranges table a' b' base x sums depth ys sums' → OptionalAt (put kids' at e ys) e sums'
       optional-took ys sums' len post =
           took ys sums' len (λ w. let m = I w in let r = post w.0 w.1 w.2 m.T (cond m.f 1 0) m.walk.q (there w) (asked w) m.walk.small in record { added = r.0; small = r.1; parts = r.2 })
 
       -- a term's part stays as it is
-      pub optional-term-took : (sums' : List Float) → TermPost y' K.postings K.norms K.table K.base x sums sums' → OptionalAt kids' e sums'
-      optional-term-took sums' post = kept y' sums' refl (optional-took y' sums' refl (post K.positions K.ranges a' b' K.depth))
+      pub optional-term-took : (sums' : List Float) → TermPost y' postings norms table base x sums sums' → OptionalAt kids' e sums'
+      optional-term-took sums' post = kept y' sums' refl (optional-took y' sums' refl (post positions ranges a' b' depth))

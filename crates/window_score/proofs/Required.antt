@@ -14,7 +14,7 @@ use Rattle.window_words.specs.Windowed.{placesOf}
 use Rattle.window_words.proofs.Laws.{windowed-kind, windowed-forget}
 use Rattle.window_score.specs.Words.{ChildThere}
 use Rattle.window_score.specs.Asked.{WindowLent, NodeAsked, ScoresPre, ScoresPost, TermPre, TermPost, RequiredPre, RequiredPost}
-use Rattle.window_score.proofs.Loops.{Call, put, sums-more, added-none, Frame, Walk, walk-start, walk-open, walk-end, walk-there, walk-kind, walk-scores, walk-scorable, walk-few, walk-matched, walk-part, walk-took}
+use Rattle.window_score.proofs.Loops.{put, sums-more, added-none, Frame, Walk, walk-start, walk-open, walk-end, walk-there, walk-kind, walk-scores, walk-scorable, walk-few, walk-matched, walk-part, walk-took}
 
 -- the buffers keep their lengths, and fewer documents are wanted
 pub lent-at : {ix : Index} {n : ℕ} {postings positions norms : List ℕ} {places a b base want : ℕ} (a' b' x : ℕ) → a' ≡ a → b' ≡ b → ((p : ℕ) → p < 64 → bit p x ≡ true → bit p want ≡ true) → WindowLent ix n postings positions norms places a b base want → WindowLent ix n postings positions norms places a' b' base x
@@ -35,40 +35,40 @@ no-score : (f : Bool) (w : ℕ) → w ≡ cond f 1 0 → (w ≡ 1 → ⊥) → f
 no-score true w e h = absurd (h e)
 no-score false w e h = refl
 
-module _ (K : Call) where
+module _ (kids₀ postings positions norms ranges : List ℕ) (table : List Float) (a b base want : ℕ) (sums₀ : List Float) (depth : ℕ) where
   abbrev pub Asks : Type 0
-  Asks = RequiredPre K.kids K.postings K.positions K.norms K.ranges K.table K.a K.b K.base K.want K.sums K.depth
+  Asks = RequiredPre kids₀ postings positions norms ranges table a b base want sums₀ depth
 
   abbrev pub frame : Asks → Frame
   frame w =
       record {
         counts = λ p. scores-word;
         ix = w.1;
-        ranges = K.ranges;
-        table = K.table;
+        ranges = ranges;
+        table = table;
         places = w.2;
-        depth = K.depth;
-        bound = K.base + 64;
-        base = K.base;
-        asked = placesOf K.want;
-        want = K.want;
+        depth = depth;
+        bound = base + 64;
+        base = base;
+        asked = placesOf want;
+        want = want;
         all = w.3;
-        start = K.sums;
+        start = sums₀;
         most = w.4 + nodesOf w.3;
       }
 
   abbrev pub RequiredAt : List ℕ → ℕ → List Float → Type 0
   RequiredAt kids at sums = (w : Asks) → (g : Scorers) × Walk (frame w) g kids at sums
 
-  pub required-start : RequiredAt K.kids 0 K.sums
-  required-start w = (w.3, walk-start (frame w) K.kids w.4 (le_refl _) w.6.held w.7 w.6.scorables.sound w.6.scorables.tables (λ p l i. required-matched w.1 w.3 (K.base + p) (w.6.match p l i)))
+  pub required-start : RequiredAt kids₀ 0 sums₀
+  required-start w = (w.3, walk-start (frame w) kids₀ w.4 (le_refl _) w.6.held w.7 w.6.scorables.sound w.6.scorables.tables (λ p l i. required-matched w.1 w.3 (base + p) (w.6.match p l i)))
 
   module _ (kids : List ℕ) (at : ℕ) (sums : List Float) (I : RequiredAt kids at sums) where
-    pub required-end : length kids ≤ at → RequiredPost K.kids K.postings K.positions K.norms K.ranges K.table K.a K.b K.base K.want K.sums K.depth kids sums
+    pub required-end : length kids ≤ at → RequiredPost kids₀ postings positions norms ranges table a b base want sums₀ depth kids sums
     required-end l n ix places ss q L A S =
         let w : Asks = (n, ix, places, ss, q, L, A, S) in
         let E = walk-end (I w).0 (I w).1 l in
-        (record { wanted = λ p m i. E.added.wanted p m i ∙ ap (λ (xs : List Float). sumFrom (get_or K.sums p nan) xs) (required-counted ix ss (K.base + p)); others = E.added.others }, E.small, E.parts)
+        (record { wanted = λ p m i. E.added.wanted p m i ∙ ap (λ (xs : List Float). sumFrom (get_or sums₀ p nan) xs) (required-counted ix ss (base + p)); others = E.added.others }, E.small, E.parts)
 
     module _ (l : at < length kids) where
       -- the child at the place
@@ -92,36 +92,36 @@ module _ (K : Call) where
             let c = child w in
             let none : c.0 ≡ false = no-score c.0 (get_or kids (at + 15) 0) (walk-scores c.3) filter in (
               c.2,
-              walk-took c.3 e stop 0 sums (λ p m i. bit-zero p ∙ sym none) (λ p m i. bit-zero p) (added-none (λ p. scorerScore w.1 c.1 (K.base + p)) 0 sums refl) (sums-more c.3.q (c.3.q + nodes c.1) sums (omega arith) c.3.small) y refl
-                  (windowed-forget w.1 K.ranges c.1 K.depth (cond c.0 1 0) y (K.base + 64) K.base (placesOf K.want) (K.base + 64) (le_refl _) (omega arith) (walk-part c.3 e stop)),
+              walk-took c.3 e stop 0 sums (λ p m i. bit-zero p ∙ sym none) (λ p m i. bit-zero p) (added-none (λ p. scorerScore w.1 c.1 (base + p)) 0 sums refl) (sums-more c.3.q (c.3.q + nodes c.1) sums (omega arith) c.3.small) y refl
+                  (windowed-forget w.1 ranges c.1 depth (cond c.0 1 0) y (base + 64) base (placesOf want) (base + 64) (le_refl _) (omega arith) (walk-part c.3 e stop)),
             )
             )
 
-        module _ (must : get_or kids (at + 15) 0 ≡ 1) (a' b' : ℕ) (same-a : a' ≡ K.a) (same-b : b' ≡ K.b) where
+        module _ (must : get_or kids (at + 15) 0 ≡ 1) (a' b' : ℕ) (same-a : a' ≡ a) (same-b : b' ≡ b) where
           scores : (w : Asks) → (child w).0 ≡ true
           scores w = must-score (child w).0 (get_or kids (at + 15) 0) (walk-scores (child w).3) must
 
-          node : (w : Asks) → NodeAsked w.1 K.ranges K.table w.2 (child w).1 K.depth (cond (child w).0 1 0) y K.base K.want (child w).3.q
+          node : (w : Asks) → NodeAsked w.1 ranges table w.2 (child w).1 depth (cond (child w).0 1 0) y base want (child w).3.q
           node w =
               let c = child w in
               record { scorable = walk-scorable c.3 w.6.scorables.few; few = walk-few c.3 w.6.scorables.few; match = λ p m i. walk-matched c.3 p m i (scores w); held = walk-part c.3 e stop }
 
-          pub required-child : Asks → ScoresPre y K.postings K.positions K.norms K.ranges K.table a' b' K.base K.want sums K.depth
+          pub required-child : Asks → ScoresPre y postings positions norms ranges table a' b' base want sums depth
           required-child w =
               let c = child w in
-              (w.0, w.1, w.2, c.1, cond c.0 1 0, c.3.q, lent-at a' b' K.want same-a same-b (λ p m i. i) w.5, node w, c.3.small)
+              (w.0, w.1, w.2, c.1, cond c.0 1 0, c.3.q, lent-at a' b' want same-a same-b (λ p m i. i) w.5, node w, c.3.small)
 
-          pub required-term : get_or kids at 0 ≡ 1 → Asks → TermPre y K.postings K.norms K.table K.base K.want sums
+          pub required-term : get_or kids at 0 ≡ 1 → Asks → TermPre y postings norms table base want sums
           required-term k w =
               let c = child w in
-              (windowed-kind w.1 K.ranges c.1 K.depth (cond c.0 1 0) y (K.base + 64) K.base (placesOf K.want) (walk-part c.3 e stop) ∙ sym (walk-kind c.3) ∙ k, (K.positions, K.ranges, a', b', K.depth, required-child w))
+              (windowed-kind w.1 ranges c.1 depth (cond c.0 1 0) y (base + 64) base (placesOf want) (walk-part c.3 e stop) ∙ sym (walk-kind c.3) ∙ k, (positions, ranges, a', b', depth, required-child w))
 
-          pub required-took : (ys : List ℕ) (sums' : List Float) → length ys ≡ length y → ScoresPost y K.postings K.positions K.norms K.ranges K.table a' b' K.base K.want sums K.depth ys sums' → RequiredAt (put kids at e ys) e sums'
+          pub required-took : (ys : List ℕ) (sums' : List Float) → length ys ≡ length y → ScoresPost y postings positions norms ranges table a' b' base want sums depth ys sums' → RequiredAt (put kids at e ys) e sums'
           required-took ys sums' len post w =
               let c = child w in
-              let r = post w.0 w.1 w.2 c.1 (cond c.0 1 0) c.3.q (lent-at a' b' K.want same-a same-b (λ p m i. i) w.5) (node w) c.3.small in
-              (c.2, walk-took c.3 e stop K.want sums' (λ p m i. i ∙ sym (scores w)) (λ p m i. i) r.0 r.1 ys len r.2)
+              let r = post w.0 w.1 w.2 c.1 (cond c.0 1 0) c.3.q (lent-at a' b' want same-a same-b (λ p m i. i) w.5) (node w) c.3.small in
+              (c.2, walk-took c.3 e stop want sums' (λ p m i. i ∙ sym (scores w)) (λ p m i. i) r.0 r.1 ys len r.2)
 
           -- a term's part stays as it is
-          pub required-term-took : (sums' : List Float) → TermPost y K.postings K.norms K.table K.base K.want sums sums' → RequiredAt kids e sums'
-          required-term-took sums' post = kept y sums' refl (required-took y sums' refl (post K.positions K.ranges a' b' K.depth))
+          pub required-term-took : (sums' : List Float) → TermPost y postings norms table base want sums sums' → RequiredAt kids e sums'
+          required-term-took sums' post = kept y sums' refl (required-took y sums' refl (post positions ranges a' b' depth))

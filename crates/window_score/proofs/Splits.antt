@@ -1,5 +1,5 @@
 -- The parts of some children that are asked by windows, split after the first of them and put together again, and sums that are all 0. Assumes nothing.
-use Rattle.std.proofs.Common.{◌≡◌, refl, sym, ap, subst, ◌∙◌, cond, List, [], ◌++◌, ℕ, zero, suc, ◌*◌, ◌^◌, ◌<◌, length, get_or, append_assoc, length-append, arith}
+use Rattle.std.proofs.Common.{◌≡◌, refl, sym, ap, subst, ◌∙◌, cond, List, [], ◌++◌, ℕ, zero, suc, ◌*◌, ◌^◌, length, append_assoc, length-append, arith}
 use Rattle.std.proofs.lemmas.List.{length-replicate, get_or-replicate}
 use Rattle.std.specs.Prelude.{Float, replicate}
 use Rattle.std.specs.Float.{nan}
@@ -12,7 +12,7 @@ use Rattle.weight.specs.State.{sizesOfFirst}
 use Rattle.score.proofs.Join.{first_of, rest_of}
 use Rattle.window_words.specs.Windowed.{Places, AllWindowed}
 use Rattle.window_words.proofs.Laws.{windowed-length}
-use Rattle.window_score.specs.Sums.{Sums}
+use Rattle.window_score.specs.Sums.{Sums, Zeros}
 
 -- ---- the parts of the first n children, and of the others
 pub record Split (ix : Index) (ranges : List ℕ) (k n : ℕ) (ss : Scorers) (w : List ℕ) (b base : ℕ) (D : Places) : Type 0 where
@@ -46,10 +46,6 @@ all-join ix ranges k (suc n) (more f T g) x y b base D p q =
     (p.0, p.1 ++ y, ap (λ (l : List ℕ). l ++ y) p.2 ∙ append_assoc p.0 p.1 y, p.3, all-join ix ranges k n g p.1 y b base D p.4 q)
 
 -- ---- sums that are all 0
-pub record Zeros (sums : List Float) : Type 0 where
-  pub long : length sums ≡ 64
-  pub zero : (p : ℕ) → p < 64 → get_or sums p nan ≡ zeroFloat
-
 pub zeros : (z : Float) → z ≡ zeroFloat → Zeros (replicate 64 z)
 zeros z e = record { long = length-replicate 64 z; zero = λ p l. get_or-replicate 64 p z nan l ∙ e }
 

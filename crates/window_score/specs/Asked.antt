@@ -13,7 +13,7 @@ use Rattle.leaf_score.specs.Asked.{Scorable}
 use Rattle.score.specs.Asked.{Scorables, JoinsAt}
 use Rattle.window_words.specs.Windowed.{nowhere, placesOf, optionalBound, Windowed, AllWindowed}
 use Rattle.window_leaf.specs.Asks.{Wanted}
-use Rattle.window_score.specs.Sums.{Sums, Added, AddedAll}
+use Rattle.window_score.specs.Sums.{Sums, Zeros, NarrowedIs, Added, AddedAll}
 use Rattle.window_score.specs.declared.Joined.{Joined}
 
 -- an accepted index whose N, postings, positions and norms are those that are lent, with room for its phrases, and the wanted documents of a window of it
@@ -130,3 +130,24 @@ GroupPre kids node group postings positions norms ranges table a b base want sum
 abbrev pub GroupPost : List ℕ → Joined → List Float → List ℕ → List ℕ → List ℕ → List ℕ → List Float → ℕ → ℕ → ℕ → ℕ → List Float → ℕ → List ℕ → List Float → Type 0
 GroupPost kids node group postings positions norms ranges table a b base want sums depth kids' sums' =
     (n : ℕ) (ix : Index) (places : ℕ) (j : Joining) (rs os : Scorers) (q : ℕ) → WindowLent ix n postings positions norms places a b base want → GroupAsked ix ranges table places j rs os node depth kids base want q group → Sums q sums → Added (λ p. joinedScore j (requiredScores ix rs (base + p)) (narrowedSum (optionalScores ix os (base + p)))) want sums sums' × Sums (q + (nodesOf rs + nodesOf os)) sums' × AllWindowed ix ranges rs depth kids' (base + 64) (base + 64) nowhere
+
+-- ---- a root, whose sums are 0 before: after it each, narrowed, is the score
+abbrev pub RootPre : List ℕ → List ℕ → List ℕ → List ℕ → List ℕ → List Float → ℕ → ℕ → ℕ → ℕ → List Float → ℕ → Type 0
+RootPre st postings positions norms ranges table a b base want sums depth =
+    Zeros sums × ((n : ℕ) × (ix : Index) × (places : ℕ) × (T : Scorer) × (scores : ℕ) × WindowLent ix n postings positions norms places a b base want × NodeAsked ix ranges table places T depth scores st base want 0)
+
+abbrev pub RootPost : List ℕ → List ℕ → List ℕ → List ℕ → List ℕ → List Float → ℕ → ℕ → ℕ → ℕ → List Float → ℕ → List ℕ → List Float → Type 0
+RootPost st postings positions norms ranges table a b base want sums depth st' sums' =
+    (n : ℕ) (ix : Index) (places : ℕ) (T : Scorer) (scores : ℕ) → WindowLent ix n postings positions norms places a b base want → NodeAsked ix ranges table places T depth scores st base want 0 → NarrowedIs (λ p. scorerScore ix T (base + p)) want sums sums' × Windowed ix ranges T depth scores st' (base + 64) (base + 64) nowhere
+
+-- its children, where it has no optional ones or no required ones
+abbrev pub OnePart : Joined → Type 0
+OnePart n = (n.required ≡ n.optional → ⊥) → n.required ≡ 0
+
+abbrev pub PartPre : List ℕ → Joined → List ℕ → List ℕ → List ℕ → List ℕ → List Float → ℕ → ℕ → ℕ → ℕ → List Float → ℕ → Type 0
+PartPre kids node postings positions norms ranges table a b base want sums depth =
+    OnePart node × Zeros sums × ((n : ℕ) × (ix : Index) × (places : ℕ) × (j : Joining) × (rs : Scorers) × (os : Scorers) × (rest : List ℕ) × WindowLent ix n postings positions norms places a b base want × BooleanAsked ix ranges table places j rs os node depth rest kids base want 0)
+
+abbrev pub PartPost : List ℕ → Joined → List ℕ → List ℕ → List ℕ → List ℕ → List Float → ℕ → ℕ → ℕ → ℕ → List Float → ℕ → List ℕ → List Float → Type 0
+PartPost kids node postings positions norms ranges table a b base want sums depth kids' sums' =
+    (n : ℕ) (ix : Index) (places : ℕ) (j : Joining) (rs os : Scorers) (rest : List ℕ) → WindowLent ix n postings positions norms places a b base want → BooleanAsked ix ranges table places j rs os node depth rest kids base want 0 → NarrowedIs (λ p. joinedScore j (requiredScores ix rs (base + p)) (narrowedSum (optionalScores ix os (base + p)))) want sums sums' × BooleanLeft ix ranges rs os depth rest kids' base

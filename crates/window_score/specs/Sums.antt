@@ -2,7 +2,7 @@
 use Rattle.std.specs.Prelude.{◌≡◌, true, false, List, ℕ, ◌+◌, ◌*◌, ◌^◌, ◌≤◌, ◌<◌, length, get_or, Float}
 use Rattle.std.specs.Float.{nan, binary64}
 use Rattle.std.specs.Float.Ieee.{add}
-use Rattle.meaning.specs.Ieee754.{sumFrom, narrow}
+use Rattle.meaning.specs.Ieee754.{zeroFloat, sumFrom, narrow}
 use Rattle.ieee754.specs.Nonneg.{AtMost}
 use Rattle.bits.specs.Bit.{bit}
 
@@ -10,6 +10,17 @@ use Rattle.bits.specs.Bit.{bit}
 pub record Sums (q : ℕ) (sums : List Float) : Type 0 where
   pub long : length sums ≡ 64
   pub small : (p : ℕ) → p < 64 → AtMost (q * 2 ^ 29) (get_or sums p nan)
+
+-- sums that are all 0
+pub record Zeros (sums : List Float) : Type 0 where
+  pub long : length sums ≡ 64
+  pub zero : (p : ℕ) → p < 64 → get_or sums p nan ≡ zeroFloat
+
+-- the sum at each wanted place, narrowed, is the score, and the others stay
+pub record NarrowedIs (score : ℕ → Float) (want : ℕ) (sums sums' : List Float) : Type 0 where
+  pub long : length sums' ≡ 64
+  pub wanted : (p : ℕ) → p < 64 → bit p want ≡ true → narrow (get_or sums' p nan) ≡ score p
+  pub others : (p : ℕ) → p < 64 → bit p want ≡ false → get_or sums' p nan ≡ get_or sums p nan
 
 -- something is done to the sum at each wanted place, and the others stay
 pub record At (f : ℕ → Float → Float) (want : ℕ) (sums sums' : List Float) : Type 0 where

@@ -3,6 +3,7 @@
 
 ghost use Rattle.std.specs.Prelude.{◌≡◌, ◌≤◌, length, get_or};
 ghost use Rattle.meaning.specs.Limits.{nodeStateWords};
+ghost use Rattle.window_leaf.specs.Asks.{BitsPre, BitsPost};
 ghost use Rattle.window_score.specs.Words.{JoinedIs, ChildIs, ChildThere};
 ghost use Rattle.window_score.specs.Asked.{ScoresPre, ScoresPost, RequiredPre, RequiredPost, OptionalPre, OptionalPost, BooleanPre, BooleanPost, GroupPre, GroupPost};
 
@@ -10,8 +11,10 @@ use index::wide;
 use sums::{add_constant, add_joined, add_narrowed};
 use weight::NODE_STATE_WORDS;
 use window_bits::node_bits;
+use window_leaf::term_bits;
 
 pub mod leaf;
+pub mod root;
 pub mod sums;
 
 const TERM: u32 = 1;
@@ -65,6 +68,27 @@ fn child_at(kids: &[u32], at: usize) -> Child
         scores: kids[at + 15],
         bits: bits::joined(kids[at + 20], kids[at + 21]),
     }
+}
+
+// Which of the wanted documents a child matches; a term is asked without the call of node_bits.
+fn child_bits(
+    st: &mut [u32],
+    postings: &[u32],
+    positions: &[u32],
+    ranges: &[u32],
+    a: &mut [i32],
+    b: &mut [i32],
+    base: u32,
+    want: u64,
+    depth: u32,
+) -> u64
+    requires { BitsPre postings.now positions.now ranges.now (length a.old) (length b.old) st.old base want depth }
+    ensures { BitsPost postings.now positions.now ranges.now (length a.old) (length b.old) st.old base want depth result st.new }
+{
+    if st[0] == TERM {
+        return bits::both(want, term_bits(st, postings, base));
+    }
+    node_bits(st, postings, positions, ranges, a, b, base, want, depth)
 }
 
 // The node's score is added to the sum of each wanted document, all of which it matches.
@@ -336,7 +360,7 @@ fn optional_scores(
         let k = child_at(kids, at);
         let end = k.end;
         let x = if need == 0 {
-            node_bits(
+            child_bits(
                 &mut kids[at..end],
                 postings,
                 positions,

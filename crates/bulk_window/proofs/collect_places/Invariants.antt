@@ -1,7 +1,8 @@
--- The places done are collected, the others are those of `left`.
+-- The places done are collected, the others are those of `left`; the sums of those done are 0.
 use Rattle.std.proofs.Common.{◌≡◌, length, get_or}
 use Rattle.std.specs.Float.{nan}
-use Rattle.meaning.specs.Ieee754.{narrow}
+use Rattle.meaning.specs.Ieee754.{zeroFloat, narrow}
+use Rattle.window_score.proofs.Adding.{Adding}
 use Rattle.bulk_window.proofs.Places.{PlacesAt}
 use Rattle.bulk_window.proofs.collect_places.Given as goal
 
@@ -9,7 +10,8 @@ abbrev pub invariant-loop-left : goal.invariant-loop-left
 invariant-loop-left l =
     record {
       long : length l.heap ≡ length l.fn.heap;
-      at : PlacesAt l.first (λ p. narrow (get_or l.sums p nan)) l.places l.fn.c l.fn.heap l.left l.c l.heap;
+      sums : Adding (λ p x. zeroFloat) l.places l.left l.fn.sums l.sums;
+      at : PlacesAt l.first (λ p. narrow (get_or l.fn.sums p nan)) l.places l.fn.c l.fn.heap l.left l.c l.heap;
     }
 
 abbrev pub decreases-loop-left : goal.decreases-loop-left

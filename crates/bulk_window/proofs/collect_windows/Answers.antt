@@ -1,7 +1,11 @@
 -- Window after window: what the tree matches is collected, and nothing lies in between.
-use Rattle.std.proofs.Common.{◌≡◌, refl, sym, ◌∙◌, ◌≤◌, ◌<◌, length, min, arith, get_or}
+use Rattle.std.proofs.Common.{refl, length, min, arith, get_or}
 use Rattle.leaf_scorer.specs.Calls.{lent}
 use Rattle.bulk_scorer.proofs.Held.{root-words}
+use Rattle.std.specs.Float.{binary64}
+use Rattle.std.specs.Float.Ieee.{of_bits}
+use Rattle.leaf_score.proofs.Bounds.{zero-64}
+use Rattle.bulk_window.proofs.Scores.{zeros}
 use Rattle.bulk_window.proofs.Loop.{loop-start, loop-end, loop-done, loop-step, window-small, window-next, window-scores}
 use Rattle.bulk_window.proofs.collect_windows.Goals as goal
 
@@ -10,6 +14,7 @@ loop-base-init c =
     let a = c.args in
     record {
       whole = refl;
+      zeros = zeros (of_bits binary64 0) zero-64;
       top = omega arith;
       at = loop-start a.max_doc a.postings.now a.positions.now a.norms.now a.ranges.now a.live.now a.inverses.now (min (length a.a.now) (length a.b.now)) a.st.now a.depth a.doc_base a.c a.heap.now;
     }
@@ -21,8 +26,8 @@ bounds-st-22 c =
     let long = root-words (lent a.max_doc a.postings.now a.positions.now a.ranges.now) a.norms.now a.live.now a.inverses.now r.0 (min (length a.a.now) (length a.b.now)) r.1 a.depth r.2 a.st.now r.3 in
     omega (arith, long, c.loop-base.auto.st, c.node_bits-places.auto.st)
 
-pub collect_window-c-requires : goal.collect_window-c-requires
-collect_window-c-requires c =
+pub collect_window-c-requires-clause-window : goal.collect_window-c-requires-clause-window
+collect_window-c-requires-clause-window c =
     let a = c.args in
     let l = c.loop-base in
     let r = c.requires.2 in
@@ -38,8 +43,9 @@ loop-base-preserved c =
     let next = window-next a.max_doc a.postings.now a.positions.now a.norms.now a.ranges.now a.live.now a.inverses.now (min (length a.a.now) (length a.b.now)) a.st.now a.depth a.doc_base a.c a.heap.now l.st l.c l.heap l.base l.invariant.at c.loop-base-test.true r.0 r.1 r.2 r.3 (length l.a) (length l.b) c.live_bits-want.result (omega (arith, l.auto.a, l.auto.b)) c.live_bits-want.ensures (length c.node_bits-places.new.a) (length c.node_bits-places.new.b) (omega (arith, l.auto.a, l.auto.b, c.node_bits-places.auto.a, c.node_bits-places.auto.b)) c.node_bits-places.result (get_or c.node_bits-places.new.st 22 0) c.node_bits-places.new.st refl c.node_bits-places.ensures in
     record {
       whole = go.whole;
+      zeros = c.collect_window-c.ensures.zeros;
       top = omega (arith, go.reached, small, next);
-      at = loop-step a.max_doc a.postings.now a.positions.now a.norms.now a.ranges.now a.live.now a.inverses.now (min (length a.a.now) (length a.b.now)) a.st.now a.depth a.doc_base a.c a.heap.now l.st l.c l.heap l.base l.invariant.at c.loop-base-test.true (length l.a) (length l.b) c.live_bits-want.result (omega (arith, l.auto.a, l.auto.b)) c.live_bits-want.ensures (length c.node_bits-places.new.a) (length c.node_bits-places.new.b) (omega (arith, l.auto.a, l.auto.b, c.node_bits-places.auto.a, c.node_bits-places.auto.b)) c.node_bits-places.result (get_or c.node_bits-places.new.st 22 0) c.node_bits-places.new.st refl c.node_bits-places.ensures c.collect_window-c.result c.collect_window-c.new.heap c.collect_window-c.new.st c.collect_window-c.ensures c.next_window-base.result go;
+      at = loop-step a.max_doc a.postings.now a.positions.now a.norms.now a.ranges.now a.live.now a.inverses.now (min (length a.a.now) (length a.b.now)) a.st.now a.depth a.doc_base a.c a.heap.now l.st l.c l.heap l.base l.invariant.at c.loop-base-test.true (length l.a) (length l.b) c.live_bits-want.result (omega (arith, l.auto.a, l.auto.b)) c.live_bits-want.ensures (length c.node_bits-places.new.a) (length c.node_bits-places.new.b) (omega (arith, l.auto.a, l.auto.b, c.node_bits-places.auto.a, c.node_bits-places.auto.b)) c.node_bits-places.result (get_or c.node_bits-places.new.st 22 0) c.node_bits-places.new.st refl c.node_bits-places.ensures c.collect_window-c.result c.collect_window-c.new.heap c.collect_window-c.new.st c.collect_window-c.ensures.window c.next_window-base.result go;
     }
 
 pub returns-clause-collect_post : goal.returns-clause-collect_post
@@ -53,3 +59,6 @@ returns-clause-collect_end c =
     let a = c.args in
     let l = c.loop-base in
     loop-end a.max_doc a.postings.now a.positions.now a.norms.now a.ranges.now a.live.now a.inverses.now (min (length a.a.now) (length a.b.now)) a.st.now a.depth a.doc_base a.c a.heap.now l.st l.c l.heap l.base l.invariant.at l.invariant.top
+
+pub collect_window-c-requires-clause-zeros : goal.collect_window-c-requires-clause-zeros
+collect_window-c-requires-clause-zeros c = c.loop-base.invariant.zeros

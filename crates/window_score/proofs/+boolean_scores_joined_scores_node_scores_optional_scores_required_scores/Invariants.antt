@@ -1,6 +1,5 @@
 -- The measures of the cycle, and what its loops keep. Assumes nothing.
 use Rattle.std.proofs.Common.{length, ◌-◌, ◌≡◌, ◌+◌, ◌*◌}
-use Rattle.window_score.proofs.Loops.{call}
 use Rattle.window_score.proofs.Required.{RequiredAt}
 use Rattle.window_score.proofs.Optional.{OptionalAt}
 use Rattle.window_score.proofs.+boolean_scores_joined_scores_node_scores_optional_scores_required_scores.Given as goal
@@ -28,8 +27,8 @@ decreases-required_scores-loop-at l = length l.kids - l.at
 
 abbrev pub invariant-optional_scores-loop-at : goal.invariant-optional_scores-loop-at
 invariant-optional_scores-loop-at l =
-    (length l.kids ≡ length l.fn.kids) × (length l.a ≡ length l.fn.a) × (length l.b ≡ length l.fn.b) × OptionalAt (call l.fn.kids l.fn.postings l.fn.positions l.fn.norms l.fn.ranges l.fn.inverses (length l.fn.a) (length l.fn.b) l.fn.base l.fn.want l.fn.sums l.fn.depth) l.fn.need l.kids l.at l.sums
+    (length l.kids ≡ length l.fn.kids) × (length l.a ≡ length l.fn.a) × (length l.b ≡ length l.fn.b) × OptionalAt l.fn.kids l.fn.need l.fn.postings l.fn.positions l.fn.norms l.fn.ranges l.fn.inverses (length l.fn.a) (length l.fn.b) l.fn.base l.fn.want l.fn.sums l.fn.depth l.kids l.at l.sums
 
 abbrev pub invariant-required_scores-loop-at : goal.invariant-required_scores-loop-at
 invariant-required_scores-loop-at l =
-    (length l.kids ≡ length l.fn.kids) × (length l.a ≡ length l.fn.a) × (length l.b ≡ length l.fn.b) × RequiredAt (call l.fn.kids l.fn.postings l.fn.positions l.fn.norms l.fn.ranges l.fn.inverses (length l.fn.a) (length l.fn.b) l.fn.base l.fn.want l.fn.sums l.fn.depth) l.kids l.at l.sums
+    (length l.kids ≡ length l.fn.kids) × (length l.a ≡ length l.fn.a) × (length l.b ≡ length l.fn.b) × RequiredAt l.fn.kids l.fn.postings l.fn.positions l.fn.norms l.fn.ranges l.fn.inverses (length l.fn.a) (length l.fn.b) l.fn.base l.fn.want l.fn.sums l.fn.depth l.kids l.at l.sums

@@ -1,0 +1,28 @@
+-- A child's bits: a term's, cut to what is wanted, or those of any node.
+use Rattle.std.proofs.Common.{refl, ◌+◌, ◌≤◌, length, arith}
+use Rattle.meaning.specs.Limits.{nodeStateWords}
+use Rattle.weight.specs.ScorerTree.{matches}
+use Rattle.leaf_scorer.specs.Calls.{lent}
+use Rattle.window_words.specs.Windowed.{nowhere}
+use Rattle.window_words.proofs.Laws.{windowed-long}
+use Rattle.window_leaf.proofs.Nodes.{wanted-answers, wanted-windowed}
+use Rattle.window_score.proofs.child_bits.Goals as goal
+
+pub bounds-st-0 : goal.bounds-st-0
+bounds-st-0 c =
+    let q = c.requires.1 in
+    let z : nodeStateWords ≤ length c.args.st.now = windowed-long q.1 c.args.ranges.now q.3 c.args.depth q.4 c.args.st.now c.args.base c.args.base nowhere q.7.held in
+    omega (arith, z)
+
+pub term_bits-requires : goal.term_bits-requires
+term_bits-requires c =
+    let q = c.requires.1 in
+    (c.requires.0, c.if-st-eq-TERM.true, (lent q.0 c.args.postings.now c.args.positions.now c.args.ranges.now, refl, q.1, q.2, q.3, c.args.depth, q.4, q.7))
+
+pub returns-then-st-eq-TERM : goal.returns-then-st-eq-TERM
+returns-then-st-eq-TERM c = λ n all ix places s o h.
+    let E = lent n c.args.postings.now c.args.positions.now c.args.ranges.now in
+    let a = c.term_bits.ensures E c.args.depth refl ix places s o h in (
+      wanted-answers (matches ix s) c.args.base c.args.want c.term_bits.result _ c.both.result a.0 c.both.ensures,
+      wanted-windowed ix c.args.ranges.now s c.args.depth o c.term_bits.new.st (c.args.base + 64) c.args.base c.args.want a.1,
+    )
