@@ -6,10 +6,12 @@ ghost use Rattle.scorer.specs.Calls.{lent};
 ghost use Rattle.bulk_scorer.specs.Collects.{CollectPre, CollectPost, CollectEnd};
 
 use collector::TopScoreDocCollector;
+use weight::NODE_STATE_WORDS;
 
+pub mod alone;
 pub mod everything;
 
-// The kinds of a root that has a loop of its own.
+// The kinds of a root, or of the only child of one, that have a loop of their own.
 const TERM: u32 = 1;
 
 const EVERYTHING: u32 = 5;
@@ -37,12 +39,35 @@ pub fn collect_matches(
 {
     let kind = st[0];
     if kind == TERM {
-        return bulk_term::collect_term(
-            st, postings, norms, inverses, live, doc_base, c, heap,
-        );
+        return bulk_term::collect_term(st, postings, norms, inverses, live, doc_base, c, heap);
     }
     if kind == EVERYTHING {
         return everything::collect_everything(st, max_doc, live, doc_base, c, heap);
+    }
+    if alone::alone(st) {
+        let kind = st[NODE_STATE_WORDS];
+        if kind == TERM {
+            return bulk_term::collect_term(
+                &st[NODE_STATE_WORDS..],
+                postings,
+                norms,
+                inverses,
+                live,
+                doc_base,
+                c,
+                heap,
+            );
+        }
+        if kind == EVERYTHING {
+            return everything::collect_everything(
+                &st[NODE_STATE_WORDS..],
+                max_doc,
+                live,
+                doc_base,
+                c,
+                heap,
+            );
+        }
     }
     bulk_window::collect_windows(
         st, max_doc, postings, positions, norms, ranges, inverses, live, a, b, depth, doc_base, c,

@@ -67,8 +67,8 @@ loop-doc-preserved c =
     let h = c.loop-doc-test.true in
     let P : TopScoreDocCollector → List ℤ → Type 0 = λ k z. record { long : length z ≡ length a.heap.now; within : l.doc + 1 ≤ a.max_doc; collected : AnysAt a.max_doc a.live.now c.one_score-s.result a.doc_base a.c a.heap.now k z (l.doc + 1) } in
     elim c.if-is_live.branch [
-      then-is_live w ↦ joined P _ _ _ _ w.heap-is w.c-is (record { long = w.stepped-c.auto.heap ∙ l.invariant.long; within = omega (arith, h); collected = any-take a.max_doc a.live.now c.one_score-s.result a.doc_base a.c a.heap.now l.c l.heap l.doc l.invariant.collected h (sym c.is_live.ensures ∙ w.if-is_live.true) w.stepped-c.result w.stepped-c.new.heap w.stepped-c.ensures })
-    | else-is_live w ↦ joined P _ _ _ _ w.heap-is w.c-is (record { long = l.invariant.long; within = omega (arith, h); collected = any-pass a.max_doc a.live.now c.one_score-s.result a.doc_base a.c a.heap.now l.c l.heap l.doc l.invariant.collected h (sym c.is_live.ensures ∙ w.if-is_live.false) })
+      | then-is_live w ↦ joined P _ _ _ _ w.heap-is w.c-is (record { long = w.stepped-c.auto.heap ∙ l.invariant.long; within = omega (arith, h); collected = any-take a.max_doc a.live.now c.one_score-s.result a.doc_base a.c a.heap.now l.c l.heap l.doc l.invariant.collected h (sym c.is_live.ensures ∙ w.if-is_live.true) w.stepped-c.result w.stepped-c.new.heap w.stepped-c.ensures })
+      | else-is_live w ↦ joined P _ _ _ _ w.heap-is w.c-is (record { long = l.invariant.long; within = omega (arith, h); collected = any-pass a.max_doc a.live.now c.one_score-s.result a.doc_base a.c a.heap.now l.c l.heap l.doc l.invariant.collected h (sym c.is_live.ensures ∙ w.if-is_live.false) })
     ]
 
 pub returns : goal.returns

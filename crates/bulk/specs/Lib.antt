@@ -1,0 +1,2 @@
+-- What the contracts of this crate name.
+pub mod Alone
