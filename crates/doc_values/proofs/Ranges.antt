@@ -29,6 +29,10 @@ module _ (ix : Index) where
   unfolding rangeDocuments in_range
   range-of-columns r = refl
 
+  pub in-range-of-columns : (r : NumericRange) (d : ℕ) → in_range ix r d ≡ in_range columnsOf r d
+  unfolding in_range
+  in-range-of-columns r d = refl
+
   pub wrong1-of-columns : wrong1 ix ≡ wrong1 columnsOf
   unfolding wrong1
   wrong1-of-columns = refl
