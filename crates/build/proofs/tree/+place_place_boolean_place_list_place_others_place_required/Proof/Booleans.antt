@@ -17,7 +17,7 @@ use Rattle.build.proofs.tree.+place_place_boolean_place_list_place_others_place_
 some-levels : (t : ℕ) (c : place-boolean-lts.Start (place-boolean-calls t) (place-boolean-at t) place-boolean.Post) → 1 ≤ c.args.depth
 some-levels t c =
     let s = c in
-    let E = records s.args.q.now s.args.max_doc s.args.fields.now s.args.leaves.now s.args.nexts.now s.args.presents.now s.args.costs.now s.args.places.now s.args.counts.now in
+    let E = records s.args.q.now s.args.max_doc s.args.fields.now s.args.leaves.now s.args.nexts.now s.args.presents.now s.args.costs.now s.args.places.now in
     let at = s.args.at in
     let fixed = s.args.fixed in
     let kept = s.args.kept in
@@ -31,7 +31,7 @@ some-levels t c =
 record-within : (t : ℕ) (c : place-boolean-lts.Start (place-boolean-calls t) (place-boolean-at t) place-boolean.Post) → c.args.at < length c.args.presents.now
 record-within t c =
     let s = c in
-    let E = records s.args.q.now s.args.max_doc s.args.fields.now s.args.leaves.now s.args.nexts.now s.args.presents.now s.args.costs.now s.args.places.now s.args.counts.now in
+    let E = records s.args.q.now s.args.max_doc s.args.fields.now s.args.leaves.now s.args.nexts.now s.args.presents.now s.args.costs.now s.args.places.now in
     let at = s.args.at in
     let fixed = s.args.fixed in
     let kept = s.args.kept in
@@ -45,7 +45,7 @@ record-within t c =
 record-counted : (t : ℕ) (c : place-boolean-lts.Start (place-boolean-calls t) (place-boolean-at t) place-boolean.Post) → c.args.at < recordCount c.args.q.now
 record-counted t c =
     let s = c in
-    let E = records s.args.q.now s.args.max_doc s.args.fields.now s.args.leaves.now s.args.nexts.now s.args.presents.now s.args.costs.now s.args.places.now s.args.counts.now in
+    let E = records s.args.q.now s.args.max_doc s.args.fields.now s.args.leaves.now s.args.nexts.now s.args.presents.now s.args.costs.now s.args.places.now in
     let at = s.args.at in
     let fixed = s.args.fixed in
     let kept = s.args.kept in
@@ -59,7 +59,7 @@ record-counted t c =
 some-room : (t : ℕ) (c : place-boolean-lts.Start (place-boolean-calls t) (place-boolean-at t) place-boolean.Post) → nodeStateWords ≤ length c.args.st.now
 some-room t c =
     let s = c in
-    let E = records s.args.q.now s.args.max_doc s.args.fields.now s.args.leaves.now s.args.nexts.now s.args.presents.now s.args.costs.now s.args.places.now s.args.counts.now in
+    let E = records s.args.q.now s.args.max_doc s.args.fields.now s.args.leaves.now s.args.nexts.now s.args.presents.now s.args.costs.now s.args.places.now in
     let at = s.args.at in
     let fixed = s.args.fixed in
     let kept = s.args.kept in
@@ -82,7 +82,7 @@ optional-part t c =
 required-fits : (t : ℕ) (c : place-boolean-lts.After-place_required-first (place-boolean-calls t) (place-boolean-at t) place-boolean.Post) → (nodeStateWords + c.place_required-first.result.end) ≤ length c.args.st.now
 required-fits t c =
     let s = c in
-    let E = records s.args.q.now s.args.max_doc s.args.fields.now s.args.leaves.now s.args.nexts.now s.args.presents.now s.args.costs.now s.args.places.now s.args.counts.now in
+    let E = records s.args.q.now s.args.max_doc s.args.fields.now s.args.leaves.now s.args.nexts.now s.args.presents.now s.args.costs.now s.args.places.now in
     let at = s.args.at in
     let fixed = s.args.fixed in
     let kept = s.args.kept in
@@ -110,7 +110,7 @@ prohibited-part t c =
 optional-fits : (t : ℕ) (c : place-boolean-lts.After-place_others-shoulds (place-boolean-calls t) (place-boolean-at t) place-boolean.Post) → (nodeStateWords + (c.place_required-first.result.end + c.place_others-shoulds.result)) ≤ length c.args.st.now
 optional-fits t c =
     let s = c in
-    let E = records s.args.q.now s.args.max_doc s.args.fields.now s.args.leaves.now s.args.nexts.now s.args.presents.now s.args.costs.now s.args.places.now s.args.counts.now in
+    let E = records s.args.q.now s.args.max_doc s.args.fields.now s.args.leaves.now s.args.nexts.now s.args.presents.now s.args.costs.now s.args.places.now in
     let at = s.args.at in
     let fixed = s.args.fixed in
     let kept = s.args.kept in
@@ -152,7 +152,7 @@ place-boolean-same-length t c = c.place_nothing.auto.st
 pub place-boolean-returns : (t : ℕ) → place-boolean-lts.Need-returns-then-presents-at-eq0 (place-boolean-calls t) (place-boolean-at t) place-boolean.Post
 place-boolean-returns t c =
     let s = c in
-    let E = records s.args.q.now s.args.max_doc s.args.fields.now s.args.leaves.now s.args.nexts.now s.args.presents.now s.args.costs.now s.args.places.now s.args.counts.now in
+    let E = records s.args.q.now s.args.max_doc s.args.fields.now s.args.leaves.now s.args.nexts.now s.args.presents.now s.args.costs.now s.args.places.now in
     let at = s.args.at in
     let fixed = s.args.fixed in
     let kept = s.args.kept in
@@ -170,7 +170,7 @@ place-boolean-value-requires t c κs =
 pub place-boolean-has-required-requires : (t : ℕ) → place-boolean-lts.Need-has_required-required-requires (place-boolean-calls t) (place-boolean-at t) place-boolean.Post
 place-boolean-has-required-requires t c κs =
     let s = c in
-    let E = records s.args.q.now s.args.max_doc s.args.fields.now s.args.leaves.now s.args.nexts.now s.args.presents.now s.args.costs.now s.args.places.now s.args.counts.now in
+    let E = records s.args.q.now s.args.max_doc s.args.fields.now s.args.leaves.now s.args.nexts.now s.args.presents.now s.args.costs.now s.args.places.now in
     let at = s.args.at in
     let fixed = s.args.fixed in
     let kept = s.args.kept in
@@ -201,7 +201,7 @@ place-boolean-sub-place-required-2 t c =
 pub place-boolean-place-required-requires : (t : ℕ) → place-boolean-lts.Need-place_required-first-requires (place-boolean-calls t) (place-boolean-at t) place-boolean.Post
 place-boolean-place-required-requires t c κs =
     let s = c in
-    let E = records s.args.q.now s.args.max_doc s.args.fields.now s.args.leaves.now s.args.nexts.now s.args.presents.now s.args.costs.now s.args.places.now s.args.counts.now in
+    let E = records s.args.q.now s.args.max_doc s.args.fields.now s.args.leaves.now s.args.nexts.now s.args.presents.now s.args.costs.now s.args.places.now in
     let at = s.args.at in
     let fixed = s.args.fixed in
     let kept = s.args.kept in
@@ -241,7 +241,7 @@ place-boolean-sub-place-others-2 t c =
 pub place-boolean-place-others-requires : (t : ℕ) → place-boolean-lts.Need-place_others-shoulds-requires (place-boolean-calls t) (place-boolean-at t) place-boolean.Post
 place-boolean-place-others-requires t c κs =
     let s = c in
-    let E = records s.args.q.now s.args.max_doc s.args.fields.now s.args.leaves.now s.args.nexts.now s.args.presents.now s.args.costs.now s.args.places.now s.args.counts.now in
+    let E = records s.args.q.now s.args.max_doc s.args.fields.now s.args.leaves.now s.args.nexts.now s.args.presents.now s.args.costs.now s.args.places.now in
     let at = s.args.at in
     let fixed = s.args.fixed in
     let kept = s.args.kept in
@@ -288,7 +288,7 @@ place-boolean-sub-place-others-4 t c =
 pub place-boolean-place-others-requires-2 : (t : ℕ) → place-boolean-lts.Need-place_others-nots-requires (place-boolean-calls t) (place-boolean-at t) place-boolean.Post
 place-boolean-place-others-requires-2 t c κs =
     let s = c in
-    let E = records s.args.q.now s.args.max_doc s.args.fields.now s.args.leaves.now s.args.nexts.now s.args.presents.now s.args.costs.now s.args.places.now s.args.counts.now in
+    let E = records s.args.q.now s.args.max_doc s.args.fields.now s.args.leaves.now s.args.nexts.now s.args.presents.now s.args.costs.now s.args.places.now in
     let at = s.args.at in
     let fixed = s.args.fixed in
     let kept = s.args.kept in
@@ -315,7 +315,7 @@ place-boolean-add-size t c =
 pub place-boolean-add-size-2 : (t : ℕ) → place-boolean-lts.Need-overflow_add-size-2 (place-boolean-calls t) (place-boolean-at t) place-boolean.Post
 place-boolean-add-size-2 t c =
     let s = c in
-    let E = records s.args.q.now s.args.max_doc s.args.fields.now s.args.leaves.now s.args.nexts.now s.args.presents.now s.args.costs.now s.args.places.now s.args.counts.now in
+    let E = records s.args.q.now s.args.max_doc s.args.fields.now s.args.leaves.now s.args.nexts.now s.args.presents.now s.args.costs.now s.args.places.now in
     let at = s.args.at in
     let fixed = s.args.fixed in
     let kept = s.args.kept in
@@ -346,7 +346,7 @@ place-boolean-joins-afterwards-requires t c κs = tt
 pub place-boolean-put-boolean-requires : (t : ℕ) → place-boolean-lts.Need-put_boolean-requires (place-boolean-calls t) (place-boolean-at t) place-boolean.Post
 place-boolean-put-boolean-requires t c κs =
     let s = c in
-    let E = records s.args.q.now s.args.max_doc s.args.fields.now s.args.leaves.now s.args.nexts.now s.args.presents.now s.args.costs.now s.args.places.now s.args.counts.now in
+    let E = records s.args.q.now s.args.max_doc s.args.fields.now s.args.leaves.now s.args.nexts.now s.args.presents.now s.args.costs.now s.args.places.now in
     let at = s.args.at in
     let fixed = s.args.fixed in
     let kept = s.args.kept in
@@ -377,7 +377,7 @@ place-boolean-same-length-2 t c =
 pub place-boolean-returns-2 : (t : ℕ) → place-boolean-lts.Need-returns (place-boolean-calls t) (place-boolean-at t) place-boolean.Post
 place-boolean-returns-2 t c =
     let s = c in
-    let E = records s.args.q.now s.args.max_doc s.args.fields.now s.args.leaves.now s.args.nexts.now s.args.presents.now s.args.costs.now s.args.places.now s.args.counts.now in
+    let E = records s.args.q.now s.args.max_doc s.args.fields.now s.args.leaves.now s.args.nexts.now s.args.presents.now s.args.costs.now s.args.places.now in
     let at = s.args.at in
     let fixed = s.args.fixed in
     let kept = s.args.kept in

@@ -123,9 +123,9 @@ abbrev pub place-required-calls : ℕ → place-required-lts.Claims
 place-required-calls t = (group-cost-reads.Asked, group-cost-reads.Learnt, required-clauses-reads.Asked, required-clauses-reads.Learnt, no-dearer-reads.Asked, no-dearer-reads.Learnt, place-list-below t, place-list.Post)
 
 abbrev pub place-list-Inv-loop : place-list-lts.invariant-loop-i
-place-list-Inv-loop st₀ q max-doc fields leaves nexts presents costs places counts list boost depth used₀ i₀ st used i =
-    (length st ≡ length st₀) × ListAt (records q max-doc fields leaves nexts presents costs places counts) list boost (length st₀) depth i used st
+place-list-Inv-loop st₀ q max-doc fields leaves nexts presents costs places list boost depth used₀ i₀ st used i =
+    (length st ≡ length st₀) × ListAt (records q max-doc fields leaves nexts presents costs places) list boost (length st₀) depth i used st
 
 abbrev pub place-list-μ-loop : place-list-lts.decreases-loop-i
-place-list-μ-loop st₀ q max-doc fields leaves nexts presents costs places counts list boost depth used₀ i₀ st used i =
+place-list-μ-loop st₀ q max-doc fields leaves nexts presents costs places list boost depth used₀ i₀ st used i =
     length list - i

@@ -15,7 +15,7 @@ use Rattle.build.proofs.tree.+place_place_boolean_place_list_place_others_place_
 some-levels : (t : ℕ) (c : place-lts.Start (place-calls t) (place_at t) place.Post) → 1 ≤ c.args.depth
 some-levels t c =
     let s = c in
-    let E = records s.args.q.now s.args.max_doc s.args.fields.now s.args.leaves.now s.args.nexts.now s.args.presents.now s.args.costs.now s.args.places.now s.args.counts.now in
+    let E = records s.args.q.now s.args.max_doc s.args.fields.now s.args.leaves.now s.args.nexts.now s.args.presents.now s.args.costs.now s.args.places.now in
     let at = s.args.at in
     let fixed = s.args.fixed in
     let kept = s.args.kept in
@@ -28,7 +28,7 @@ some-levels t c =
 record-within : (t : ℕ) (c : place-lts.Start (place-calls t) (place_at t) place.Post) → c.args.at < length c.args.presents.now
 record-within t c =
     let s = c in
-    let E = records s.args.q.now s.args.max_doc s.args.fields.now s.args.leaves.now s.args.nexts.now s.args.presents.now s.args.costs.now s.args.places.now s.args.counts.now in
+    let E = records s.args.q.now s.args.max_doc s.args.fields.now s.args.leaves.now s.args.nexts.now s.args.presents.now s.args.costs.now s.args.places.now in
     let at = s.args.at in
     let fixed = s.args.fixed in
     let kept = s.args.kept in
@@ -41,7 +41,7 @@ record-within t c =
 record-counted : (t : ℕ) (c : place-lts.Start (place-calls t) (place_at t) place.Post) → c.args.at < recordCount c.args.q.now
 record-counted t c =
     let s = c in
-    let E = records s.args.q.now s.args.max_doc s.args.fields.now s.args.leaves.now s.args.nexts.now s.args.presents.now s.args.costs.now s.args.places.now s.args.counts.now in
+    let E = records s.args.q.now s.args.max_doc s.args.fields.now s.args.leaves.now s.args.nexts.now s.args.presents.now s.args.costs.now s.args.places.now in
     let at = s.args.at in
     let fixed = s.args.fixed in
     let kept = s.args.kept in
@@ -75,7 +75,7 @@ place-sub-place t c =
 pub place-place-requires : (t : ℕ) → place-lts.Need-place-requires (place-calls t) (place_at t) place.Post
 place-place-requires t c κs =
     let s = c in
-    let E = records s.args.q.now s.args.max_doc s.args.fields.now s.args.leaves.now s.args.nexts.now s.args.presents.now s.args.costs.now s.args.places.now s.args.counts.now in
+    let E = records s.args.q.now s.args.max_doc s.args.fields.now s.args.leaves.now s.args.nexts.now s.args.presents.now s.args.costs.now s.args.places.now in
     let at = s.args.at in
     let fixed = s.args.fixed in
     let kept = s.args.kept in
@@ -98,7 +98,7 @@ place-value-requires t c κs =
 pub place-float-from-bits-place : (t : ℕ) → place-lts.Need-float_from_bits-value (place-calls t) (place_at t) place.Post
 place-float-from-bits-place t c =
     let s = c in
-    let E = records s.args.q.now s.args.max_doc s.args.fields.now s.args.leaves.now s.args.nexts.now s.args.presents.now s.args.costs.now s.args.places.now s.args.counts.now in
+    let E = records s.args.q.now s.args.max_doc s.args.fields.now s.args.leaves.now s.args.nexts.now s.args.presents.now s.args.costs.now s.args.places.now in
     let at = s.args.at in
     let fixed = s.args.fixed in
     let kept = s.args.kept in
@@ -116,7 +116,7 @@ place-sub-place-2 t c =
 pub place-place-requires-2 : (t : ℕ) → place-lts.Need-place-requires-in-7 (place-calls t) (place_at t) place.Post
 place-place-requires-2 t c κs =
     let s = c in
-    let E = records s.args.q.now s.args.max_doc s.args.fields.now s.args.leaves.now s.args.nexts.now s.args.presents.now s.args.costs.now s.args.places.now s.args.counts.now in
+    let E = records s.args.q.now s.args.max_doc s.args.fields.now s.args.leaves.now s.args.nexts.now s.args.presents.now s.args.costs.now s.args.places.now in
     let at = s.args.at in
     let fixed = s.args.fixed in
     let kept = s.args.kept in
@@ -147,7 +147,7 @@ place-same-length-2 t c = c.place.auto.st
 pub place-returns-2 : (t : ℕ) → place-lts.Need-returns-in-6 (place-calls t) (place_at t) place.Post
 place-returns-2 t c =
     let s = c in
-    let E = records s.args.q.now s.args.max_doc s.args.fields.now s.args.leaves.now s.args.nexts.now s.args.presents.now s.args.costs.now s.args.places.now s.args.counts.now in
+    let E = records s.args.q.now s.args.max_doc s.args.fields.now s.args.leaves.now s.args.nexts.now s.args.presents.now s.args.costs.now s.args.places.now in
     let at = s.args.at in
     let fixed = s.args.fixed in
     let kept = s.args.kept in
@@ -163,7 +163,7 @@ place-same-length-3 t c = c.place-in-7.auto.st
 pub place-returns-3 : (t : ℕ) → place-lts.Need-returns-in-7 (place-calls t) (place_at t) place.Post
 place-returns-3 t c =
     let s = c in
-    let E = records s.args.q.now s.args.max_doc s.args.fields.now s.args.leaves.now s.args.nexts.now s.args.presents.now s.args.costs.now s.args.places.now s.args.counts.now in
+    let E = records s.args.q.now s.args.max_doc s.args.fields.now s.args.leaves.now s.args.nexts.now s.args.presents.now s.args.costs.now s.args.places.now in
     let at = s.args.at in
     let fixed = s.args.fixed in
     let kept = s.args.kept in
