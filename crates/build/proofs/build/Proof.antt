@@ -51,9 +51,6 @@ slice-aggregate-place-3 c = search rules
 slice-aggregate-place-4 : tie.Need-slice_bounds-place-end-4
 slice-aggregate-place-4 c = search rules
 
-slice-aggregate-place-5 : tie.Need-slice_bounds-place-end-5
-slice-aggregate-place-5 c = search rules
-
 place-requires : tie.Need-place-requires
 place-requires c κs =
     let s = c in
@@ -97,7 +94,6 @@ build_spec =
     slice-aggregate-place-2
     slice-aggregate-place-3
     slice-aggregate-place-4
-    slice-aggregate-place-5
     place-requires
     same_length
     same-length-2

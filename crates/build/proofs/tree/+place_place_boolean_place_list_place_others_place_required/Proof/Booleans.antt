@@ -137,14 +137,14 @@ prohibited-long t c =
 pub place-boolean-mul-if1 : (t : ℕ) → place-boolean-lts.Need-offset_bounds-presents-at (place-boolean-calls t) (place-boolean-at t) place-boolean.Post
 place-boolean-mul-if1 t c =
     let s = c in
-    omega (arith, record-within t c.before.before.before.before.before.before.before.before.before, s.well_formed)
+    omega (arith, record-within t c.before.before.before.before.before.before.before.before, s.well_formed)
 
 pub place-boolean-shared-slice-read-if1 : (t : ℕ) → place-boolean-lts.Need-bounds-presents-at (place-boolean-calls t) (place-boolean-at t) place-boolean.Post
-place-boolean-shared-slice-read-if1 t c = record-within t c.before.before.before.before.before.before.before.before.before.before
+place-boolean-shared-slice-read-if1 t c = record-within t c.before.before.before.before.before.before.before.before.before
 
 pub place-boolean-place-nothing-requires : (t : ℕ) → place-boolean-lts.Need-place_nothing-requires (place-boolean-calls t) (place-boolean-at t) place-boolean.Post
 place-boolean-place-nothing-requires t c κs =
-    some-room t c.before.before.before.before.before.before.before.before.before.before.before.before
+    some-room t c.before.before.before.before.before.before.before.before.before.before.before
 
 pub place-boolean-same-length : (t : ℕ) → place-boolean-lts.Need-shape_of-st-then-presents-at-eq0 (place-boolean-calls t) (place-boolean-at t) place-boolean.Post
 place-boolean-same-length t c = c.place_nothing.auto.st
@@ -165,7 +165,7 @@ place-boolean-returns t c =
 
 pub place-boolean-value-requires : (t : ℕ) → place-boolean-lts.Need-value-msm-requires (place-boolean-calls t) (place-boolean-at t) place-boolean.Post
 place-boolean-value-requires t c κs =
-    (record-counted t c.before.before.before.before.before.before.before.before.before.before.before, omega arith)
+    (record-counted t c.before.before.before.before.before.before.before.before.before.before, omega arith)
 
 pub place-boolean-has-required-requires : (t : ℕ) → place-boolean-lts.Need-has_required-required-requires (place-boolean-calls t) (place-boolean-at t) place-boolean.Post
 place-boolean-has-required-requires t c κs =
@@ -185,18 +185,18 @@ place-boolean-has-required-requires t c κs =
 
 pub place-boolean-sub-place-required : (t : ℕ) → place-boolean-lts.Need-slice_bounds-place_required-count (place-boolean-calls t) (place-boolean-at t) place-boolean.Post
 place-boolean-sub-place-required t c =
-    some-room t c.before.before.before.before.before.before.before.before.before.before.before.before.before
+    some-room t c.before.before.before.before.before.before.before.before.before.before.before.before
 
 pub place-boolean-part-place-required-start : (t : ℕ) → place-boolean-lts.Need-slice_bounds-place_required-start (place-boolean-calls t) (place-boolean-at t) place-boolean.Post
 place-boolean-part-place-required-start t c =
-    some-room t c.before.before.before.before.before.before.before.before.before.before.before.before.before
+    some-room t c.before.before.before.before.before.before.before.before.before.before.before.before
 
 pub place-boolean-part-place-required-end : (t : ℕ) → place-boolean-lts.Need-slice_bounds-place_required-end (place-boolean-calls t) (place-boolean-at t) place-boolean.Post
 place-boolean-part-place-required-end t c = omega arith
 
 pub place-boolean-sub-place-required-2 : (t : ℕ) → place-boolean-lts.Need-overflow_sub-depth (place-boolean-calls t) (place-boolean-at t) place-boolean.Post
 place-boolean-sub-place-required-2 t c =
-    some-levels t c.before.before.before.before.before.before.before.before.before.before.before.before.before.before
+    some-levels t c.before.before.before.before.before.before.before.before.before.before.before.before.before
 
 pub place-boolean-place-required-requires : (t : ℕ) → place-boolean-lts.Need-place_required-first-requires (place-boolean-calls t) (place-boolean-at t) place-boolean.Post
 place-boolean-place-required-requires t c κs =
@@ -213,7 +213,7 @@ place-boolean-place-required-requires t c κs =
     let pre = s.requires.1.1 in
     let there = c.if-presents-at-eq0.false in
     let part₁ = mid_len nodeStateWords words st₀ (omega arith) in
-    (omega (arith, s.requires.0, some-levels t c.before.before.before.before.before.before.before.before.before.before.before.before.before.before), boolean-required E at fixed kept boost words depth kind there _ part₁ pre)
+    (omega (arith, s.requires.0, some-levels t c.before.before.before.before.before.before.before.before.before.before.before.before.before), boolean-required E at fixed kept boost words depth kind there _ part₁ pre)
 
 pub place-boolean-add-place-others : (t : ℕ) → place-boolean-lts.Need-overflow_add-first (place-boolean-calls t) (place-boolean-at t) place-boolean.Post
 place-boolean-add-place-others t c =
@@ -236,7 +236,7 @@ place-boolean-part-place-others-end t c = omega arith
 
 pub place-boolean-sub-place-others-2 : (t : ℕ) → place-boolean-lts.Need-overflow_sub-depth-2 (place-boolean-calls t) (place-boolean-at t) place-boolean.Post
 place-boolean-sub-place-others-2 t c =
-    some-levels t c.before.before.before.before.before.before.before.before.before.before.before.before.before.before.before.before.before.before.before
+    some-levels t c.before.before.before.before.before.before.before.before.before.before.before.before.before.before.before.before.before.before
 
 pub place-boolean-place-others-requires : (t : ℕ) → place-boolean-lts.Need-place_others-shoulds-requires (place-boolean-calls t) (place-boolean-at t) place-boolean.Post
 place-boolean-place-others-requires t c κs =
@@ -256,7 +256,7 @@ place-boolean-place-others-requires t c κs =
     let a = c.place_required-first in
     let e₁ = a.result.end in
     let part₂ = optional-part t c.before.before.before.before in
-    (omega (arith, s.requires.0, some-levels t c.before.before.before.before.before.before.before.before.before.before.before.before.before.before.before.before.before.before.before), boolean-optional E at fixed kept boost words depth kind there _ part₁ a.result.group_at e₁ a.new.st a.ensures.0 _ part₂ pre)
+    (omega (arith, s.requires.0, some-levels t c.before.before.before.before.before.before.before.before.before.before.before.before.before.before.before.before.before.before), boolean-optional E at fixed kept boost words depth kind there _ part₁ a.result.group_at e₁ a.new.st a.ensures.0 _ part₂ pre)
 
 pub place-boolean-add-optional-end : (t : ℕ) → place-boolean-lts.Need-overflow_add-optional_end (place-boolean-calls t) (place-boolean-at t) place-boolean.Post
 place-boolean-add-optional-end t c =
@@ -283,7 +283,7 @@ place-boolean-part-place-others-end-2 t c = omega arith
 
 pub place-boolean-sub-place-others-4 : (t : ℕ) → place-boolean-lts.Need-overflow_sub-depth-3 (place-boolean-calls t) (place-boolean-at t) place-boolean.Post
 place-boolean-sub-place-others-4 t c =
-    some-levels t c.before.before.before.before.before.before.before.before.before.before.before.before.before.before.before.before.before.before.before.before.before.before.before.before
+    some-levels t c.before.before.before.before.before.before.before.before.before.before.before.before.before.before.before.before.before.before.before.before.before.before.before
 
 pub place-boolean-place-others-requires-2 : (t : ℕ) → place-boolean-lts.Need-place_others-nots-requires (place-boolean-calls t) (place-boolean-at t) place-boolean.Post
 place-boolean-place-others-requires-2 t c κs =
@@ -306,7 +306,7 @@ place-boolean-place-others-requires-2 t c κs =
     let b = c.place_others-shoulds in
     let e₂ = b.result in
     let part₃ = prohibited-part t c.before.before.before.before in
-    (omega (arith, s.requires.0, some-levels t c.before.before.before.before.before.before.before.before.before.before.before.before.before.before.before.before.before.before.before.before.before.before.before.before), boolean-prohibited E at fixed kept boost words depth kind there _ part₁ a.result.group_at e₁ a.new.st a.ensures.0 _ part₂ e₂ b.new.st b.ensures.0 _ part₃ pre)
+    (omega (arith, s.requires.0, some-levels t c.before.before.before.before.before.before.before.before.before.before.before.before.before.before.before.before.before.before.before.before.before.before.before), boolean-prohibited E at fixed kept boost words depth kind there _ part₁ a.result.group_at e₁ a.new.st a.ensures.0 _ part₂ e₂ b.new.st b.ensures.0 _ part₃ pre)
 
 pub place-boolean-add-size : (t : ℕ) → place-boolean-lts.Need-overflow_add-size (place-boolean-calls t) (place-boolean-at t) place-boolean.Post
 place-boolean-add-size t c =
@@ -368,7 +368,7 @@ place-boolean-put-boolean-requires t c κs =
     let e₃ = d.result in
     let small = whole-small E at fixed kept boost words depth kind there _ part₁ a.result.group_at e₁ a.new.st a.ensures.0 _ part₂ e₂ b.new.st b.ensures.0 _ part₃ e₃ d.new.st d.ensures.0 pre in
     let group = group-within E at fixed kept boost words depth kind there _ part₁ a.result.group_at e₁ a.new.st a.ensures.0 _ part₂ e₂ b.new.st b.ensures.0 _ part₃ e₃ d.new.st d.ensures.0 pre in
-    (omega (arith, some-room t c.before.before.before.before.before.before.before.before.before.before.before.before.before.before.before.before.before.before.before.before.before.before.before.before.before.before.before.before.before.before, prohibited-long t c.before.before.before.before.before), omega (arith, small), omega arith, omega arith, omega (arith, group), tree-kept E at fixed kept boost words depth pre)
+    (omega (arith, some-room t c.before.before.before.before.before.before.before.before.before.before.before.before.before.before.before.before.before.before.before.before.before.before.before.before.before.before.before.before.before, prohibited-long t c.before.before.before.before.before), omega (arith, small), omega arith, omega arith, omega (arith, group), tree-kept E at fixed kept boost words depth pre)
 
 pub place-boolean-same-length-2 : (t : ℕ) → place-boolean-lts.Need-shape_of-st (place-boolean-calls t) (place-boolean-at t) place-boolean.Post
 place-boolean-same-length-2 t c =
@@ -399,4 +399,4 @@ place-boolean-returns-2 t c =
     let part₃ = prohibited-part t c.before.before.before.before.before.before.before.before.before.before.before.before.before in
     let d = c.place_others-nots in
     let e₃ = d.result in
-    (whole-placed E at fixed kept boost words depth kind there _ part₁ a.result.group_at e₁ a.new.st a.ensures.0 _ part₂ e₂ b.new.st b.ensures.0 _ part₃ e₃ d.new.st d.ensures.0 st₀ (post_of nodeStateWords (words - nodeStateWords) st₀) (post_of (nodeStateWords + e₁) (length st₁ - (nodeStateWords + e₁)) st₁) (post_of (nodeStateWords + (e₁ + e₂)) (length st₂ - (nodeStateWords + (e₁ + e₂))) st₂) c.put_boolean.new.st s.args.scores c.shoulds_needed-need.result c.value-msm.result c.has_required-required.result c.joins_afterwards.result refl pre (subst T (sym s.well_formed.1.1.1.1.1.1.1.1.1.1.1.1.0.1) tt) c.value-msm.ensures (c.has_required-required.ensures s.args.presents.now s.args.costs.now) c.shoulds_needed-need.ensures c.joins_afterwards.ensures c.put_boolean.ensures, c.put_boolean.auto.st ∙ prohibited-long t c.before.before.before.before.before.before.before.before)
+    (whole-placed E at fixed kept boost words depth kind there _ part₁ a.result.group_at e₁ a.new.st a.ensures.0 _ part₂ e₂ b.new.st b.ensures.0 _ part₃ e₃ d.new.st d.ensures.0 st₀ (post_of nodeStateWords (words - nodeStateWords) st₀) (post_of (nodeStateWords + e₁) (length st₁ - (nodeStateWords + e₁)) st₁) (post_of (nodeStateWords + (e₁ + e₂)) (length st₂ - (nodeStateWords + (e₁ + e₂))) st₂) c.put_boolean.new.st s.args.scores c.shoulds_needed-need.result c.value-msm.result c.has_required-required.result c.joins_afterwards.result refl pre (subst T (sym s.well_formed.1.1.1.1.1.1.1.1.1.1.1.0.1) tt) c.value-msm.ensures (c.has_required-required.ensures s.args.presents.now s.args.costs.now) c.shoulds_needed-need.ensures c.joins_afterwards.ensures c.put_boolean.ensures, c.put_boolean.auto.st ∙ prohibited-long t c.before.before.before.before.before.before.before.before)

@@ -52,7 +52,7 @@ record-counted t c =
     tree-here E at fixed kept boost words depth pre
 
 pub place-kind-requires : (t : ℕ) → place-lts.Need-kind-requires (place-calls t) (place_at t) place.Post
-place-kind-requires t c κs = record-counted t c.before.before.before.before.before.before.before.before.before
+place-kind-requires t c κs = record-counted t c.before.before.before.before.before.before.before.before
 
 pub place-place-boolean-requires : (t : ℕ) → place-lts.Need-place_boolean-requires (place-calls t) (place_at t) place.Post
 place-place-boolean-requires t c κs =
@@ -63,14 +63,14 @@ place-place-boolean-requires t c κs =
 pub place-add-place : (t : ℕ) → place-lts.Need-overflow_add-at (place-calls t) (place_at t) place.Post
 place-add-place t c =
     let s = c in
-    omega (arith, record-within t c.before.before.before.before.before.before.before.before.before.before.before.before, s.well_formed)
+    omega (arith, record-within t c.before.before.before.before.before.before.before.before.before.before.before, s.well_formed)
 
 pub place-kept-or-requires : (t : ℕ) → place-lts.Need-kept_or-requires (place-calls t) (place_at t) place.Post
 place-kept-or-requires t c κs = tt
 
 pub place-sub-place : (t : ℕ) → place-lts.Need-overflow_sub-depth (place-calls t) (place_at t) place.Post
 place-sub-place t c =
-    some-levels t c.before.before.before.before.before.before.before.before.before.before.before.before.before
+    some-levels t c.before.before.before.before.before.before.before.before.before.before.before.before
 
 pub place-place-requires : (t : ℕ) → place-lts.Need-place-requires (place-calls t) (place_at t) place.Post
 place-place-requires t c κs =
@@ -84,16 +84,16 @@ place-place-requires t c κs =
     let depth = s.args.depth in
     let pre = s.requires.1 in
     let kind = sym c.kind.ensures ∙ c.in-6.is in
-    (omega (arith, s.requires.0, some-levels t c.before.before.before.before.before.before.before.before.before.before.before.before.before), constant-asked E at fixed kept boost words depth kind c.kept_or.result c.kept_or.ensures pre)
+    (omega (arith, s.requires.0, some-levels t c.before.before.before.before.before.before.before.before.before.before.before.before), constant-asked E at fixed kept boost words depth kind c.kept_or.result c.kept_or.ensures pre)
 
 pub place-add-place-2 : (t : ℕ) → place-lts.Need-overflow_add-at-in-7 (place-calls t) (place_at t) place.Post
 place-add-place-2 t c =
     let s = c in
-    omega (arith, record-within t c.before.before.before.before.before.before.before.before.before.before.before.before, s.well_formed)
+    omega (arith, record-within t c.before.before.before.before.before.before.before.before.before.before.before, s.well_formed)
 
 pub place-value-requires : (t : ℕ) → place-lts.Need-value-requires (place-calls t) (place_at t) place.Post
 place-value-requires t c κs =
-    (record-counted t c.before.before.before.before.before.before.before.before.before.before.before.before, omega arith)
+    (record-counted t c.before.before.before.before.before.before.before.before.before.before.before, omega arith)
 
 pub place-float-from-bits-place : (t : ℕ) → place-lts.Need-float_from_bits-value (place-calls t) (place_at t) place.Post
 place-float-from-bits-place t c =
@@ -111,7 +111,7 @@ place-float-from-bits-place t c =
 
 pub place-sub-place-2 : (t : ℕ) → place-lts.Need-overflow_sub-depth-in-7 (place-calls t) (place_at t) place.Post
 place-sub-place-2 t c =
-    some-levels t c.before.before.before.before.before.before.before.before.before.before.before.before.before
+    some-levels t c.before.before.before.before.before.before.before.before.before.before.before.before
 
 pub place-place-requires-2 : (t : ℕ) → place-lts.Need-place-requires-in-7 (place-calls t) (place_at t) place.Post
 place-place-requires-2 t c κs =
@@ -125,7 +125,7 @@ place-place-requires-2 t c κs =
     let depth = s.args.depth in
     let pre = s.requires.1 in
     let kind = sym c.kind.ensures ∙ c.in-7.is in
-    (omega (arith, s.requires.0, some-levels t c.before.before.before.before.before.before.before.before.before.before.before.before.before), boost-asked E at fixed kept boost words depth kind c.value.result c.value.ensures pre)
+    (omega (arith, s.requires.0, some-levels t c.before.before.before.before.before.before.before.before.before.before.before.before), boost-asked E at fixed kept boost words depth kind c.value.result c.value.ensures pre)
 
 pub place-place-leaf-requires : (t : ℕ) → place-lts.Need-place_leaf-requires (place-calls t) (place_at t) place.Post
 place-place-leaf-requires t c κs =
