@@ -1,5 +1,5 @@
--- The bits of a word, the lowest first. Assumes nothing: these are definitions.
-use Rattle.std.specs.Prelude.{◌≡◌, Bool, true, false, ℕ, zero, suc, ◌/◌, ◌%◌, ◌<◌, List}
+-- The bits of a word, the lowest first, and of many words. Assumes nothing: these are definitions.
+use Rattle.std.specs.Prelude.{◌≡◌, Bool, true, false, ℕ, zero, suc, ◌+◌, ◌*◌, ◌/◌, ◌%◌, ◌<◌, List, get_or}
 use Rattle.meaning.specs.Below.{listBelow}
 
 -- a digit is 1
@@ -21,3 +21,11 @@ pub record LowestBit (w t : ℕ) : Type 0 where
   pub within : t < 64
   pub set : bit t w ≡ true
   pub below : (q : ℕ) → q < t → bit q w ≡ false
+
+-- how many words of 32 bits have so many
+abbrev pub bitmapWords : ℕ → ℕ
+bitmapWords n = (n + 31) / 32
+
+-- the bits of so many words, from the first one on, are the numbers that have the property
+abbrev pub Bitmap : (ℕ → Bool) → List ℕ → ℕ → ℕ → Type 0
+Bitmap P words first number = (i p : ℕ) → i < number → p < 32 → bit p (get_or words (first + i) 0) ≡ P (32 * i + p)

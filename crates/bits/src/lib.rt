@@ -3,7 +3,7 @@
 
 ghost use Rattle.std.specs.Prelude.{◌≡◌, not, ◌&&◌, ◌||◌, eqb, ltb, ℕ, ◌+◌, ◌-◌, ◌*◌, ◌/◌, ◌%◌, ◌≤◌, ◌<◌, ◌∷◌};
 ghost use Rattle.meaning.specs.Below.{countBelow};
-ghost use Rattle.bits.specs.Bit.{bit, setBits, LowestBit};
+ghost use Rattle.bits.specs.Bit.{bit, setBits, LowestBit, bitmapWords};
 
 pub fn set_bit(w: u64, p: u32) -> u64
     requires { p < 64 }
@@ -90,4 +90,11 @@ pub fn is_set(w: u64, p: u32) -> bool
     ensures { result ≡ bit p w }
 {
     (w >> p) % 2 == 1
+}
+
+// How many words of 32 bits have n bits.
+pub fn bitmap_words(n: u32) -> u32
+    ensures { result ≡ bitmapWords n }
+{
+    ((n as u64 + 31) / 32) as u32
 }

@@ -41,24 +41,24 @@ known ix q n fields leaves places counts ranges a lent listed =
     record { asks = a; documents = lent.field-lent.documents; leaves-are = lent.leaves-are; counts-are = λ r h k. (listed r h k).count-is }
 
 -- what it finds is what the second goes by
-module _ (q : List ℕ) (n : ℕ) (fields leaves nexts presents costs places counts ranges : List ℕ) (words : ℕ) (nexts-long : length nexts ≡ 256) (presents-long : length presents ≡ 256) (costs-long : length costs ≡ 256) (places-long : length places ≡ 256) (counts-long : length counts ≡ 256) (room : statesNeeded q ≤ words) where
+module _ (q : List ℕ) (n : ℕ) (fields leaves nexts presents costs places counts ranges : List ℕ) (words : ℕ) (nexts-long : length nexts ≡ 256) (presents-long : length presents ≡ 256) (costs-long : length costs ≡ 256) (places-long : length places ≡ 256) (room : statesNeeded q ≤ words) where
   module _ (ix : Index) (a : Asks ix q) where
     abbrev root : Decoded
     root = (whole q a.records-right).root
 
-    root-prepared : LeafLent ix n fields leaves → Measured ix q nexts presents costs 0 → RangesListed ix q places counts ranges (recordCount q) → Prepared ix (records q n fields leaves nexts presents costs places counts) ranges
+    root-prepared : LeafLent ix n fields leaves → Measured ix q nexts presents costs 0 → RangesListed ix q places counts ranges (recordCount q) → Prepared ix (records q n fields leaves nexts presents costs places) ranges
     root-prepared lent measured listed =
         let few = few-records ix q a in
         record {
           asks = a;
           lent = lent;
           measured = measured;
+          counts = counts;
           listed = listed;
           nexts-long = omega (arith, few, nexts-long);
           presents-long = omega (arith, few, presents-long);
           costs-long = omega (arith, few, costs-long);
           places-long = omega (arith, few, places-long);
-          counts-long = omega (arith, few, counts-long);
         }
 
     root-asked : TreeAsked ix q 16 0 root false noScore one words
@@ -73,9 +73,9 @@ module _ (q : List ℕ) (n : ℕ) (fields leaves nexts presents costs places cou
           room = le_trans (subst (λ (t : Tree). size_of (weigh ix t one none) ≤ statesNeeded q) w.tree_is (query-size q a.records-right ix one none)) room;
         }
 
-    pub root-pre : LeafLent ix n fields leaves → Measured ix q nexts presents costs 0 → RangesListed ix q places counts ranges (recordCount q) → TreePre (records q n fields leaves nexts presents costs places counts) 0 false noScore one words 16
+    pub root-pre : LeafLent ix n fields leaves → Measured ix q nexts presents costs 0 → RangesListed ix q places counts ranges (recordCount q) → TreePre (records q n fields leaves nexts presents costs places) 0 false noScore one words 16
     root-pre lent measured listed = (ix, ranges, 16, root, root-prepared lent measured listed, root-asked, le_refl 16)
 
-    pub root-placed : (r : ℕ) (states : List ℕ) → LeafLent ix n fields leaves → Measured ix q nexts presents costs 0 → RangesListed ix q places counts ranges (recordCount q) → TreePost (records q n fields leaves nexts presents costs places counts) 0 false noScore one words 16 0 r states → Placed ix ranges (weigh ix (queryTree q) one none) 16 0 r states
+    pub root-placed : (r : ℕ) (states : List ℕ) → LeafLent ix n fields leaves → Measured ix q nexts presents costs 0 → RangesListed ix q places counts ranges (recordCount q) → TreePost (records q n fields leaves nexts presents costs places) 0 false noScore one words 16 0 r states → Placed ix ranges (weigh ix (queryTree q) one none) 16 0 r states
     root-placed r states lent measured listed post =
         rw (whole q a.records-right).tree_is (post ix ranges 16 root (root-prepared lent measured listed) root-asked (le_refl 16))

@@ -40,13 +40,12 @@ fn place_list(
     presents: &[u32],
     costs: &[u64],
     places: &[u32],
-    counts: &[u32],
     list: &[usize],
     boost: f32,
     depth: u32,
 ) -> usize
-    requires { ListPre (records q.now max_doc fields.now leaves.now nexts.now presents.now costs.now places.now counts.now) list.now boost (length st.old) depth }
-    ensures list_post { ListPost (records q.now max_doc fields.now leaves.now nexts.now presents.now costs.now places.now counts.now) list.now boost (length st.old) depth result st.new }
+    requires { ListPre (records q.now max_doc fields.now leaves.now nexts.now presents.now costs.now places.now) list.now boost (length st.old) depth }
+    ensures list_post { ListPost (records q.now max_doc fields.now leaves.now nexts.now presents.now costs.now places.now) list.now boost (length st.old) depth result st.new }
     ensures st_len_unchanged { length st.new ≡ length st.old }
 {
     let mut used = 0;
@@ -64,7 +63,6 @@ fn place_list(
             presents,
             costs,
             places,
-            counts,
             at,
             false,
             0.0,
@@ -96,13 +94,12 @@ fn place_required(
     presents: &[u32],
     costs: &[u64],
     places: &[u32],
-    counts: &[u32],
     at: usize,
     boost: f32,
     depth: u32,
 ) -> Required
-    requires { RequiredPre (records q.now max_doc fields.now leaves.now nexts.now presents.now costs.now places.now counts.now) at boost (length st.old) depth }
-    ensures required_post { RequiredPost (records q.now max_doc fields.now leaves.now nexts.now presents.now costs.now places.now counts.now) at boost (length st.old) depth result.group_at result.end st.new }
+    requires { RequiredPre (records q.now max_doc fields.now leaves.now nexts.now presents.now costs.now places.now) at boost (length st.old) depth }
+    ensures required_post { RequiredPost (records q.now max_doc fields.now leaves.now nexts.now presents.now costs.now places.now) at boost (length st.old) depth result.group_at result.end st.new }
     ensures st_len_unchanged { length st.new ≡ length st.old }
 {
     let group = group_cost(q, nexts, presents, costs, at);
@@ -119,7 +116,6 @@ fn place_required(
         presents,
         costs,
         places,
-        counts,
         &list[..before],
         boost,
         depth,
@@ -134,7 +130,6 @@ fn place_required(
         presents,
         costs,
         places,
-        counts,
         &list[before..count],
         boost,
         depth,
@@ -157,14 +152,13 @@ fn place_others(
     presents: &[u32],
     costs: &[u64],
     places: &[u32],
-    counts: &[u32],
     at: usize,
     occurrence: u32,
     boost: f32,
     depth: u32,
 ) -> usize
-    requires { OthersPre (records q.now max_doc fields.now leaves.now nexts.now presents.now costs.now places.now counts.now) at occurrence boost (length st.old) depth }
-    ensures others_post { OthersPost (records q.now max_doc fields.now leaves.now nexts.now presents.now costs.now places.now counts.now) at occurrence boost (length st.old) depth result st.new }
+    requires { OthersPre (records q.now max_doc fields.now leaves.now nexts.now presents.now costs.now places.now) at occurrence boost (length st.old) depth }
+    ensures others_post { OthersPost (records q.now max_doc fields.now leaves.now nexts.now presents.now costs.now places.now) at occurrence boost (length st.old) depth result st.new }
     ensures st_len_unchanged { length st.new ≡ length st.old }
 {
     let mut list: [usize; 64] = [0; 64];
@@ -179,7 +173,6 @@ fn place_others(
         presents,
         costs,
         places,
-        counts,
         &list[..count],
         boost,
         depth,
@@ -254,7 +247,6 @@ fn place_boolean(
     presents: &[u32],
     costs: &[u64],
     places: &[u32],
-    counts: &[u32],
     at: usize,
     fixed: bool,
     kept: f32,
@@ -263,8 +255,8 @@ fn place_boolean(
     depth: u32,
 ) -> usize
     requires at_value { recordKind q.now at ≡ 3 }
-    requires tree_pre { TreePre (records q.now max_doc fields.now leaves.now nexts.now presents.now costs.now places.now counts.now) at fixed kept boost (length st.old) depth }
-    ensures tree_post { TreePost (records q.now max_doc fields.now leaves.now nexts.now presents.now costs.now places.now counts.now) at fixed kept boost (length st.old) depth scores result st.new }
+    requires tree_pre { TreePre (records q.now max_doc fields.now leaves.now nexts.now presents.now costs.now places.now) at fixed kept boost (length st.old) depth }
+    ensures tree_post { TreePost (records q.now max_doc fields.now leaves.now nexts.now presents.now costs.now places.now) at fixed kept boost (length st.old) depth scores result st.new }
     ensures st_len_unchanged { length st.new ≡ length st.old }
 {
     if presents[at] == 0 {
@@ -282,7 +274,6 @@ fn place_boolean(
         presents,
         costs,
         places,
-        counts,
         at,
         boost,
         depth - 1,
@@ -297,7 +288,6 @@ fn place_boolean(
         presents,
         costs,
         places,
-        counts,
         at,
         2, // the optional
         boost,
@@ -314,7 +304,6 @@ fn place_boolean(
         presents,
         costs,
         places,
-        counts,
         at,
         3, // the prohibited
         boost,
@@ -356,7 +345,6 @@ pub fn place(
     presents: &[u32],
     costs: &[u64],
     places: &[u32],
-    counts: &[u32],
     at: usize,
     fixed: bool,
     kept: f32,
@@ -364,13 +352,13 @@ pub fn place(
     scores: u32,
     depth: u32,
 ) -> usize
-    requires { TreePre (records q.now max_doc fields.now leaves.now nexts.now presents.now costs.now places.now counts.now) at fixed kept boost (length st.old) depth }
-    ensures tree_post { TreePost (records q.now max_doc fields.now leaves.now nexts.now presents.now costs.now places.now counts.now) at fixed kept boost (length st.old) depth scores result st.new }
+    requires { TreePre (records q.now max_doc fields.now leaves.now nexts.now presents.now costs.now places.now) at fixed kept boost (length st.old) depth }
+    ensures tree_post { TreePost (records q.now max_doc fields.now leaves.now nexts.now presents.now costs.now places.now) at fixed kept boost (length st.old) depth scores result st.new }
     ensures st_len_unchanged { length st.new ≡ length st.old }
 {
     match query::kind(q, at) {
         3 => place_boolean(
-            st, q, max_doc, fields, leaves, nexts, presents, costs, places, counts, at, fixed,
+            st, q, max_doc, fields, leaves, nexts, presents, costs, places, at, fixed,
             kept, boost, scores, depth,
         ),
         6 => place(
@@ -383,7 +371,6 @@ pub fn place(
             presents,
             costs,
             places,
-            counts,
             at + 1,
             true,
             kept_or(fixed, kept, boost),
@@ -401,7 +388,6 @@ pub fn place(
             presents,
             costs,
             places,
-            counts,
             at + 1,
             fixed,
             kept,
@@ -410,7 +396,7 @@ pub fn place(
             depth - 1,
         ),
         _ => place_leaf(
-            st, q, max_doc, fields, leaves, presents, places, counts, at, fixed, kept, boost,
+            st, q, max_doc, fields, leaves, presents, places, at, fixed, kept, boost,
             scores,
         ),
     }

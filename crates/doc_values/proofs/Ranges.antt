@@ -29,6 +29,10 @@ module _ (ix : Index) where
   unfolding rangeDocuments in_range
   range-of-columns r = refl
 
+  pub in-range-of-columns : (r : NumericRange) (d : ℕ) → in_range ix r d ≡ in_range columnsOf r d
+  unfolding in_range
+  in-range-of-columns r d = refl
+
   pub wrong1-of-columns : wrong1 ix ≡ wrong1 columnsOf
   unfolding wrong1
   wrong1-of-columns = refl
@@ -101,7 +105,7 @@ module _ (n : ℕ) (columns values : List ℕ) (r : NumericRange) (words : (i : 
   bits_fit : (d : ℕ) → valueBits ix r.column d < 2 ^ 64
   bits_fit d = let at = 3 * (r.column * n + d) in omega (arith, words (at + 1), words (at + 2))
 
-  value-as-range : Keyed → (d : ℕ) → valueIn values (3 * (r.column * n) + 3 * d) type from to ≡ in_range ix r d
+  pub value-as-range : Keyed → (d : ℕ) → valueIn values (3 * (r.column * n) + 3 * d) type from to ≡ in_range ix r d
   unfolding valueIn in_range
   value-as-range keyed d =
       let at : 3 * (r.column * n) + 3 * d ≡ 3 * (r.column * n + d) = omega arith in

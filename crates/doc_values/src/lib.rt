@@ -1,13 +1,14 @@
-// Numeric columns: the documents whose value lies in a range, by one scan of the column.
+// Numeric columns: the documents whose value lies in a range, by one scan of the column, as a list or as a bitmap.
 #![tactic(auto)]
 
-ghost use Rattle.std.specs.Prelude.{◌+◌, ◌*◌, ◌≤◌, ◌≡◌, false, cond, length, take};
+ghost use Rattle.std.specs.Prelude.{ℕ, ◌+◌, ◌*◌, ◌≤◌, ◌<◌, ◌≡◌, false, cond, ◌&&◌, ltb, length};
 ghost use Rattle.meaning.specs.Below.{listBelow};
-ghost use Rattle.meaning.specs.Range.{rangeDocuments};
+ghost use Rattle.meaning.specs.Range.{in_range, rangeDocuments};
 ghost use Rattle.meaning.specs.IndexRefusals.{wrong1, wrong6};
 ghost use Rattle.meaning.specs.QueryRefusals.{wrongRange};
 ghost use Rattle.meaning.specs.Entries.{written, columnsOnly};
 ghost use Rattle.column_keys.specs.Keys.{valueIn};
+ghost use Rattle.bits.specs.Bit.{bit, bitmapWords, Bitmap};
 
 // The documents whose value lies between the keys, to the front of the output; the column begins at word `start`.
 // A branch and no select: a store that is always made would leave the output changed beyond what is listed.
@@ -39,13 +40,41 @@ fn scan(
 }
 
 // 1 where it holds.
-fn number(b: bool) -> usize
+fn number(b: bool) -> u32
     ensures { result ≡ cond b 1 0 }
 {
     if b { 1 } else { 0 }
 }
 
-// The same list without a branch on the values: each document is stored, and kept where its value lies between the keys.
+// Some values, the first of them at word `at`: bit j is whether value j lies between the keys.
+fn word_of(values: &[u32], at: usize, count: u32, column_type: u32, from: u64, to: u64) -> u32
+    requires { (count ≤ 32) × (at + 3 * count ≤ length values.now) }
+    ensures { (p : ℕ) → bit p result ≡ ltb p count && valueIn values.now (at + 3 * p) column_type from to }
+{
+    let mut w: u32 = 0;
+    let mut v = at;
+    let mut j: u32 = 0;
+    while j < count {
+        w = w | number(column_keys::value_in(values, v, column_type, from, to)) << j;
+        v += 3;
+        j += 1;
+    }
+    w
+}
+
+// The next 32 of the values that are left, or all that are.
+fn next_word(values: &[u32], at: usize, left: usize, column_type: u32, from: u64, to: u64) -> u32
+    requires { at + 3 * left ≤ length values.now }
+    ensures { (p : ℕ) → p < 32 → bit p result ≡ ltb p left && valueIn values.now (at + 3 * p) column_type from to }
+{
+    if 32 <= left {
+        word_of(values, at, 32, column_type, from, to)
+    } else {
+        word_of(values, at, left as u32, column_type, from, to)
+    }
+}
+
+// The documents whose value lies between the keys, as a bitmap at the front of the output, and how many there are; no branch on the values.
 fn sift(
     max_doc: u32,
     values: &[u32],
@@ -56,20 +85,23 @@ fn sift(
     output: &mut [u32],
 ) -> u32
     requires max_doc_in_bounds { start + 3 * max_doc ≤ length values.now }
-    requires max_doc_in_bounds_2 { max_doc ≤ length output.old }
+    requires bitmap_fits { bitmapWords max_doc ≤ length output.old }
     ensures value { result ≡ length (listBelow max_doc (λ d. valueIn values.now (start + 3 * d) column_type from to)) }
-    ensures output_after { take result output.new ≡ listBelow max_doc (λ d. valueIn values.now (start + 3 * d) column_type from to) }
+    ensures bitmap { Bitmap (λ d. ltb d max_doc && valueIn values.now (start + 3 * d) column_type from to) output.new 0 (bitmapWords max_doc) }
     ensures output_len_unchanged { length output.new ≡ length output.old }
 {
     let n = max_doc as usize;
-    let mut held: usize = 0;
+    let mut held: u32 = 0;
+    let mut word: usize = 0;
     let mut d: usize = 0;
     while d < n {
-        output[held] = d as u32;
-        held += number(column_keys::value_in(values, start + 3 * d, column_type, from, to));
-        d += 1;
+        let w = next_word(values, start + 3 * d, n - d, column_type, from, to);
+        output[word] = w;
+        held += w.count_ones();
+        word += 1;
+        d += 32;
     }
-    held as u32
+    held
 }
 
 // The documents of a column whose value lies in a range, ascending, to the front of the output, and how many there are.
@@ -99,8 +131,8 @@ pub fn range(
     scan(max_doc, values, start, column_type, from, to, output)
 }
 
-// The same documents to the front of a work buffer, of which the places beyond them may hold anything.
-pub fn range_list(
+// The same documents as a bitmap at the front of a work buffer, of which the words beyond may hold anything; how many there are.
+pub fn range_bitmap(
     max_doc: u32,
     columns: &[u32],
     values: &[u32],
@@ -113,9 +145,9 @@ pub fn range_list(
     requires values_value { wrong1 (columnsOnly max_doc columns.now values.now) ≡ false }
     requires values_value_2 { wrong6 (columnsOnly max_doc columns.now values.now) ≡ false }
     requires upper_value { wrongRange (columnsOnly max_doc columns.now values.now) (record { column = column; kinds = kinds; lower = lower; upper = upper }) ≡ false }
-    requires max_doc_in_bounds { max_doc ≤ length output.old }
+    requires bitmap_fits { bitmapWords max_doc ≤ length output.old }
     ensures value { result ≡ length (rangeDocuments (columnsOnly max_doc columns.now values.now) (record { column = column; kinds = kinds; lower = lower; upper = upper })) }
-    ensures output_after { take result output.new ≡ rangeDocuments (columnsOnly max_doc columns.now values.now) (record { column = column; kinds = kinds; lower = lower; upper = upper }) }
+    ensures bitmap { Bitmap (λ d. ltb d max_doc && in_range (columnsOnly max_doc columns.now values.now) (record { column = column; kinds = kinds; lower = lower; upper = upper }) d) output.new 0 (bitmapWords max_doc) }
     ensures output_len_unchanged { length output.new ≡ length output.old }
 {
     let at = column as usize;

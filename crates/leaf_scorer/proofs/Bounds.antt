@@ -48,17 +48,7 @@ leaf-mono ix R (phrase f ts) s w b e h p =
       terms = terms-mono ix ts w b e h p.terms;
       worked-out = p.worked-out;
     }
-leaf-mono ix R (range r) s w b e h p = (
-  record {
-    kind-is = p.0.kind-is;
-    size_is = p.0.size_is;
-    number_is = p.0.number_is;
-    there = p.0.there;
-    listed = p.0.listed;
-    run = run-mono h p.0.run;
-  },
-  p.1,
-)
+leaf-mono ix R (range r) s w b e h p = p
 leaf-mono ix R everything s w b e h p = p
 
 mutual

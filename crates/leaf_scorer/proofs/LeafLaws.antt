@@ -1,5 +1,5 @@
 -- The leaves whose documents are a run, and those that match all. Assumes nothing.
-use mathlib.Core.Path.{◌≡◌, refl, sym, ap, subst, ◌∙◌}
+use mathlib.Core.Path.{◌≡◌, refl, sym, ap, subst}
 use mathlib.Core.Logic.{⊎_elim}
 use mathlib.Core.Bool.{Bool, true, false, ◌&&◌}
 use mathlib.Core.List.{List, ◌++◌}
@@ -8,19 +8,19 @@ use native.Mathlib.Nat.{eq-or-lt_of_le}
 use native.Mathlib.Omega.{arith}
 use lib.Dec.{ltb}
 use lib.ListN.{get_or, length, set}
-use borrow.Author.Tests.{ltb-true, lt-ltb, le-ltb}
+use borrow.Author.Tests.{lt-ltb, le-ltb}
 use Rattle.meaning.specs.Limits.{noMoreDocs, maxDocuments}
 use Rattle.meaning.specs.Lent.{Index, leafNumber, leafDocument, leafCount}
 use Rattle.meaning.specs.Postings.{postingAt, found}
-use Rattle.meaning.specs.Range.{NumericRange, in_range, rangeDocuments}
+use Rattle.meaning.specs.Range.{NumericRange, in_range}
 use Rattle.meaning.specs.First.{First}
 use Rattle.index.specs.Accepted.{Accepted}
 use Rattle.index.proofs.PostingAt.{posting-at, posting-none}
-use Rattle.doc_values.proofs.Lists.{listed_at, listed-ascends, listed_has}
+use Rattle.weight.specs.ScorerTree.{range, leafMatches}
 use Rattle.weight.specs.State.{State, words_of}
 use Rattle.weight.specs.Held.{TermIs, RangeIs}
 use Rattle.run.specs.Run.{documentAt, Run, Lower}
-use Rattle.leaf_scorer.specs.Search.{cursorAt, SearchHeld, SearchMoved, SearchPost, AnyDocument}
+use Rattle.leaf_scorer.specs.Search.{cursorAt, SearchHeld, SearchMoved, SearchPost, AnyDocument, FirstSet, RangeHeld}
 use Rattle.meaning.proofs.Tests.{cmp}
 
 -- ---- `search`
@@ -150,74 +150,17 @@ module _ (ix : Index) (acc : Accepted ix) (k l : ℕ) (there : l < leafCount ix)
         (rw is.number_is at m.ended)
 
 -- ---- a range
-one-times : (n : ℕ) → 1 * n ≡ n
-one-times n = omega arith
+module _ (ix : Index) (acc : Accepted ix) (R : List ℕ) (r : NumericRange) (s : State) (is : RangeIs ix R r s) where
+  pub range-held : (w st : List ℕ) → st ≡ words_of s ++ w → RangeHeld R s w st
+  range-held w st e = record { words_are = e; there = is.there; few = omega (arith, is.number_is, acc.documents) }
 
-module _ (ix : Index) (acc : Accepted ix) (R : List ℕ) (r : NumericRange) (s : State) (t : ℕ) (is : RangeIs ix R r s t) where
-  docs : ℕ → ℕ
-  docs i = get_or (rangeDocuments ix r) i 0
+  -- the bitmap has a bit for each document
+  pub range-over : (d : ℕ) → 32 * s.number ≤ d → leafMatches ix (range r) d ≡ false
+  unfolding leafMatches
+  range-over d h = ap (λ (b : Bool). b && in_range ix r d) (le-ltb d ix.maxDoc (omega (arith, is.number_is)))
 
-  pub in_buffer : (i : ℕ) → i < s.number → documentAt R 1 s.first i ≡ get_or (rangeDocuments ix r) i 0
-  in_buffer i g = ap (λ (j : ℕ). get_or R j 0) (one-times (s.first + i)) ∙ is.listed i g
-
-  below : (i : ℕ) → i < length (rangeDocuments ix r) → get_or (rangeDocuments ix r) i 0 < noMoreDocs
-  unfolding rangeDocuments
-  below i g = omega (arith, (listed_at (in_range ix r) ix.maxDoc i g).0, acc.documents)
-
-  rise : (i j : ℕ) → i < j → j < length (rangeDocuments ix r) → get_or (rangeDocuments ix r) i 0 < get_or (rangeDocuments ix r) j 0
-  unfolding rangeDocuments
-  rise i j = listed-ascends (in_range ix r) ix.maxDoc i j
-
-  pub range-run : length R < 9223372036854775808 → (w st : List ℕ) → st ≡ words_of s ++ w → SearchHeld R 1 s w st t
-  range-run size w st e =
-      record {
-        words_are = e;
-        run = record {
-          step = omega arith;
-          few = omega (arith, is.there);
-          within = λ i g. omega (arith, is.there);
-          ascending = λ i j g m. omega (arith, in_buffer i (omega arith), in_buffer j m, rise i j g (omega (arith, is.number_is)));
-        };
-        small = λ i g. omega (arith, in_buffer i g, below i (omega (arith, is.number_is)));
-        within = is.run.within;
-        passed = λ i g. omega (arith, in_buffer i (omega (arith, is.run.within)), is.run.passed i g);
-      }
-
-  module _ (w st : List ℕ) (d : ℕ) (m : SearchMoved R 1 s w st t d) where
-    pub range_moved : RangeIs ix R r (cursorAt s m.cursor) t
-    range_moved =
-        record {
-          kind-is = is.kind-is;
-          size_is = is.size_is;
-          number_is = is.number_is;
-          there = is.there;
-          listed = is.listed;
-          run = record { within = m.within; passed = λ i g. omega (arith, in_buffer i (omega (arith, m.within)), m.passed i g) };
-        }
-
-    miss : (x : ℕ) → ((i : ℕ) → i < s.number → get_or (rangeDocuments ix r) i 0 ≡ x → ⊥) → (ltb x ix.maxDoc && in_range ix r x) ≡ false
-    unfolding rangeDocuments
-    miss x g = go (ltb x ix.maxDoc) (in_range ix r x) refl refl
-      where
-        go : (b c : Bool) → ltb x ix.maxDoc ≡ b → in_range ix r x ≡ c → (b && c) ≡ false
-        go false c e f = refl
-        go true false e f = refl
-        go true true e f = let i = listed_has (in_range ix r) ix.maxDoc x (ltb-true x ix.maxDoc e) f in absurd (g i.0 (omega (arith, is.number_is, i.1.0)) i.1.1)
-
-    hits : (i : ℕ) → i < s.number → (ltb (get_or (rangeDocuments ix r) i 0) ix.maxDoc && in_range ix r (get_or (rangeDocuments ix r) i 0)) ≡ true
-    unfolding rangeDocuments
-    hits i g = let l = listed_at (in_range ix r) ix.maxDoc i (omega (arith, is.number_is)) in rw (lt-ltb _ _ l.0, l.1)
-
-    pub range-first : t ≤ noMoreDocs → First (λ x. ltb x ix.maxDoc && in_range ix r x) t d
-    range-first top =
-        run-first (λ x. ltb x ix.maxDoc && in_range ix r x) (λ i. get_or (rangeDocuments ix r) i 0) s.number t m.cursor d top
-        (λ i g. below i (omega (arith, is.number_is)))
-        (λ i j g h. rise i j g (omega (arith, is.number_is)))
-        hits
-        miss
-        (λ i g. omega (arith, in_buffer i (omega (arith, m.within)), m.passed i g))
-        (λ g. ((m.hit g).0 ∙ in_buffer m.cursor g, (m.hit g).1))
-        m.ended
+  pub range-first : (t d : ℕ) → t ≤ noMoreDocs → FirstSet R s.first s.number t d → First (leafMatches ix (range r)) t d
+  range-first t d top first = first (leafMatches ix (range r)) is.bits range-over top
 
 -- ---- everything
 pub any-first : (n t r : ℕ) → t ≤ noMoreDocs → n ≤ maxDocuments → AnyDocument n t r → First (λ d. ltb d n) t r

@@ -5,3 +5,4 @@ pub mod LeafLaws
 pub mod PhraseLaws
 pub mod Seeks
 pub mod Asked
+pub mod Bitmaps

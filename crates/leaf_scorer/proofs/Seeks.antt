@@ -10,12 +10,12 @@ use Rattle.weight.specs.ScorerTree.{Leaf, nothing, term, phrase, range, everythi
 use Rattle.weight.specs.State.{State}
 use Rattle.weight.specs.Held.{LeafIs}
 use Rattle.weight.specs.Sound.{LeafSound}
-use Rattle.leaf_scorer.specs.Search.{cursorAt, SearchPre, SearchPost, AnyDocument}
+use Rattle.leaf_scorer.specs.Search.{cursorAt, SearchPre, SearchPost, AnyDocument, RangePre, RangePost}
 use Rattle.leaf_scorer.specs.Phrases.{PhraseHeld, PhrasePost}
 use Rattle.leaf_scorer.specs.Calls.{Lent, LeafHeld, LeafPost}
 use Rattle.leaf_scorer.proofs.Loops.{first-like}
 use Rattle.leaf_scorer.proofs.Bounds.{leaf-mono}
-use Rattle.leaf_scorer.proofs.LeafLaws.{term-run, term_moved, term-first, range-run, range_moved, range-first, any-first}
+use Rattle.leaf_scorer.proofs.LeafLaws.{term-run, term_moved, term-first, range-held, range-first, any-first}
 
 module _ (E : Lent) (st : List ℕ) (t : ℕ) where
   pub seek-long : {ix : Index} {p : ℕ} {l : Leaf} {s : State} {w : List ℕ} → LeafHeld E ix p l s w st t → nodeStateWords ≤ length st
@@ -56,34 +56,32 @@ module _ (E : Lent) (st : List ℕ) (t : ℕ) where
     seek-term-done top r st' post ix p everything s w h = absurd (omega (arith, kind-of h, h.is.0))
 
   -- ---- a range
-  module _ (e : get_or st 0 0 ≡ 4) (size : length E.ranges < 9223372036854775808) where
-    pub seek-range-pre : (ix : Index) (p : ℕ) (l : Leaf) (s : State) (w : List ℕ) → LeafHeld E ix p l s w st t → SearchPre E.ranges 1 st t
+  module _ (e : get_or st 0 0 ≡ 4) where
+    pub seek-range-pre : (ix : Index) (p : ℕ) (l : Leaf) (s : State) (w : List ℕ) → LeafHeld E ix p l s w st t → RangePre E.ranges st
     unfolding LeafIs
     seek-range-pre ix p nothing s w h = absurd (omega (arith, kind-of h, h.is.0))
     seek-range-pre ix p (term l) s w h = absurd (omega (arith, kind-of h, h.is.0.kind-is))
     seek-range-pre ix p (phrase f ts) s w h = absurd (omega (arith, kind-of h, h.is.kind-is))
-    seek-range-pre ix p (range r) s w h = (s, w, range-run ix h.lends.accepted E.ranges r s t h.is.0 size w st h.words)
+    seek-range-pre ix p (range r) s w h = (s, w, range-held ix h.lends.accepted E.ranges r s h.is.0 w st h.words)
     seek-range-pre ix p everything s w h = absurd (omega (arith, kind-of h, h.is.0))
 
-    pub seek-range-done : t ≤ noMoreDocs → (r : ℕ) (st' : List ℕ) → SearchPost E.ranges 1 st t r st' → LeafPost E st t r st'
-    unfolding LeafIs leafMatches
-    seek-range-done top r st' post ix p nothing s w h = absurd (omega (arith, kind-of h, h.is.0))
-    seek-range-done top r st' post ix p (term l) s w h = absurd (omega (arith, kind-of h, h.is.0.kind-is))
-    seek-range-done top r st' post ix p (phrase f ts) s w h = absurd (omega (arith, kind-of h, h.is.kind-is))
-    seek-range-done top r st' post ix p (range x) s w h =
-        let acc = h.lends.accepted in
-        let m = post s w (range-run ix acc E.ranges x s t h.is.0 size w st h.words) in
-        let first = range-first ix acc E.ranges x s t h.is.0 w st' r m top in (
-          first-like (λ d. refl) first,
+    pub seek-range-done : t ≤ noMoreDocs → (r : ℕ) → RangePost E.ranges st t r → LeafPost E st t r st
+    unfolding LeafIs
+    seek-range-done top r post ix p nothing s w h = absurd (omega (arith, kind-of h, h.is.0))
+    seek-range-done top r post ix p (term l) s w h = absurd (omega (arith, kind-of h, h.is.0.kind-is))
+    seek-range-done top r post ix p (phrase f ts) s w h = absurd (omega (arith, kind-of h, h.is.kind-is))
+    seek-range-done top r post ix p (range x) s w h =
+        let acc = h.lends.accepted in (
+          range-first ix acc E.ranges x s h.is.0 t r top (post s w (range-held ix acc E.ranges x s h.is.0 w st h.words)),
           record {
-            state = cursorAt s m.cursor;
+            state = s;
             behind = w;
-            words = m.words_are;
+            words = h.words;
             kept = record { cached = refl; constant = refl; weight = refl; scores = refl };
-            is = leaf-mono ix E.ranges (range x) (cursorAt s m.cursor) w t r first.from (range_moved ix acc E.ranges x s t h.is.0 w st' r m, h.is.1);
+            is = h.is;
           },
         )
-    seek-range-done top r st' post ix p everything s w h = absurd (omega (arith, kind-of h, h.is.0))
+    seek-range-done top r post ix p everything s w h = absurd (omega (arith, kind-of h, h.is.0))
 
   -- ---- a phrase
   module _ (e : get_or st 0 0 ≡ 2) where

@@ -1,6 +1,8 @@
--- The cursor of a record that is moved along its run. Assumes nothing: these are definitions.
-use Rattle.std.specs.Prelude.{◌≡◌, List, ◌++◌, ℕ, ◌≤◌, ◌<◌, get_or}
+-- The cursor of a record that is moved along its run, and the next bit of a bitmap. Assumes nothing: these are definitions.
+use Rattle.std.specs.Prelude.{◌≡◌, Bool, false, List, ◌++◌, ℕ, ◌+◌, ◌*◌, ◌≤◌, ◌<◌, length, get_or}
 use Rattle.meaning.specs.Limits.{noMoreDocs}
+use Rattle.meaning.specs.First.{First}
+use Rattle.bits.specs.Bit.{Bitmap}
 use Rattle.weight.specs.State.{State, words_of}
 use Rattle.run.specs.Run.{documentAt, Run}
 
@@ -70,6 +72,23 @@ SearchPre words stride st target = (s : State) × (w : List ℕ) × SearchHeld w
 
 abbrev pub SearchPost : List ℕ → ℕ → List ℕ → ℕ → ℕ → List ℕ → Type 0
 SearchPost words stride st target r st' = (s : State) (w : List ℕ) → SearchHeld words stride s w st target → SearchMoved words stride s w st' target r
+
+-- r is the first number at or after the target whose bit is set in some words, or NO_MORE_DOCS
+abbrev pub FirstSet : List ℕ → ℕ → ℕ → ℕ → ℕ → Type 0
+FirstSet words first number target r =
+    (P : ℕ → Bool) → Bitmap P words first number → ((d : ℕ) → 32 * number ≤ d → P d ≡ false) → target ≤ noMoreDocs → First P target r
+
+-- s is the record at the front of the words, and its bitmap is in the lent words
+pub record RangeHeld (words : List ℕ) (s : State) (w st : List ℕ) : Type 0 where
+  pub words_are : st ≡ words_of s ++ w
+  pub there : s.first + s.number ≤ length words
+  pub few : 32 * s.number ≤ noMoreDocs
+
+abbrev pub RangePre : List ℕ → List ℕ → Type 0
+RangePre words st = (s : State) × (w : List ℕ) × RangeHeld words s w st
+
+abbrev pub RangePost : List ℕ → List ℕ → ℕ → ℕ → Type 0
+RangePost words st target r = (s : State) (w : List ℕ) → RangeHeld words s w st → FirstSet words s.first s.number target r
 
 -- the first document at or after the target, of all that there are
 pub record AnyDocument (n target r : ℕ) : Type 0 where

@@ -2,8 +2,8 @@
 #![tactic(auto)]
 
 ghost use Rattle.std.specs.Prelude.{◌≡◌, ℕ, ◌+◌, ◌*◌, ◌≤◌, ◌<◌, length};
-ghost use Rattle.meaning.specs.Limits.{nodeStateWords};
-ghost use Rattle.leaf_scorer.specs.Search.{CursorRead, SearchPre, SearchPost, AnyDocument};
+ghost use Rattle.meaning.specs.Limits.{nodeStateWords, noMoreDocs};
+ghost use Rattle.leaf_scorer.specs.Search.{CursorRead, SearchPre, SearchPost, AnyDocument, FirstSet, RangePre, RangePost};
 ghost use Rattle.leaf_scorer.specs.Phrases.{TermsPre, PassTermsPost, LeapfrogPost, PlaceAt, PlaceRead, GatherPre, GatherPost, FrequencyPre, FrequencyPost, PhrasePre, PhrasePost, PhraseAtPost};
 ghost use Rattle.leaf_scorer.specs.Calls.{lent, LeafPre, LeafPost};
 
@@ -19,10 +19,8 @@ const PHRASE: u32 = 2;
 
 const RANGE: u32 = 4;
 
-// The words of a posting; a document of a range is one word.
+// The words of a posting.
 const POSTING: usize = 3;
-
-pub const ENTRY: usize = 1;
 
 // The words of four terms of a phrase.
 const FOUR_TERMS: usize = 4 * NODE_STATE_WORDS;
@@ -82,6 +80,33 @@ pub fn search_postings(st: &mut [u32], postings: &[u32], target: u32) -> u32
         }
     }
     search(st, postings, POSTING, target)
+}
+
+// The next bit that is set in a bitmap, at or after the target.
+fn next_set(words: &[u32], first: usize, number: usize, target: u32) -> u32
+    requires { (first + number ≤ length words.now) × (32 * number ≤ noMoreDocs) }
+    ensures { FirstSet words.now first number target result }
+{
+    let mut at = wide(target / 32);
+    let mut skip = target % 32;
+    while at < number {
+        let below = bits::first_bits(skip);
+        let w = bits::without(words[first + at] as u64, below);
+        if w != 0 {
+            return 32 * at as u32 + bits::lowest(w);
+        }
+        at += 1;
+        skip = 0;
+    }
+    NO_MORE_DOCS
+}
+
+// The next document of a range.
+pub fn seek_range(st: &[u32], ranges: &[u32], target: u32) -> u32
+    requires { RangePre ranges.now st.now }
+    ensures { RangePost ranges.now st.now target result }
+{
+    next_set(ranges, wide(st[6]), wide(st[7]), target)
 }
 
 fn everything(max_doc: u32, target: u32) -> u32
@@ -280,7 +305,7 @@ pub fn seek(
         return seek_phrase(st, postings, positions, a, b, target);
     }
     if kind == RANGE {
-        return search(st, ranges, ENTRY, target);
+        return seek_range(st, ranges, target);
     }
     everything(max_doc, target)
 }

@@ -1,6 +1,6 @@
 -- The documents of a query's ranges, one record's after the other's. Assumes nothing.
-use mathlib.Core.Path.{◌≡◌, refl, sym, ◌∙◌, ap, subst}
-use mathlib.Core.Bool.{Bool, true, false, cond}
+use mathlib.Core.Path.{◌≡◌, refl, sym, ◌∙◌, ap, ap₂, subst}
+use mathlib.Core.Bool.{Bool, true, false, cond, ◌&&◌}
 use mathlib.Core.List.{List, ◌++◌}
 use mathlib.Core.Logic.{◌⊎◌, inl, inr}
 use Prim.Native.Nat.{ℕ, zero, suc, ◌+◌, ◌-◌, ◌*◌, ◌≤◌, ◌<◌, min}
@@ -13,7 +13,7 @@ use borrow.Author.Tests.{le-ltb, eq-eqb, eqb-true}
 use Rattle.meaning.specs.Below.{countBelow}
 use Rattle.meaning.specs.Limits.{maxDocuments}
 use Rattle.meaning.specs.Lent.{Index, joined, columnCount, columnType, valuePresent}
-use Rattle.meaning.specs.Range.{NumericRange, rangeDocuments}
+use Rattle.meaning.specs.Range.{NumericRange, in_range, rangeDocuments}
 use Rattle.meaning.specs.Entries.{columnsOnly}
 use Rattle.meaning.specs.IndexRefusals.{wrong1, wrong6, wrongColumn}
 use Rattle.meaning.specs.QueryRefusals.{wrongRange}
@@ -22,9 +22,11 @@ use Rattle.meaning.specs.Query.{recordCount, recordKind, recordValue, range_of}
 use Rattle.index.specs.Accepted.{Accepted}
 use Rattle.index.proofs.Below.{count-more, count-lt, count_none, count-le}
 use Rattle.doc_values.proofs.Lists.{any_none}
-use Rattle.doc_values.proofs.Ranges.{columnsOf, range-of-columns, wrong1-of-columns, wrong6-of-columns, wrongRange-of-columns, range_length}
+use Rattle.doc_values.proofs.Ranges.{columnsOf, range-of-columns, in-range-of-columns, wrong1-of-columns, wrong6-of-columns, wrongRange-of-columns}
 use Rattle.query.proofs.Accepted.{range-right}
 use Rattle.weight.proofs.Measures.{from_or}
+use Rattle.weight.specs.ScorerTree.{range, leafMatches}
+use Rattle.bits.specs.Bit.{bit, bitmapWords, Bitmap}
 use Rattle.weight.specs.Measured.{Asks, Columns, RangeListed, RangesListed}
 
 -- ---- an accepted index has neither 1 nor 6
@@ -61,6 +63,13 @@ module _ (ix : Index) (q columns values : List ℕ) (n at : ℕ) (a : Asks ix q)
     pub range_gives : rangeDocuments (columnsOnly n columns values) said ≡ rangeDocuments ix (range_of q at)
     range_gives = ap (rangeDocuments (columnsOnly n columns values)) said-is ∙ sym (ap (λ (i : Index). rangeDocuments i (range_of q at)) lent-columns) ∙ sym (range-of-columns ix (range_of q at))
 
+    takes-same : (d : ℕ) → in_range (columnsOnly n columns values) said d ≡ in_range ix (range_of q at) d
+    takes-same d = ap (λ (r : NumericRange). in_range (columnsOnly n columns values) r d) said-is ∙ sym (ap (λ (i : Index). in_range i (range_of q at) d) lent-columns) ∙ sym (in-range-of-columns ix (range_of q at) d)
+
+    pub range-bitmap : (out : List ℕ) (k : ℕ) → Bitmap (λ d. ltb d n && in_range (columnsOnly n columns values) said d) out 0 k → Bitmap (leafMatches ix (range (range_of q at))) out 0 k
+    unfolding leafMatches
+    range-bitmap out k b i p h l = b i p h l ∙ ap₂ (λ (x y : Bool). x && y) (ap (ltb (32 * i + p)) (sym cs.documents)) (takes-same (32 * i + p))
+
 -- ---- the words used in the range buffer
 abbrev pub isRange : List ℕ → ℕ → Bool
 isRange q r = eqb (recordKind q r) 4
@@ -90,15 +99,15 @@ words_more q n at used step e f = rw (count-more at (isRange q)) (go (isRange q 
         same : (k : ℕ) → n * k + 0 ≡ n * (k + 0)
         same k = plus_none (n * k) ∙ ap (λ (z : ℕ). n * z) (sym (plus_none k))
 
--- the documents of each Range record below `at`, in the words used
+-- the bitmap of each Range record below `at`, in the words used
 pub record Listing (ix : Index) (q places counts ranges : List ℕ) (used at : ℕ) : Type 0 where
   pub lists : RangesListed ix q places counts ranges at
-  pub below : (r : ℕ) → r < at → recordKind q r ≡ 4 → get_or places r 0 + get_or counts r 0 ≤ used
+  pub below : (r : ℕ) → r < at → recordKind q r ≡ 4 → get_or places r 0 + bitmapWords ix.maxDoc ≤ used
 
 -- what the code asks of the words used, before the record at `at`
 pub record Room (q : List ℕ) (n at used : ℕ) (ranges : List ℕ) : Type 0 where
   pub within : used ≤ length ranges
-  pub enough : recordKind q at ≡ 4 → n ≤ length ranges - used
+  pub enough : recordKind q at ≡ 4 → bitmapWords n ≤ length ranges - used
   pub small : used ≤ 268435456
 
 needed-enough : (ix : Index) (q : List ℕ) → ix.maxDoc * rangeRecords q ≤ rangesNeeded ix q
@@ -124,21 +133,25 @@ count-mono (suc a) (suc b) p h = elim (from_or a b (omega (arith, h))) [
   | inr g ↦ let k = count-mono (suc a) b p (omega (arith, g)) in omega (arith, k)
 ]
 
-pub room : (ix : Index) (q columns values ranges : List ℕ) (n at used : ℕ) → Asks ix q → Columns ix n columns values → rangesNeeded ix q ≤ length ranges → recordCount q ≤ 256 → at < recordCount q → used ≡ words_to q n at → Room q n at used ranges
+pub room : (ix : Index) (q columns values ranges : List ℕ) (n at used : ℕ) → Asks ix q → Columns ix n columns values → rangesNeeded ix q ≤ length ranges → recordCount q ≤ 256 → at < recordCount q → used ≡ words_to q (bitmapWords n) at → Room q n at used ranges
 unfolding rangeRecords
 room ix q columns values ranges n at used a cs need few h e =
     let p = isRange q in
     let all = countBelow (recordCount q) p in
     let enough = needed-enough ix q in
     let same = ap (λ (z : ℕ). z * all) cs.documents in
-    let some-less : n * countBelow at p ≤ n * all = mul-le-mul (same-le n) (count-mono at (recordCount q) p (omega (arith, h))) in
+    let w = bitmapWords n in
+    let narrow : w ≤ n = omega arith in
+    let whole : w * all ≤ n * all = mul-le-mul narrow (same-le all) in
+    let some-less : w * countBelow at p ≤ w * all = mul-le-mul (same-le w) (count-mono at (recordCount q) p (omega (arith, h))) in
     let docs = a.accepted.documents in
     let is = cs.documents in
     let few-docs : n ≤ 1048576 = omega (arith, docs, is) in
-    let least-words : n * countBelow at p ≤ 1048576 * 256 = mul-le-mul few-docs (few-count (count-le at p)) in
+    let few-words : w ≤ 1048576 = omega (arith, narrow, few-docs) in
+    let least-words : w * countBelow at p ≤ 1048576 * 256 = mul-le-mul few-words (few-count (count-le at p)) in
     record {
-      within = omega (arith, e, some-less, same, enough, need);
-      enough = λ kind. let more : n * (countBelow at p + 1) ≤ n * all = mul-le-mul (same-le n) (count-lt at (recordCount q) p h (eq-eqb (recordKind q at) 4 kind)) in let apart = mul-add n (countBelow at p) 1 in let one = mul-one n in omega (arith, e, more, apart, one, same, enough, need);
+      within = omega (arith, e, some-less, whole, same, enough, need);
+      enough = λ kind. let more : w * (countBelow at p + 1) ≤ w * all = mul-le-mul (same-le w) (count-lt at (recordCount q) p h (eq-eqb (recordKind q at) 4 kind)) in let apart = mul-add w (countBelow at p) 1 in let one = mul-one w in omega (arith, e, more, apart, one, whole, same, enough, need);
       small = omega (arith, e, least-words);
     }
   where
@@ -164,6 +177,9 @@ below_or r n h = elim (from_or r n (omega (arith, h))) [
   | inr g ↦ inr (omega (arith, g))
 ]
 
+start : (i : ℕ) → i ≡ 0 + i
+start i = omega arith
+
 -- one record more
 module _ (ix : Index) (q columns values places counts ranges out rest : List ℕ) (n used at k step : ℕ) (cs : Columns ix n columns values) (l : Listing ix q places counts ranges used at) where
   abbrev docs : List ℕ
@@ -172,39 +188,37 @@ module _ (ix : Index) (q columns values places counts ranges out rest : List ℕ
   abbrev after : List ℕ
   after = take used ranges ++ (out ++ rest)
 
-  pub listing-more : at < length places → at < length counts → used ≤ length ranges → (recordKind q at ≡ 4 → n ≤ length ranges - used) → length after ≡ length ranges → (recordKind q at ≡ 4 → (k ≡ length docs) × (take k out ≡ docs)) → step ≡ cond (isRange q at) n 0 → Listing ix q (set places at used) (set counts at k) after (used + step) (at + 1)
-  listing-more hp hc within enough long gave stepped =
+  pub listing-more : at < length places → at < length counts → used ≤ length ranges → (recordKind q at ≡ 4 → bitmapWords n ≤ length ranges - used) → (recordKind q at ≡ 4 → bitmapWords n ≤ length out) → length after ≡ length ranges → (recordKind q at ≡ 4 → (k ≡ length docs) × Bitmap (leafMatches ix (range (range_of q at))) out 0 (bitmapWords n)) → step ≡ cond (isRange q at) (bitmapWords n) 0 → Listing ix q (set places at used) (set counts at k) after (used + step) (at + 1)
+  listing-more hp hc within enough fits long gave stepped =
       record { lists = λ r g kind. (one r g kind).0; below = λ r g kind. (one r g kind).1 }
     where
       other : (i j : ℕ) → j < i → j ≡ i → ⊥
       other i j g e = omega (arith, g, e)
 
-      old : (r : ℕ) → r < at → recordKind q r ≡ 4 → RangeListed ix q after r (get_or places r 0) (get_or counts r 0) × (get_or places r 0 + get_or counts r 0 ≤ used + step)
+      old : (r : ℕ) → r < at → recordKind q r ≡ 4 → RangeListed ix q after r (get_or places r 0) (get_or counts r 0) × (get_or places r 0 + bitmapWords ix.maxDoc ≤ used + step)
       old r g kind =
           let was = l.lists r g kind in
           let low = l.below r g kind in
-          (record { count-is = was.count-is; there = omega (arith, low, within, long); listed = λ i h. front ranges (out ++ rest) used (get_or places r 0 + i) (omega (arith, h, low)) within ∙ was.listed i h }, omega (arith, low))
+          (record { count-is = was.count-is; there = omega (arith, low, within, long); bits = λ i p h m. ap (bit p) (front ranges (out ++ rest) used (get_or places r 0 + i) (omega (arith, h, low)) within) ∙ was.bits i p h m }, omega (arith, low))
 
-      new : recordKind q at ≡ 4 → RangeListed ix q after at used k × (used + k ≤ used + step)
+      new : recordKind q at ≡ 4 → RangeListed ix q after at used k × (used + bitmapWords ix.maxDoc ≤ used + step)
       new kind =
           let g = gave kind in
-          let few = range_length ix (range_of q at) in
-          let is = cs.documents in
           let room = enough kind in
-          let fit : step ≡ n = stepped ∙ rw (eq-eqb (recordKind q at) 4 kind) in
-          let count = g.0 in
-          let size : k ≤ length out = omega (arith, count, ap length g.1, length-take k out) in (
+          let w : bitmapWords ix.maxDoc ≡ bitmapWords n = ap bitmapWords cs.documents in
+          let fit : step ≡ bitmapWords n = stepped ∙ rw (eq-eqb (recordKind q at) 4 kind) in
+          let size = fits kind in (
             record {
               count-is = g.0;
-              there = omega (arith, long, within, room, few, is, count);
-              listed = λ i h. back ranges out rest used i within (omega (arith, h, size)) ∙ sym (get_or-take k out i 0 h) ∙ ap (λ (z : List ℕ). get_or z i 0) g.1;
+              there = omega (arith, long, within, room, w);
+              bits = λ i p h m. ap (bit p) (back ranges out rest used i within (omega (arith, h, size, w)) ∙ ap (λ (j : ℕ). get_or out j 0) (start i)) ∙ g.1 i p (omega (arith, h, w)) m;
             },
-            omega (arith, few, is, count, fit),
+            omega (arith, w, fit),
           )
 
-      one : (r : ℕ) → r < at + 1 → recordKind q r ≡ 4 → RangeListed ix q after r (get_or (set places at used) r 0) (get_or (set counts at k) r 0) × (get_or (set places at used) r 0 + get_or (set counts at k) r 0 ≤ used + step)
+      one : (r : ℕ) → r < at + 1 → recordKind q r ≡ 4 → RangeListed ix q after r (get_or (set places at used) r 0) (get_or (set counts at k) r 0) × (get_or (set places at used) r 0 + bitmapWords ix.maxDoc ≤ used + step)
       one r g kind = elim (below_or r at g) [
-        | inl e ↦ subst (λ (z : ℕ). RangeListed ix q after z (get_or (set places at used) z 0) (get_or (set counts at k) z 0) × (get_or (set places at used) z 0 + get_or (set counts at k) z 0 ≤ used + step)) (sym e) (rw (get_or-set_same places at used 0 hp, get_or-set_same counts at k 0 hc) (new (subst (λ (z : ℕ). recordKind q z ≡ 4) e kind)))
+        | inl e ↦ subst (λ (z : ℕ). RangeListed ix q after z (get_or (set places at used) z 0) (get_or (set counts at k) z 0) × (get_or (set places at used) z 0 + bitmapWords ix.maxDoc ≤ used + step)) (sym e) (rw (get_or-set_same places at used 0 hp, get_or-set_same counts at k 0 hc) (new (subst (λ (z : ℕ). recordKind q z ≡ 4) e kind)))
         | inr h ↦ rw (get_or-set_other places at r used 0 (other at r h), get_or-set_other counts at r k 0 (other at r h)) (old r h kind)
       ]
 

@@ -1,7 +1,7 @@
 // The first pass over a query's records: of each tree the record after it, whether it has a scorer, and its cost.
 #![tactic(auto)]
 
-ghost use Rattle.std.specs.Prelude.{◌≡◌, Bool, true, false, cond, not, ◌&&◌, ◌||◌, List, ℕ, ◌+◌, ◌*◌, ◌/◌, ◌≤◌, ◌<◌, max, min, eqb, leb, ltb, length, get_or, take};
+ghost use Rattle.std.specs.Prelude.{◌≡◌, Bool, true, false, cond, not, ◌&&◌, ◌||◌, List, ℕ, ◌+◌, ◌*◌, ◌/◌, ◌≤◌, ◌<◌, max, min, eqb, leb, ltb, length, get_or};
 ghost use Rattle.std.proofs.Math.Option.{some};
 ghost use Rattle.meaning.specs.Lent.{Index, leafNumber};
 ghost use Rattle.meaning.specs.Query.{recordCount, recordKind, recordChildren, recordValue, range_of, Occur, must, should, occurOf, Decoded, decode};
@@ -9,6 +9,8 @@ ghost use Rattle.meaning.specs.Range.{rangeDocuments};
 ghost use Rattle.meaning.specs.CallRefusals.{rangesNeeded};
 ghost use Rattle.meaning.specs.Cost.{least};
 ghost use Rattle.weight.specs.Measured.{Asks, Held, Columns, RangesListed, Known, MeasureIs, Measured, termNumbers};
+ghost use Rattle.weight.specs.ScorerTree.{range, leafMatches};
+ghost use Rattle.bits.specs.Bit.{bitmapWords, Bitmap};
 ghost use Rattle.measure.specs.Tallied.{tallied, tallyPresent, tallyCost};
 
 #[derive(Drop)]
@@ -306,20 +308,20 @@ pub fn measure_all(
     }
 }
 
-// The words that the record at `at` takes in the range buffer.
+// The words that the record at `at` takes in the range buffer: a Range has a bit for each document.
 fn range_words(q: &[u32], max_doc: u32, at: usize) -> usize
     requires { at < recordCount q.now }
-    ensures { result ≡ cond (eqb (recordKind q.now at) 4) max_doc 0 }
+    ensures { result ≡ cond (eqb (recordKind q.now at) 4) (bitmapWords max_doc) 0 }
 {
     if query::kind(q, at) == 4 {
-        wide(max_doc)
+        wide(bits::bitmap_words(max_doc))
     } else {
         0
     }
 }
 
-// The documents of the Range record at `at` to the front of the output, and how many there are; another record has none.
-// The places beyond them may hold anything.
+// The documents of the Range record at `at` as a bitmap at the front of the output, and how many there are; another record has none.
+// The words beyond may hold anything.
 fn list_range(
     q: &[u32],
     max_doc: u32,
@@ -328,9 +330,9 @@ fn list_range(
     at: usize,
     output: &mut [u32],
 ) -> u32
-    requires at_bound { (at < recordCount q.now) × (recordKind q.now at ≡ 4 → max_doc ≤ length output.old) }
+    requires at_bound { (at < recordCount q.now) × (recordKind q.now at ≡ 4 → bitmapWords max_doc ≤ length output.old) }
     requires asks { (ix : Index) × Asks ix q.now × Columns ix max_doc columns.now values.now }
-    ensures value { (ix : Index) → Asks ix q.now → Columns ix max_doc columns.now values.now → recordKind q.now at ≡ 4 → (result ≡ length (rangeDocuments ix (range_of q.now at))) × (take result output.new ≡ rangeDocuments ix (range_of q.now at)) }
+    ensures value { (ix : Index) → Asks ix q.now → Columns ix max_doc columns.now values.now → recordKind q.now at ≡ 4 → (result ≡ length (rangeDocuments ix (range_of q.now at))) × Bitmap (leafMatches ix (range (range_of q.now at))) output.new 0 (bitmapWords max_doc) }
     ensures output_len_unchanged { length output.new ≡ length output.old }
 {
     if query::kind(q, at) != 4 {
@@ -338,7 +340,7 @@ fn list_range(
     }
     let lower = column_keys::joined(query::value(q, at, 2), query::value(q, at, 3));
     let upper = column_keys::joined(query::value(q, at, 4), query::value(q, at, 5));
-    doc_values::range_list(
+    doc_values::range_bitmap(
         max_doc,
         columns,
         values,
@@ -350,7 +352,7 @@ fn list_range(
     )
 }
 
-// The documents of every Range record, one record's after the other's, N places for each: where they begin, how many there are.
+// The documents of every Range record as bitmaps, one record's after the other's: where each begins, how many documents it has.
 pub fn list_ranges(
     q: &[u32],
     max_doc: u32,

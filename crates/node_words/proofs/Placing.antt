@@ -23,6 +23,7 @@ use Rattle.window_words.specs.Windowed.{nowhere, LeafWindowed, Windowed}
 use Rattle.window_words.proofs.Laws.{windowed-ok}
 use Rattle.window_words.proofs.Unasked.{unasked-stored, unasked-term}
 use Rattle.weight.specs.Measured.{RangeListed}
+use Rattle.bits.specs.Bit.{bitmapWords}
 use Rattle.node_words.specs.Placed.{Placed, scoringOf}
 use lib.Seq.{take-suc, drop-cons, set-append_seam, take_all}
 
@@ -95,11 +96,11 @@ module _ (ix : Index) (ranges st₀ st : List ℕ) (d scores : ℕ) (room : node
     placed-everything e =
         placed-leaf everything (constant x) (leafState 5 0 0 0 0 0 1 bits scores 0) e refl refl (refl, refl, refl, refl) (refl, is)
 
-    pub placed-range : (q : List ℕ) (at first number : ℕ) → RangeListed ix q ranges at first number → st ≡ words_of (leafState 4 0 first number 0 0 1 bits scores 0) ++ drop nodeStateWords st₀ → Placed ix ranges (leaf (range (range_of q at)) (constant x)) d scores nodeStateWords st
+    pub placed-range : (q : List ℕ) (at first number count : ℕ) → number ≡ bitmapWords ix.maxDoc → RangeListed ix q ranges at first count → st ≡ words_of (leafState 4 0 first number 0 0 1 bits scores 0) ++ drop nodeStateWords st₀ → Placed ix ranges (leaf (range (range_of q at)) (constant x)) d scores nodeStateWords st
     unfolding leafSize LeafWindowed ScoringIs
-    placed-range q at first number listed e =
+    placed-range q at first number count words listed e =
         placed-leaf (range (range_of q at)) (constant x) (leafState 4 0 first number 0 0 1 bits scores 0) e refl refl
-        (record { kind-is = refl; size_is = refl; number_is = listed.count-is; there = listed.there; listed = listed.listed; run = record { within = omega arith; passed = λ i h. absurd (omega (arith, h)) } }, refl, refl)
+        (record { kind-is = refl; size_is = refl; number_is = words; there = omega (arith, listed.there, words); bits = λ i p h. listed.bits i p (omega (arith, h, words)) }, refl, refl)
         (refl, is)
 
     pub placed-term : (b : Bool) (l fixed first number field norms : ℕ) → fixed ≡ cond b 1 0 → first ≡ leafFirst ix l → number ≡ leafNumber ix l → field ≡ leafField ix l → norms ≡ normsWord ix field → st ≡ words_of (leafState 1 0 first number 0 field fixed bits scores norms) ++ drop nodeStateWords st₀ → Placed ix ranges (leaf (term l) (scoringOf b x)) d scores nodeStateWords st

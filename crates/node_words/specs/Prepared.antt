@@ -10,7 +10,7 @@ use Rattle.weight.specs.State.{size_of}
 use Rattle.weight.specs.Measured.{Asks, Measured, RangesListed}
 use Rattle.node_words.specs.Placed.{LeafLent, keptOf, Placed}
 
--- the query, what is lent of the index, what the first pass found at each record: the record after its tree, whether it has a scorer, its cost, where the documents of a range begin, and how many there are
+-- the query, what is lent of the index, what the first pass found at each record: the record after its tree, whether it has a scorer, its cost, where the bitmap of a range begins
 pub record Records : Type 0 where
   pub query : List ℕ
   pub documents : ℕ
@@ -20,23 +20,22 @@ pub record Records : Type 0 where
   pub presents : List ℕ
   pub costs : List ℕ
   pub places : List ℕ
-  pub counts : List ℕ
 
-abbrev pub records : List ℕ → ℕ → List ℕ → List ℕ → List ℕ → List ℕ → List ℕ → List ℕ → List ℕ → Records
-records q n fields leaves nexts presents costs places counts =
-    record { query = q; documents = n; fields = fields; leaves = leaves; nexts = nexts; presents = presents; costs = costs; places = places; counts = counts }
+abbrev pub records : List ℕ → ℕ → List ℕ → List ℕ → List ℕ → List ℕ → List ℕ → List ℕ → Records
+records q n fields leaves nexts presents costs places =
+    record { query = q; documents = n; fields = fields; leaves = leaves; nexts = nexts; presents = presents; costs = costs; places = places }
 
 -- they are those of an accepted index and query, with the documents of every Range record in this buffer
 pub record Prepared (ix : Index) (E : Records) (ranges : List ℕ) : Type 0 where
   pub asks : Asks ix E.query
   pub lent : LeafLent ix E.documents E.fields E.leaves
   pub measured : Measured ix E.query E.nexts E.presents E.costs 0
-  pub listed : RangesListed ix E.query E.places E.counts ranges (recordCount E.query)
+  pub counts : List ℕ
+  pub listed : RangesListed ix E.query E.places counts ranges (recordCount E.query)
   pub nexts-long : recordCount E.query ≤ length E.nexts
   pub presents-long : recordCount E.query ≤ length E.presents
   pub costs-long : recordCount E.query ≤ length E.costs
   pub places-long : recordCount E.query ≤ length E.places
-  pub counts-long : recordCount E.query ≤ length E.counts
 
 -- the tree at a record, which the boost and the score that is kept reach: its boosts are within the limit, and its part has room in so many words
 pub record TreeAsked (ix : Index) (q : List ℕ) (k at : ℕ) (D : Decoded) (fixed : Bool) (kept boost : Float) (words : ℕ) : Type 0 where

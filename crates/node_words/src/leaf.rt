@@ -21,7 +21,6 @@ pub fn place_leaf(
     leaves: &[u32],
     presents: &[u32],
     places: &[u32],
-    counts: &[u32],
     at: usize,
     fixed: bool,
     kept: f32,
@@ -29,8 +28,8 @@ pub fn place_leaf(
     scores: u32,
 ) -> usize
     requires fact { (recordKind q.now at ≡ 3 → ⊥) × (recordKind q.now at ≡ 6 → ⊥) × (recordKind q.now at ≡ 7 → ⊥) }
-    requires by_index { (nexts : List ℕ) × (costs : List ℕ) × (depth : ℕ) × TreePre (records q.now max_doc fields.now leaves.now nexts presents.now costs places.now counts.now) at fixed kept boost (length st.old) depth }
-    ensures by_index_2 { (nexts costs : List ℕ) (depth : ℕ) → TreePost (records q.now max_doc fields.now leaves.now nexts presents.now costs places.now counts.now) at fixed kept boost (length st.old) depth scores result st.new }
+    requires by_index { (nexts : List ℕ) × (costs : List ℕ) × (depth : ℕ) × TreePre (records q.now max_doc fields.now leaves.now nexts presents.now costs places.now) at fixed kept boost (length st.old) depth }
+    ensures by_index_2 { (nexts costs : List ℕ) (depth : ℕ) → TreePost (records q.now max_doc fields.now leaves.now nexts presents.now costs places.now) at fixed kept boost (length st.old) depth scores result st.new }
     ensures st_len_unchanged { length st.new ≡ length st.old }
 {
     match query::kind(q, at) {
@@ -62,8 +61,8 @@ pub fn place_leaf(
         ),
         4 => place_range(
             st,
+            max_doc,
             places[at],
-            counts[at],
             kept_or(fixed, kept, boost),
             scores,
         ),

@@ -67,13 +67,14 @@ pub fn place_everything(st: &mut [u32], score: f32, scores: u32) -> usize
     NODE_STATE_WORDS
 }
 
-// The documents of a range, which stand in the range buffer, each with the same score.
-pub fn place_range(st: &mut [u32], first: u32, number: u32, score: f32, scores: u32) -> usize
+// The documents of a range, whose bitmap stands in the range buffer, each with the same score.
+pub fn place_range(st: &mut [u32], max_doc: u32, first: u32, score: f32, scores: u32) -> usize
     requires { (nodeStateWords ≤ length st.old) × AtMost (2 ^ 29) score }
-    ensures placed { (ix : Index) (ranges q : List ℕ) (at d : ℕ) → RangeListed ix q ranges at first number → Placed ix ranges (leaf (range (range_of q at)) (constant score)) d scores result st.new }
+    ensures placed { (ix : Index) (ranges q : List ℕ) (at count d : ℕ) → ix.maxDoc ≡ max_doc → RangeListed ix q ranges at first count → Placed ix ranges (leaf (range (range_of q at)) (constant score)) d scores result st.new }
     ensures st_len_unchanged { length st.new ≡ length st.old }
 {
     let bits = f32::to_bits(score);
+    let number = bits::bitmap_words(max_doc);
     put(
         st,
         [

@@ -100,8 +100,7 @@ leaf-recached ix R (range r) s w b c h p = (
     size_is = p.0.size_is;
     number_is = p.0.number_is;
     there = p.0.there;
-    listed = p.0.listed;
-    run = p.0.run;
+    bits = p.0.bits;
   },
   p.1,
 )

@@ -9,7 +9,7 @@ use Rattle.meaning.specs.Lent.{Index}
 use Rattle.meaning.specs.First.{First}
 use Rattle.weight.specs.ScorerTree.{Scorer, matches}
 use Rattle.weight.specs.Held.{Ok}
-use Rattle.leaf_scorer.specs.Search.{SearchPre, SearchPost}
+use Rattle.leaf_scorer.specs.Search.{SearchPre, SearchPost, RangePre, RangePost}
 use Rattle.scorer.specs.Calls.{NodeHeld}
 use Rattle.leaf_scorer.specs.Calls.{Lent}
 use Rattle.scorer.proofs.Nodes.{node-leaf, node-sought}
@@ -33,20 +33,17 @@ module _ (ps st : List ℕ) (t : ℕ) (is : get_or st 0 0 ≡ 1) (size : length 
         let own : SearchPost E.postings 3 st t r st' = subst (λ (y : List ℕ). SearchPost y 3 st t r st') (sym same) post in
         node-sought E ix p k o st t c ec due (get_or st 0 0) refl top no-boolean r st' (seek-term-done E st t is room top r st' own) T h
 
-module _ (rs st : List ℕ) (t : ℕ) (is : get_or st 0 0 ≡ 4) (size : length rs < 9223372036854775808) (c : ℕ) (ec : c ≡ get_or st 2 0) (due : c ≤ t) where
+module _ (rs st : List ℕ) (t : ℕ) (is : get_or st 0 0 ≡ 4) (c : ℕ) (ec : c ≡ get_or st 2 0) (due : c ≤ t) where
   range-no-boolean : get_or st 0 0 ≡ 3 → ⊥
   range-no-boolean e = omega (arith, is)
 
   module _ (E : Lent) (same : E.ranges ≡ rs) (ix : Index) (p : ℕ) (T : Scorer) (k o : ℕ) (h : NodeHeld E ix p T k o st t) where
-    range-room : length E.ranges < 9223372036854775808
-    range-room = omega (arith, size, ap length same)
-
-    pub range-asks : SearchPre rs 1 st t
+    pub range-asks : RangePre rs st
     range-asks =
         let n = node-leaf E ix p k o st t c ec due (get_or st 0 0) refl range-no-boolean T h in
-        subst (λ (y : List ℕ). SearchPre y 1 st t) same (seek-range-pre E st t is range-room ix p n.0 n.1 n.2 n.3)
+        subst (λ (y : List ℕ). RangePre y st) same (seek-range-pre E st t is ix p n.0 n.1 n.2 n.3)
 
-    pub range-sought : t ≤ noMoreDocs → (r : ℕ) (st' : List ℕ) → SearchPost rs 1 st t r st' → First (matches ix T) t r × Ok ix E.ranges T k o (set st' 2 (r + 1)) t
-    range-sought top r st' post =
-        let own : SearchPost E.ranges 1 st t r st' = subst (λ (y : List ℕ). SearchPost y 1 st t r st') (sym same) post in
-        node-sought E ix p k o st t c ec due (get_or st 0 0) refl top range-no-boolean r st' (seek-range-done E st t is range-room top r st' own) T h
+    pub range-sought : t ≤ noMoreDocs → (r : ℕ) → RangePost rs st t r → First (matches ix T) t r × Ok ix E.ranges T k o (set st 2 (r + 1)) t
+    range-sought top r post =
+        let own : RangePost E.ranges st t r = subst (λ (y : List ℕ). RangePost y st t r) (sym same) post in
+        node-sought E ix p k o st t c ec due (get_or st 0 0) refl top range-no-boolean r st (seek-range-done E st t is top r own) T h

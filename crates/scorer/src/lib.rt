@@ -127,7 +127,7 @@ fn advance_range(st: &mut [u32], ranges: &[u32], target: u32) -> u32
     if target < cached {
         return cached - 1;
     }
-    let d = leaf_scorer::search(st, ranges, leaf_scorer::ENTRY, target);
+    let d = leaf_scorer::seek_range(st, ranges, target);
     st[2] = d + 1;
     d
 }

@@ -1,16 +1,17 @@
 -- What the words of a node's part say of its scorer, once the node has been asked for documents up to a bound. Assumes nothing: these are definitions.
-use Rattle.std.specs.Prelude.{◌≡◌, Bool, cond, List, [], ◌∷◌, ◌++◌, ℕ, suc, ◌+◌, ◌-◌, ◌*◌, ◌^◌, ◌≤◌, ◌<◌, max, T, length, get_or, Float}
+use Rattle.std.specs.Prelude.{◌≡◌, Bool, cond, List, [], ◌∷◌, ◌++◌, ℕ, suc, ◌+◌, ◌-◌, ◌*◌, ◌^◌, ◌≤◌, ◌<◌, max, T, length, Float}
 use Rattle.std.proofs.Math.Option.{Option, none, some}
 use Rattle.std.specs.Float.{binary32}
 use Rattle.std.specs.Float.Ieee.{fits, to_bits}
 use Rattle.meaning.specs.Below.{countBelow}
 use Rattle.meaning.specs.Limits.{noMoreDocs, nodeStateWords}
 use Rattle.meaning.specs.Lent.{Index, hasNorms, leafFirst, leafNumber, leafField, leafDocument}
-use Rattle.meaning.specs.Range.{NumericRange, rangeDocuments}
+use Rattle.meaning.specs.Range.{NumericRange}
 use Rattle.meaning.specs.Phrase.{PhraseTerm, phraseFrequency}
 use Rattle.meaning.specs.First.{First}
 use Rattle.ieee754.specs.Nonneg.{AtMost}
-use Rattle.weight.specs.ScorerTree.{Leaf, nothing, term, phrase, range, everything, Scoring, constant, weighted, Joining, oneMore, afterwards, Scorer, leaf, boolean, Scorers, end, more, matches}
+use Rattle.bits.specs.Bit.{bitmapWords, Bitmap}
+use Rattle.weight.specs.ScorerTree.{Leaf, nothing, term, phrase, range, everything, Scoring, constant, weighted, Joining, oneMore, afterwards, Scorer, leaf, boolean, Scorers, end, more, leafMatches, matches}
 use Rattle.weight.specs.State.{State, words_of, leafSize, size_of, sizesOf, sizesOfFirst}
 
 -- from the bound up to the document where a node stands, that document is the next one that it matches
@@ -36,14 +37,13 @@ pub record TermIs (ix : Index) (kind l : ℕ) (s : State) (b : ℕ) : Type 0 whe
   pub norms-is : s.norms ≡ normsWord ix (leafField ix l)
   pub run : RunAt (leafDocument ix l) (leafNumber ix l) s.cursor b
 
--- the words of a range, whose documents stand in the range buffer
-pub record RangeIs (ix : Index) (ranges : List ℕ) (r : NumericRange) (s : State) (b : ℕ) : Type 0 where
+-- the words of a range, whose documents stand in the range buffer as a bitmap
+pub record RangeIs (ix : Index) (ranges : List ℕ) (r : NumericRange) (s : State) : Type 0 where
   pub kind-is : s.kind ≡ 4
   pub size_is : s.size ≡ nodeStateWords
-  pub number_is : s.number ≡ length (rangeDocuments ix r)
+  pub number_is : s.number ≡ bitmapWords ix.maxDoc
   pub there : s.first + s.number ≤ length ranges
-  pub listed : (i : ℕ) → i < s.number → get_or ranges (s.first + i) 0 ≡ get_or (rangeDocuments ix r) i 0
-  pub run : RunAt (λ i. get_or (rangeDocuments ix r) i 0) s.number s.cursor b
+  pub bits : Bitmap (leafMatches ix (range r)) ranges s.first s.number
 
 -- the records of a phrase's terms
 unfoldable pub TermsAre : Index → List PhraseTerm → List ℕ → ℕ → Type 0
@@ -65,7 +65,7 @@ unfoldable pub LeafIs : Index → List ℕ → Leaf → State → List ℕ → �
 LeafIs ix ranges nothing s w b = (s.kind ≡ 0) × (s.size ≡ nodeStateWords) × (s.cached ≡ suc noMoreDocs) × (w ≡ [])
 LeafIs ix ranges (term l) s w b = TermIs ix 1 l s b × (w ≡ [])
 LeafIs ix ranges (phrase f ts) s w b = PhraseIs ix f ts s w b
-LeafIs ix ranges (range r) s w b = RangeIs ix ranges r s b × (w ≡ [])
+LeafIs ix ranges (range r) s w b = RangeIs ix ranges r s × (w ≡ [])
 LeafIs ix ranges everything s w b = (s.kind ≡ 5) × (s.size ≡ nodeStateWords) × (w ≡ [])
 
 -- a score in words: a binary32 value from 0 to 2^29

@@ -9,6 +9,8 @@ use Rattle.meaning.specs.Scorer.{hasScorer}
 use Rattle.meaning.specs.Cost.{cost}
 use Rattle.meaning.specs.QueryRefusals.{wrong7, wrong8, wrong9, wrong10}
 use Rattle.index.specs.Accepted.{Accepted}
+use Rattle.bits.specs.Bit.{bitmapWords, Bitmap}
+use Rattle.weight.specs.ScorerTree.{range, leafMatches}
 
 -- an accepted index and a query that none of 7 to 10 refuses
 pub record Asks (ix : Index) (q : List ℕ) : Type 0 where
@@ -54,11 +56,11 @@ pub record Columns (ix : Index) (n : ℕ) (columns values : List ℕ) : Type 0 w
   pub columns-are : ix.columns ≡ columns
   pub values-are : ix.values ≡ values
 
--- the documents of the Range record r stand in the range buffer
+-- the documents of the Range record r are so many, and stand in the range buffer as a bitmap
 pub record RangeListed (ix : Index) (q ranges : List ℕ) (r place count : ℕ) : Type 0 where
   pub count-is : count ≡ length (rangeDocuments ix (range_of q r))
-  pub there : place + count ≤ length ranges
-  pub listed : (i : ℕ) → i < count → get_or ranges (place + i) 0 ≡ get_or (rangeDocuments ix (range_of q r)) i 0
+  pub there : place + bitmapWords ix.maxDoc ≤ length ranges
+  pub bits : Bitmap (leafMatches ix (range (range_of q r))) ranges place (bitmapWords ix.maxDoc)
 
 -- those of each Range record below n
 abbrev pub RangesListed : Index → List ℕ → List ℕ → List ℕ → List ℕ → ℕ → Type 0

@@ -16,7 +16,7 @@ pub record State : Type 0 where
   -- Boolean: where, in the words after its record, the required children end, and the optional
   pub requiredEnd : ℕ
   pub optionalEnd : ℕ
-  -- the first posting of the run, or the place of the range's first document in the range buffer; how many there are; how many are passed
+  -- the first posting of the run, how many there are, how many are passed; or the place of the range's bitmap in the range buffer, and its number of words
   pub first : ℕ
   pub number : ℕ
   pub cursor : ℕ

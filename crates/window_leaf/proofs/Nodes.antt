@@ -1,5 +1,5 @@
 -- What a node without children answers of a window: a term with the postings alone, a range with the range buffer, the others with what they store. Assumes nothing.
-use Rattle.std.proofs.Common.{◌≡◌, refl, sym, ap, subst, ◌∙◌, Bool, true, ◌&&◌, ⊎_elim, List, ◌++◌, ℕ, ◌+◌, ◌≤◌, ◌<◌, ltb, length, get_or, le_refl, arith, lt-ltb}
+use Rattle.std.proofs.Common.{◌≡◌, refl, sym, ap, subst, ◌∙◌, Bool, true, false, ◌&&◌, ⊎_elim, List, ◌++◌, ℕ, ◌+◌, ◌*◌, ◌≤◌, ◌<◌, ltb, length, get_or, le_refl, arith, lt-ltb}
 use Rattle.std.proofs.lemmas.Bool.{eqb-false}
 use mathlib.Core.Bool.{and-false}
 use Rattle.meaning.specs.Limits.{noMoreDocs}
@@ -8,17 +8,18 @@ use Rattle.meaning.proofs.Tests.{decided}
 use Rattle.weight.specs.ScorerTree.{nothing, term, phrase, range, everything, Scoring, Scorer, leaf, boolean, leafMatches, matches}
 use Rattle.weight.specs.State.{State}
 use Rattle.weight.specs.Sound.{LeafSound, Sound}
-use Rattle.bits.specs.Bit.{bit}
+use Rattle.bits.specs.Bit.{bit, Bitmap}
 use Rattle.bits.proofs.Laws.{bit-zero}
 use Rattle.leaf_scorer.specs.Calls.{Lent}
 use Rattle.leaf_scorer.specs.Search.{SearchHeld}
-use Rattle.leaf_scorer.proofs.LeafLaws.{term-run, range-run}
+use Rattle.leaf_scorer.proofs.LeafLaws.{term-run, range-over}
 use Rattle.window.specs.Windows.{inRun}
 use Rattle.window_words.specs.Windowed.{nowhere, placesOf, Stored, LeafWindowed, Windowed}
 use Rattle.window_words.proofs.Laws.{kindOf, windowed-kind, windowed-less}
 use Rattle.window_leaf.specs.Asks.{Answers, everywhere, Wanted, NodeWindowed}
 use Rattle.window_leaf.specs.Runs.{windowAt, answered, PutPre, PutPost, RunMoved, RunPost}
-use Rattle.window_leaf.proofs.Records.{stored-bits, scoring-kept, term-run-like, term-passed, term-window, range-run-like, range-passed}
+use Rattle.window_leaf.proofs.Records.{stored-bits, scoring-kept, term-run-like, term-passed, term-window}
+use Rattle.window_leaf.proofs.Ranges.{range-answered}
 
 -- ---- what a moved run answers, where it is the documents of P
 module _ (words : List ℕ) (stride : ℕ) (s : State) (w : List ℕ) (base r : ℕ) (st' : List ℕ) (m : RunMoved words stride s w base r st') (P : ℕ → Bool) (like : (d : ℕ) → inRun words stride s.first s.number d ≡ P d) where
@@ -111,36 +112,39 @@ module _ (E : Lent) (ix : Index) (places k o : ℕ) (st : List ℕ) (base : ℕ)
       term-answer (boolean c j need rs os ps) h = absurd (eqb-false 3 1 refl (kind-is 1 e (boolean c j need rs os ps) h))
 
   -- ---- a range
-  module _ (e : get_or st 0 0 ≡ 4) (size : length E.ranges < 9223372036854775808) where
-    pub range-asks : (s : Scorer) → NodeWindowed E ix places s k o st base → (s : State) × (w : List ℕ) × SearchHeld E.ranges 1 s w st base
+  module _ (e : get_or st 0 0 ≡ 4) where
+    pub range-asks : (s : Scorer) → NodeWindowed E ix places s k o st base → get_or st 6 0 + get_or st 7 0 ≤ length E.ranges
     unfolding kindOf Windowed LeafWindowed
     range-asks (leaf nothing sc) h = absurd (eqb-false 0 4 refl (kind-is 4 e (leaf nothing sc) h))
     range-asks (leaf (term l) sc) h = absurd (eqb-false 1 4 refl (kind-is 4 e (leaf (term l) sc) h))
     range-asks (leaf (phrase f ts) sc) h = absurd (eqb-false 2 4 refl (kind-is 4 e (leaf (phrase f ts) sc) h))
-    range-asks (leaf (range x) sc) h = let p = h.held in (p.0, p.1, range-run ix h.lends.accepted E.ranges x p.0 base p.4.0 size p.1 st p.2)
+    range-asks (leaf (range x) sc) h = let p = h.held in rw p.2 p.4.0.there
     range-asks (leaf everything sc) h = absurd (eqb-false 5 4 refl (kind-is 4 e (leaf everything sc) h))
     range-asks (boolean c j need rs os ps) h = absurd (eqb-false 3 4 refl (kind-is 4 e (boolean c j need rs os ps) h))
 
-    module _ (r : ℕ) (st' : List ℕ) (post : RunPost E.ranges 1 st base r st') where
+    module _ (r : ℕ) (st' : List ℕ) (top : base + 64 ≤ noMoreDocs) (post : PutPost st r (base + 64) st')
+        (part : (P : ℕ → Bool) → Bitmap P E.ranges (get_or st 6 0) (get_or st 7 0) → ((d : ℕ) → 32 * get_or st 7 0 ≤ d → P d ≡ false) → (p : ℕ) → p < 64 → bit p r ≡ P (base + p)) where
       pub range-answer : (s : Scorer) → NodeWindowed E ix places s k o st base → Answers (matches ix s) base everywhere r (get_or st' 22 0) × Windowed ix E.ranges s k o st' (base + 64) base everywhere
-      unfolding kindOf Windowed LeafWindowed matches leafMatches
+      unfolding kindOf Windowed LeafWindowed matches
       range-answer (leaf nothing sc) h = absurd (eqb-false 0 4 refl (kind-is 4 e (leaf nothing sc) h))
       range-answer (leaf (term l) sc) h = absurd (eqb-false 1 4 refl (kind-is 4 e (leaf (term l) sc) h))
       range-answer (leaf (phrase f ts) sc) h = absurd (eqb-false 2 4 refl (kind-is 4 e (leaf (phrase f ts) sc) h))
       range-answer (leaf (range x) sc) h =
           let p = h.held in
           let acc = h.lends.accepted in
-          let m = post p.0 p.1 (range-run ix acc E.ranges x p.0 base p.4.0 size p.1 st p.2) in
-          let like = range-run-like ix acc E.ranges x p.0 base p.4.0 in (
-            run-answers E.ranges 1 p.0 p.1 base r st' m (leafMatches ix (range x)) like,
+          let is = post p.0 p.1 p.2 in
+          let front : get_or st 6 0 ≡ p.0.first = rw p.2 in
+          let count : get_or st 7 0 ≡ p.0.number = rw p.2 in
+          let bits : (q : ℕ) → q < 64 → bit q r ≡ leafMatches ix (range x) (base + q) = part (leafMatches ix (range x)) (rw (front, count) p.4.0.bits) (rw count (range-over ix acc E.ranges x p.0 p.4.0)) in (
+            subst (λ (n : ℕ). Answers (leafMatches ix (range x)) base everywhere r n) (sym (ap (λ (l : List ℕ). get_or l 22 0) is)) (record { bits = bits; gap = λ d a b. absurd (omega (arith, a, b)); top = top }),
             (
-              windowAt p.0 m.cursor m.first r m.next,
+              answered p.0 r (base + 64),
               p.1,
-              m.words_are,
+              is,
               p.3,
-              (range-passed ix acc E.ranges x p.0 base p.4.0 p.1 r st' m, p.4.1, p.4.2),
-              scoring-kept sc p.0 m.cursor m.first r m.next p.5,
-              run-stored E.ranges 1 p.0 p.1 base r st' m (leafMatches ix (range x)) like,
+              (range-answered ix E.ranges x p.0 r (base + 64) p.4.0, p.4.1, p.4.2),
+              scoring-kept sc p.0 p.0.cursor p.0.windowFirst r (base + 64) p.5,
+              λ q g d. stored-bits p.0 p.0.cursor p.0.windowFirst r (base + 64) q ∙ bits q g,
             ),
           )
       range-answer (leaf everything sc) h = absurd (eqb-false 5 4 refl (kind-is 4 e (leaf everything sc) h))

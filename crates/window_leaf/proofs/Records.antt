@@ -1,22 +1,20 @@
--- A record whose run was moved over a window: what it stores, and that it is again the record of its term or its range, with the window's documents. Assumes nothing.
-use Rattle.std.proofs.Common.{◌≡◌, refl, sym, ap, ◌∙◌, Bool, true, false, ◌&&◌, ⊎_elim, List, ◌++◌, ℕ, ◌+◌, ◌/◌, ◌%◌, ◌≤◌, ◌<◌, eqb, ltb, get_or, set, arith, ne_eqb, ltb-true, lt-ltb}
+-- A record whose run was moved over a window: what it stores, and that it is again the record of its term, with the window's documents. Assumes nothing.
+use Rattle.std.proofs.Common.{◌≡◌, refl, sym, ap, ◌∙◌, Bool, true, false, ⊎_elim, List, ◌++◌, ℕ, ◌+◌, ◌/◌, ◌%◌, ◌≤◌, ◌<◌, eqb, get_or, set, arith, ne_eqb}
 use Rattle.std.proofs.lemmas.Bool.{eqb-false, false≢true}
 use Rattle.meaning.specs.Limits.{noMoreDocs}
 use Rattle.meaning.specs.Lent.{Index, leafFirst, leafNumber, leafDocument, leafCount}
 use Rattle.meaning.specs.Postings.{postingAt, found}
-use Rattle.meaning.specs.Range.{NumericRange, in_range, rangeDocuments}
-use Rattle.meaning.proofs.Below.{any_none, none_below, listed_at, listed_has}
+use Rattle.meaning.proofs.Below.{any_none, none_below}
 use Rattle.meaning.proofs.Tests.{decided, cmp}
 use Rattle.index.specs.Accepted.{Accepted}
 use Rattle.index.proofs.PostingAt.{posting-at, posting-none}
 use Rattle.weight.specs.ScorerTree.{Scoring, constant, weighted}
 use Rattle.weight.specs.State.{State, words_of}
-use Rattle.weight.specs.Held.{TermIs, RangeIs, ScoringIs}
+use Rattle.weight.specs.Held.{TermIs, ScoringIs}
 use Rattle.run.specs.Run.{documentAt, Lower}
 use Rattle.bits.specs.Bit.{bit}
 use Rattle.bits.proofs.Laws.{halves-joined}
 use Rattle.leaf_scorer.specs.Search.{SearchHeld}
-use Rattle.leaf_scorer.proofs.LeafLaws.{in_buffer}
 use Rattle.window.specs.Windows.{inRun, Cursor, Gathers}
 use Rattle.window_words.specs.Windowed.{windowBits, TermWindow}
 use Rattle.window_leaf.specs.Runs.{windowAt, PutPost, DocumentPost, RunMoved, RunPost}
@@ -184,37 +182,3 @@ module _ (ix : Index) (acc : Accepted ix) (k l : ℕ) (there : l < leafCount ix)
           ahead = rw (is.first-is, is.number_is) at m.behind.ahead;
           bits = λ p h. stored-bits s m.cursor m.first r m.next p ∙ m.bits p h ∙ term-run-like (base + p);
         }
-
--- ---- a range
-module _ (ix : Index) (acc : Accepted ix) (R : List ℕ) (r : NumericRange) (s : State) (base : ℕ) (is : RangeIs ix R r s base) where
-  range-hit : (i : ℕ) → i < s.number → (ltb (documentAt R 1 s.first i) ix.maxDoc && in_range ix r (documentAt R 1 s.first i)) ≡ true
-  unfolding rangeDocuments
-  range-hit i g =
-      let l = listed_at (in_range ix r) ix.maxDoc i (omega (arith, is.number_is)) in
-      ap (λ (x : ℕ). ltb x ix.maxDoc && in_range ix r x) (in_buffer ix acc R r s base is i g) ∙ rw (lt-ltb _ _ l.0, l.1)
-
-  range-miss : (x : ℕ) → ((i : ℕ) → i < s.number → documentAt R 1 s.first i ≡ x → ⊥) → (ltb x ix.maxDoc && in_range ix r x) ≡ false
-  unfolding rangeDocuments
-  range-miss x g = go (ltb x ix.maxDoc) (in_range ix r x) refl refl
-    where
-      go : (b c : Bool) → ltb x ix.maxDoc ≡ b → in_range ix r x ≡ c → (b && c) ≡ false
-      go false c e f = refl
-      go true false e f = refl
-      go true true e f =
-          let i = listed_has (in_range ix r) ix.maxDoc x (ltb-true x ix.maxDoc e) f in
-          let m : i.0 < s.number = omega (arith, is.number_is, i.1.0) in
-          absurd (g i.0 m (in_buffer ix acc R r s base is i.0 m ∙ i.1.1))
-
-  pub range-run-like : (d : ℕ) → inRun R 1 s.first s.number d ≡ ltb d ix.maxDoc && in_range ix r d
-  range-run-like d = run-like R 1 s.first s.number (λ x. ltb x ix.maxDoc && in_range ix r x) range-hit range-miss d
-
-  pub range-passed : (w : List ℕ) (v : ℕ) (st' : List ℕ) (m : RunMoved R 1 s w base v st') → RangeIs ix R r (windowAt s m.cursor m.first v m.next) (base + 64)
-  range-passed w v st' m =
-      record {
-        kind-is = is.kind-is;
-        size_is = is.size_is;
-        number_is = is.number_is;
-        there = is.there;
-        listed = is.listed;
-        run = record { within = m.behind.within; passed = λ i g. omega (arith, in_buffer ix acc R r s base is i (omega (arith, m.behind.within)), m.behind.passed i g) };
-      }

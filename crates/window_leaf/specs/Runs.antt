@@ -1,9 +1,9 @@
--- A record's run, asked for a window. Assumes nothing: these are definitions.
-use Rattle.std.specs.Prelude.{◌≡◌, false, List, ◌++◌, ℕ, ◌+◌, ◌*◌, ◌%◌, ◌/◌, ◌≤◌, ◌<◌, length}
+-- A record's run or bitmap, asked for a window. Assumes nothing: these are definitions.
+use Rattle.std.specs.Prelude.{◌≡◌, Bool, false, List, ◌++◌, ℕ, ◌+◌, ◌*◌, ◌%◌, ◌/◌, ◌≤◌, ◌<◌, length}
 use Rattle.meaning.specs.Limits.{noMoreDocs}
 use Rattle.weight.specs.State.{State, words_of}
 use Rattle.leaf_scorer.specs.Search.{SearchHeld}
-use Rattle.bits.specs.Bit.{bit}
+use Rattle.bits.specs.Bit.{bit, Bitmap}
 use Rattle.window.specs.Windows.{inRun, Cursor}
 use Rattle.run.specs.Run.{documentAt}
 
@@ -73,6 +73,11 @@ RunPre words stride st base = (base + 64 ≤ noMoreDocs) × ((s : State) × (w :
 
 abbrev pub RunPost : List ℕ → ℕ → List ℕ → ℕ → ℕ → List ℕ → Type 0
 RunPost words stride st base r st' = (s : State) (w : List ℕ) → SearchHeld words stride s w st base → RunMoved words stride s w base r st'
+
+-- the bits of r are 32 numbers of a bitmap, from `at` on; behind its last word there are none
+abbrev pub PartOf : List ℕ → ℕ → ℕ → ℕ → ℕ → Type 0
+PartOf words first number at r =
+    (P : ℕ → Bool) → Bitmap P words first number → ((d : ℕ) → 32 * number ≤ d → P d ≡ false) → (p : ℕ) → p < 32 → bit p r ≡ P (at + p)
 
 -- the run's document at a place, or the end
 abbrev pub DocumentPre : List ℕ → ℕ → ℕ → ℕ → ℕ → Type 0

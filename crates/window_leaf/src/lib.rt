@@ -1,13 +1,13 @@
 // A node without children, asked which documents of a window of 64 it matches.
 #![tactic(auto)]
 
-ghost use Rattle.std.specs.Prelude.{◌≡◌, ◌≤◌, length, get_or, min, max};
+ghost use Rattle.std.specs.Prelude.{◌≡◌, ◌+◌, ◌*◌, ◌≤◌, length, get_or, min, max};
 ghost use Rattle.meaning.specs.Limits.{nodeStateWords};
 ghost use Rattle.window_leaf.specs.Asks.{TermPre, TermPost, RangePre, RangePost, BitsPre, BitsPost};
-ghost use Rattle.window_leaf.specs.Runs.{PutPre, PutPost, RunPre, RunPost, DocumentPre, DocumentPost};
+ghost use Rattle.window_leaf.specs.Runs.{PutPre, PutPost, RunPre, RunPost, PartOf, DocumentPre, DocumentPost};
 
 use index::wide;
-use leaf_scorer::{ENTRY, NO_MORE_DOCS};
+use leaf_scorer::NO_MORE_DOCS;
 use window::gathered;
 
 pub mod phrases;
@@ -91,12 +91,41 @@ pub fn term_bits(st: &mut [u32], postings: &[u32], base: u32) -> u64
     run_bits(st, postings, POSTING, base)
 }
 
+// A word of a bitmap; behind its last word there are no bits.
+fn word_at(words: &[u32], first: usize, number: usize, at: usize) -> u32
+    requires { first + number ≤ length words.now }
+    ensures { PartOf words.now first number (32 * at) result }
+{
+    if at < number { words[first + at] } else { 0 }
+}
+
+// The 32 bits of a bitmap from any place on: mostly one of its words.
+fn bits_from(words: &[u32], first: usize, number: usize, at: u32) -> u32
+    requires { first + number ≤ length words.now }
+    ensures { PartOf words.now first number at result }
+{
+    let word = wide(at / 32);
+    let low = word_at(words, first, number, word);
+    let skip = at % 32;
+    if skip == 0 {
+        return low;
+    }
+    let high = word_at(words, first, number, word + 1);
+    bits::low(bits::joined(low, high) >> skip)
+}
+
 // A range's, likewise.
 pub fn range_bits(st: &mut [u32], ranges: &[u32], base: u32) -> u64
     requires { RangePre ranges.now st.old base }
     ensures { RangePost ranges.now st.old base result st.new }
 {
-    run_bits(st, ranges, ENTRY, base)
+    let first = wide(st[6]);
+    let number = wide(st[7]);
+    let low = bits_from(ranges, first, number, base);
+    let high = bits_from(ranges, first, number, base + 32);
+    let bits = bits::joined(low, high);
+    put(st, bits, base + 64);
+    bits
 }
 
 // The wanted documents of the window that a node without children matches.

@@ -4,11 +4,10 @@ use Rattle.std.proofs.lemmas.Bool.{false≢true, and_parts}
 use Rattle.meaning.specs.Limits.{nodeStateWords}
 use Rattle.meaning.specs.Lent.{Index}
 use Rattle.meaning.specs.Phrase.{PhraseTerm, phraseFrequency}
-use Rattle.meaning.specs.Range.{NumericRange}
 use Rattle.bits.specs.Bit.{bit}
 use Rattle.weight.specs.ScorerTree.{Leaf, nothing, term, phrase, range, everything, Scoring, Scorer, leaf, boolean, Scorers, end, more, leafMatches, matches}
 use Rattle.weight.specs.State.{State, words_of, leafSize, size_of, sizesOf}
-use Rattle.weight.specs.Held.{Cache, RunAt, TermIs, TermsAre, RangeIs, LeafIs, Ok, Oks}
+use Rattle.weight.specs.Held.{Cache, RunAt, TermIs, TermsAre, LeafIs, Ok, Oks}
 use Rattle.window_words.specs.Windowed.{Places, nowhere, joined, Stored, TermAsked, TermsWindowed, phrasePlaces, LeafWindowed, requiredPlaces, optionalPlaces, optionalBound, Windowed, AllWindowed}
 
 -- the places of D' are all among those of D
@@ -32,17 +31,6 @@ term-mono ix k l s b e h p =
       number_is = p.number_is;
       field_is = p.field_is;
       norms-is = p.norms-is;
-      run = run-mono h p.run;
-    }
-
-range-mono : (ix : Index) (R : List ℕ) (s : State) (b e : ℕ) (r : NumericRange) → b ≤ e → RangeIs ix R r s b → RangeIs ix R r s e
-range-mono ix R s b e r h p =
-    record {
-      kind-is = p.kind-is;
-      size_is = p.size_is;
-      number_is = p.number_is;
-      there = p.there;
-      listed = p.listed;
       run = run-mono h p.run;
     }
 
@@ -99,7 +87,7 @@ leaf-weaker ix R (phrase g ts) s w b base D e f D' h k p = (
   },
   p.1,
 )
-leaf-weaker ix R (range r) s w b base D e f D' h k p = (range-mono ix R s b e r h p.0, p.1, p.2)
+leaf-weaker ix R (range r) s w b base D e f D' h k p = p
 leaf-weaker ix R everything s w b base D e f D' h k p = p
 
 bound-more : (t : Bool) (b base e f : ℕ) → b ≤ e → base ≤ f → cond t b base ≤ cond t e f
@@ -274,7 +262,7 @@ leaf-is ix R (phrase f ts) s w b base D e h p =
       terms = terms-are ix ts w b base (phrasePlaces ix ts base D) e h p.0.terms;
       worked-out = p.0.worked-out;
     }
-leaf-is ix R (range r) s w b base D e h p = (range-mono ix R s b e r h p.0, p.2)
+leaf-is ix R (range r) s w b base D e h p = (p.0, p.2)
 leaf-is ix R everything s w b base D e h p = (p.0, p.1, p.3)
 
 no-cache : (P : ℕ → Bool) (b c : ℕ) → c ≡ 0 → Cache P b c

@@ -76,7 +76,7 @@ unfoldable pub LeafWindowed : Index → List ℕ → Leaf → State → List ℕ
 LeafWindowed ix ranges nothing s w b base D = (s.kind ≡ 0) × (s.size ≡ nodeStateWords) × (s.cached ≡ suc noMoreDocs) × (w ≡ [])
 LeafWindowed ix ranges (term l) s w b base D = TermIs ix 1 l s b × (s.cached ≡ 0) × (w ≡ []) × TermAsked ix l s base D
 LeafWindowed ix ranges (phrase f ts) s w b base D = PhraseWindowed ix f ts s w b base D × (s.cached ≡ 0)
-LeafWindowed ix ranges (range r) s w b base D = RangeIs ix ranges r s b × (s.cached ≡ 0) × (w ≡ [])
+LeafWindowed ix ranges (range r) s w b base D = RangeIs ix ranges r s × (s.cached ≡ 0) × (w ≡ [])
 LeafWindowed ix ranges everything s w b base D = (s.kind ≡ 5) × (s.size ≡ nodeStateWords) × (s.cached ≡ 0) × (w ≡ [])
 
 -- the places of a Boolean's required children that its score needs

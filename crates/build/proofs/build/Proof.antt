@@ -51,9 +51,6 @@ slice-aggregate-place-3 c = search rules
 slice-aggregate-place-4 : tie.Need-slice_bounds-place-end-4
 slice-aggregate-place-4 c = search rules
 
-slice-aggregate-place-5 : tie.Need-slice_bounds-place-end-5
-slice-aggregate-place-5 c = search rules
-
 place-requires : tie.Need-place-requires
 place-requires c κs =
     let s = c in
@@ -63,7 +60,7 @@ place-requires c κs =
     let asks = s.requires.1 in
     let lent = s.requires.2 in
     let listed = lr.ensures.0 ix asks s.requires.3 in
-    root-pre s.args.q.now s.args.max_doc s.args.fields.now s.args.leaves.now ma.new.nexts ma.new.presents ma.new.costs lr.new.places lr.new.counts lr.new.ranges (length s.args.states.now) ma.ensures.1.0 ma.ensures.1.1 ma.ensures.1.2 lr.ensures.1.0 lr.ensures.1.1 s.requires.4 ix asks lent (ma.ensures.0 ix (known ix s.args.q.now s.args.max_doc s.args.fields.now s.args.leaves.now lr.new.places lr.new.counts lr.new.ranges asks lent listed)) listed
+    root-pre s.args.q.now s.args.max_doc s.args.fields.now s.args.leaves.now ma.new.nexts ma.new.presents ma.new.costs lr.new.places lr.new.counts lr.new.ranges (length s.args.states.now) ma.ensures.1.0 ma.ensures.1.1 ma.ensures.1.2 lr.ensures.1.0 s.requires.4 ix asks lent (ma.ensures.0 ix (known ix s.args.q.now s.args.max_doc s.args.fields.now s.args.leaves.now lr.new.places lr.new.counts lr.new.ranges asks lent listed)) listed
 
 same_length : tie.Need-shape_of-states
 same_length c = search rules
@@ -77,7 +74,7 @@ returns c =
     let lr = c.list_ranges in
     let ma = c.measure_all in
     let p = c.place in (
-      λ ix asks lent columns. let listed = lr.ensures.0 ix asks columns in root-placed s.args.q.now s.args.max_doc s.args.fields.now s.args.leaves.now ma.new.nexts ma.new.presents ma.new.costs lr.new.places lr.new.counts lr.new.ranges (length s.args.states.now) ma.ensures.1.0 ma.ensures.1.1 ma.ensures.1.2 lr.ensures.1.0 lr.ensures.1.1 s.requires.4 ix asks p.result p.new.st lent (ma.ensures.0 ix (known ix s.args.q.now s.args.max_doc s.args.fields.now s.args.leaves.now lr.new.places lr.new.counts lr.new.ranges asks lent listed)) listed p.ensures.0,
+      λ ix asks lent columns. let listed = lr.ensures.0 ix asks columns in root-placed s.args.q.now s.args.max_doc s.args.fields.now s.args.leaves.now ma.new.nexts ma.new.presents ma.new.costs lr.new.places lr.new.counts lr.new.ranges (length s.args.states.now) ma.ensures.1.0 ma.ensures.1.1 ma.ensures.1.2 lr.ensures.1.0 s.requires.4 ix asks p.result p.new.st lent (ma.ensures.0 ix (known ix s.args.q.now s.args.max_doc s.args.fields.now s.args.leaves.now lr.new.places lr.new.counts lr.new.ranges asks lent listed)) listed p.ensures.0,
       (p.ensures.1, lr.ensures.1.2),
     )
 
@@ -97,7 +94,6 @@ build_spec =
     slice-aggregate-place-2
     slice-aggregate-place-3
     slice-aggregate-place-4
-    slice-aggregate-place-5
     place-requires
     same_length
     same-length-2

@@ -44,8 +44,8 @@ returns-2 : tie.Need-returns-then-kind-eq-PHRASE
 returns-2 c = let s = c in let g = c.seek_phrase in seek-phrase-done (lent s.args.max_doc s.args.postings.now s.args.positions.now s.args.ranges.now) s.args.st.now s.args.target c.if-kind-eq-PHRASE.true g.result g.new.st g.ensures
 
 -- src/leaves.rt:191:9
-search-requires : tie.Need-search-requires
-search-requires c κs = let s = c in let P = s.requires.1 in let z : length s.args.ranges.now < 9223372036854775808 = omega (arith, s.well_formed) in seek-range-pre (lent s.args.max_doc s.args.postings.now s.args.positions.now s.args.ranges.now) s.args.st.now s.args.target c.if-kind-eq-RANGE.true z P.0 P.1 P.2 P.3 P.4 P.6
+seek-range-requires : tie.Need-seek_range-requires
+seek-range-requires c κs = let s = c in let P = s.requires.1 in seek-range-pre (lent s.args.max_doc s.args.postings.now s.args.positions.now s.args.ranges.now) s.args.st.now s.args.target c.if-kind-eq-RANGE.true P.0 P.1 P.2 P.3 P.4 P.6
 
 -- src/leaves.rt:191:9
 same-length-5 : tie.Need-shape_of-st-then-kind-eq-RANGE
@@ -53,7 +53,7 @@ same-length-5 c = search rules
 
 -- src/leaves.rt:191:9
 returns-3 : tie.Need-returns-then-kind-eq-RANGE
-returns-3 c = let s = c in let z : length s.args.ranges.now < 9223372036854775808 = omega (arith, s.well_formed) in let g = c.search in seek-range-done (lent s.args.max_doc s.args.postings.now s.args.positions.now s.args.ranges.now) s.args.st.now s.args.target c.if-kind-eq-RANGE.true z s.requires.0 g.result g.new.st g.ensures
+returns-3 c = let s = c in let g = c.seek_range in seek-range-done (lent s.args.max_doc s.args.postings.now s.args.positions.now s.args.ranges.now) s.args.st.now s.args.target c.if-kind-eq-RANGE.true s.requires.0 g.result g.ensures
 
 -- src/leaves.rt:193:5
 everything-requires : tie.Need-everything-requires
@@ -76,7 +76,7 @@ seek_spec =
     same-length-3
     same-length-4
     returns-2
-    search-requires
+    seek-range-requires
     same-length-5
     returns-3
     everything-requires

@@ -1,6 +1,7 @@
 -- `measure::list_range` meets its contract. Assumes nothing.
 use lib.ListN.{length}
-use Rattle.measure.proofs.Listing.{range-asks, range_gives}
+use Rattle.bits.specs.Bit.{bitmapWords}
+use Rattle.measure.proofs.Listing.{range-asks, range_gives, range-bitmap}
 use mathlib.Core.Path.{refl, sym, ◌∙◌, ap}
 use borrow.Author.Rules.{rules}
 use Rattle.measure.proofs.list_range.Statement.{statement}
@@ -36,14 +37,18 @@ value-requires-5 c κs = search rules
 value-requires-6 : tie.Need-value-requires-6
 value-requires-6 c κs = search rules
 
-range-list-requires : tie.Need-range_list-requires
-range-list-requires c κs = let s = c in let a = s.requires.1 in let x = range-asks a.0 s.args.q.now s.args.columns.now s.args.values.now s.args.max_doc s.args.at a.1 a.2 s.requires.0.0 (sym c.kind.ensures ∙ c.if-kind-ne4.false) c.value-5.result c.value-6.result c.value.result c.value-2.result c.value-3.result c.value-4.result c.joined-lower.result c.joined-upper.result c.value-5.ensures c.value-6.ensures c.value.ensures c.value-2.ensures c.value-3.ensures c.value-4.ensures c.joined-lower.ensures c.joined-upper.ensures in (x.0, (x.1, (x.2, s.requires.0.1 (sym c.kind.ensures ∙ c.if-kind-ne4.false))))
+range-bitmap-requires : tie.Need-range_bitmap-requires
+range-bitmap-requires c κs = let s = c in let a = s.requires.1 in let x = range-asks a.0 s.args.q.now s.args.columns.now s.args.values.now s.args.max_doc s.args.at a.1 a.2 s.requires.0.0 (sym c.kind.ensures ∙ c.if-kind-ne4.false) c.value-5.result c.value-6.result c.value.result c.value-2.result c.value-3.result c.value-4.result c.joined-lower.result c.joined-upper.result c.value-5.ensures c.value-6.ensures c.value.ensures c.value-2.ensures c.value-3.ensures c.value-4.ensures c.joined-lower.ensures c.joined-upper.ensures in (x.0, (x.1, (x.2, s.requires.0.1 (sym c.kind.ensures ∙ c.if-kind-ne4.false))))
 
 same_length : tie.Need-shape_of-output
 same_length c = search rules
 
 returns-2 : tie.Need-returns
-returns-2 c = let s = c in (λ ix a cs kind. let e = range_gives ix s.args.q.now s.args.columns.now s.args.values.now s.args.max_doc s.args.at a cs s.requires.0.0 kind c.value-5.result c.value-6.result c.value.result c.value-2.result c.value-3.result c.value-4.result c.joined-lower.result c.joined-upper.result c.value-5.ensures c.value-6.ensures c.value.ensures c.value-2.ensures c.value-3.ensures c.value-4.ensures c.joined-lower.ensures c.joined-upper.ensures in (c.range_list.ensures.0 ∙ ap length e, c.range_list.ensures.1.0 ∙ e), c.range_list.ensures.1.1)
+returns-2 c =
+    let s = c in (
+      λ ix a cs kind. (c.range_bitmap.ensures.0 ∙ ap length (range_gives ix s.args.q.now s.args.columns.now s.args.values.now s.args.max_doc s.args.at a cs s.requires.0.0 kind c.value-5.result c.value-6.result c.value.result c.value-2.result c.value-3.result c.value-4.result c.joined-lower.result c.joined-upper.result c.value-5.ensures c.value-6.ensures c.value.ensures c.value-2.ensures c.value-3.ensures c.value-4.ensures c.joined-lower.ensures c.joined-upper.ensures), range-bitmap ix s.args.q.now s.args.columns.now s.args.values.now s.args.max_doc s.args.at a cs s.requires.0.0 kind c.value-5.result c.value-6.result c.value.result c.value-2.result c.value-3.result c.value-4.result c.joined-lower.result c.joined-upper.result c.value-5.ensures c.value-6.ensures c.value.ensures c.value-2.ensures c.value-3.ensures c.value-4.ensures c.joined-lower.ensures c.joined-upper.ensures c.range_bitmap.new.output (bitmapWords s.args.max_doc) c.range_bitmap.ensures.1.0),
+      c.range_bitmap.ensures.1.1,
+    )
 
 pub list_range_spec : {M : Type 1} → statement M
 list_range_spec =
@@ -59,6 +64,6 @@ list_range_spec =
     joined-requires-2
     value-requires-5
     value-requires-6
-    range-list-requires
+    range-bitmap-requires
     same_length
     returns-2)

@@ -1,20 +1,34 @@
-use Rattle.std.proofs.Common.{ap, subst, sym, List, ◌<◌, length, ℕ, arith}
-use Rattle.weight.specs.State.{State}
-use Rattle.leaf_scorer.specs.Search.{SearchHeld}
-use Rattle.window_leaf.specs.Runs.{RunPost}
-use Rattle.window_leaf.proofs.Nodes.{range-asks, range-answer}
+use Rattle.std.proofs.Common.{sym, ap, ◌≤◌, length, arith}
+use Rattle.meaning.specs.Limits.{nodeStateWords}
+use Rattle.window_words.specs.Windowed.{nowhere}
+use Rattle.window_words.proofs.Laws.{windowed-long}
+use Rattle.window_leaf.proofs.Ranges.{window-part}
+use Rattle.window_leaf.proofs.Nodes.{node-front, range-asks, range-answer}
 use Rattle.window_leaf.proofs.range_bits.Goals as goal
 
--- src/lib.rt:87:5
-pub run_bits-requires : goal.run_bits-requires
-run_bits-requires c =
-    let q = c.requires.2 in
-    let z : length c.args.ranges.now < 9223372036854775808 = omega (arith, c.well_formed) in
-    let n = q.7 in
-    (c.requires.0, subst (λ (y : List ℕ). (s : State) × (w : List ℕ) × SearchHeld y 1 s w c.args.st.now c.args.base) q.1 (range-asks q.0 q.2 q.3 q.5 q.6 c.args.st.now c.args.base c.requires.1 (omega (arith, z, ap length q.1)) q.4 n))
+-- src/lib.rt:122:22
+pub bounds-st-6 : goal.bounds-st-6
+bounds-st-6 c = let q = c.requires.2 in let z : nodeStateWords ≤ length c.args.st.now = windowed-long q.2 q.0.ranges q.4 q.5 q.6 c.args.st.now c.args.base c.args.base nowhere q.7.held in omega (arith, z)
 
--- src/lib.rt:83:1
+-- src/lib.rt:123:23
+pub bounds-st-7 : goal.bounds-st-7
+bounds-st-7 c = let q = c.requires.2 in let z : nodeStateWords ≤ length c.args.st.now = windowed-long q.2 q.0.ranges q.4 q.5 q.6 c.args.st.now c.args.base c.args.base nowhere q.7.held in omega (arith, z)
+
+-- src/lib.rt:124:9
+pub bits_from-low-requires : goal.bits_from-low-requires
+bits_from-low-requires c = let q = c.requires.2 in omega (arith, range-asks q.0 q.2 q.3 q.5 q.6 c.args.st.now c.args.base c.requires.1 q.4 q.7, ap length q.1, c.wide-first.ensures, c.wide-number.ensures)
+
+-- src/lib.rt:125:9
+pub bits_from-high-requires : goal.bits_from-high-requires
+bits_from-high-requires c = let q = c.requires.2 in omega (arith, range-asks q.0 q.2 q.3 q.5 q.6 c.args.st.now c.args.base c.requires.1 q.4 q.7, ap length q.1, c.wide-first.ensures, c.wide-number.ensures)
+
+-- src/lib.rt:127:5
+pub put-requires : goal.put-requires
+put-requires c = let q = c.requires.2 in node-front q.0 q.2 q.3 q.5 q.6 c.args.st.now c.args.base q.4 q.7
+
+-- src/lib.rt:118:1
 pub returns : goal.returns
 returns c = λ E k same ix places s o h.
-    let z : length c.args.ranges.now < 9223372036854775808 = omega (arith, c.well_formed) in
-    range-answer E ix places k o c.args.st.now c.args.base c.requires.1 (omega (arith, z, ap length same)) c.run_bits.result c.run_bits.new.st (subst (λ (y : List ℕ). RunPost y 1 c.args.st.now c.args.base c.run_bits.result c.run_bits.new.st) (sym same) c.run_bits.ensures) s h
+    let R = c.args.ranges.now in
+    let part = window-part R c.wide-first.result c.wide-number.result c.args.base c.bits_from-low.result c.bits_from-high.result c.joined-bits.result c.bits_from-low.ensures c.bits_from-high.ensures c.joined-bits.ensures.low_bits c.joined-bits.ensures.high_bits in
+    range-answer E ix places k o c.args.st.now c.args.base c.requires.1 c.joined-bits.result c.put.new.st c.requires.0 c.put.ensures (rw (same, sym c.wide-first.ensures, sym c.wide-number.ensures) part) s h

@@ -17,7 +17,7 @@ use Rattle.build.proofs.tree.+place_place_boolean_place_list_place_others_place_
 some-levels : (t : ℕ) (c : place-boolean-lts.Start (place-boolean-calls t) (place-boolean-at t) place-boolean.Post) → 1 ≤ c.args.depth
 some-levels t c =
     let s = c in
-    let E = records s.args.q.now s.args.max_doc s.args.fields.now s.args.leaves.now s.args.nexts.now s.args.presents.now s.args.costs.now s.args.places.now s.args.counts.now in
+    let E = records s.args.q.now s.args.max_doc s.args.fields.now s.args.leaves.now s.args.nexts.now s.args.presents.now s.args.costs.now s.args.places.now in
     let at = s.args.at in
     let fixed = s.args.fixed in
     let kept = s.args.kept in
@@ -31,7 +31,7 @@ some-levels t c =
 record-within : (t : ℕ) (c : place-boolean-lts.Start (place-boolean-calls t) (place-boolean-at t) place-boolean.Post) → c.args.at < length c.args.presents.now
 record-within t c =
     let s = c in
-    let E = records s.args.q.now s.args.max_doc s.args.fields.now s.args.leaves.now s.args.nexts.now s.args.presents.now s.args.costs.now s.args.places.now s.args.counts.now in
+    let E = records s.args.q.now s.args.max_doc s.args.fields.now s.args.leaves.now s.args.nexts.now s.args.presents.now s.args.costs.now s.args.places.now in
     let at = s.args.at in
     let fixed = s.args.fixed in
     let kept = s.args.kept in
@@ -45,7 +45,7 @@ record-within t c =
 record-counted : (t : ℕ) (c : place-boolean-lts.Start (place-boolean-calls t) (place-boolean-at t) place-boolean.Post) → c.args.at < recordCount c.args.q.now
 record-counted t c =
     let s = c in
-    let E = records s.args.q.now s.args.max_doc s.args.fields.now s.args.leaves.now s.args.nexts.now s.args.presents.now s.args.costs.now s.args.places.now s.args.counts.now in
+    let E = records s.args.q.now s.args.max_doc s.args.fields.now s.args.leaves.now s.args.nexts.now s.args.presents.now s.args.costs.now s.args.places.now in
     let at = s.args.at in
     let fixed = s.args.fixed in
     let kept = s.args.kept in
@@ -59,7 +59,7 @@ record-counted t c =
 some-room : (t : ℕ) (c : place-boolean-lts.Start (place-boolean-calls t) (place-boolean-at t) place-boolean.Post) → nodeStateWords ≤ length c.args.st.now
 some-room t c =
     let s = c in
-    let E = records s.args.q.now s.args.max_doc s.args.fields.now s.args.leaves.now s.args.nexts.now s.args.presents.now s.args.costs.now s.args.places.now s.args.counts.now in
+    let E = records s.args.q.now s.args.max_doc s.args.fields.now s.args.leaves.now s.args.nexts.now s.args.presents.now s.args.costs.now s.args.places.now in
     let at = s.args.at in
     let fixed = s.args.fixed in
     let kept = s.args.kept in
@@ -82,7 +82,7 @@ optional-part t c =
 required-fits : (t : ℕ) (c : place-boolean-lts.After-place_required-first (place-boolean-calls t) (place-boolean-at t) place-boolean.Post) → (nodeStateWords + c.place_required-first.result.end) ≤ length c.args.st.now
 required-fits t c =
     let s = c in
-    let E = records s.args.q.now s.args.max_doc s.args.fields.now s.args.leaves.now s.args.nexts.now s.args.presents.now s.args.costs.now s.args.places.now s.args.counts.now in
+    let E = records s.args.q.now s.args.max_doc s.args.fields.now s.args.leaves.now s.args.nexts.now s.args.presents.now s.args.costs.now s.args.places.now in
     let at = s.args.at in
     let fixed = s.args.fixed in
     let kept = s.args.kept in
@@ -110,7 +110,7 @@ prohibited-part t c =
 optional-fits : (t : ℕ) (c : place-boolean-lts.After-place_others-shoulds (place-boolean-calls t) (place-boolean-at t) place-boolean.Post) → (nodeStateWords + (c.place_required-first.result.end + c.place_others-shoulds.result)) ≤ length c.args.st.now
 optional-fits t c =
     let s = c in
-    let E = records s.args.q.now s.args.max_doc s.args.fields.now s.args.leaves.now s.args.nexts.now s.args.presents.now s.args.costs.now s.args.places.now s.args.counts.now in
+    let E = records s.args.q.now s.args.max_doc s.args.fields.now s.args.leaves.now s.args.nexts.now s.args.presents.now s.args.costs.now s.args.places.now in
     let at = s.args.at in
     let fixed = s.args.fixed in
     let kept = s.args.kept in
@@ -137,14 +137,14 @@ prohibited-long t c =
 pub place-boolean-mul-if1 : (t : ℕ) → place-boolean-lts.Need-offset_bounds-presents-at (place-boolean-calls t) (place-boolean-at t) place-boolean.Post
 place-boolean-mul-if1 t c =
     let s = c in
-    omega (arith, record-within t c.before.before.before.before.before.before.before.before.before, s.well_formed)
+    omega (arith, record-within t c.before.before.before.before.before.before.before.before, s.well_formed)
 
 pub place-boolean-shared-slice-read-if1 : (t : ℕ) → place-boolean-lts.Need-bounds-presents-at (place-boolean-calls t) (place-boolean-at t) place-boolean.Post
-place-boolean-shared-slice-read-if1 t c = record-within t c.before.before.before.before.before.before.before.before.before.before
+place-boolean-shared-slice-read-if1 t c = record-within t c.before.before.before.before.before.before.before.before.before
 
 pub place-boolean-place-nothing-requires : (t : ℕ) → place-boolean-lts.Need-place_nothing-requires (place-boolean-calls t) (place-boolean-at t) place-boolean.Post
 place-boolean-place-nothing-requires t c κs =
-    some-room t c.before.before.before.before.before.before.before.before.before.before.before.before
+    some-room t c.before.before.before.before.before.before.before.before.before.before.before
 
 pub place-boolean-same-length : (t : ℕ) → place-boolean-lts.Need-shape_of-st-then-presents-at-eq0 (place-boolean-calls t) (place-boolean-at t) place-boolean.Post
 place-boolean-same-length t c = c.place_nothing.auto.st
@@ -152,7 +152,7 @@ place-boolean-same-length t c = c.place_nothing.auto.st
 pub place-boolean-returns : (t : ℕ) → place-boolean-lts.Need-returns-then-presents-at-eq0 (place-boolean-calls t) (place-boolean-at t) place-boolean.Post
 place-boolean-returns t c =
     let s = c in
-    let E = records s.args.q.now s.args.max_doc s.args.fields.now s.args.leaves.now s.args.nexts.now s.args.presents.now s.args.costs.now s.args.places.now s.args.counts.now in
+    let E = records s.args.q.now s.args.max_doc s.args.fields.now s.args.leaves.now s.args.nexts.now s.args.presents.now s.args.costs.now s.args.places.now in
     let at = s.args.at in
     let fixed = s.args.fixed in
     let kept = s.args.kept in
@@ -165,12 +165,12 @@ place-boolean-returns t c =
 
 pub place-boolean-value-requires : (t : ℕ) → place-boolean-lts.Need-value-msm-requires (place-boolean-calls t) (place-boolean-at t) place-boolean.Post
 place-boolean-value-requires t c κs =
-    (record-counted t c.before.before.before.before.before.before.before.before.before.before.before, omega arith)
+    (record-counted t c.before.before.before.before.before.before.before.before.before.before, omega arith)
 
 pub place-boolean-has-required-requires : (t : ℕ) → place-boolean-lts.Need-has_required-required-requires (place-boolean-calls t) (place-boolean-at t) place-boolean.Post
 place-boolean-has-required-requires t c κs =
     let s = c in
-    let E = records s.args.q.now s.args.max_doc s.args.fields.now s.args.leaves.now s.args.nexts.now s.args.presents.now s.args.costs.now s.args.places.now s.args.counts.now in
+    let E = records s.args.q.now s.args.max_doc s.args.fields.now s.args.leaves.now s.args.nexts.now s.args.presents.now s.args.costs.now s.args.places.now in
     let at = s.args.at in
     let fixed = s.args.fixed in
     let kept = s.args.kept in
@@ -185,23 +185,23 @@ place-boolean-has-required-requires t c κs =
 
 pub place-boolean-sub-place-required : (t : ℕ) → place-boolean-lts.Need-slice_bounds-place_required-count (place-boolean-calls t) (place-boolean-at t) place-boolean.Post
 place-boolean-sub-place-required t c =
-    some-room t c.before.before.before.before.before.before.before.before.before.before.before.before.before
+    some-room t c.before.before.before.before.before.before.before.before.before.before.before.before
 
 pub place-boolean-part-place-required-start : (t : ℕ) → place-boolean-lts.Need-slice_bounds-place_required-start (place-boolean-calls t) (place-boolean-at t) place-boolean.Post
 place-boolean-part-place-required-start t c =
-    some-room t c.before.before.before.before.before.before.before.before.before.before.before.before.before
+    some-room t c.before.before.before.before.before.before.before.before.before.before.before.before
 
 pub place-boolean-part-place-required-end : (t : ℕ) → place-boolean-lts.Need-slice_bounds-place_required-end (place-boolean-calls t) (place-boolean-at t) place-boolean.Post
 place-boolean-part-place-required-end t c = omega arith
 
 pub place-boolean-sub-place-required-2 : (t : ℕ) → place-boolean-lts.Need-overflow_sub-depth (place-boolean-calls t) (place-boolean-at t) place-boolean.Post
 place-boolean-sub-place-required-2 t c =
-    some-levels t c.before.before.before.before.before.before.before.before.before.before.before.before.before.before
+    some-levels t c.before.before.before.before.before.before.before.before.before.before.before.before.before
 
 pub place-boolean-place-required-requires : (t : ℕ) → place-boolean-lts.Need-place_required-first-requires (place-boolean-calls t) (place-boolean-at t) place-boolean.Post
 place-boolean-place-required-requires t c κs =
     let s = c in
-    let E = records s.args.q.now s.args.max_doc s.args.fields.now s.args.leaves.now s.args.nexts.now s.args.presents.now s.args.costs.now s.args.places.now s.args.counts.now in
+    let E = records s.args.q.now s.args.max_doc s.args.fields.now s.args.leaves.now s.args.nexts.now s.args.presents.now s.args.costs.now s.args.places.now in
     let at = s.args.at in
     let fixed = s.args.fixed in
     let kept = s.args.kept in
@@ -213,7 +213,7 @@ place-boolean-place-required-requires t c κs =
     let pre = s.requires.1.1 in
     let there = c.if-presents-at-eq0.false in
     let part₁ = mid_len nodeStateWords words st₀ (omega arith) in
-    (omega (arith, s.requires.0, some-levels t c.before.before.before.before.before.before.before.before.before.before.before.before.before.before), boolean-required E at fixed kept boost words depth kind there _ part₁ pre)
+    (omega (arith, s.requires.0, some-levels t c.before.before.before.before.before.before.before.before.before.before.before.before.before), boolean-required E at fixed kept boost words depth kind there _ part₁ pre)
 
 pub place-boolean-add-place-others : (t : ℕ) → place-boolean-lts.Need-overflow_add-first (place-boolean-calls t) (place-boolean-at t) place-boolean.Post
 place-boolean-add-place-others t c =
@@ -236,12 +236,12 @@ place-boolean-part-place-others-end t c = omega arith
 
 pub place-boolean-sub-place-others-2 : (t : ℕ) → place-boolean-lts.Need-overflow_sub-depth-2 (place-boolean-calls t) (place-boolean-at t) place-boolean.Post
 place-boolean-sub-place-others-2 t c =
-    some-levels t c.before.before.before.before.before.before.before.before.before.before.before.before.before.before.before.before.before.before.before
+    some-levels t c.before.before.before.before.before.before.before.before.before.before.before.before.before.before.before.before.before.before
 
 pub place-boolean-place-others-requires : (t : ℕ) → place-boolean-lts.Need-place_others-shoulds-requires (place-boolean-calls t) (place-boolean-at t) place-boolean.Post
 place-boolean-place-others-requires t c κs =
     let s = c in
-    let E = records s.args.q.now s.args.max_doc s.args.fields.now s.args.leaves.now s.args.nexts.now s.args.presents.now s.args.costs.now s.args.places.now s.args.counts.now in
+    let E = records s.args.q.now s.args.max_doc s.args.fields.now s.args.leaves.now s.args.nexts.now s.args.presents.now s.args.costs.now s.args.places.now in
     let at = s.args.at in
     let fixed = s.args.fixed in
     let kept = s.args.kept in
@@ -256,7 +256,7 @@ place-boolean-place-others-requires t c κs =
     let a = c.place_required-first in
     let e₁ = a.result.end in
     let part₂ = optional-part t c.before.before.before.before in
-    (omega (arith, s.requires.0, some-levels t c.before.before.before.before.before.before.before.before.before.before.before.before.before.before.before.before.before.before.before), boolean-optional E at fixed kept boost words depth kind there _ part₁ a.result.group_at e₁ a.new.st a.ensures.0 _ part₂ pre)
+    (omega (arith, s.requires.0, some-levels t c.before.before.before.before.before.before.before.before.before.before.before.before.before.before.before.before.before.before), boolean-optional E at fixed kept boost words depth kind there _ part₁ a.result.group_at e₁ a.new.st a.ensures.0 _ part₂ pre)
 
 pub place-boolean-add-optional-end : (t : ℕ) → place-boolean-lts.Need-overflow_add-optional_end (place-boolean-calls t) (place-boolean-at t) place-boolean.Post
 place-boolean-add-optional-end t c =
@@ -283,12 +283,12 @@ place-boolean-part-place-others-end-2 t c = omega arith
 
 pub place-boolean-sub-place-others-4 : (t : ℕ) → place-boolean-lts.Need-overflow_sub-depth-3 (place-boolean-calls t) (place-boolean-at t) place-boolean.Post
 place-boolean-sub-place-others-4 t c =
-    some-levels t c.before.before.before.before.before.before.before.before.before.before.before.before.before.before.before.before.before.before.before.before.before.before.before.before
+    some-levels t c.before.before.before.before.before.before.before.before.before.before.before.before.before.before.before.before.before.before.before.before.before.before.before
 
 pub place-boolean-place-others-requires-2 : (t : ℕ) → place-boolean-lts.Need-place_others-nots-requires (place-boolean-calls t) (place-boolean-at t) place-boolean.Post
 place-boolean-place-others-requires-2 t c κs =
     let s = c in
-    let E = records s.args.q.now s.args.max_doc s.args.fields.now s.args.leaves.now s.args.nexts.now s.args.presents.now s.args.costs.now s.args.places.now s.args.counts.now in
+    let E = records s.args.q.now s.args.max_doc s.args.fields.now s.args.leaves.now s.args.nexts.now s.args.presents.now s.args.costs.now s.args.places.now in
     let at = s.args.at in
     let fixed = s.args.fixed in
     let kept = s.args.kept in
@@ -306,7 +306,7 @@ place-boolean-place-others-requires-2 t c κs =
     let b = c.place_others-shoulds in
     let e₂ = b.result in
     let part₃ = prohibited-part t c.before.before.before.before in
-    (omega (arith, s.requires.0, some-levels t c.before.before.before.before.before.before.before.before.before.before.before.before.before.before.before.before.before.before.before.before.before.before.before.before), boolean-prohibited E at fixed kept boost words depth kind there _ part₁ a.result.group_at e₁ a.new.st a.ensures.0 _ part₂ e₂ b.new.st b.ensures.0 _ part₃ pre)
+    (omega (arith, s.requires.0, some-levels t c.before.before.before.before.before.before.before.before.before.before.before.before.before.before.before.before.before.before.before.before.before.before.before), boolean-prohibited E at fixed kept boost words depth kind there _ part₁ a.result.group_at e₁ a.new.st a.ensures.0 _ part₂ e₂ b.new.st b.ensures.0 _ part₃ pre)
 
 pub place-boolean-add-size : (t : ℕ) → place-boolean-lts.Need-overflow_add-size (place-boolean-calls t) (place-boolean-at t) place-boolean.Post
 place-boolean-add-size t c =
@@ -315,7 +315,7 @@ place-boolean-add-size t c =
 pub place-boolean-add-size-2 : (t : ℕ) → place-boolean-lts.Need-overflow_add-size-2 (place-boolean-calls t) (place-boolean-at t) place-boolean.Post
 place-boolean-add-size-2 t c =
     let s = c in
-    let E = records s.args.q.now s.args.max_doc s.args.fields.now s.args.leaves.now s.args.nexts.now s.args.presents.now s.args.costs.now s.args.places.now s.args.counts.now in
+    let E = records s.args.q.now s.args.max_doc s.args.fields.now s.args.leaves.now s.args.nexts.now s.args.presents.now s.args.costs.now s.args.places.now in
     let at = s.args.at in
     let fixed = s.args.fixed in
     let kept = s.args.kept in
@@ -346,7 +346,7 @@ place-boolean-joins-afterwards-requires t c κs = tt
 pub place-boolean-put-boolean-requires : (t : ℕ) → place-boolean-lts.Need-put_boolean-requires (place-boolean-calls t) (place-boolean-at t) place-boolean.Post
 place-boolean-put-boolean-requires t c κs =
     let s = c in
-    let E = records s.args.q.now s.args.max_doc s.args.fields.now s.args.leaves.now s.args.nexts.now s.args.presents.now s.args.costs.now s.args.places.now s.args.counts.now in
+    let E = records s.args.q.now s.args.max_doc s.args.fields.now s.args.leaves.now s.args.nexts.now s.args.presents.now s.args.costs.now s.args.places.now in
     let at = s.args.at in
     let fixed = s.args.fixed in
     let kept = s.args.kept in
@@ -368,7 +368,7 @@ place-boolean-put-boolean-requires t c κs =
     let e₃ = d.result in
     let small = whole-small E at fixed kept boost words depth kind there _ part₁ a.result.group_at e₁ a.new.st a.ensures.0 _ part₂ e₂ b.new.st b.ensures.0 _ part₃ e₃ d.new.st d.ensures.0 pre in
     let group = group-within E at fixed kept boost words depth kind there _ part₁ a.result.group_at e₁ a.new.st a.ensures.0 _ part₂ e₂ b.new.st b.ensures.0 _ part₃ e₃ d.new.st d.ensures.0 pre in
-    (omega (arith, some-room t c.before.before.before.before.before.before.before.before.before.before.before.before.before.before.before.before.before.before.before.before.before.before.before.before.before.before.before.before.before.before, prohibited-long t c.before.before.before.before.before), omega (arith, small), omega arith, omega arith, omega (arith, group), tree-kept E at fixed kept boost words depth pre)
+    (omega (arith, some-room t c.before.before.before.before.before.before.before.before.before.before.before.before.before.before.before.before.before.before.before.before.before.before.before.before.before.before.before.before.before, prohibited-long t c.before.before.before.before.before), omega (arith, small), omega arith, omega arith, omega (arith, group), tree-kept E at fixed kept boost words depth pre)
 
 pub place-boolean-same-length-2 : (t : ℕ) → place-boolean-lts.Need-shape_of-st (place-boolean-calls t) (place-boolean-at t) place-boolean.Post
 place-boolean-same-length-2 t c =
@@ -377,7 +377,7 @@ place-boolean-same-length-2 t c =
 pub place-boolean-returns-2 : (t : ℕ) → place-boolean-lts.Need-returns (place-boolean-calls t) (place-boolean-at t) place-boolean.Post
 place-boolean-returns-2 t c =
     let s = c in
-    let E = records s.args.q.now s.args.max_doc s.args.fields.now s.args.leaves.now s.args.nexts.now s.args.presents.now s.args.costs.now s.args.places.now s.args.counts.now in
+    let E = records s.args.q.now s.args.max_doc s.args.fields.now s.args.leaves.now s.args.nexts.now s.args.presents.now s.args.costs.now s.args.places.now in
     let at = s.args.at in
     let fixed = s.args.fixed in
     let kept = s.args.kept in
@@ -399,4 +399,4 @@ place-boolean-returns-2 t c =
     let part₃ = prohibited-part t c.before.before.before.before.before.before.before.before.before.before.before.before.before in
     let d = c.place_others-nots in
     let e₃ = d.result in
-    (whole-placed E at fixed kept boost words depth kind there _ part₁ a.result.group_at e₁ a.new.st a.ensures.0 _ part₂ e₂ b.new.st b.ensures.0 _ part₃ e₃ d.new.st d.ensures.0 st₀ (post_of nodeStateWords (words - nodeStateWords) st₀) (post_of (nodeStateWords + e₁) (length st₁ - (nodeStateWords + e₁)) st₁) (post_of (nodeStateWords + (e₁ + e₂)) (length st₂ - (nodeStateWords + (e₁ + e₂))) st₂) c.put_boolean.new.st s.args.scores c.shoulds_needed-need.result c.value-msm.result c.has_required-required.result c.joins_afterwards.result refl pre (subst T (sym s.well_formed.1.1.1.1.1.1.1.1.1.1.1.1.0.1) tt) c.value-msm.ensures (c.has_required-required.ensures s.args.presents.now s.args.costs.now) c.shoulds_needed-need.ensures c.joins_afterwards.ensures c.put_boolean.ensures, c.put_boolean.auto.st ∙ prohibited-long t c.before.before.before.before.before.before.before.before)
+    (whole-placed E at fixed kept boost words depth kind there _ part₁ a.result.group_at e₁ a.new.st a.ensures.0 _ part₂ e₂ b.new.st b.ensures.0 _ part₃ e₃ d.new.st d.ensures.0 st₀ (post_of nodeStateWords (words - nodeStateWords) st₀) (post_of (nodeStateWords + e₁) (length st₁ - (nodeStateWords + e₁)) st₁) (post_of (nodeStateWords + (e₁ + e₂)) (length st₂ - (nodeStateWords + (e₁ + e₂))) st₂) c.put_boolean.new.st s.args.scores c.shoulds_needed-need.result c.value-msm.result c.has_required-required.result c.joins_afterwards.result refl pre (subst T (sym s.well_formed.1.1.1.1.1.1.1.1.1.1.1.0.1) tt) c.value-msm.ensures (c.has_required-required.ensures s.args.presents.now s.args.costs.now) c.shoulds_needed-need.ensures c.joins_afterwards.ensures c.put_boolean.ensures, c.put_boolean.auto.st ∙ prohibited-long t c.before.before.before.before.before.before.before.before)

@@ -38,73 +38,73 @@ use Rattle.query.proofs.occurrence.Reads as occurrence-reads
 use Rattle.query.proofs.value.Reads as value-reads
 use Rattle.measure.proofs.shoulds_needed.Reads as shoulds-needed-reads
 
-abbrev pub μ-place : Measures 9 place-kinds.ps ℕ
-μ-place κs a = a.1.1.1.1.1.1.1.1.1.1.1.1.1.1.1.0 * 4 + 1
+abbrev pub μ-place : Measures 8 place-kinds.ps ℕ
+μ-place κs a = a.1.1.1.1.1.1.1.1.1.1.1.1.1.1.0 * 4 + 1
 
-abbrev pub μ-place-boolean : Measures 9 place-boolean-kinds.ps ℕ
-μ-place-boolean κs a = a.1.1.1.1.1.1.1.1.1.1.1.1.1.1.1.0 * 4
+abbrev pub μ-place-boolean : Measures 8 place-boolean-kinds.ps ℕ
+μ-place-boolean κs a = a.1.1.1.1.1.1.1.1.1.1.1.1.1.1.0 * 4
 
-abbrev pub μ-place-list : Measures 10 place-list-kinds.ps ℕ
-μ-place-list κs a = a.1.1.1.1.1.1.1.1.1.1.1.1.0 * 4 + 2
+abbrev pub μ-place-list : Measures 9 place-list-kinds.ps ℕ
+μ-place-list κs a = a.1.1.1.1.1.1.1.1.1.1.1.0 * 4 + 2
 
-abbrev pub μ-place-others : Measures 9 place-others-kinds.ps ℕ
-μ-place-others κs a = a.1.1.1.1.1.1.1.1.1.1.1.1.1.0 * 4 + 3
+abbrev pub μ-place-others : Measures 8 place-others-kinds.ps ℕ
+μ-place-others κs a = a.1.1.1.1.1.1.1.1.1.1.1.1.0 * 4 + 3
 
-abbrev pub μ-place-required : Measures 9 place-required-kinds.ps ℕ
-μ-place-required κs a = a.1.1.1.1.1.1.1.1.1.1.1.1.0 * 4 + 3
+abbrev pub μ-place-required : Measures 8 place-required-kinds.ps ℕ
+μ-place-required κs a = a.1.1.1.1.1.1.1.1.1.1.1.0 * 4 + 3
 
-abbrev pub place_at : ℕ → In 9 place-kinds.ps
-place_at t = and 9 place-kinds.ps (is 9 place-kinds.ps μ-place t) place.Pre
+abbrev pub place_at : ℕ → In 8 place-kinds.ps
+place_at t = and 8 place-kinds.ps (is 8 place-kinds.ps μ-place t) place.Pre
 
-abbrev pub place-below : ℕ → In 9 place-kinds.ps
-place-below t = and 9 place-kinds.ps (falls 9 place-kinds.ps ◌<◌ μ-place t) place.Pre
+abbrev pub place-below : ℕ → In 8 place-kinds.ps
+place-below t = and 8 place-kinds.ps (falls 8 place-kinds.ps ◌<◌ μ-place t) place.Pre
 
-abbrev pub place-boolean-at : ℕ → In 9 place-boolean-kinds.ps
+abbrev pub place-boolean-at : ℕ → In 8 place-boolean-kinds.ps
 place-boolean-at t =
-    and 9 place-boolean-kinds.ps (is 9 place-boolean-kinds.ps μ-place-boolean t) place-boolean.Pre
+    and 8 place-boolean-kinds.ps (is 8 place-boolean-kinds.ps μ-place-boolean t) place-boolean.Pre
 
-abbrev pub place-boolean-below : ℕ → In 9 place-boolean-kinds.ps
+abbrev pub place-boolean-below : ℕ → In 8 place-boolean-kinds.ps
 place-boolean-below t =
     and
-    9
+    8
     place-boolean-kinds.ps
-    (falls 9 place-boolean-kinds.ps ◌<◌ μ-place-boolean t)
+    (falls 8 place-boolean-kinds.ps ◌<◌ μ-place-boolean t)
     place-boolean.Pre
 
-abbrev pub place-list-at : ℕ → In 10 place-list-kinds.ps
+abbrev pub place-list-at : ℕ → In 9 place-list-kinds.ps
 place-list-at t =
-    and 10 place-list-kinds.ps (is 10 place-list-kinds.ps μ-place-list t) place-list.Pre
+    and 9 place-list-kinds.ps (is 9 place-list-kinds.ps μ-place-list t) place-list.Pre
 
-abbrev pub place-list-below : ℕ → In 10 place-list-kinds.ps
+abbrev pub place-list-below : ℕ → In 9 place-list-kinds.ps
 place-list-below t =
-    and 10 place-list-kinds.ps (falls 10 place-list-kinds.ps ◌<◌ μ-place-list t) place-list.Pre
+    and 9 place-list-kinds.ps (falls 9 place-list-kinds.ps ◌<◌ μ-place-list t) place-list.Pre
 
-abbrev pub place-others-at : ℕ → In 9 place-others-kinds.ps
+abbrev pub place-others-at : ℕ → In 8 place-others-kinds.ps
 place-others-at t =
-    and 9 place-others-kinds.ps (is 9 place-others-kinds.ps μ-place-others t) place-others.Pre
+    and 8 place-others-kinds.ps (is 8 place-others-kinds.ps μ-place-others t) place-others.Pre
 
-abbrev pub place-others-below : ℕ → In 9 place-others-kinds.ps
+abbrev pub place-others-below : ℕ → In 8 place-others-kinds.ps
 place-others-below t =
     and
-    9
+    8
     place-others-kinds.ps
-    (falls 9 place-others-kinds.ps ◌<◌ μ-place-others t)
+    (falls 8 place-others-kinds.ps ◌<◌ μ-place-others t)
     place-others.Pre
 
-abbrev pub place-required-at : ℕ → In 9 place-required-kinds.ps
+abbrev pub place-required-at : ℕ → In 8 place-required-kinds.ps
 place-required-at t =
     and
-    9
+    8
     place-required-kinds.ps
-    (is 9 place-required-kinds.ps μ-place-required t)
+    (is 8 place-required-kinds.ps μ-place-required t)
     place-required.Pre
 
-abbrev pub place-required-below : ℕ → In 9 place-required-kinds.ps
+abbrev pub place-required-below : ℕ → In 8 place-required-kinds.ps
 place-required-below t =
     and
-    9
+    8
     place-required-kinds.ps
-    (falls 9 place-required-kinds.ps ◌<◌ μ-place-required t)
+    (falls 8 place-required-kinds.ps ◌<◌ μ-place-required t)
     place-required.Pre
 
 abbrev pub place-calls : ℕ → place-lts.Claims
@@ -123,9 +123,9 @@ abbrev pub place-required-calls : ℕ → place-required-lts.Claims
 place-required-calls t = (group-cost-reads.Asked, group-cost-reads.Learnt, required-clauses-reads.Asked, required-clauses-reads.Learnt, no-dearer-reads.Asked, no-dearer-reads.Learnt, place-list-below t, place-list.Post)
 
 abbrev pub place-list-Inv-loop : place-list-lts.invariant-loop-i
-place-list-Inv-loop st₀ q max-doc fields leaves nexts presents costs places counts list boost depth used₀ i₀ st used i =
-    (length st ≡ length st₀) × ListAt (records q max-doc fields leaves nexts presents costs places counts) list boost (length st₀) depth i used st
+place-list-Inv-loop st₀ q max-doc fields leaves nexts presents costs places list boost depth used₀ i₀ st used i =
+    (length st ≡ length st₀) × ListAt (records q max-doc fields leaves nexts presents costs places) list boost (length st₀) depth i used st
 
 abbrev pub place-list-μ-loop : place-list-lts.decreases-loop-i
-place-list-μ-loop st₀ q max-doc fields leaves nexts presents costs places counts list boost depth used₀ i₀ st used i =
+place-list-μ-loop st₀ q max-doc fields leaves nexts presents costs places list boost depth used₀ i₀ st used i =
     length list - i

@@ -14,7 +14,7 @@ use Rattle.build.proofs.tree.+place_place_boolean_place_list_place_others_place_
 pub place-list-loop-holds : (t : ℕ) → place-list-lts.Need-loop-i-init (place-list-calls t) (place-list-at t) place-list.Post place-list-Inv-loop place-list-μ-loop
 place-list-loop-holds t c =
     let s = c in
-    let E = records s.args.q.now s.args.max_doc s.args.fields.now s.args.leaves.now s.args.nexts.now s.args.presents.now s.args.costs.now s.args.places.now s.args.counts.now in
+    let E = records s.args.q.now s.args.max_doc s.args.fields.now s.args.leaves.now s.args.nexts.now s.args.presents.now s.args.costs.now s.args.places.now in
     (refl, list-starts E s.args.list.now s.args.boost (length s.args.st.now) s.args.depth s.args.st.now)
 
 pub place-list-mul-at : (t : ℕ) → place-list-lts.Need-offset_bounds-list-i (place-list-calls t) (place-list-at t) place-list.Post place-list-Inv-loop place-list-μ-loop
@@ -26,7 +26,7 @@ place-list-shared-slice-read-at t c = search rules
 pub place-list-occurrence-requires : (t : ℕ) → place-list-lts.Need-occurrence-occurrence-requires (place-list-calls t) (place-list-at t) place-list.Post place-list-Inv-loop place-list-μ-loop
 place-list-occurrence-requires t c κs =
     let s = c in
-    let E = records s.args.q.now s.args.max_doc s.args.fields.now s.args.leaves.now s.args.nexts.now s.args.presents.now s.args.costs.now s.args.places.now s.args.counts.now in
+    let E = records s.args.q.now s.args.max_doc s.args.fields.now s.args.leaves.now s.args.nexts.now s.args.presents.now s.args.costs.now s.args.places.now in
     let l = c.loop-i in
     let st₀ = s.args.st.now in
     let list = s.args.list.now in
@@ -37,7 +37,7 @@ place-list-occurrence-requires t c κs =
 pub place-list-mul-place : (t : ℕ) → place-list-lts.Need-offset_bounds-st-used (place-list-calls t) (place-list-at t) place-list.Post place-list-Inv-loop place-list-μ-loop
 place-list-mul-place t c =
     let s = c in
-    let E = records s.args.q.now s.args.max_doc s.args.fields.now s.args.leaves.now s.args.nexts.now s.args.presents.now s.args.costs.now s.args.places.now s.args.counts.now in
+    let E = records s.args.q.now s.args.max_doc s.args.fields.now s.args.leaves.now s.args.nexts.now s.args.presents.now s.args.costs.now s.args.places.now in
     let l = c.loop-i in
     let st₀ = s.args.st.now in
     let list = s.args.list.now in
@@ -48,7 +48,7 @@ place-list-mul-place t c =
 pub place-list-sub-place : (t : ℕ) → place-list-lts.Need-slice_bounds-place-count (place-list-calls t) (place-list-at t) place-list.Post place-list-Inv-loop place-list-μ-loop
 place-list-sub-place t c =
     let s = c in
-    let E = records s.args.q.now s.args.max_doc s.args.fields.now s.args.leaves.now s.args.nexts.now s.args.presents.now s.args.costs.now s.args.places.now s.args.counts.now in
+    let E = records s.args.q.now s.args.max_doc s.args.fields.now s.args.leaves.now s.args.nexts.now s.args.presents.now s.args.costs.now s.args.places.now in
     let l = c.loop-i in
     let st₀ = s.args.st.now in
     let list = s.args.list.now in
@@ -59,7 +59,7 @@ place-list-sub-place t c =
 pub place-list-part-place-start : (t : ℕ) → place-list-lts.Need-slice_bounds-place-start (place-list-calls t) (place-list-at t) place-list.Post place-list-Inv-loop place-list-μ-loop
 place-list-part-place-start t c =
     let s = c in
-    let E = records s.args.q.now s.args.max_doc s.args.fields.now s.args.leaves.now s.args.nexts.now s.args.presents.now s.args.costs.now s.args.places.now s.args.counts.now in
+    let E = records s.args.q.now s.args.max_doc s.args.fields.now s.args.leaves.now s.args.nexts.now s.args.presents.now s.args.costs.now s.args.places.now in
     let l = c.loop-i in
     let st₀ = s.args.st.now in
     let list = s.args.list.now in
@@ -79,7 +79,7 @@ place-list-word-requires t c κs = tt
 pub place-list-place-requires : (t : ℕ) → place-list-lts.Need-place-used-requires (place-list-calls t) (place-list-at t) place-list.Post place-list-Inv-loop place-list-μ-loop
 place-list-place-requires t c κs =
     let s = c in
-    let E = records s.args.q.now s.args.max_doc s.args.fields.now s.args.leaves.now s.args.nexts.now s.args.presents.now s.args.costs.now s.args.places.now s.args.counts.now in
+    let E = records s.args.q.now s.args.max_doc s.args.fields.now s.args.leaves.now s.args.nexts.now s.args.presents.now s.args.costs.now s.args.places.now in
     let l = c.loop-i in
     let st₀ = s.args.st.now in
     let list = s.args.list.now in
@@ -90,7 +90,7 @@ place-list-place-requires t c κs =
 pub place-list-add-used : (t : ℕ) → place-list-lts.Need-overflow_add-used (place-list-calls t) (place-list-at t) place-list.Post place-list-Inv-loop place-list-μ-loop
 place-list-add-used t c =
     let s = c in
-    let E = records s.args.q.now s.args.max_doc s.args.fields.now s.args.leaves.now s.args.nexts.now s.args.presents.now s.args.costs.now s.args.places.now s.args.counts.now in
+    let E = records s.args.q.now s.args.max_doc s.args.fields.now s.args.leaves.now s.args.nexts.now s.args.presents.now s.args.costs.now s.args.places.now in
     let l = c.loop-i in
     let st₀ = s.args.st.now in
     let list = s.args.list.now in
@@ -108,7 +108,7 @@ place-list-loop-less t c = search rules
 pub place-list-loop-again : (t : ℕ) → place-list-lts.Need-loop-i-preserved (place-list-calls t) (place-list-at t) place-list.Post place-list-Inv-loop place-list-μ-loop
 place-list-loop-again t c =
     let s = c in
-    let E = records s.args.q.now s.args.max_doc s.args.fields.now s.args.leaves.now s.args.nexts.now s.args.presents.now s.args.costs.now s.args.places.now s.args.counts.now in
+    let E = records s.args.q.now s.args.max_doc s.args.fields.now s.args.leaves.now s.args.nexts.now s.args.presents.now s.args.costs.now s.args.places.now in
     let l = c.loop-i in
     let st₀ = s.args.st.now in
     let list = s.args.list.now in
@@ -122,7 +122,7 @@ place-list-same-length t c = c.loop-i.invariant.0
 pub place-list-returns : (t : ℕ) → place-list-lts.Need-returns (place-list-calls t) (place-list-at t) place-list.Post place-list-Inv-loop place-list-μ-loop
 place-list-returns t c =
     let s = c in
-    let E = records s.args.q.now s.args.max_doc s.args.fields.now s.args.leaves.now s.args.nexts.now s.args.presents.now s.args.costs.now s.args.places.now s.args.counts.now in
+    let E = records s.args.q.now s.args.max_doc s.args.fields.now s.args.leaves.now s.args.nexts.now s.args.presents.now s.args.costs.now s.args.places.now in
     let l = c.loop-i in
     let st₀ = s.args.st.now in
     let list = s.args.list.now in

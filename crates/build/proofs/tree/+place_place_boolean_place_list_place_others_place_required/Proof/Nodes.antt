@@ -15,7 +15,7 @@ use Rattle.build.proofs.tree.+place_place_boolean_place_list_place_others_place_
 some-levels : (t : ℕ) (c : place-lts.Start (place-calls t) (place_at t) place.Post) → 1 ≤ c.args.depth
 some-levels t c =
     let s = c in
-    let E = records s.args.q.now s.args.max_doc s.args.fields.now s.args.leaves.now s.args.nexts.now s.args.presents.now s.args.costs.now s.args.places.now s.args.counts.now in
+    let E = records s.args.q.now s.args.max_doc s.args.fields.now s.args.leaves.now s.args.nexts.now s.args.presents.now s.args.costs.now s.args.places.now in
     let at = s.args.at in
     let fixed = s.args.fixed in
     let kept = s.args.kept in
@@ -28,7 +28,7 @@ some-levels t c =
 record-within : (t : ℕ) (c : place-lts.Start (place-calls t) (place_at t) place.Post) → c.args.at < length c.args.presents.now
 record-within t c =
     let s = c in
-    let E = records s.args.q.now s.args.max_doc s.args.fields.now s.args.leaves.now s.args.nexts.now s.args.presents.now s.args.costs.now s.args.places.now s.args.counts.now in
+    let E = records s.args.q.now s.args.max_doc s.args.fields.now s.args.leaves.now s.args.nexts.now s.args.presents.now s.args.costs.now s.args.places.now in
     let at = s.args.at in
     let fixed = s.args.fixed in
     let kept = s.args.kept in
@@ -41,7 +41,7 @@ record-within t c =
 record-counted : (t : ℕ) (c : place-lts.Start (place-calls t) (place_at t) place.Post) → c.args.at < recordCount c.args.q.now
 record-counted t c =
     let s = c in
-    let E = records s.args.q.now s.args.max_doc s.args.fields.now s.args.leaves.now s.args.nexts.now s.args.presents.now s.args.costs.now s.args.places.now s.args.counts.now in
+    let E = records s.args.q.now s.args.max_doc s.args.fields.now s.args.leaves.now s.args.nexts.now s.args.presents.now s.args.costs.now s.args.places.now in
     let at = s.args.at in
     let fixed = s.args.fixed in
     let kept = s.args.kept in
@@ -52,7 +52,7 @@ record-counted t c =
     tree-here E at fixed kept boost words depth pre
 
 pub place-kind-requires : (t : ℕ) → place-lts.Need-kind-requires (place-calls t) (place_at t) place.Post
-place-kind-requires t c κs = record-counted t c.before.before.before.before.before.before.before.before.before
+place-kind-requires t c κs = record-counted t c.before.before.before.before.before.before.before.before
 
 pub place-place-boolean-requires : (t : ℕ) → place-lts.Need-place_boolean-requires (place-calls t) (place_at t) place.Post
 place-place-boolean-requires t c κs =
@@ -63,19 +63,19 @@ place-place-boolean-requires t c κs =
 pub place-add-place : (t : ℕ) → place-lts.Need-overflow_add-at (place-calls t) (place_at t) place.Post
 place-add-place t c =
     let s = c in
-    omega (arith, record-within t c.before.before.before.before.before.before.before.before.before.before.before.before, s.well_formed)
+    omega (arith, record-within t c.before.before.before.before.before.before.before.before.before.before.before, s.well_formed)
 
 pub place-kept-or-requires : (t : ℕ) → place-lts.Need-kept_or-requires (place-calls t) (place_at t) place.Post
 place-kept-or-requires t c κs = tt
 
 pub place-sub-place : (t : ℕ) → place-lts.Need-overflow_sub-depth (place-calls t) (place_at t) place.Post
 place-sub-place t c =
-    some-levels t c.before.before.before.before.before.before.before.before.before.before.before.before.before
+    some-levels t c.before.before.before.before.before.before.before.before.before.before.before.before
 
 pub place-place-requires : (t : ℕ) → place-lts.Need-place-requires (place-calls t) (place_at t) place.Post
 place-place-requires t c κs =
     let s = c in
-    let E = records s.args.q.now s.args.max_doc s.args.fields.now s.args.leaves.now s.args.nexts.now s.args.presents.now s.args.costs.now s.args.places.now s.args.counts.now in
+    let E = records s.args.q.now s.args.max_doc s.args.fields.now s.args.leaves.now s.args.nexts.now s.args.presents.now s.args.costs.now s.args.places.now in
     let at = s.args.at in
     let fixed = s.args.fixed in
     let kept = s.args.kept in
@@ -84,21 +84,21 @@ place-place-requires t c κs =
     let depth = s.args.depth in
     let pre = s.requires.1 in
     let kind = sym c.kind.ensures ∙ c.in-6.is in
-    (omega (arith, s.requires.0, some-levels t c.before.before.before.before.before.before.before.before.before.before.before.before.before), constant-asked E at fixed kept boost words depth kind c.kept_or.result c.kept_or.ensures pre)
+    (omega (arith, s.requires.0, some-levels t c.before.before.before.before.before.before.before.before.before.before.before.before), constant-asked E at fixed kept boost words depth kind c.kept_or.result c.kept_or.ensures pre)
 
 pub place-add-place-2 : (t : ℕ) → place-lts.Need-overflow_add-at-in-7 (place-calls t) (place_at t) place.Post
 place-add-place-2 t c =
     let s = c in
-    omega (arith, record-within t c.before.before.before.before.before.before.before.before.before.before.before.before, s.well_formed)
+    omega (arith, record-within t c.before.before.before.before.before.before.before.before.before.before.before, s.well_formed)
 
 pub place-value-requires : (t : ℕ) → place-lts.Need-value-requires (place-calls t) (place_at t) place.Post
 place-value-requires t c κs =
-    (record-counted t c.before.before.before.before.before.before.before.before.before.before.before.before, omega arith)
+    (record-counted t c.before.before.before.before.before.before.before.before.before.before.before, omega arith)
 
 pub place-float-from-bits-place : (t : ℕ) → place-lts.Need-float_from_bits-value (place-calls t) (place_at t) place.Post
 place-float-from-bits-place t c =
     let s = c in
-    let E = records s.args.q.now s.args.max_doc s.args.fields.now s.args.leaves.now s.args.nexts.now s.args.presents.now s.args.costs.now s.args.places.now s.args.counts.now in
+    let E = records s.args.q.now s.args.max_doc s.args.fields.now s.args.leaves.now s.args.nexts.now s.args.presents.now s.args.costs.now s.args.places.now in
     let at = s.args.at in
     let fixed = s.args.fixed in
     let kept = s.args.kept in
@@ -111,12 +111,12 @@ place-float-from-bits-place t c =
 
 pub place-sub-place-2 : (t : ℕ) → place-lts.Need-overflow_sub-depth-in-7 (place-calls t) (place_at t) place.Post
 place-sub-place-2 t c =
-    some-levels t c.before.before.before.before.before.before.before.before.before.before.before.before.before
+    some-levels t c.before.before.before.before.before.before.before.before.before.before.before.before
 
 pub place-place-requires-2 : (t : ℕ) → place-lts.Need-place-requires-in-7 (place-calls t) (place_at t) place.Post
 place-place-requires-2 t c κs =
     let s = c in
-    let E = records s.args.q.now s.args.max_doc s.args.fields.now s.args.leaves.now s.args.nexts.now s.args.presents.now s.args.costs.now s.args.places.now s.args.counts.now in
+    let E = records s.args.q.now s.args.max_doc s.args.fields.now s.args.leaves.now s.args.nexts.now s.args.presents.now s.args.costs.now s.args.places.now in
     let at = s.args.at in
     let fixed = s.args.fixed in
     let kept = s.args.kept in
@@ -125,7 +125,7 @@ place-place-requires-2 t c κs =
     let depth = s.args.depth in
     let pre = s.requires.1 in
     let kind = sym c.kind.ensures ∙ c.in-7.is in
-    (omega (arith, s.requires.0, some-levels t c.before.before.before.before.before.before.before.before.before.before.before.before.before), boost-asked E at fixed kept boost words depth kind c.value.result c.value.ensures pre)
+    (omega (arith, s.requires.0, some-levels t c.before.before.before.before.before.before.before.before.before.before.before.before), boost-asked E at fixed kept boost words depth kind c.value.result c.value.ensures pre)
 
 pub place-place-leaf-requires : (t : ℕ) → place-lts.Need-place_leaf-requires (place-calls t) (place_at t) place.Post
 place-place-leaf-requires t c κs =
@@ -147,7 +147,7 @@ place-same-length-2 t c = c.place.auto.st
 pub place-returns-2 : (t : ℕ) → place-lts.Need-returns-in-6 (place-calls t) (place_at t) place.Post
 place-returns-2 t c =
     let s = c in
-    let E = records s.args.q.now s.args.max_doc s.args.fields.now s.args.leaves.now s.args.nexts.now s.args.presents.now s.args.costs.now s.args.places.now s.args.counts.now in
+    let E = records s.args.q.now s.args.max_doc s.args.fields.now s.args.leaves.now s.args.nexts.now s.args.presents.now s.args.costs.now s.args.places.now in
     let at = s.args.at in
     let fixed = s.args.fixed in
     let kept = s.args.kept in
@@ -163,7 +163,7 @@ place-same-length-3 t c = c.place-in-7.auto.st
 pub place-returns-3 : (t : ℕ) → place-lts.Need-returns-in-7 (place-calls t) (place_at t) place.Post
 place-returns-3 t c =
     let s = c in
-    let E = records s.args.q.now s.args.max_doc s.args.fields.now s.args.leaves.now s.args.nexts.now s.args.presents.now s.args.costs.now s.args.places.now s.args.counts.now in
+    let E = records s.args.q.now s.args.max_doc s.args.fields.now s.args.leaves.now s.args.nexts.now s.args.presents.now s.args.costs.now s.args.places.now in
     let at = s.args.at in
     let fixed = s.args.fixed in
     let kept = s.args.kept in

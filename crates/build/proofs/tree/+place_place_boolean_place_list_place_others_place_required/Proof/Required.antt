@@ -19,7 +19,7 @@ place-others-slice-aggregate-clauses-of t c = refl
 pub place-others-clauses-of-requires : (t : ℕ) → place-others-lts.Need-clauses_of-count-requires (place-others-calls t) (place-others-at t) place-others.Post
 place-others-clauses-of-requires t c κs =
     let s = c in
-    let E = records s.args.q.now s.args.max_doc s.args.fields.now s.args.leaves.now s.args.nexts.now s.args.presents.now s.args.costs.now s.args.places.now s.args.counts.now in
+    let E = records s.args.q.now s.args.max_doc s.args.fields.now s.args.leaves.now s.args.nexts.now s.args.presents.now s.args.costs.now s.args.places.now in
     let at = s.args.at in
     let boost = s.args.boost in
     let words = length s.args.st.now in
@@ -42,7 +42,7 @@ place-others-slice-aggregate-place-list t c =
 pub place-others-place-list-requires : (t : ℕ) → place-others-lts.Need-place_list-requires (place-others-calls t) (place-others-at t) place-others.Post
 place-others-place-list-requires t c κs =
     let s = c in
-    let E = records s.args.q.now s.args.max_doc s.args.fields.now s.args.leaves.now s.args.nexts.now s.args.presents.now s.args.costs.now s.args.places.now s.args.counts.now in
+    let E = records s.args.q.now s.args.max_doc s.args.fields.now s.args.leaves.now s.args.nexts.now s.args.presents.now s.args.costs.now s.args.places.now in
     let at = s.args.at in
     let boost = s.args.boost in
     let words = length s.args.st.now in
@@ -59,7 +59,7 @@ place-others-same-length t c = c.place_list.auto.st
 pub place-others-returns : (t : ℕ) → place-others-lts.Need-returns (place-others-calls t) (place-others-at t) place-others.Post
 place-others-returns t c =
     let s = c in
-    let E = records s.args.q.now s.args.max_doc s.args.fields.now s.args.leaves.now s.args.nexts.now s.args.presents.now s.args.costs.now s.args.places.now s.args.counts.now in
+    let E = records s.args.q.now s.args.max_doc s.args.fields.now s.args.leaves.now s.args.nexts.now s.args.presents.now s.args.costs.now s.args.places.now in
     let at = s.args.at in
     let boost = s.args.boost in
     let words = length s.args.st.now in
@@ -82,7 +82,7 @@ no-dearer-few t c =
 first-within : (t : ℕ) (c : place-required-lts.After-place_list-group_at (place-required-calls t) (place-required-at t) place-required.Post) → c.place_list-group_at.result ≤ length c.place_list-group_at.new.st
 first-within t c =
     let s = c in
-    let E = records s.args.q.now s.args.max_doc s.args.fields.now s.args.leaves.now s.args.nexts.now s.args.presents.now s.args.costs.now s.args.places.now s.args.counts.now in
+    let E = records s.args.q.now s.args.max_doc s.args.fields.now s.args.leaves.now s.args.nexts.now s.args.presents.now s.args.costs.now s.args.places.now in
     let at = s.args.at in
     let boost = s.args.boost in
     let words = length s.args.st.now in
@@ -99,7 +99,7 @@ first-within t c =
 pub place-required-group-cost-requires : (t : ℕ) → place-required-lts.Need-group_cost-group-requires (place-required-calls t) (place-required-at t) place-required.Post
 place-required-group-cost-requires t c κs =
     let s = c in
-    let E = records s.args.q.now s.args.max_doc s.args.fields.now s.args.leaves.now s.args.nexts.now s.args.presents.now s.args.costs.now s.args.places.now s.args.counts.now in
+    let E = records s.args.q.now s.args.max_doc s.args.fields.now s.args.leaves.now s.args.nexts.now s.args.presents.now s.args.costs.now s.args.places.now in
     let at = s.args.at in
     let boost = s.args.boost in
     let words = length s.args.st.now in
@@ -112,7 +112,7 @@ place-required-slice-aggregate-required-clauses t c = refl
 pub place-required-required-clauses-requires : (t : ℕ) → place-required-lts.Need-required_clauses-count-requires (place-required-calls t) (place-required-at t) place-required.Post
 place-required-required-clauses-requires t c κs =
     let s = c in
-    let E = records s.args.q.now s.args.max_doc s.args.fields.now s.args.leaves.now s.args.nexts.now s.args.presents.now s.args.costs.now s.args.places.now s.args.counts.now in
+    let E = records s.args.q.now s.args.max_doc s.args.fields.now s.args.leaves.now s.args.nexts.now s.args.presents.now s.args.costs.now s.args.places.now in
     let at = s.args.at in
     let boost = s.args.boost in
     let words = length s.args.st.now in
@@ -129,7 +129,7 @@ place-required-slice-aggregate-no-dearer t c =
 pub place-required-no-dearer-requires : (t : ℕ) → place-required-lts.Need-no_dearer-before-requires (place-required-calls t) (place-required-at t) place-required.Post
 place-required-no-dearer-requires t c κs =
     let s = c in
-    let E = records s.args.q.now s.args.max_doc s.args.fields.now s.args.leaves.now s.args.nexts.now s.args.presents.now s.args.costs.now s.args.places.now s.args.counts.now in
+    let E = records s.args.q.now s.args.max_doc s.args.fields.now s.args.leaves.now s.args.nexts.now s.args.presents.now s.args.costs.now s.args.places.now in
     let at = s.args.at in
     let boost = s.args.boost in
     let words = length s.args.st.now in
@@ -149,7 +149,7 @@ place-required-slice-aggregate-place-list t c =
 pub place-required-place-list-requires : (t : ℕ) → place-required-lts.Need-place_list-group_at-requires (place-required-calls t) (place-required-at t) place-required.Post
 place-required-place-list-requires t c κs =
     let s = c in
-    let E = records s.args.q.now s.args.max_doc s.args.fields.now s.args.leaves.now s.args.nexts.now s.args.presents.now s.args.costs.now s.args.places.now s.args.counts.now in
+    let E = records s.args.q.now s.args.max_doc s.args.fields.now s.args.leaves.now s.args.nexts.now s.args.presents.now s.args.costs.now s.args.places.now in
     let at = s.args.at in
     let boost = s.args.boost in
     let words = length s.args.st.now in
@@ -191,7 +191,7 @@ place-required-part-place-list-end-2 t c = listed-enough t c.before.before.befor
 pub place-required-place-list-requires-2 : (t : ℕ) → place-required-lts.Need-place_list-rest-requires (place-required-calls t) (place-required-at t) place-required.Post
 place-required-place-list-requires-2 t c κs =
     let s = c in
-    let E = records s.args.q.now s.args.max_doc s.args.fields.now s.args.leaves.now s.args.nexts.now s.args.presents.now s.args.costs.now s.args.places.now s.args.counts.now in
+    let E = records s.args.q.now s.args.max_doc s.args.fields.now s.args.leaves.now s.args.nexts.now s.args.presents.now s.args.costs.now s.args.places.now in
     let at = s.args.at in
     let boost = s.args.boost in
     let words = length s.args.st.now in
@@ -210,7 +210,7 @@ place-required-place-list-requires-2 t c κs =
 pub place-required-add-t28 : (t : ℕ) → place-required-lts.Need-overflow_add-result (place-required-calls t) (place-required-at t) place-required.Post
 place-required-add-t28 t c =
     let s = c in
-    let E = records s.args.q.now s.args.max_doc s.args.fields.now s.args.leaves.now s.args.nexts.now s.args.presents.now s.args.costs.now s.args.places.now s.args.counts.now in
+    let E = records s.args.q.now s.args.max_doc s.args.fields.now s.args.leaves.now s.args.nexts.now s.args.presents.now s.args.costs.now s.args.places.now in
     let at = s.args.at in
     let boost = s.args.boost in
     let words = length s.args.st.now in
@@ -233,7 +233,7 @@ place-required-same-length t c =
 pub place-required-returns : (t : ℕ) → place-required-lts.Need-returns (place-required-calls t) (place-required-at t) place-required.Post
 place-required-returns t c =
     let s = c in
-    let E = records s.args.q.now s.args.max_doc s.args.fields.now s.args.leaves.now s.args.nexts.now s.args.presents.now s.args.costs.now s.args.places.now s.args.counts.now in
+    let E = records s.args.q.now s.args.max_doc s.args.fields.now s.args.leaves.now s.args.nexts.now s.args.presents.now s.args.costs.now s.args.places.now in
     let at = s.args.at in
     let boost = s.args.boost in
     let words = length s.args.st.now in

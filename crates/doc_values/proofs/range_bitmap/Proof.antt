@@ -1,15 +1,17 @@
--- `doc_values::range_list` meets its contract: what is sifted of the column between the keys of the two ends lists the range. Assumes nothing.
-use Prim.Native.Nat.{◌+◌, ◌*◌, ◌≤◌}
+-- `doc_values::range_bitmap` meets its contract: what is sifted of the column between the keys of the two ends is the range. Assumes nothing.
+use Prim.Native.Nat.{ℕ, ◌+◌, ◌*◌, ◌≤◌}
 use mathlib.Core.Path.{ap, ◌∙◌}
 use native.Mathlib.Omega.{arith}
 use borrow.Author.Rules.{rules}
+use mathlib.Core.Bool.{Bool, ◌&&◌}
+use lib.Dec.{ltb}
 use lib.ListN.{length}
 use Rattle.meaning.specs.Lent.{Index}
 use Rattle.meaning.specs.Range.{NumericRange}
 use Rattle.meaning.specs.Entries.{columnsOnly}
-use Rattle.doc_values.proofs.Ranges.{column-there, column_fits, scan-is-range}
-use Rattle.doc_values.proofs.range_list.Statement.{statement}
-use Rattle.doc_values.proofs.range_list.Tie as tie
+use Rattle.doc_values.proofs.Ranges.{column-there, column_fits, value-as-range, scan-is-range}
+use Rattle.doc_values.proofs.range_bitmap.Statement.{statement}
+use Rattle.doc_values.proofs.range_bitmap.Tie as tie
 
 abbrev lent : tie.Start → Index
 lent s = columnsOnly s.args.max_doc s.args.columns.now s.args.values.now
@@ -47,14 +49,15 @@ returns c =
     let s = c.before.before.before.before.before.before.before.before.before in
     let a = s.args in
     let keys = c.range_keys-keys in
-    let same =
-    scan-is-range a.max_doc a.columns.now a.values.now (asked s)
-    (λ i. (c.shared_slice_known-2-1.given i).fits) s.ranges.lower.fits s.ranges.upper.fits
-    keys.result.from keys.result.to keys.ensures in
-    (c.sift.ensures.0 ∙ ap length same, (c.sift.ensures.1.0 ∙ same, c.sift.ensures.1.1))
+    let words = λ (i : ℕ). (c.shared_slice_known-2-1.given i).fits in
+    let same = scan-is-range a.max_doc a.columns.now a.values.now (asked s) words s.ranges.lower.fits s.ranges.upper.fits keys.result.from keys.result.to keys.ensures in
+    (
+      c.sift.ensures.0 ∙ ap length same,
+      (λ i p h k. c.sift.ensures.1.0 i p h k ∙ ap (λ (b : Bool). ltb (32 * i + p) a.max_doc && b) (value-as-range a.max_doc a.columns.now a.values.now (asked s) words s.ranges.lower.fits s.ranges.upper.fits keys.result.from keys.result.to keys.ensures (32 * i + p)), c.sift.ensures.1.1),
+    )
 
-pub range_list_spec : {M : Type 1} → statement M
-range_list_spec =
+pub range_bitmap_spec : {M : Type 1} → statement M
+range_bitmap_spec =
     tie.close
     (tie.spec
     mul-column-type

@@ -1,0 +1,51 @@
+-- A range asked for a window: the bits of its bitmap from the window on, and its record with what is stored. Assumes nothing.
+use Rattle.std.proofs.Common.{◌≡◌, sym, ap, ◌∙◌, Bool, false, ⊎_elim, List, ℕ, ◌+◌, ◌-◌, ◌*◌, ◌/◌, ◌%◌, ◌^◌, ◌≤◌, ◌<◌, get_or, pow-add, arith}
+use native.Mathlib.Nat.{div-div-eq-div-mul}
+use Rattle.meaning.specs.Lent.{Index}
+use Rattle.meaning.specs.Range.{NumericRange}
+use Rattle.meaning.proofs.Tests.{cmp}
+use Rattle.weight.specs.State.{State}
+use Rattle.weight.specs.Held.{RangeIs}
+use Rattle.bits.specs.Bit.{bit, Bitmap}
+use Rattle.bits.proofs.Laws.{bit-zero, bit-low, bit-shift}
+use Rattle.window_leaf.specs.Runs.{answered, PartOf}
+
+-- ---- a word of a bitmap
+pub part-here : (words : List ℕ) (first number at : ℕ) → at < number → PartOf words first number (32 * at) (get_or words (first + at) 0)
+part-here words first number at h P B over p l = B at p h l
+
+pub part-none : (words : List ℕ) (first number at : ℕ) → number ≤ at → PartOf words first number (32 * at) 0
+part-none words first number at h P B over p l = bit-zero p ∙ sym (over (32 * at + p) (omega arith))
+
+-- ---- 32 bits from any place on
+-- `(w >> skip) % 2^32`
+shifted : (w skip p : ℕ) → p < 32 → bit p (w / 2 ^ skip % 4294967296) ≡ bit (skip + p) w
+shifted w skip p h =
+    sym (bit-low 32 p (w / 2 ^ skip / 4294967296) (w / 2 ^ skip % 4294967296) h) ∙ ap (bit p) (whole (w / 2 ^ skip))
+    ∙ bit-shift p (w / 2 ^ skip)
+    ∙ ap (bit 0) (div-div-eq-div-mul w (2 ^ skip) (2 ^ p) ∙ ap (λ (x : ℕ). w / x) (sym (pow-add 2 skip p)))
+    ∙ sym (bit-shift (skip + p) w)
+  where
+    whole : (x : ℕ) → x / 4294967296 * 2 ^ 32 + x % 4294967296 ≡ x
+    whole x = omega arith
+
+module _ (words : List ℕ) (first number at word low : ℕ) (is : word ≡ at / 32) (low-part : PartOf words first number (32 * word) low) where
+  pub part-even : at % 32 ≡ 0 → PartOf words first number at low
+  part-even e P B over p h = low-part P B over p h ∙ ap P (omega arith)
+
+  pub part-across : (high w r : ℕ) → PartOf words first number (32 * (word + 1)) high → ((q : ℕ) → q < 32 → bit q w ≡ bit q low) → ((q : ℕ) → 32 ≤ q → bit q w ≡ bit (q - 32) high) → r ≡ w / 2 ^ (at % 32) % 4294967296 → PartOf words first number at r
+  part-across high w r high-part lows highs e P B over p h =
+      ap (bit p) e ∙ shifted w (at % 32) p h
+      ∙ ⊎_elim
+      (λ (l : at % 32 + p < 32). lows (at % 32 + p) l ∙ low-part P B over (at % 32 + p) l ∙ ap P (omega arith))
+      (λ (g : 32 ≤ at % 32 + p). highs (at % 32 + p) g ∙ high-part P B over ((at % 32 + p) - 32) (omega arith) ∙ ap P (omega arith))
+      (cmp (at % 32 + p) 32)
+
+-- ---- the window's 64
+pub window-part : (words : List ℕ) (first number base low high w : ℕ) → PartOf words first number base low → PartOf words first number (base + 32) high → ((q : ℕ) → q < 32 → bit q w ≡ bit q low) → ((q : ℕ) → 32 ≤ q → bit q w ≡ bit (q - 32) high) → (P : ℕ → Bool) → Bitmap P words first number → ((d : ℕ) → 32 * number ≤ d → P d ≡ false) → (p : ℕ) → p < 64 → bit p w ≡ P (base + p)
+window-part words first number base low high w lp hp lows highs P B over p h =
+    ⊎_elim (λ l. lows p l ∙ lp P B over p l) (λ g. highs p g ∙ hp P B over (p - 32) (omega arith) ∙ ap P (omega arith)) (cmp p 32)
+
+-- ---- the record, with an answer stored
+pub range-answered : (ix : Index) (R : List ℕ) (r : NumericRange) (s : State) (bits next : ℕ) → RangeIs ix R r s → RangeIs ix R r (answered s bits next)
+range-answered ix R r s bits next p = record { kind-is = p.kind-is; size_is = p.size_is; number_is = p.number_is; there = p.there; bits = p.bits }
