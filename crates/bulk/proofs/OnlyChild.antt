@@ -31,7 +31,7 @@ use Rattle.window_words.proofs.Laws.{windowed-less, windowed-long, windowed-kind
 use Rattle.window_words.proofs.Unasked.{optional-unasked}
 use Rattle.bulk_scorer.specs.Collects.{RootHeld}
 use Rattle.bulk_window.proofs.Lists.{map-same}
-use Rattle.bulk_window.proofs.Scores.{sum-narrowed}
+use Rattle.window_score.proofs.Alone.{sum-narrowed}
 use Rattle.bulk.specs.Alone.{AloneWords}
 
 -- ---- two scorers that match the same documents, and there score the same

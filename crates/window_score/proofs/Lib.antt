@@ -8,5 +8,5 @@ mod Optional
 mod Splits
 mod Groups
 mod Booleans
-mod Alone
+pub mod Alone
 mod Nodes
