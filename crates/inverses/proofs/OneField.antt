@@ -1,20 +1,21 @@
--- Where one field is lent, its average is a number, and the inverses of it are all that a query's records need. Assumes nothing.
+-- Where one field is lent, its average is a number, and the inverses of it are all that a query's records need; where none is, they need none. Assumes nothing.
 use mathlib.Core.Path.{◌≡◌, ◌∙◌, ap, subst}
 use mathlib.Core.List.{List}
-use Prim.Native.Nat.{ℕ, ◌+◌, ◌*◌}
+use Prim.Native.Nat.{ℕ, ◌+◌, ◌*◌, ◌≤◌, ◌<◌}
 use native.Mathlib.Omega.{arith}
 use lib.ListN.{length, get_or}
 use lib.Dec.{T}
-use mathlib.Core.Bool.{not}
+use mathlib.Core.Bool.{true, not}
 use lib.Ieee.{Float, nan, binary32, nan_bits, of_bits}
 use Rattle.ieee754.proofs.Patterns.{pattern_number}
 use Rattle.meaning.specs.Below.{listTo}
 use Rattle.meaning.specs.Bm25.{length_of, inverse}
 use Rattle.meaning.specs.Lent.{Index, fieldAverage}
+use Rattle.meaning.specs.Query.{recordCount}
 use Rattle.meaning.proofs.Below.{getD-listTo}
 use Rattle.weight.specs.Measured.{Asks}
 use Rattle.weight.specs.Sound.{FieldTable}
-use Rattle.inverses.specs.Inverses.{fieldAt, FieldTables}
+use Rattle.inverses.specs.Inverses.{hasField, fieldAt, FieldTables}
 use Rattle.inverses.proofs.Filling.{field-there}
 
 pub first-average : (ix : Index) (q : List ℕ) → Asks ix q → length ix.fields ≡ 3 → T (not (nan_bits binary32 (get_or ix.fields 0 0)))
@@ -32,3 +33,6 @@ one-field ix q table asks one is at h has =
         ap (λ (z : ℕ). get_or table z nan) here
         ∙ ap (λ (z : List Float). get_or z n nan) is
         ∙ getD-listTo 256 (λ n. inverse (of_bits binary32 (fieldAverage ix 0)) (length_of n)) nan n low
+
+pub no-field-lent : (ix : Index) (q : List ℕ) → Asks ix q → length ix.fields ≤ 3 → (length ix.fields ≡ 3 → ⊥) → (at : ℕ) → at < recordCount q → hasField q at ≡ true → ⊥
+no-field-lent ix q asks few other at h has = let there = field-there ix q at asks h has in other (omega (arith, there, few))

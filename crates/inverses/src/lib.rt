@@ -1,7 +1,7 @@
 // The inverses of BM25 for the fields that a query's terms and phrases are in, 256 for each field.
 #![tactic(auto)]
 
-ghost use Rattle.std.specs.Prelude.{◌≡◌, true, ◌++◌, ℕ, ◌<◌, ◌≤◌, length, drop};
+ghost use Rattle.std.specs.Prelude.{◌≡◌, true, List, ◌++◌, ℕ, ◌<◌, ◌≤◌, length, drop};
 ghost use Rattle.std.specs.Float.{binary32};
 ghost use Rattle.std.specs.Float.Ieee.{of_bits};
 ghost use Rattle.meaning.specs.Below.{listTo};
@@ -13,12 +13,25 @@ ghost use Rattle.weight.specs.Measured.{Asks};
 ghost use Rattle.node_words.specs.Placed.{LeafLent};
 ghost use Rattle.inverses.specs.Inverses.{fieldAt, hasField, FieldTables};
 
+use sim::bm25::Bm25;
+
+// All that an order needs to which at most one field is lent; without a field no record asks for any.
+pub fn first_inverses(fields: &[u32]) -> Bm25
+    requires { (ix : Index) × (q : List ℕ) × Asks ix q × (ix.fields ≡ fields.now) × (length fields.now ≤ 3) }
+    ensures { (ix : Index) (q : List ℕ) → Asks ix q → ix.fields ≡ fields.now → FieldTables ix q result.cache }
+{
+    if fields.len() == 3 {
+        return Bm25::new(f32::from_bits(fields[0]));
+    }
+    Bm25 { cache: [0.0; 256] }
+}
+
 // Of one field, into its places of the table.
 fn fill_field(average: u32, table: &mut [f32])
     requires { (256 ≤ length table.old) × (leastAverage ≤ average) × (average ≤ largestAverage) }
     ensures { table.new ≡ listTo 256 (λ n. inverse (of_bits binary32 average) (length_of n)) ++ drop 256 table.old }
 {
-    let bm25 = sim::bm25::Bm25::new(f32::from_bits(average));
+    let bm25 = Bm25::new(f32::from_bits(average));
     let mut n: usize = 0;
     while n < 256 {
         table[n] = bm25.cache[n];

@@ -9,7 +9,6 @@ ghost use Rattle.inverses.specs.Inverses.{FieldTables};
 ghost use Rattle.order_check.specs.Lends.{work};
 ghost use Rattle.searcher.specs.Answers.{pagedNumbers};
 
-use sim::bm25::Bm25;
 use walk::Listed;
 
 #[derive(Clone, Copy)]
@@ -63,7 +62,7 @@ fn list_by(
     )
 }
 
-// One field's table has 256 places; only an order of more fields pays for all 16.
+// One field's table has 256 places; only an order to which more are lent pays for all 16.
 fn list_page(
     max_doc: u32,
     fields: &[u32],
@@ -87,8 +86,8 @@ fn list_page(
     requires asks { Asks (lent max_doc fields.now leaves.now postings.now positions.now norms.now live.now columns.now values.now) q.now × (workShort (lent max_doc fields.now leaves.now postings.now positions.now norms.now live.now columns.now values.now) q.now (work (length states.old) (length a.old) (length b.old) (length ranges.old)) ≡ false) }
     ensures { PageIs (page_of (lent max_doc fields.now leaves.now postings.now positions.now norms.now live.now columns.now values.now) q.now target (length documents.old)) documents.old scores.old result documents.new scores.new }
 {
-    if fields.len() == 3 {
-        let bm25 = Bm25::new(f32::from_bits(fields[0]));
+    if fields.len() <= 3 {
+        let bm25 = inverses::first_inverses(fields);
         return list_by(
             max_doc,
             fields,

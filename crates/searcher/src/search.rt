@@ -14,7 +14,6 @@ ghost use Rattle.order_check.specs.Lends.{work};
 ghost use Rattle.searcher.specs.Answers.{searchedNumbers};
 
 use collector::{TopDocs, TopScoreDocCollector};
-use sim::bm25::Bm25;
 
 #[derive(Clone, Copy)]
 pub enum Searched {
@@ -68,7 +67,7 @@ fn find_by(
     c.top_docs(heap)
 }
 
-// One field's table has 256 places; only an order of more fields pays for all 16.
+// One field's table has 256 places; only an order to which more are lent pays for all 16.
 fn find(
     max_doc: u32,
     fields: &[u32],
@@ -92,8 +91,8 @@ fn find(
     ensures value { result ≡ answer (length heap.old) t (fullList (lent max_doc fields.now leaves.now postings.now positions.now norms.now live.now columns.now values.now) (queryTree q.now)) }
     ensures heap_after { heap.new ≡ written (hitsOf (length heap.old) (fullList (lent max_doc fields.now leaves.now postings.now positions.now norms.now live.now columns.now values.now) (queryTree q.now))) heap.old }
 {
-    if fields.len() == 3 {
-        let bm25 = Bm25::new(f32::from_bits(fields[0]));
+    if fields.len() <= 3 {
+        let bm25 = inverses::first_inverses(fields);
         return find_by(
             max_doc,
             fields,

@@ -1,5 +1,5 @@
 -- What the loop collects is the full list.
-use Rattle.std.proofs.Common.{refl, length, ◌+◌, ◌≤◌, arith}
+use Rattle.std.proofs.Common.{length, arith}
 use Rattle.meaning.specs.CallRefusals.{Work}
 use Rattle.meaning.specs.Limits.{noMoreDocs}
 use Rattle.index.specs.Slices.{lent}
