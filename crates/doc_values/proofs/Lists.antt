@@ -1,12 +1,12 @@
--- The numbers below a bound that have a property, as a list that is written to the front of a buffer, with or without a branch. Assumes nothing.
+-- The numbers below a bound that have a property, as a list that is written to the front of a buffer. Assumes nothing.
 use mathlib.Core.Path.{◌≡◌, refl, sym, ap, ◌∙◌}
-use mathlib.Core.Bool.{Bool, true, false, cond}
+use mathlib.Core.Bool.{Bool, true, false}
 use mathlib.Core.List.{List, [], ◌∷◌, ◌++◌, append_assoc}
 use Prim.Native.Nat.{ℕ, suc, ◌+◌, ◌≤◌, ◌<◌}
 use native.Mathlib.Numerals.{add-one}
 use native.Mathlib.Omega.{arith}
-use lib.ListN.{length, get_or, take, drop, set, length-append, length-drop}
-use lib.Seq.{drop-cons, set_at, take-set-le, take-suc-set}
+use lib.ListN.{length, get_or, drop, set, length-append, length-drop}
+use lib.Seq.{drop-cons, set_at}
 use Rattle.meaning.specs.Below.{listBelow}
 use Rattle.meaning.specs.Entries.{written}
 -- the laws of such a list, passed on
@@ -37,19 +37,3 @@ module _ (p : ℕ → Bool) (out₀ out : List ℕ) (d held : ℕ) (size : held 
 
   pub turn-left : p d ≡ false → (held ≡ length (listBelow (d + 1) p)) × (out ≡ written (listBelow (d + 1) p) out₀)
   turn-left e = let same : listBelow (d + 1) p ≡ listBelow d p = rw add-one (list_left p d e) in rw same (size, so_far)
-
--- a turn that stores d in any case behind those listed below it, and counts it where it is listed
-module _ (p : ℕ → Bool) (out : List ℕ) (d held k : ℕ) (size : held ≡ length (listBelow d p)) (so_far : take held out ≡ listBelow d p) where
-  pub turn-sifted : held < length out → k ≡ cond (p d) 1 0 → (held + k ≡ length (listBelow (d + 1) p)) × (take (held + k) (set out held d) ≡ listBelow (d + 1) p)
-  turn-sifted h = go (p d) refl
-    where
-      go : (b : Bool) → p d ≡ b → k ≡ cond b 1 0 → (held + k ≡ length (listBelow (d + 1) p)) × (take (held + k) (set out held d) ≡ listBelow (d + 1) p)
-      go true t e =
-          let more : listBelow (d + 1) p ≡ listBelow d p ++ (d ∷ []) = rw add-one (list-taken p d t) in
-          let next : held + k ≡ suc held = omega (arith, e) in (
-            omega (arith, e, size, ap length more, length-append (listBelow d p) (d ∷ [])),
-            ap (λ (n : ℕ). take n (set out held d)) next ∙ take-suc-set out held d h ∙ ap (λ (l : List ℕ). l ++ (d ∷ [])) so_far ∙ sym more,
-          )
-      go false t e =
-          let same : listBelow (d + 1) p ≡ listBelow d p = rw add-one (list_left p d t) in
-          let here : held + k ≡ held = omega (arith, e) in (here ∙ size ∙ ap length (sym same), ap (λ (n : ℕ). take n (set out held d)) here ∙ take-set-le held out held d (omega arith) ∙ so_far ∙ sym same)
