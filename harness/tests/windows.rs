@@ -1,4 +1,62 @@
 //! Search beside the Rust in cases aimed at its windows of 64 documents, and what these cases reach.
+//!
+//! Wrong forms of the windows were built without proof and run: the first case of
+//! `cases_beside_the_rust` that shows each, and of the first 5,000 of `generated_cases` in
+//! tests/differential.rs.
+//!
+//! | what is wrong                                                                 | here | there |
+//! |-------------------------------------------------------------------------------|-----:|------:|
+//! | Shoulds that none is needed of are not asked: their bits of an earlier window |    9 |    32 |
+//! | Shoulds after all that is wanted matched are not asked                        |    3 |     1 |
+//! | a Boolean's bits are not stored                                               |    6 |     7 |
+//! | everything's bits are not stored                                              |   28 |    15 |
+//! | nor the bits of places 32 to 63                                               |    3 |     7 |
+//! | half a plane of a phrase's frequencies is not stored                          |    8 |     1 |
+//! | a run that lags is not moved to the window                                    |   10 |  1772 |
+//! | where a term's postings of the window begin is not stored                     |    7 |  1772 |
+//! | a term's postings of the window begin with the run's                          |    7 |       |
+//! | so do those of a phrase's terms                                               |    8 |  1772 |
+//! | a posting's rank among the wanted documents                                   |    3 |     7 |
+//! | next is one document too far                                                  |  243 |       |
+//! | next is one posting too far                                                   |   22 |   261 |
+//! | next of Shoulds is the largest of theirs                                      |   22 |  1235 |
+//! | so where they are counted                                                     |  203 |       |
+//! | next of everything is a window too far                                        |   78 |   261 |
+//! | the next window does not begin at a multiple of 64                            |   32 |       |
+//! | a window is left out                                                          |    7 |   261 |
+//! | what is wanted is collected, not what matches                                 |    7 |     2 |
+//! | documents from N on are not cut off                                           |  155 |    15 |
+//! | nor where 63 are left                                                         |  266 |  1596 |
+//! | the live word of the window before                                            |   10 |   850 |
+//! | no live word                                                                  |    3 |     2 |
+//! | the prohibited are not taken away                                             |   14 |    16 |
+//! | only those that are terms                                                     |   51 |   130 |
+//! | only the first                                                                |   52 |   177 |
+//! | a window of 63 documents                                                      |    9 |   171 |
+//! | planes that count to 63                                                       |    7 |       |
+//! | none matches where 64 are needed                                              |  113 |       |
+//! | one more than is needed                                                       |   58 |    14 |
+//! | only terms are counted                                                        |  134 |    58 |
+//! | none needed taken as one                                                      |    6 |     4 |
+//! | two needed taken as one                                                       |   78 |    14 |
+//! | phrases are not asked in the last pass                                        |   18 |    19 |
+//! | a phrase matches where all its terms stand                                    |    4 |     5 |
+//! | a phrase's first term alone is asked                                          |    8 |     5 |
+//! | a frequency of 2 is taken as 1                                                |    8 |     1 |
+//! | 3 and more as 2                                                               |    8 |   203 |
+//! | 4 and more as 3                                                               |    9 |   203 |
+//! | the Shoulds' sum joins as the first                                           |   10 |     2 |
+//! | as the last                                                                   |   82 |    21 |
+//! | never after the required sum                                                  |   11 |    27 |
+//! | always after it                                                               |   82 |     2 |
+//! | the required sum is not narrowed before the Shoulds' joins it                 |   30 |    27 |
+//! | a Boolean's sum is not narrowed                                               |   28 |    49 |
+//! | a Should is scored where it does not match                                    |    3 |     7 |
+//! | the norm of a place, not of the document                                      |    7 |  2411 |
+//! | the sum of the place below                                                    |    3 |     2 |
+//!
+//! No answer changes where phrases are asked in the first pass (it only costs time) or where Filters
+//! are scored (their scores are 0).
 #![cfg_attr(not(all(oracle, linked)), allow(unused))]
 #[macro_use]
 mod common;
@@ -113,6 +171,11 @@ fn postings(case: &Case, documents: &[u32], reach: &mut Reach) {
     let one = several && windows.len() == all && documents.len() == all;
     reach.note("one posting a window", one);
     reach.note("a gap of a window", leaps(&windows));
+    for (name, place) in [("first", 0), ("last", WINDOW - 1)] {
+        let leap = |two: &[u32]| two[1] % WINDOW == place && leaps(&windows_of(two));
+        let has = documents.windows(2).any(leap);
+        reach.note(format!("a gap of a window up to a {name} place"), has);
+    }
     let far = windows.windows(2).any(|two| two[0] + 3 < two[1]);
     reach.note("a gap of three windows", far);
     let one = case.n > WINDOW && windows.len() == 1 && documents.len() > 9;
