@@ -26,6 +26,7 @@ pub mod random;
 pub mod record;
 pub mod refusal;
 pub mod tokens;
+pub mod windows;
 #[cfg(oracle)]
 pub mod withdrawn;
 
