@@ -13,7 +13,7 @@ use Rattle.window_words.specs.Windowed.{nowhere, placesOf, optionalBound, AllWin
 use Rattle.window_words.proofs.Laws.{all-length, all-forget, all-ok}
 use Rattle.window_score.specs.declared.Joined.{Joined}
 use Rattle.window_score.specs.Sums.{Sums, Zeros, NarrowedIs, AddedAll, NarrowedPre, NarrowedPost}
-use Rattle.window_score.specs.Asked.{BooleanLeft, RequiredAsked, RequiredPre, RequiredPost, OptionalAsked, OptionalPre, OptionalPost, BooleanPre, BooleanPost, GroupAsked, GroupPre, GroupPost, PartPre, PartPost}
+use Rattle.window_score.specs.Asked.{BooleanLeft, RequiredAsked, RequiredPre, RequiredPost, OptionalAsked, OptionalPre, OptionalPost, BooleanPre, BooleanPost, GroupAsked, GroupPre, GroupPost, RootPartsPre, RootPartsPost, RootGroupPre, RootGroupPost}
 use Rattle.window_score.proofs.Loops.{put, sums-more}
 use Rattle.window_score.proofs.Required.{lent-at}
 use Rattle.window_score.proofs.Splits.{zero-sums}
@@ -178,9 +178,12 @@ module _ (kids : List ℕ) (node : Joined) (postings positions norms ranges : Li
           let z = add N.0 N.1 N.2 N.3 in
           (added-as (λ p. narrow (get_or group p nan)) (goal-score w) want sums sums' (only-score none w) z.0, z.1, only-left w)
 
+      pub both-left : (w : Asks) (xs : List ℕ) → AllWindowed w.1 ranges w.4 depth xs (base + 64) (base + 64) nowhere → BooleanLeft w.1 ranges w.4 w.5 depth w.6 (xs ++ drop re kids₁) base
+      both-left w xs req = record { x = xs; v = vs; is = front-back w.9.x (vs ++ w.6) kids₁ re (back w) (required-long w) xs; required = req; optional = (group-own w).2 }
+
       -- both
       module _ (a' b' : ℕ) (same-a : a' ≡ a) (same-b : b' ≡ b) where
-        both-asked : (w : Asks) → GroupAsked w.1 ranges table w.2 w.3 w.4 w.5 node depth (take re kids₁) base want w.7 group
+        pub both-asked : (w : Asks) → GroupAsked w.1 ranges table w.2 w.3 w.4 w.5 node depth (take re kids₁) base want w.7 group
         both-asked w =
             let r = group-own w in
             record {
@@ -202,17 +205,36 @@ module _ (kids : List ℕ) (node : Joined) (postings positions norms ranges : Li
         both-done xs sums' join n ix places j rs os rest q L A S =
             let w : Asks = (n, ix, places, j, rs, os, rest, q, L, A, S) in
             let r = join n ix places j rs os q (lent-at a' b' want same-a same-b (λ p l e. e) L) (both-asked w) S in
-            (r.0, r.1, record { x = xs; v = vs; is = front-back A.x (vs ++ rest) kids₁ re (back w) (required-long w) xs; required = r.2; optional = (group-own w).2 })
+            (r.0, r.1, both-left w xs r.2)
 
--- ---- the children of a root that has but one part, whose sums were 0
-module _ (kids : List ℕ) (node : Joined) (postings positions norms ranges : List ℕ) (table : List Float) (a b base want : ℕ) (sums : List Float) (depth : ℕ) (w : PartPre kids node postings positions norms ranges table a b base want sums depth) where
-  pub part-as : BooleanPre kids node postings positions norms ranges table a b base want sums depth
-  part-as = let r = w.2 in (r.0, r.1, r.2, r.3, r.4, r.5, r.6, 0, r.7, r.8, zero-sums sums w.1)
+-- ---- the children of a root, whose sums were 0
+module _ (kids : List ℕ) (node : Joined) (postings positions norms ranges : List ℕ) (table : List Float) (a b base want : ℕ) (sums : List Float) (depth : ℕ) (w : RootPartsPre kids node postings positions norms ranges table a b base want sums depth) where
+  pub root-parts-as : BooleanPre kids node postings positions norms ranges table a b base want sums depth
+  root-parts-as = let r = w.1 in (r.0, r.1, r.2, r.3, r.4, r.5, r.6, 0, r.7, r.8, zero-sums sums w.0)
 
-  pub part-alone : node.required ≡ node.optional → (xs : List ℕ) (sums' : List Float) → RequiredPost (take node.required kids) postings positions norms ranges table a b base want sums depth xs sums' → PartPost kids node postings positions norms ranges table a b base want sums depth (xs ++ drop node.required kids) sums'
-  part-alone none xs sums' post n ix places j rs os rest L A =
-      alone-root kids node postings positions norms ranges table a b base want sums depth sums w.1 xs sums' post none (n, ix, places, j, rs, os, rest, 0, L, A, zero-sums sums w.1)
+  abbrev Gives : List ℕ → List Float → Type 0
+  Gives kids' sums' = RootPartsPost kids node postings positions norms ranges table a b base want sums depth kids' sums'
 
-  pub part-only : (node.required ≡ node.optional → ⊥) → (vs : List ℕ) (sums' : List Float) → OptionalPost (take (node.optional - node.required) (drop node.required kids)) node.need postings positions norms ranges table a b base want sums depth vs sums' → PartPost kids node postings positions norms ranges table a b base want sums depth (put kids node.required node.optional vs) sums'
-  part-only some vs sums' post n ix places j rs os rest L A =
-      only-root kids node postings positions norms ranges table a b base want sums depth sums w.1 vs sums' post (w.0 some) (n, ix, places, j, rs, os, rest, 0, L, A, zero-sums sums w.1)
+  pub root-alone : node.required ≡ node.optional → (xs : List ℕ) (sums' : List Float) → RequiredPost (take node.required kids) postings positions norms ranges table a b base want sums depth xs sums' → Gives (xs ++ drop node.required kids) sums'
+  root-alone none xs sums' post n ix places j rs os rest L A =
+      alone-root kids node postings positions norms ranges table a b base want sums depth sums w.0 xs sums' post none (n, ix, places, j, rs, os, rest, 0, L, A, zero-sums sums w.0)
+
+  pub root-only : node.required ≡ 0 → (vs : List ℕ) (sums' : List Float) → OptionalPost (take (node.optional - node.required) (drop node.required kids)) node.need postings positions norms ranges table a b base want sums depth vs sums' → Gives (put kids node.required node.optional vs) sums'
+  root-only none vs sums' post n ix places j rs os rest L A =
+      only-root kids node postings positions norms ranges table a b base want sums depth sums w.0 vs sums' post none (n, ix, places, j, rs, os, rest, 0, L, A, zero-sums sums w.0)
+
+  module _ (own : List Float) (own-zero : Zeros own) (vs : List ℕ) (group : List Float) (post : OptionalPost (take (node.optional - node.required) (drop node.required kids)) node.need postings positions norms ranges table a b base want own depth vs group) (a' b' : ℕ) (same-a : a' ≡ a) (same-b : b' ≡ b) where
+    abbrev required-parts : List ℕ
+    required-parts = take node.required (put kids node.required node.optional vs)
+
+    pub root-both-ask : RootGroupPre required-parts node group postings positions norms ranges table a' b' base want sums depth
+    unfolding root-parts-as
+    root-both-ask =
+        let r = root-parts-as in
+        (w.0, (r.0, r.1, r.2, r.3, r.4, r.5, lent-at a' b' want same-a same-b (λ p l e. e) r.8, both-asked kids node postings positions norms ranges table a b base want sums depth own own-zero vs group post a' b' same-a same-b r))
+
+    pub root-both : (xs : List ℕ) (sums' : List Float) → RootGroupPost required-parts node group postings positions norms ranges table a' b' base want sums depth xs sums' → Gives (xs ++ drop node.required (put kids node.required node.optional vs)) sums'
+    root-both xs sums' join n ix places j rs os rest L A =
+        let r : BooleanPre kids node postings positions norms ranges table a b base want sums depth = (n, ix, places, j, rs, os, rest, 0, L, A, zero-sums sums w.0) in
+        let z = join n ix places j rs os (lent-at a' b' want same-a same-b (λ p l e. e) L) (both-asked kids node postings positions norms ranges table a b base want sums depth own own-zero vs group post a' b' same-a same-b r) in
+        (z.0, both-left kids node postings positions norms ranges table a b base want sums depth own own-zero vs group post r xs z.1)

@@ -14,8 +14,8 @@ use Rattle.score.specs.Asked.{JoinsAt, SumIs}
 use Rattle.score.proofs.Join.{first_of, rest_of, first-sounds, first-tables, first-nodes, first_matches, group-is, joined-more, joined-after}
 use Rattle.window_words.specs.Windowed.{nowhere, placesOf, AllWindowed}
 use Rattle.window_score.specs.declared.Joined.{Joined}
-use Rattle.window_score.specs.Sums.{Sums, Zeros, Added, AddedAll, NarrowedPre, NarrowedPost, JoinedPre, JoinedPost}
-use Rattle.window_score.specs.Asked.{RequiredAsked, RequiredPre, RequiredPost, GroupPre, GroupPost}
+use Rattle.window_score.specs.Sums.{Sums, Zeros, Added, AddedAll, NarrowedPre, NarrowedPost, JoinedPre, JoinedPost, AfterPre, AfterPost, NarrowedIs}
+use Rattle.window_score.specs.Asked.{RequiredAsked, RequiredPre, RequiredPost, GroupPre, GroupPost, RootGroupPre}
 use Rattle.window_score.proofs.Loops.{put, sums-more}
 use Rattle.window_score.proofs.Required.{lent-at}
 use Rattle.window_score.proofs.Splits.{Split, all-split, all-join, zero-sums}
@@ -86,23 +86,29 @@ module _ (kids : List ℕ) (node : Joined) (group : List Float) (postings positi
       pub after-join : Asks → JoinedPre own' group sums
       after-join w = (w.6, nodesOf w.4, nodesOf w.5, (w.8.few, w.9), sums-more (0 + nodesOf w.4) (nodesOf w.4) own' (omega arith) (after-own w).1, w.8.group-sums)
 
+      after-score : node.afterwards ≡ 1 → (w : Asks) (p : ℕ) → p < 64 → bit p want ≡ true → narrow (add binary64 (narrow (get_or own' p nan)) (narrow (get_or group p nan))) ≡ goal-score w p
+      after-score after w p l e =
+          let r = after-own w in
+          let g = group-at w p l e in
+          let two = add binary64 (narrow (get_or own' p nan)) (narrow (get_or group p nan)) in
+          (joined-after w.1 (base + p) w.4 w.5 (all-few w p l e) (narrow (get_or group p nan)) g.0 g.1 (get_or own' p nan) (narrow (get_or own' p nan)) two (narrow two) (summed own own' own-zero want (λ i. scoring (requiredScores w.1 w.4 (base + i))) r.0 (nodesOf w.4) r.1 p l e) refl refl refl).is
+          ∙ ap (λ (i : Joining). joinedScore i (requiredScores w.1 w.4 (base + p)) (narrowedSum (optionalScores w.1 w.5 (base + p)))) (sym (is-after w.3 w.4 node.afterwards node.group_at w.8.joins after))
+
       pub after-done : node.afterwards ≡ 1 → (sums' : List Float) → JoinedPost own' group want sums sums' → GroupPost kids node group postings positions norms ranges table a b base want sums depth kids' sums'
       unfolding after-join
       after-done after sums' join n ix places j rs os q L A S =
           let w : Asks = (n, ix, places, j, rs, os, q, L, A, S) in
-          let r = after-own w in
           let J = after-join w in
           let z = join J.0 J.1 J.2 J.3 J.4 J.5 in
-          let score : ℕ → Float = λ p. narrow (add binary64 (narrow (get_or own' p nan)) (narrow (get_or group p nan))) in (
-            added-as score (goal-score w) want sums sums' (
-                λ p l e.
-                let g = group-at w p l e in
-                (joined-after ix (base + p) rs os (all-few w p l e) (narrow (get_or group p nan)) g.0 g.1 (get_or own' p nan) (narrow (get_or own' p nan)) (add binary64 (narrow (get_or own' p nan)) (narrow (get_or group p nan))) (score p) (summed own own' own-zero want (λ i. scoring (requiredScores ix rs (base + i))) r.0 (nodesOf rs) r.1 p l e) refl refl refl).is
-                ∙ ap (λ (i : Joining). joinedScore i (requiredScores ix rs (base + p)) (narrowedSum (optionalScores ix os (base + p)))) (sym (is-after j rs node.afterwards node.group_at A.joins after))
-                ) z.0,
-            z.1,
-            r.2,
-          )
+          (added-as (λ p. narrow (add binary64 (narrow (get_or own' p nan)) (narrow (get_or group p nan)))) (goal-score w) want sums sums' (after-score after w) z.0, z.1, (after-own w).2)
+
+      -- at a root
+      pub after-root-join : Asks → AfterPre group own'
+      after-root-join w = let f = w.8.few in (nodesOf w.4, nodesOf w.5, (omega (arith, f), sums-more (0 + nodesOf w.4) (nodesOf w.4) own' (omega arith) (after-own w).1), w.8.group-sums)
+
+      pub after-root : node.afterwards ≡ 1 → (own'' : List Float) → AfterPost group want own' own'' → (w : Asks) → NarrowedIs (goal-score w) want own own'' × AllWindowed w.1 ranges w.4 depth kids' (base + 64) (base + 64) nowhere
+      after-root after own'' join w =
+          (record { long = join.1; wanted = λ p l e. ap narrow (join.0.wanted p l e) ∙ after-score after w p l e; others = λ p l e. join.0.others p l e ∙ (after-own w).0.others p l e }, (after-own w).2)
 
     -- ---- the group joins as one more
     module _ (other : node.afterwards ≡ 1 → ⊥) where
@@ -185,26 +191,37 @@ module _ (kids : List ℕ) (node : Joined) (group : List Float) (postings positi
                   let r = nodesOf w.4 + nodesOf w.5 in
                   (w.6, r, (w.8.few, w.9), sums-more all r own₃ (omega (arith, first-nodes m w.4)) (rest-own w).1)
 
+              more-score : (w : Asks) (p : ℕ) → p < 64 → bit p want ≡ true → narrow (get_or own₃ p nan) ≡ goal-score w p
+              more-score w p l e =
+                  let ix = w.1 in
+                  let rs = w.4 in
+                  let m = m-of w in
+                  let F = front-own w in
+                  let R = rest-own w in
+                  let g = group-at w p l e in
+                  (joined-more ix (base + p) rs w.5 (all-few w p l e) (narrow (get_or group p nan)) g.0 g.1 m.0 (get_or own₁ p nan) (get_or own₂ p nan) (get_or own₃ p nan) (narrow (get_or own₃ p nan))
+                  (summed own own₁ own-zero want (λ i. scoring (requiredScores ix (first_of m.0 rs) (base + i))) F.0 (nodesOf (first_of m.0 rs)) F.1 p l e)
+                  ((group-own w).0.wanted p l e)
+                  (record { is = R.0.wanted p l e; small = R.1.small p l })
+                  refl).is
+                  ∙ ap (λ (i : Joining). joinedScore i (requiredScores ix rs (base + p)) (narrowedSum (optionalScores ix w.5 (base + p)))) (sym m.1)
+
+              more-left : (w : Asks) → AllWindowed w.1 ranges w.4 depth (put (xs ++ drop ga kids) ga (length (xs ++ drop ga kids)) ys) (base + 64) (base + 64) nowhere
+              more-left w = subst (λ (l : List ℕ). AllWindowed w.1 ranges w.4 depth l (base + 64) (base + 64) nowhere) (sym (rest-back xs ys kids ga (cut-fits w) long)) (all-join w.1 ranges depth (m-of w).0 w.4 xs ys (base + 64) (base + 64) nowhere (front-own w).2 (rest-own w).2)
+
               pub more-done : (sums' : List Float) → NarrowedPost own₃ want sums sums' → GroupPost kids node group postings positions norms ranges table a b base want sums depth (put (xs ++ drop ga kids) ga (length (xs ++ drop ga kids)) ys) sums'
               unfolding own-add
               more-done sums' post₄ n ix places j rs os q L A S =
                   let w : Asks = (n, ix, places, j, rs, os, q, L, A, S) in
-                  let m = m-of w in
-                  let F = front-own w in
-                  let G = group-own w in
-                  let R = rest-own w in
                   let N = own-add w in
-                  let z = post₄ N.0 N.1 N.2 N.3 in (
-                    added-as (λ p. narrow (get_or own₃ p nan)) (goal-score w) want sums sums' (
-                        λ p l e.
-                        let g = group-at w p l e in
-                        (joined-more ix (base + p) rs os (all-few w p l e) (narrow (get_or group p nan)) g.0 g.1 m.0 (get_or own₁ p nan) (get_or own₂ p nan) (get_or own₃ p nan) (narrow (get_or own₃ p nan))
-                        (summed own own₁ own-zero want (λ i. scoring (requiredScores ix (first_of m.0 rs) (base + i))) F.0 (nodesOf (first_of m.0 rs)) F.1 p l e)
-                        (G.0.wanted p l e)
-                        (record { is = R.0.wanted p l e; small = R.1.small p l })
-                        refl).is
-                        ∙ ap (λ (i : Joining). joinedScore i (requiredScores ix rs (base + p)) (narrowedSum (optionalScores ix os (base + p)))) (sym m.1)
-                        ) z.0,
-                    z.1,
-                    subst (λ (l : List ℕ). AllWindowed ix ranges rs depth l (base + 64) (base + 64) nowhere) (sym (rest-back xs ys kids ga (cut-fits w) long)) (all-join ix ranges depth m.0 rs xs ys (base + 64) (base + 64) nowhere F.2 R.2),
-                  )
+                  let z = post₄ N.0 N.1 N.2 N.3 in
+                  (added-as (λ p. narrow (get_or own₃ p nan)) (goal-score w) want sums sums' (more-score w) z.0, z.1, more-left w)
+
+              -- at a root
+              pub more-root : (w : Asks) → NarrowedIs (goal-score w) want own own₃ × AllWindowed w.1 ranges w.4 depth (put (xs ++ drop ga kids) ga (length (xs ++ drop ga kids)) ys) (base + 64) (base + 64) nowhere
+              more-root w = (record { long = (rest-own w).1.long; wanted = more-score w; others = λ p l e. (rest-own w).0.others p l e ∙ (group-own w).0.others p l e ∙ (front-own w).0.others p l e }, more-left w)
+
+-- ---- at a root, whose sums were 0
+module _ (kids : List ℕ) (node : Joined) (group : List Float) (postings positions norms ranges : List ℕ) (table : List Float) (a b base want : ℕ) (sums : List Float) (depth : ℕ) (w : RootGroupPre kids node group postings positions norms ranges table a b base want sums depth) where
+  pub root-group-as : GroupPre kids node group postings positions norms ranges table a b base want sums depth
+  root-group-as = let r = w.1 in (r.0, r.1, r.2, r.3, r.4, r.5, 0, r.6, r.7, zero-sums sums w.0)

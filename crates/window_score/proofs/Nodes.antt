@@ -25,7 +25,7 @@ use Rattle.window_words.proofs.Laws.{kindOf, windowed-ok, windowed-long, windowe
 use Rattle.window_score.specs.declared.Joined.{Joined}
 use Rattle.window_score.specs.Words.{JoinedIs}
 use Rattle.window_score.specs.Sums.{ConstantPre, ConstantPost}
-use Rattle.window_score.specs.Asked.{WindowLent, NodeAsked, ScoresPre, ScoresPost, BooleanAsked, BooleanLeft, BooleanPre, BooleanPost, RootPre, RootPost, PartPre, PartPost, OnePart}
+use Rattle.window_score.specs.Asked.{WindowLent, NodeAsked, ScoresPre, ScoresPost, BooleanAsked, BooleanLeft, BooleanPre, BooleanPost, RootPre, RootPost, RootPartsPre, RootPartsPost}
 use Rattle.window_score.proofs.Loops.{put, sums-more}
 use Rattle.window_score.proofs.Groups.{added-as}
 use Rattle.window_score.proofs.Splits.{zero-sums}
@@ -269,10 +269,10 @@ module _ (st postings positions norms ranges : List ℕ) (table : List Float) (a
     pub root-deep : RootAsks → 0 < depth
     root-deep w = let r = w.1 in (root-here r.0 r.1 r.2 r.3 r.4 r.5 r.6).deep
 
-    pub root-ask : OnePart n → RootAsks → PartPre root-parts n postings positions norms ranges table a b base want sums (depth - 1)
-    root-ask one w = let r = w.1 in let B = root-here r.0 r.1 r.2 r.3 r.4 r.5 r.6 in (one, w.0, (r.0, r.1, r.2, B.j, B.rs, B.os, B.rest, r.5, B.asked))
+    pub root-ask : RootAsks → RootPartsPre root-parts n postings positions norms ranges table a b base want sums (depth - 1)
+    root-ask w = let r = w.1 in let B = root-here r.0 r.1 r.2 r.3 r.4 r.5 r.6 in (w.0, (r.0, r.1, r.2, B.j, B.rs, B.os, B.rest, r.5, B.asked))
 
-    pub root-part : (kids' : List ℕ) (sums' : List Float) → PartPost root-parts n postings positions norms ranges table a b base want sums (depth - 1) kids' sums' → RootGives (put st nodeStateWords (length st) kids') sums'
+    pub root-part : (kids' : List ℕ) (sums' : List Float) → RootPartsPost root-parts n postings positions norms ranges table a b base want sums (depth - 1) kids' sums' → RootGives (put st nodeStateWords (length st) kids') sums'
     root-part kids' sums' post m ix places S sc L A =
         let B = root-here m ix places S sc L A in
         let z = post m ix places B.j B.rs B.os B.rest L B.asked in

@@ -140,14 +140,20 @@ abbrev pub RootPost : List ℕ → List ℕ → List ℕ → List ℕ → List �
 RootPost st postings positions norms ranges table a b base want sums depth st' sums' =
     (n : ℕ) (ix : Index) (places : ℕ) (T : Scorer) (scores : ℕ) → WindowLent ix n postings positions norms places a b base want → NodeAsked ix ranges table places T depth scores st base want 0 → NarrowedIs (λ p. scorerScore ix T (base + p)) want sums sums' × Windowed ix ranges T depth scores st' (base + 64) (base + 64) nowhere
 
--- its children, where it has no optional ones or no required ones
-abbrev pub OnePart : Joined → Type 0
-OnePart n = (n.required ≡ n.optional → ⊥) → n.required ≡ 0
+-- its children
+abbrev pub RootPartsPre : List ℕ → Joined → List ℕ → List ℕ → List ℕ → List ℕ → List Float → ℕ → ℕ → ℕ → ℕ → List Float → ℕ → Type 0
+RootPartsPre kids node postings positions norms ranges table a b base want sums depth =
+    Zeros sums × ((n : ℕ) × (ix : Index) × (places : ℕ) × (j : Joining) × (rs : Scorers) × (os : Scorers) × (rest : List ℕ) × WindowLent ix n postings positions norms places a b base want × BooleanAsked ix ranges table places j rs os node depth rest kids base want 0)
 
-abbrev pub PartPre : List ℕ → Joined → List ℕ → List ℕ → List ℕ → List ℕ → List Float → ℕ → ℕ → ℕ → ℕ → List Float → ℕ → Type 0
-PartPre kids node postings positions norms ranges table a b base want sums depth =
-    OnePart node × Zeros sums × ((n : ℕ) × (ix : Index) × (places : ℕ) × (j : Joining) × (rs : Scorers) × (os : Scorers) × (rest : List ℕ) × WindowLent ix n postings positions norms places a b base want × BooleanAsked ix ranges table places j rs os node depth rest kids base want 0)
-
-abbrev pub PartPost : List ℕ → Joined → List ℕ → List ℕ → List ℕ → List ℕ → List Float → ℕ → ℕ → ℕ → ℕ → List Float → ℕ → List ℕ → List Float → Type 0
-PartPost kids node postings positions norms ranges table a b base want sums depth kids' sums' =
+abbrev pub RootPartsPost : List ℕ → Joined → List ℕ → List ℕ → List ℕ → List ℕ → List Float → ℕ → ℕ → ℕ → ℕ → List Float → ℕ → List ℕ → List Float → Type 0
+RootPartsPost kids node postings positions norms ranges table a b base want sums depth kids' sums' =
     (n : ℕ) (ix : Index) (places : ℕ) (j : Joining) (rs os : Scorers) (rest : List ℕ) → WindowLent ix n postings positions norms places a b base want → BooleanAsked ix ranges table places j rs os node depth rest kids base want 0 → NarrowedIs (λ p. joinedScore j (requiredScores ix rs (base + p)) (narrowedSum (optionalScores ix os (base + p)))) want sums sums' × BooleanLeft ix ranges rs os depth rest kids' base
+
+-- the required ones, where the group's sums are known
+abbrev pub RootGroupPre : List ℕ → Joined → List Float → List ℕ → List ℕ → List ℕ → List ℕ → List Float → ℕ → ℕ → ℕ → ℕ → List Float → ℕ → Type 0
+RootGroupPre kids node group postings positions norms ranges table a b base want sums depth =
+    Zeros sums × ((n : ℕ) × (ix : Index) × (places : ℕ) × (j : Joining) × (rs : Scorers) × (os : Scorers) × WindowLent ix n postings positions norms places a b base want × GroupAsked ix ranges table places j rs os node depth kids base want 0 group)
+
+abbrev pub RootGroupPost : List ℕ → Joined → List Float → List ℕ → List ℕ → List ℕ → List ℕ → List Float → ℕ → ℕ → ℕ → ℕ → List Float → ℕ → List ℕ → List Float → Type 0
+RootGroupPost kids node group postings positions norms ranges table a b base want sums depth kids' sums' =
+    (n : ℕ) (ix : Index) (places : ℕ) (j : Joining) (rs os : Scorers) → WindowLent ix n postings positions norms places a b base want → GroupAsked ix ranges table places j rs os node depth kids base want 0 group → NarrowedIs (λ p. joinedScore j (requiredScores ix rs (base + p)) (narrowedSum (optionalScores ix os (base + p)))) want sums sums' × AllWindowed ix ranges rs depth kids' (base + 64) (base + 64) nowhere

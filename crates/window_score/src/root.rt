@@ -1,18 +1,71 @@
-// The scores of a whole tree, from sums that are 0.
-ghost use Rattle.std.specs.Prelude.{◌≡◌, length, true};
-ghost use Rattle.window_score.specs.Asked.{RootPre, RootPost, PartPre, PartPost, OnePart};
+// The scores of a whole tree, from sums that are 0: a Boolean needs no sums of its own but the group's.
+ghost use Rattle.std.specs.Prelude.{◌≡◌, length};
+ghost use Rattle.window_score.specs.Asked.{RootPre, RootPost, RootPartsPre, RootPartsPost, RootGroupPre, RootGroupPost};
 
+use crate::sums::{add_narrowed, join_after};
 use crate::{BOOLEAN, Joined, joined_at, node_scores, optional_scores, required_scores};
 use weight::NODE_STATE_WORDS;
 
-// Whether a Boolean has no optional children or no required ones, so that nothing is joined.
-fn one_part(n: Joined) -> bool
-    ensures { result ≡ true → OnePart n }
+// The group, whose sums are given, joins the required sums.
+fn group_scores(
+    kids: &mut [u32],
+    n: Joined,
+    group: &[f64],
+    postings: &[u32],
+    positions: &[u32],
+    norms: &[u8],
+    ranges: &[u32],
+    inverses: &[f32],
+    a: &mut [i32],
+    b: &mut [i32],
+    base: u32,
+    want: u64,
+    sums: &mut [f64],
+    depth: u32,
+)
+    requires { RootGroupPre kids.old n group.now postings.now positions.now norms.now ranges.now inverses.now (length a.old) (length b.old) base want sums.old depth }
+    ensures { RootGroupPost kids.old n group.now postings.now positions.now norms.now ranges.now inverses.now (length a.old) (length b.old) base want sums.old depth kids.new sums.new }
 {
-    n.required == n.optional || n.required == 0
+    if n.afterwards == 1 {
+        required_scores(
+            kids, postings, positions, norms, ranges, inverses, a, b, base, want, sums, depth,
+        );
+        join_after(group, want, sums);
+        return;
+    }
+    let at = n.group_at;
+    required_scores(
+        &mut kids[..at],
+        postings,
+        positions,
+        norms,
+        ranges,
+        inverses,
+        a,
+        b,
+        base,
+        want,
+        sums,
+        depth,
+    );
+    add_narrowed(group, want, sums);
+    required_scores(
+        &mut kids[at..],
+        postings,
+        positions,
+        norms,
+        ranges,
+        inverses,
+        a,
+        b,
+        base,
+        want,
+        sums,
+        depth,
+    );
 }
 
-// Its children add to the root's sums themselves.
+// Where there are only required children or only optional ones, they add to the root's sums themselves.
 fn part_scores(
     kids: &mut [u32],
     n: Joined,
@@ -28,8 +81,8 @@ fn part_scores(
     sums: &mut [f64],
     depth: u32,
 )
-    requires { PartPre kids.old n postings.now positions.now norms.now ranges.now inverses.now (length a.old) (length b.old) base want sums.old depth }
-    ensures { PartPost kids.old n postings.now positions.now norms.now ranges.now inverses.now (length a.old) (length b.old) base want sums.old depth kids.new sums.new }
+    requires { RootPartsPre kids.old n postings.now positions.now norms.now ranges.now inverses.now (length a.old) (length b.old) base want sums.old depth }
+    ensures { RootPartsPost kids.old n postings.now positions.now norms.now ranges.now inverses.now (length a.old) (length b.old) base want sums.old depth kids.new sums.new }
 {
     let end = n.required;
     let optional_end = n.optional;
@@ -50,9 +103,44 @@ fn part_scores(
         );
         return;
     }
+    if end == 0 {
+        optional_scores(
+            &mut kids[end..optional_end],
+            n.need,
+            postings,
+            positions,
+            norms,
+            ranges,
+            inverses,
+            a,
+            b,
+            base,
+            want,
+            sums,
+            depth,
+        );
+        return;
+    }
+    let mut group = [0.0f64; 64];
     optional_scores(
         &mut kids[end..optional_end],
         n.need,
+        postings,
+        positions,
+        norms,
+        ranges,
+        inverses,
+        a,
+        b,
+        base,
+        want,
+        &mut group,
+        depth,
+    );
+    group_scores(
+        &mut kids[..end],
+        n,
+        &group,
         postings,
         positions,
         norms,
@@ -67,7 +155,7 @@ fn part_scores(
     );
 }
 
-// The sum at each wanted place, narrowed, is the tree's score. A Boolean of one part needs no sums of its own.
+// The sum at each wanted place, narrowed, is the tree's score.
 pub fn root_scores(
     st: &mut [u32],
     postings: &[u32],
@@ -88,24 +176,22 @@ pub fn root_scores(
     if st[0] == BOOLEAN {
         if st[11] != 1 {
             let n = joined_at(st);
-            if one_part(n) {
-                part_scores(
-                    &mut st[NODE_STATE_WORDS..],
-                    n,
-                    postings,
-                    positions,
-                    norms,
-                    ranges,
-                    inverses,
-                    a,
-                    b,
-                    base,
-                    want,
-                    sums,
-                    depth - 1,
-                );
-                return;
-            }
+            part_scores(
+                &mut st[NODE_STATE_WORDS..],
+                n,
+                postings,
+                positions,
+                norms,
+                ranges,
+                inverses,
+                a,
+                b,
+                base,
+                want,
+                sums,
+                depth - 1,
+            );
+            return;
         }
     }
     node_scores(

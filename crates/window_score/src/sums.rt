@@ -1,5 +1,5 @@
 // The sums of a window's 64 documents: one more score at each wanted place.
-ghost use Rattle.window_score.specs.Sums.{ConstantPre, ConstantPost, NarrowedPre, NarrowedPost, JoinedPre, JoinedPost};
+ghost use Rattle.window_score.specs.Sums.{ConstantPre, ConstantPost, NarrowedPre, NarrowedPost, JoinedPre, JoinedPost, AfterPre, AfterPost};
 
 use ieee754::{add_score, narrow};
 use index::wide;
@@ -40,6 +40,19 @@ pub fn add_joined(own: &[f64], group: &[f64], want: u64, sums: &mut [f64])
         let at = wide(bits::lowest(left));
         let both = add_score(narrow(own[at]) as f64, narrow(group[at]));
         sums[at] = add_score(sums[at], narrow(both));
+        left = bits::without_lowest(left);
+    }
+}
+
+// Each sum is narrowed, and the group's, narrowed too, is added to it.
+pub fn join_after(group: &[f64], want: u64, sums: &mut [f64])
+    requires { AfterPre group.now sums.old }
+    ensures { AfterPost group.now want sums.old sums.new }
+{
+    let mut left = want;
+    while left != 0 {
+        let at = wide(bits::lowest(left));
+        sums[at] = add_score(narrow(sums[at]) as f64, narrow(group[at]));
         left = bits::without_lowest(left);
     }
 }

@@ -1,4 +1,4 @@
--- A Boolean of one part, or any node.
+-- A Boolean, or any node.
 use Rattle.std.proofs.Common.{length, arith}
 use Rattle.window_score.proofs.Nodes.{node-long, root-as, root-done, root-deep, root-ask, root-part}
 use Rattle.window_score.proofs.root.root_scores.Goals as goal
@@ -22,10 +22,10 @@ pub overflow_sub-depth : goal.overflow_sub-depth
 overflow_sub-depth c = root-deep c.args.st.now c.args.postings.now c.args.positions.now c.args.norms.now c.args.ranges.now c.args.inverses.now (length c.args.a.now) (length c.args.b.now) c.args.base c.args.want c.args.sums.now c.args.depth c.if-st-ne1.true c.if-st-eq-BOOLEAN.true c.joined_at-n.result c.joined_at-n.ensures c.requires
 
 pub part_scores-requires : goal.part_scores-requires
-part_scores-requires c = root-ask c.args.st.now c.args.postings.now c.args.positions.now c.args.norms.now c.args.ranges.now c.args.inverses.now (length c.args.a.now) (length c.args.b.now) c.args.base c.args.want c.args.sums.now c.args.depth c.if-st-ne1.true c.if-st-eq-BOOLEAN.true c.joined_at-n.result c.joined_at-n.ensures (c.one_part.ensures c.if-one_part.true) c.requires
+part_scores-requires c = root-ask c.args.st.now c.args.postings.now c.args.positions.now c.args.norms.now c.args.ranges.now c.args.inverses.now (length c.args.a.now) (length c.args.b.now) c.args.base c.args.want c.args.sums.now c.args.depth c.if-st-ne1.true c.if-st-eq-BOOLEAN.true c.joined_at-n.result c.joined_at-n.ensures c.requires
 
-pub returns-then-one_part : goal.returns-then-one_part
-returns-then-one_part c = root-part c.args.st.now c.args.postings.now c.args.positions.now c.args.norms.now c.args.ranges.now c.args.inverses.now (length c.args.a.now) (length c.args.b.now) c.args.base c.args.want c.args.sums.now c.args.depth c.if-st-ne1.true c.if-st-eq-BOOLEAN.true c.joined_at-n.result c.joined_at-n.ensures c.part_scores.new.kids c.part_scores.new.sums c.part_scores.ensures
+pub returns-then-st-ne1 : goal.returns-then-st-ne1
+returns-then-st-ne1 c = root-part c.args.st.now c.args.postings.now c.args.positions.now c.args.norms.now c.args.ranges.now c.args.inverses.now (length c.args.a.now) (length c.args.b.now) c.args.base c.args.want c.args.sums.now c.args.depth c.if-st-ne1.true c.if-st-eq-BOOLEAN.true c.joined_at-n.result c.joined_at-n.ensures c.part_scores.new.kids c.part_scores.new.sums c.part_scores.ensures
 
 pub node_scores-requires : goal.node_scores-requires
 node_scores-requires c = root-as c.args.st.now c.args.postings.now c.args.positions.now c.args.norms.now c.args.ranges.now c.args.inverses.now (length c.args.a.now) (length c.args.b.now) c.args.base c.args.want c.args.sums.now c.args.depth c.requires
