@@ -52,7 +52,7 @@ pub fn build(
         &mut costs,
     );
     tree::place(
-        states, q, max_doc, fields, leaves, &nexts, &presents, &costs, &places, 0, false,
-        0.0, 1.0, 0, 16,
+        states, q, max_doc, fields, leaves, &nexts, &presents, &costs, &places, 0, false, 0.0, 1.0,
+        0, 16,
     )
 }

@@ -358,8 +358,8 @@ pub fn place(
 {
     match query::kind(q, at) {
         3 => place_boolean(
-            st, q, max_doc, fields, leaves, nexts, presents, costs, places, at, fixed,
-            kept, boost, scores, depth,
+            st, q, max_doc, fields, leaves, nexts, presents, costs, places, at, fixed, kept, boost,
+            scores, depth,
         ),
         6 => place(
             st,
@@ -396,8 +396,7 @@ pub fn place(
             depth - 1,
         ),
         _ => place_leaf(
-            st, q, max_doc, fields, leaves, presents, places, at, fixed, kept, boost,
-            scores,
+            st, q, max_doc, fields, leaves, presents, places, at, fixed, kept, boost, scores,
         ),
     }
 }

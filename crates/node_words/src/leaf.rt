@@ -59,13 +59,7 @@ pub fn place_leaf(
             boost,
             scores,
         ),
-        4 => place_range(
-            st,
-            max_doc,
-            places[at],
-            kept_or(fixed, kept, boost),
-            scores,
-        ),
+        4 => place_range(st, max_doc, places[at], kept_or(fixed, kept, boost), scores),
         5 => place_everything(st, kept_or(fixed, kept, boost), scores),
         _ => place_nothing(st, scores),
     }

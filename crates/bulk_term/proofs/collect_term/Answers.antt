@@ -92,8 +92,8 @@ loop-at-preserved c =
     let h : l.at < 3 * (n.first + n.number) = omega (arith, c.loop-at-test.true) in
     let P : TopScoreDocCollector → List ℤ → Type 0 = λ k z. record { long : length z ≡ length a.heap.now; passed : TermsAt a.postings.now a.norms.now a.live.now a.inverses.now n a.doc_base a.c a.heap.now k z (l.at + 3) } in
     elim c.if-is_live.branch [
-      then-is_live w ↦ joined P _ _ _ _ w.heap-is w.c-is (record { long = w.stepped-c.auto.heap ∙ l.invariant.long; passed = term-take a.postings.now a.norms.now a.live.now a.inverses.now n a.doc_base a.c a.heap.now l.c l.heap l.at l.invariant.passed h (get_or a.postings.now l.at 0) refl _ refl w.posting_score-s.result w.posting_score-s.ensures (sym c.is_live.ensures ∙ w.if-is_live.true) w.stepped-c.result w.stepped-c.new.heap w.stepped-c.ensures })
-    | else-is_live w ↦ joined P _ _ _ _ w.heap-is w.c-is (record { long = l.invariant.long; passed = term-pass a.postings.now a.norms.now a.live.now a.inverses.now n a.doc_base a.c a.heap.now l.c l.heap l.at l.invariant.passed h (get_or a.postings.now l.at 0) refl (sym c.is_live.ensures ∙ w.if-is_live.false) })
+      | then-is_live w ↦ joined P _ _ _ _ w.heap-is w.c-is (record { long = w.stepped-c.auto.heap ∙ l.invariant.long; passed = term-take a.postings.now a.norms.now a.live.now a.inverses.now n a.doc_base a.c a.heap.now l.c l.heap l.at l.invariant.passed h (get_or a.postings.now l.at 0) refl _ refl w.posting_score-s.result w.posting_score-s.ensures (sym c.is_live.ensures ∙ w.if-is_live.true) w.stepped-c.result w.stepped-c.new.heap w.stepped-c.ensures })
+      | else-is_live w ↦ joined P _ _ _ _ w.heap-is w.c-is (record { long = l.invariant.long; passed = term-pass a.postings.now a.norms.now a.live.now a.inverses.now n a.doc_base a.c a.heap.now l.c l.heap l.at l.invariant.passed h (get_or a.postings.now l.at 0) refl (sym c.is_live.ensures ∙ w.if-is_live.false) })
     ]
 
 pub returns : goal.returns

@@ -50,8 +50,7 @@ returns c =
     let a = s.args in
     let keys = c.range_keys-keys in
     let words = λ (i : ℕ). (c.shared_slice_known-2-1.given i).fits in
-    let same = scan-is-range a.max_doc a.columns.now a.values.now (asked s) words s.ranges.lower.fits s.ranges.upper.fits keys.result.from keys.result.to keys.ensures in
-    (
+    let same = scan-is-range a.max_doc a.columns.now a.values.now (asked s) words s.ranges.lower.fits s.ranges.upper.fits keys.result.from keys.result.to keys.ensures in (
       c.sift.ensures.0 ∙ ap length same,
       (λ i p h k. c.sift.ensures.1.0 i p h k ∙ ap (λ (b : Bool). ltb (32 * i + p) a.max_doc && b) (value-as-range a.max_doc a.columns.now a.values.now (asked s) words s.ranges.lower.fits s.ranges.upper.fits keys.result.from keys.result.to keys.ensures (32 * i + p)), c.sift.ensures.1.1),
     )

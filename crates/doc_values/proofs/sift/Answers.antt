@@ -23,8 +23,7 @@ loop-d-preserved c =
     let a = c.args in
     let l = c.loop-d in
     let F : ℕ → Bool = λ v. valueIn a.values.now v a.column_type a.from a.to in
-    let w = c.next_word-w.result in
-    (
+    let w = c.next_word-w.result in (
       omega (arith, l.invariant.0),
       omega (arith, c.loop-d-test.true),
       next-count a.max_doc a.start l.d l.word w F l.invariant.0 c.next_word-w.type_inv c.next_word-w.ensures l.output l.held l.invariant.2,
