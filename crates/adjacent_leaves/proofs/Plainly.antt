@@ -96,11 +96,13 @@ module _ (run : List ℕ) (n : ℕ) (t : Tally) (o : Over run n t) (some : 0 < n
     frequency-some last i l =
         ⊎_elim (λ (m : suc i < n). let e : suc i - 1 ≡ i = omega arith in omega (arith, next-index (suc i) (omega arith) m, rises (suc i) (omega arith) m, ap (λ (k : ℕ). get_or run (3 * k + 1) 0) e)) (λ (m : n ≤ suc i). let e : 3 * n - 2 ≡ 3 * i + 1 = omega arith in omega (arith, last, ap (λ (k : ℕ). get_or run k 0) e)) (cmp (suc i) n)
 
-    pub plain-all : (falls : ℕ) → t.ascents + falls ≡ n - 1 → 0 < get_or run (3 * n - 2) 0 → Plain run n falls
-    plain-all falls e last =
-        record {
-          joined = any_none n (apartAt run) none_apart;
-          some = frequency-some last;
-          most = λ i l. omega (arith, o.frequency i l, frequencies);
-          falling = omega (arith, falls-are, e);
-        }
+    pub plain-all : 0 < get_or run (3 * n - 2) 0 → (t.ascents ≤ n - 1) × Plain run n (n - 1 - t.ascents)
+    plain-all last = (
+      omega (arith, falls-are),
+      record {
+        joined = any_none n (apartAt run) none_apart;
+        some = frequency-some last;
+        most = λ i l. omega (arith, o.frequency i l, frequencies);
+        falling = omega (arith, falls-are);
+      },
+    )

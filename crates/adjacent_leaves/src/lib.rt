@@ -1,7 +1,7 @@
 // Leaves whose runs follow one another, as a writer lays them: whether nothing in them is wrong, where that shows at once.
 #![tactic(auto)]
 
-ghost use Rattle.std.specs.Prelude.{◌≡◌, [], true, false, not, ◌&&◌, ℕ, ◌<◌, ◌≤◌, ◌+◌, ◌/◌, eqb, length};
+ghost use Rattle.std.specs.Prelude.{◌≡◌, [], true, false, not, ◌&&◌, ℕ, ◌<◌, ◌≤◌, ◌+◌, ◌-◌, ◌/◌, eqb, length};
 ghost use Rattle.meaning.specs.Below.{anyBelow};
 ghost use Rattle.meaning.specs.Lent.{hasPositions, leafField, leafFirst, leafNumber};
 ghost use Rattle.meaning.specs.IndexRefusals.{wrong4, wrongPosting};
@@ -18,16 +18,13 @@ use index::{sum, wide};
 use posting_positions::plain_positions;
 use posting_rows::{Tally, gathered};
 
-// Whether what was gathered of a run shows that its records are right but for the documents, of which so many are not above
-// the one before. What it does not show may still be so.
-fn plain(run: &[u32], falls: usize, t: Tally) -> bool
-    requires { (0 < length run.now / 3) × (falls ≤ 4294967295) × Over run.now (length run.now / 3) t }
-    ensures { result ≡ true → Plain run.now (length run.now / 3) falls }
+// Whether what was gathered of records shows that they are right but for the documents, of which as many are not above the one
+// before as did not ascend. What it does not show may still be so.
+fn plain(run: &[u32], t: Tally) -> bool
+    requires { (0 < length run.now / 3) × Over run.now (length run.now / 3) t }
+    ensures { result ≡ true → (t.ascents ≤ length run.now / 3 - 1) × Plain run.now (length run.now / 3) (length run.now / 3 - 1 - t.ascents) }
 {
     let count = run.len() / 3;
-    if wide(t.ascents) + falls != count - 1 {
-        return false;
-    }
     if (wide(t.advances) != count - 1) | (t.apart != 0) {
         return false;
     }
@@ -41,20 +38,69 @@ fn plain(run: &[u32], falls: usize, t: Tally) -> bool
     run[last] > 0
 }
 
-// Whether a run is plainly right but for its documents, of which so many are not above the one before.
+// How many records are looked at together: so few that their positions and seams are read while they are near.
+const BLOCK: usize = 4096;
+
+// What a block shows: whether it is plainly right but for its documents, and how many of those are not above the one before.
+#[derive(Drop)]
+pub struct Block {
+    pub fine: bool,
+    pub falls: usize,
+}
+
+// A part of a run: records, then their positions.
+fn looked_at(part: &[u32], positions: &[u32]) -> Block
+    requires { (2 ≤ length part.now / 3) × (length part.now ≤ 4294967295) }
+    ensures { result.fine ≡ true → Plain part.now (length part.now / 3) result.falls × (anyBelow (length part.now / 3) (wrongPlaces part.now positions.now) ≡ false) }
+{
+    let t = gathered(part);
+    if plain(part, t) {
+        let fine = plain_positions(part, positions, t.frequencies);
+        let falls = part.len() / 3 - 1 - wide(t.ascents);
+        Block { fine, falls }
+    } else {
+        Block {
+            fine: false,
+            falls: 0,
+        }
+    }
+}
+
+// The end of the block that follows so many records.
+fn block_end(done: usize, count: usize) -> usize
+    requires { done < count }
+    ensures { (done < result) × (result ≤ count) × (result ≤ done + 4096) }
+{
+    if count - done > BLOCK {
+        done + BLOCK
+    } else {
+        count
+    }
+}
+
+// Whether a run is plainly right but for its documents, of which so many are not above the one before. Block by block, each with
+// the last record of the one before.
 fn plain_run(run: &[u32], positions: &[u32], falls: usize) -> bool
-    requires { falls ≤ 4294967295 }
     ensures { result ≡ true → Plain run.now (length run.now / 3) falls × (anyBelow (length run.now / 3) (wrongPlaces run.now positions.now) ≡ false) }
 {
-    if (run.len() < 6) | (run.len() > 4294967295) {
+    let count = run.len() / 3;
+    if count < 2 {
         return false;
     }
-    let t = gathered(run);
-    if plain(run, falls, t) {
-        plain_positions(run, positions, t.frequencies)
-    } else {
-        false
+    let mut done = 1;
+    let mut fallen = 0;
+    while done < count {
+        let end = block_end(done, count);
+        let from = 3 * done - 3;
+        let to = 3 * end;
+        let b = looked_at(&run[from..to], positions);
+        if !b.fine {
+            return false;
+        }
+        fallen += b.falls;
+        done = end;
     }
+    fallen == falls
 }
 
 // Leaves up to `end`: where the last run ends, how many first documents are not above the one before, and whether a last

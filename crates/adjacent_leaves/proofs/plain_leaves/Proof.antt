@@ -12,9 +12,8 @@ use Rattle.meaning.specs.IndexRefusals.{wrongPosting}
 use Rattle.meaning.proofs.Tests.{or_left, or_right}
 use Rattle.index.specs.Slices.{runsOnly}
 use Rattle.index.specs.Accepted.{LeafOk}
-use Rattle.adjacent_leaves.specs.Together.{Together, borderFall}
-use Rattle.meaning.proofs.Below.{count-le}
-use Rattle.index.proofs.Known.{leaf-ok, leaves-few}
+use Rattle.adjacent_leaves.specs.Together.{Together}
+use Rattle.index.proofs.Known.{leaf-ok}
 use Rattle.index.proofs.Parts.{wrong4-of}
 use Rattle.index.proofs.Words.{leaf-field, leaf_first, leaf-number, field-positions}
 use Rattle.adjacent_leaves.proofs.Adjoined.{together-with}
@@ -70,9 +69,6 @@ module _ (c : tie.Else-s) where
 
   fits : 3 * c.adjacent-s.result.last ≤ length (begun first_leaf).args.postings.now
   fits = omega (arith, joined.ends, (ok (begun first_leaf) (l first_leaf + (m - 1)) (omega (arith, within))).words)
-
-  few : c.adjacent-s.result.falls ≤ 512
-  few = omega (arith, joined.fallen, count-le m (borderFall (ix (begun first_leaf)) (l first_leaf)), within, leaves-few (ix (begun first_leaf)) (wrong4-of (ix (begun first_leaf)) ∙ (begun first_leaf).requires.0))
 
 -- where the first run begins
 module _ (c : tie.After-struct_known-3-1) where
@@ -143,7 +139,7 @@ part-run-end c = omega (arith, fits (then c))
 
 -- src/adjacent.rt:126:9
 plain-run-requires : tie.Need-plain_run-fine-requires
-plain-run-requires c κs = omega (arith, few (then c.before))
+plain-run-requires c κs = search rules
 
 -- src/adjacent.rt:96:1
 returns-3 : tie.Need-returns
