@@ -28,22 +28,22 @@ use lib.ListN.{replicate}
 use lib.IntN.{ℤ, pos, negsuc}
 use lib.Ieee.{nan, binary32, binary64, of_bits, to_bits}
 use Rattle.meaning.specs.Ieee754.{narrow}
-use Rattle.meaning.specs.Narrowing.{narrowInSteps}
+use Rattle.meaning.specs.Narrowing.{narrow_in_steps}
 use Rattle.meaning.specs.Lent.{Index}
-use Rattle.meaning.specs.Query.{queryTree}
+use Rattle.meaning.specs.Query.{query_tree}
 use Rattle.meaning.specs.Range.{NumericRange}
-use Rattle.meaning.specs.Scorer.{hasScorer}
+use Rattle.meaning.specs.Scorer.{has_scorer}
 use Rattle.meaning.specs.Cost.{cost}
-use Rattle.meaning.specs.FullList.{ScoreDoc, fullList}
+use Rattle.meaning.specs.FullList.{ScoreDoc, full_list}
 use Rattle.meaning.specs.CallRefusals.{Work}
-use Rattle.meaning.specs.Entries.{searchAnswer, searchHits, pageAnswer, pageDocuments, pageScores, columnsOnly, rangeAnswer, rangeOutput, pickAnswer, pickHits, placeRefusal, placeRight, lengthAnswer}
-use Rattle.meaning.specs.Tokens.{Token, indexOfTokens, tokensBack}
-use Rattle.meaning.specs.TokenRefusals.{Outputs, writeRefusal, writeAnswer, writtenNorms, writtenPostings, writtenPositions, writtenRuns}
+use Rattle.meaning.specs.Entries.{search_answer, search_hits, page_answer, page_documents, page_scores, columns_only, range_answer, range_output, pick_answer, pick_hits, place_refusal, place_right, length_answer}
+use Rattle.meaning.specs.Tokens.{Token, index_of_tokens, tokens_back}
+use Rattle.meaning.specs.TokenRefusals.{Outputs, write_refusal, write_answer, written_norms, written_postings, written_positions, written_runs}
 use Rattle.meaning.specs.HitsText.{files}
-use Rattle.meaning.specs.HitsProgram.{searchText, hitsText}
+use Rattle.meaning.specs.HitsProgram.{search_text, hits_text}
 
 abbrev work : ℕ → ℕ → ℕ → ℕ → Work
-work a b c d = record { states = a; starts = b; otherStarts = c; ranges = d }
+work a b c d = record { states = a; starts = b; other_starts = c; ranges = d }
 
 abbrev range : ℕ → ℕ → ℕ → ℕ → NumericRange
 range a b c d = record { column = a; kinds = b; lower = c; upper = d }
@@ -52,7 +52,7 @@ abbrev pairs : List ScoreDoc → List ℕ
 pairs list = map (λ h. h.doc) list ++ map (λ h. to_bits binary32 h.score) list
 
 abbrev costed : Index → List ℕ → List ℕ
-costed ix q = cond (hasScorer ix (queryTree q)) (1 ∷ cost ix (queryTree q) ∷ []) (0 ∷ [])
+costed ix q = cond (has_scorer ix (query_tree q)) (1 ∷ cost ix (query_tree q) ∷ []) (0 ∷ [])
 
 abbrev outputs : ℕ → ℕ → ℕ → ℕ → Outputs
 outputs a b c d = record { norms = a; postings = b; positions = c; runs = d }
@@ -62,7 +62,7 @@ tokenWords [] = []
 tokenWords (t ∷ ts) = t.leaf ∷ t.document ∷ t.position ∷ tokenWords ts
 
 abbrev readBack : ℕ → List ℕ → List ℕ → List ℕ → List ℕ
-readBack n fields leafFields ws = tokenWords (tokensBack (indexOfTokens n fields ws leafFields [] [] [] []))
+readBack n fields leaf_fields ws = tokenWords (tokens_back (index_of_tokens n fields ws leaf_fields [] [] [] []))
 ";
 
 /// The entries, with the full list, the text of the program `hits`, and narrowing, by the step that
@@ -153,7 +153,7 @@ fn work(lent: &Lengths) -> String {
 /// The lent index and query of a row.
 fn lent(number: usize, case: &Case) -> String {
     let mut text = format!(
-        "\nabbrev ix-{number} : Index\nix-{number} = record {{ maxDoc = {}",
+        "\nabbrev ix-{number} : Index\nix-{number} = record {{ max_doc = {}",
         case.n
     );
     for (name, list) in [

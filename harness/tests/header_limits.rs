@@ -9,32 +9,32 @@ type Values = BTreeMap<String, u32>;
 
 /// A name of the header, and the limit that it has as a whole number.
 const NUMBERS: [(&str, &str); 14] = [
-    ("LOT_MAX_DOCUMENTS", "maxDocuments"),
-    ("LOT_MAX_FIELDS", "maxFields"),
-    ("LOT_MAX_LEAVES", "maxLeaves"),
-    ("LOT_MAX_COLUMNS", "maxColumns"),
-    ("LOT_MAX_FREQUENCY", "largestFrequency"),
-    ("LOT_MAX_POSITION", "noMoreDocs"),
-    ("LOT_MAX_RECORDS", "maxRecords"),
-    ("LOT_MAX_DEPTH", "maxDepth"),
-    ("LOT_MAX_PHRASE_TERMS", "maxPhraseTerms"),
-    ("LOT_MAX_CLAUSES", "maxClauses"),
-    ("LOT_MAX_HITS", "maxHits"),
-    ("LOT_NO_MORE_DOCS", "noMoreDocs"),
-    ("LOT_STATE_WORDS", "nodeStateWords"),
-    ("LOT_MAX_TOKENS", "maxTokens"),
+    ("LOT_MAX_DOCUMENTS", "max_documents"),
+    ("LOT_MAX_FIELDS", "max_fields"),
+    ("LOT_MAX_LEAVES", "max_leaves"),
+    ("LOT_MAX_COLUMNS", "max_columns"),
+    ("LOT_MAX_FREQUENCY", "largest_frequency"),
+    ("LOT_MAX_POSITION", "no_more_docs"),
+    ("LOT_MAX_RECORDS", "max_records"),
+    ("LOT_MAX_DEPTH", "max_depth"),
+    ("LOT_MAX_PHRASE_TERMS", "max_phrase_terms"),
+    ("LOT_MAX_CLAUSES", "max_clauses"),
+    ("LOT_MAX_HITS", "max_hits"),
+    ("LOT_NO_MORE_DOCS", "no_more_docs"),
+    ("LOT_STATE_WORDS", "node_state_words"),
+    ("LOT_MAX_TOKENS", "max_tokens"),
 ];
 
 /// A name of the header, and the limit that has the bits of the same number as f32.
 const FLOATS: [(&str, &str); 4] = [
-    ("LOT_MIN_AVERAGE", "leastAverage"),
-    ("LOT_MAX_AVERAGE", "largestAverage"),
-    ("LOT_MAX_IDF", "largestIdf"),
-    ("LOT_MAX_BOOST", "largestBoost"),
+    ("LOT_MIN_AVERAGE", "least_average"),
+    ("LOT_MAX_AVERAGE", "largest_average"),
+    ("LOT_MAX_IDF", "largest_idf"),
+    ("LOT_MAX_BOOST", "largest_boost"),
 ];
 
 /// Limits that the header says in words or in its own code.
-const IN_WORDS: [&str; 1] = ["plusInfinity"];
+const IN_WORDS: [&str; 1] = ["plus_infinity"];
 
 /// A number as C or antt writes it: 1024, 4294967295u, 0x3f80_0000.
 fn number(text: &str) -> Option<u32> {
@@ -110,7 +110,7 @@ fn another_limit_is_seen() {
 #[test]
 #[should_panic(expected = "LOT_MAX_IDF")]
 fn another_float_is_seen() {
-    both(|_, limits| *limits.get_mut("largestIdf").unwrap() += 1);
+    both(|_, limits| *limits.get_mut("largest_idf").unwrap() += 1);
 }
 
 #[test]

@@ -8,55 +8,55 @@ use native.Mathlib.Omega.{arith}
 use lib.Dec.{leb}
 use lib.ListN.{get_or}
 use borrow.Author.Tests.{lt-ltb, leb-false}
-use Rattle.meaning.specs.Below.{countBelow}
-use Rattle.meaning.specs.Lent.{Index, hasPositions, leafField, leafFirst, leafNumber, leafDocument}
+use Rattle.meaning.specs.Below.{count_below}
+use Rattle.meaning.specs.Lent.{Index, has_positions, leaf_field, leaf_first, leaf_number, leaf_document}
 use Rattle.meaning.proofs.Tests.{or_left, or_right}
 use Rattle.meaning.proofs.Below.{last-or-below}
-use Rattle.index.specs.Slices.{runsOnly}
-use Rattle.adjacent_leaves.specs.Together.{Together, borderFall}
+use Rattle.index.specs.Slices.{runs_only}
+use Rattle.adjacent_leaves.specs.Together.{Together, border_fall}
 
 module _ (ix : Index) where
-  abbrev documentAt : ℕ → ℕ
-  documentAt k = get_or ix.postings k 0
+  abbrev document_at : ℕ → ℕ
+  document_at k = get_or ix.postings k 0
 
   -- the last document of a leaf that is not empty
-  last-document : (l last : ℕ) → 0 < leafNumber ix l → last ≡ leafFirst ix l + leafNumber ix l → leafDocument ix l (leafNumber ix l - 1) ≡ documentAt (3 * last - 3)
+  last-document : (l last : ℕ) → 0 < leaf_number ix l → last ≡ leaf_first ix l + leaf_number ix l → leaf_document ix l (leaf_number ix l - 1) ≡ document_at (3 * last - 3)
   last-document l last p e =
-      let z : 3 * (leafFirst ix l + (leafNumber ix l - 1)) ≡ 3 * last - 3 = omega arith in ap (λ (k : ℕ). documentAt k) z
+      let z : 3 * (leaf_first ix l + (leaf_number ix l - 1)) ≡ 3 * last - 3 = omega arith in ap (λ (k : ℕ). document_at k) z
 
-  border-none : (l : ℕ) → ◌≡◌ {A = ℕ} 0 (countBelow 1 (borderFall ix l))
-  unfolding countBelow
+  border-none : (l : ℕ) → ◌≡◌ {A = ℕ} 0 (count_below 1 (border_fall ix l))
+  unfolding count_below
   border-none l = refl
 
-  pub together-one : (l last : ℕ) → 0 < leafNumber ix l → last ≡ leafFirst ix l + leafNumber ix l → Together ix l 1 last 0 (leb ix.maxDoc (documentAt (3 * last - 3)))
+  pub together-one : (l last : ℕ) → 0 < leaf_number ix l → last ≡ leaf_first ix l + leaf_number ix l → Together ix l 1 last 0 (leb ix.max_doc (document_at (3 * last - 3)))
   together-one l last p e =
       let z : l ≡ l + 0 = omega arith in
       record {
-        some = λ i g. let y : l ≡ l + i = omega arith in subst (λ (k : ℕ). 0 < leafNumber ix k) y p;
+        some = λ i g. let y : l ≡ l + i = omega arith in subst (λ (k : ℕ). 0 < leaf_number ix k) y p;
         next = λ i g. absurd (omega arith);
         with = λ i g. absurd (omega arith);
-        ends = subst (λ (k : ℕ). last ≡ leafFirst ix k + leafNumber ix k) z e;
+        ends = subst (λ (k : ℕ). last ≡ leaf_first ix k + leaf_number ix k) z e;
         fallen = border-none l;
-        low = λ h i g. let y : l ≡ l + i = omega arith in subst (λ (k : ℕ). leafDocument ix k (leafNumber ix k - 1) < ix.maxDoc) y (subst (λ (d : ℕ). d < ix.maxDoc) (sym (last-document l last p e)) (leb-false _ _ h));
+        low = λ h i g. let y : l ≡ l + i = omega arith in subst (λ (k : ℕ). leaf_document ix k (leaf_number ix k - 1) < ix.max_doc) y (subst (λ (d : ℕ). d < ix.max_doc) (sym (last-document l last p e)) (leb-false _ _ h));
       }
 
   -- a first document held to the one before
-  pub border-is : (l m e last : ℕ) → e ≡ l + m → 0 < m → leafFirst ix e ≡ last → leb (documentAt (3 * last)) (documentAt (3 * last - 3)) ≡ borderFall ix l m
+  pub border-is : (l m e last : ℕ) → e ≡ l + m → 0 < m → leaf_first ix e ≡ last → leb (document_at (3 * last)) (document_at (3 * last - 3)) ≡ border_fall ix l m
   border-is l m e last s p g =
-      sym (ap (λ (b : Bool). b && leb (documentAt (3 * leafFirst ix (l + m))) (documentAt (3 * leafFirst ix (l + m) - 3))) (lt-ltb _ _ p) ∙ ap (λ (k : ℕ). leb (documentAt (3 * k)) (documentAt (3 * k - 3))) (ap (λ (k : ℕ). leafFirst ix k) (sym s) ∙ g))
+      sym (ap (λ (b : Bool). b && leb (document_at (3 * leaf_first ix (l + m))) (document_at (3 * leaf_first ix (l + m) - 3))) (lt-ltb _ _ p) ∙ ap (λ (k : ℕ). leb (document_at (3 * k)) (document_at (3 * k - 3))) (ap (λ (k : ℕ). leaf_first ix k) (sym s) ∙ g))
 
-  module _ (l m last falls : ℕ) (high : Bool) (t : Together ix l m last falls high) (p : 0 < m) (e : ℕ) (s : e ≡ l + m) (g : leafFirst ix e ≡ last) (n : 0 < leafNumber ix e) (q : hasPositions ix (leafField ix e) ≡ true) where
-    pub together-more : (last' falls' : ℕ) → last' ≡ leafFirst ix e + leafNumber ix e → falls' ≡ countBelow (m + 1) (borderFall ix l) → Together ix l (m + 1) last' falls' (high || leb ix.maxDoc (documentAt (3 * last' - 3)))
+  module _ (l m last falls : ℕ) (high : Bool) (t : Together ix l m last falls high) (p : 0 < m) (e : ℕ) (s : e ≡ l + m) (g : leaf_first ix e ≡ last) (n : 0 < leaf_number ix e) (q : has_positions ix (leaf_field ix e) ≡ true) where
+    pub together-more : (last' falls' : ℕ) → last' ≡ leaf_first ix e + leaf_number ix e → falls' ≡ count_below (m + 1) (border_fall ix l) → Together ix l (m + 1) last' falls' (high || leb ix.max_doc (document_at (3 * last' - 3)))
     together-more last' falls' a b =
         record {
-          some = λ i k. ⊎_elim (λ (z : i ≡ m). let y : e ≡ l + i = omega arith in subst (λ (x : ℕ). 0 < leafNumber ix x) y n) (λ (z : i < m). t.some i z) (last-or-below i m (omega arith));
-          next = λ i k. ⊎_elim (λ (z : suc i ≡ m). let y : e ≡ l + suc i = omega arith in let x : m - 1 ≡ i = omega arith in sym (ap (λ (w : ℕ). leafFirst ix w) y) ∙ g ∙ t.ends ∙ ap (λ (w : ℕ). leafFirst ix (l + w) + leafNumber ix (l + w)) x) (λ (z : suc i < m). t.next i z) (last-or-below (suc i) m (omega arith));
-          with = λ i k. ⊎_elim (λ (z : suc i ≡ m). let y : e ≡ l + suc i = omega arith in subst (λ (x : ℕ). hasPositions ix (leafField ix x) ≡ true) y q) (λ (z : suc i < m). t.with i z) (last-or-below (suc i) m (omega arith));
-          ends = let y : e ≡ l + (m + 1 - 1) = omega arith in subst (λ (k : ℕ). last' ≡ leafFirst ix k + leafNumber ix k) y a;
+          some = λ i k. ⊎_elim (λ (z : i ≡ m). let y : e ≡ l + i = omega arith in subst (λ (x : ℕ). 0 < leaf_number ix x) y n) (λ (z : i < m). t.some i z) (last-or-below i m (omega arith));
+          next = λ i k. ⊎_elim (λ (z : suc i ≡ m). let y : e ≡ l + suc i = omega arith in let x : m - 1 ≡ i = omega arith in sym (ap (λ (w : ℕ). leaf_first ix w) y) ∙ g ∙ t.ends ∙ ap (λ (w : ℕ). leaf_first ix (l + w) + leaf_number ix (l + w)) x) (λ (z : suc i < m). t.next i z) (last-or-below (suc i) m (omega arith));
+          with = λ i k. ⊎_elim (λ (z : suc i ≡ m). let y : e ≡ l + suc i = omega arith in subst (λ (x : ℕ). has_positions ix (leaf_field ix x) ≡ true) y q) (λ (z : suc i < m). t.with i z) (last-or-below (suc i) m (omega arith));
+          ends = let y : e ≡ l + (m + 1 - 1) = omega arith in subst (λ (k : ℕ). last' ≡ leaf_first ix k + leaf_number ix k) y a;
           fallen = b;
-          low = λ h i k. ⊎_elim (λ (z : i ≡ m). let y : e ≡ l + i = omega arith in subst (λ (x : ℕ). leafDocument ix x (leafNumber ix x - 1) < ix.maxDoc) y (subst (λ (d : ℕ). d < ix.maxDoc) (sym (last-document e last' n a)) (leb-false _ _ (or_right high (leb ix.maxDoc (documentAt (3 * last' - 3))) h)))) (λ (z : i < m). t.low (or_left high (leb ix.maxDoc (documentAt (3 * last' - 3))) h) i z) (last-or-below i m (omega arith));
+          low = λ h i k. ⊎_elim (λ (z : i ≡ m). let y : e ≡ l + i = omega arith in subst (λ (x : ℕ). leaf_document ix x (leaf_number ix x - 1) < ix.max_doc) y (subst (λ (d : ℕ). d < ix.max_doc) (sym (last-document e last' n a)) (leb-false _ _ (or_right high (leb ix.max_doc (document_at (3 * last' - 3))) h)))) (λ (z : i < m). t.low (or_left high (leb ix.max_doc (document_at (3 * last' - 3))) h) i z) (last-or-below i m (omega arith));
         }
 
 -- positions say nothing of it
-pub together-with : (n : ℕ) (fs ls ps qs : List ℕ) (l m last falls : ℕ) (high : Bool) → Together (runsOnly n fs ls ps []) l m last falls high → Together (runsOnly n fs ls ps qs) l m last falls high
+pub together-with : (n : ℕ) (fs ls ps qs : List ℕ) (l m last falls : ℕ) (high : Bool) → Together (runs_only n fs ls ps []) l m last falls high → Together (runs_only n fs ls ps qs) l m last falls high
 together-with n fs ls ps qs l m last falls high t = record { some = t.some; next = t.next; with = t.with; ends = t.ends; fallen = t.fallen; low = t.low }

@@ -2,11 +2,11 @@
 #![tactic(auto)]
 
 ghost use Rattle.std.specs.Prelude.{◌≡◌, [], true, false, not, ◌&&◌, ℕ, ◌<◌, ◌≤◌, ◌+◌, ◌-◌, ◌/◌, eqb, length};
-ghost use Rattle.meaning.specs.Below.{anyBelow};
-ghost use Rattle.meaning.specs.Lent.{hasPositions, leafField, leafFirst, leafNumber};
-ghost use Rattle.meaning.specs.IndexRefusals.{wrong4, wrongPosting};
-ghost use Rattle.index.specs.Slices.{leavesOnly, runsOnly};
-ghost use Rattle.posting_positions.specs.Places.{wrongPlaces};
+ghost use Rattle.meaning.specs.Below.{any_below};
+ghost use Rattle.meaning.specs.Lent.{has_positions, leaf_field, leaf_first, leaf_number};
+ghost use Rattle.meaning.specs.IndexRefusals.{wrong4, wrong_posting};
+ghost use Rattle.index.specs.Slices.{leaves_only, runs_only};
+ghost use Rattle.posting_positions.specs.Places.{wrong_places};
 ghost use Rattle.posting_rows.specs.Rows.{Over};
 ghost use Rattle.adjacent_leaves.specs.Plain.{Plain};
 ghost use Rattle.adjacent_leaves.specs.Together.{Together};
@@ -51,7 +51,7 @@ pub struct Block {
 // A part of a run: records, then their positions.
 fn looked_at(part: &[u32], positions: &[u32]) -> Block
     requires { (2 ≤ length part.now / 3) × (length part.now ≤ 4294967295) }
-    ensures { result.fine ≡ true → Plain part.now (length part.now / 3) result.falls × (anyBelow (length part.now / 3) (wrongPlaces part.now positions.now) ≡ false) }
+    ensures { result.fine ≡ true → Plain part.now (length part.now / 3) result.falls × (any_below (length part.now / 3) (wrong_places part.now positions.now) ≡ false) }
 {
     let t = gathered(part);
     if plain(part, t) {
@@ -81,7 +81,7 @@ fn block_end(done: usize, count: usize) -> usize
 // Whether a run is plainly right but for its documents, of which so many are not above the one before. Block by block, each with
 // the last record of the one before.
 fn plain_run(run: &[u32], positions: &[u32], falls: usize) -> bool
-    ensures { result ≡ true → Plain run.now (length run.now / 3) falls × (anyBelow (length run.now / 3) (wrongPlaces run.now positions.now) ≡ false) }
+    ensures { result ≡ true → Plain run.now (length run.now / 3) falls × (any_below (length run.now / 3) (wrong_places run.now positions.now) ≡ false) }
 {
     let count = run.len() / 3;
     if count < 2 {
@@ -116,7 +116,7 @@ pub struct Stretch {
 // Where a leaf's run ends.
 fn leaf_end(leaves: &[u32], l: usize) -> usize
     requires { l < length leaves.now / 4 }
-    ensures { result ≡ leafFirst (leavesOnly [] leaves.now []) l + leafNumber (leavesOnly [] leaves.now []) l }
+    ensures { result ≡ leaf_first (leaves_only [] leaves.now []) l + leaf_number (leaves_only [] leaves.now []) l }
 {
     let leaf = leaf_at(leaves, l);
     sum(leaf.first, leaf.number)
@@ -124,8 +124,8 @@ fn leaf_end(leaves: &[u32], l: usize) -> usize
 
 // Whether the run of leaf l begins at posting `last`, is not empty, and its field has positions.
 fn follows(fields: &[u32], leaves: &[u32], l: usize, last: usize) -> bool
-    requires { (l < length leaves.now / 4) × (leafField (leavesOnly [] leaves.now []) l < length fields.now / 3) }
-    ensures { result ≡ ((eqb (leafFirst (leavesOnly [] leaves.now []) l) last && not (eqb (leafNumber (leavesOnly [] leaves.now []) l) 0)) && hasPositions (leavesOnly fields.now [] []) (leafField (leavesOnly [] leaves.now []) l)) }
+    requires { (l < length leaves.now / 4) × (leaf_field (leaves_only [] leaves.now []) l < length fields.now / 3) }
+    ensures { result ≡ ((eqb (leaf_first (leaves_only [] leaves.now []) l) last && not (eqb (leaf_number (leaves_only [] leaves.now []) l) 0)) && has_positions (leaves_only fields.now [] []) (leaf_field (leaves_only [] leaves.now []) l)) }
 {
     let leaf = leaf_at(leaves, l);
     let field = field_at(fields, wide(leaf.field));
@@ -141,9 +141,9 @@ fn adjacent(
     l: usize,
     limit: usize,
 ) -> Stretch
-    requires postings_value { wrong4 (leavesOnly fields.now leaves.now postings.now) ≡ false }
-    requires l_lt_limit { (l < limit) × (limit ≤ length leaves.now / 4) × (0 < leafNumber (leavesOnly [] leaves.now []) l) }
-    ensures { (m : ℕ) × ((result.end ≡ l + m) × (0 < m) × (l + m ≤ limit) × Together (runsOnly max_doc fields.now leaves.now postings.now []) l m result.last result.falls result.high) }
+    requires postings_value { wrong4 (leaves_only fields.now leaves.now postings.now) ≡ false }
+    requires l_lt_limit { (l < limit) × (limit ≤ length leaves.now / 4) × (0 < leaf_number (leaves_only [] leaves.now []) l) }
+    ensures { (m : ℕ) × ((result.end ≡ l + m) × (0 < m) × (l + m ≤ limit) × Together (runs_only max_doc fields.now leaves.now postings.now []) l m result.last result.falls result.high) }
 {
     let mut last = leaf_end(leaves, l);
     let mut high = postings[3 * last - 3] >= max_doc;
@@ -191,10 +191,10 @@ pub fn plain_leaves(
     l: usize,
     limit: usize,
 ) -> Turn
-    requires postings_value { wrong4 (leavesOnly fields.now leaves.now postings.now) ≡ false }
+    requires postings_value { wrong4 (leaves_only fields.now leaves.now postings.now) ≡ false }
     requires l_lt_limit { (l < limit) × (limit ≤ length leaves.now / 4) }
     ensures l_lt_end { (l < result.end) × (result.end ≤ limit) }
-    ensures k_value { result.fine ≡ true → (k : ℕ) → l ≤ k → k < result.end → anyBelow (leafNumber (leavesOnly [] leaves.now []) k) (wrongPosting (runsOnly max_doc fields.now leaves.now postings.now positions.now) k) ≡ false }
+    ensures k_value { result.fine ≡ true → (k : ℕ) → l ≤ k → k < result.end → any_below (leaf_number (leaves_only [] leaves.now []) k) (wrong_posting (runs_only max_doc fields.now leaves.now postings.now positions.now) k) ≡ false }
 {
     let leaf = leaf_at(leaves, l);
     let field = field_at(fields, wide(leaf.field));

@@ -3,7 +3,7 @@ use Rattle.std.proofs.Common.{◌≡◌, refl, ap, ap₂, ◌∙◌, Bool, true,
 use native.Mathlib.Nat.{mod-one}
 use lib.Count.{ones}
 use Rattle.std.proofs.lemmas.Nat.{and_mask, mod-pow-add, ones_cat, one_shl}
-use Rattle.meaning.specs.Below.{countBelow}
+use Rattle.meaning.specs.Below.{count_below}
 use Rattle.bits.specs.Bit.{digit, bit}
 use Rattle.bits.proofs.Laws.{bit-shift}
 
@@ -21,14 +21,14 @@ turned : (a b : Bool) (n : ℕ) → b ≡ a → cond a 1 0 + n ≡ n + cond b 1 
 turned true b n e = rw e (omega arith)
 turned false b n e = rw e (omega arith)
 
-pub ones-below : (p w : ℕ) → ones (w % 2 ^ p) ≡ countBelow p (λ q. bit q w)
-unfolding countBelow ones bit
+pub ones-below : (p w : ℕ) → ones (w % 2 ^ p) ≡ count_below p (λ q. bit q w)
+unfolding count_below ones bit
 ones-below zero w = ap ones (mod-one w)
 ones-below (suc p) w =
     ap ones (split-top p w) ∙ ones_cat p (w / 2 ^ p % 2) (w % 2 ^ p) (mod-lt w (pow_pos p))
     ∙ ap₂ (λ (x y : ℕ). x + y) (one-digit (w / 2 ^ p % 2) (mod-lt (w / 2 ^ p) (omega arith))) (ones-below p w)
-    ∙ turned (digit (w / 2 ^ p % 2)) (bit p w) (countBelow p (λ q. bit q w)) (bit-shift p w)
+    ∙ turned (digit (w / 2 ^ p % 2)) (bit p w) (count_below p (λ q. bit q w)) (bit-shift p w)
 
 -- `(w & ((1 << p) - 1)).count_ones()`
-pub rank : (p w : ℕ) → p < 64 → ones (bit_and w (1 * 2 ^ p % 2 ^ 64 - 1)) ≡ countBelow p (λ q. bit q w)
+pub rank : (p w : ℕ) → p < 64 → ones (bit_and w (1 * 2 ^ p % 2 ^ 64 - 1)) ≡ count_below p (λ q. bit q w)
 rank p w h = ap (λ (x : ℕ). ones (bit_and w (x - 1))) (one_shl p 64 h) ∙ ap ones (and_mask w p) ∙ ones-below p w

@@ -1,6 +1,6 @@
 -- The bits of a word, the lowest first, and of many words. Assumes nothing: these are definitions.
 use Rattle.std.specs.Prelude.{◌≡◌, Bool, true, false, ℕ, zero, suc, ◌+◌, ◌*◌, ◌/◌, ◌%◌, ◌<◌, List, get_or}
-use Rattle.meaning.specs.Below.{listBelow}
+use Rattle.meaning.specs.Below.{list_below}
 
 -- a digit is 1
 abbrev pub digit : ℕ → Bool
@@ -13,8 +13,8 @@ bit zero w = digit (w % 2)
 bit (suc p) w = bit p (w / 2)
 
 -- the places of the bits that are set, ascending
-abbrev pub setBits : ℕ → List ℕ
-setBits w = listBelow 64 (λ p. bit p w)
+abbrev pub set_bits : ℕ → List ℕ
+set_bits w = list_below 64 (λ p. bit p w)
 
 -- place t has the lowest bit that is set
 pub record LowestBit (w t : ℕ) : Type 0 where
@@ -23,8 +23,8 @@ pub record LowestBit (w t : ℕ) : Type 0 where
   pub below : (q : ℕ) → q < t → bit q w ≡ false
 
 -- how many words of 32 bits have so many
-abbrev pub bitmapWords : ℕ → ℕ
-bitmapWords n = (n + 31) / 32
+abbrev pub bitmap_words : ℕ → ℕ
+bitmap_words n = (n + 31) / 32
 
 -- the bits of so many words, from the first one on, are the numbers that have the property
 abbrev pub Bitmap : (ℕ → Bool) → List ℕ → ℕ → ℕ → Type 0

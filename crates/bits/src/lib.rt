@@ -2,8 +2,8 @@
 #![tactic(auto)]
 
 ghost use Rattle.std.specs.Prelude.{◌≡◌, not, ◌&&◌, ◌||◌, eqb, ltb, ℕ, ◌+◌, ◌-◌, ◌*◌, ◌/◌, ◌%◌, ◌≤◌, ◌<◌, ◌∷◌};
-ghost use Rattle.meaning.specs.Below.{countBelow};
-ghost use Rattle.bits.specs.Bit.{bit, setBits, LowestBit, bitmapWords};
+ghost use Rattle.meaning.specs.Below.{count_below};
+ghost use Rattle.bits.specs.Bit.{bit, set_bits, LowestBit, bitmap_words};
 
 pub fn set_bit(w: u64, p: u32) -> u64
     requires { p < 64 }
@@ -43,7 +43,7 @@ pub fn without_lowest(w: u64) -> u64
     requires { 0 < w }
     ensures smaller { result < w }
     ensures others { (t : ℕ) → LowestBit w t → (q : ℕ) → bit q result ≡ bit q w && not (eqb q t) }
-    ensures listed { (t : ℕ) → LowestBit w t → setBits w ≡ t ∷ setBits result }
+    ensures listed { (t : ℕ) → LowestBit w t → set_bits w ≡ t ∷ set_bits result }
 {
     w & (w - 1)
 }
@@ -51,7 +51,7 @@ pub fn without_lowest(w: u64) -> u64
 // How many bits are set below a place.
 pub fn rank(w: u64, p: u32) -> u32
     requires { p < 64 }
-    ensures { result ≡ countBelow p (λ q. bit q w) }
+    ensures { result ≡ count_below p (λ q. bit q w) }
 {
     (w & ((1u64 << p) - 1)).count_ones()
 }
@@ -94,7 +94,7 @@ pub fn is_set(w: u64, p: u32) -> bool
 
 // How many words of 32 bits have n bits.
 pub fn bitmap_words(n: u32) -> u32
-    ensures { result ≡ bitmapWords n }
+    ensures { result ≡ bitmap_words n }
 {
     ((n as u64 + 31) / 32) as u32
 }

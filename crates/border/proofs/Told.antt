@@ -8,19 +8,19 @@ use lib.ListN.{length, get_or, set}
 use lib.IntN.{ℤ}
 use lib.Ieee.{binary32, to_bits}
 use Rattle.meaning.specs.Lent.{Index}
-use Rattle.meaning.specs.Query.{queryTree}
-use Rattle.meaning.specs.FullList.{fullList}
+use Rattle.meaning.specs.Query.{query_tree}
+use Rattle.meaning.specs.FullList.{full_list}
 use Rattle.meaning.specs.Hits.{hits}
 use Rattle.meaning.specs.CallRefusals.{Work}
-use Rattle.meaning.specs.Entries.{answered, written, Kept, searchRefusal, searchAnswer, searchHits, page_of, pageRefusal, pageAnswer, pageDocuments, pageScores, pickedList, pickRefusal, pickAnswer, pickHits}
+use Rattle.meaning.specs.Entries.{answered, written, Kept, search_refusal, search_answer, search_hits, page_of, page_refusal, page_answer, page_documents, page_scores, picked_list, pick_refusal, pick_answer, pick_hits}
 use Rattle.collector.specs.declared.TopDocs.{TopDocs}
 use Rattle.walk.specs.declared.Listed.{Listed}
 use Rattle.searcher.specs.declared.search.Searched.{Searched}
 use Rattle.searcher.specs.declared.page.Paged.{Paged}
 use Rattle.pick_entry.specs.declared.Picked.{Picked}
-use Rattle.searcher.specs.Answers.{searchedNumbers, pagedNumbers}
-use Rattle.pick_entry.specs.Answers.{pickedNumbers}
-use Rattle.border.specs.Border.{shortAnswer, borderSearch, borderPage, borderPick, topNumbers, pageNumbers}
+use Rattle.searcher.specs.Answers.{searched_numbers, paged_numbers}
+use Rattle.pick_entry.specs.Answers.{picked_numbers}
+use Rattle.border.specs.Border.{short_answer, border_search, border_page, border_pick, top_numbers, page_numbers}
 use Rattle.border.proofs.Short.{short-refuses, search-short, search-long, page-short, page-long, pick-short, pick-long}
 
 -- ---- an answer as a list of numbers
@@ -65,102 +65,102 @@ two-written a b (x ∷ y ∷ xs) h = refl
 -- ---- Pick: what the border's entry is to answer and to leave
 abbrev PickTold : (documents scores : List ℕ) (k t : ℕ) (heap : List ℤ) (answer : List ℕ) (r : ℕ) (heap' : List ℤ) (answer' : List ℕ) → Type 0
 PickTold documents scores k t heap answer r heap' answer' =
-    let b = borderPick documents scores k (length heap) (length answer) in
-    let list = pickedList documents scores in
-    (r ≡ b) × ((heap' ≡ answered r (written (hits k list) heap) (λ n. heap)) × (answer' ≡ answered r (written (topNumbers k t list) answer) (λ n. answer)))
+    let b = border_pick documents scores k (length heap) (length answer) in
+    let list = picked_list documents scores in
+    (r ≡ b) × ((heap' ≡ answered r (written (hits k list) heap) (λ n. heap)) × (answer' ≡ answered r (written (top_numbers k t list) answer) (λ n. answer)))
 
-pub pick-told-short : (documents scores : List ℕ) (k t : ℕ) (heap : List ℤ) (answer : List ℕ) (z r : ℕ) → length answer < 3 → z ≡ pickRefusal documents scores k (length heap) → r ≡ shortAnswer z → PickTold documents scores k t heap answer r heap answer
+pub pick-told-short : (documents scores : List ℕ) (k t : ℕ) (heap : List ℤ) (answer : List ℕ) (z r : ℕ) → length answer < 3 → z ≡ pick_refusal documents scores k (length heap) → r ≡ short_answer z → PickTold documents scores k t heap answer r heap answer
 pick-told-short documents scores k t heap answer z r h e f =
     let s = pick-short documents scores k (length heap) (length answer) h in
-    let i = f ∙ ap shortAnswer e ∙ sym s in
-    let p : 0 < r = rw (f ∙ ap shortAnswer e) (short-refuses (pickRefusal documents scores k (length heap))) in
+    let i = f ∙ ap short_answer e ∙ sym s in
+    let p : 0 < r = rw (f ∙ ap short_answer e) (short-refuses (pick_refusal documents scores k (length heap))) in
     (i, (refused-keeps _ _ heap p, refused-keeps _ _ answer p))
 
-pub pick-written : (documents scores : List ℕ) (k b : ℕ) (heap : List ℤ) → b ≡ pickRefusal documents scores k (length heap) → pickHits documents scores k heap ≡ answered b (written (hits k (pickedList documents scores)) heap) (λ n. heap)
-unfolding pickHits
+pub pick-written : (documents scores : List ℕ) (k b : ℕ) (heap : List ℤ) → b ≡ pick_refusal documents scores k (length heap) → pick_hits documents scores k heap ≡ answered b (written (hits k (picked_list documents scores)) heap) (λ n. heap)
+unfolding pick_hits
 pick-written documents scores k b heap e = rw e refl
 
-pub pick-told-refused : (documents scores : List ℕ) (k t : ℕ) (heap heap' : List ℤ) (answer : List ℕ) (a : Picked) (n : ℕ) → 3 ≤ length answer → a ≡ Picked.Refused n → pickedNumbers a ≡ pickAnswer documents scores k t (length heap) → heap' ≡ pickHits documents scores k heap → PickTold documents scores k t heap answer n heap' answer
-unfolding pickedNumbers pickAnswer
+pub pick-told-refused : (documents scores : List ℕ) (k t : ℕ) (heap heap' : List ℤ) (answer : List ℕ) (a : Picked) (n : ℕ) → 3 ≤ length answer → a ≡ Picked.Refused n → picked_numbers a ≡ pick_answer documents scores k t (length heap) → heap' ≡ pick_hits documents scores k heap → PickTold documents scores k t heap answer n heap' answer
+unfolding picked_numbers pick_answer
 pick-told-refused documents scores k t heap heap' answer a n h e f g =
     let l = pick-long documents scores k (length heap) (length answer) h in
-    let z = refused-number (pickRefusal documents scores k (length heap)) n _ _ (sym (ap pickedNumbers e) ∙ f) in
+    let z = refused-number (pick_refusal documents scores k (length heap)) n _ _ (sym (ap picked_numbers e) ∙ f) in
     let p : 0 < n = rw z.0 z.1 in
     (z.0 ∙ sym l, (g ∙ pick-written documents scores k _ heap z.0, refused-keeps _ _ answer p))
 
-pub pick-told-found : (documents scores : List ℕ) (k t : ℕ) (heap heap' : List ℤ) (answer answer' : List ℕ) (a : Picked) (top : TopDocs) → 3 ≤ length answer → a ≡ Picked.Found top → pickedNumbers a ≡ pickAnswer documents scores k t (length heap) → heap' ≡ pickHits documents scores k heap → answer' ≡ written (top.held ∷ top.count ∷ cond top.mark 1 0 ∷ []) answer → PickTold documents scores k t heap answer 0 heap' answer'
-unfolding pickedNumbers pickAnswer
+pub pick-told-found : (documents scores : List ℕ) (k t : ℕ) (heap heap' : List ℤ) (answer answer' : List ℕ) (a : Picked) (top : TopDocs) → 3 ≤ length answer → a ≡ Picked.Found top → picked_numbers a ≡ pick_answer documents scores k t (length heap) → heap' ≡ pick_hits documents scores k heap → answer' ≡ written (top.held ∷ top.count ∷ cond top.mark 1 0 ∷ []) answer → PickTold documents scores k t heap answer 0 heap' answer'
+unfolding picked_numbers pick_answer
 pick-told-found documents scores k t heap heap' answer answer' a top h e f g w =
     let l = pick-long documents scores k (length heap) (length answer) h in
-    let z = found-numbers (pickRefusal documents scores k (length heap)) top.held _ _ (sym (ap pickedNumbers e) ∙ f) in
+    let z = found-numbers (pick_refusal documents scores k (length heap)) top.held _ _ (sym (ap picked_numbers e) ∙ f) in
     (sym (l ∙ z.0), (g ∙ pick-written documents scores k _ heap (sym z.0), w ∙ ap (λ (xs : List ℕ). written xs answer) z.1))
 
 -- ---- Search: what the border's entry is to answer and to leave, with the four work buffers before and after
 abbrev SearchTold : (ix : Index) (q : List ℕ) (k t : ℕ) (w : Work) (heap : List ℤ) (answer states : List ℕ) (starts others : List ℤ) (ranges : List ℕ) (r : ℕ) (heap' : List ℤ) (answer' states' : List ℕ) (starts' others' : List ℤ) (ranges' : List ℕ) → Type 0
 SearchTold ix q k t w heap answer states starts others ranges r heap' answer' states' starts' others' ranges' =
-    let b = borderSearch ix q k w (length heap) (length answer) in
-    let list = fullList ix (queryTree q) in
-    (r ≡ b) × ((heap' ≡ answered r (written (hits k list) heap) (λ n. heap)) × ((answer' ≡ answered r (written (topNumbers k t list) answer) (λ n. answer)) × (Kept r states states' × (Kept r starts starts' × (Kept r others others' × Kept r ranges ranges')))))
+    let b = border_search ix q k w (length heap) (length answer) in
+    let list = full_list ix (query_tree q) in
+    (r ≡ b) × ((heap' ≡ answered r (written (hits k list) heap) (λ n. heap)) × ((answer' ≡ answered r (written (top_numbers k t list) answer) (λ n. answer)) × (Kept r states states' × (Kept r starts starts' × (Kept r others others' × Kept r ranges ranges')))))
 
-pub search-told-short : (ix : Index) (q : List ℕ) (k t : ℕ) (w : Work) (heap : List ℤ) (answer states : List ℕ) (starts others : List ℤ) (ranges : List ℕ) (z r : ℕ) → length answer < 3 → z ≡ searchRefusal ix q k w (length heap) → r ≡ shortAnswer z → SearchTold ix q k t w heap answer states starts others ranges r heap answer states starts others ranges
+pub search-told-short : (ix : Index) (q : List ℕ) (k t : ℕ) (w : Work) (heap : List ℤ) (answer states : List ℕ) (starts others : List ℤ) (ranges : List ℕ) (z r : ℕ) → length answer < 3 → z ≡ search_refusal ix q k w (length heap) → r ≡ short_answer z → SearchTold ix q k t w heap answer states starts others ranges r heap answer states starts others ranges
 search-told-short ix q k t w heap answer states starts others ranges z r h e f =
     let s = search-short ix q k w (length heap) (length answer) h in
-    let i = f ∙ ap shortAnswer e ∙ sym s in
-    let p : 0 < r = rw (f ∙ ap shortAnswer e) (short-refuses (searchRefusal ix q k w (length heap))) in
+    let i = f ∙ ap short_answer e ∙ sym s in
+    let p : 0 < r = rw (f ∙ ap short_answer e) (short-refuses (search_refusal ix q k w (length heap))) in
     (i, (refused-keeps _ _ heap p, (refused-keeps _ _ answer p, ((λ u. refl), ((λ u. refl), ((λ u. refl), λ u. refl))))))
 
-pub search-written : (ix : Index) (q : List ℕ) (k : ℕ) (w : Work) (b : ℕ) (heap : List ℤ) → b ≡ searchRefusal ix q k w (length heap) → searchHits ix q k w heap ≡ answered b (written (hits k (fullList ix (queryTree q))) heap) (λ n. heap)
-unfolding searchHits
+pub search-written : (ix : Index) (q : List ℕ) (k : ℕ) (w : Work) (b : ℕ) (heap : List ℤ) → b ≡ search_refusal ix q k w (length heap) → search_hits ix q k w heap ≡ answered b (written (hits k (full_list ix (query_tree q))) heap) (λ n. heap)
+unfolding search_hits
 search-written ix q k w b heap e = rw e refl
 
-pub search-told-refused : (ix : Index) (q : List ℕ) (k t : ℕ) (w : Work) (heap heap' : List ℤ) (answer states states' : List ℕ) (starts starts' others others' : List ℤ) (ranges ranges' : List ℕ) (a : Searched) (n : ℕ) → 3 ≤ length answer → a ≡ Searched.Refused n → searchedNumbers a ≡ searchAnswer ix q k t w (length heap) → heap' ≡ searchHits ix q k w heap → Kept (searchRefusal ix q k w (length heap)) states states' → Kept (searchRefusal ix q k w (length heap)) starts starts' → Kept (searchRefusal ix q k w (length heap)) others others' → Kept (searchRefusal ix q k w (length heap)) ranges ranges' → SearchTold ix q k t w heap answer states starts others ranges n heap' answer states' starts' others' ranges'
-unfolding searchedNumbers searchAnswer
+pub search-told-refused : (ix : Index) (q : List ℕ) (k t : ℕ) (w : Work) (heap heap' : List ℤ) (answer states states' : List ℕ) (starts starts' others others' : List ℤ) (ranges ranges' : List ℕ) (a : Searched) (n : ℕ) → 3 ≤ length answer → a ≡ Searched.Refused n → searched_numbers a ≡ search_answer ix q k t w (length heap) → heap' ≡ search_hits ix q k w heap → Kept (search_refusal ix q k w (length heap)) states states' → Kept (search_refusal ix q k w (length heap)) starts starts' → Kept (search_refusal ix q k w (length heap)) others others' → Kept (search_refusal ix q k w (length heap)) ranges ranges' → SearchTold ix q k t w heap answer states starts others ranges n heap' answer states' starts' others' ranges'
+unfolding searched_numbers search_answer
 search-told-refused ix q k t w heap heap' answer states states' starts starts' others others' ranges ranges' a n h e f g ks ka kb kr =
     let l = search-long ix q k w (length heap) (length answer) h in
-    let z = refused-number (searchRefusal ix q k w (length heap)) n _ _ (sym (ap searchedNumbers e) ∙ f) in
+    let z = refused-number (search_refusal ix q k w (length heap)) n _ _ (sym (ap searched_numbers e) ∙ f) in
     let p : 0 < n = rw z.0 z.1 in
     (z.0 ∙ sym l, (g ∙ search-written ix q k w _ heap z.0, (refused-keeps _ _ answer p, (kept_by _ _ states states' z.0 ks, (kept_by _ _ starts starts' z.0 ka, (kept_by _ _ others others' z.0 kb, kept_by _ _ ranges ranges' z.0 kr))))))
 
-pub search-told-found : (ix : Index) (q : List ℕ) (k t : ℕ) (w : Work) (heap heap' : List ℤ) (answer answer' states states' : List ℕ) (starts starts' others others' : List ℤ) (ranges ranges' : List ℕ) (a : Searched) (top : TopDocs) → 3 ≤ length answer → a ≡ Searched.Found top → searchedNumbers a ≡ searchAnswer ix q k t w (length heap) → heap' ≡ searchHits ix q k w heap → answer' ≡ written (top.held ∷ top.count ∷ cond top.mark 1 0 ∷ []) answer → Kept (searchRefusal ix q k w (length heap)) states states' → Kept (searchRefusal ix q k w (length heap)) starts starts' → Kept (searchRefusal ix q k w (length heap)) others others' → Kept (searchRefusal ix q k w (length heap)) ranges ranges' → SearchTold ix q k t w heap answer states starts others ranges 0 heap' answer' states' starts' others' ranges'
-unfolding searchedNumbers searchAnswer
+pub search-told-found : (ix : Index) (q : List ℕ) (k t : ℕ) (w : Work) (heap heap' : List ℤ) (answer answer' states states' : List ℕ) (starts starts' others others' : List ℤ) (ranges ranges' : List ℕ) (a : Searched) (top : TopDocs) → 3 ≤ length answer → a ≡ Searched.Found top → searched_numbers a ≡ search_answer ix q k t w (length heap) → heap' ≡ search_hits ix q k w heap → answer' ≡ written (top.held ∷ top.count ∷ cond top.mark 1 0 ∷ []) answer → Kept (search_refusal ix q k w (length heap)) states states' → Kept (search_refusal ix q k w (length heap)) starts starts' → Kept (search_refusal ix q k w (length heap)) others others' → Kept (search_refusal ix q k w (length heap)) ranges ranges' → SearchTold ix q k t w heap answer states starts others ranges 0 heap' answer' states' starts' others' ranges'
+unfolding searched_numbers search_answer
 search-told-found ix q k t w heap heap' answer answer' states states' starts starts' others others' ranges ranges' a top h e f g v ks ka kb kr =
     let l = search-long ix q k w (length heap) (length answer) h in
-    let z = found-numbers (searchRefusal ix q k w (length heap)) top.held _ _ (sym (ap searchedNumbers e) ∙ f) in
+    let z = found-numbers (search_refusal ix q k w (length heap)) top.held _ _ (sym (ap searched_numbers e) ∙ f) in
     (sym (l ∙ z.0), (g ∙ search-written ix q k w _ heap (sym z.0), (v ∙ ap (λ (xs : List ℕ). written xs answer) z.1, (kept_by _ _ states states' (sym z.0) ks, (kept_by _ _ starts starts' (sym z.0) ka, (kept_by _ _ others others' (sym z.0) kb, kept_by _ _ ranges ranges' (sym z.0) kr))))))
 
 -- ---- Page, in the same way, with its two outputs
 abbrev PageTold : (ix : Index) (q : List ℕ) (target : ℕ) (w : Work) (documents scores answer states : List ℕ) (starts others : List ℤ) (ranges : List ℕ) (r : ℕ) (documents' scores' answer' states' : List ℕ) (starts' others' : List ℤ) (ranges' : List ℕ) → Type 0
 PageTold ix q target w documents scores answer states starts others ranges r documents' scores' answer' states' starts' others' ranges' =
-    let b = borderPage ix q target w (length documents) (length scores) (length answer) in
+    let b = border_page ix q target w (length documents) (length scores) (length answer) in
     let p = page_of ix q target (length documents) in
-    (r ≡ b) × ((documents' ≡ answered r (written (map (λ h. h.doc) p.given) documents) (λ n. documents)) × ((scores' ≡ answered r (written (map (λ h. to_bits binary32 h.score) p.given) scores) (λ n. scores)) × ((answer' ≡ answered r (written (pageNumbers p) answer) (λ n. answer)) × (Kept r states states' × (Kept r starts starts' × (Kept r others others' × Kept r ranges ranges'))))))
+    (r ≡ b) × ((documents' ≡ answered r (written (map (λ h. h.doc) p.given) documents) (λ n. documents)) × ((scores' ≡ answered r (written (map (λ h. to_bits binary32 h.score) p.given) scores) (λ n. scores)) × ((answer' ≡ answered r (written (page_numbers p) answer) (λ n. answer)) × (Kept r states states' × (Kept r starts starts' × (Kept r others others' × Kept r ranges ranges'))))))
 
-pub page-told-short : (ix : Index) (q : List ℕ) (target : ℕ) (w : Work) (documents scores answer states : List ℕ) (starts others : List ℤ) (ranges : List ℕ) (z r : ℕ) → length answer < 2 → z ≡ pageRefusal ix q target w (length documents) (length scores) → r ≡ shortAnswer z → PageTold ix q target w documents scores answer states starts others ranges r documents scores answer states starts others ranges
+pub page-told-short : (ix : Index) (q : List ℕ) (target : ℕ) (w : Work) (documents scores answer states : List ℕ) (starts others : List ℤ) (ranges : List ℕ) (z r : ℕ) → length answer < 2 → z ≡ page_refusal ix q target w (length documents) (length scores) → r ≡ short_answer z → PageTold ix q target w documents scores answer states starts others ranges r documents scores answer states starts others ranges
 page-told-short ix q target w documents scores answer states starts others ranges z r h e f =
     let s = page-short ix q target w (length documents) (length scores) (length answer) h in
-    let i = f ∙ ap shortAnswer e ∙ sym s in
-    let p : 0 < r = rw (f ∙ ap shortAnswer e) (short-refuses (pageRefusal ix q target w (length documents) (length scores))) in
+    let i = f ∙ ap short_answer e ∙ sym s in
+    let p : 0 < r = rw (f ∙ ap short_answer e) (short-refuses (page_refusal ix q target w (length documents) (length scores))) in
     (i, (refused-keeps _ _ documents p, (refused-keeps _ _ scores p, (refused-keeps _ _ answer p, ((λ u. refl), ((λ u. refl), ((λ u. refl), λ u. refl)))))))
 
-pub documents-written : (ix : Index) (q : List ℕ) (target : ℕ) (w : Work) (b : ℕ) (documents scores : List ℕ) → b ≡ pageRefusal ix q target w (length documents) (length scores) → pageDocuments ix q target w documents scores ≡ answered b (written (map (λ h. h.doc) (page_of ix q target (length documents)).given) documents) (λ n. documents)
-unfolding pageDocuments
+pub documents-written : (ix : Index) (q : List ℕ) (target : ℕ) (w : Work) (b : ℕ) (documents scores : List ℕ) → b ≡ page_refusal ix q target w (length documents) (length scores) → page_documents ix q target w documents scores ≡ answered b (written (map (λ h. h.doc) (page_of ix q target (length documents)).given) documents) (λ n. documents)
+unfolding page_documents
 documents-written ix q target w b documents scores e = rw e refl
 
-pub scores-written : (ix : Index) (q : List ℕ) (target : ℕ) (w : Work) (b : ℕ) (documents scores : List ℕ) → b ≡ pageRefusal ix q target w (length documents) (length scores) → pageScores ix q target w documents scores ≡ answered b (written (map (λ h. to_bits binary32 h.score) (page_of ix q target (length documents)).given) scores) (λ n. scores)
-unfolding pageScores
+pub scores-written : (ix : Index) (q : List ℕ) (target : ℕ) (w : Work) (b : ℕ) (documents scores : List ℕ) → b ≡ page_refusal ix q target w (length documents) (length scores) → page_scores ix q target w documents scores ≡ answered b (written (map (λ h. to_bits binary32 h.score) (page_of ix q target (length documents)).given) scores) (λ n. scores)
+unfolding page_scores
 scores-written ix q target w b documents scores e = rw e refl
 
-pub page-told-refused : (ix : Index) (q : List ℕ) (target : ℕ) (w : Work) (documents documents' scores scores' answer states states' : List ℕ) (starts starts' others others' : List ℤ) (ranges ranges' : List ℕ) (a : Paged) (n : ℕ) → 2 ≤ length answer → a ≡ Paged.Refused n → pagedNumbers a ≡ pageAnswer ix q target w (length documents) (length scores) → documents' ≡ pageDocuments ix q target w documents scores → scores' ≡ pageScores ix q target w documents scores → Kept (pageRefusal ix q target w (length documents) (length scores)) states states' → Kept (pageRefusal ix q target w (length documents) (length scores)) starts starts' → Kept (pageRefusal ix q target w (length documents) (length scores)) others others' → Kept (pageRefusal ix q target w (length documents) (length scores)) ranges ranges' → PageTold ix q target w documents scores answer states starts others ranges n documents' scores' answer states' starts' others' ranges'
-unfolding pagedNumbers pageAnswer
+pub page-told-refused : (ix : Index) (q : List ℕ) (target : ℕ) (w : Work) (documents documents' scores scores' answer states states' : List ℕ) (starts starts' others others' : List ℤ) (ranges ranges' : List ℕ) (a : Paged) (n : ℕ) → 2 ≤ length answer → a ≡ Paged.Refused n → paged_numbers a ≡ page_answer ix q target w (length documents) (length scores) → documents' ≡ page_documents ix q target w documents scores → scores' ≡ page_scores ix q target w documents scores → Kept (page_refusal ix q target w (length documents) (length scores)) states states' → Kept (page_refusal ix q target w (length documents) (length scores)) starts starts' → Kept (page_refusal ix q target w (length documents) (length scores)) others others' → Kept (page_refusal ix q target w (length documents) (length scores)) ranges ranges' → PageTold ix q target w documents scores answer states starts others ranges n documents' scores' answer states' starts' others' ranges'
+unfolding paged_numbers page_answer
 page-told-refused ix q target w documents documents' scores scores' answer states states' starts starts' others others' ranges ranges' a n h e f g i ks ka kb kr =
     let l = page-long ix q target w (length documents) (length scores) (length answer) h in
-    let z = refused-number (pageRefusal ix q target w (length documents) (length scores)) n _ _ (sym (ap pagedNumbers e) ∙ f) in
+    let z = refused-number (page_refusal ix q target w (length documents) (length scores)) n _ _ (sym (ap paged_numbers e) ∙ f) in
     let p : 0 < n = rw z.0 z.1 in
     (z.0 ∙ sym l, (g ∙ documents-written ix q target w _ documents scores z.0, (i ∙ scores-written ix q target w _ documents scores z.0, (refused-keeps _ _ answer p, (kept_by _ _ states states' z.0 ks, (kept_by _ _ starts starts' z.0 ka, (kept_by _ _ others others' z.0 kb, kept_by _ _ ranges ranges' z.0 kr)))))))
 
-pub page-told-given : (ix : Index) (q : List ℕ) (target : ℕ) (w : Work) (documents documents' scores scores' answer states states' : List ℕ) (starts starts' others others' : List ℤ) (ranges ranges' : List ℕ) (a : Paged) (listed : Listed) → 2 ≤ length answer → a ≡ Paged.Given listed → pagedNumbers a ≡ pageAnswer ix q target w (length documents) (length scores) → documents' ≡ pageDocuments ix q target w documents scores → scores' ≡ pageScores ix q target w documents scores → Kept (pageRefusal ix q target w (length documents) (length scores)) states states' → Kept (pageRefusal ix q target w (length documents) (length scores)) starts starts' → Kept (pageRefusal ix q target w (length documents) (length scores)) others others' → Kept (pageRefusal ix q target w (length documents) (length scores)) ranges ranges' → PageTold ix q target w documents scores answer states starts others ranges 0 documents' scores' (set (set answer 0 listed.given) 1 listed.next) states' starts' others' ranges'
-unfolding pagedNumbers pageAnswer
+pub page-told-given : (ix : Index) (q : List ℕ) (target : ℕ) (w : Work) (documents documents' scores scores' answer states states' : List ℕ) (starts starts' others others' : List ℤ) (ranges ranges' : List ℕ) (a : Paged) (listed : Listed) → 2 ≤ length answer → a ≡ Paged.Given listed → paged_numbers a ≡ page_answer ix q target w (length documents) (length scores) → documents' ≡ page_documents ix q target w documents scores → scores' ≡ page_scores ix q target w documents scores → Kept (page_refusal ix q target w (length documents) (length scores)) states states' → Kept (page_refusal ix q target w (length documents) (length scores)) starts starts' → Kept (page_refusal ix q target w (length documents) (length scores)) others others' → Kept (page_refusal ix q target w (length documents) (length scores)) ranges ranges' → PageTold ix q target w documents scores answer states starts others ranges 0 documents' scores' (set (set answer 0 listed.given) 1 listed.next) states' starts' others' ranges'
+unfolding paged_numbers page_answer
 page-told-given ix q target w documents documents' scores scores' answer states states' starts starts' others others' ranges ranges' a listed h e f g i ks ka kb kr =
     let l = page-long ix q target w (length documents) (length scores) (length answer) h in
-    let z = found-numbers (pageRefusal ix q target w (length documents) (length scores)) listed.given _ _ (sym (ap pagedNumbers e) ∙ f) in
+    let z = found-numbers (page_refusal ix q target w (length documents) (length scores)) listed.given _ _ (sym (ap paged_numbers e) ∙ f) in
     (sym (l ∙ z.0), (g ∙ documents-written ix q target w _ documents scores (sym z.0), (i ∙ scores-written ix q target w _ documents scores (sym z.0), (two-written listed.given listed.next answer h ∙ ap (λ (xs : List ℕ). written xs answer) z.1, (kept_by _ _ states states' (sym z.0) ks, (kept_by _ _ starts starts' (sym z.0) ka, (kept_by _ _ others others' (sym z.0) kb, kept_by _ _ ranges ranges' (sym z.0) kr)))))))

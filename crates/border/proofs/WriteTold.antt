@@ -7,13 +7,13 @@ use native.Mathlib.Omega.{arith}
 use lib.ListN.{length}
 use borrow.Author.Tests.{lt-ltb, le-ltb}
 use Rattle.meaning.specs.Refusals.{◌when◌, lowest}
-use Rattle.meaning.specs.TokenRefusals.{Outputs, wrong16, writeRefusal, writeAnswer, writtenNorms, writtenPostings, writtenPositions, writtenRuns}
+use Rattle.meaning.specs.TokenRefusals.{Outputs, wrong16, write_refusal, write_answer, written_norms, written_postings, written_positions, written_runs}
 use Rattle.meaning.specs.Entries.{written, answered}
 use Rattle.meaning.proofs.Lowest.{answered-refused}
 use Rattle.token_writer.specs.declared.Numbers.{Numbers}
 use Rattle.token_writer.specs.declared.Written.{Written}
-use Rattle.token_writer.specs.Answers.{writtenNumbers, outputs, WritesIndex}
-use Rattle.border.specs.Write.{writeNumbers, borderWrite, LotWritesIndex}
+use Rattle.token_writer.specs.Answers.{written_numbers, outputs, WritesIndex}
+use Rattle.border.specs.Write.{write_numbers, border_write, LotWritesIndex}
 use Rattle.border.proofs.Told.{refused-number, found-numbers, refused-keeps}
 
 -- 16 held by a slice that is too short: a lower number stays, and 16 is what is left
@@ -25,77 +25,77 @@ sixteen false false true d = refl
 sixteen false false false true = refl
 sixteen false false false false = refl
 
-module _ (n : ℕ) (fields leafFields ws : List ℕ) (o : Outputs) (places : ℕ) where
-  pub write-long : 2 ≤ places → borderWrite n fields leafFields ws o places ≡ writeRefusal n fields leafFields ws o
-  unfolding borderWrite writeRefusal
-  write-long h = rw (le-ltb places 2 h, or-false (wrong16 n fields leafFields ws o))
+module _ (n : ℕ) (fields leaf_fields ws : List ℕ) (o : Outputs) (places : ℕ) where
+  pub write-long : 2 ≤ places → border_write n fields leaf_fields ws o places ≡ write_refusal n fields leaf_fields ws o
+  unfolding border_write write_refusal
+  write-long h = rw (le-ltb places 2 h, or-false (wrong16 n fields leaf_fields ws o))
 
-  pub write-short : places < 2 → borderWrite n fields leafFields ws o places ≡ answered (writeRefusal n fields leafFields ws o) 16 (λ m. m)
-  unfolding borderWrite writeRefusal
+  pub write-short : places < 2 → border_write n fields leaf_fields ws o places ≡ answered (write_refusal n fields leaf_fields ws o) 16 (λ m. m)
+  unfolding border_write write_refusal
   write-short h = rw (lt-ltb places 2 h) (sixteen _ _ _ _)
 
 -- ---- what the entry is to answer and to leave
-module _ (n : ℕ) (fields leafFields ws norms postings positions runs answer : List ℕ) where
+module _ (n : ℕ) (fields leaf_fields ws norms postings positions runs answer : List ℕ) where
   abbrev o : Outputs
   o = outputs (length norms) (length postings) (length positions) (length runs)
 
   abbrev refusal : ℕ
-  refusal = writeRefusal n fields leafFields ws o
+  refusal = write_refusal n fields leaf_fields ws o
 
   -- the writer's answer, by its shape
-  refused-is : (a : Written) (k : ℕ) → a ≡ Written.Refused k → writtenNumbers a ≡ writeAnswer n fields leafFields ws o → (k ≡ refusal) × (0 < refusal)
-  unfolding writtenNumbers writeAnswer
-  refused-is a k e f = refused-number refusal k _ _ (sym (ap writtenNumbers e) ∙ f)
+  refused-is : (a : Written) (k : ℕ) → a ≡ Written.Refused k → written_numbers a ≡ write_answer n fields leaf_fields ws o → (k ≡ refusal) × (0 < refusal)
+  unfolding written_numbers write_answer
+  refused-is a k e f = refused-number refusal k _ _ (sym (ap written_numbers e) ∙ f)
 
-  done-is : (a : Written) (numbers : Numbers) → a ≡ Written.Done numbers → writtenNumbers a ≡ writeAnswer n fields leafFields ws o → (refusal ≡ 0) × ((numbers.postings ∷ numbers.positions ∷ []) ≡ writeNumbers n fields leafFields ws)
-  unfolding writtenNumbers writeAnswer
-  done-is a numbers e f = found-numbers refusal _ _ _ (sym (ap writtenNumbers e) ∙ f)
+  done-is : (a : Written) (numbers : Numbers) → a ≡ Written.Done numbers → written_numbers a ≡ write_answer n fields leaf_fields ws o → (refusal ≡ 0) × ((numbers.postings ∷ numbers.positions ∷ []) ≡ write_numbers n fields leaf_fields ws)
+  unfolding written_numbers write_answer
+  done-is a numbers e f = found-numbers refusal _ _ _ (sym (ap written_numbers e) ∙ f)
 
   -- a refused call leaves every buffer
-  told-refused : (r : ℕ) → r ≡ borderWrite n fields leafFields ws o (length answer) → 0 < r → LotWritesIndex n fields leafFields ws norms postings positions runs answer norms postings positions runs answer r
-  unfolding writtenNorms writtenPostings writtenPositions writtenRuns
+  told-refused : (r : ℕ) → r ≡ border_write n fields leaf_fields ws o (length answer) → 0 < r → LotWritesIndex n fields leaf_fields ws norms postings positions runs answer norms postings positions runs answer r
+  unfolding written_norms written_postings written_positions written_runs
   told-refused r e h =
       record {
         refusal = e;
-        normBytes = refused-keeps r _ norms h;
-        postingWords = refused-keeps r _ postings h;
-        positionWords = refused-keeps r _ positions h;
-        runWords = refused-keeps r _ runs h;
+        norm_bytes = refused-keeps r _ norms h;
+        posting_words = refused-keeps r _ postings h;
+        position_words = refused-keeps r _ positions h;
+        run_words = refused-keeps r _ runs h;
         numbers = refused-keeps r _ answer h;
       }
 
-  pub write-told-short : (a : Written) (k : ℕ) → length answer < 2 → a ≡ Written.Refused k → writtenNumbers a ≡ writeAnswer n fields leafFields ws o → LotWritesIndex n fields leafFields ws norms postings positions runs answer norms postings positions runs answer k
+  pub write-told-short : (a : Written) (k : ℕ) → length answer < 2 → a ≡ Written.Refused k → written_numbers a ≡ write_answer n fields leaf_fields ws o → LotWritesIndex n fields leaf_fields ws norms postings positions runs answer norms postings positions runs answer k
   write-told-short a k h e f =
       let z = refused-is a k e f in
       let stays : answered refusal 16 (λ m. m) ≡ refusal = sym (refused-stays refusal z.1) in
-      told-refused k (z.0 ∙ sym (write-short n fields leafFields ws o (length answer) h ∙ stays)) (rw z.0 z.1)
+      told-refused k (z.0 ∙ sym (write-short n fields leaf_fields ws o (length answer) h ∙ stays)) (rw z.0 z.1)
     where
       refused-stays : (m : ℕ) → 0 < m → m ≡ answered m 16 (λ i. i)
       refused-stays m p = answered-refused 16 (λ i. i) m (λ e. omega (arith, e, p))
 
-  pub write-told-sixteen : (a : Written) (numbers : Numbers) → length answer < 2 → a ≡ Written.Done numbers → writtenNumbers a ≡ writeAnswer n fields leafFields ws o → LotWritesIndex n fields leafFields ws norms postings positions runs answer norms postings positions runs answer 16
+  pub write-told-sixteen : (a : Written) (numbers : Numbers) → length answer < 2 → a ≡ Written.Done numbers → written_numbers a ≡ write_answer n fields leaf_fields ws o → LotWritesIndex n fields leaf_fields ws norms postings positions runs answer norms postings positions runs answer 16
   write-told-sixteen a numbers h e f =
       let z = (done-is a numbers e f).0 in
-      told-refused 16 (sym (write-short n fields leafFields ws o (length answer) h ∙ ap (λ (m : ℕ). answered m 16 (λ i. i)) z)) (omega arith)
+      told-refused 16 (sym (write-short n fields leaf_fields ws o (length answer) h ∙ ap (λ (m : ℕ). answered m 16 (λ i. i)) z)) (omega arith)
 
-  module _ (a : Written) (norms' postings' positions' runs' : List ℕ) (h : 2 ≤ length answer) (w : WritesIndex n fields leafFields ws norms postings positions runs norms' postings' positions' runs' a) where
-    by : (r : ℕ) (answer' : List ℕ) → r ≡ refusal → answer' ≡ answered r (written (writeNumbers n fields leafFields ws) answer) (λ m. answer) → LotWritesIndex n fields leafFields ws norms postings positions runs answer norms' postings' positions' runs' answer' r
+  module _ (a : Written) (norms' postings' positions' runs' : List ℕ) (h : 2 ≤ length answer) (w : WritesIndex n fields leaf_fields ws norms postings positions runs norms' postings' positions' runs' a) where
+    by : (r : ℕ) (answer' : List ℕ) → r ≡ refusal → answer' ≡ answered r (written (write_numbers n fields leaf_fields ws) answer) (λ m. answer) → LotWritesIndex n fields leaf_fields ws norms postings positions runs answer norms' postings' positions' runs' answer' r
     by r answer' e g =
         record {
-          refusal = e ∙ sym (write-long n fields leafFields ws o (length answer) h);
-          normBytes = w.normBytes ∙ ap (λ (m : ℕ). writtenNorms m n fields leafFields ws norms) (sym e);
-          postingWords = w.postingWords ∙ ap (λ (m : ℕ). writtenPostings m n fields leafFields ws postings) (sym e);
-          positionWords = w.positionWords ∙ ap (λ (m : ℕ). writtenPositions m n fields leafFields ws positions) (sym e);
-          runWords = w.runWords ∙ ap (λ (m : ℕ). writtenRuns m n fields leafFields ws runs) (sym e);
+          refusal = e ∙ sym (write-long n fields leaf_fields ws o (length answer) h);
+          norm_bytes = w.norm_bytes ∙ ap (λ (m : ℕ). written_norms m n fields leaf_fields ws norms) (sym e);
+          posting_words = w.posting_words ∙ ap (λ (m : ℕ). written_postings m n fields leaf_fields ws postings) (sym e);
+          position_words = w.position_words ∙ ap (λ (m : ℕ). written_positions m n fields leaf_fields ws positions) (sym e);
+          run_words = w.run_words ∙ ap (λ (m : ℕ). written_runs m n fields leaf_fields ws runs) (sym e);
           numbers = g;
         }
 
-    pub write-told-refused : (k : ℕ) → a ≡ Written.Refused k → LotWritesIndex n fields leafFields ws norms postings positions runs answer norms' postings' positions' runs' answer k
+    pub write-told-refused : (k : ℕ) → a ≡ Written.Refused k → LotWritesIndex n fields leaf_fields ws norms postings positions runs answer norms' postings' positions' runs' answer k
     write-told-refused k e =
         let z = refused-is a k e w.answer in
         by k answer z.0 (refused-keeps k _ answer (rw z.0 z.1))
 
-    pub write-told-done : (numbers : Numbers) (answer' : List ℕ) → a ≡ Written.Done numbers → answer' ≡ written (numbers.postings ∷ numbers.positions ∷ []) answer → LotWritesIndex n fields leafFields ws norms postings positions runs answer norms' postings' positions' runs' answer' 0
+    pub write-told-done : (numbers : Numbers) (answer' : List ℕ) → a ≡ Written.Done numbers → answer' ≡ written (numbers.postings ∷ numbers.positions ∷ []) answer → LotWritesIndex n fields leaf_fields ws norms postings positions runs answer norms' postings' positions' runs' answer' 0
     write-told-done numbers answer' e g =
         let z = done-is a numbers e w.answer in
         by 0 answer' (sym z.0) (g ∙ ap (λ (xs : List ℕ). written xs answer) z.1)

@@ -6,19 +6,19 @@ pub mod write_index;
 ghost use Rattle.std.specs.Prelude.{◌≡◌, cond, [], ◌∷◌, map, ◌≤◌, length};
 ghost use Rattle.std.specs.Float.{binary32};
 ghost use Rattle.std.specs.Float.Ieee.{to_bits};
-ghost use Rattle.meaning.specs.Query.{queryTree};
-ghost use Rattle.meaning.specs.FullList.{fullList};
-ghost use Rattle.meaning.specs.Hits.{hits as hitsOf};
-ghost use Rattle.meaning.specs.Entries.{written, answered, Kept, page_of, pickedList};
+ghost use Rattle.meaning.specs.Query.{query_tree};
+ghost use Rattle.meaning.specs.FullList.{full_list};
+ghost use Rattle.meaning.specs.Hits.{hits as hits_of};
+ghost use Rattle.meaning.specs.Entries.{written, answered, Kept, page_of, picked_list};
 ghost use Rattle.index.specs.Slices.{lent};
 ghost use Rattle.order_check.specs.Lends.{work};
-ghost use Rattle.border.specs.Border.{shortAnswer, borderSearch, borderPage, borderPick, topNumbers, pageNumbers};
+ghost use Rattle.border.specs.Border.{short_answer, border_search, border_page, border_pick, top_numbers, page_numbers};
 
 use collector::TopDocs;
 
 // A slice for the answer that is too short is a buffer too short.
 fn short_answer(refusal: u32) -> u32
-    ensures { result ≡ shortAnswer refusal }
+    ensures { result ≡ short_answer refusal }
 {
     if refusal == 0 {
         return 12;
@@ -59,9 +59,9 @@ pub fn lot_search(
     hits: &mut [i64],
     answer: &mut [u64],
 ) -> u32
-    ensures value { result ≡ borderSearch (lent max_doc fields.now leaves.now postings.now positions.now norms.now live.now columns.now values.now) q.now k (work (length states.old) (length a.old) (length b.old) (length ranges.old)) (length hits.old) (length answer.old) }
-    ensures hits_after { hits.new ≡ answered result (written (hitsOf k (fullList (lent max_doc fields.now leaves.now postings.now positions.now norms.now live.now columns.now values.now) (queryTree q.now))) hits.old) (λ n. hits.old) }
-    ensures answer_after { answer.new ≡ answered result (written (topNumbers k t (fullList (lent max_doc fields.now leaves.now postings.now positions.now norms.now live.now columns.now values.now) (queryTree q.now))) answer.old) (λ n. answer.old) }
+    ensures value { result ≡ border_search (lent max_doc fields.now leaves.now postings.now positions.now norms.now live.now columns.now values.now) q.now k (work (length states.old) (length a.old) (length b.old) (length ranges.old)) (length hits.old) (length answer.old) }
+    ensures hits_after { hits.new ≡ answered result (written (hits_of k (full_list (lent max_doc fields.now leaves.now postings.now positions.now norms.now live.now columns.now values.now) (query_tree q.now))) hits.old) (λ n. hits.old) }
+    ensures answer_after { answer.new ≡ answered result (written (top_numbers k t (full_list (lent max_doc fields.now leaves.now postings.now positions.now norms.now live.now columns.now values.now) (query_tree q.now))) answer.old) (λ n. answer.old) }
     ensures kept { Kept result states.old states.new }
     ensures kept_2 { Kept result a.old a.new }
     ensures kept_3 { Kept result b.old b.new }
@@ -119,10 +119,10 @@ pub fn lot_page(
     scores: &mut [u32],
     answer: &mut [u64],
 ) -> u32
-    ensures value { result ≡ borderPage (lent max_doc fields.now leaves.now postings.now positions.now norms.now live.now columns.now values.now) q.now target (work (length states.old) (length a.old) (length b.old) (length ranges.old)) (length documents.old) (length scores.old) (length answer.old) }
+    ensures value { result ≡ border_page (lent max_doc fields.now leaves.now postings.now positions.now norms.now live.now columns.now values.now) q.now target (work (length states.old) (length a.old) (length b.old) (length ranges.old)) (length documents.old) (length scores.old) (length answer.old) }
     ensures documents_after { documents.new ≡ answered result (written (map (λ h. h.doc) (page_of (lent max_doc fields.now leaves.now postings.now positions.now norms.now live.now columns.now values.now) q.now target (length documents.old)).given) documents.old) (λ n. documents.old) }
     ensures scores_after { scores.new ≡ answered result (written (map (λ h. to_bits binary32 h.score) (page_of (lent max_doc fields.now leaves.now postings.now positions.now norms.now live.now columns.now values.now) q.now target (length documents.old)).given) scores.old) (λ n. scores.old) }
-    ensures answer_after { answer.new ≡ answered result (written (pageNumbers (page_of (lent max_doc fields.now leaves.now postings.now positions.now norms.now live.now columns.now values.now) q.now target (length documents.old))) answer.old) (λ n. answer.old) }
+    ensures answer_after { answer.new ≡ answered result (written (page_numbers (page_of (lent max_doc fields.now leaves.now postings.now positions.now norms.now live.now columns.now values.now) q.now target (length documents.old))) answer.old) (λ n. answer.old) }
     ensures kept { Kept result states.old states.new }
     ensures kept_2 { Kept result a.old a.new }
     ensures kept_3 { Kept result b.old b.new }
@@ -170,9 +170,9 @@ pub fn lot_pick(
     hits: &mut [i64],
     answer: &mut [u64],
 ) -> u32
-    ensures value { result ≡ borderPick documents.now scores.now k (length hits.old) (length answer.old) }
-    ensures hits_after { hits.new ≡ answered result (written (hitsOf k (pickedList documents.now scores.now)) hits.old) (λ n. hits.old) }
-    ensures answer_after { answer.new ≡ answered result (written (topNumbers k t (pickedList documents.now scores.now)) answer.old) (λ n. answer.old) }
+    ensures value { result ≡ border_pick documents.now scores.now k (length hits.old) (length answer.old) }
+    ensures hits_after { hits.new ≡ answered result (written (hits_of k (picked_list documents.now scores.now)) hits.old) (λ n. hits.old) }
+    ensures answer_after { answer.new ≡ answered result (written (top_numbers k t (picked_list documents.now scores.now)) answer.old) (λ n. answer.old) }
 {
     if answer.len() < 3 {
         return short_answer(pick_entry::pick_refusal(documents, scores, k, hits.len()));

@@ -6,7 +6,7 @@ use native.Mathlib.Omega.{arith}
 use Rattle.meaning.specs.Lent.{Index}
 use Rattle.meaning.proofs.Lowest.{answered-refused}
 use Rattle.border_demands.specs.Calls.{PageCall}
-use Rattle.border_demands.specs.Pages.{next, documentsGiven, scoresGiven, goesOn, Follow, joinedDocuments, joinedScores, goesOnAfter, AnswerAlone}
+use Rattle.border_demands.specs.Pages.{next, documents_given, scores_given, goes_on, Follow, joined_documents, joined_scores, goes_on_after, AnswerAlone}
 use Rattle.border_demands.proofs.Entries.{page-answer-alone}
 
 -- it is refused with 12, and leaves every buffer as it was
@@ -39,31 +39,31 @@ answer-alone c h =
 -- it may stand anywhere among other calls: those go on as if it were not there, and what is given in all is the same
 pub record Anywhere {ix : Index} {q : List ℕ} (s : ℕ) (xs : List (PageCall ix q)) (c : PageCall ix q) (ys : List (PageCall ix q)) : Type 0 where
   pub follow : Follow s (xs ++ ys) → Follow s (xs ++ (c ∷ ys))
-  pub documents : joinedDocuments (xs ++ (c ∷ ys)) ≡ joinedDocuments (xs ++ ys)
-  pub scores : joinedScores (xs ++ (c ∷ ys)) ≡ joinedScores (xs ++ ys)
-  pub last : goesOnAfter s (xs ++ (c ∷ ys)) ≡ goesOnAfter s (xs ++ ys)
+  pub documents : joined_documents (xs ++ (c ∷ ys)) ≡ joined_documents (xs ++ ys)
+  pub scores : joined_scores (xs ++ (c ∷ ys)) ≡ joined_scores (xs ++ ys)
+  pub last : goes_on_after s (xs ++ (c ∷ ys)) ≡ goes_on_after s (xs ++ ys)
 
 module _ {ix : Index} {q : List ℕ} (c : PageCall ix q) (h : AnswerAlone c) (ys : List (PageCall ix q)) where
   twelve : c.returned ≡ 12
   twelve = page-answer-alone c h.short h.else-right
 
-  stays : (s : ℕ) → goesOn s c ≡ s
-  unfolding goesOn
+  stays : (s : ℕ) → goes_on s c ≡ s
+  unfolding goes_on
   stays s = sym (answered-refused (next c) (λ n. s) c.returned (λ e. omega (arith, e, twelve)))
 
   pub alone-anywhere : (s : ℕ) (xs : List (PageCall ix q)) → Anywhere s xs c ys
-  unfolding Follow joinedDocuments joinedScores goesOnAfter documentsGiven scoresGiven goesOn
+  unfolding Follow joined_documents joined_scores goes_on_after documents_given scores_given goes_on
   alone-anywhere s [] = record {
     follow = λ f. ((λ e. absurd (omega (arith, e, twelve))), subst (λ (n : ℕ). Follow n ys) (sym (stays s)) f);
     documents = rw twelve refl;
     scores = rw twelve refl;
-    last = ap (λ (n : ℕ). goesOnAfter n ys) (stays s);
+    last = ap (λ (n : ℕ). goes_on_after n ys) (stays s);
   }
   alone-anywhere s (x ∷ xs) =
-      let later = alone-anywhere (goesOn s x) xs in
+      let later = alone-anywhere (goes_on s x) xs in
       record {
         follow = λ f. (f.0, later.follow f.1);
-        documents = ap (λ (l : List ℕ). documentsGiven x ++ l) later.documents;
-        scores = ap (λ (l : List ℕ). scoresGiven x ++ l) later.scores;
+        documents = ap (λ (l : List ℕ). documents_given x ++ l) later.documents;
+        scores = ap (λ (l : List ℕ). scores_given x ++ l) later.scores;
         last = later.last;
       }

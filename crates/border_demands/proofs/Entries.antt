@@ -7,9 +7,9 @@ use native.Mathlib.Omega.{arith}
 use lib.ListN.{length}
 use Rattle.meaning.specs.Lent.{Index}
 use Rattle.meaning.specs.CallRefusals.{Work}
-use Rattle.meaning.specs.Entries.{searchRefusal, pageRefusal, pickRefusal}
+use Rattle.meaning.specs.Entries.{search_refusal, page_refusal, pick_refusal}
 use Rattle.order_check.specs.Lends.{work}
-use Rattle.border.specs.Border.{shortAnswer}
+use Rattle.border.specs.Border.{short_answer}
 use Rattle.border.proofs.Short.{short-of-none, short-refuses, search-short, search-long, page-short, page-long, pick-short, pick-long}
 use Rattle.border_demands.specs.Calls.{SearchCall, PageCall, PickCall}
 
@@ -18,7 +18,7 @@ pub record Accepted (z r answer least : ℕ) : Type 0 where
   pub room : least ≤ answer
   pub entry : z ≡ 0
 
-accepted : (z r answer least : ℕ) → (answer < least → r ≡ shortAnswer z) → (least ≤ answer → r ≡ z) → r ≡ 0 → Accepted z r answer least
+accepted : (z r answer least : ℕ) → (answer < least → r ≡ short_answer z) → (least ≤ answer → r ≡ z) → r ≡ 0 → Accepted z r answer least
 accepted z r answer least short long e = elim (dec_lt answer least) [
   | yes h ↦ absurd (omega (arith, short h, short-refuses z, e))
   | no h ↦ record { room = omega (arith, h); entry = sym (long (omega (arith, h))) ∙ e }
@@ -29,11 +29,11 @@ module _ (ix : Index) (q : List ℕ) (k t : ℕ) (c : SearchCall ix q k t) where
   abbrev pub search-work : Work
   search-work = work (length c.states) (length c.a) (length c.b) (length c.ranges)
 
-  pub search-entry : c.returned ≡ 0 → Accepted (searchRefusal ix q k search-work (length c.hits)) c.returned (length c.answer) 3
+  pub search-entry : c.returned ≡ 0 → Accepted (search_refusal ix q k search-work (length c.hits)) c.returned (length c.answer) 3
   search-entry = accepted _ _ _ _ (λ h. c.number ∙ search-short ix q k search-work (length c.hits) (length c.answer) h) (λ h. c.number ∙ search-long ix q k search-work (length c.hits) (length c.answer) h)
 
   -- refused for its `answer` alone
-  pub search-answer-alone : length c.answer < 3 → searchRefusal ix q k search-work (length c.hits) ≡ 0 → c.returned ≡ 12
+  pub search-answer-alone : length c.answer < 3 → search_refusal ix q k search-work (length c.hits) ≡ 0 → c.returned ≡ 12
   search-answer-alone h e = c.number ∙ search-short ix q k search-work (length c.hits) (length c.answer) h ∙ short-of-none _ e
 
 -- ---- lot_page
@@ -41,16 +41,16 @@ module _ {ix : Index} {q : List ℕ} (c : PageCall ix q) where
   abbrev pub page-work : Work
   page-work = work (length c.states) (length c.a) (length c.b) (length c.ranges)
 
-  pub page-entry : c.returned ≡ 0 → Accepted (pageRefusal ix q c.target page-work (length c.documents) (length c.scores)) c.returned (length c.answer) 2
+  pub page-entry : c.returned ≡ 0 → Accepted (page_refusal ix q c.target page-work (length c.documents) (length c.scores)) c.returned (length c.answer) 2
   page-entry = accepted _ _ _ _ (λ h. c.number ∙ page-short ix q c.target page-work (length c.documents) (length c.scores) (length c.answer) h) (λ h. c.number ∙ page-long ix q c.target page-work (length c.documents) (length c.scores) (length c.answer) h)
 
-  pub page-answer-alone : length c.answer < 2 → pageRefusal ix q c.target page-work (length c.documents) (length c.scores) ≡ 0 → c.returned ≡ 12
+  pub page-answer-alone : length c.answer < 2 → page_refusal ix q c.target page-work (length c.documents) (length c.scores) ≡ 0 → c.returned ≡ 12
   page-answer-alone h e = c.number ∙ page-short ix q c.target page-work (length c.documents) (length c.scores) (length c.answer) h ∙ short-of-none _ e
 
 -- ---- lot_pick
 module _ (documents scores : List ℕ) (k t : ℕ) (c : PickCall documents scores k t) where
-  pub pick-entry : c.returned ≡ 0 → Accepted (pickRefusal documents scores k (length c.hits)) c.returned (length c.answer) 3
+  pub pick-entry : c.returned ≡ 0 → Accepted (pick_refusal documents scores k (length c.hits)) c.returned (length c.answer) 3
   pick-entry = accepted _ _ _ _ (λ h. c.number ∙ pick-short documents scores k (length c.hits) (length c.answer) h) (λ h. c.number ∙ pick-long documents scores k (length c.hits) (length c.answer) h)
 
-  pub pick-answer-alone : length c.answer < 3 → pickRefusal documents scores k (length c.hits) ≡ 0 → c.returned ≡ 12
+  pub pick-answer-alone : length c.answer < 3 → pick_refusal documents scores k (length c.hits) ≡ 0 → c.returned ≡ 12
   pick-answer-alone h e = c.number ∙ pick-short documents scores k (length c.hits) (length c.answer) h ∙ short-of-none _ e

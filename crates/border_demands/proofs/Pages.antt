@@ -7,19 +7,19 @@ use borrow.Author.Tests.{eq-eqb}
 use lib.ListN.{length, take, drop, get_or, length-map}
 use lib.Seq.{take_all}
 use lib.Ieee.{binary32, to_bits}
-use Rattle.meaning.specs.Limits.{noMoreDocs}
+use Rattle.meaning.specs.Limits.{no_more_docs}
 use Rattle.meaning.specs.Lent.{Index}
-use Rattle.meaning.specs.Query.{queryTree}
-use Rattle.meaning.specs.FullList.{ScoreDoc, fullList}
-use Rattle.meaning.specs.Entries.{page_of, pageRefusal, pageAnswer}
+use Rattle.meaning.specs.Query.{query_tree}
+use Rattle.meaning.specs.FullList.{ScoreDoc, full_list}
+use Rattle.meaning.specs.Entries.{page_of, page_refusal, page_answer}
 use Rattle.meaning.proofs.Lowest.{answered-accepted}
 use Rattle.demands.specs.Demands as demands
 use Rattle.demands.proofs.Accepting.{page-accepts}
 use Rattle.demands.proofs.Pages as entry
-use Rattle.border.specs.Border.{pageNumbers}
+use Rattle.border.specs.Border.{page_numbers}
 use Rattle.border.proofs.Told.{documents-written, scores-written}
 use Rattle.border_demands.specs.Calls.{PageCall}
-use Rattle.border_demands.specs.Pages.{given, next, documentsGiven, scoresGiven, placesLent, goesOn, Follow, joinedDocuments, joinedScores, joinedPlaces, acceptedCalls, goesOnAfter}
+use Rattle.border_demands.specs.Pages.{given, next, documents_given, scores_given, places_lent, goes_on, Follow, joined_documents, joined_scores, joined_places, accepted_calls, goes_on_after}
 use Rattle.border_demands.proofs.Entries.{page-work, page-entry}
 
 -- ---- one call, as a call of Page
@@ -28,82 +28,82 @@ module _ {ix : Index} {q : List ℕ} (c : PageCall ix q) where
   asked = record { target = c.target; documents = c.documents; scores = c.scores; work = page-work c }
 
   module _ (r : c.returned ≡ 0) where
-    asked-accepted : demands.refusalOf ix q asked ≡ 0
-    unfolding demands.refusalOf
+    asked-accepted : demands.refusal_of ix q asked ≡ 0
+    unfolding demands.refusal_of
     asked-accepted = (page-entry c r).entry
 
-    same-refusal : c.returned ≡ pageRefusal ix q c.target (page-work c) (length c.documents) (length c.scores)
+    same-refusal : c.returned ≡ page_refusal ix q c.target (page-work c) (length c.documents) (length c.scores)
     same-refusal = r ∙ sym (page-entry c r).entry
 
     -- what stands in `answer` is what Page answers after its 0
-    answer-is : demands.answer_of ix q asked ≡ 0 ∷ pageNumbers (page_of ix q c.target (length c.documents))
-    unfolding demands.answer_of pageAnswer
+    answer-is : demands.answer_of ix q asked ≡ 0 ∷ page_numbers (page_of ix q c.target (length c.documents))
+    unfolding demands.answer_of page_answer
     answer-is = rw (page-entry c r).entry
 
-    answer-told : c.answer' ≡ pageNumbers (page_of ix q c.target (length c.documents)) ++ drop 2 c.answer
+    answer-told : c.answer' ≡ page_numbers (page_of ix q c.target (length c.documents)) ++ drop 2 c.answer
     answer-told = let told = c.answer-told in rw r at told
 
-    given_is : given c ≡ demands.givenBy ix q asked
+    given_is : given c ≡ demands.given_by ix q asked
     given_is = ap (λ (l : List ℕ). get_or l 0 0) answer-told ∙ sym (ap (λ (l : List ℕ). get_or l 1 0) answer-is)
 
-    next-is : next c ≡ demands.nextBy ix q asked
+    next-is : next c ≡ demands.next_by ix q asked
     next-is = ap (λ (l : List ℕ). get_or l 1 0) answer-told ∙ sym (ap (λ (l : List ℕ). get_or l 2 0) answer-is)
 
-    documents-are : documentsGiven c ≡ demands.documentsBy ix q asked
-    unfolding documentsGiven demands.documentsBy
+    documents-are : documents_given c ≡ demands.documents_by ix q asked
+    unfolding documents_given demands.documents_by
     documents-are =
         let told = c.documents-told ∙ sym (documents-written ix q c.target (page-work c) c.returned c.documents c.scores same-refusal) in
         sym (answered-accepted (take (given c) c.documents') (λ n. []) c.returned r)
         ∙ ap (λ (n : ℕ). take n c.documents') given_is
-        ∙ ap (take (demands.givenBy ix q asked)) told
+        ∙ ap (take (demands.given_by ix q asked)) told
 
-    scores-are : scoresGiven c ≡ demands.scoresBy ix q asked
-    unfolding scoresGiven demands.scoresBy
+    scores-are : scores_given c ≡ demands.scores_by ix q asked
+    unfolding scores_given demands.scores_by
     scores-are =
         let told = c.scores-told ∙ sym (scores-written ix q c.target (page-work c) c.returned c.documents c.scores same-refusal) in
         sym (answered-accepted (take (given c) c.scores') (λ n. []) c.returned r)
         ∙ ap (λ (n : ℕ). take n c.scores') given_is
-        ∙ ap (take (demands.givenBy ix q asked)) told
+        ∙ ap (take (demands.given_by ix q asked)) told
 
-    places-are : placesLent c ≡ length c.documents
-    unfolding placesLent
+    places-are : places_lent c ≡ length c.documents
+    unfolding places_lent
     places-are = sym (answered-accepted (length c.documents) (λ n. 0) c.returned r)
 
-    goes_on : (s : ℕ) → goesOn s c ≡ demands.nextBy ix q asked
-    unfolding goesOn
-    goes_on s = rw r next-is
+    goes_on_lem : (s : ℕ) → goes_on s c ≡ demands.next_by ix q asked
+    unfolding goes_on
+    goes_on_lem s = rw r next-is
 
 -- ---- a list of calls, as the calls of Page that are its accepted ones
 module _ {ix : Index} {q : List ℕ} where
   record Lifted (s : ℕ) (cs : List (PageCall ix q)) (ds : List demands.Call) : Type 0 where
     all-answered : demands.answered ix q ds ≡ ds
     follow : Follow s cs → demands.Follow ix q s ds
-    documents : joinedDocuments cs ≡ demands.joinedDocuments ix q ds
-    scores : joinedScores cs ≡ demands.joinedScores ix q ds
-    places : joinedPlaces cs ≡ demands.places_of ds
-    calls : acceptedCalls cs ≡ length ds
-    last : goesOnAfter s cs ≡ demands.lastNext ix q s ds
+    documents : joined_documents cs ≡ demands.joined_documents ix q ds
+    scores : joined_scores cs ≡ demands.joined_scores ix q ds
+    places : joined_places cs ≡ demands.places_of ds
+    calls : accepted_calls cs ≡ length ds
+    last : goes_on_after s cs ≡ demands.last_next ix q s ds
 
   no-calls : (s : ℕ) → Lifted s [] []
-  unfolding Follow joinedDocuments joinedScores joinedPlaces acceptedCalls goesOnAfter demands.answered demands.Follow demands.joinedDocuments demands.joinedScores demands.places_of demands.lastNext
+  unfolding Follow joined_documents joined_scores joined_places accepted_calls goes_on_after demands.answered demands.Follow demands.joined_documents demands.joined_scores demands.places_of demands.last_next
   no-calls s = record { all-answered = refl; follow = λ f. tt; documents = refl; scores = refl; places = refl; calls = refl; last = refl }
 
   -- an accepted call first
-  accepted-call : (s : ℕ) (c : PageCall ix q) (cs : List (PageCall ix q)) (ds : List demands.Call) → c.returned ≡ 0 → Lifted (demands.nextBy ix q (asked c)) cs ds → Lifted s (c ∷ cs) (asked c ∷ ds)
-  unfolding Follow joinedDocuments joinedScores joinedPlaces acceptedCalls goesOnAfter demands.answered demands.Follow demands.joinedDocuments demands.joinedScores demands.places_of demands.lastNext
+  accepted-call : (s : ℕ) (c : PageCall ix q) (cs : List (PageCall ix q)) (ds : List demands.Call) → c.returned ≡ 0 → Lifted (demands.next_by ix q (asked c)) cs ds → Lifted s (c ∷ cs) (asked c ∷ ds)
+  unfolding Follow joined_documents joined_scores joined_places accepted_calls goes_on_after demands.answered demands.Follow demands.joined_documents demands.joined_scores demands.places_of demands.last_next
   accepted-call s c cs ds r later = record {
-    all-answered = rw (eq-eqb (demands.refusalOf ix q (asked c)) 0 (asked-accepted c r)) (ap (λ (l : List demands.Call). asked c ∷ l) later.all-answered);
-    follow = λ f. (f.0 r, later.follow (subst (λ (n : ℕ). Follow n cs) (goes_on c r s) f.1));
-    documents = ap (λ (l : List ℕ). l ++ joinedDocuments cs) (documents-are c r) ∙ ap (λ (l : List ℕ). demands.documentsBy ix q (asked c) ++ l) later.documents;
-    scores = ap (λ (l : List ℕ). l ++ joinedScores cs) (scores-are c r) ∙ ap (λ (l : List ℕ). demands.scoresBy ix q (asked c) ++ l) later.scores;
+    all-answered = rw (eq-eqb (demands.refusal_of ix q (asked c)) 0 (asked-accepted c r)) (ap (λ (l : List demands.Call). asked c ∷ l) later.all-answered);
+    follow = λ f. (f.0 r, later.follow (subst (λ (n : ℕ). Follow n cs) (goes_on_lem c r s) f.1));
+    documents = ap (λ (l : List ℕ). l ++ joined_documents cs) (documents-are c r) ∙ ap (λ (l : List ℕ). demands.documents_by ix q (asked c) ++ l) later.documents;
+    scores = ap (λ (l : List ℕ). l ++ joined_scores cs) (scores-are c r) ∙ ap (λ (l : List ℕ). demands.scores_by ix q (asked c) ++ l) later.scores;
     places = omega (arith, places-are c r, later.places);
     calls = rw r (omega (arith, later.calls));
-    last = ap (λ (n : ℕ). goesOnAfter n cs) (goes_on c r s) ∙ later.last;
+    last = ap (λ (n : ℕ). goes_on_after n cs) (goes_on_lem c r s) ∙ later.last;
   }
 
   -- a refused call first: it gives nothing, and the next goes on from the same target
   refused-call : (s : ℕ) (c : PageCall ix q) (cs : List (PageCall ix q)) (ds : List demands.Call) (n : ℕ) → c.returned ≡ suc n → Lifted s cs ds → Lifted s (c ∷ cs) ds
-  unfolding Follow joinedDocuments joinedScores joinedPlaces documentsGiven scoresGiven placesLent goesOn acceptedCalls goesOnAfter
+  unfolding Follow joined_documents joined_scores joined_places documents_given scores_given places_lent goes_on accepted_calls goes_on_after
   refused-call s c cs ds n r later = record {
     all-answered = later.all-answered;
     follow = λ f. later.follow (let g = f.1 in rw r at g);
@@ -123,16 +123,16 @@ module _ {ix : Index} {q : List ℕ} where
   lift s (c ∷ cs) = go c.returned refl (λ n. lift n cs)
     where
       go : (n : ℕ) → c.returned ≡ n → ((n : ℕ) → Asked n cs) → Asked s (c ∷ cs)
-      go zero r later = let l = later (demands.nextBy ix q (asked c)) in record { entries = asked c ∷ l.entries; lifted = accepted-call s c cs l.entries r l.lifted }
+      go zero r later = let l = later (demands.next_by ix q (asked c)) in record { entries = asked c ∷ l.entries; lifted = accepted-call s c cs l.entries r l.lifted }
       go (suc n) r later = let l = later s in record { entries = l.entries; lifted = refused-call s c cs l.entries n r l.lifted }
 
   -- one accepted call, and the index and the query are accepted
-  some-accepted : (cs : List (PageCall ix q)) → 0 < acceptedCalls cs → demands.Accepts ix q
-  unfolding acceptedCalls
+  some-accepted : (cs : List (PageCall ix q)) → 0 < accepted_calls cs → demands.Accepts ix q
+  unfolding accepted_calls
   some-accepted [] h = absurd (omega (arith, h))
   some-accepted (c ∷ cs) h = go c.returned refl (some-accepted cs)
     where
-      go : (n : ℕ) → c.returned ≡ n → (0 < acceptedCalls cs → demands.Accepts ix q) → demands.Accepts ix q
+      go : (n : ℕ) → c.returned ≡ n → (0 < accepted_calls cs → demands.Accepts ix q) → demands.Accepts ix q
       go zero r later = page-accepts ix q c.target (page-work c) (length c.documents) (length c.scores) (page-entry c r).entry
       go (suc n) r later = later (let g = h in omega (arith, rw r at g))
 
@@ -140,26 +140,26 @@ module _ {ix : Index} {q : List ℕ} where
 -- "joined": the documents and the scores' bits given are the beginning of the full list's, as many as places were lent; NO_MORE_DOCS is
 -- where to go on exactly where they are the whole list, once a call was accepted
 pub record PagesJoined (ix : Index) (q : List ℕ) (calls : List (PageCall ix q)) : Type 0 where
-  pub documents : joinedDocuments calls ≡ take (joinedPlaces calls) (map (λ h. h.doc) (fullList ix (queryTree q)))
-  pub scores : joinedScores calls ≡ take (joinedPlaces calls) (map (λ h. to_bits binary32 h.score) (fullList ix (queryTree q)))
-  pub all-documents : goesOnAfter 0 calls ≡ noMoreDocs → joinedDocuments calls ≡ map (λ h. h.doc) (fullList ix (queryTree q))
-  pub all-scores : goesOnAfter 0 calls ≡ noMoreDocs → joinedScores calls ≡ map (λ h. to_bits binary32 h.score) (fullList ix (queryTree q))
-  pub ended : goesOnAfter 0 calls ≡ noMoreDocs → length (fullList ix (queryTree q)) ≤ joinedPlaces calls
-  pub whole : 0 < acceptedCalls calls → length (fullList ix (queryTree q)) ≤ joinedPlaces calls → goesOnAfter 0 calls ≡ noMoreDocs
+  pub documents : joined_documents calls ≡ take (joined_places calls) (map (λ h. h.doc) (full_list ix (query_tree q)))
+  pub scores : joined_scores calls ≡ take (joined_places calls) (map (λ h. to_bits binary32 h.score) (full_list ix (query_tree q)))
+  pub all-documents : goes_on_after 0 calls ≡ no_more_docs → joined_documents calls ≡ map (λ h. h.doc) (full_list ix (query_tree q))
+  pub all-scores : goes_on_after 0 calls ≡ no_more_docs → joined_scores calls ≡ map (λ h. to_bits binary32 h.score) (full_list ix (query_tree q))
+  pub ended : goes_on_after 0 calls ≡ no_more_docs → length (full_list ix (query_tree q)) ≤ joined_places calls
+  pub whole : 0 < accepted_calls calls → length (full_list ix (query_tree q)) ≤ joined_places calls → goes_on_after 0 calls ≡ no_more_docs
 
 whole_of : (n : ℕ) (xs ys : List ℕ) → xs ≡ take n ys → length ys ≤ n → xs ≡ ys
 whole_of n xs ys e h = e ∙ take_all n ys h
 
 module _ (ix : Index) (q : List ℕ) (cs : List (PageCall ix q)) (f : Follow 0 cs) where
   abbrev all : List ScoreDoc
-  all = fullList ix (queryTree q)
+  all = full_list ix (query_tree q)
 
   -- none was accepted
   none-joined : Lifted 0 cs [] → PagesJoined ix q cs
-  unfolding demands.joinedDocuments demands.joinedScores demands.places_of demands.lastNext
+  unfolding demands.joined_documents demands.joined_scores demands.places_of demands.last_next
   none-joined l =
-      let last : goesOnAfter 0 cs ≡ 0 = l.last in
-      let never : goesOnAfter 0 cs ≡ noMoreDocs → ⊥ = λ e. omega (arith, last, e) in
+      let last : goes_on_after 0 cs ≡ 0 = l.last in
+      let never : goes_on_after 0 cs ≡ no_more_docs → ⊥ = λ e. omega (arith, last, e) in
       record {
         documents = l.documents ∙ sym (ap (λ (n : ℕ). take n (map (λ h. h.doc) all)) l.places);
         scores = l.scores ∙ sym (ap (λ (n : ℕ). take n (map (λ h. to_bits binary32 h.score) all)) l.places);
@@ -175,14 +175,14 @@ module _ (ix : Index) (q : List ℕ) (cs : List (PageCall ix q)) (f : Follow 0 c
       let follow = subst (λ (l : List demands.Call). demands.Follow ix q 0 l) (sym l.all-answered) (l.follow f) in
       let accepts = some-accepted cs (omega (arith, h, l.calls)) in
       let j = subst (λ (l : List demands.Call). entry.PagesJoined ix q l) l.all-answered (entry.pages-joined ix q ds accepts follow) in
-      let documents : joinedDocuments cs ≡ take (joinedPlaces cs) (map (λ h. h.doc) all) = l.documents ∙ j.documents ∙ ap (λ (n : ℕ). take n (map (λ h. h.doc) all)) (sym l.places) in
-      let scores : joinedScores cs ≡ take (joinedPlaces cs) (map (λ h. to_bits binary32 h.score) all) = l.scores ∙ j.scores ∙ ap (λ (n : ℕ). take n (map (λ h. to_bits binary32 h.score) all)) (sym l.places) in
-      let ended : goesOnAfter 0 cs ≡ noMoreDocs → length all ≤ joinedPlaces cs = λ e. omega (arith, j.ended h (sym l.last ∙ e), l.places) in
+      let documents : joined_documents cs ≡ take (joined_places cs) (map (λ h. h.doc) all) = l.documents ∙ j.documents ∙ ap (λ (n : ℕ). take n (map (λ h. h.doc) all)) (sym l.places) in
+      let scores : joined_scores cs ≡ take (joined_places cs) (map (λ h. to_bits binary32 h.score) all) = l.scores ∙ j.scores ∙ ap (λ (n : ℕ). take n (map (λ h. to_bits binary32 h.score) all)) (sym l.places) in
+      let ended : goes_on_after 0 cs ≡ no_more_docs → length all ≤ joined_places cs = λ e. omega (arith, j.ended h (sym l.last ∙ e), l.places) in
       record {
         documents = documents;
         scores = scores;
-        all-documents = λ e. whole_of (joinedPlaces cs) (joinedDocuments cs) (map (λ h. h.doc) all) documents (omega (arith, ended e, length-map all (λ h. h.doc)));
-        all-scores = λ e. whole_of (joinedPlaces cs) (joinedScores cs) (map (λ h. to_bits binary32 h.score) all) scores (omega (arith, ended e, length-map all (λ h. to_bits binary32 h.score)));
+        all-documents = λ e. whole_of (joined_places cs) (joined_documents cs) (map (λ h. h.doc) all) documents (omega (arith, ended e, length-map all (λ h. h.doc)));
+        all-scores = λ e. whole_of (joined_places cs) (joined_scores cs) (map (λ h. to_bits binary32 h.score) all) scores (omega (arith, ended e, length-map all (λ h. to_bits binary32 h.score)));
         ended = ended;
         whole = λ g e. l.last ∙ j.whole h (omega (arith, e, l.places));
       }

@@ -4,12 +4,12 @@ use Rattle.std.specs.Prelude.{◌≡◌, List, map, ℕ, length, take, get_or, �
 use Rattle.std.specs.Float.{binary32}
 use Rattle.std.specs.Float.Ieee.{to_bits}
 use Rattle.meaning.specs.Lent.{Index}
-use Rattle.meaning.specs.Query.{queryTree}
-use Rattle.meaning.specs.FullList.{fullList}
-use Rattle.meaning.specs.Hits.{hits as hitsOf}
-use Rattle.meaning.specs.Entries.{written, answered, Kept, page_of, pickedList}
+use Rattle.meaning.specs.Query.{query_tree}
+use Rattle.meaning.specs.FullList.{full_list}
+use Rattle.meaning.specs.Hits.{hits as hits_of}
+use Rattle.meaning.specs.Entries.{written, answered, Kept, page_of, picked_list}
 use Rattle.order_check.specs.Lends.{work}
-use Rattle.border.specs.Border.{borderSearch, borderPage, borderPick, topNumbers, pageNumbers}
+use Rattle.border.specs.Border.{border_search, border_page, border_pick, top_numbers, page_numbers}
 
 -- "Search gives hits, count and the "at least" mark": a call of lot_search on an index and a query, with k and t
 pub record SearchCall (ix : Index) (q : List ℕ) (k t : ℕ) : Type 0 where
@@ -26,9 +26,9 @@ pub record SearchCall (ix : Index) (q : List ℕ) (k t : ℕ) : Type 0 where
   pub ranges' : List ℕ
   pub hits' : List ℤ
   pub answer' : List ℕ
-  pub number : returned ≡ borderSearch ix q k (work (length states) (length a) (length b) (length ranges)) (length hits) (length answer)
-  pub hits-told : hits' ≡ answered returned (written (hitsOf k (fullList ix (queryTree q))) hits) (λ n. hits)
-  pub answer-told : answer' ≡ answered returned (written (topNumbers k t (fullList ix (queryTree q))) answer) (λ n. answer)
+  pub number : returned ≡ border_search ix q k (work (length states) (length a) (length b) (length ranges)) (length hits) (length answer)
+  pub hits-told : hits' ≡ answered returned (written (hits_of k (full_list ix (query_tree q))) hits) (λ n. hits)
+  pub answer-told : answer' ≡ answered returned (written (top_numbers k t (full_list ix (query_tree q))) answer) (λ n. answer)
   pub states-kept : Kept returned states states'
   pub a-kept : Kept returned a a'
   pub b-kept : Kept returned b b'
@@ -52,10 +52,10 @@ pub record PageCall (ix : Index) (q : List ℕ) : Type 0 where
   pub documents' : List ℕ
   pub scores' : List ℕ
   pub answer' : List ℕ
-  pub number : returned ≡ borderPage ix q target (work (length states) (length a) (length b) (length ranges)) (length documents) (length scores) (length answer)
+  pub number : returned ≡ border_page ix q target (work (length states) (length a) (length b) (length ranges)) (length documents) (length scores) (length answer)
   pub documents-told : documents' ≡ answered returned (written (map (λ h. h.doc) (page_of ix q target (length documents)).given) documents) (λ n. documents)
   pub scores-told : scores' ≡ answered returned (written (map (λ h. to_bits binary32 h.score) (page_of ix q target (length documents)).given) scores) (λ n. scores)
-  pub answer-told : answer' ≡ answered returned (written (pageNumbers (page_of ix q target (length documents))) answer) (λ n. answer)
+  pub answer-told : answer' ≡ answered returned (written (page_numbers (page_of ix q target (length documents))) answer) (λ n. answer)
   pub states-kept : Kept returned states states'
   pub a-kept : Kept returned a a'
   pub b-kept : Kept returned b b'
@@ -68,13 +68,13 @@ pub record PickCall (documents scores : List ℕ) (k t : ℕ) : Type 0 where
   pub returned : ℕ
   pub hits' : List ℤ
   pub answer' : List ℕ
-  pub number : returned ≡ borderPick documents scores k (length hits) (length answer)
-  pub hits-told : hits' ≡ answered returned (written (hitsOf k (pickedList documents scores)) hits) (λ n. hits)
-  pub answer-told : answer' ≡ answered returned (written (topNumbers k t (pickedList documents scores)) answer) (λ n. answer)
+  pub number : returned ≡ border_pick documents scores k (length hits) (length answer)
+  pub hits-told : hits' ≡ answered returned (written (hits_of k (picked_list documents scores)) hits) (λ n. hits)
+  pub answer-told : answer' ≡ answered returned (written (top_numbers k t (picked_list documents scores)) answer) (λ n. answer)
 
 -- the hits that a call of lot_search or lot_pick gave that returned 0: the front of its hits buffer, as many as `answer` says first
-unfoldable pub hitsGiven : List ℤ → List ℕ → List ℤ
-hitsGiven hits' answer' = take (get_or answer' 0 0) hits'
+unfoldable pub hits_given : List ℤ → List ℕ → List ℤ
+hits_given hits' answer' = take (get_or answer' 0 0) hits'
 
 -- some hits are the beginning of others: demand 3's "hits for k begin those for a larger k"
 unfoldable pub Begin : List ℤ → List ℤ → Type 0

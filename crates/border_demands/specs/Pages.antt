@@ -2,7 +2,7 @@
 -- "index and query stay unchanged, and buffers may hold anything". Assumes nothing: these are definitions.
 use Rattle.std.specs.Prelude.{◌≡◌, List, [], ◌∷◌, ◌++◌, ℕ, ◌+◌, ◌<◌, length, take, get_or}
 use Rattle.meaning.specs.Lent.{Index}
-use Rattle.meaning.specs.Entries.{answered, pageRefusal}
+use Rattle.meaning.specs.Entries.{answered, page_refusal}
 use Rattle.order_check.specs.Lends.{work}
 use Rattle.border_demands.specs.Calls.{PageCall}
 
@@ -16,52 +16,52 @@ module _ {ix : Index} {q : List ℕ} where
   next c = get_or c.answer' 1 0
 
   -- the documents that a call gave: the front of its output, and nothing where it was refused
-  unfoldable pub documentsGiven : PageCall ix q → List ℕ
-  documentsGiven c = answered c.returned (take (given c) c.documents') (λ n. [])
+  unfoldable pub documents_given : PageCall ix q → List ℕ
+  documents_given c = answered c.returned (take (given c) c.documents') (λ n. [])
 
   -- .. and their scores' bits
-  unfoldable pub scoresGiven : PageCall ix q → List ℕ
-  scoresGiven c = answered c.returned (take (given c) c.scores') (λ n. [])
+  unfoldable pub scores_given : PageCall ix q → List ℕ
+  scores_given c = answered c.returned (take (given c) c.scores') (λ n. [])
 
   -- how many places for documents it lent, and none where it was refused
-  unfoldable pub placesLent : PageCall ix q → ℕ
-  placesLent c = answered c.returned (length c.documents) (λ n. 0)
+  unfoldable pub places_lent : PageCall ix q → ℕ
+  places_lent c = answered c.returned (length c.documents) (λ n. 0)
 
   -- where to go on after a call, where it was s before: at the next match that it named, and still at s where it was refused
-  unfoldable pub goesOn : ℕ → PageCall ix q → ℕ
-  goesOn s c = answered c.returned (next c) (λ n. s)
+  unfoldable pub goes_on : ℕ → PageCall ix q → ℕ
+  goes_on s c = answered c.returned (next c) (λ n. s)
 
   -- .. after some calls
-  unfoldable pub goesOnAfter : ℕ → List (PageCall ix q) → ℕ
-  goesOnAfter s [] = s
-  goesOnAfter s (c ∷ cs) = goesOnAfter (goesOn s c) cs
+  unfoldable pub goes_on_after : ℕ → List (PageCall ix q) → ℕ
+  goes_on_after s [] = s
+  goes_on_after s (c ∷ cs) = goes_on_after (goes_on s c) cs
 
   -- each call that is not refused begins where to go on after those before it, and at s where there are none; a refused one begins anywhere
   unfoldable pub Follow : ℕ → List (PageCall ix q) → Type 0
   Follow s [] = Unit
-  Follow s (c ∷ cs) = (c.returned ≡ 0 → c.target ≡ s) × Follow (goesOn s c) cs
+  Follow s (c ∷ cs) = (c.returned ≡ 0 → c.target ≡ s) × Follow (goes_on s c) cs
 
   -- the documents that the calls gave, "joined"
-  unfoldable pub joinedDocuments : List (PageCall ix q) → List ℕ
-  joinedDocuments [] = []
-  joinedDocuments (c ∷ cs) = documentsGiven c ++ joinedDocuments cs
+  unfoldable pub joined_documents : List (PageCall ix q) → List ℕ
+  joined_documents [] = []
+  joined_documents (c ∷ cs) = documents_given c ++ joined_documents cs
 
   -- .. and their scores' bits
-  unfoldable pub joinedScores : List (PageCall ix q) → List ℕ
-  joinedScores [] = []
-  joinedScores (c ∷ cs) = scoresGiven c ++ joinedScores cs
+  unfoldable pub joined_scores : List (PageCall ix q) → List ℕ
+  joined_scores [] = []
+  joined_scores (c ∷ cs) = scores_given c ++ joined_scores cs
 
   -- how many places they lent in all
-  unfoldable pub joinedPlaces : List (PageCall ix q) → ℕ
-  joinedPlaces [] = 0
-  joinedPlaces (c ∷ cs) = placesLent c + joinedPlaces cs
+  unfoldable pub joined_places : List (PageCall ix q) → ℕ
+  joined_places [] = 0
+  joined_places (c ∷ cs) = places_lent c + joined_places cs
 
   -- how many of them were not refused
-  unfoldable pub acceptedCalls : List (PageCall ix q) → ℕ
-  acceptedCalls [] = 0
-  acceptedCalls (c ∷ cs) = answered c.returned 1 (λ n. 0) + acceptedCalls cs
+  unfoldable pub accepted_calls : List (PageCall ix q) → ℕ
+  accepted_calls [] = 0
+  accepted_calls (c ∷ cs) = answered c.returned 1 (λ n. 0) + accepted_calls cs
 
   -- a call whose `answer` is too short and of which Page itself would refuse nothing
   pub record AnswerAlone (c : PageCall ix q) : Type 0 where
     pub short : length c.answer < 2
-    pub else-right : pageRefusal ix q c.target (work (length c.states) (length c.a) (length c.b) (length c.ranges)) (length c.documents) (length c.scores) ≡ 0
+    pub else-right : page_refusal ix q c.target (work (length c.states) (length c.a) (length c.b) (length c.ranges)) (length c.documents) (length c.scores) ≡ 0

@@ -7,13 +7,13 @@ use native.Mathlib.Omega.{arith}
 use lib.Dec.{T}
 use lib.ListN.{take}
 use lib.Ieee.{Float, binary32, of_bits, nan_bits}
-use Rattle.meaning.specs.Limits.{largestBoost}
+use Rattle.meaning.specs.Limits.{largest_boost}
 use Rattle.meaning.specs.Lent.{Index}
-use Rattle.meaning.specs.Ieee754.{zeroFloat}
-use Rattle.meaning.specs.Query.{recordCount, recordKind, recordValue, Tree, Decoded}
-use Rattle.meaning.specs.QueryRefusals.{carriesAbove}
+use Rattle.meaning.specs.Ieee754.{zero_float}
+use Rattle.meaning.specs.Query.{record_count, record_kind, record_value, Tree, Decoded}
+use Rattle.meaning.specs.QueryRefusals.{carries_above}
 use Rattle.meaning.specs.Score.{boosted}
-use Rattle.ieee754.specs.Nonneg.{signClear}
+use Rattle.ieee754.specs.Nonneg.{sign_clear}
 use Rattle.ieee754.proofs.Ranges.{mul-clear}
 use Rattle.sim.proofs.ScoreBounds.{boost-atmost}
 use Rattle.query.proofs.Above.{within-constant, within-boost, boost-number}
@@ -25,13 +25,13 @@ use Rattle.weight.proofs.Standing.{deep}
 use Rattle.weight.specs.ScorerTree.{Scorer}
 use Rattle.weight.specs.State.{size_of}
 use Rattle.weight.specs.Weigh.{weigh}
-use Rattle.node_words.specs.Placed.{Placed, keptOf}
+use Rattle.node_words.specs.Placed.{Placed, kept_of}
 use Rattle.node_words.specs.Prepared.{Records, Prepared, TreeAsked, TreePre, TreePost}
 use Rattle.node_words.proofs.AtRecord.{at_here, boost-small, score-small}
 use Rattle.node_words.proofs.Weighing.{weigh-constant, weigh-boost}
 
 -- the code's 0.0
-zero_bits : of_bits binary32 0 ≡ zeroFloat
+zero_bits : of_bits binary32 0 ≡ zero_float
 unfolding of_bits
 zero_bits = refl
 
@@ -43,7 +43,7 @@ placed-deeper ix ranges s d e scores r words h p = record { size_is = p.size_is;
 record Below (ix : Index) (q : List ℕ) (k at : ℕ) (D : Decoded) (fixed : Bool) (kept boost : Float) (fixed' : Bool) (kept' boost' : Float) (words : ℕ) : Type 0 where
   child : Decoded
   asked : TreeAsked ix q (k - 1) (at + 1) child fixed' kept' boost' words
-  scorer-is : weigh ix D.tree boost (keptOf fixed kept) ≡ weigh ix child.tree boost' (keptOf fixed' kept')
+  scorer-is : weigh ix D.tree boost (kept_of fixed kept) ≡ weigh ix child.tree boost' (kept_of fixed' kept')
 
 module _ (E : Records) (at : ℕ) (fixed : Bool) (kept boost : Float) (words depth : ℕ) where
   module _ (fixed' : Bool) (kept' boost' : Float) (below : (ix : Index) (ranges : List ℕ) (k : ℕ) (D : Decoded) → Prepared ix E ranges → TreeAsked ix E.query k at D fixed kept boost words → Below ix E.query k at D fixed kept boost fixed' kept' boost' words) where
@@ -57,27 +57,27 @@ module _ (E : Records) (at : ℕ) (fixed : Bool) (kept boost : Float) (words dep
     below-placed scores r st post ix ranges k D p a levels =
         let b = below ix ranges k D p a in
         rw b.scorer-is
-        (placed-deeper ix ranges (weigh ix b.child.tree boost' (keptOf fixed' kept')) (depth - 1) depth scores r st (omega arith) (post ix ranges (k - 1) b.child p b.asked (omega (arith, levels))))
+        (placed-deeper ix ranges (weigh ix b.child.tree boost' (kept_of fixed' kept')) (depth - 1) depth scores r st (omega arith) (post ix ranges (k - 1) b.child p b.asked (omega (arith, levels))))
 
   -- ---- a ConstantScore: below it the boost is 0, and its score is kept
-  module _ (kind : recordKind E.query at ≡ 6) (score : Float) (score-is : score ≡ cond fixed kept boost) where
+  module _ (kind : record_kind E.query at ≡ 6) (score : Float) (score-is : score ≡ cond fixed kept boost) where
     constant-below : (ix : Index) (ranges : List ℕ) (k : ℕ) (D : Decoded) → Prepared ix E ranges → TreeAsked ix E.query k at D fixed kept boost words → Below ix E.query k at D fixed kept boost true score (of_bits binary32 0) words
     constant-below ix ranges k D p a =
         let q = E.query in
         let c = constant-at q (k - 1) at D (deep q k at D a.decoded) kind in
-        let same : weigh ix D.tree boost (keptOf fixed kept) ≡ weigh ix c.child.tree (of_bits binary32 0) (keptOf true score) =
-        ap (λ (t : Tree). weigh ix t boost (keptOf fixed kept)) c.tree_is
+        let same : weigh ix D.tree boost (kept_of fixed kept) ≡ weigh ix c.child.tree (of_bits binary32 0) (kept_of true score) =
+        ap (λ (t : Tree). weigh ix t boost (kept_of fixed kept)) c.tree_is
         ∙ weigh-constant ix boost kept fixed c.child.tree
-        ∙ ap (λ (z : Float). weigh ix c.child.tree zeroFloat (keptOf true z)) (sym score-is)
-        ∙ ap (λ (z : Float). weigh ix c.child.tree z (keptOf true score)) (sym zero_bits) in
+        ∙ ap (λ (z : Float). weigh ix c.child.tree zero_float (kept_of true z)) (sym score-is)
+        ∙ ap (λ (z : Float). weigh ix c.child.tree z (kept_of true score)) (sym zero_bits) in
         let sized = ap size_of same in
         let room = a.room in
         record {
           child = c.child;
           asked = record {
             decoded = c.decoded;
-            within = subst (λ (z : Float). carriesAbove c.child.tree z ≡ false) (sym zero_bits) (within-constant c.child.tree boost (subst (λ (t : Tree). carriesAbove t boost ≡ false) c.tree_is a.within));
-            boost-clear = subst (λ (z : Float). T (signClear z)) (sym zero_bits) tt;
+            within = subst (λ (z : Float). carries_above c.child.tree z ≡ false) (sym zero_bits) (within-constant c.child.tree boost (subst (λ (t : Tree). carries_above t boost ≡ false) c.tree_is a.within));
+            boost-clear = subst (λ (z : Float). T (sign_clear z)) (sym zero_bits) tt;
             kept_small = score-small ix E ranges k at D fixed kept boost words p a score score-is;
             room = omega (arith, sized, room);
           };
@@ -91,18 +91,18 @@ module _ (E : Records) (at : ℕ) (fixed : Bool) (kept boost : Float) (words dep
     constant-placed = below-placed true score (of_bits binary32 0) constant-below
 
   -- ---- a Boost: its value is in the boost below it
-  module _ (kind : recordKind E.query at ≡ 7) (value : ℕ) (value-is : value ≡ recordValue E.query at 0) where
-    value-within : {ix : Index} {ranges : List ℕ} → Prepared ix E ranges → at < recordCount E.query → value ≤ largestBoost
-    value-within {ix} p here = subst (λ (z : ℕ). z ≤ largestBoost) (sym value-is) (boost-within ix E.query p.asks.values-right at here kind)
+  module _ (kind : record_kind E.query at ≡ 7) (value : ℕ) (value-is : value ≡ record_value E.query at 0) where
+    value-within : {ix : Index} {ranges : List ℕ} → Prepared ix E ranges → at < record_count E.query → value ≤ largest_boost
+    value-within {ix} p here = subst (λ (z : ℕ). z ≤ largest_boost) (sym value-is) (boost-within ix E.query p.asks.values-right at here kind)
 
     boost-below : (ix : Index) (ranges : List ℕ) (k : ℕ) (D : Decoded) → Prepared ix E ranges → TreeAsked ix E.query k at D fixed kept boost words → Below ix E.query k at D fixed kept boost fixed kept (boosted boost value) words
     boost-below ix ranges k D p a =
         let q = E.query in
         let c = boost-at q (k - 1) at D (deep q k at D a.decoded) kind in
-        let same : weigh ix D.tree boost (keptOf fixed kept) ≡ weigh ix c.child.tree (boosted boost value) (keptOf fixed kept) =
-        ap (λ (t : Tree). weigh ix t boost (keptOf fixed kept)) c.tree_is
-        ∙ weigh-boost ix boost fixed kept (recordValue q at 0) c.child.tree
-        ∙ ap (λ (z : ℕ). weigh ix c.child.tree (boosted boost z) (keptOf fixed kept)) (sym value-is) in
+        let same : weigh ix D.tree boost (kept_of fixed kept) ≡ weigh ix c.child.tree (boosted boost value) (kept_of fixed kept) =
+        ap (λ (t : Tree). weigh ix t boost (kept_of fixed kept)) c.tree_is
+        ∙ weigh-boost ix boost fixed kept (record_value q at 0) c.child.tree
+        ∙ ap (λ (z : ℕ). weigh ix c.child.tree (boosted boost z) (kept_of fixed kept)) (sym value-is) in
         let sized = ap size_of same in
         let room = a.room in
         let most = boost-small ix E ranges k at D fixed kept boost words p a in
@@ -111,7 +111,7 @@ module _ (E : Records) (at : ℕ) (fixed : Bool) (kept boost : Float) (words dep
           child = c.child;
           asked = record {
             decoded = c.decoded;
-            within = subst (λ (z : ℕ). carriesAbove c.child.tree (boosted boost z) ≡ false) (sym value-is) (within-boost (recordValue q at 0) c.child.tree boost (subst (λ (t : Tree). carriesAbove t boost ≡ false) c.tree_is a.within));
+            within = subst (λ (z : ℕ). carries_above c.child.tree (boosted boost z) ≡ false) (sym value-is) (within-boost (record_value q at 0) c.child.tree boost (subst (λ (t : Tree). carries_above t boost ≡ false) c.tree_is a.within));
             boost-clear = mul-clear binary32 boost (of_bits binary32 value) most.sign (boost-atmost value small).sign;
             kept_small = a.kept_small;
             room = omega (arith, sized, room);

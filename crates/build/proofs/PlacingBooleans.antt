@@ -7,78 +7,78 @@ use native.Mathlib.Omega.{arith}
 use lib.Dec.{T, eqb}
 use lib.ListN.{length, take, drop, get_or}
 use lib.Ieee.{Float, binary32, fits, to_bits}
-use Rattle.meaning.specs.Limits.{maxRecords, nodeStateWords}
+use Rattle.meaning.specs.Limits.{max_records, node_state_words}
 use Rattle.meaning.specs.Lent.{Index}
 use Rattle.meaning.specs.Query
-use Rattle.meaning.specs.Query.{recordCount, recordKind, recordValue, Tree, Clauses, hasRequired, isMustNot, Decoded, DecodedClauses}
-use Rattle.meaning.specs.QueryRefusals.{carriesAbove}
-use Rattle.meaning.specs.Takes.{shouldsNeeded}
-use Rattle.meaning.specs.Scorer.{hasScorer}
-use Rattle.meaning.specs.Cost.{costs, disjunctionCost}
+use Rattle.meaning.specs.Query.{record_count, record_kind, record_value, Tree, Clauses, has_required, is_must_not, Decoded, DecodedClauses}
+use Rattle.meaning.specs.QueryRefusals.{carries_above}
+use Rattle.meaning.specs.Takes.{shoulds_needed}
+use Rattle.meaning.specs.Scorer.{has_scorer}
+use Rattle.meaning.specs.Cost.{costs, disjunction_cost}
 use Rattle.ieee754.specs.Nonneg.{AtMost}
 use Rattle.query.proofs.Above.{level, decoded-here, within-boolean}
 use Rattle.query.proofs.Inverse.{boolean-at}
 use Rattle.query.proofs.Spans.{tree-span}
 use Rattle.query.proofs.Whole.{whole}
-use Rattle.weight.specs.Weigh.{Ready, chosen, scorersOf, upToCost, booleanOf, noScorer, weigh, readied}
-use Rattle.weight.specs.State.{words_of, size_of, sizesOf}
+use Rattle.weight.specs.Weigh.{Ready, chosen, scorers_of, up_to_cost, boolean_of, no_scorer, weigh, readied}
+use Rattle.weight.specs.State.{words_of, size_of, sizes_of}
 use Rattle.weight.proofs.Presence.{absent, present}
 use Rattle.weight.proofs.Standing.{deep}
 use Rattle.weight.proofs.Sizes.{weigh-size}
 use Rattle.weight.proofs.Queries.{tree_shape}
-use Rattle.node_words.specs.Placed.{Placed, keptOf, booleanState}
+use Rattle.node_words.specs.Placed.{Placed, kept_of, boolean_state}
 use Rattle.node_words.specs.Prepared.{Records, Prepared, TreeAsked, TreePre, TreePost}
 use Rattle.build.specs.Parts.{PlacedAll, PartAsked, RequiredPre, RequiredPost, OthersPre, OthersPost}
-use Rattle.clauses.specs.Clauses.{ClausesAsked, ClausesKnown, SomeClauses, requiredOf, othersOf}
+use Rattle.clauses.specs.Clauses.{ClausesAsked, ClausesKnown, SomeClauses, required_of, others_of}
 use Rattle.node_words.proofs.AtRecord.{at_here, record-room, present-word}
 use Rattle.build.proofs.BooleanParts.{sizes-first, boolean-whole}
 use Rattle.clauses.proofs.ClauseLaws.{others-should, others-not}
 use Rattle.build.proofs.PlacingParts.{part-known, sizes-split}
 
-weigh-boolean-none : (ix : Index) (msm : ℕ) (cs : Clauses) (b : Float) (f : Bool) (x : Float) → hasScorer ix (Query.boolean msm cs) ≡ false → weigh ix (Query.boolean msm cs) b (keptOf f x) ≡ noScorer
+weigh-boolean-none : (ix : Index) (msm : ℕ) (cs : Clauses) (b : Float) (f : Bool) (x : Float) → has_scorer ix (Query.boolean msm cs) ≡ false → weigh ix (Query.boolean msm cs) b (kept_of f x) ≡ no_scorer
 unfolding weigh
 weigh-boolean-none ix msm cs b f x h = rw h
 
-weigh-boolean : (ix : Index) (msm : ℕ) (cs : Clauses) (b : Float) (f : Bool) (x : Float) → hasScorer ix (Query.boolean msm cs) ≡ true → weigh ix (Query.boolean msm cs) b (keptOf f x) ≡ booleanOf ix msm cs (keptOf f x) (readied ix cs b)
+weigh-boolean : (ix : Index) (msm : ℕ) (cs : Clauses) (b : Float) (f : Bool) (x : Float) → has_scorer ix (Query.boolean msm cs) ≡ true → weigh ix (Query.boolean msm cs) b (kept_of f x) ≡ boolean_of ix msm cs (kept_of f x) (readied ix cs b)
 unfolding weigh
 weigh-boolean ix msm cs b f x h = rw h
 
 -- the words of its three lists
-abbrev sizesHere : Index → DecodedClauses → Float → ℕ
-sizesHere ix C b = nodeStateWords + (sizesOf (scorersOf (requiredOf ix C b)) + (sizesOf (scorersOf (othersOf ix C b 2)) + sizesOf (scorersOf (othersOf ix C b 3))))
+abbrev sizes_here : Index → DecodedClauses → Float → ℕ
+sizes_here ix C b = node_state_words + (sizes_of (scorers_of (required_of ix C b)) + (sizes_of (scorers_of (others_of ix C b 2)) + sizes_of (scorers_of (others_of ix C b 3))))
 
-boolean-sizes : (ix : Index) (msm : ℕ) (C : DecodedClauses) (b : Float) (f : Bool) (x : Float) → size_of (booleanOf ix msm C.clauses (keptOf f x) (readied ix C.clauses b)) ≡ sizesHere ix C b
-unfolding booleanOf size_of
+boolean-sizes : (ix : Index) (msm : ℕ) (C : DecodedClauses) (b : Float) (f : Bool) (x : Float) → size_of (boolean_of ix msm C.clauses (kept_of f x) (readied ix C.clauses b)) ≡ sizes_here ix C b
+unfolding boolean_of size_of
 boolean-sizes ix msm C b f x =
-    ap (λ (zs : List Ready). nodeStateWords + (sizesOf (scorersOf (requiredOf ix C b)) + (sizesOf (scorersOf zs) + sizesOf (scorersOf (chosen isMustNot (readied ix C.clauses b)))))) (sym (others-should ix C b))
-    ∙ ap (λ (zs : List Ready). nodeStateWords + (sizesOf (scorersOf (requiredOf ix C b)) + (sizesOf (scorersOf (othersOf ix C b 2)) + sizesOf (scorersOf zs)))) (sym (others-not ix C b))
+    ap (λ (zs : List Ready). node_state_words + (sizes_of (scorers_of (required_of ix C b)) + (sizes_of (scorers_of zs) + sizes_of (scorers_of (chosen is_must_not (readied ix C.clauses b)))))) (sym (others-should ix C b))
+    ∙ ap (λ (zs : List Ready). node_state_words + (sizes_of (scorers_of (required_of ix C b)) + (sizes_of (scorers_of (others_of ix C b 2)) + sizes_of (scorers_of zs)))) (sym (others-not ix C b))
 
 -- the Boolean at a record: its clauses, its scorer, and how many words it takes
 record BooleanHere (ix : Index) (q : List ℕ) (k at : ℕ) (D : Decoded) (fixed : Bool) (kept boost : Float) (words : ℕ) : Type 0 where
   inside : DecodedClauses
   asked : ClausesAsked q (k - 1) at inside boost
-  scorer-is : weigh ix D.tree boost (keptOf fixed kept) ≡ booleanOf ix (recordValue q at 0) inside.clauses (keptOf fixed kept) (readied ix inside.clauses boost)
-  room : sizesHere ix inside boost ≤ words
-  small : sizesHere ix inside boost ≤ nodeStateWords * maxRecords
+  scorer-is : weigh ix D.tree boost (kept_of fixed kept) ≡ boolean_of ix (record_value q at 0) inside.clauses (kept_of fixed kept) (readied ix inside.clauses boost)
+  room : sizes_here ix inside boost ≤ words
+  small : sizes_here ix inside boost ≤ node_state_words * max_records
   deep-enough : 0 < k
 
-module _ (ix : Index) (E : Records) (ranges : List ℕ) (k at : ℕ) (D : Decoded) (fixed : Bool) (kept boost : Float) (words : ℕ) (kind : recordKind E.query at ≡ 3) (p : Prepared ix E ranges) (a : TreeAsked ix E.query k at D fixed kept boost words) where
+module _ (ix : Index) (E : Records) (ranges : List ℕ) (k at : ℕ) (D : Decoded) (fixed : Bool) (kept boost : Float) (words : ℕ) (kind : record_kind E.query at ≡ 3) (p : Prepared ix E ranges) (a : TreeAsked ix E.query k at D fixed kept boost words) where
   boolean-here : (get_or E.presents at 0 ≡ 0 → ⊥) → BooleanHere ix E.query k at D fixed kept boost words
   boolean-here there =
       let q = E.query in
       let b = boolean-at q (k - 1) at D (deep q k at D a.decoded) kind in
-      let has = ap (hasScorer ix) (sym b.tree_is) ∙ present (get_or E.presents at 0) (hasScorer ix D.tree) (present-word ix E ranges k at D fixed kept boost words p a) there in
-      let is = ap (λ (t : Tree). weigh ix t boost (keptOf fixed kept)) b.tree_is ∙ weigh-boolean ix (recordValue q at 0) b.inside.clauses boost fixed kept has in
-      let sized = ap size_of is ∙ boolean-sizes ix (recordValue q at 0) b.inside boost fixed kept in
+      let has = ap (has_scorer ix) (sym b.tree_is) ∙ present (get_or E.presents at 0) (has_scorer ix D.tree) (present-word ix E ranges k at D fixed kept boost words p a) there in
+      let is = ap (λ (t : Tree). weigh ix t boost (kept_of fixed kept)) b.tree_is ∙ weigh-boolean ix (record_value q at 0) b.inside.clauses boost fixed kept has in
+      let sized = ap size_of is ∙ boolean-sizes ix (record_value q at 0) b.inside boost fixed kept in
       let some_words = a.room in
-      let most = weigh-size ix D.tree boost (keptOf fixed kept) in
+      let most = weigh-size ix D.tree boost (kept_of fixed kept) in
       let ends = (tree_shape q k at D a.decoded).span in
       let inside = (tree-span q k at D a.decoded).within in
       let few = (whole q p.asks.records-right).few-records in
       let lvl = level q k at D a.decoded in
       record {
         inside = b.inside;
-        asked = record { here = decoded-here q k at D a.decoded; kind-is = kind; decoded = b.decoded; within = within-boolean (recordValue q at 0) b.inside.clauses boost (subst (λ (t : Tree). carriesAbove t boost ≡ false) b.tree_is a.within); boost-clear = a.boost-clear };
+        asked = record { here = decoded-here q k at D a.decoded; kind-is = kind; decoded = b.decoded; within = within-boolean (record_value q at 0) b.inside.clauses boost (subst (λ (t : Tree). carries_above t boost ≡ false) b.tree_is a.within); boost-clear = a.boost-clear };
         scorer-is = is;
         room = omega (arith, sized, some_words);
         small = omega (arith, sized, most, ends, inside, few);
@@ -86,18 +86,18 @@ module _ (ix : Index) (E : Records) (ranges : List ℕ) (k at : ℕ) (D : Decode
       }
 
   -- a Boolean without a scorer
-  boolean-nothing : get_or E.presents at 0 ≡ 0 → weigh ix D.tree boost (keptOf fixed kept) ≡ noScorer
+  boolean-nothing : get_or E.presents at 0 ≡ 0 → weigh ix D.tree boost (kept_of fixed kept) ≡ no_scorer
   boolean-nothing none =
       let q = E.query in
       let b = boolean-at q (k - 1) at D (deep q k at D a.decoded) kind in
-      ap (λ (t : Tree). weigh ix t boost (keptOf fixed kept)) b.tree_is
-      ∙ weigh-boolean-none ix (recordValue q at 0) b.inside.clauses boost fixed kept (ap (hasScorer ix) (sym b.tree_is) ∙ absent (get_or E.presents at 0) (hasScorer ix D.tree) (present-word ix E ranges k at D fixed kept boost words p a) none)
+      ap (λ (t : Tree). weigh ix t boost (kept_of fixed kept)) b.tree_is
+      ∙ weigh-boolean-none ix (record_value q at 0) b.inside.clauses boost fixed kept (ap (has_scorer ix) (sym b.tree_is) ∙ absent (get_or E.presents at 0) (has_scorer ix D.tree) (present-word ix E ranges k at D fixed kept boost words p a) none)
 
 module _ (E : Records) (at : ℕ) (fixed : Bool) (kept boost : Float) (words depth : ℕ) where
-  pub tree-here : TreePre E at fixed kept boost words depth → at < recordCount E.query
+  pub tree-here : TreePre E at fixed kept boost words depth → at < record_count E.query
   tree-here a = at_here a.0 E a.1 a.2 at a.3 fixed kept boost words a.4 a.5
 
-  pub tree-room : TreePre E at fixed kept boost words depth → nodeStateWords ≤ words
+  pub tree-room : TreePre E at fixed kept boost words depth → node_state_words ≤ words
   tree-room a = record-room a.0 E a.1 a.2 at a.3 fixed kept boost words a.4 a.5
 
   pub tree-deep : TreePre E at fixed kept boost words depth → 1 ≤ depth
@@ -110,8 +110,8 @@ module _ (E : Records) (at : ℕ) (fixed : Bool) (kept boost : Float) (words dep
   pub tree-present : TreePre E at fixed kept boost words depth → at < length E.presents
   tree-present a = let h = tree-here a in let l = a.4.presents-long in omega (arith, h, l)
 
-  module _ (kind : recordKind E.query at ≡ 3) where
-    pub nothing_placed : (scores r : ℕ) (st : List ℕ) → get_or E.presents at 0 ≡ 0 → ((ix : Index) (ranges : List ℕ) (d : ℕ) → Placed ix ranges noScorer d scores r st) → TreePost E at fixed kept boost words depth scores r st
+  module _ (kind : record_kind E.query at ≡ 3) where
+    pub nothing_placed : (scores r : ℕ) (st : List ℕ) → get_or E.presents at 0 ≡ 0 → ((ix : Index) (ranges : List ℕ) (d : ℕ) → Placed ix ranges no_scorer d scores r st) → TreePost E at fixed kept boost words depth scores r st
     nothing_placed scores r st none post ix ranges k D p a levels = rw (boolean-nothing ix E ranges k at D fixed kept boost words kind p a none) (post ix ranges depth)
 
     module _ (there : get_or E.presents at 0 ≡ 0 → ⊥) where
@@ -119,54 +119,54 @@ module _ (E : Records) (at : ℕ) (fixed : Bool) (kept boost : Float) (words dep
       here ix ranges k D p a = boolean-here ix E ranges k at D fixed kept boost words kind p a there
 
       -- the clauses, one level deeper, with room for some of them
-      asks : (ix : Index) (ranges : List ℕ) (k : ℕ) (D : Decoded) (p : Prepared ix E ranges) (a : TreeAsked ix E.query k at D fixed kept boost words) → k ≤ depth → (n : ℕ) (rs : List Ready) → sizesOf (scorersOf rs) ≤ n → PartAsked ix E ranges (k - 1) at (here ix ranges k D p a).inside boost rs n (depth - 1)
+      asks : (ix : Index) (ranges : List ℕ) (k : ℕ) (D : Decoded) (p : Prepared ix E ranges) (a : TreeAsked ix E.query k at D fixed kept boost words) → k ≤ depth → (n : ℕ) (rs : List Ready) → sizes_of (scorers_of rs) ≤ n → PartAsked ix E ranges (k - 1) at (here ix ranges k D p a).inside boost rs n (depth - 1)
       asks ix ranges k D p a levels n rs room = record { prepared = p; asked = (here ix ranges k D p a).asked; room = room; levels = omega (arith, levels) }
 
       pub boolean-known : TreePre E at fixed kept boost words depth → SomeClauses E.query E.nexts E.presents E.costs at
       boolean-known a =
           let h = here a.0 a.1 a.2 a.3 a.4 a.5 in
           let r = h.room in
-          (a.0, a.2 - 1, h.inside, boost, part-known E at boost words (depth - 1) (asks a.0 a.1 a.2 a.3 a.4 a.5 a.6 words (requiredOf a.0 h.inside boost) (omega (arith, r))))
+          (a.0, a.2 - 1, h.inside, boost, part-known E at boost words (depth - 1) (asks a.0 a.1 a.2 a.3 a.4 a.5 a.6 words (required_of a.0 h.inside boost) (omega (arith, r))))
 
       -- ---- the required, after the record
-      module _ (n₁ : ℕ) (n₁-is : n₁ ≡ words - nodeStateWords) where
-        required-asked : (ix : Index) (ranges : List ℕ) (k : ℕ) (D : Decoded) (p : Prepared ix E ranges) (a : TreeAsked ix E.query k at D fixed kept boost words) → k ≤ depth → PartAsked ix E ranges (k - 1) at (here ix ranges k D p a).inside boost (requiredOf ix (here ix ranges k D p a).inside boost) n₁ (depth - 1)
+      module _ (n₁ : ℕ) (n₁-is : n₁ ≡ words - node_state_words) where
+        required-asked : (ix : Index) (ranges : List ℕ) (k : ℕ) (D : Decoded) (p : Prepared ix E ranges) (a : TreeAsked ix E.query k at D fixed kept boost words) → k ≤ depth → PartAsked ix E ranges (k - 1) at (here ix ranges k D p a).inside boost (required_of ix (here ix ranges k D p a).inside boost) n₁ (depth - 1)
         required-asked ix ranges k D p a levels =
             let h = here ix ranges k D p a in
             let r = h.room in
-            asks ix ranges k D p a levels n₁ (requiredOf ix h.inside boost) (omega (arith, r, n₁-is))
+            asks ix ranges k D p a levels n₁ (required_of ix h.inside boost) (omega (arith, r, n₁-is))
 
         pub boolean-required : TreePre E at fixed kept boost words depth → RequiredPre E at boost n₁ (depth - 1)
         boolean-required a = (a.0, a.1, a.2 - 1, (here a.0 a.1 a.2 a.3 a.4 a.5).inside, required-asked a.0 a.1 a.2 a.3 a.4 a.5 a.6)
 
-        module _ (groupAt e₁ : ℕ) (out₁ : List ℕ) (post₁ : RequiredPost E at boost n₁ (depth - 1) groupAt e₁ out₁) where
+        module _ (group_at e₁ : ℕ) (out₁ : List ℕ) (post₁ : RequiredPost E at boost n₁ (depth - 1) group_at e₁ out₁) where
           -- its size is that of the required
-          first-size : (ix : Index) (ranges : List ℕ) (k : ℕ) (D : Decoded) (p : Prepared ix E ranges) (a : TreeAsked ix E.query k at D fixed kept boost words) → k ≤ depth → e₁ ≡ sizesOf (scorersOf (requiredOf ix (here ix ranges k D p a).inside boost))
+          first-size : (ix : Index) (ranges : List ℕ) (k : ℕ) (D : Decoded) (p : Prepared ix E ranges) (a : TreeAsked ix E.query k at D fixed kept boost words) → k ≤ depth → e₁ ≡ sizes_of (scorers_of (required_of ix (here ix ranges k D p a).inside boost))
           first-size ix ranges k D p a levels = (post₁ ix ranges (k - 1) (here ix ranges k D p a).inside (required-asked ix ranges k D p a levels)).0.size_is
 
-          pub first_fits : TreePre E at fixed kept boost words depth → nodeStateWords + e₁ ≤ words
+          pub first_fits : TreePre E at fixed kept boost words depth → node_state_words + e₁ ≤ words
           first_fits a =
               let r = (here a.0 a.1 a.2 a.3 a.4 a.5).room in
               let s = first-size a.0 a.1 a.2 a.3 a.4 a.5 a.6 in
               omega (arith, r, s)
 
           -- ---- the optional, after them
-          module _ (n₂ : ℕ) (n₂-is : n₂ ≡ words - (nodeStateWords + e₁)) where
-            optional-asked : (ix : Index) (ranges : List ℕ) (k : ℕ) (D : Decoded) (p : Prepared ix E ranges) (a : TreeAsked ix E.query k at D fixed kept boost words) → k ≤ depth → PartAsked ix E ranges (k - 1) at (here ix ranges k D p a).inside boost (othersOf ix (here ix ranges k D p a).inside boost 2) n₂ (depth - 1)
+          module _ (n₂ : ℕ) (n₂-is : n₂ ≡ words - (node_state_words + e₁)) where
+            optional-asked : (ix : Index) (ranges : List ℕ) (k : ℕ) (D : Decoded) (p : Prepared ix E ranges) (a : TreeAsked ix E.query k at D fixed kept boost words) → k ≤ depth → PartAsked ix E ranges (k - 1) at (here ix ranges k D p a).inside boost (others_of ix (here ix ranges k D p a).inside boost 2) n₂ (depth - 1)
             optional-asked ix ranges k D p a levels =
                 let h = here ix ranges k D p a in
                 let r = h.room in
                 let s = first-size ix ranges k D p a levels in
-                asks ix ranges k D p a levels n₂ (othersOf ix h.inside boost 2) (omega (arith, r, s, n₂-is))
+                asks ix ranges k D p a levels n₂ (others_of ix h.inside boost 2) (omega (arith, r, s, n₂-is))
 
             pub boolean-optional : TreePre E at fixed kept boost words depth → OthersPre E at 2 boost n₂ (depth - 1)
             boolean-optional a = (a.0, a.1, a.2 - 1, (here a.0 a.1 a.2 a.3 a.4 a.5).inside, optional-asked a.0 a.1 a.2 a.3 a.4 a.5 a.6)
 
             module _ (e₂ : ℕ) (out₂ : List ℕ) (post₂ : OthersPost E at 2 boost n₂ (depth - 1) e₂ out₂) where
-              second-size : (ix : Index) (ranges : List ℕ) (k : ℕ) (D : Decoded) (p : Prepared ix E ranges) (a : TreeAsked ix E.query k at D fixed kept boost words) → k ≤ depth → e₂ ≡ sizesOf (scorersOf (othersOf ix (here ix ranges k D p a).inside boost 2))
+              second-size : (ix : Index) (ranges : List ℕ) (k : ℕ) (D : Decoded) (p : Prepared ix E ranges) (a : TreeAsked ix E.query k at D fixed kept boost words) → k ≤ depth → e₂ ≡ sizes_of (scorers_of (others_of ix (here ix ranges k D p a).inside boost 2))
               second-size ix ranges k D p a levels = (post₂ ix ranges (k - 1) (here ix ranges k D p a).inside (optional-asked ix ranges k D p a levels)).size_is
 
-              pub second_fits : TreePre E at fixed kept boost words depth → nodeStateWords + (e₁ + e₂) ≤ words
+              pub second_fits : TreePre E at fixed kept boost words depth → node_state_words + (e₁ + e₂) ≤ words
               second_fits a =
                   let r = (here a.0 a.1 a.2 a.3 a.4 a.5).room in
                   let s = first-size a.0 a.1 a.2 a.3 a.4 a.5 a.6 in
@@ -174,24 +174,24 @@ module _ (E : Records) (at : ℕ) (fixed : Bool) (kept boost : Float) (words dep
                   omega (arith, r, s, t)
 
               -- ---- the prohibited, after those
-              module _ (n₃ : ℕ) (n₃-is : n₃ ≡ words - (nodeStateWords + (e₁ + e₂))) where
-                prohibited-asked : (ix : Index) (ranges : List ℕ) (k : ℕ) (D : Decoded) (p : Prepared ix E ranges) (a : TreeAsked ix E.query k at D fixed kept boost words) → k ≤ depth → PartAsked ix E ranges (k - 1) at (here ix ranges k D p a).inside boost (othersOf ix (here ix ranges k D p a).inside boost 3) n₃ (depth - 1)
+              module _ (n₃ : ℕ) (n₃-is : n₃ ≡ words - (node_state_words + (e₁ + e₂))) where
+                prohibited-asked : (ix : Index) (ranges : List ℕ) (k : ℕ) (D : Decoded) (p : Prepared ix E ranges) (a : TreeAsked ix E.query k at D fixed kept boost words) → k ≤ depth → PartAsked ix E ranges (k - 1) at (here ix ranges k D p a).inside boost (others_of ix (here ix ranges k D p a).inside boost 3) n₃ (depth - 1)
                 prohibited-asked ix ranges k D p a levels =
                     let h = here ix ranges k D p a in
                     let r = h.room in
                     let s = first-size ix ranges k D p a levels in
                     let t = second-size ix ranges k D p a levels in
-                    asks ix ranges k D p a levels n₃ (othersOf ix h.inside boost 3) (omega (arith, r, s, t, n₃-is))
+                    asks ix ranges k D p a levels n₃ (others_of ix h.inside boost 3) (omega (arith, r, s, t, n₃-is))
 
                 pub boolean-prohibited : TreePre E at fixed kept boost words depth → OthersPre E at 3 boost n₃ (depth - 1)
                 boolean-prohibited a = (a.0, a.1, a.2 - 1, (here a.0 a.1 a.2 a.3 a.4 a.5).inside, prohibited-asked a.0 a.1 a.2 a.3 a.4 a.5 a.6)
 
                 module _ (e₃ : ℕ) (out₃ : List ℕ) (post₃ : OthersPost E at 3 boost n₃ (depth - 1) e₃ out₃) where
-                  third-size : (ix : Index) (ranges : List ℕ) (k : ℕ) (D : Decoded) (p : Prepared ix E ranges) (a : TreeAsked ix E.query k at D fixed kept boost words) → k ≤ depth → e₃ ≡ sizesOf (scorersOf (othersOf ix (here ix ranges k D p a).inside boost 3))
+                  third-size : (ix : Index) (ranges : List ℕ) (k : ℕ) (D : Decoded) (p : Prepared ix E ranges) (a : TreeAsked ix E.query k at D fixed kept boost words) → k ≤ depth → e₃ ≡ sizes_of (scorers_of (others_of ix (here ix ranges k D p a).inside boost 3))
                   third-size ix ranges k D p a levels = (post₃ ix ranges (k - 1) (here ix ranges k D p a).inside (prohibited-asked ix ranges k D p a levels)).size_is
 
                   -- the whole part
-                  pub whole-fits : TreePre E at fixed kept boost words depth → nodeStateWords + (e₁ + e₂) + e₃ ≤ words
+                  pub whole-fits : TreePre E at fixed kept boost words depth → node_state_words + (e₁ + e₂) + e₃ ≤ words
                   whole-fits a =
                       let r = (here a.0 a.1 a.2 a.3 a.4 a.5).room in
                       let s = first-size a.0 a.1 a.2 a.3 a.4 a.5 a.6 in
@@ -199,7 +199,7 @@ module _ (E : Records) (at : ℕ) (fixed : Bool) (kept boost : Float) (words dep
                       let u = third-size a.0 a.1 a.2 a.3 a.4 a.5 a.6 in
                       omega (arith, r, s, t, u)
 
-                  pub whole-small : TreePre E at fixed kept boost words depth → nodeStateWords + (e₁ + e₂) + e₃ ≤ nodeStateWords * maxRecords
+                  pub whole-small : TreePre E at fixed kept boost words depth → node_state_words + (e₁ + e₂) + e₃ ≤ node_state_words * max_records
                   whole-small a =
                       let r = (here a.0 a.1 a.2 a.3 a.4 a.5).small in
                       let s = first-size a.0 a.1 a.2 a.3 a.4 a.5 a.6 in
@@ -208,19 +208,19 @@ module _ (E : Records) (at : ℕ) (fixed : Bool) (kept boost : Float) (words dep
                       omega (arith, r, s, t, u)
 
                   -- the group joins within the required
-                  pub group-within : TreePre E at fixed kept boost words depth → groupAt ≤ e₁
+                  pub group-within : TreePre E at fixed kept boost words depth → group_at ≤ e₁
                   group-within a =
                       let C = (here a.0 a.1 a.2 a.3 a.4 a.5).inside in
-                      let rs = requiredOf a.0 C boost in
-                      let n = upToCost (disjunctionCost (costs a.0 C.clauses)) rs in
+                      let rs = required_of a.0 C boost in
+                      let n = up_to_cost (disjunction_cost (costs a.0 C.clauses)) rs in
                       let g = (post₁ a.0 a.1 (a.2 - 1) C (required-asked a.0 a.1 a.2 a.3 a.4 a.5 a.6)).1 in
                       let f = sizes-first n rs in
                       let b = sizes-split n rs in
                       let s = first-size a.0 a.1 a.2 a.3 a.4 a.5 a.6 in
                       omega (arith, g, f, b, s)
 
-                  pub whole-placed : (st₀ rest₁ rest₂ rest₃ st : List ℕ) (scores need msm : ℕ) (required after : Bool) → length st₀ ≡ words → TreePre E at fixed kept boost words depth → T (fits binary32 kept) → msm ≡ recordValue E.query at 0 → ((ix : Index) (k : ℕ) (C : DecodedClauses) (b : Float) → ClausesKnown ix E.query E.nexts E.presents E.costs k at C b → required ≡ hasRequired C.clauses) → need ≡ cond required msm (max 1 msm) → after ≡ (required && eqb msm 0) → st ≡ words_of (booleanState (nodeStateWords + (e₁ + e₂) + e₃) need e₁ (e₁ + e₂) fixed (to_bits binary32 kept) after groupAt scores) ++ drop nodeStateWords (take (nodeStateWords + (e₁ + e₂)) (take (nodeStateWords + e₁) (take nodeStateWords st₀ ++ (out₁ ++ rest₁)) ++ (out₂ ++ rest₂)) ++ (out₃ ++ rest₃)) → TreePost E at fixed kept boost words depth scores (nodeStateWords + (e₁ + e₂) + e₃) st
-                  unfolding shouldsNeeded
+                  pub whole-placed : (st₀ rest₁ rest₂ rest₃ st : List ℕ) (scores need msm : ℕ) (required after : Bool) → length st₀ ≡ words → TreePre E at fixed kept boost words depth → T (fits binary32 kept) → msm ≡ record_value E.query at 0 → ((ix : Index) (k : ℕ) (C : DecodedClauses) (b : Float) → ClausesKnown ix E.query E.nexts E.presents E.costs k at C b → required ≡ has_required C.clauses) → need ≡ cond required msm (max 1 msm) → after ≡ (required && eqb msm 0) → st ≡ words_of (boolean_state (node_state_words + (e₁ + e₂) + e₃) need e₁ (e₁ + e₂) fixed (to_bits binary32 kept) after group_at scores) ++ drop node_state_words (take (node_state_words + (e₁ + e₂)) (take (node_state_words + e₁) (take node_state_words st₀ ++ (out₁ ++ rest₁)) ++ (out₂ ++ rest₂)) ++ (out₃ ++ rest₃)) → TreePost E at fixed kept boost words depth scores (node_state_words + (e₁ + e₂) + e₃) st
+                  unfolding shoulds_needed
                   whole-placed st₀ rest₁ rest₂ rest₃ st scores need msm required after all pre held m required-is need-is after_is st-is ix ranges k D p a levels =
                       let h = here ix ranges k D p a in
                       let C = h.inside in
@@ -232,7 +232,7 @@ module _ (E : Records) (at : ℕ) (fixed : Bool) (kept boost : Float) (words dep
                       let some-room = tree-room pre in
                       let some-levels = tree-deep pre in
                       rw (h.scorer-is, ← m)
-                      (boolean-whole ix ranges msm C.clauses fixed kept boost st₀ out₁ out₂ out₃ rest₁ rest₂ rest₃ st depth scores need e₁ e₂ e₃ groupAt after (omega (arith, some-room, all)) some-levels held (tree-kept pre) one.0 two three
+                      (boolean-whole ix ranges msm C.clauses fixed kept boost st₀ out₁ out₂ out₃ rest₁ rest₂ rest₃ st depth scores need e₁ e₂ e₃ group_at after (omega (arith, some-room, all)) some-levels held (tree-kept pre) one.0 two three
                       (need-is ∙ ap (λ (z : Bool). cond z msm (max 1 msm)) has)
                       (after_is ∙ ap (λ (z : Bool). z && eqb msm 0) has)
                       one.1

@@ -10,14 +10,14 @@ use lib.ListN.{length, take, get_or, length-append}
 use lib.Seq.{take-append-add, take-append-le, take_all, length-take-le}
 use lib.Ieee.{Float, binary32, of_bits}
 use Rattle.meaning.specs.Lent.{Index}
-use Rattle.meaning.specs.Query.{recordCount, recordOccurrence, Occur, must, should, mustNot, filter, isMust, occurOf}
-use Rattle.meaning.specs.QueryRefusals.{carriesAbove}
+use Rattle.meaning.specs.Query.{record_count, record_occurrence, Occur, must, should, must_not, filter, is_must, occur_of}
+use Rattle.meaning.specs.QueryRefusals.{carries_above}
 use Rattle.meaning.specs.Score.{passed}
-use Rattle.ieee754.specs.Nonneg.{signClear, AtMost}
+use Rattle.ieee754.specs.Nonneg.{sign_clear, AtMost}
 use Rattle.ieee754.proofs.Bounds.{zero-atmost}
-use Rattle.query.proofs.Inverse.{occur-number, occurNumber}
-use Rattle.weight.specs.Weigh.{Ready, scorersOf, weigh}
-use Rattle.weight.specs.State.{size_of, sizesOf}
+use Rattle.query.proofs.Inverse.{occur-number, occur_number}
+use Rattle.weight.specs.Weigh.{Ready, scorers_of, weigh}
+use Rattle.weight.specs.State.{size_of, sizes_of}
 use Rattle.window_words.specs.Windowed.{nowhere, AllWindowed}
 use Rattle.node_words.specs.Placed.{Placed}
 use Rattle.node_words.specs.Prepared.{Records, Prepared, TreeAsked, TreePre, TreePost}
@@ -29,11 +29,11 @@ use Rattle.clauses.proofs.ClauseLaws.{readies-length, readies-here}
 -- ---- parts one after the other
 module _ (ix : Index) (ranges : List ℕ) (d : ℕ) where
   placed-none : (words : List ℕ) → PlacedAll ix ranges [] d 0 words
-  unfolding scorersOf sizesOf AllWindowed
+  unfolding scorers_of sizes_of AllWindowed
   placed-none words = record { size_is = refl; within = omega arith; held = refl }
 
-  placed_one : (one : Ready) (r : ℕ) (words : List ℕ) → Placed ix ranges one.scorer d (cond (isMust one.occur) 1 0) r words → PlacedAll ix ranges (one ∷ []) d r words
-  unfolding scorersOf sizesOf AllWindowed
+  placed_one : (one : Ready) (r : ℕ) (words : List ℕ) → Placed ix ranges one.scorer d (cond (is_must one.occur) 1 0) r words → PlacedAll ix ranges (one ∷ []) d r words
+  unfolding scorers_of sizes_of AllWindowed
   placed_one one r words p =
       let is = p.size_is in
       record { size_is = omega (arith, is); within = p.within; held = (take r words, [], sym (append-nil (take r words)), p.held, refl) }
@@ -50,7 +50,7 @@ module _ (ix : Index) (ranges : List ℕ) (d : ℕ) where
       record {
         size_is = omega (arith, x, y, sum);
         within = omega (arith, long, both, w);
-        held = subst (λ (z : List ℕ). AllWindowed ix ranges (scorersOf (xs ++ ys)) d z 0 0 nowhere) (sym words) (all-append ix ranges xs ys d (take a st) (take b out) 0 0 nowhere p.held q.held);
+        held = subst (λ (z : List ℕ). AllWindowed ix ranges (scorers_of (xs ++ ys)) d z 0 0 nowhere) (sym words) (all-append ix ranges xs ys d (take a st) (take b out) 0 0 nowhere p.held q.held);
       }
 
   -- what stands after the words does not matter
@@ -61,7 +61,7 @@ module _ (ix : Index) (ranges : List ℕ) (d : ℕ) where
       record {
         size_is = p.size_is;
         within = omega (arith, w, both);
-        held = subst (λ (z : List ℕ). AllWindowed ix ranges (scorersOf rs) d z 0 0 nowhere) (sym (take-append-le r out post p.within)) p.held;
+        held = subst (λ (z : List ℕ). AllWindowed ix ranges (scorers_of rs) d z 0 0 nowhere) (sym (take-append-le r out post p.within)) p.held;
       }
 
 -- ---- the clause at a place of a list
@@ -69,11 +69,11 @@ pub record ReadyThere (ix : Index) (q : List ℕ) (k : ℕ) (b : Float) (at : �
   pub one : Ready
   pub ready : ReadyAt ix q k b at one
   pub next-is : take (i + 1) rs ≡ take i rs ++ (one ∷ [])
-  pub room : sizesOf (scorersOf (take i rs)) + size_of one.scorer ≤ sizesOf (scorersOf rs)
+  pub room : sizes_of (scorers_of (take i rs)) + size_of one.scorer ≤ sizes_of (scorers_of rs)
 
 module _ (ix : Index) (q : List ℕ) (k : ℕ) (b : Float) where
   pub ready-there : (ats : List ℕ) (rs : List Ready) → ReadiesAt ix q k b ats rs → (i : ℕ) → i < length ats → ReadyThere ix q k b (get_or ats i 0) rs i
-  unfolding ReadiesAt scorersOf sizesOf
+  unfolding ReadiesAt scorers_of sizes_of
   ready-there [] rs h i g = absurd (omega (arith, g))
   ready-there (at ∷ ats) rs h zero g =
       rw h.2 (record { one = h.0; ready = h.3; next-is = refl; room = omega arith })
@@ -87,12 +87,12 @@ module _ (ix : Index) (q : List ℕ) (k : ℕ) (b : Float) where
 
 -- ---- the loop over a list of records: the parts of the first i stand in the first `used` words
 pub record ListAt (E : Records) (list : List ℕ) (boost : Float) (words depth i used : ℕ) (st : List ℕ) : Type 0 where
-  pub placed : (ix : Index) (ranges : List ℕ) (k : ℕ) (rs : List Ready) → Prepared ix E ranges → ReadiesAt ix E.query k boost list rs → sizesOf (scorersOf rs) ≤ words → k ≤ depth → PlacedAll ix ranges (take i rs) depth used st
+  pub placed : (ix : Index) (ranges : List ℕ) (k : ℕ) (rs : List Ready) → Prepared ix E ranges → ReadiesAt ix E.query k boost list rs → sizes_of (scorers_of rs) ≤ words → k ≤ depth → PlacedAll ix ranges (take i rs) depth used st
 
-clear-passed : (o : Occur) (b : Float) → T (signClear b) → T (signClear (passed o b))
+clear-passed : (o : Occur) (b : Float) → T (sign_clear b) → T (sign_clear (passed o b))
 clear-passed must b c = c
 clear-passed should b c = c
-clear-passed mustNot b c = tt
+clear-passed must_not b c = tt
 clear-passed filter b c = tt
 
 module _ (E : Records) (list : List ℕ) (boost : Float) (words depth : ℕ) where
@@ -100,7 +100,7 @@ module _ (E : Records) (list : List ℕ) (boost : Float) (words depth : ℕ) whe
   list-starts st = record { placed = λ ix ranges k rs p h room levels. placed-none ix ranges depth st }
 
   -- the record is one of the query's
-  pub list-here : (i : ℕ) → ListPre E list boost words depth → i < length list → get_or list i 0 < recordCount E.query
+  pub list-here : (i : ℕ) → ListPre E list boost words depth → i < length list → get_or list i 0 < record_count E.query
   list-here i a h = readies-here a.0 E.query a.2 boost list a.3 a.5 i h
 
   module _ (i used : ℕ) (st : List ℕ) (l : ListAt E list boost words depth i used st) where
@@ -113,10 +113,10 @@ module _ (E : Records) (list : List ℕ) (boost : Float) (words depth : ℕ) whe
         subst (λ (zs : List Ready). PlacedAll ix ranges zs depth used st) (take_all i rs (omega (arith, same, h))) (l.placed ix ranges k rs p readies room levels)
 
     -- the clause at the next record: what the code reads of it, and the boost that reaches it
-    module _ (at occurrence : ℕ) (kept x : Float) (there : i < length list) (at-is : at ≡ get_or list i 0) (occurrence-is : occurrence ≡ recordOccurrence E.query at) (x-is : (o : Occur) → occurOf occurrence ≡ some o → x ≡ passed o boost) (kept_small : AtMost (2 ^ 29) kept) (clear : T (signClear boost)) (all : length st ≡ words) (n : ℕ) (n-is : n ≡ length st - used) where
-      asked : (ix : Index) (ranges : List ℕ) (k : ℕ) (rs : List Ready) → Prepared ix E ranges → (readies : ReadiesAt ix E.query k boost list rs) → sizesOf (scorersOf rs) ≤ words → k ≤ depth → (t : ReadyThere ix E.query k boost at rs i) → TreeAsked ix E.query k at t.ready.tree false kept x n
+    module _ (at occurrence : ℕ) (kept x : Float) (there : i < length list) (at-is : at ≡ get_or list i 0) (occurrence-is : occurrence ≡ record_occurrence E.query at) (x-is : (o : Occur) → occur_of occurrence ≡ some o → x ≡ passed o boost) (kept_small : AtMost (2 ^ 29) kept) (clear : T (sign_clear boost)) (all : length st ≡ words) (n : ℕ) (n-is : n ≡ length st - used) where
+      asked : (ix : Index) (ranges : List ℕ) (k : ℕ) (rs : List Ready) → Prepared ix E ranges → (readies : ReadiesAt ix E.query k boost list rs) → sizes_of (scorers_of rs) ≤ words → k ≤ depth → (t : ReadyThere ix E.query k boost at rs i) → TreeAsked ix E.query k at t.ready.tree false kept x n
       asked ix ranges k rs p readies room levels t =
-          let boost-is : x ≡ passed t.one.occur boost = x-is t.one.occur (ap occurOf occurrence-is ∙ t.ready.occur-is) in
+          let boost-is : x ≡ passed t.one.occur boost = x-is t.one.occur (ap occur_of occurrence-is ∙ t.ready.occur-is) in
           let placed = l.placed ix ranges k rs p readies room levels in
           let used-is = placed.size_is in
           let more = t.room in
@@ -124,8 +124,8 @@ module _ (E : Records) (list : List ℕ) (boost : Float) (words depth : ℕ) whe
           ap (λ (z : Float). size_of (weigh ix t.ready.tree.tree z none)) boost-is ∙ sym (ap size_of t.ready.scorer-is) in
           record {
             decoded = t.ready.decoded;
-            within = subst (λ (z : Float). carriesAbove t.ready.tree.tree z ≡ false) (sym boost-is) t.ready.within;
-            boost-clear = subst (λ (z : Float). T (signClear z)) (sym boost-is) (clear-passed t.one.occur boost clear);
+            within = subst (λ (z : Float). carries_above t.ready.tree.tree z ≡ false) (sym boost-is) t.ready.within;
+            boost-clear = subst (λ (z : Float). T (sign_clear z)) (sym boost-is) (clear-passed t.one.occur boost clear);
             kept_small = kept_small;
             room = omega (arith, used-is, more, n-is, size, all, room);
           }
@@ -149,22 +149,22 @@ module _ (E : Records) (list : List ℕ) (boost : Float) (words depth : ℕ) whe
       pub list-more : (scores r : ℕ) (out post : List ℕ) → scores ≡ cond (eqb occurrence 1) 1 0 → TreePost E at false kept x n depth scores r out → ListAt E list boost words depth (i + 1) (used + r) (take used st ++ (out ++ post))
       list-more scores r out post s tree = record { placed = one_more }
         where
-          must-is : (n : ℕ) (o : Occur) → occurOf n ≡ some o → eqb n 1 ≡ isMust o
+          must-is : (n : ℕ) (o : Occur) → occur_of n ≡ some o → eqb n 1 ≡ is_must o
           must-is n o e = rw (occur-number n o e) (go o)
             where
-              go : (o : Occur) → eqb (occurNumber o) 1 ≡ isMust o
+              go : (o : Occur) → eqb (occur_number o) 1 ≡ is_must o
               go must = refl
               go should = refl
-              go mustNot = refl
+              go must_not = refl
               go filter = refl
 
-          one_more : (ix : Index) (ranges : List ℕ) (k : ℕ) (rs : List Ready) → Prepared ix E ranges → ReadiesAt ix E.query k boost list rs → sizesOf (scorersOf rs) ≤ words → k ≤ depth → PlacedAll ix ranges (take (i + 1) rs) depth (used + r) (take used st ++ (out ++ post))
+          one_more : (ix : Index) (ranges : List ℕ) (k : ℕ) (rs : List Ready) → Prepared ix E ranges → ReadiesAt ix E.query k boost list rs → sizes_of (scorers_of rs) ≤ words → k ≤ depth → PlacedAll ix ranges (take (i + 1) rs) depth (used + r) (take used st ++ (out ++ post))
           one_more ix ranges k rs p readies room levels =
               let t = at_there ix k rs readies in
-              let boost-is : x ≡ passed t.one.occur boost = x-is t.one.occur (ap occurOf occurrence-is ∙ t.ready.occur-is) in
+              let boost-is : x ≡ passed t.one.occur boost = x-is t.one.occur (ap occur_of occurrence-is ∙ t.ready.occur-is) in
               let placed = tree ix ranges k t.ready.tree p (asked ix ranges k rs p readies room levels t) levels in
               let scorer-is : weigh ix t.ready.tree.tree x none ≡ t.one.scorer = ap (λ (z : Float). weigh ix t.ready.tree.tree z none) boost-is ∙ sym t.ready.scorer-is in
-              let scores-is : scores ≡ cond (isMust t.one.occur) 1 0 = s ∙ ap (λ (z : Bool). cond z 1 0) (must-is occurrence t.one.occur (ap occurOf occurrence-is ∙ t.ready.occur-is)) in
+              let scores-is : scores ≡ cond (is_must t.one.occur) 1 0 = s ∙ ap (λ (z : Bool). cond z 1 0) (must-is occurrence t.one.occur (ap occur_of occurrence-is ∙ t.ready.occur-is)) in
               rw t.next-is (placed-both ix ranges depth (take i rs) (t.one ∷ []) used r st (out ++ post) (l.placed ix ranges k rs p readies room levels) (placed-longer ix ranges depth (t.one ∷ []) r out post (placed_one ix ranges depth t.one r out (rw (scorer-is, scores-is) at placed))))
 
 -- the code's 0.0, for a clause without a score of its own

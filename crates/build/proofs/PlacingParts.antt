@@ -8,12 +8,12 @@ use lib.Seq.{take-add, drop_at, length-take-le}
 use lib.Ieee.{Float}
 use Rattle.meaning.specs.Lent.{Index}
 use Rattle.meaning.specs.Query.{DecodedClauses}
-use Rattle.meaning.specs.Cost.{costs, disjunctionCost}
-use Rattle.weight.specs.Weigh.{Ready, scorersOf, upToCost}
-use Rattle.weight.specs.State.{sizesOf, sizesOfFirst}
+use Rattle.meaning.specs.Cost.{costs, disjunction_cost}
+use Rattle.weight.specs.Weigh.{Ready, scorers_of, up_to_cost}
+use Rattle.weight.specs.State.{sizes_of, sizes_of_first}
 use Rattle.node_words.specs.Prepared.{Records}
 use Rattle.build.specs.Parts.{PartAsked, PlacedAll, ListPre, ListPost, RequiredPre, RequiredPost, OthersPre, OthersPost}
-use Rattle.clauses.specs.Clauses.{ClausesKnown, SomeClauses, ReadiesAt, noDearer, requiredOf, othersOf}
+use Rattle.clauses.specs.Clauses.{ClausesKnown, SomeClauses, ReadiesAt, no_dearer, required_of, others_of}
 use Rattle.build.proofs.BooleanParts.{sizes-append, sizes-first}
 use Rattle.clauses.proofs.ClauseLaws.{readies-take, readies-drop, readies-here, no-dearer-is}
 use Rattle.build.proofs.PlacingLists.{placed-both, placed-longer}
@@ -30,8 +30,8 @@ between list a e h g =
     ∙ ap (drop a) (sym (take-add a (e - a) list) ∙ ap (λ (z : ℕ). take z list) whole)
 
 -- those before a place and those after it take the words of all
-pub sizes-split : (n : ℕ) (rs : List Ready) → sizesOf (scorersOf (take n rs)) + sizesOf (scorersOf (drop n rs)) ≡ sizesOf (scorersOf rs)
-sizes-split n rs = sym (sizes-append (take n rs) (drop n rs)) ∙ ap (λ (zs : List Ready). sizesOf (scorersOf zs)) (take-append-drop n rs)
+pub sizes-split : (n : ℕ) (rs : List Ready) → sizes_of (scorers_of (take n rs)) + sizes_of (scorers_of (drop n rs)) ≡ sizes_of (scorers_of rs)
+sizes-split n rs = sym (sizes-append (take n rs) (drop n rs)) ∙ ap (λ (zs : List Ready). sizes_of (scorers_of zs)) (take-append-drop n rs)
 
 module _ (E : Records) (at : ℕ) (boost : Float) (words depth : ℕ) where
   pub part-known : {ix : Index} {ranges : List ℕ} {k : ℕ} {C : DecodedClauses} {rs : List Ready} → PartAsked ix E ranges k at C boost rs words depth → ClausesKnown ix E.query E.nexts E.presents E.costs k at C boost
@@ -49,80 +49,80 @@ module _ (E : Records) (at : ℕ) (boost : Float) (words depth : ℕ) where
     pub others-known : OthersPre E at occurrence boost words depth → SomeClauses E.query E.nexts E.presents E.costs at
     others-known a = (a.0, a.2, a.3, boost, part-known a.4)
 
-    module _ (list : List ℕ) (listed : Listed (λ ix C b. othersOf ix C b occurrence) E at list) where
+    module _ (list : List ℕ) (listed : Listed (λ ix C b. others_of ix C b occurrence) E at list) where
       pub others-listed : OthersPre E at occurrence boost words depth → ListPre E list boost words depth
       others-listed a =
           let p = a.4 in
-          (a.0, a.1, a.2, othersOf a.0 a.3 boost occurrence, p.prepared, listed a.0 a.2 a.3 boost (part-known p), p.asked.boost-clear, p.room, p.levels)
+          (a.0, a.1, a.2, others_of a.0 a.3 boost occurrence, p.prepared, listed a.0 a.2 a.3 boost (part-known p), p.asked.boost-clear, p.room, p.levels)
 
       pub others-placed : (r : ℕ) (st : List ℕ) → ListPost E list boost words depth r st → OthersPost E at occurrence boost words depth r st
       others-placed r st post ix ranges k C p =
-          post ix ranges k (othersOf ix C boost occurrence) p.prepared (listed ix k C boost (part-known p)) p.room p.levels
+          post ix ranges k (others_of ix C boost occurrence) p.prepared (listed ix k C boost (part-known p)) p.room p.levels
 
   -- ---- the required
   pub required-known : RequiredPre E at boost words depth → SomeClauses E.query E.nexts E.presents E.costs at
   required-known a = (a.0, a.2, a.3, boost, part-known a.4)
 
-  module _ (list : List ℕ) (listed : Listed requiredOf E at list) where
+  module _ (list : List ℕ) (listed : Listed required_of E at list) where
     pub required-here : RequiredPre E at boost words depth → (i : ℕ) → i < length list → get_or list i 0 < length E.costs
     required-here a i h =
-        let here = readies-here a.0 E.query a.2 boost list (requiredOf a.0 a.3 boost) (listed a.0 a.2 a.3 boost (part-known a.4)) i h in
+        let here = readies-here a.0 E.query a.2 boost list (required_of a.0 a.3 boost) (listed a.0 a.2 a.3 boost (part-known a.4)) i h in
         let long = a.4.prepared.costs-long in
         omega (arith, here, long)
 
     -- those that cost no more than the group
     module _ (n : ℕ) (first : List ℕ) (first-is : first ≡ take n list) where
-      first-ready : {ix : Index} {ranges : List ℕ} {k : ℕ} {C : DecodedClauses} → PartAsked ix E ranges k at C boost (requiredOf ix C boost) words depth → ReadiesAt ix E.query k boost first (take n (requiredOf ix C boost))
+      first-ready : {ix : Index} {ranges : List ℕ} {k : ℕ} {C : DecodedClauses} → PartAsked ix E ranges k at C boost (required_of ix C boost) words depth → ReadiesAt ix E.query k boost first (take n (required_of ix C boost))
       first-ready {ix} {ranges} {k} {C} p =
-          subst (λ (zs : List ℕ). ReadiesAt ix E.query k boost zs (take n (requiredOf ix C boost))) (sym first-is) (readies-take ix E.query k boost list (requiredOf ix C boost) (listed ix k C boost (part-known p)) n)
+          subst (λ (zs : List ℕ). ReadiesAt ix E.query k boost zs (take n (required_of ix C boost))) (sym first-is) (readies-take ix E.query k boost list (required_of ix C boost) (listed ix k C boost (part-known p)) n)
 
-      first-room : {ix : Index} {ranges : List ℕ} {k : ℕ} {C : DecodedClauses} → PartAsked ix E ranges k at C boost (requiredOf ix C boost) words depth → sizesOf (scorersOf (take n (requiredOf ix C boost))) ≤ words
-      first-room {ix} {ranges} {k} {C} p = let both = sizes-split n (requiredOf ix C boost) in let room = p.room in omega (arith, both, room)
+      first-room : {ix : Index} {ranges : List ℕ} {k : ℕ} {C : DecodedClauses} → PartAsked ix E ranges k at C boost (required_of ix C boost) words depth → sizes_of (scorers_of (take n (required_of ix C boost))) ≤ words
+      first-room {ix} {ranges} {k} {C} p = let both = sizes-split n (required_of ix C boost) in let room = p.room in omega (arith, both, room)
 
       pub required-first : RequiredPre E at boost words depth → ListPre E first boost words depth
-      required-first a = let p = a.4 in (a.0, a.1, a.2, take n (requiredOf a.0 a.3 boost), p.prepared, first-ready p, p.asked.boost-clear, first-room p, p.levels)
+      required-first a = let p = a.4 in (a.0, a.1, a.2, take n (required_of a.0 a.3 boost), p.prepared, first-ready p, p.asked.boost-clear, first-room p, p.levels)
 
       -- their parts stand in the first words
-      module _ (groupAt : ℕ) (st : List ℕ) (all : length st ≡ words) (post : ListPost E first boost words depth groupAt st) where
-        first-placed : {ix : Index} {ranges : List ℕ} {k : ℕ} {C : DecodedClauses} → PartAsked ix E ranges k at C boost (requiredOf ix C boost) words depth → PlacedAll ix ranges (take n (requiredOf ix C boost)) depth groupAt st
-        first-placed {ix} {ranges} {k} {C} p = post ix ranges k (take n (requiredOf ix C boost)) p.prepared (first-ready p) (first-room p) p.levels
+      module _ (group_at : ℕ) (st : List ℕ) (all : length st ≡ words) (post : ListPost E first boost words depth group_at st) where
+        first-placed : {ix : Index} {ranges : List ℕ} {k : ℕ} {C : DecodedClauses} → PartAsked ix E ranges k at C boost (required_of ix C boost) words depth → PlacedAll ix ranges (take n (required_of ix C boost)) depth group_at st
+        first-placed {ix} {ranges} {k} {C} p = post ix ranges k (take n (required_of ix C boost)) p.prepared (first-ready p) (first-room p) p.levels
 
-        pub required-within : RequiredPre E at boost words depth → groupAt ≤ length st
+        pub required-within : RequiredPre E at boost words depth → group_at ≤ length st
         required-within a = (first-placed a.4).within
 
         -- and the others after them
-        module _ (second : List ℕ) (second_is : second ≡ drop n list) (left : ℕ) (left_is : left ≡ length st - groupAt) where
-          second-ready : {ix : Index} {ranges : List ℕ} {k : ℕ} {C : DecodedClauses} → PartAsked ix E ranges k at C boost (requiredOf ix C boost) words depth → ReadiesAt ix E.query k boost second (drop n (requiredOf ix C boost))
+        module _ (second : List ℕ) (second_is : second ≡ drop n list) (left : ℕ) (left_is : left ≡ length st - group_at) where
+          second-ready : {ix : Index} {ranges : List ℕ} {k : ℕ} {C : DecodedClauses} → PartAsked ix E ranges k at C boost (required_of ix C boost) words depth → ReadiesAt ix E.query k boost second (drop n (required_of ix C boost))
           second-ready {ix} {ranges} {k} {C} p =
-              subst (λ (zs : List ℕ). ReadiesAt ix E.query k boost zs (drop n (requiredOf ix C boost))) (sym second_is) (readies-drop ix E.query k boost list (requiredOf ix C boost) (listed ix k C boost (part-known p)) n)
+              subst (λ (zs : List ℕ). ReadiesAt ix E.query k boost zs (drop n (required_of ix C boost))) (sym second_is) (readies-drop ix E.query k boost list (required_of ix C boost) (listed ix k C boost (part-known p)) n)
 
-          second-room : {ix : Index} {ranges : List ℕ} {k : ℕ} {C : DecodedClauses} → PartAsked ix E ranges k at C boost (requiredOf ix C boost) words depth → sizesOf (scorersOf (drop n (requiredOf ix C boost))) ≤ left
+          second-room : {ix : Index} {ranges : List ℕ} {k : ℕ} {C : DecodedClauses} → PartAsked ix E ranges k at C boost (required_of ix C boost) words depth → sizes_of (scorers_of (drop n (required_of ix C boost))) ≤ left
           second-room {ix} {ranges} {k} {C} p =
-              let both = sizes-split n (requiredOf ix C boost) in
+              let both = sizes-split n (required_of ix C boost) in
               let room = p.room in
               let used = (first-placed p).size_is in
               omega (arith, both, room, used, left_is, all)
 
           pub required-second : RequiredPre E at boost words depth → ListPre E second boost left depth
-          required-second a = let p = a.4 in (a.0, a.1, a.2, drop n (requiredOf a.0 a.3 boost), p.prepared, second-ready p, p.asked.boost-clear, second-room p, p.levels)
+          required-second a = let p = a.4 in (a.0, a.1, a.2, drop n (required_of a.0 a.3 boost), p.prepared, second-ready p, p.asked.boost-clear, second-room p, p.levels)
 
           module _ (rest : ℕ) (out : List ℕ) (rest-post : ListPost E second boost left depth rest out) where
-            second-placed : {ix : Index} {ranges : List ℕ} {k : ℕ} {C : DecodedClauses} → PartAsked ix E ranges k at C boost (requiredOf ix C boost) words depth → PlacedAll ix ranges (drop n (requiredOf ix C boost)) depth rest out
-            second-placed {ix} {ranges} {k} {C} p = rest-post ix ranges k (drop n (requiredOf ix C boost)) p.prepared (second-ready p) (second-room p) p.levels
+            second-placed : {ix : Index} {ranges : List ℕ} {k : ℕ} {C : DecodedClauses} → PartAsked ix E ranges k at C boost (required_of ix C boost) words depth → PlacedAll ix ranges (drop n (required_of ix C boost)) depth rest out
+            second-placed {ix} {ranges} {k} {C} p = rest-post ix ranges k (drop n (required_of ix C boost)) p.prepared (second-ready p) (second-room p) p.levels
 
-            pub required-fits : RequiredPre E at boost words depth → length out ≡ left → groupAt + rest ≤ length st
+            pub required-fits : RequiredPre E at boost words depth → length out ≡ left → group_at + rest ≤ length st
             required-fits a long =
                 let x = (first-placed a.4).within in
                 let y = (second-placed a.4).within in
                 omega (arith, x, y, long, left_is)
 
-            pub required-placed : (group : ℕ) → ((ix : Index) (k : ℕ) (C : DecodedClauses) (b : Float) → ClausesKnown ix E.query E.nexts E.presents E.costs k at C b → group ≡ disjunctionCost (costs ix C.clauses)) → n ≡ noDearer group E.costs list → (tail : List ℕ) → RequiredPost E at boost words depth groupAt (groupAt + rest) (take groupAt st ++ (out ++ tail))
+            pub required-placed : (group : ℕ) → ((ix : Index) (k : ℕ) (C : DecodedClauses) (b : Float) → ClausesKnown ix E.query E.nexts E.presents E.costs k at C b → group ≡ disjunction_cost (costs ix C.clauses)) → n ≡ no_dearer group E.costs list → (tail : List ℕ) → RequiredPost E at boost words depth group_at (group_at + rest) (take group_at st ++ (out ++ tail))
             required-placed group group-is n-is tail ix ranges k C p =
-                let rs = requiredOf ix C boost in
-                let up_to : n ≡ upToCost (disjunctionCost (costs ix C.clauses)) rs =
+                let rs = required_of ix C boost in
+                let up_to : n ≡ up_to_cost (disjunction_cost (costs ix C.clauses)) rs =
                 n-is
                 ∙ no-dearer-is ix E.query k boost E.nexts E.presents E.costs p.prepared.measured list rs (listed ix k C boost (part-known p)) group
-                ∙ ap (λ (z : ℕ). upToCost z rs) (group-is ix k C boost (part-known p)) in (
-                  subst (λ (zs : List Ready). PlacedAll ix ranges zs depth (groupAt + rest) (take groupAt st ++ (out ++ tail))) (take-append-drop n rs) (placed-both ix ranges depth (take n rs) (drop n rs) groupAt rest st (out ++ tail) (first-placed p) (placed-longer ix ranges depth (drop n rs) rest out tail (second-placed p))),
-                  (first-placed p).size_is ∙ sym (sizes-first n rs) ∙ ap (λ (z : ℕ). sizesOfFirst z (scorersOf rs)) up_to,
+                ∙ ap (λ (z : ℕ). up_to_cost z rs) (group-is ix k C boost (part-known p)) in (
+                  subst (λ (zs : List Ready). PlacedAll ix ranges zs depth (group_at + rest) (take group_at st ++ (out ++ tail))) (take-append-drop n rs) (placed-both ix ranges depth (take n rs) (drop n rs) group_at rest st (out ++ tail) (first-placed p) (placed-longer ix ranges depth (drop n rs) rest out tail (second-placed p))),
+                  (first-placed p).size_is ∙ sym (sizes-first n rs) ∙ ap (λ (z : ℕ). sizes_of_first z (scorers_of rs)) up_to,
                 )

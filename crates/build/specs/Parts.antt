@@ -2,49 +2,49 @@
 use Rattle.std.specs.Prelude.{◌≡◌, List, ℕ, ◌≤◌, T, length, take, Float}
 use Rattle.meaning.specs.Lent.{Index}
 use Rattle.meaning.specs.Query.{DecodedClauses}
-use Rattle.meaning.specs.Cost.{costs, disjunctionCost}
-use Rattle.ieee754.specs.Nonneg.{signClear}
-use Rattle.weight.specs.Weigh.{Ready, scorersOf, upToCost}
-use Rattle.weight.specs.State.{sizesOf, sizesOfFirst}
+use Rattle.meaning.specs.Cost.{costs, disjunction_cost}
+use Rattle.ieee754.specs.Nonneg.{sign_clear}
+use Rattle.weight.specs.Weigh.{Ready, scorers_of, up_to_cost}
+use Rattle.weight.specs.State.{sizes_of, sizes_of_first}
 use Rattle.window_words.specs.Windowed.{nowhere, AllWindowed}
-use Rattle.clauses.specs.Clauses.{ClausesAsked, ReadiesAt, requiredOf, othersOf}
+use Rattle.clauses.specs.Clauses.{ClausesAsked, ReadiesAt, required_of, others_of}
 use Rattle.node_words.specs.Prepared.{Records, Prepared}
 
 -- their parts stand one after the other in the first r words
 pub record PlacedAll (ix : Index) (ranges : List ℕ) (rs : List Ready) (depth r : ℕ) (words : List ℕ) : Type 0 where
-  pub size_is : r ≡ sizesOf (scorersOf rs)
+  pub size_is : r ≡ sizes_of (scorers_of rs)
   pub within : r ≤ length words
-  pub held : AllWindowed ix ranges (scorersOf rs) depth (take r words) 0 0 nowhere
+  pub held : AllWindowed ix ranges (scorers_of rs) depth (take r words) 0 0 nowhere
 
 -- the same of the clauses at some records
 abbrev pub ListPre : Records → List ℕ → Float → ℕ → ℕ → Type 0
 ListPre E list boost words depth =
-    (ix : Index) × (ranges : List ℕ) × (k : ℕ) × (rs : List Ready) × Prepared ix E ranges × ReadiesAt ix E.query k boost list rs × T (signClear boost) × (sizesOf (scorersOf rs) ≤ words) × (k ≤ depth)
+    (ix : Index) × (ranges : List ℕ) × (k : ℕ) × (rs : List Ready) × Prepared ix E ranges × ReadiesAt ix E.query k boost list rs × T (sign_clear boost) × (sizes_of (scorers_of rs) ≤ words) × (k ≤ depth)
 
 abbrev pub ListPost : Records → List ℕ → Float → ℕ → ℕ → ℕ → List ℕ → Type 0
 ListPost E list boost words depth r st' =
-    (ix : Index) (ranges : List ℕ) (k : ℕ) (rs : List Ready) → Prepared ix E ranges → ReadiesAt ix E.query k boost list rs → sizesOf (scorersOf rs) ≤ words → k ≤ depth → PlacedAll ix ranges rs depth r st'
+    (ix : Index) (ranges : List ℕ) (k : ℕ) (rs : List Ready) → Prepared ix E ranges → ReadiesAt ix E.query k boost list rs → sizes_of (scorers_of rs) ≤ words → k ≤ depth → PlacedAll ix ranges rs depth r st'
 
 -- the same of the clauses of the Boolean at a record: those chosen have room in so many words
 pub record PartAsked (ix : Index) (E : Records) (ranges : List ℕ) (k at : ℕ) (C : DecodedClauses) (boost : Float) (rs : List Ready) (words depth : ℕ) : Type 0 where
   pub prepared : Prepared ix E ranges
   pub asked : ClausesAsked E.query k at C boost
-  pub room : sizesOf (scorersOf rs) ≤ words
+  pub room : sizes_of (scorers_of rs) ≤ words
   pub levels : k ≤ depth
 
 abbrev pub RequiredPre : Records → ℕ → Float → ℕ → ℕ → Type 0
 RequiredPre E at boost words depth =
-    (ix : Index) × (ranges : List ℕ) × (k : ℕ) × (C : DecodedClauses) × PartAsked ix E ranges k at C boost (requiredOf ix C boost) words depth
+    (ix : Index) × (ranges : List ℕ) × (k : ℕ) × (C : DecodedClauses) × PartAsked ix E ranges k at C boost (required_of ix C boost) words depth
 
 -- their parts, and where the group joins
 abbrev pub RequiredPost : Records → ℕ → Float → ℕ → ℕ → ℕ → ℕ → List ℕ → Type 0
-RequiredPost E at boost words depth groupAt end st' =
-    (ix : Index) (ranges : List ℕ) (k : ℕ) (C : DecodedClauses) → PartAsked ix E ranges k at C boost (requiredOf ix C boost) words depth → PlacedAll ix ranges (requiredOf ix C boost) depth end st' × (groupAt ≡ sizesOfFirst (upToCost (disjunctionCost (costs ix C.clauses)) (requiredOf ix C boost)) (scorersOf (requiredOf ix C boost)))
+RequiredPost E at boost words depth group_at end st' =
+    (ix : Index) (ranges : List ℕ) (k : ℕ) (C : DecodedClauses) → PartAsked ix E ranges k at C boost (required_of ix C boost) words depth → PlacedAll ix ranges (required_of ix C boost) depth end st' × (group_at ≡ sizes_of_first (up_to_cost (disjunction_cost (costs ix C.clauses)) (required_of ix C boost)) (scorers_of (required_of ix C boost)))
 
 abbrev pub OthersPre : Records → ℕ → ℕ → Float → ℕ → ℕ → Type 0
 OthersPre E at occurrence boost words depth =
-    (ix : Index) × (ranges : List ℕ) × (k : ℕ) × (C : DecodedClauses) × PartAsked ix E ranges k at C boost (othersOf ix C boost occurrence) words depth
+    (ix : Index) × (ranges : List ℕ) × (k : ℕ) × (C : DecodedClauses) × PartAsked ix E ranges k at C boost (others_of ix C boost occurrence) words depth
 
 abbrev pub OthersPost : Records → ℕ → ℕ → Float → ℕ → ℕ → ℕ → List ℕ → Type 0
 OthersPost E at occurrence boost words depth r st' =
-    (ix : Index) (ranges : List ℕ) (k : ℕ) (C : DecodedClauses) → PartAsked ix E ranges k at C boost (othersOf ix C boost occurrence) words depth → PlacedAll ix ranges (othersOf ix C boost occurrence) depth r st'
+    (ix : Index) (ranges : List ℕ) (k : ℕ) (C : DecodedClauses) → PartAsked ix E ranges k at C boost (others_of ix C boost occurrence) words depth → PlacedAll ix ranges (others_of ix C boost occurrence) depth r st'

@@ -7,8 +7,8 @@ ghost use Rattle.std.specs.Prelude.{◌≡◌, ℕ, ◌≤◌, length};
 ghost use Rattle.std.proofs.Math.Option.{none};
 ghost use Rattle.meaning.specs.Lent.{Index};
 ghost use Rattle.meaning.specs.Bm25.{one};
-ghost use Rattle.meaning.specs.Query.{queryTree};
-ghost use Rattle.meaning.specs.CallRefusals.{statesNeeded, rangesNeeded};
+ghost use Rattle.meaning.specs.Query.{query_tree};
+ghost use Rattle.meaning.specs.CallRefusals.{states_needed, ranges_needed};
 ghost use Rattle.weight.specs.Measured.{Asks, Columns};
 ghost use Rattle.weight.specs.Weigh.{weigh};
 ghost use Rattle.node_words.specs.Placed.{Placed, LeafLent};
@@ -24,8 +24,8 @@ pub fn build(
     states: &mut [u32],
     ranges: &mut [u32],
 ) -> usize
-    requires { (ix : Index) × Asks ix q.now × LeafLent ix max_doc fields.now leaves.now × Columns ix max_doc columns.now values.now × (statesNeeded q.now ≤ length states.old) × (rangesNeeded ix q.now ≤ length ranges.old) }
-    ensures placed { (ix : Index) → Asks ix q.now → LeafLent ix max_doc fields.now leaves.now → Columns ix max_doc columns.now values.now → Placed ix ranges.new (weigh ix (queryTree q.now) one none) 16 0 result states.new }
+    requires { (ix : Index) × Asks ix q.now × LeafLent ix max_doc fields.now leaves.now × Columns ix max_doc columns.now values.now × (states_needed q.now ≤ length states.old) × (ranges_needed ix q.now ≤ length ranges.old) }
+    ensures placed { (ix : Index) → Asks ix q.now → LeafLent ix max_doc fields.now leaves.now → Columns ix max_doc columns.now values.now → Placed ix ranges.new (weigh ix (query_tree q.now) one none) 16 0 result states.new }
     ensures states_len_unchanged { (length states.new ≡ length states.old) × (length ranges.new ≡ length ranges.old) }
 {
     let mut places: [u32; 256] = [0; 256];

@@ -3,12 +3,12 @@ ghost use Rattle.std.specs.Prelude.{◌≡◌, ◌&&◌, ◌++◌, ℕ, ◌^◌,
 ghost use Rattle.std.proofs.Math.Option.{some};
 ghost use Rattle.std.specs.Float.{binary32};
 ghost use Rattle.std.specs.Float.Ieee.{to_bits};
-ghost use Rattle.meaning.specs.Limits.{nodeStateWords};
-ghost use Rattle.meaning.specs.Query.{Occur, occurOf, recordKind};
+ghost use Rattle.meaning.specs.Limits.{node_state_words};
+ghost use Rattle.meaning.specs.Query.{Occur, occur_of, record_kind};
 ghost use Rattle.meaning.specs.Score.{passed};
 ghost use Rattle.ieee754.specs.Nonneg.{AtMost};
 ghost use Rattle.weight.specs.State.{words_of};
-ghost use Rattle.node_words.specs.Placed.{booleanState};
+ghost use Rattle.node_words.specs.Placed.{boolean_state};
 ghost use Rattle.node_words.specs.Prepared.{records, TreePre, TreePost};
 ghost use Rattle.build.specs.Parts.{ListPre, ListPost, RequiredPre, RequiredPost, OthersPre, OthersPost};
 
@@ -19,7 +19,7 @@ use weight::NODE_STATE_WORDS;
 
 // Must and Should pass the boost on, Filter and MustNot pass 0.
 fn passed_on(occurrence: u32, boost: f32) -> f32
-    ensures { (x : Occur) → occurOf occurrence ≡ some x → result ≡ passed x boost }
+    ensures { (x : Occur) → occur_of occurrence ≡ some x → result ≡ passed x boost }
 {
     match occurrence {
         1 => boost,
@@ -192,8 +192,8 @@ fn put_boolean(
     group_at: usize,
     scores: u32,
 )
-    requires { (nodeStateWords ≤ length st.old) × (size < 4294967296) × (required_end ≤ size) × (optional_end ≤ size) × (group_at ≤ size) × AtMost (2 ^ 29) kept }
-    ensures { st.new ≡ words_of (booleanState size need required_end optional_end fixed (to_bits binary32 kept) afterwards group_at scores) ++ drop nodeStateWords st.old }
+    requires { (node_state_words ≤ length st.old) × (size < 4294967296) × (required_end ≤ size) × (optional_end ≤ size) × (group_at ≤ size) × AtMost (2 ^ 29) kept }
+    ensures { st.new ≡ words_of (boolean_state size need required_end optional_end fixed (to_bits binary32 kept) afterwards group_at scores) ++ drop node_state_words st.old }
 {
     let bits = f32::to_bits(kept);
     put(
@@ -254,7 +254,7 @@ fn place_boolean(
     scores: u32,
     depth: u32,
 ) -> usize
-    requires at_value { recordKind q.now at ≡ 3 }
+    requires at_value { record_kind q.now at ≡ 3 }
     requires tree_pre { TreePre (records q.now max_doc fields.now leaves.now nexts.now presents.now costs.now places.now) at fixed kept boost (length st.old) depth }
     ensures tree_post { TreePost (records q.now max_doc fields.now leaves.now nexts.now presents.now costs.now places.now) at fixed kept boost (length st.old) depth scores result st.new }
     ensures st_len_unchanged { length st.new ≡ length st.old }

@@ -9,21 +9,21 @@ use lib.Dec.{T}
 use lib.ListN.{length, get_or}
 use lib.IntN.{ℤ}
 use lib.Ieee.{Float, binary32, nan_bits, of_bits}
-use Rattle.meaning.specs.Limits.{noMoreDocs}
+use Rattle.meaning.specs.Limits.{no_more_docs}
 use Rattle.meaning.specs.Lent.{Index}
-use Rattle.meaning.specs.Live.{isLive}
+use Rattle.meaning.specs.Live.{is_live}
 use Rattle.ieee754.specs.Nonneg.{AtMost}
 use Rattle.ieee754.proofs.Bounds.{zero-atmost}
 use Rattle.collector.specs.declared.TopScoreDocCollector.{TopScoreDocCollector}
 use Rattle.collector.specs.Collected.{Ready, Extended}
 use Rattle.index.specs.Accepted.{Accepted}
-use Rattle.index.specs.Slices.{liveOnly}
-use Rattle.weight.specs.ScorerTree.{nothing, term, phrase, range, everything, Scoring, constant, weighted, Scorer, leaf, boolean, matches, leafMatches, leafScore, scorerScore}
+use Rattle.index.specs.Slices.{live_only}
+use Rattle.weight.specs.ScorerTree.{nothing, term, phrase, range, everything, Scoring, constant, weighted, Scorer, leaf, boolean, matches, leaf_matches, leaf_score, scorer_score}
 use Rattle.weight.specs.Held.{LeafIs, Ok}
 use Rattle.scorer.specs.Calls.{Lent}
 use Rattle.leaf_score.specs.declared.Node.{Node}
 use Rattle.leaf_score.specs.Words.{NodeIs}
-use Rattle.walk.specs.Walks.{liveMatch, liveScored, PageHeld}
+use Rattle.walk.specs.Walks.{live_match, live_scored, PageHeld}
 use Rattle.leaf_score.proofs.Leaves.{read}
 use Rattle.leaf_score.proofs.Bounds.{zero-32}
 use Rattle.leaf_score.proofs.Weights.{float_back, float-number}
@@ -40,13 +40,13 @@ unfolding NodeScores
 constant_number (constant c) n p = float-number c n.weight p.1
 constant_number (weighted w) n p = float-number w n.weight p.1
 
-pub constant-score : (n : Node) → n.constant ≡ 1 → (ix : Index) (sc : Scoring) (doc : ℕ) → NodeScores sc n → (of_bits binary32 n.weight ≡ leafScore ix everything sc doc) × AtMost (2 ^ 29) (of_bits binary32 n.weight)
-unfolding NodeScores leafScore
+pub constant-score : (n : Node) → n.constant ≡ 1 → (ix : Index) (sc : Scoring) (doc : ℕ) → NodeScores sc n → (of_bits binary32 n.weight ≡ leaf_score ix everything sc doc) × AtMost (2 ^ 29) (of_bits binary32 n.weight)
+unfolding NodeScores leaf_score
 constant-score n e ix (constant c) doc p = (float_back c n.weight p.1, subst (λ (z : Float). AtMost (2 ^ 29) z) (sym (float_back c n.weight p.1)) p.1.small)
 constant-score n e ix (weighted w) doc p = absurd (omega (arith, p.0))
 
-pub weighted-zero : (n : Node) → (n.constant ≡ 1 → ⊥) → (ix : Index) (sc : Scoring) (doc : ℕ) → NodeScores sc n → (of_bits binary32 0 ≡ leafScore ix everything sc doc) × AtMost (2 ^ 29) (of_bits binary32 0)
-unfolding NodeScores leafScore
+pub weighted-zero : (n : Node) → (n.constant ≡ 1 → ⊥) → (ix : Index) (sc : Scoring) (doc : ℕ) → NodeScores sc n → (of_bits binary32 0 ≡ leaf_score ix everything sc doc) × AtMost (2 ^ 29) (of_bits binary32 0)
+unfolding NodeScores leaf_score
 weighted-zero n m ix (constant c) doc p = absurd (m p.0)
 weighted-zero n m ix (weighted w) doc p = (zero-32, subst (λ (z : Float). AtMost (2 ^ 29) z) (sym zero-32) (zero-atmost _))
 
@@ -58,7 +58,7 @@ module _ (documents : ℕ) (live : List ℕ) where
       pub sc : Scoring
       pub is : s ≡ leaf everything sc
       pub accepted : Accepted ix
-      pub documents-are : ix.maxDoc ≡ documents
+      pub documents-are : ix.max_doc ≡ documents
       pub live-are : ix.live ≡ live
       pub scores : NodeScores sc n
 
@@ -83,64 +83,64 @@ module _ (documents : ℕ) (live : List ℕ) where
 
     -- what a call asks, and what is read of its words
     abbrev pub Asked : List ℕ → ℕ → TopScoreDocCollector → List ℤ → Type 0
-    Asked st docBase c heap = (E : Lent) × (norms : List ℕ) × (table : List Float) × (places : ℕ) × (depth : ℕ) × (E.documents ≡ documents) × (get_or st 0 0 ≡ 5) × CollectPre E norms live table places st depth docBase c heap
+    Asked st doc_base c heap = (E : Lent) × (norms : List ℕ) × (table : List Float) × (places : ℕ) × (depth : ℕ) × (E.documents ≡ documents) × (get_or st 0 0 ≡ 5) × CollectPre E norms live table places st depth doc_base c heap
 
-    module _ (st : List ℕ) (docBase : ℕ) (c : TopScoreDocCollector) (heap : List ℤ) (q : Asked st docBase c heap) where
+    module _ (st : List ℕ) (doc_base : ℕ) (c : TopScoreDocCollector) (heap : List ℤ) (q : Asked st doc_base c heap) where
       pub asked-any : NodeIs st n → AnyIs q.7.2.0 q.7.2.1
       asked-any N = any-is q.0 q.1 q.2 q.3 q.4 st N q.6 q.5 q.7.2.0 q.7.2.1 q.7.2.2 (root-page q.0 q.1 live q.2 q.7.2.0 q.3 q.7.2.1 q.4 q.7.2.2 st q.7.2.3)
 
       -- so many documents are numbered on
-      pub asked-few : docBase + documents ≤ noMoreDocs
+      pub asked-few : doc_base + documents ≤ no_more_docs
       asked-few = omega (arith, q.7.0, q.5)
 
   module _ (r : Float) where
     -- and r is the score of each document
     pub record AnyRoot (ix : Index) (sc : Scoring) : Type 0 where
       pub accepted : Accepted ix
-      pub documents-are : ix.maxDoc ≡ documents
+      pub documents-are : ix.max_doc ≡ documents
       pub live-are : ix.live ≡ live
-      pub score-is : (doc : ℕ) → r ≡ leafScore ix everything sc doc
+      pub score-is : (doc : ℕ) → r ≡ leaf_score ix everything sc doc
       pub small : AtMost (2 ^ 29) r
 
-    pub any-root : (n : Node) → ((ix : Index) (sc : Scoring) (doc : ℕ) → NodeScores sc n → (r ≡ leafScore ix everything sc doc) × AtMost (2 ^ 29) r) → (ix : Index) (s : Scorer) → (W : AnyIs n ix s) → AnyRoot ix W.sc
+    pub any-root : (n : Node) → ((ix : Index) (sc : Scoring) (doc : ℕ) → NodeScores sc n → (r ≡ leaf_score ix everything sc doc) × AtMost (2 ^ 29) r) → (ix : Index) (s : Scorer) → (W : AnyIs n ix s) → AnyRoot ix W.sc
     any-root n post ix s W = record { accepted = W.accepted; documents-are = W.documents-are; live-are = W.live-are; score-is = λ doc. (post ix W.sc doc W.scores).0; small = (post ix W.sc 0 W.scores).1 }
 
-    module _ (docBase : ℕ) (c₀ : TopScoreDocCollector) (heap₀ : List ℤ) where
+    module _ (doc_base : ℕ) (c₀ : TopScoreDocCollector) (heap₀ : List ℤ) where
       abbrev pub AnysAt : TopScoreDocCollector → List ℤ → ℕ → Type 0
-      AnysAt c heap doc = (ix : Index) (sc : Scoring) → AnyRoot ix sc → Sofar ix (leaf everything sc) docBase c₀ heap₀ c heap doc
+      AnysAt c heap doc = (ix : Index) (sc : Scoring) → AnyRoot ix sc → Sofar ix (leaf everything sc) doc_base c₀ heap₀ c heap doc
 
       pub any-start : AnysAt c₀ heap₀ 0
-      any-start ix sc R = sofar-start ix (leaf everything sc) docBase c₀ heap₀
+      any-start ix sc R = sofar-start ix (leaf everything sc) doc_base c₀ heap₀
 
       module _ (c : TopScoreDocCollector) (heap : List ℤ) (doc : ℕ) (I : AnysAt c heap doc) where
-        pub any-ready : (ix : Index) (sc : Scoring) → AnyRoot ix sc → Ready docBase c₀ heap₀ → (to : ℕ) → docBase + doc ≤ to → Ready to c heap
-        any-ready ix sc R start to l = sofar-ready ix (leaf everything sc) docBase c₀ heap₀ c heap doc (I ix sc R) start to l
+        pub any-ready : (ix : Index) (sc : Scoring) → AnyRoot ix sc → Ready doc_base c₀ heap₀ → (to : ℕ) → doc_base + doc ≤ to → Ready to c heap
+        any-ready ix sc R start to l = sofar-ready ix (leaf everything sc) doc_base c₀ heap₀ c heap doc (I ix sc R) start to l
 
-        pub any-done : documents ≡ doc → (ix : Index) (s : Scorer) (sc : Scoring) → s ≡ leaf everything sc → AnyRoot ix sc → Continued docBase documents (liveScored ix s) c₀ heap₀ c heap
+        pub any-done : documents ≡ doc → (ix : Index) (s : Scorer) (sc : Scoring) → s ≡ leaf everything sc → AnyRoot ix sc → Continued doc_base documents (live_scored ix s) c₀ heap₀ c heap
         any-done h ix s sc e R =
             rw e
-            (sofar-done ix (leaf everything sc) docBase c₀ heap₀ c heap doc (I ix sc R) documents (omega (arith, h)) (λ y a. not-below ix (leaf everything sc) y (omega (arith, h, R.documents-are))))
+            (sofar-done ix (leaf everything sc) doc_base c₀ heap₀ c heap doc (I ix sc R) documents (omega (arith, h)) (λ y a. not-below ix (leaf everything sc) y (omega (arith, h, R.documents-are))))
 
         module _ (below : doc < documents) where
-          pub any-few : docBase + documents ≤ noMoreDocs → docBase + doc < noMoreDocs
+          pub any-few : doc_base + documents ≤ no_more_docs → doc_base + doc < no_more_docs
           any-few few = omega (arith, few, below)
 
           pub any-bit : (ix : Index) (sc : Scoring) → AnyRoot ix sc → 0 < length live → doc < 64 * length live
           any-bit ix sc R = live-there ix live doc R.accepted R.live-are (omega (arith, R.documents-are))
 
           -- a document that is not live is passed over
-          pub any-pass : isLive (liveOnly live) doc ≡ false → AnysAt c heap (doc + 1)
+          pub any-pass : is_live (live_only live) doc ≡ false → AnysAt c heap (doc + 1)
           any-pass e ix sc R =
-              let dead : liveMatch ix (leaf everything sc) doc ≡ false = not_live ix (leaf everything sc) doc (sym (live_of ix live doc R.live-are) ∙ e) in
-              sofar-skip ix (leaf everything sc) docBase c₀ heap₀ c heap doc (I ix sc R) (doc + 1) (omega arith)
-              (λ x a b. let z : x ≡ doc = omega arith in subst (λ (y : ℕ). liveMatch ix (leaf everything sc) y ≡ false) (sym z) dead)
+              let dead : live_match ix (leaf everything sc) doc ≡ false = not_live ix (leaf everything sc) doc (sym (live_of ix live doc R.live-are) ∙ e) in
+              sofar-skip ix (leaf everything sc) doc_base c₀ heap₀ c heap doc (I ix sc R) (doc + 1) (omega arith)
+              (λ x a b. let z : x ≡ doc = omega arith in subst (λ (y : ℕ). live_match ix (leaf everything sc) y ≡ false) (sym z) dead)
 
           -- a live one is collected
-          pub any-take : isLive (liveOnly live) doc ≡ true → (c' : TopScoreDocCollector) (heap' : List ℤ) → Extended (record { doc = docBase + doc; score = r }) c heap c' heap' → AnysAt c' heap' (doc + 1)
-          unfolding matches leafMatches scorerScore
+          pub any-take : is_live (live_only live) doc ≡ true → (c' : TopScoreDocCollector) (heap' : List ℤ) → Extended (record { doc = doc_base + doc; score = r }) c heap c' heap' → AnysAt c' heap' (doc + 1)
+          unfolding matches leaf_matches scorer_score
           any-take e c' heap' x ix sc R =
-              let l : doc < ix.maxDoc = omega (arith, R.documents-are) in
-              sofar-take ix (leaf everything sc) docBase c₀ heap₀ c heap doc (I ix sc R) doc r c' heap' (omega (arith, R.accepted.documents)) (omega arith) (λ y a b. absurd (omega arith))
-              (is-match ix (leaf everything sc) doc l (sym (live_of ix live doc R.live-are) ∙ e) (lt-ltb doc ix.maxDoc l))
+              let l : doc < ix.max_doc = omega (arith, R.documents-are) in
+              sofar-take ix (leaf everything sc) doc_base c₀ heap₀ c heap doc (I ix sc R) doc r c' heap' (omega (arith, R.accepted.documents)) (omega arith) (λ y a b. absurd (omega arith))
+              (is-match ix (leaf everything sc) doc l (sym (live_of ix live doc R.live-are) ∙ e) (lt-ltb doc ix.max_doc l))
               (R.score-is doc)
               x

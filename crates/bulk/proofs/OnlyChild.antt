@@ -6,17 +6,17 @@ use mathlib.Core.Path.{fun_ext}
 use mathlib.Core.Option.{none, some}
 use lib.Ieee.{binary64, add}
 use lib.Ieee.Fits.{fits_widens}
-use Rattle.meaning.specs.Below.{listBelow}
-use Rattle.meaning.specs.Ieee754.{zeroFloat, narrow, sumFrom, narrowedSum}
-use Rattle.meaning.specs.Limits.{nodeStateWords}
+use Rattle.meaning.specs.Below.{list_below}
+use Rattle.meaning.specs.Ieee754.{zero_float, narrow, sum_from, narrowed_sum}
+use Rattle.meaning.specs.Limits.{node_state_words}
 use Rattle.meaning.specs.Lent.{Index}
-use Rattle.meaning.specs.Live.{isLive}
+use Rattle.meaning.specs.Live.{is_live}
 use Rattle.ieee754.specs.Nonneg.{AtMost}
 use Rattle.index.specs.Accepted.{Accepted}
-use Rattle.weight.specs.ScorerTree.{Leaf, nothing, term, phrase, range, everything, Scoring, Joining, Scorer, leaf, boolean, Scorers, end, more, matches, allMatch, anyMatches, matching, scoring, joinedScore, scorerScore, requiredScores, optionalScores}
-use Rattle.weight.specs.State.{State, words_of, size_of, sizesOf}
+use Rattle.weight.specs.ScorerTree.{Leaf, nothing, term, phrase, range, everything, Scoring, Joining, Scorer, leaf, boolean, Scorers, end, more, matches, all_match, any_matches, matching, scoring, joined_score, scorer_score, required_scores, optional_scores}
+use Rattle.weight.specs.State.{State, words_of, size_of, sizes_of}
 use Rattle.weight.specs.Held.{KeptIs}
-use Rattle.weight.specs.Sound.{Sound, Sounds, Tables, TablesOf, nodes, nodesOf}
+use Rattle.weight.specs.Sound.{Sound, Sounds, Tables, TablesOf, nodes, nodes_of}
 use Rattle.weight.proofs.Weights.{Weighted, WeightedAll}
 use Rattle.scorer.specs.Calls.{Lent}
 use Rattle.leaf_score.specs.Asked.{Scorable}
@@ -25,9 +25,9 @@ use Rattle.score.specs.Asked.{JoinIs}
 use Rattle.score.proofs.Alone.{zero-plus, group-alone, joined-alone, none_left}
 use Rattle.score.proofs.Small.{score-small, score-fits, first_small, ok-weighted}
 use Rattle.scorer.proofs.Leads.{rest_part}
-use Rattle.walk.specs.Walks.{scored, liveScored}
-use Rattle.window_words.specs.Windowed.{nowhere, requiredPlaces, optionalPlaces, optionalBound, Windowed}
-use Rattle.window_words.proofs.Laws.{windowed-less, windowed-long, windowed-kind, windowed-scores, windowed-ok, windowed-length, all-length, kindOf}
+use Rattle.walk.specs.Walks.{scored, live_scored}
+use Rattle.window_words.specs.Windowed.{nowhere, required_places, optional_places, optional_bound, Windowed}
+use Rattle.window_words.proofs.Laws.{windowed-less, windowed-long, windowed-kind, windowed-scores, windowed-ok, windowed-length, all-length, kind_of}
 use Rattle.window_words.proofs.Unasked.{optional-unasked}
 use Rattle.bulk_scorer.specs.Collects.{RootHeld}
 use Rattle.bulk_window.proofs.Lists.{map-same}
@@ -35,13 +35,13 @@ use Rattle.window_score.proofs.Alone.{sum-narrowed}
 use Rattle.bulk.specs.Alone.{AloneWords}
 
 -- ---- two scorers that match the same documents, and there score the same
-module _ (ix : Index) (s t : Scorer) (m : (d : ℕ) → matches ix s d ≡ matches ix t d) (h : (d : ℕ) → matches ix t d ≡ true → scorerScore ix s d ≡ scorerScore ix t d) where
-  same-scored : liveScored ix s ≡ liveScored ix t
-  unfolding liveScored
+module _ (ix : Index) (s t : Scorer) (m : (d : ℕ) → matches ix s d ≡ matches ix t d) (h : (d : ℕ) → matches ix t d ≡ true → scorer_score ix s d ≡ scorer_score ix t d) where
+  same-scored : live_scored ix s ≡ live_scored ix t
+  unfolding live_scored
   same-scored =
-      map-same (λ d. isLive ix d && matches ix s d) (scored ix s) (scored ix t) ix.maxDoc
-      (λ d l e. ap (λ (x : Float). record { doc = d; score = x }) (h d (sym (m d) ∙ (and_parts (isLive ix d) (matches ix s d) e).1)))
-      ∙ ap (λ (P : ℕ → Bool). map (scored ix t) (listBelow ix.maxDoc P)) (fun_ext (λ d. ap (λ (b : Bool). isLive ix d && b) (m d)))
+      map-same (λ d. is_live ix d && matches ix s d) (scored ix s) (scored ix t) ix.max_doc
+      (λ d l e. ap (λ (x : Float). record { doc = d; score = x }) (h d (sym (m d) ∙ (and_parts (is_live ix d) (matches ix s d) e).1)))
+      ∙ ap (λ (P : ℕ → Bool). map (scored ix t) (list_below ix.max_doc P)) (fun_ext (λ d. ap (λ (b : Bool). is_live ix d && b) (m d)))
 
 -- ---- a required child that scores, and an optional one that is needed
 module _ (ix : Index) (j : Joining) (t : Scorer) where
@@ -52,7 +52,7 @@ module _ (ix : Index) (j : Joining) (t : Scorer) where
   optional_alone f = boolean none j 1 end (more f t end) end
 
   required-matches : (d : ℕ) → matches ix required-alone d ≡ matches ix t d
-  unfolding matches allMatch anyMatches matching
+  unfolding matches all_match any_matches matching
   required-matches d = go (matches ix t d)
     where
       go : (b : Bool) → ((b && true) && not false && leb 0 0) ≡ b
@@ -60,7 +60,7 @@ module _ (ix : Index) (j : Joining) (t : Scorer) where
       go false = refl
 
   optional-matches : (f : Bool) (d : ℕ) → matches ix (optional_alone f) d ≡ matches ix t d
-  unfolding matches allMatch anyMatches matching
+  unfolding matches all_match any_matches matching
   optional-matches f d = go (matches ix t d)
     where
       go : (b : Bool) → (true && not false && leb 1 (cond b 1 0 + 0)) ≡ b
@@ -69,59 +69,59 @@ module _ (ix : Index) (j : Joining) (t : Scorer) where
 
   module _ (A : Accepted ix) (places : ℕ) (w : Weighted t) (S : Sound ix places t) (few : nodes t ≤ 256) (d : ℕ) where
     abbrev x : Float
-    x = scorerScore ix t d
+    x = scorer_score ix t d
 
     small : AtMost (nodes t * 2 ^ 29) x
     small = score-small ix A places d t w S few
 
     abbrev sum : Float
-    sum = add binary64 zeroFloat x
+    sum = add binary64 zero_float x
 
     sum-is : sum ≡ x
     sum-is = zero-plus x (fits_widens x (score-fits ix t d w)) small.sign
 
     narrowed : narrow sum ≡ x
-    narrowed = sum-narrowed ix A places t w S few d zeroFloat refl sum refl
+    narrowed = sum-narrowed ix A places t w S few d zero_float refl sum refl
 
-    required-score : scorerScore ix required-alone d ≡ x
-    unfolding scorerScore requiredScores scoring sumFrom nodesOf Sounds WeightedAll
+    required-score : scorer_score ix required-alone d ≡ x
+    unfolding scorer_score required_scores scoring sum_from nodes_of Sounds WeightedAll
     required-score =
         let rs = more true t end in
         let small' = scores-more (nodes t) (nodes t + 0) sum (omega arith) (subst (λ (z : Float). AtMost (nodes t * 2 ^ 29) z) (sym sum-is) small) in
         let J : JoinIs ix j rs end d (narrow sum) = joined-alone ix d rs j (omega (arith, few)) (λ n. (first_small ix A places d n rs (w, tt) (S, tt) (omega (arith, few))).sign) sum (narrow sum) (record { is = refl; small = small' }) refl in
         sym J.is ∙ narrowed
 
-    optional-score : (f : Bool) → matches ix t d ≡ true → scorerScore ix (optional_alone f) d ≡ x
-    unfolding scorerScore requiredScores optionalScores narrowedSum sumFrom
+    optional-score : (f : Bool) → matches ix t d ≡ true → scorer_score ix (optional_alone f) d ≡ x
+    unfolding scorer_score required_scores optional_scores narrowed_sum sum_from
     optional-score f e =
-        ap (λ (b : Bool). joinedScore j [] (narrowedSum (cond b (x ∷ []) [] ++ []))) e ∙ ap (λ (z : Float). joinedScore j [] z) narrowed ∙ group-alone j x (score-fits ix t d w) small.sign
+        ap (λ (b : Bool). joined_score j [] (narrowed_sum (cond b (x ∷ []) [] ++ []))) e ∙ ap (λ (z : Float). joined_score j [] z) narrowed ∙ group-alone j x (score-fits ix t d w) small.sign
 
   module _ (A : Accepted ix) (places : ℕ) (w : Weighted t) (S : Sound ix places t) (few : nodes t ≤ 256) where
-    required-scored : liveScored ix required-alone ≡ liveScored ix t
+    required-scored : live_scored ix required-alone ≡ live_scored ix t
     required-scored = same-scored ix required-alone t required-matches (λ d e. required-score A places w S few d)
 
-    optional-scored : (f : Bool) → liveScored ix (optional_alone f) ≡ liveScored ix t
+    optional-scored : (f : Bool) → live_scored ix (optional_alone f) ≡ live_scored ix t
     optional-scored f = same-scored ix (optional_alone f) t (optional-matches f) (λ d e. optional-score A places w S few d f e)
 
 -- ---- the words behind a record
 abbrev pub behind : List ℕ → List ℕ
-behind st = take (length st - nodeStateWords) (drop nodeStateWords st)
+behind st = take (length st - node_state_words) (drop node_state_words st)
 
-pub behind-word : (st : List ℕ) → AloneWords st → (k : ℕ) → k < nodeStateWords → get_or (behind st) k 0 ≡ get_or st (nodeStateWords + k) 0
-behind-word st W k h = get_or-take (length st - nodeStateWords) (drop nodeStateWords st) k 0 (omega (arith, W.long)) ∙ get_or-drop nodeStateWords st k 0
+pub behind-word : (st : List ℕ) → AloneWords st → (k : ℕ) → k < node_state_words → get_or (behind st) k 0 ≡ get_or st (node_state_words + k) 0
+behind-word st W k h = get_or-take (length st - node_state_words) (drop node_state_words st) k 0 (omega (arith, W.long)) ∙ get_or-drop node_state_words st k 0
 
 cut : (y r : List ℕ) → length r ≡ 0 → y ++ r ≡ y
 cut y [] e = append-nil y
 cut y (a ∷ r) e = absurd (omega (arith, e))
 
 -- one part, and no words after it
-behind-one : (st : List ℕ) → length st ≡ 2 * nodeStateWords → (s : State) (y r : List ℕ) → st ≡ words_of s ++ (y ++ r) → nodeStateWords ≤ length y → (behind st ≡ y) × (length r ≡ 0)
+behind-one : (st : List ℕ) → length st ≡ 2 * node_state_words → (s : State) (y r : List ℕ) → st ≡ words_of s ++ (y ++ r) → node_state_words ≤ length y → (behind st ≡ y) × (length r ≡ 0)
 behind-one st l s y r e h =
     let n : length r ≡ 0 = omega (arith, l, ap length e, length-append y r, h) in
-    (rest_part st (words_of s) (y ++ r) nodeStateWords e refl ∙ cut y r n, n)
+    (rest_part st (words_of s) (y ++ r) node_state_words e refl ∙ cut y r n, n)
 
-leaf-kind : (l : Leaf) (sc : Scoring) → kindOf (leaf l sc) ≡ 3 → ⊥
-unfolding kindOf
+leaf-kind : (l : Leaf) (sc : Scoring) → kind_of (leaf l sc) ≡ 3 → ⊥
+unfolding kind_of
 leaf-kind nothing sc e = omega (arith, e)
 leaf-kind (term l) sc e = omega (arith, e)
 leaf-kind (phrase f ts) sc e = omega (arith, e)
@@ -137,14 +137,14 @@ module _ (E : Lent) (norms live : List ℕ) (table : List Float) (ix : Index) (p
     pub child : Scorer
     pub scores : ℕ
     pub held : RootHeld E norms live table ix places child (depth - 1) scores (behind st)
-    pub same : liveScored ix s ≡ liveScored ix child
+    pub same : live_scored ix s ≡ live_scored ix child
 
   -- a child that stands behind the Boolean's record
   module _ (s : Scorer) (o : ℕ) (H : RootHeld E norms live table ix places s depth o st) (t : Scorer) (f : Bool) (y : List ℕ) (is : behind st ≡ y) (h : Windowed ix E.ranges t (depth - 1) (cond f 1 0) y 0 0 nowhere) (S : Scorable ix table places t) where
     child-weighted : Weighted t
     child-weighted = ok-weighted ix E.ranges t (depth - 1) (cond f 1 0) y 0 (windowed-ok ix E.ranges t (depth - 1) (cond f 1 0) y 0 0 nowhere (omega arith) h)
 
-    child-held : liveScored ix s ≡ liveScored ix t → OnlyChild s
+    child-held : live_scored ix s ≡ live_scored ix t → OnlyChild s
     child-held e =
         record {
           child = t;
@@ -156,7 +156,7 @@ module _ (E : Lent) (norms live : List ℕ) (table : List Float) (ix : Index) (p
   module _ (W : AloneWords st) where
     -- of the children's words none are left but the first child's
     pub only-child : (s : Scorer) (o : ℕ) → RootHeld E norms live table ix places s depth o st → OnlyChild s
-    unfolding Windowed KeptIs sizesOf Sound Sounds Tables TablesOf nodes nodesOf
+    unfolding Windowed KeptIs sizes_of Sound Sounds Tables TablesOf nodes nodes_of
     only-child (leaf l sc) o H = absurd (leaf-kind l sc (sym (windowed-kind ix E.ranges (leaf l sc) depth o st 0 0 nowhere H.held) ∙ W.kind-is))
     only-child (boolean (some c) j need rs os ps) o H = let p = H.held in absurd (omega (arith, p.7.kept.0, ap (λ (i : List ℕ). get_or i 11 0) p.4, W.kept))
     only-child (boolean none j need end end ps) o H = let p = H.held in absurd (omega (arith, p.7.optional-end, ap (λ (i : List ℕ). get_or i 5 0) p.4, W.optional-end))
@@ -173,18 +173,18 @@ module _ (E : Lent) (norms live : List ℕ) (table : List Float) (ix : Index) (p
         let one : need ≡ 1 = sym p.7.need-is ∙ sym (ap (λ (i : List ℕ). get_or i 3 0) p.4) ∙ W.optional zero in
         let S : Scorable ix table places t = record { sound = H.scorable.sound.1.0; tables = H.scorable.tables.1.0; few = omega (arith, H.scorable.few) } in
         let tree : T ≡ boolean none j 1 end (more f t end) end = ap (λ (i : ℕ). boolean none j i end (more f t g) ps) one ∙ ap (λ (i : Scorers). boolean none j 1 end (more f t i) ps) g-end ∙ ap (λ (i : Scorers). boolean none j 1 end (more f t end) i) p-end in
-        child-held T o H t f q.0 B.0 q.3 S (ap (liveScored ix) tree ∙ optional-scored ix j t H.lends.accepted places (child-weighted T o H t f q.0 B.0 q.3 S) S.sound S.few f)
+        child-held T o H t f q.0 B.0 q.3 S (ap (live_scored ix) tree ∙ optional-scored ix j t H.lends.accepted places (child-weighted T o H t f q.0 B.0 q.3 S) S.sound S.few f)
     only-child (boolean none j need (more f t g) os ps) o H =
         let T : Scorer = boolean none j need (more f t g) os ps in
         let p = H.held in
         let q = p.10 in
-        let own = windowed-less ix E.ranges t (depth - 1) (cond f 1 0) q.0 0 0 (requiredPlaces ix T 0 nowhere) nowhere (λ i l h. absurd (false≢true h)) q.3 in
+        let own = windowed-less ix E.ranges t (depth - 1) (cond f 1 0) q.0 0 0 (required_places ix T 0 nowhere) nowhere (λ i l h. absurd (false≢true h)) q.3 in
         let e : st ≡ words_of p.0 ++ (q.0 ++ (q.1 ++ (p.2 ++ p.3))) = p.4 ∙ ap (λ (i : List ℕ). words_of p.0 ++ (i ++ (p.2 ++ p.3))) q.2 ∙ ap (λ (i : List ℕ). words_of p.0 ++ i) (append_assoc q.0 q.1 (p.2 ++ p.3)) in
         let long = windowed-long ix E.ranges t (depth - 1) (cond f 1 0) q.0 0 0 nowhere own in
         let B = behind-one st W.long p.0 q.0 (q.1 ++ (p.2 ++ p.3)) e long in
         let n : length q.1 + (length p.2 + length p.3) ≡ 0 = omega (arith, B.1, length-append q.1 (p.2 ++ p.3), length-append p.2 p.3) in
-        let g-end : g ≡ end = none_left g (omega (arith, n, all-length ix E.ranges g (depth - 1) q.1 0 0 (requiredPlaces ix T 0 nowhere) q.4)) in
-        let o-end : os ≡ end = none_left os (omega (arith, n, all-length ix E.ranges os (depth - 1) p.2 (optionalBound need 0 0) 0 (optionalPlaces ix T need 0 nowhere) p.11)) in
+        let g-end : g ≡ end = none_left g (omega (arith, n, all-length ix E.ranges g (depth - 1) q.1 0 0 (required_places ix T 0 nowhere) q.4)) in
+        let o-end : os ≡ end = none_left os (omega (arith, n, all-length ix E.ranges os (depth - 1) p.2 (optional_bound need 0 0) 0 (optional_places ix T need 0 nowhere) p.11)) in
         let p-end : ps ≡ end = none_left ps (omega (arith, n, all-length ix E.ranges ps (depth - 1) p.3 0 0 nowhere p.12)) in
         let size : length q.0 ≡ size_of t = windowed-length ix E.ranges t (depth - 1) (cond f 1 0) q.0 0 0 nowhere own in
         let some_words : get_or st 4 0 ≡ 0 → ⊥ = λ z. omega (arith, z, ap (λ (i : List ℕ). get_or i 4 0) p.4, p.7.required-end, size, long) in
@@ -192,4 +192,4 @@ module _ (E : Lent) (norms live : List ℕ) (table : List Float) (ix : Index) (p
         let m : f ≡ true = scores-one f (get_or q.0 15 0) (windowed-scores ix E.ranges t (depth - 1) (cond f 1 0) q.0 0 0 nowhere own) (ap (λ (i : List ℕ). get_or i 15 0) (sym B.0) ∙ behind-word st W 15 (omega arith) ∙ W.scores some_words) in
         let S : Scorable ix table places t = record { sound = H.scorable.sound.0.0; tables = H.scorable.tables.0.0; few = omega (arith, H.scorable.few) } in
         let tree : T ≡ boolean none j 0 (more true t end) end end = ap (λ (i : ℕ). boolean none j i (more f t g) os ps) zero ∙ ap (λ (i : Bool). boolean none j 0 (more i t g) os ps) m ∙ ap (λ (i : Scorers). boolean none j 0 (more true t i) os ps) g-end ∙ ap (λ (i : Scorers). boolean none j 0 (more true t end) i ps) o-end ∙ ap (λ (i : Scorers). boolean none j 0 (more true t end) end i) p-end in
-        child-held T o H t f q.0 B.0 own S (ap (liveScored ix) tree ∙ required-scored ix j t H.lends.accepted places (child-weighted T o H t f q.0 B.0 own S) S.sound S.few)
+        child-held T o H t f q.0 B.0 own S (ap (live_scored ix) tree ∙ required-scored ix j t H.lends.accepted places (child-weighted T o H t f q.0 B.0 own S) S.sound S.few)

@@ -2,7 +2,7 @@
 ghost use Rattle.std.specs.Prelude.{◌≡◌, List, ℕ, ◌^◌, get_or, Float};
 ghost use Rattle.meaning.specs.Lent.{Index};
 ghost use Rattle.ieee754.specs.Nonneg.{AtMost};
-ghost use Rattle.weight.specs.ScorerTree.{everything, Scoring, leafScore};
+ghost use Rattle.weight.specs.ScorerTree.{everything, Scoring, leaf_score};
 ghost use Rattle.scorer.specs.Calls.{Lent};
 ghost use Rattle.bulk_scorer.specs.Collects.{CollectPre, CollectPost};
 ghost use Rattle.bulk_term.specs.Postings.{NodeScores};
@@ -13,7 +13,7 @@ use leaf_score::Node;
 // The score of each document: what has no frequencies scores 0 by BM25.
 fn one_score(n: Node) -> f32
     requires { (sc : Scoring) × NodeScores sc n }
-    ensures { (ix : Index) (sc : Scoring) (doc : ℕ) → NodeScores sc n → (result ≡ leafScore ix everything sc doc) × AtMost (2 ^ 29) result }
+    ensures { (ix : Index) (sc : Scoring) (doc : ℕ) → NodeScores sc n → (result ≡ leaf_score ix everything sc doc) × AtMost (2 ^ 29) result }
 {
     if n.constant == 1 {
         return f32::from_bits(n.weight);

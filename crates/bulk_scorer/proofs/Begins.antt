@@ -1,6 +1,6 @@
 -- A collector that has collected nothing before a loop, and what it has collected after it. Assumes nothing.
 use Rattle.std.proofs.Common.{◌≡◌, refl, sym, ap, subst, ◌∙◌, List, [], ◌∷◌, ◌++◌, map, ℕ, ◌+◌, ◌^◌, ◌≤◌, ◌<◌, length, ℤ, arith}
-use Rattle.meaning.specs.Limits.{maxHits}
+use Rattle.meaning.specs.Limits.{max_hits}
 use Rattle.meaning.specs.FullList.{ScoreDoc}
 use Rattle.meaning.specs.Hits.{hits}
 use Rattle.meaning.specs.Entries.{written}
@@ -15,7 +15,7 @@ numbered-same : (list : List ScoreDoc) → map (numbered 0) list ≡ list
 numbered-same [] = refl
 numbered-same (h ∷ hs) = let e : 0 + h.doc ≡ h.doc = omega arith in ap (λ (i : ℕ). record { doc = i; score = h.score } ∷ map (numbered 0) hs) e ∙ ap (λ (l : List ScoreDoc). h ∷ l) (numbered-same hs)
 
-module _ (t : ℕ) (c : TopScoreDocCollector) (heap : List ℤ) (new : (k : ℕ) (start : List ℤ) → 0 < k → k < 2 ^ 32 → length start ≡ k → Collected k t 0 [] start c start) (some : 0 < length heap) (most : length heap ≤ maxHits) where
+module _ (t : ℕ) (c : TopScoreDocCollector) (heap : List ℤ) (new : (k : ℕ) (start : List ℤ) → 0 < k → k < 2 ^ 32 → length start ≡ k → Collected k t 0 [] start c start) (some : 0 < length heap) (most : length heap ≤ max_hits) where
   begun : Collected (length heap) t 0 [] heap c heap
   begun = new (length heap) heap some (omega (arith, most)) refl
 

@@ -1,7 +1,7 @@
 -- A root that is not asked yet can be walked from the first document on. Assumes nothing.
 use Rattle.std.proofs.Common.{List, ℕ, ◌≤◌, length, arith}
 use Rattle.std.specs.Prelude.{Float}
-use Rattle.meaning.specs.Limits.{noMoreDocs, nodeStateWords}
+use Rattle.meaning.specs.Limits.{no_more_docs, node_state_words}
 use Rattle.meaning.specs.Lent.{Index}
 use Rattle.weight.specs.ScorerTree.{Scorer}
 use Rattle.weight.specs.Held.{Ok}
@@ -17,8 +17,8 @@ module _ (E : Lent) (norms live : List ℕ) (table : List Float) (ix : Index) (p
   root-page = record { lends = H.lends; norms-are = H.norms-are; live-are = H.live-are; scorable = H.scorable; ok = windowed-ok ix E.ranges s depth scores st 0 0 nowhere (omega arith) H.held }
 
   -- words that stay hold the tree, asked for every document
-  pub root-end : Ok ix E.ranges s depth scores st noMoreDocs
-  root-end = ok-mono ix E.ranges s depth scores st 0 noMoreDocs (omega arith) root-page.ok
+  pub root-end : Ok ix E.ranges s depth scores st no_more_docs
+  root-end = ok-mono ix E.ranges s depth scores st 0 no_more_docs (omega arith) root-page.ok
 
-  pub root-words : nodeStateWords ≤ length st
+  pub root-words : node_state_words ≤ length st
   root-words = windowed-long ix E.ranges s depth scores st 0 0 nowhere H.held

@@ -11,82 +11,82 @@ use lib.Dec.{T, leb}
 use lib.ListN.{length}
 use lib.IntN.{ℤ}
 use lib.Ieee.{Float, nan, inf, fin}
-use Rattle.meaning.specs.Below.{listBelow}
-use Rattle.meaning.specs.Limits.{noMoreDocs}
+use Rattle.meaning.specs.Below.{list_below}
+use Rattle.meaning.specs.Limits.{no_more_docs}
 use Rattle.meaning.specs.Lent.{Index}
-use Rattle.meaning.specs.Live.{isLive}
+use Rattle.meaning.specs.Live.{is_live}
 use Rattle.meaning.specs.First.{First}
 use Rattle.meaning.specs.FullList.{ScoreDoc}
-use Rattle.meaning.specs.Pages.{fromTarget}
-use Rattle.ieee754.specs.Nonneg.{nonneg, signClear}
+use Rattle.meaning.specs.Pages.{from_target}
+use Rattle.ieee754.specs.Nonneg.{nonneg, sign_clear}
 use Rattle.collector.specs.declared.TopScoreDocCollector.{TopScoreDocCollector}
 use Rattle.collector.specs.Collected.{Collected, Ready, Extended}
 use Rattle.collector.proofs.Beginning.{collected-later}
 use Rattle.meaning.proofs.Tests.{cmp}
-use Rattle.weight.specs.ScorerTree.{Scorer, matches, scorerScore}
-use Rattle.walk.specs.Walks.{liveMatch, scored, liveScored}
+use Rattle.weight.specs.ScorerTree.{Scorer, matches, scorer_score}
+use Rattle.walk.specs.Walks.{live_match, scored, live_scored}
 use Rattle.walk.proofs.Pages.{match_is, walk-next}
 use Rattle.bulk_scorer.specs.Collects.{numbered, Continued}
 
 -- every document is at or after 0
-from_zero : (list : List ScoreDoc) → fromTarget 0 list ≡ list
-unfolding fromTarget
+from_zero : (list : List ScoreDoc) → from_target 0 list ≡ list
+unfolding from_target
 from_zero [] = refl
-from_zero (h ∷ hs) = let e : leb 0 h.doc ≡ true = le-leb 0 h.doc (omega arith) in ap (λ (b : Bool). cond b (h ∷ []) [] ++ fromTarget 0 hs) e ∙ ap (λ (l : List ScoreDoc). h ∷ l) (from_zero hs)
+from_zero (h ∷ hs) = let e : leb 0 h.doc ≡ true = le-leb 0 h.doc (omega arith) in ap (λ (b : Bool). cond b (h ∷ []) [] ++ from_target 0 hs) e ∙ ap (λ (l : List ScoreDoc). h ∷ l) (from_zero hs)
 
-pub nonneg-clear : (x : Float) → T (nonneg x) → T (signClear x)
+pub nonneg-clear : (x : Float) → T (nonneg x) → T (sign_clear x)
 nonneg-clear nan p = p
 nonneg-clear (inf s) p = absurd p
 nonneg-clear (fin s m e) p = p
 
-from-append : (t : ℕ) (xs ys : List ScoreDoc) → fromTarget t (xs ++ ys) ≡ fromTarget t xs ++ fromTarget t ys
-unfolding fromTarget
+from-append : (t : ℕ) (xs ys : List ScoreDoc) → from_target t (xs ++ ys) ≡ from_target t xs ++ from_target t ys
+unfolding from_target
 from-append t [] ys = refl
-from-append t (x ∷ xs) ys = ap (λ (l : List ScoreDoc). cond (leb t x.doc) (x ∷ []) [] ++ l) (from-append t xs ys) ∙ sym (append_assoc (cond (leb t x.doc) (x ∷ []) []) (fromTarget t xs) (fromTarget t ys))
+from-append t (x ∷ xs) ys = ap (λ (l : List ScoreDoc). cond (leb t x.doc) (x ∷ []) [] ++ l) (from-append t xs ys) ∙ sym (append_assoc (cond (leb t x.doc) (x ∷ []) []) (from_target t xs) (from_target t ys))
 
 map-append : (f : ℕ → ScoreDoc) (xs ys : List ℕ) → map f (xs ++ ys) ≡ map f xs ++ map f ys
 map-append f [] ys = refl
 map-append f (x ∷ xs) ys = ap (λ (l : List ScoreDoc). f x ∷ l) (map-append f xs ys)
 
-numbered-append : (docBase : ℕ) (xs ys : List ScoreDoc) → map (numbered docBase) (xs ++ ys) ≡ map (numbered docBase) xs ++ map (numbered docBase) ys
-numbered-append docBase [] ys = refl
-numbered-append docBase (x ∷ xs) ys = ap (λ (l : List ScoreDoc). numbered docBase x ∷ l) (numbered-append docBase xs ys)
+numbered-append : (doc_base : ℕ) (xs ys : List ScoreDoc) → map (numbered doc_base) (xs ++ ys) ≡ map (numbered doc_base) xs ++ map (numbered doc_base) ys
+numbered-append doc_base [] ys = refl
+numbered-append doc_base (x ∷ xs) ys = ap (λ (l : List ScoreDoc). numbered doc_base x ∷ l) (numbered-append doc_base xs ys)
 
 module _ (f : ℕ → ScoreDoc) (doc-is : (d : ℕ) → (f d).doc ≡ d) (p : ℕ → Bool) where
   -- those below n, from t on
   Left : ℕ → ℕ → List ScoreDoc
-  Left t n = fromTarget t (map f (listBelow n p))
+  Left t n = from_target t (map f (list_below n p))
 
   -- one document
   one_left : ℕ → ℕ → List ScoreDoc
-  one_left t d = fromTarget t (map f (cond (p d) (d ∷ []) []))
+  one_left t d = from_target t (map f (cond (p d) (d ∷ []) []))
 
   one_more : (t n : ℕ) → Left t (suc n) ≡ Left t n ++ one_left t n
-  unfolding listBelow Left one_left
-  one_more t n = ap (fromTarget t) (map-append f (listBelow n p) (cond (p n) (n ∷ []) [])) ∙ from-append t (map f (listBelow n p)) (map f (cond (p n) (n ∷ []) []))
+  unfolding list_below Left one_left
+  one_more t n = ap (from_target t) (map-append f (list_below n p) (cond (p n) (n ∷ []) [])) ∙ from-append t (map f (list_below n p)) (map f (cond (p n) (n ∷ []) []))
 
   none_here : (t d : ℕ) → p d ≡ false → one_left t d ≡ []
-  unfolding one_left fromTarget
+  unfolding one_left from_target
   none_here t d h = rw h
 
   none_before : (t d : ℕ) → d < t → one_left t d ≡ []
-  unfolding one_left fromTarget
+  unfolding one_left from_target
   none_before t d l = go (p d)
     where
-      go : (b : Bool) → fromTarget t (map f (cond b (d ∷ []) [])) ≡ []
+      go : (b : Bool) → from_target t (map f (cond b (d ∷ []) [])) ≡ []
       go true = let q : leb t (f d).doc ≡ false = ap (leb t) (doc-is d) ∙ lt-leb t d l in rw q
       go false = refl
 
   same-one : (t r d : ℕ) → t ≤ d → r ≤ d → one_left t d ≡ one_left r d
-  unfolding one_left fromTarget
+  unfolding one_left from_target
   same-one t r d l m = go (p d)
     where
-      go : (b : Bool) → fromTarget t (map f (cond b (d ∷ []) [])) ≡ fromTarget r (map f (cond b (d ∷ []) []))
+      go : (b : Bool) → from_target t (map f (cond b (d ∷ []) [])) ≡ from_target r (map f (cond b (d ∷ []) []))
       go true = let q : leb t (f d).doc ≡ true = ap (leb t) (doc-is d) ∙ le-leb t d l in let s : leb r (f d).doc ≡ true = ap (leb r) (doc-is d) ∙ le-leb r d m in rw (q, s)
       go false = refl
 
   start_left : (t : ℕ) → Left t zero ≡ []
-  unfolding Left listBelow fromTarget
+  unfolding Left list_below from_target
   start_left t = refl
 
   -- none between two documents: what is left from either is the same
@@ -108,81 +108,81 @@ module _ (f : ℕ → ScoreDoc) (doc-is : (d : ℕ) → (f d).doc ≡ d) (p : �
       one_more t n ∙ ap (λ (l : List ScoreDoc). l ++ one_left t n) (none_left n t (λ d a b. h d a (omega arith))) ∙ ⊎_elim (λ a. none_before t n a) (λ a. none_here t n (h n a (le_refl _))) (cmp n t)
 
 module _ (ix : Index) (s : Scorer) where
-  live_below : (d : ℕ) → d < ix.maxDoc → liveMatch ix s d ≡ false → isLive ix d && matches ix s d ≡ false
-  unfolding liveMatch
-  live_below d l e = sym (ap (λ (b : Bool). b && (isLive ix d && matches ix s d)) (lt-ltb d ix.maxDoc l)) ∙ e
+  live_below : (d : ℕ) → d < ix.max_doc → live_match ix s d ≡ false → is_live ix d && matches ix s d ≡ false
+  unfolding live_match
+  live_below d l e = sym (ap (λ (b : Bool). b && (is_live ix d && matches ix s d)) (lt-ltb d ix.max_doc l)) ∙ e
 
-  skipped : (from to : ℕ) → from ≤ to → ((d : ℕ) → from ≤ d → d < to → liveMatch ix s d ≡ false) → fromTarget from (liveScored ix s) ≡ fromTarget to (liveScored ix s)
-  unfolding liveScored Left
-  skipped from to l h = skip-left (scored ix s) (λ d. refl) (λ d. isLive ix d && matches ix s d) ix.maxDoc from to l (λ d a b c. live_below d c (h d a b))
+  skipped : (from to : ℕ) → from ≤ to → ((d : ℕ) → from ≤ d → d < to → live_match ix s d ≡ false) → from_target from (live_scored ix s) ≡ from_target to (live_scored ix s)
+  unfolding live_scored Left
+  skipped from to l h = skip-left (scored ix s) (λ d. refl) (λ d. is_live ix d && matches ix s d) ix.max_doc from to l (λ d a b c. live_below d c (h d a b))
 
-  none-live : (from : ℕ) → ((d : ℕ) → from ≤ d → liveMatch ix s d ≡ false) → fromTarget from (liveScored ix s) ≡ []
-  unfolding liveScored Left
-  none-live from h = none_left (scored ix s) (λ d. refl) (λ d. isLive ix d && matches ix s d) ix.maxDoc from (λ d a b. live_below d b (h d a))
+  none-live : (from : ℕ) → ((d : ℕ) → from ≤ d → live_match ix s d ≡ false) → from_target from (live_scored ix s) ≡ []
+  unfolding live_scored Left
+  none-live from h = none_left (scored ix s) (λ d. refl) (λ d. is_live ix d && matches ix s d) ix.max_doc from (λ d a b. live_below d b (h d a))
 
-  module _ (docBase : ℕ) (c₀ : TopScoreDocCollector) (heap₀ : List ℤ) where
+  module _ (doc_base : ℕ) (c₀ : TopScoreDocCollector) (heap₀ : List ℤ) where
     -- the live matches before a document are collected, after what was collected at the start
     pub record Sofar (c : TopScoreDocCollector) (heap : List ℤ) (from : ℕ) : Type 0 where
       pub ys : List ScoreDoc
-      pub all : liveScored ix s ≡ ys ++ fromTarget from (liveScored ix s)
-      pub collected : (k t b : ℕ) (xs : List ScoreDoc) (start : List ℤ) → b ≤ docBase → Collected k t b xs start c₀ heap₀ → Collected k t (docBase + from) (xs ++ map (numbered docBase) ys) start c heap
+      pub all : live_scored ix s ≡ ys ++ from_target from (live_scored ix s)
+      pub collected : (k t b : ℕ) (xs : List ScoreDoc) (start : List ℤ) → b ≤ doc_base → Collected k t b xs start c₀ heap₀ → Collected k t (doc_base + from) (xs ++ map (numbered doc_base) ys) start c heap
 
     pub sofar-start : Sofar c₀ heap₀ 0
     sofar-start =
         record {
           ys = [];
-          all = sym (from_zero (liveScored ix s));
-          collected = λ k t b xs start l p. subst (λ (z : List ScoreDoc). Collected k t (docBase + 0) z start c₀ heap₀) (sym (append-nil xs)) (collected-later k t b (docBase + 0) xs start c₀ heap₀ (omega (arith, l)) p);
+          all = sym (from_zero (live_scored ix s));
+          collected = λ k t b xs start l p. subst (λ (z : List ScoreDoc). Collected k t (doc_base + 0) z start c₀ heap₀) (sym (append-nil xs)) (collected-later k t b (doc_base + 0) xs start c₀ heap₀ (omega (arith, l)) p);
         }
 
     module _ (c : TopScoreDocCollector) (heap : List ℤ) (from : ℕ) (i : Sofar c heap from) where
       -- none is live before `to`
-      pub sofar-skip : (to : ℕ) → from ≤ to → ((d : ℕ) → from ≤ d → d < to → liveMatch ix s d ≡ false) → Sofar c heap to
+      pub sofar-skip : (to : ℕ) → from ≤ to → ((d : ℕ) → from ≤ d → d < to → live_match ix s d ≡ false) → Sofar c heap to
       sofar-skip to l h =
           record {
             ys = i.ys;
             all = i.all ∙ ap (λ (z : List ScoreDoc). i.ys ++ z) (skipped from to l h);
-            collected = λ k t b xs start m p. collected-later k t (docBase + from) (docBase + to) (xs ++ map (numbered docBase) i.ys) start c heap (omega (arith, l)) (i.collected k t b xs start m p);
+            collected = λ k t b xs start m p. collected-later k t (doc_base + from) (doc_base + to) (xs ++ map (numbered doc_base) i.ys) start c heap (omega (arith, l)) (i.collected k t b xs start m p);
           }
 
       -- the collector can be handed a document at or after `from`
-      pub sofar-ready : Ready docBase c₀ heap₀ → (doc : ℕ) → docBase + from ≤ doc → Ready doc c heap
+      pub sofar-ready : Ready doc_base c₀ heap₀ → (doc : ℕ) → doc_base + from ≤ doc → Ready doc c heap
       sofar-ready R doc l =
           let q = i.collected (length heap₀) R.t R.b R.list R.start R.before R.collected in
           record {
             t = R.t;
-            b = docBase + from;
-            list = R.list ++ map (numbered docBase) i.ys;
+            b = doc_base + from;
+            list = R.list ++ map (numbered doc_base) i.ys;
             start = R.start;
             before = l;
-            collected = subst (λ (k : ℕ). Collected k R.t (docBase + from) (R.list ++ map (numbered docBase) i.ys) R.start c heap) (sym q.places) q;
+            collected = subst (λ (k : ℕ). Collected k R.t (doc_base + from) (R.list ++ map (numbered doc_base) i.ys) R.start c heap) (sym q.places) q;
           }
 
       -- d is the next live match, and is collected
-      pub sofar-take : (d : ℕ) (r : Float) (c' : TopScoreDocCollector) (heap' : List ℤ) → ix.maxDoc ≤ noMoreDocs → from ≤ d → ((x : ℕ) → from ≤ x → x < d → liveMatch ix s x ≡ false) → liveMatch ix s d ≡ true → r ≡ scorerScore ix s d → Extended (record { doc = docBase + d; score = r }) c heap c' heap' → Sofar c' heap' (d + 1)
+      pub sofar-take : (d : ℕ) (r : Float) (c' : TopScoreDocCollector) (heap' : List ℤ) → ix.max_doc ≤ no_more_docs → from ≤ d → ((x : ℕ) → from ≤ x → x < d → live_match ix s x ≡ false) → live_match ix s d ≡ true → r ≡ scorer_score ix s d → Extended (record { doc = doc_base + d; score = r }) c heap c' heap' → Sofar c' heap' (d + 1)
       sofar-take d r c' heap' few l h m e x =
           let b = (match_is ix s d m).0 in
-          let q : First (liveMatch ix s) from d = record { from = l; top = omega (arith, b); before = h; hit = λ _. m } in
+          let q : First (live_match ix s) from d = record { from = l; top = omega (arith, b); before = h; hit = λ _. m } in
           let z = scored ix s d in
           let one : suc d ≡ d + 1 = omega arith in
-          let k : record { doc = docBase + d; score = r } ≡ numbered docBase z = ap (λ (f : Float). record { doc = docBase + d; score = f }) e in
+          let k : record { doc = doc_base + d; score = r } ≡ numbered doc_base z = ap (λ (f : Float). record { doc = doc_base + d; score = f }) e in
           record {
             ys = i.ys ++ (z ∷ []);
-            all = i.all ∙ ap (λ (y : List ScoreDoc). i.ys ++ y) (walk-next ix s from d q (omega (arith, b))) ∙ sym (append_assoc i.ys (z ∷ []) (fromTarget (suc d) (liveScored ix s))) ∙ ap (λ (j : ℕ). (i.ys ++ (z ∷ [])) ++ fromTarget j (liveScored ix s)) one;
+            all = i.all ∙ ap (λ (y : List ScoreDoc). i.ys ++ y) (walk-next ix s from d q (omega (arith, b))) ∙ sym (append_assoc i.ys (z ∷ []) (from_target (suc d) (live_scored ix s))) ∙ ap (λ (j : ℕ). (i.ys ++ (z ∷ [])) ++ from_target j (live_scored ix s)) one;
             collected = λ kk t b₀ xs start a p.
-                let more = x.extended kk t (docBase + from) (xs ++ map (numbered docBase) i.ys) start (omega (arith, l)) (i.collected kk t b₀ xs start a p) in
-                let bound : docBase + d + 1 ≡ docBase + (d + 1) = omega arith in
-                let list : (xs ++ map (numbered docBase) i.ys) ++ (record { doc = docBase + d; score = r } ∷ []) ≡ xs ++ map (numbered docBase) (i.ys ++ (z ∷ [])) =
-                append_assoc xs (map (numbered docBase) i.ys) (record { doc = docBase + d; score = r } ∷ []) ∙ ap (λ (y : ScoreDoc). xs ++ (map (numbered docBase) i.ys ++ (y ∷ []))) k ∙ ap (λ (y : List ScoreDoc). xs ++ y) (sym (numbered-append docBase i.ys (z ∷ []))) in
-                subst (λ (y : List ScoreDoc). Collected kk t (docBase + (d + 1)) y start c' heap') list (subst (λ (j : ℕ). Collected kk t j ((xs ++ map (numbered docBase) i.ys) ++ (record { doc = docBase + d; score = r } ∷ [])) start c' heap') bound more);
+                let more = x.extended kk t (doc_base + from) (xs ++ map (numbered doc_base) i.ys) start (omega (arith, l)) (i.collected kk t b₀ xs start a p) in
+                let bound : doc_base + d + 1 ≡ doc_base + (d + 1) = omega arith in
+                let list : (xs ++ map (numbered doc_base) i.ys) ++ (record { doc = doc_base + d; score = r } ∷ []) ≡ xs ++ map (numbered doc_base) (i.ys ++ (z ∷ [])) =
+                append_assoc xs (map (numbered doc_base) i.ys) (record { doc = doc_base + d; score = r } ∷ []) ∙ ap (λ (y : ScoreDoc). xs ++ (map (numbered doc_base) i.ys ++ (y ∷ []))) k ∙ ap (λ (y : List ScoreDoc). xs ++ y) (sym (numbered-append doc_base i.ys (z ∷ []))) in
+                subst (λ (y : List ScoreDoc). Collected kk t (doc_base + (d + 1)) y start c' heap') list (subst (λ (j : ℕ). Collected kk t j ((xs ++ map (numbered doc_base) i.ys) ++ (record { doc = doc_base + d; score = r } ∷ [])) start c' heap') bound more);
           }
 
       -- none is live from here on: all are collected
-      pub sofar-done : (n : ℕ) → from ≤ n → ((d : ℕ) → from ≤ d → liveMatch ix s d ≡ false) → Continued docBase n (liveScored ix s) c₀ heap₀ c heap
+      pub sofar-done : (n : ℕ) → from ≤ n → ((d : ℕ) → from ≤ d → live_match ix s d ≡ false) → Continued doc_base n (live_scored ix s) c₀ heap₀ c heap
       sofar-done n l h =
-          let e : i.ys ≡ liveScored ix s = sym (i.all ∙ ap (λ (z : List ScoreDoc). i.ys ++ z) (none-live from h) ∙ append-nil i.ys) in
+          let e : i.ys ≡ live_scored ix s = sym (i.all ∙ ap (λ (z : List ScoreDoc). i.ys ++ z) (none-live from h) ∙ append-nil i.ys) in
           record {
             continued = λ k t b xs start a p.
-                subst (λ (z : List ScoreDoc). Collected k t (docBase + n) (xs ++ map (numbered docBase) z) start c heap) e
-                (collected-later k t (docBase + from) (docBase + n) (xs ++ map (numbered docBase) i.ys) start c heap (omega (arith, l)) (i.collected k t b xs start a p));
+                subst (λ (z : List ScoreDoc). Collected k t (doc_base + n) (xs ++ map (numbered doc_base) z) start c heap) e
+                (collected-later k t (doc_base + from) (doc_base + n) (xs ++ map (numbered doc_base) i.ys) start c heap (omega (arith, l)) (i.collected k t b xs start a p));
           }

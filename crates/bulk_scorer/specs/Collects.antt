@@ -1,7 +1,7 @@
 -- What a bulk scorer asks and gives: the live documents that a scorer tree matches go to a collector, which comes in and goes out, numbered on from a document base.
 -- Assumes nothing: these are definitions.
 use Rattle.std.specs.Prelude.{◌≡◌, List, ◌++◌, map, ℕ, ◌+◌, ◌≤◌, ℤ, Float}
-use Rattle.meaning.specs.Limits.{noMoreDocs}
+use Rattle.meaning.specs.Limits.{no_more_docs}
 use Rattle.meaning.specs.Lent.{Index}
 use Rattle.meaning.specs.FullList.{ScoreDoc}
 use Rattle.collector.specs.declared.TopScoreDocCollector.{TopScoreDocCollector}
@@ -11,7 +11,7 @@ use Rattle.weight.specs.Held.{Ok}
 use Rattle.weight.specs.Sound.{Lends}
 use Rattle.leaf_scorer.specs.Calls.{Lent}
 use Rattle.leaf_score.specs.Asked.{Scorable}
-use Rattle.walk.specs.Walks.{liveScored}
+use Rattle.walk.specs.Walks.{live_scored}
 use Rattle.window_words.specs.Windowed.{nowhere, Windowed}
 
 -- a tree that is not asked yet and whose scores can be worked out, with these norms and live words
@@ -24,23 +24,23 @@ pub record RootHeld (E : Lent) (norms live : List ℕ) (table : List Float) (ix 
 
 -- a document numbered on from a base
 abbrev pub numbered : ℕ → ScoreDoc → ScoreDoc
-numbered docBase h = record { doc = docBase + h.doc; score = h.score }
+numbered doc_base h = record { doc = doc_base + h.doc; score = h.score }
 
 -- whatever list was collected, of documents below the base, these are now collected after it
-pub record Continued (docBase n : ℕ) (list : List ScoreDoc) (c : TopScoreDocCollector) (heap : List ℤ) (c' : TopScoreDocCollector) (heap' : List ℤ) : Type 0 where
-  pub continued : (k t b : ℕ) (xs : List ScoreDoc) (start : List ℤ) → b ≤ docBase → Collected k t b xs start c heap → Collected k t (docBase + n) (xs ++ map (numbered docBase) list) start c' heap'
+pub record Continued (doc_base n : ℕ) (list : List ScoreDoc) (c : TopScoreDocCollector) (heap : List ℤ) (c' : TopScoreDocCollector) (heap' : List ℤ) : Type 0 where
+  pub continued : (k t b : ℕ) (xs : List ScoreDoc) (start : List ℤ) → b ≤ doc_base → Collected k t b xs start c heap → Collected k t (doc_base + n) (xs ++ map (numbered doc_base) list) start c' heap'
 
 -- some index and tree that the words hold, and a collector whose documents are below the base
 abbrev pub CollectPre : Lent → List ℕ → List ℕ → List Float → ℕ → List ℕ → ℕ → ℕ → TopScoreDocCollector → List ℤ → Type 0
-CollectPre E norms live table places st depth docBase c heap =
-    (docBase + E.documents ≤ noMoreDocs) × Ready docBase c heap × ((ix : Index) × (s : Scorer) × (scores : ℕ) × RootHeld E norms live table ix places s depth scores st)
+CollectPre E norms live table places st depth doc_base c heap =
+    (doc_base + E.documents ≤ no_more_docs) × Ready doc_base c heap × ((ix : Index) × (s : Scorer) × (scores : ℕ) × RootHeld E norms live table ix places s depth scores st)
 
 -- for each of them, the live documents that the tree matches are collected
 abbrev pub CollectPost : Lent → List ℕ → List ℕ → List Float → ℕ → List ℕ → ℕ → ℕ → TopScoreDocCollector → List ℤ → TopScoreDocCollector → List ℤ → Type 0
-CollectPost E norms live table places st depth docBase c heap c' heap' =
-    (ix : Index) (s : Scorer) (scores : ℕ) → RootHeld E norms live table ix places s depth scores st → Continued docBase E.documents (liveScored ix s) c heap c' heap'
+CollectPost E norms live table places st depth doc_base c heap c' heap' =
+    (ix : Index) (s : Scorer) (scores : ℕ) → RootHeld E norms live table ix places s depth scores st → Continued doc_base E.documents (live_scored ix s) c heap c' heap'
 
 -- for each of them, the words still hold the tree, asked for every document
 abbrev pub CollectEnd : Lent → List ℕ → List ℕ → List Float → ℕ → List ℕ → ℕ → List ℕ → Type 0
 CollectEnd E norms live table places st depth st' =
-    (ix : Index) (s : Scorer) (scores : ℕ) → RootHeld E norms live table ix places s depth scores st → Ok ix E.ranges s depth scores st' noMoreDocs
+    (ix : Index) (s : Scorer) (scores : ℕ) → RootHeld E norms live table ix places s depth scores st → Ok ix E.ranges s depth scores st' no_more_docs

@@ -5,7 +5,7 @@ use Prim.Native.Nat.{ℕ, ◌≤◌}
 use lib.ListN.{length}
 use lib.IntN.{ℤ}
 use lib.Ieee.{Float}
-use Rattle.meaning.specs.Limits.{nodeStateWords}
+use Rattle.meaning.specs.Limits.{node_state_words}
 use Rattle.meaning.specs.Lent.{Index}
 use Rattle.collector.specs.declared.TopScoreDocCollector.{TopScoreDocCollector}
 use Rattle.weight.specs.ScorerTree.{Scoring, constant, weighted, Scorer, leaf, boolean}
@@ -24,7 +24,7 @@ node-scores (constant c) s n e f p = (e ∙ p.0, subst (λ (i : ℕ). FloatIs c 
 node-scores (weighted w) s n e f p = (e ∙ p.0, subst (λ (i : ℕ). FloatIs w i) (sym f) p.1)
 
 -- a node's record is there
-pub root-long : (E : Lent) (places depth : ℕ) (norms live : List ℕ) (table : List Float) (st : List ℕ) (ix : Index) (s : Scorer) (scores : ℕ) → PageHeld E norms live table ix places s depth scores st 0 → nodeStateWords ≤ length st
+pub root-long : (E : Lent) (places depth : ℕ) (norms live : List ℕ) (table : List Float) (st : List ℕ) (ix : Index) (s : Scorer) (scores : ℕ) → PageHeld E norms live table ix places s depth scores st 0 → node_state_words ≤ length st
 unfolding Ok
 root-long E places depth norms live table st ix (leaf l sc) m H = words_long st H.ok.1 H.ok.0 H.ok.2
 root-long E places depth norms live table st ix (boolean c j need rs os ps) m H = words_long st (H.ok.1 ++ (H.ok.2 ++ H.ok.3)) H.ok.0 H.ok.4

@@ -1,10 +1,10 @@
 -- What the score of one posting of a term asks. Assumes nothing: these are definitions.
 use Rattle.std.specs.Prelude.{◌≡◌, true, List, ℕ, ◌<◌, Float}
-use Rattle.meaning.specs.Lent.{Index, leafCount, leafField}
-use Rattle.meaning.specs.Postings.{postingAt, found, frequencyOf}
+use Rattle.meaning.specs.Lent.{Index, leaf_count, leaf_field}
+use Rattle.meaning.specs.Postings.{posting_at, found, frequency_of}
 use Rattle.index.specs.Accepted.{Accepted}
 use Rattle.weight.specs.ScorerTree.{term, Scoring, constant, weighted}
-use Rattle.weight.specs.Held.{normsWord, FloatIs}
+use Rattle.weight.specs.Held.{norms_word, FloatIs}
 use Rattle.weight.specs.Sound.{LeafTable}
 use Rattle.leaf_score.specs.declared.Node.{Node}
 
@@ -17,11 +17,11 @@ NodeScores (weighted w) n = (n.constant ≡ 0) × FloatIs w n.weight
 pub record PostingAsks (ix : Index) (table : List Float) (norms : List ℕ) (l : ℕ) (sc : Scoring) (n : Node) (frequency doc : ℕ) : Type 0 where
   pub accepted : Accepted ix
   pub norms-are : ix.norms ≡ norms
-  pub document : doc < ix.maxDoc
-  pub leaf-there : l < leafCount ix
+  pub document : doc < ix.max_doc
+  pub leaf-there : l < leaf_count ix
   pub tables : LeafTable ix table (term l) sc
-  pub field_is : n.field ≡ leafField ix l
-  pub norms-is : n.norms ≡ normsWord ix (leafField ix l)
+  pub field_is : n.field ≡ leaf_field ix l
+  pub norms-is : n.norms ≡ norms_word ix (leaf_field ix l)
   pub scores : NodeScores sc n
-  pub match : found (postingAt ix l doc) ≡ true
-  pub frequency-is : frequency ≡ frequencyOf ix l (postingAt ix l doc)
+  pub match : found (posting_at ix l doc) ≡ true
+  pub frequency-is : frequency ≡ frequency_of ix l (posting_at ix l doc)

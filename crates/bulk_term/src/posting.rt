@@ -2,7 +2,7 @@
 ghost use Rattle.std.specs.Prelude.{◌≡◌, ℕ, ◌^◌};
 ghost use Rattle.meaning.specs.Lent.{Index};
 ghost use Rattle.ieee754.specs.Nonneg.{AtMost};
-ghost use Rattle.weight.specs.ScorerTree.{term, Scoring, leafScore};
+ghost use Rattle.weight.specs.ScorerTree.{term, Scoring, leaf_score};
 ghost use Rattle.bulk_term.specs.Postings.{PostingAsks};
 
 use leaf_score::Node;
@@ -10,7 +10,7 @@ use leaf_score::Node;
 // The term's node and the posting's frequency are read by the caller, once for a run and once for a posting.
 pub fn posting_score(n: Node, norms: &[u8], inverses: &[f32], frequency: u32, doc: u32) -> f32
     requires { (ix : Index) × (l : ℕ) × (sc : Scoring) × PostingAsks ix inverses.now norms.now l sc n frequency doc }
-    ensures { (ix : Index) (l : ℕ) (sc : Scoring) → PostingAsks ix inverses.now norms.now l sc n frequency doc → (result ≡ leafScore ix (term l) sc doc) × AtMost (2 ^ 29) result }
+    ensures { (ix : Index) (l : ℕ) (sc : Scoring) → PostingAsks ix inverses.now norms.now l sc n frequency doc → (result ≡ leaf_score ix (term l) sc doc) × AtMost (2 ^ 29) result }
 {
     if n.constant == 1 {
         return f32::from_bits(n.weight);

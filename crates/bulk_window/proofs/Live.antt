@@ -1,18 +1,18 @@
 -- The live word of a window, and its cut at the number of documents. Assumes nothing.
 use Rattle.std.proofs.Common.{◌≡◌, refl, sym, ap, ◌∙◌, Bool, true, false, ◌&&◌, List, ℕ, ◌+◌, ◌-◌, ◌/◌, ◌%◌, ◌≤◌, ◌<◌, eqb, ltb, length, get_or, arith, lt-ltb, le-ltb, ne_eqb}
-use Rattle.meaning.specs.Live.{isLive}
-use Rattle.index.specs.Slices.{liveOnly}
+use Rattle.meaning.specs.Live.{is_live}
+use Rattle.index.specs.Slices.{live_only}
 use Rattle.meaning.proofs.Tests.{cmp}
 use mathlib.Core.Logic.{⊎_elim}
 use Rattle.bits.specs.Bit.{bit}
 use Rattle.bits.proofs.Laws.{bit-tested}
 
-pub all-live : (live : List ℕ) (d : ℕ) → length live ≡ 0 → isLive (liveOnly live) d ≡ true
-unfolding isLive
+pub all-live : (live : List ℕ) (d : ℕ) → length live ≡ 0 → is_live (live_only live) d ≡ true
+unfolding is_live
 all-live live d e = rw e refl
 
-pub word-live : (live : List ℕ) (base p : ℕ) → base % 64 ≡ 0 → p < 64 → (length live ≡ 0 → ⊥) → bit p (get_or live (base / 64) 0) ≡ isLive (liveOnly live) (base + p)
-unfolding isLive
+pub word-live : (live : List ℕ) (base p : ℕ) → base % 64 ≡ 0 → p < 64 → (length live ≡ 0 → ⊥) → bit p (get_or live (base / 64) 0) ≡ is_live (live_only live) (base + p)
+unfolding is_live
 word-live live base p e h n =
     let q : (base + p) / 64 ≡ base / 64 = omega arith in
     let r : (base + p) % 64 ≡ p = omega arith in

@@ -6,7 +6,7 @@ use mathlib.Core.Bool.{false≢true}
 use native.Mathlib.Nat.{eq-or-lt_of_le}
 use Rattle.meaning.proofs.Tests.{cmp}
 use Rattle.meaning.specs.FullList.{ScoreDoc}
-use Rattle.bits.specs.Bit.{bit, setBits, LowestBit}
+use Rattle.bits.specs.Bit.{bit, set_bits, LowestBit}
 use Rattle.bits.proofs.Lists.{none-left}
 use Rattle.collector.specs.declared.TopScoreDocCollector.{TopScoreDocCollector}
 use Rattle.collector.specs.Collected.{Collected, Ready, Extended}
@@ -38,7 +38,7 @@ module _ (first : ℕ) (score : ℕ → Float) (places : ℕ) (c₀ : TopScoreDo
   pub record PlacesAt (left : ℕ) (c : TopScoreDocCollector) (heap : List ℤ) : Type 0 where
     pub ds : List ℕ
     pub from : ℕ
-    pub whole : setBits places ≡ ds ++ setBits left
+    pub whole : set_bits places ≡ ds ++ set_bits left
     pub part : (p : ℕ) → p < 64 → bit p left ≡ true → (from ≤ p) × (bit p places ≡ true)
     pub few : (n : ℕ) → PlacesBelow n places → from ≤ n
     pub collected : (k t b : ℕ) (xs : List ScoreDoc) (start : List ℤ) → b ≤ first → Collected k t b xs start c₀ heap₀ → Collected k t (first + from) (xs ++ map (numbered first) (map (at score) ds)) start c heap
@@ -68,13 +68,13 @@ module _ (first : ℕ) (score : ℕ → Float) (places : ℕ) (c₀ : TopScoreDo
         }
 
     -- one more place
-    pub places-take : (p left' : ℕ) → LowestBit left p → setBits left ≡ p ∷ setBits left' → ((q : ℕ) → bit q left' ≡ bit q left && not (eqb q p)) → (c' : TopScoreDocCollector) (heap' : List ℤ) → Extended (record { doc = first + p; score = score p }) c heap c' heap' → PlacesAt left' c' heap'
+    pub places-take : (p left' : ℕ) → LowestBit left p → set_bits left ≡ p ∷ set_bits left' → ((q : ℕ) → bit q left' ≡ bit q left && not (eqb q p)) → (c' : TopScoreDocCollector) (heap' : List ℤ) → Extended (record { doc = first + p; score = score p }) c heap c' heap' → PlacesAt left' c' heap'
     places-take p left' L listed others c' heap' x =
         let here = i.part p L.within L.set in
         record {
           ds = i.ds ++ (p ∷ []);
           from = p + 1;
-          whole = i.whole ∙ ap (λ (l : List ℕ). i.ds ++ l) listed ∙ sym (append_assoc i.ds (p ∷ []) (setBits left'));
+          whole = i.whole ∙ ap (λ (l : List ℕ). i.ds ++ l) listed ∙ sym (append_assoc i.ds (p ∷ []) (set_bits left'));
           part = λ q h e.
               let old = and-left (bit q left) (not (eqb q p)) (sym (others q) ∙ e) in
               (⊎_elim (λ (g : q < p). absurd (false≢true (sym (L.below q g) ∙ old))) (λ (g : p ≤ q). ⊎_elim (λ (s : p ≡ q). absurd (false≢true (sym (ap not (eq-eqb q p (sym s))) ∙ and-right (bit q left) (not (eqb q p)) (sym (others q) ∙ e)))) (λ (s : suc p ≤ q). omega (arith, s)) (eq-or-lt_of_le g)) (cmp q p), (i.part q h old).1);
@@ -90,7 +90,7 @@ module _ (first : ℕ) (score : ℕ → Float) (places : ℕ) (c₀ : TopScoreDo
     -- all are done
     pub places-done : left ≡ 0 → (n : ℕ) → PlacesBelow n places → Continued first n (placed score places) c₀ heap₀ c heap
     places-done e n h =
-        let all : setBits places ≡ i.ds = i.whole ∙ ap (λ (w : ℕ). i.ds ++ setBits w) e ∙ ap (λ (l : List ℕ). i.ds ++ l) none-left ∙ append-nil i.ds in
+        let all : set_bits places ≡ i.ds = i.whole ∙ ap (λ (w : ℕ). i.ds ++ set_bits w) e ∙ ap (λ (l : List ℕ). i.ds ++ l) none-left ∙ append-nil i.ds in
         record {
           continued = λ k t b xs start l z.
               subst (λ (y : List ℕ). Collected k t (first + n) (xs ++ map (numbered first) (map (at score) y)) start c heap) (sym all)
@@ -102,7 +102,7 @@ pub places-none : (first : ℕ) (score : ℕ → Float) (places n : ℕ) (c : To
 places-none first score places n c heap e =
     record {
       continued = λ k t b xs start l z.
-          let none : setBits places ≡ [] = ap setBits e ∙ none-left in
+          let none : set_bits places ≡ [] = ap set_bits e ∙ none-left in
           subst (λ (y : List ℕ). Collected k t (first + n) (xs ++ map (numbered first) (map (at score) y)) start c heap) (sym none)
           (subst (λ (y : List ScoreDoc). Collected k t (first + n) y start c heap) (sym (append-nil xs)) (collected-later k t b (first + n) xs start c heap (omega (arith, l)) z));
     }

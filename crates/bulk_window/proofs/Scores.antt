@@ -7,10 +7,10 @@ use lib.ListN.{replicate, get_or-replicate}
 use Rattle.bits.specs.Bit.{bit}
 use Rattle.meaning.proofs.Tests.{decided}
 use Rattle.meaning.specs.Lent.{Index}
-use Rattle.meaning.specs.Ieee754.{zeroFloat}
-use Rattle.ieee754.specs.Nonneg.{signClear}
+use Rattle.meaning.specs.Ieee754.{zero_float}
+use Rattle.ieee754.specs.Nonneg.{sign_clear}
 use Rattle.index.specs.Accepted.{Accepted}
-use Rattle.weight.specs.ScorerTree.{Scorer, scorerScore}
+use Rattle.weight.specs.ScorerTree.{Scorer, scorer_score}
 use Rattle.weight.specs.Sound.{Sound, nodes}
 use Rattle.weight.proofs.Weights.{Weighted}
 use Rattle.score.proofs.Small.{score-small}
@@ -18,11 +18,11 @@ use Rattle.bulk_scorer.proofs.Sofar.{nonneg-clear}
 use Rattle.window_score.specs.Sums.{Zeros, NarrowedIs}
 use Rattle.bulk_window.specs.Windows.{Cleared}
 
-pub score-clear : (ix : Index) (A : Accepted ix) (places : ℕ) (s : Scorer) (w : Weighted s) (h : Sound ix places s) (few : nodes s ≤ 256) (d : ℕ) (x : Float) → x ≡ scorerScore ix s d → T (signClear x)
-score-clear ix A places s w h few d x e = subst (λ (z : Float). T (signClear z)) (sym e) (nonneg-clear (scorerScore ix s d) (score-small ix A places d s w h few).sign)
+pub score-clear : (ix : Index) (A : Accepted ix) (places : ℕ) (s : Scorer) (w : Weighted s) (h : Sound ix places s) (few : nodes s ≤ 256) (d : ℕ) (x : Float) → x ≡ scorer_score ix s d → T (sign_clear x)
+score-clear ix A places s w h few d x e = subst (λ (z : Float). T (sign_clear z)) (sym e) (nonneg-clear (scorer_score ix s d) (score-small ix A places d s w h few).sign)
 
 -- 64 sums that are 0
-pub zeros : (zero : Float) → zero ≡ zeroFloat → Zeros (replicate 64 zero)
+pub zeros : (zero : Float) → zero ≡ zero_float → Zeros (replicate 64 zero)
 zeros zero e = record { long = refl; zero = λ p h. get_or-replicate 64 p zero nan h ∙ e }
 
 -- and are so again once those of the window are collected

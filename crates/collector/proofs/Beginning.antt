@@ -10,7 +10,7 @@ use lib.IntN.{ℤ}
 use lib.Ieee.{binary32, of_bits}
 use Rattle.meaning.specs.FullList.{ScoreDoc}
 use Rattle.meaning.specs.Hits.{descending, hits}
-use Rattle.meaning.specs.Entries.{written, topDocs}
+use Rattle.meaning.specs.Entries.{written, top_docs}
 use Rattle.collector.specs.declared.TopScoreDocCollector.{TopScoreDocCollector}
 use Rattle.collector.specs.declared.TopDocs.{TopDocs}
 use Rattle.collector.specs.State.{competitive}
@@ -76,7 +76,7 @@ ready_at k t b list start c heap doc e s = record {
 
 -- ---- the answer
 -- the answer has the numbers of document 01
-pub answer-numbers : (k t : ℕ) (list : List ScoreDoc) → numbers (answer k t list) ≡ topDocs k t list
+pub answer-numbers : (k t : ℕ) (list : List ScoreDoc) → numbers (answer k t list) ≡ top_docs k t list
 answer-numbers k t list = refl
 
 abbrev made : ℕ → ℕ → Bool → TopDocs

@@ -12,7 +12,7 @@ use lib.Signed.{mag, shr_z}
 use mir.Syntax.{w32, w64}
 use mir.Val.{SFits, of_z, to_z}
 use mir.ValLaws.{to_z_pos, to_z-neg, to_z-of_z}
-use Rattle.meaning.specs.Ieee754.{sortableInt, sortableBits}
+use Rattle.meaning.specs.Ieee754.{sortable_int, sortable_bits}
 use Rattle.meaning.specs.Hits.{low_word}
 
 abbrev half : ℕ
@@ -32,12 +32,12 @@ same-mod : (m b : ℕ) → m < b → b ≡ full → m % full ≡ m
 same-mod m b h e = omega arith
 
 -- ---- sortable bits of a pattern
-pub sortable-clear : (b : ℕ) → b < 2 ^ 31 → sortableInt b ≡ pos b
-unfolding sortableInt
+pub sortable-clear : (b : ℕ) → b < 2 ^ 31 → sortable_int b ≡ pos b
+unfolding sortable_int
 sortable-clear b h = ap (λ (t : Bool). cond t (negsuc (b % 2 ^ 31)) (pos b)) (lt-leb (2 ^ 31) b h)
 
-pub sortable-set : (b : ℕ) → 2 ^ 31 ≤ b → sortableInt b ≡ negsuc (b % 2 ^ 31)
-unfolding sortableInt
+pub sortable-set : (b : ℕ) → 2 ^ 31 ≤ b → sortable_int b ≡ negsuc (b % 2 ^ 31)
+unfolding sortable_int
 sortable-set b h = ap (λ (t : Bool). cond t (negsuc (b % 2 ^ 31)) (pos b)) (le-leb (2 ^ 31) b h)
 
 pub clear-or-set : (b : ℕ) → (b < 2 ^ 31) ⊎ (2 ^ 31 ≤ b)
@@ -58,7 +58,7 @@ sign_fits b k = elim (clear-or-set b) [
   | inr h ↦ subst (λ (s : ℕ). SFits w32 (pos 0 -ℤ to_z w32 s)) (sym (sign_set b h k)) (record { sfits = omega arith })
 ]
 
-pub turned : (b : ℕ) → b < 2 ^ 32 → to_z w32 (bit_xor (of_z w32 (pos 0 -ℤ to_z w32 (b / half))) (bit_and b 2147483647)) ≡ sortableInt b
+pub turned : (b : ℕ) → b < 2 ^ 32 → to_z w32 (bit_xor (of_z w32 (pos 0 -ℤ to_z w32 (b / half))) (bit_and b 2147483647)) ≡ sortable_int b
 turned b k =
     ap (λ (m : ℕ). to_z w32 (bit_xor (of_z w32 (pos 0 -ℤ to_z w32 (b / half))) m)) (and_mask b 31)
     ∙ elim (clear-or-set b) [
@@ -112,8 +112,8 @@ pub flag-fits : (i : ℤ) → flag i < 2
 flag-fits (pos n) = omega arith
 flag-fits (negsuc n) = omega arith
 
-pub pattern-is : (i : ℤ) → SFits w32 i → bit_or (flag i * half % full) (mag i) ≡ sortableBits i
-unfolding sortableBits
+pub pattern-is : (i : ℤ) → SFits w32 i → bit_or (flag i * half % full) (mag i) ≡ sortable_bits i
+unfolding sortable_bits
 pattern-is (pos n) f = or_zero_l n
 pattern-is (negsuc n) f = or_shifted 1 31 n f.sfits
 

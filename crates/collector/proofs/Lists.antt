@@ -11,17 +11,17 @@ use lib.ListN.{length, length-append}
 use lib.IntN.{ℤ, pos}
 use lib.Signed.{shr_z}
 use lib.Ieee.{Float, binary32, fits, nan_bits, to_bits}
-use Rattle.meaning.specs.Ieee754.{sortableBits}
+use Rattle.meaning.specs.Ieee754.{sortable_bits}
 use Rattle.meaning.specs.FullList.{ScoreDoc}
-use Rattle.meaning.specs.Hits.{code, toScore, hits}
-use Rattle.ieee754.specs.Nonneg.{signClear}
+use Rattle.meaning.specs.Hits.{code, to_score, hits}
+use Rattle.ieee754.specs.Nonneg.{sign_clear}
 use Rattle.ieee754.proofs.Patterns.{clear-number}
 use Rattle.collector.specs.Heap.{at}
 use Rattle.collector.specs.Collected.{Scored, AllScored, Listed}
 use Rattle.collector.proofs.Counts.{count, Alike, in-head-or-tail, count-take, counted}
 use Rattle.collector.proofs.Sorted.{count-descending}
 use Rattle.collector.proofs.Best.{ranked, hits-is}
-use Rattle.collector.proofs.Ranked.{scoreBits, toScore-code, code-number}
+use Rattle.collector.proofs.Ranked.{score_bits, to_score-code, code-number}
 
 pub all-below : (b b' : ℕ) (list : List ScoreDoc) → b ≤ b' → AllScored b list → AllScored b' list
 all-below b b' [] l s = tt
@@ -34,7 +34,7 @@ all-last b (g ∷ gs) h s t = (s.0, all-last b gs h s.1 t)
 pub one-longer : (list : List ScoreDoc) (h : ScoreDoc) → length (list ++ (h ∷ [])) ≡ length list + 1
 one-longer list h = length-append list (h ∷ [])
 
-pub scored-new : (h : ScoreDoc) → T (fits binary32 h.score) → T (signClear h.score) → Scored (h.doc + 1) h
+pub scored-new : (h : ScoreDoc) → T (fits binary32 h.score) → T (sign_clear h.score) → Scored (h.doc + 1) h
 scored-new h F p = record { below = omega arith; fits = F; clear = p }
 
 pub listed-extended : (b : ℕ) (list : List ScoreDoc) (h : ScoreDoc) → Listed b list → b ≤ h.doc → Scored (h.doc + 1) h → Listed (h.doc + 1) (list ++ (h ∷ []))
@@ -62,17 +62,17 @@ held-from k b list xs s a i h =
     (omega (arith, counted xs i (pos 0) h, a.counts x, ap (count x) (hits-is k list), count-take x k (ranked list), count-descending x (map code list)))
 
 module _ (b : ℕ) (m : ℤ) (f : From b m) where
-  pub from-score : toScore m ≡ f.source.score
-  from-score = ap toScore f.is ∙ toScore-code f.source f.scored.fits
+  pub from-score : to_score m ≡ f.source.score
+  from-score = ap to_score f.is ∙ to_score-code f.source f.scored.fits
 
-  pub from-fits : T (fits binary32 (toScore m))
+  pub from-fits : T (fits binary32 (to_score m))
   from-fits = subst (λ (x : Float). T (fits binary32 x)) (sym from-score) f.scored.fits
 
-  pub from-clear : T (signClear (toScore m))
-  from-clear = subst (λ (x : Float). T (signClear x)) (sym from-score) f.scored.clear
+  pub from-clear : T (sign_clear (to_score m))
+  from-clear = subst (λ (x : Float). T (sign_clear x)) (sym from-score) f.scored.clear
 
-  pub from_bits : to_bits binary32 (toScore m) ≡ scoreBits f.source
+  pub from_bits : to_bits binary32 (to_score m) ≡ score_bits f.source
   from_bits = ap (to_bits binary32) from-score
 
-  pub from-number : T (not (nan_bits binary32 (sortableBits (shr_z m (2 ^ 32)))))
-  from-number = subst (λ (z : ℤ). T (not (nan_bits binary32 (sortableBits (shr_z z (2 ^ 32)))))) (sym f.is) (code-number f.source f.scored.fits (clear-number f.source.score f.scored.clear))
+  pub from-number : T (not (nan_bits binary32 (sortable_bits (shr_z m (2 ^ 32)))))
+  from-number = subst (λ (z : ℤ). T (not (nan_bits binary32 (sortable_bits (shr_z z (2 ^ 32)))))) (sym f.is) (code-number f.source f.scored.fits (clear-number f.source.score f.scored.clear))

@@ -5,17 +5,17 @@ use Rattle.std.specs.Float.{binary32}
 use Rattle.meaning.specs.FullList.{ScoreDoc}
 use Rattle.meaning.specs.Hits.{descending, hits, mark}
 use Rattle.meaning.specs.Entries.{written}
-use Rattle.ieee754.specs.Nonneg.{signClear}
+use Rattle.ieee754.specs.Nonneg.{sign_clear}
 use Rattle.collector.specs.declared.TopScoreDocCollector.{TopScoreDocCollector}
 use Rattle.collector.specs.declared.TopDocs.{TopDocs}
 use Rattle.collector.specs.Heap.{MinHeap}
-use Rattle.collector.specs.State.{topScore, competitive}
+use Rattle.collector.specs.State.{top_score, competitive}
 
 -- a document below b, with an f32 score that is no NaN's and has a clear sign: plus infinity too, minus zero not
 pub record Scored (b : ℕ) (h : ScoreDoc) : Type 0 where
   pub below : h.doc < b
   pub fits : T (fits binary32 h.score)
-  pub clear : T (signClear h.score)
+  pub clear : T (sign_clear h.score)
 
 -- each of a list is such a document
 abbrev pub AllScored : ℕ → List ScoreDoc → Type 0
@@ -40,7 +40,7 @@ pub record Collected (k t b : ℕ) (list : List ScoreDoc) (start : List ℤ) (c 
   pub best : descending (take c.held heap) ≡ hits k list
   pub heaped : MinHeap (take c.held heap)
   pub rest : drop c.held heap ≡ drop c.held start
-  pub top : c.top_score ≡ topScore c.held heap
+  pub top : c.top_score ≡ top_score c.held heap
   pub least : c.min_competitive_score ≡ competitive (mark k t (length list)) c.top_score
   pub marked : c.hits_lower_bound ≡ mark k t (length list)
 

@@ -2,18 +2,18 @@
 use Rattle.std.specs.Prelude.{Bool, true, cond, ◌&&◌, List, ℕ, ◌+◌, ltb, eqb, length, ℤ, Float}
 use Rattle.std.specs.Float.{inf}
 use Rattle.std.specs.Float.Ieee.{lt}
-use Rattle.meaning.specs.Ieee754.{zeroFloat, nextUp}
-use Rattle.meaning.specs.Hits.{toScore}
+use Rattle.meaning.specs.Ieee754.{zero_float, next_up}
+use Rattle.meaning.specs.Hits.{to_score}
 use Rattle.collector.specs.declared.TopScoreDocCollector.{TopScoreDocCollector}
 use Rattle.collector.specs.Heap.{at}
 
 -- minus infinity until every place is held, and from then on the score of the least code
-abbrev pub topScore : ℕ → List ℤ → Float
-topScore held heap = cond (ltb held (length heap)) (inf true) (toScore (at heap 0))
+abbrev pub top_score : ℕ → List ℤ → Float
+top_score held heap = cond (ltb held (length heap)) (inf true) (to_score (at heap 0))
 
 -- 0 until the mark is set, and from then on the next score above `top`
 abbrev pub competitive : Bool → Float → Float
-competitive marked top = cond marked (nextUp top) zeroFloat
+competitive marked top = cond marked (next_up top) zero_float
 
 -- one more hit, with so many held and this top score
 abbrev pub counted : TopScoreDocCollector → ℕ → Float → TopScoreDocCollector
@@ -23,8 +23,8 @@ counted c held top =
 -- past the threshold, the next score above the top score is the least competitive one, and the count a lower bound
 abbrev pub updated : TopScoreDocCollector → TopScoreDocCollector
 updated c =
-    cond (ltb c.total_hits_threshold c.total_hits && lt c.min_competitive_score (nextUp c.top_score))
-    (record { held = c.held; total_hits = c.total_hits; total_hits_threshold = c.total_hits_threshold; top_score = c.top_score; min_competitive_score = nextUp c.top_score; hits_lower_bound = true })
+    cond (ltb c.total_hits_threshold c.total_hits && lt c.min_competitive_score (next_up c.top_score))
+    (record { held = c.held; total_hits = c.total_hits; total_hits_threshold = c.total_hits_threshold; top_score = c.top_score; min_competitive_score = next_up c.top_score; hits_lower_bound = true })
     c
 
 -- a document that does not enter: only the first one past the threshold can change the mark

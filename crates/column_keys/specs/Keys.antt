@@ -1,39 +1,39 @@
 -- Values of a column as numbers in their order, and the ends of a range among them. Assumes nothing: these are definitions.
 use Rattle.std.specs.Prelude.{Bool, true, cond, ◌&&◌, ◌||◌, List, ℕ, ◌+◌, ◌-◌, ◌/◌, ◌%◌, ◌^◌, eqb, leb, ltb, get_or}
 use Rattle.meaning.specs.Lent.{joined}
-use Rattle.meaning.specs.Range.{endGood}
-use Rattle.ieee754.specs.TotalOrder.{totalKey}
+use Rattle.meaning.specs.Range.{end_good}
+use Rattle.ieee754.specs.TotalOrder.{total_key}
 
 -- the number in whose order i64 patterns lie: the sign bit turned over
-unfoldable pub i64Key : ℕ → ℕ
-i64Key bits = cond (ltb bits (2 ^ 63)) (bits + 2 ^ 63) (bits - 2 ^ 63)
+unfoldable pub i64_key : ℕ → ℕ
+i64_key bits = cond (ltb bits (2 ^ 63)) (bits + 2 ^ 63) (bits - 2 ^ 63)
 
 -- a value's key by its column's type, 0 for i64 and 1 for f64
-unfoldable pub valueKey : ℕ → ℕ → ℕ
-valueKey type bits = cond (eqb type 0) (i64Key bits) (totalKey bits)
+unfoldable pub value_key : ℕ → ℕ → ℕ
+value_key type bits = cond (eqb type 0) (i64_key bits) (total_key bits)
 
 -- k lies from one key to another, both included
 abbrev pub between : ℕ → ℕ → ℕ → Bool
 between from to k = leb from k && leb k to
 
 -- "0 is unbounded, 1 included, 2 excluded": k against the key of the lower end
-unfoldable pub keyAtLower : ℕ → ℕ → ℕ → Bool
-keyAtLower kind end k = cond (eqb kind 0) true (cond (eqb kind 1) (leb end k) (ltb end k))
+unfoldable pub key_at_lower : ℕ → ℕ → ℕ → Bool
+key_at_lower kind end k = cond (eqb kind 0) true (cond (eqb kind 1) (leb end k) (ltb end k))
 
 -- and against that of the upper end
-unfoldable pub keyAtUpper : ℕ → ℕ → ℕ → Bool
-keyAtUpper kind end k = cond (eqb kind 0) true (cond (eqb kind 1) (leb k end) (ltb k end))
+unfoldable pub key_at_upper : ℕ → ℕ → ℕ → Bool
+key_at_upper kind end k = cond (eqb kind 0) true (cond (eqb kind 1) (leb k end) (ltb k end))
 
 -- the keys of a column's numbers: in an f64 column those from the key of −infinity to that of +infinity, in an i64 column all
-unfoldable pub numberKey : ℕ → ℕ → Bool
-numberKey type k = eqb type 0 || between (totalKey 0xfff0_0000_0000_0000) (totalKey 0x7ff0_0000_0000_0000) k
+unfoldable pub number_key : ℕ → ℕ → Bool
+number_key type k = eqb type 0 || between (total_key 0xfff0_0000_0000_0000) (total_key 0x7ff0_0000_0000_0000) k
 
 -- the keys that a range lets in: those of numbers, where no given end is NaN, within both ends
-abbrev pub rangeKey : ℕ → ℕ → ℕ → ℕ → ℕ → Bool
-rangeKey type kinds lower upper k =
-    numberKey type k && endGood (kinds % 3) type lower && endGood (kinds / 3) type upper && keyAtLower (kinds % 3) (valueKey type lower) k && keyAtUpper (kinds / 3) (valueKey type upper) k
+abbrev pub range_key : ℕ → ℕ → ℕ → ℕ → ℕ → Bool
+range_key type kinds lower upper k =
+    number_key type k && end_good (kinds % 3) type lower && end_good (kinds / 3) type upper && key_at_lower (kinds % 3) (value_key type lower) k && key_at_upper (kinds / 3) (value_key type upper) k
 
 -- the value whose three words stand at `at` is present and its key lies between the two
-unfoldable pub valueIn : List ℕ → ℕ → ℕ → ℕ → ℕ → Bool
-valueIn values at type from to =
-    eqb (get_or values at 0) 1 && between from to (valueKey type (joined (get_or values (at + 1) 0) (get_or values (at + 2) 0)))
+unfoldable pub value_in : List ℕ → ℕ → ℕ → ℕ → ℕ → Bool
+value_in values at type from to =
+    eqb (get_or values at 0) 1 && between from to (value_key type (joined (get_or values (at + 1) 0) (get_or values (at + 2) 0)))

@@ -3,8 +3,8 @@
 
 ghost use Rattle.std.specs.Prelude.{ℕ, ◌+◌, ◌/◌, ◌%◌, ◌^◌, ◌≤◌, ◌<◌, max, min, ◌≡◌, ◌&&◌, length};
 ghost use Rattle.meaning.specs.Lent.{joined};
-ghost use Rattle.meaning.specs.Range.{failed, endGood};
-ghost use Rattle.column_keys.specs.Keys.{i64Key, valueKey, between, keyAtLower, keyAtUpper, numberKey, rangeKey, valueIn};
+ghost use Rattle.meaning.specs.Range.{failed, end_good};
+ghost use Rattle.column_keys.specs.Keys.{i64_key, value_key, between, key_at_lower, key_at_upper, number_key, range_key, value_in};
 
 // A 64-bit pattern from its low and its high half.
 pub fn joined(low: u32, high: u32) -> u64
@@ -15,14 +15,14 @@ pub fn joined(low: u32, high: u32) -> u64
 
 // The sign bit turned over: i64 patterns in their order as unsigned numbers.
 fn i64_key(bits: u64) -> u64
-    ensures { result ≡ i64Key bits }
+    ensures { result ≡ i64_key bits }
 {
     bits ^ 0x8000_0000_0000_0000
 }
 
 // A value's place in the order of its column's type: 0 for i64, 1 for f64.
 fn value_key(column_type: u32, bits: u64) -> u64
-    ensures { result ≡ valueKey column_type bits }
+    ensures { result ≡ value_key column_type bits }
 {
     if column_type == 0 {
         i64_key(bits)
@@ -40,7 +40,7 @@ pub struct Keys {
 
 // The keys that a lower end lets in: 0 is unbounded, 1 included, 2 excluded; above the largest key lies none.
 fn lower_keys(lower_kind: u32, lower: u64) -> Keys
-    ensures { (k : ℕ) → k < 2 ^ 64 → between result.from result.to k ≡ keyAtLower lower_kind lower k }
+    ensures { (k : ℕ) → k < 2 ^ 64 → between result.from result.to k ≡ key_at_lower lower_kind lower k }
 {
     if lower_kind == 0 {
         Keys {
@@ -64,7 +64,7 @@ fn lower_keys(lower_kind: u32, lower: u64) -> Keys
 
 // The keys that an upper end lets in: 0 is unbounded, 1 included, 2 excluded; below key 0 lies none.
 fn upper_keys(upper_kind: u32, upper: u64) -> Keys
-    ensures { (k : ℕ) → k < 2 ^ 64 → between result.from result.to k ≡ keyAtUpper upper_kind upper k }
+    ensures { (k : ℕ) → k < 2 ^ 64 → between result.from result.to k ≡ key_at_upper upper_kind upper k }
 {
     if upper_kind == 0 {
         Keys {
@@ -99,7 +99,7 @@ fn smaller(a: u64, b: u64) -> u64
 
 // Both ends at once: the kinds are the lower one's + 3 × the upper one's.
 fn end_keys(column_type: u32, kinds: u32, lower: u64, upper: u64) -> Keys
-    ensures { (k : ℕ) → k < 2 ^ 64 → between result.from result.to k ≡ (keyAtLower (kinds % 3) (valueKey column_type lower) k && keyAtUpper (kinds / 3) (valueKey column_type upper) k) }
+    ensures { (k : ℕ) → k < 2 ^ 64 → between result.from result.to k ≡ (key_at_lower (kinds % 3) (value_key column_type lower) k && key_at_upper (kinds / 3) (value_key column_type upper) k) }
 {
     let above = lower_keys(kinds % 3, value_key(column_type, lower));
     let below = upper_keys(kinds / 3, value_key(column_type, upper));
@@ -118,14 +118,14 @@ fn failed(column_type: u32, bits: u64) -> bool
 
 // Whether an end is unbounded or a number.
 fn end_good(kind: u32, column_type: u32, bits: u64) -> bool
-    ensures { result ≡ endGood kind column_type bits }
+    ensures { result ≡ end_good kind column_type bits }
 {
     (kind == 0) | !failed(column_type, bits)
 }
 
 // The keys of a column's numbers: NaNs lie below that of −infinity and above that of +infinity.
 fn number_keys(column_type: u32) -> Keys
-    ensures { (k : ℕ) → k < 2 ^ 64 → between result.from result.to k ≡ numberKey column_type k }
+    ensures { (k : ℕ) → k < 2 ^ 64 → between result.from result.to k ≡ number_key column_type k }
 {
     if column_type != 0 {
         Keys {
@@ -143,7 +143,7 @@ fn number_keys(column_type: u32) -> Keys
 // The keys of the numbers that a range lets in: none where a given end is no number.
 // The scan is lent an interval and nothing else, so it has no test for NaN.
 pub fn range_keys(column_type: u32, kinds: u32, lower: u64, upper: u64) -> Keys
-    ensures { (k : ℕ) → k < 2 ^ 64 → between result.from result.to k ≡ rangeKey column_type kinds lower upper k }
+    ensures { (k : ℕ) → k < 2 ^ 64 → between result.from result.to k ≡ range_key column_type kinds lower upper k }
 {
     let lower_good = end_good(kinds % 3, column_type, lower);
     let upper_good = end_good(kinds / 3, column_type, upper);
@@ -162,7 +162,7 @@ pub fn range_keys(column_type: u32, kinds: u32, lower: u64, upper: u64) -> Keys
 // Whether the value at this word is there and its key lies between the two: three tests and no branch.
 pub fn value_in(values: &[u32], at: usize, column_type: u32, from: u64, to: u64) -> bool
     requires { at + 3 ≤ length values.now }
-    ensures { result ≡ valueIn values.now at column_type from to }
+    ensures { result ≡ value_in values.now at column_type from to }
 {
     let key = value_key(column_type, joined(values[at + 1], values[at + 2]));
     (values[at] == 1) & ((from <= key) & (key <= to))

@@ -8,7 +8,7 @@ use lib.Dec.{lit<}
 use Rattle.meaning.specs.Lent.{Index}
 use Rattle.meaning.specs.Refusals.{Condition, lowest}
 use Rattle.meaning.specs.CallRefusals.{Work}
-use Rattle.meaning.specs.Entries.{orderConditions, searchRefusal, pageRefusal}
+use Rattle.meaning.specs.Entries.{order_conditions, search_refusal, page_refusal}
 use Rattle.index.proofs.Refused.{Numbered}
 use Rattle.index.proofs.Accepted.{accepted}
 use Rattle.weight.specs.Measured.{Asks}
@@ -37,7 +37,7 @@ none_first (c ∷ cs) ds e = go c.holds refl (none_first cs ds)
 
 pub accepts-asks : (ix : Index) (q : List ℕ) → Accepts ix q → Asks ix q
 accepts-asks ix q a =
-    let n = none-holds (orderConditions ix q) (lit< tt, (lit< tt, (lit< tt, (lit< tt, (lit< tt, (lit< tt, (lit< tt, (lit< tt, (lit< tt, (lit< tt, tt)))))))))) a in
+    let n = none-holds (order_conditions ix q) (lit< tt, (lit< tt, (lit< tt, (lit< tt, (lit< tt, (lit< tt, (lit< tt, (lit< tt, (lit< tt, (lit< tt, tt)))))))))) a in
     let from7 = n.1.1.1.1.1.1 in
     record {
       accepted = accepted ix n.0 n.1.0 n.1.1.0 n.1.1.1.0 n.1.1.1.1.0 n.1.1.1.1.1.0;
@@ -48,11 +48,11 @@ accepts-asks ix q a =
     }
 
 -- a call of Search that is not refused has an accepted index and query
-pub search-accepts : (ix : Index) (q : List ℕ) (k : ℕ) (w : Work) (places : ℕ) → searchRefusal ix q k w places ≡ 0 → Accepts ix q
-unfolding searchRefusal
-search-accepts ix q k w places r = none_first (orderConditions ix q) _ r
+pub search-accepts : (ix : Index) (q : List ℕ) (k : ℕ) (w : Work) (places : ℕ) → search_refusal ix q k w places ≡ 0 → Accepts ix q
+unfolding search_refusal
+search-accepts ix q k w places r = none_first (order_conditions ix q) _ r
 
 -- .. and so does one of Page
-pub page-accepts : (ix : Index) (q : List ℕ) (target : ℕ) (w : Work) (documents scores : ℕ) → pageRefusal ix q target w documents scores ≡ 0 → Accepts ix q
-unfolding pageRefusal
-page-accepts ix q target w documents scores r = none_first (orderConditions ix q) _ r
+pub page-accepts : (ix : Index) (q : List ℕ) (target : ℕ) (w : Work) (documents scores : ℕ) → page_refusal ix q target w documents scores ≡ 0 → Accepts ix q
+unfolding page_refusal
+page-accepts ix q target w documents scores r = none_first (order_conditions ix q) _ r

@@ -11,25 +11,25 @@ use lib.Dec.{T}
 use lib.ListN.{length, get_or}
 use lib.Ieee.{Float, binary32, fits}
 use lib.Ieee.Bits.{of_bits-fits}
-use Rattle.meaning.specs.Limits.{noMoreDocs}
-use Rattle.meaning.specs.Below.{listTo}
+use Rattle.meaning.specs.Limits.{no_more_docs}
+use Rattle.meaning.specs.Below.{list_to}
 use Rattle.meaning.specs.Lent.{Index}
-use Rattle.meaning.specs.Live.{isLive}
+use Rattle.meaning.specs.Live.{is_live}
 use Rattle.meaning.specs.Bm25.{one}
-use Rattle.meaning.specs.Query.{Tree, queryTree}
-use Rattle.meaning.specs.Scorer.{hasScorer}
+use Rattle.meaning.specs.Query.{Tree, query_tree}
+use Rattle.meaning.specs.Scorer.{has_scorer}
 use Rattle.meaning.specs.Takes.{takes}
 use Rattle.meaning.specs.Score.{score}
-use Rattle.meaning.specs.FullList.{matches, fullList}
-use Rattle.meaning.specs.CallRefusals.{startsNeeded, wrong14}
-use Rattle.meaning.specs.Entries.{pickedList}
+use Rattle.meaning.specs.FullList.{matches, full_list}
+use Rattle.meaning.specs.CallRefusals.{starts_needed, wrong14}
+use Rattle.meaning.specs.Entries.{picked_list}
 use Rattle.meaning.proofs.Scorers.{no-scorer-takes-nothing}
-use Rattle.ieee754.specs.Nonneg.{signClear, AtMost}
+use Rattle.ieee754.specs.Nonneg.{sign_clear, AtMost}
 use Rattle.ieee754.proofs.Patterns.{nonneg-clear}
 use Rattle.collector.specs.Collected.{Scored}
-use Rattle.collector.proofs.Picked.{pickedAt, picked-below, picked-clear, picked-rises, all-picked}
+use Rattle.collector.proofs.Picked.{picked_at, picked-below, picked-clear, picked-rises, all-picked}
 use Rattle.query.proofs.Inverse.{both_true}
-use Rattle.weight.specs.ScorerTree.{Scorer, scorerScore}
+use Rattle.weight.specs.ScorerTree.{Scorer, scorer_score}
 use Rattle.weight.specs.Weigh.{weigh}
 use Rattle.weight.specs.Sound.{Sound, nodes}
 use Rattle.weight.specs.Measured.{Asks}
@@ -49,13 +49,13 @@ module _ (documents scores : List ℕ) (w : wrong14 documents scores ≡ false) 
   -- the first i of them, below e, and the next is not
   record First (i : ℕ) : Type 0 where
     e : ℕ
-    room : e ≤ noMoreDocs
+    room : e ≤ no_more_docs
     next : i < length documents → e ≤ get_or documents i 0
-    rises : Rises 0 e (listTo i (pickedAt documents scores))
-    scored : All (Scored noMoreDocs) (listTo i (pickedAt documents scores))
+    rises : Rises 0 e (list_to i (picked_at documents scores))
+    scored : All (Scored no_more_docs) (list_to i (picked_at documents scores))
 
   first : (i : ℕ) → i ≤ length documents → First i
-  unfolding listTo
+  unfolding list_to
   first zero h = record { e = 0; room = omega arith; next = λ g. omega arith; rises = omega arith; scored = tt }
   first (suc i) h =
       let f = first i (omega (arith, h)) in
@@ -65,28 +65,28 @@ module _ (documents scores : List ℕ) (w : wrong14 documents scores ≡ false) 
         e = suc (get_or documents i 0);
         room = omega (arith, below);
         next = λ g. omega (arith, picked-rises documents scores w i (omega (arith, g)), ap (λ (n : ℕ). get_or documents n 0) (add-one i));
-        rises = rises-last 0 f.e (listTo i (pickedAt documents scores)) (pickedAt documents scores i) (f.next here) f.rises;
-        scored = all-last (Scored noMoreDocs) (listTo i (pickedAt documents scores)) (pickedAt documents scores i) f.scored
+        rises = rises-last 0 f.e (list_to i (picked_at documents scores)) (picked_at documents scores i) (f.next here) f.rises;
+        scored = all-last (Scored no_more_docs) (list_to i (picked_at documents scores)) (picked_at documents scores i) f.scored
             (record { below = below; fits = of_bits-fits binary32 (get_or scores i 0); clear = picked-clear documents scores w i here });
       }
 
-  pub picked-rankable : Rankable (pickedList documents scores)
+  pub picked-rankable : Rankable (picked_list documents scores)
   picked-rankable =
       let f = first (length documents) (omega arith) in
       subst Rankable (all-picked documents scores)
-      (record { rises = rises-below 0 f.e noMoreDocs (listTo (length documents) (pickedAt documents scores)) f.room f.rises; scored = f.scored })
+      (record { rises = rises-below 0 f.e no_more_docs (list_to (length documents) (picked_at documents scores)) f.room f.rises; scored = f.scored })
 
 -- ---- the full list of an accepted index and query
 pub record GoodScore (x : Float) : Type 0 where
   pub fits : T (fits binary32 x)
-  pub clear : T (signClear x)
+  pub clear : T (sign_clear x)
 
 -- a document that the query takes has a score that can be ranked: it is that of the scorer tree
-pub good-score : (ix : Index) (q : List ℕ) → Accepts ix q → (d : ℕ) → takes ix (queryTree q) d ≡ true → GoodScore (score ix (queryTree q) one d)
-good-score ix q a d m = go (hasScorer ix t) refl
+pub good-score : (ix : Index) (q : List ℕ) → Accepts ix q → (d : ℕ) → takes ix (query_tree q) d ≡ true → GoodScore (score ix (query_tree q) one d)
+good-score ix q a d m = go (has_scorer ix t) refl
   where
     t : Tree
-    t = queryTree q
+    t = query_tree q
 
     s : Scorer
     s = weigh ix t one none
@@ -95,7 +95,7 @@ good-score ix q a d m = go (hasScorer ix t) refl
     k = accepts-asks ix q a
 
     places : ℕ
-    places = startsNeeded ix q
+    places = starts_needed ix q
 
     fine : Weighted s
     fine = query-weighted ix q places k.values-right k.positions-right (le_refl places) k.records-right k.accepted k.boosts-right
@@ -103,19 +103,19 @@ good-score ix q a d m = go (hasScorer ix t) refl
     sound : Sound ix places s
     sound = query-sound ix q places k.values-right k.positions-right (le_refl places) k.records-right one none
 
-    small : AtMost (nodes s * 2 ^ 29) (scorerScore ix s d)
+    small : AtMost (nodes s * 2 ^ 29) (scorer_score ix s d)
     small = score-small ix k.accepted places d s fine sound (query-nodes q k.records-right ix one none)
 
-    go : (h : Bool) → hasScorer ix t ≡ h → GoodScore (score ix t one d)
-    go true e = subst GoodScore (weigh-score ix t one d e) (record { fits = score-fits ix s d fine; clear = nonneg-clear (scorerScore ix s d) small.sign })
+    go : (h : Bool) → has_scorer ix t ≡ h → GoodScore (score ix t one d)
+    go true e = subst GoodScore (weigh-score ix t one d e) (record { fits = score-fits ix s d fine; clear = nonneg-clear (scorer_score ix s d) small.sign })
     go false e = absurd (false≢true (sym (no-scorer-takes-nothing ix t d e) ∙ m))
 
-pub full-rankable : (ix : Index) (q : List ℕ) → Accepts ix q → Rankable (fullList ix (queryTree q))
-unfolding fullList matches
+pub full-rankable : (ix : Index) (q : List ℕ) → Accepts ix q → Rankable (full_list ix (query_tree q))
+unfolding full_list matches
 full-rankable ix q a =
     let few = accepted-few ix q a in
     record {
-      rises = rises-below 0 ix.maxDoc noMoreDocs (fullList ix (queryTree q)) (omega (arith, few)) (full-rises ix (queryTree q));
-      scored = all_listed (Scored noMoreDocs) (λ d. record { doc = d; score = score ix (queryTree q) one d }) (λ d. isLive ix d && takes ix (queryTree q) d) ix.maxDoc
-          (λ d l m. let g = good-score ix q a d (both_true (isLive ix d) (takes ix (queryTree q) d) m).1 in record { below = omega (arith, few, l); fits = g.fits; clear = g.clear });
+      rises = rises-below 0 ix.max_doc no_more_docs (full_list ix (query_tree q)) (omega (arith, few)) (full-rises ix (query_tree q));
+      scored = all_listed (Scored no_more_docs) (λ d. record { doc = d; score = score ix (query_tree q) one d }) (λ d. is_live ix d && takes ix (query_tree q) d) ix.max_doc
+          (λ d l m. let g = good-score ix q a d (both_true (is_live ix d) (takes ix (query_tree q) d) m).1 in record { below = omega (arith, few, l); fits = g.fits; clear = g.clear });
     }

@@ -10,11 +10,11 @@ use lib.ListN.{length, take, drop, get_or, length-take}
 use lib.Seq.{take-take, take_at, take-length}
 use lib.IntN.{ℤ}
 use Rattle.meaning.specs.Lent.{Index}
-use Rattle.meaning.specs.Query.{queryTree}
-use Rattle.meaning.specs.FullList.{ScoreDoc, fullList}
+use Rattle.meaning.specs.Query.{query_tree}
+use Rattle.meaning.specs.FullList.{ScoreDoc, full_list}
 use Rattle.meaning.specs.Hits.{hits, mark}
 use Rattle.meaning.specs.CallRefusals.{Work}
-use Rattle.meaning.specs.Entries.{topDocs, searchRefusal, searchAnswer, searchHits}
+use Rattle.meaning.specs.Entries.{top_docs, search_refusal, search_answer, search_hits}
 use Rattle.collector.proofs.Best.{ranked, ranked-length, hits-is, hits_few, hits-prefix}
 
 pub hits-length : (k : ℕ) (list : List ScoreDoc) → length (hits k list) ≡ min k (length list)
@@ -34,31 +34,31 @@ hits-begin k k' list l =
 -- ---- one call that was not refused
 module _ (ix : Index) (q : List ℕ) (k t : ℕ) (w : Work) where
   abbrev all : List ScoreDoc
-  all = fullList ix (queryTree q)
+  all = full_list ix (query_tree q)
 
-  pub answer-is : (places : ℕ) → searchRefusal ix q k w places ≡ 0 → searchAnswer ix q k t w places ≡ topDocs k t all
-  unfolding searchAnswer
+  pub answer-is : (places : ℕ) → search_refusal ix q k w places ≡ 0 → search_answer ix q k t w places ≡ top_docs k t all
+  unfolding search_answer
   answer-is places r = rw r
 
-  pub held-is : (places : ℕ) → searchRefusal ix q k w places ≡ 0 → get_or (searchAnswer ix q k t w places) 1 0 ≡ length (hits k all)
+  pub held-is : (places : ℕ) → search_refusal ix q k w places ≡ 0 → get_or (search_answer ix q k t w places) 1 0 ≡ length (hits k all)
   held-is places r = ap (λ (l : List ℕ). get_or l 1 0) (answer-is places r)
 
-  pub wrote-is : (buffer : List ℤ) → searchRefusal ix q k w (length buffer) ≡ 0 → take (get_or (searchAnswer ix q k t w (length buffer)) 1 0) (searchHits ix q k w buffer) ≡ hits k all
-  unfolding searchHits
-  wrote-is buffer r = rw r (take_at (hits k all) (drop (length (hits k all)) buffer) (get_or (searchAnswer ix q k t w (length buffer)) 1 0) (sym (held-is (length buffer) r)))
+  pub wrote-is : (buffer : List ℤ) → search_refusal ix q k w (length buffer) ≡ 0 → take (get_or (search_answer ix q k t w (length buffer)) 1 0) (search_hits ix q k w buffer) ≡ hits k all
+  unfolding search_hits
+  wrote-is buffer r = rw r (take_at (hits k all) (drop (length (hits k all)) buffer) (get_or (search_answer ix q k t w (length buffer)) 1 0) (sym (held-is (length buffer) r)))
 
 -- how many hits a call of Search answers that it wrote, and those hits: the front of its buffer afterwards
-abbrev pub heldBy : Index → List ℕ → ℕ → ℕ → Work → List ℤ → ℕ
-heldBy ix q k t w buffer = get_or (searchAnswer ix q k t w (length buffer)) 1 0
+abbrev pub held_by : Index → List ℕ → ℕ → ℕ → Work → List ℤ → ℕ
+held_by ix q k t w buffer = get_or (search_answer ix q k t w (length buffer)) 1 0
 
-abbrev pub hitsBy : Index → List ℕ → ℕ → ℕ → Work → List ℤ → List ℤ
-hitsBy ix q k t w buffer = take (heldBy ix q k t w buffer) (searchHits ix q k w buffer)
+abbrev pub hits_by : Index → List ℕ → ℕ → ℕ → Work → List ℤ → List ℤ
+hits_by ix q k t w buffer = take (held_by ix q k t w buffer) (search_hits ix q k w buffer)
 
 -- what Search wrote for k is the beginning of what it wrote for a larger k, whatever the thresholds and the buffers
-pub search-grows : (ix : Index) (q : List ℕ) (k k' t t' : ℕ) (w w' : Work) (buffer buffer' : List ℤ) → k ≤ k' → searchRefusal ix q k w (length buffer) ≡ 0 → searchRefusal ix q k' w' (length buffer') ≡ 0 → take (heldBy ix q k t w buffer) (hitsBy ix q k' t' w' buffer') ≡ hitsBy ix q k t w buffer
+pub search-grows : (ix : Index) (q : List ℕ) (k k' t t' : ℕ) (w w' : Work) (buffer buffer' : List ℤ) → k ≤ k' → search_refusal ix q k w (length buffer) ≡ 0 → search_refusal ix q k' w' (length buffer') ≡ 0 → take (held_by ix q k t w buffer) (hits_by ix q k' t' w' buffer') ≡ hits_by ix q k t w buffer
 search-grows ix q k k' t t' w w' buffer buffer' l r r' =
-    let list = fullList ix (queryTree q) in
-    ap (take (heldBy ix q k t w buffer)) (wrote-is ix q k' t' w' buffer' r')
+    let list = full_list ix (query_tree q) in
+    ap (take (held_by ix q k t w buffer)) (wrote-is ix q k' t' w' buffer' r')
     ∙ ap (λ (n : ℕ). take n (hits k' list)) (held-is ix q k t w (length buffer) r)
     ∙ hits-begin k k' list l
     ∙ sym (wrote-is ix q k t w buffer r)
@@ -93,7 +93,7 @@ marked k t n held e = record {
     neither true false p r never = refl
     neither false b p r never = refl
 
-pub mark-exactly : (ix : Index) (q : List ℕ) (k t : ℕ) (w : Work) (places : ℕ) → searchRefusal ix q k w places ≡ 0 → MarkExactly k t (length (fullList ix (queryTree q))) (searchAnswer ix q k t w places)
+pub mark-exactly : (ix : Index) (q : List ℕ) (k t : ℕ) (w : Work) (places : ℕ) → search_refusal ix q k w places ≡ 0 → MarkExactly k t (length (full_list ix (query_tree q))) (search_answer ix q k t w places)
 mark-exactly ix q k t w places r =
-    let list = fullList ix (queryTree q) in
+    let list = full_list ix (query_tree q) in
     subst (λ (l : List ℕ). MarkExactly k t (length list) l) (sym (answer-is ix q k t w places r)) (marked k t (length list) (length (hits k list)) (hits-length k list))

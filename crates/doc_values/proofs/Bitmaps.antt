@@ -3,7 +3,7 @@ use Rattle.std.proofs.Common.{◌≡◌, refl, sym, ap, ap₂, ◌∙◌, Bool, 
 use Rattle.std.proofs.lemmas.Nat.{one_shl}
 use lib.Count.{ones}
 use lib.Seq.{get_or-set_same, get_or-set_other}
-use Rattle.meaning.specs.Below.{countBelow, listBelow}
+use Rattle.meaning.specs.Below.{count_below, list_below}
 use Rattle.meaning.proofs.Below.{count-le}
 use Rattle.meaning.proofs.Tests.{cmp}
 use Rattle.bits.specs.Bit.{bit, Bitmap}
@@ -11,8 +11,8 @@ use Rattle.bits.proofs.Laws.{bit-or, bit-pow, bit-zero}
 use Rattle.bits.proofs.Ranks.{ones-below}
 
 -- the numbers below n alone
-abbrev pub cutAt : ℕ → (ℕ → Bool) → ℕ → Bool
-cutAt n p d = ltb d n && p d
+abbrev pub cut_at : ℕ → (ℕ → Bool) → ℕ → Bool
+cut_at n p d = ltb d n && p d
 
 -- ---- a bit more
 no-bit : (q j : ℕ) → bit q (0 * 2 ^ j % 2 ^ 32) ≡ false
@@ -54,23 +54,23 @@ more-bits p q j = ⊎_elim below (λ g. ⊎_elim above (here g) (cmp j q)) (cmp 
         go e = rw (e, le-ltb j j (omega arith), lt-ltb j (j + 1) (omega arith), eq-eqb j j refl) (and-one (p j))
 
 -- ---- how many there are
-pub list-count : (n : ℕ) (p : ℕ → Bool) → length (listBelow n p) ≡ countBelow n p
-unfolding countBelow listBelow
+pub list-count : (n : ℕ) (p : ℕ → Bool) → length (list_below n p) ≡ count_below n p
+unfolding count_below list_below
 list-count zero p = refl
 list-count (suc n) p = go (list-count n p) (p n)
   where
-    go : length (listBelow n p) ≡ countBelow n p → (b : Bool) → length (listBelow n p ++ cond b (n ∷ []) []) ≡ countBelow n p + cond b 1 0
-    go e true = omega (arith, length-append (listBelow n p) (n ∷ []))
-    go e false = omega (arith, length-append (listBelow n p) [])
+    go : length (list_below n p) ≡ count_below n p → (b : Bool) → length (list_below n p ++ cond b (n ∷ []) []) ≡ count_below n p + cond b 1 0
+    go e true = omega (arith, length-append (list_below n p) (n ∷ []))
+    go e false = omega (arith, length-append (list_below n p) [])
 
-pub count-same : (n : ℕ) (p q : ℕ → Bool) → ((i : ℕ) → i < n → p i ≡ q i) → countBelow n p ≡ countBelow n q
-unfolding countBelow
+pub count-same : (n : ℕ) (p q : ℕ → Bool) → ((i : ℕ) → i < n → p i ≡ q i) → count_below n p ≡ count_below n q
+unfolding count_below
 count-same zero p q h = refl
 count-same (suc n) p q h = ap₂ (λ (k : ℕ) (b : Bool). k + cond b 1 0) (count-same n p q (λ i l. h i (omega arith))) (h n (omega arith))
 
-pub count-joined : (m n : ℕ) (p : ℕ → Bool) → countBelow (n + m) p ≡ countBelow m p + countBelow n (λ i. p (i + m))
-unfolding countBelow
-count-joined m zero p = ap (λ (k : ℕ). countBelow k p) (start m) ∙ nothing (countBelow m p)
+pub count-joined : (m n : ℕ) (p : ℕ → Bool) → count_below (n + m) p ≡ count_below m p + count_below n (λ i. p (i + m))
+unfolding count_below
+count-joined m zero p = ap (λ (k : ℕ). count_below k p) (start m) ∙ nothing (count_below m p)
   where
     start : (m : ℕ) → 0 + m ≡ m
     start m = omega arith
@@ -78,8 +78,8 @@ count-joined m zero p = ap (λ (k : ℕ). countBelow k p) (start m) ∙ nothing 
     nothing : (k : ℕ) → k ≡ k + 0
     nothing k = omega arith
 count-joined m (suc n) p =
-    ap (λ (k : ℕ). countBelow k p) (step n m) ∙ ap (λ (k : ℕ). k + cond (p (n + m)) 1 0) (count-joined m n p)
-    ∙ three (countBelow m p) (countBelow n (λ i. p (i + m))) (cond (p (n + m)) 1 0)
+    ap (λ (k : ℕ). count_below k p) (step n m) ∙ ap (λ (k : ℕ). k + cond (p (n + m)) 1 0) (count-joined m n p)
+    ∙ three (count_below m p) (count_below n (λ i. p (i + m))) (cond (p (n + m)) 1 0)
   where
     step : (n m : ℕ) → suc n + m ≡ suc (n + m)
     step n m = omega arith
@@ -87,23 +87,23 @@ count-joined m (suc n) p =
     three : (a b c : ℕ) → (a + b) + c ≡ a + (b + c)
     three a b c = omega arith
 
-none-counted : (n : ℕ) → countBelow n (λ i. false) ≡ 0
-unfolding countBelow
+none-counted : (n : ℕ) → count_below n (λ i. false) ≡ 0
+unfolding count_below
 none-counted zero = refl
 none-counted (suc n) = ap (λ (k : ℕ). k + 0) (none-counted n)
 
-pub count-cut : (n m : ℕ) (p : ℕ → Bool) → n ≤ m → countBelow m (cutAt n p) ≡ countBelow n p
+pub count-cut : (n m : ℕ) (p : ℕ → Bool) → n ≤ m → count_below m (cut_at n p) ≡ count_below n p
 count-cut n m p h =
     let e : m ≡ (m - n) + n = omega arith in
-    ap (λ (k : ℕ). countBelow k (cutAt n p)) e ∙ count-joined n (m - n) (cutAt n p)
-    ∙ ap₂ (λ (a b : ℕ). a + b) (count-same n (cutAt n p) p (λ i l. ap (λ (b : Bool). b && p i) (lt-ltb i n l))) (count-same (m - n) (λ i. cutAt n p (i + n)) (λ i. false) (λ i l. ap (λ (b : Bool). b && p (i + n)) (le-ltb (i + n) n (omega arith))) ∙ none-counted (m - n))
-    ∙ plus-none (countBelow n p)
+    ap (λ (k : ℕ). count_below k (cut_at n p)) e ∙ count-joined n (m - n) (cut_at n p)
+    ∙ ap₂ (λ (a b : ℕ). a + b) (count-same n (cut_at n p) p (λ i l. ap (λ (b : Bool). b && p i) (lt-ltb i n l))) (count-same (m - n) (λ i. cut_at n p (i + n)) (λ i. false) (λ i l. ap (λ (b : Bool). b && p (i + n)) (le-ltb (i + n) n (omega arith))) ∙ none-counted (m - n))
+    ∙ plus-none (count_below n p)
   where
     plus-none : (k : ℕ) → k + 0 ≡ k
     plus-none k = omega arith
 
-pub count-few : (n m : ℕ) (p : ℕ → Bool) → countBelow m (cutAt n p) ≤ n
-count-few n m p = ⊎_elim (λ h. omega (arith, count-le m (cutAt n p))) (λ h. omega (arith, count-cut n m p h, count-le n p)) (cmp m n)
+pub count-few : (n m : ℕ) (p : ℕ → Bool) → count_below m (cut_at n p) ≤ n
+count-few n m p = ⊎_elim (λ h. omega (arith, count-le m (cut_at n p))) (λ h. omega (arith, count-cut n m p h, count-le n p)) (cmp m n)
 
 -- ---- a word more
 -- its values are those from number d on
@@ -123,19 +123,19 @@ module _ (p : ℕ → Bool) (out : List ℕ) (w word : ℕ) (bits : (q : ℕ) �
       new : i ≡ word → bit q (get_or (set out word w) (0 + i) 0) ≡ p (32 * i + q)
       new e = ap (λ (k : ℕ). bit q (get_or (set out word w) k 0)) (front i ∙ e) ∙ ap (bit q) (get_or-set_same out word w 0 l) ∙ bits q k ∙ sym (ap (λ (j : ℕ). p (32 * j + q)) e)
 
-  pub count-word : w < 2 ^ 32 → (d : ℕ) → d ≡ 32 * word → countBelow d p + ones w ≡ countBelow (d + 32) p
+  pub count-word : w < 2 ^ 32 → (d : ℕ) → d ≡ 32 * word → count_below d p + ones w ≡ count_below (d + 32) p
   count-word f d e =
       let small : w % 2 ^ 32 ≡ w = omega arith in
-      ap (λ (k : ℕ). countBelow d p + k) (ap ones (sym small) ∙ ones-below 32 w ∙ count-same 32 (λ q. bit q w) (λ i. p (i + d)) (λ i l. bits i l ∙ ap p (omega (arith, e))))
-      ∙ sym (ap (λ (k : ℕ). countBelow k p) (turn d) ∙ count-joined d 32 p)
+      ap (λ (k : ℕ). count_below d p + k) (ap ones (sym small) ∙ ones-below 32 w ∙ count-same 32 (λ q. bit q w) (λ i. p (i + d)) (λ i l. bits i l ∙ ap p (omega (arith, e))))
+      ∙ sym (ap (λ (k : ℕ). count_below k p) (turn d) ∙ count-joined d 32 p)
     where
       turn : (d : ℕ) → d + 32 ≡ 32 + d
       turn d = omega arith
 
 -- a word that holds the next of the values that are left
 module _ (n start d word w : ℕ) (f : ℕ → Bool) (e : d ≡ 32 * word) (small : w < 2 ^ 32) (is : (q : ℕ) → q < 32 → bit q w ≡ (ltb q (n - d) && f ((start + 3 * d) + 3 * q))) where
-  pub next-bits : (q : ℕ) → q < 32 → bit q w ≡ cutAt n (λ i. f (start + 3 * i)) (32 * word + q)
+  pub next-bits : (q : ℕ) → q < 32 → bit q w ≡ cut_at n (λ i. f (start + 3 * i)) (32 * word + q)
   next-bits q h = is q h ∙ word-bits n start d word q f e
 
-  pub next-count : (out : List ℕ) (held : ℕ) → held ≡ countBelow d (cutAt n (λ i. f (start + 3 * i))) → held + ones w ≡ countBelow (d + 32) (cutAt n (λ i. f (start + 3 * i)))
-  next-count out held g = ap (λ (k : ℕ). k + ones w) g ∙ count-word (cutAt n (λ i. f (start + 3 * i))) out w word next-bits small d e
+  pub next-count : (out : List ℕ) (held : ℕ) → held ≡ count_below d (cut_at n (λ i. f (start + 3 * i))) → held + ones w ≡ count_below (d + 32) (cut_at n (λ i. f (start + 3 * i)))
+  next-count out held g = ap (λ (k : ℕ). k + ones w) g ∙ count-word (cut_at n (λ i. f (start + 3 * i))) out w word next-bits small d e

@@ -2,19 +2,19 @@
 use mathlib.Core.Path.{◌≡◌, refl}
 use mathlib.Core.Bool.{false}
 use mathlib.Core.List.{[], ◌∷◌}
-use Rattle.meaning.specs.Below.{anyBelow, listBelow}
+use Rattle.meaning.specs.Below.{any_below, list_below}
 use Rattle.meaning.specs.Lent.{Index}
-use Rattle.meaning.specs.Range.{NumericRange, i64Of, valueBelow, atLower, atUpper, in_range, rangeDocuments}
-use Rattle.meaning.specs.IndexRefusals.{wrong1, wrongColumn, wrong6}
-use Rattle.meaning.specs.QueryRefusals.{wrongRange}
-use Rattle.meaning.specs.Entries.{columnsOnly}
+use Rattle.meaning.specs.Range.{NumericRange, i64_of, value_below, at_lower, at_upper, in_range, range_documents}
+use Rattle.meaning.specs.IndexRefusals.{wrong1, wrong_column, wrong6}
+use Rattle.meaning.specs.QueryRefusals.{wrong_range}
+use Rattle.meaning.specs.Entries.{columns_only}
 
 abbrev lent : Index
-lent = columnsOnly 3 (0 ∷ []) (1 ∷ 0xffff_ffff ∷ 0xffff_ffff ∷ 0 ∷ 5 ∷ 0 ∷ 1 ∷ 5 ∷ 0 ∷ [])
+lent = columns_only 3 (0 ∷ []) (1 ∷ 0xffff_ffff ∷ 0xffff_ffff ∷ 0 ∷ 5 ∷ 0 ∷ 1 ∷ 5 ∷ 0 ∷ [])
 
 abbrev asked : NumericRange
 asked = record { column = 0; kinds = 5; lower = 0xffff_ffff_ffff_ffff; upper = 5 }
 
-pub met : (wrong1 lent ≡ false) × (wrong6 lent ≡ false) × (wrongRange lent asked ≡ false) × (rangeDocuments lent asked ≡ 2 ∷ [])
-unfolding wrong1 wrong6 wrongColumn wrongRange anyBelow listBelow rangeDocuments in_range atLower atUpper valueBelow i64Of
+pub met : (wrong1 lent ≡ false) × (wrong6 lent ≡ false) × (wrong_range lent asked ≡ false) × (range_documents lent asked ≡ 2 ∷ [])
+unfolding wrong1 wrong6 wrong_column wrong_range any_below list_below range_documents in_range at_lower at_upper value_below i64_of
 met = (refl, refl, refl, refl)

@@ -7,7 +7,7 @@ use native.Mathlib.Numerals.{add-one}
 use native.Mathlib.Omega.{arith}
 use lib.ListN.{length, get_or, drop, set, length-append, length-drop}
 use lib.Seq.{drop-cons, set_at}
-use Rattle.meaning.specs.Below.{listBelow}
+use Rattle.meaning.specs.Below.{list_below}
 use Rattle.meaning.specs.Entries.{written}
 -- the laws of such a list, passed on
 pub use Rattle.meaning.proofs.Tests.{decided}
@@ -26,14 +26,14 @@ pub written-length : (xs out : List ℕ) → length xs ≤ length out → length
 written-length xs out h = omega (arith, length-append xs (drop (length xs) out), length-drop (length xs) out)
 
 -- a turn of a scan that has written what it listed below d: it takes d, or leaves it
-module _ (p : ℕ → Bool) (out₀ out : List ℕ) (d held : ℕ) (size : held ≡ length (listBelow d p)) (so_far : out ≡ written (listBelow d p) out₀) where
-  pub turn-taken : p d ≡ true → d < length out₀ → (held + 1 ≡ length (listBelow (d + 1) p)) × (set out held d ≡ written (listBelow (d + 1) p) out₀)
+module _ (p : ℕ → Bool) (out₀ out : List ℕ) (d held : ℕ) (size : held ≡ length (list_below d p)) (so_far : out ≡ written (list_below d p) out₀) where
+  pub turn-taken : p d ≡ true → d < length out₀ → (held + 1 ≡ length (list_below (d + 1) p)) × (set out held d ≡ written (list_below (d + 1) p) out₀)
   turn-taken e h =
-      let l = listBelow d p in
-      let more : listBelow (d + 1) p ≡ l ++ (d ∷ []) = rw add-one (list-taken p d e) in (
+      let l = list_below d p in
+      let more : list_below (d + 1) p ≡ l ++ (d ∷ []) = rw add-one (list-taken p d e) in (
         omega (arith, ap length more, length-append l (d ∷ [])),
         rw (so_far, size) (written-more l out₀ d (omega (arith, list_length p d)) ∙ ap (λ (x : List ℕ). written x out₀) (sym more)),
       )
 
-  pub turn-left : p d ≡ false → (held ≡ length (listBelow (d + 1) p)) × (out ≡ written (listBelow (d + 1) p) out₀)
-  turn-left e = let same : listBelow (d + 1) p ≡ listBelow d p = rw add-one (list_left p d e) in rw same (size, so_far)
+  pub turn-left : p d ≡ false → (held ≡ length (list_below (d + 1) p)) × (out ≡ written (list_below (d + 1) p) out₀)
+  turn-left e = let same : list_below (d + 1) p ≡ list_below d p = rw add-one (list_left p d e) in rw same (size, so_far)

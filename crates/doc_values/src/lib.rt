@@ -2,13 +2,13 @@
 #![tactic(auto)]
 
 ghost use Rattle.std.specs.Prelude.{ℕ, ◌+◌, ◌*◌, ◌≤◌, ◌<◌, ◌≡◌, false, cond, ◌&&◌, ltb, length};
-ghost use Rattle.meaning.specs.Below.{listBelow};
-ghost use Rattle.meaning.specs.Range.{in_range, rangeDocuments};
+ghost use Rattle.meaning.specs.Below.{list_below};
+ghost use Rattle.meaning.specs.Range.{in_range, range_documents};
 ghost use Rattle.meaning.specs.IndexRefusals.{wrong1, wrong6};
-ghost use Rattle.meaning.specs.QueryRefusals.{wrongRange};
-ghost use Rattle.meaning.specs.Entries.{written, columnsOnly};
-ghost use Rattle.column_keys.specs.Keys.{valueIn};
-ghost use Rattle.bits.specs.Bit.{bit, bitmapWords, Bitmap};
+ghost use Rattle.meaning.specs.QueryRefusals.{wrong_range};
+ghost use Rattle.meaning.specs.Entries.{written, columns_only};
+ghost use Rattle.column_keys.specs.Keys.{value_in};
+ghost use Rattle.bits.specs.Bit.{bit, bitmap_words, Bitmap};
 
 // The documents whose value lies between the keys, to the front of the output; the column begins at word `start`.
 // A branch and no select: a store that is always made would leave the output changed beyond what is listed.
@@ -23,8 +23,8 @@ fn scan(
 ) -> u32
     requires max_doc_in_bounds { start + 3 * max_doc ≤ length values.now }
     requires max_doc_in_bounds_2 { max_doc ≤ length output.old }
-    ensures value { result ≡ length (listBelow max_doc (λ d. valueIn values.now (start + 3 * d) column_type from to)) }
-    ensures output_after { output.new ≡ written (listBelow max_doc (λ d. valueIn values.now (start + 3 * d) column_type from to)) output.old }
+    ensures value { result ≡ length (list_below max_doc (λ d. value_in values.now (start + 3 * d) column_type from to)) }
+    ensures output_after { output.new ≡ written (list_below max_doc (λ d. value_in values.now (start + 3 * d) column_type from to)) output.old }
 {
     let n = max_doc as usize;
     let mut held = 0;
@@ -49,7 +49,7 @@ fn number(b: bool) -> u32
 // Some values, the first of them at word `at`: bit j is whether value j lies between the keys.
 fn word_of(values: &[u32], at: usize, count: u32, column_type: u32, from: u64, to: u64) -> u32
     requires { (count ≤ 32) × (at + 3 * count ≤ length values.now) }
-    ensures { (p : ℕ) → bit p result ≡ ltb p count && valueIn values.now (at + 3 * p) column_type from to }
+    ensures { (p : ℕ) → bit p result ≡ ltb p count && value_in values.now (at + 3 * p) column_type from to }
 {
     let mut w: u32 = 0;
     let mut v = at;
@@ -65,7 +65,7 @@ fn word_of(values: &[u32], at: usize, count: u32, column_type: u32, from: u64, t
 // The next 32 of the values that are left, or all that are.
 fn next_word(values: &[u32], at: usize, left: usize, column_type: u32, from: u64, to: u64) -> u32
     requires { at + 3 * left ≤ length values.now }
-    ensures { (p : ℕ) → p < 32 → bit p result ≡ ltb p left && valueIn values.now (at + 3 * p) column_type from to }
+    ensures { (p : ℕ) → p < 32 → bit p result ≡ ltb p left && value_in values.now (at + 3 * p) column_type from to }
 {
     if 32 <= left {
         word_of(values, at, 32, column_type, from, to)
@@ -85,9 +85,9 @@ fn sift(
     output: &mut [u32],
 ) -> u32
     requires max_doc_in_bounds { start + 3 * max_doc ≤ length values.now }
-    requires bitmap_fits { bitmapWords max_doc ≤ length output.old }
-    ensures value { result ≡ length (listBelow max_doc (λ d. valueIn values.now (start + 3 * d) column_type from to)) }
-    ensures bitmap { Bitmap (λ d. ltb d max_doc && valueIn values.now (start + 3 * d) column_type from to) output.new 0 (bitmapWords max_doc) }
+    requires bitmap_fits { bitmap_words max_doc ≤ length output.old }
+    ensures value { result ≡ length (list_below max_doc (λ d. value_in values.now (start + 3 * d) column_type from to)) }
+    ensures bitmap { Bitmap (λ d. ltb d max_doc && value_in values.now (start + 3 * d) column_type from to) output.new 0 (bitmap_words max_doc) }
     ensures output_len_unchanged { length output.new ≡ length output.old }
 {
     let n = max_doc as usize;
@@ -115,12 +115,12 @@ pub fn range(
     upper: u64,
     output: &mut [u32],
 ) -> u32
-    requires values_value { wrong1 (columnsOnly max_doc columns.now values.now) ≡ false }
-    requires values_value_2 { wrong6 (columnsOnly max_doc columns.now values.now) ≡ false }
-    requires upper_value { wrongRange (columnsOnly max_doc columns.now values.now) (record { column = column; kinds = kinds; lower = lower; upper = upper }) ≡ false }
+    requires values_value { wrong1 (columns_only max_doc columns.now values.now) ≡ false }
+    requires values_value_2 { wrong6 (columns_only max_doc columns.now values.now) ≡ false }
+    requires upper_value { wrong_range (columns_only max_doc columns.now values.now) (record { column = column; kinds = kinds; lower = lower; upper = upper }) ≡ false }
     requires max_doc_in_bounds { max_doc ≤ length output.old }
-    ensures value { result ≡ length (rangeDocuments (columnsOnly max_doc columns.now values.now) (record { column = column; kinds = kinds; lower = lower; upper = upper })) }
-    ensures output_after { output.new ≡ written (rangeDocuments (columnsOnly max_doc columns.now values.now) (record { column = column; kinds = kinds; lower = lower; upper = upper })) output.old }
+    ensures value { result ≡ length (range_documents (columns_only max_doc columns.now values.now) (record { column = column; kinds = kinds; lower = lower; upper = upper })) }
+    ensures output_after { output.new ≡ written (range_documents (columns_only max_doc columns.now values.now) (record { column = column; kinds = kinds; lower = lower; upper = upper })) output.old }
 {
     let at = column as usize;
     let column_type = columns[at];
@@ -142,12 +142,12 @@ pub fn range_bitmap(
     upper: u64,
     output: &mut [u32],
 ) -> u32
-    requires values_value { wrong1 (columnsOnly max_doc columns.now values.now) ≡ false }
-    requires values_value_2 { wrong6 (columnsOnly max_doc columns.now values.now) ≡ false }
-    requires upper_value { wrongRange (columnsOnly max_doc columns.now values.now) (record { column = column; kinds = kinds; lower = lower; upper = upper }) ≡ false }
-    requires bitmap_fits { bitmapWords max_doc ≤ length output.old }
-    ensures value { result ≡ length (rangeDocuments (columnsOnly max_doc columns.now values.now) (record { column = column; kinds = kinds; lower = lower; upper = upper })) }
-    ensures bitmap { Bitmap (λ d. ltb d max_doc && in_range (columnsOnly max_doc columns.now values.now) (record { column = column; kinds = kinds; lower = lower; upper = upper }) d) output.new 0 (bitmapWords max_doc) }
+    requires values_value { wrong1 (columns_only max_doc columns.now values.now) ≡ false }
+    requires values_value_2 { wrong6 (columns_only max_doc columns.now values.now) ≡ false }
+    requires upper_value { wrong_range (columns_only max_doc columns.now values.now) (record { column = column; kinds = kinds; lower = lower; upper = upper }) ≡ false }
+    requires bitmap_fits { bitmap_words max_doc ≤ length output.old }
+    ensures value { result ≡ length (range_documents (columns_only max_doc columns.now values.now) (record { column = column; kinds = kinds; lower = lower; upper = upper })) }
+    ensures bitmap { Bitmap (λ d. ltb d max_doc && in_range (columns_only max_doc columns.now values.now) (record { column = column; kinds = kinds; lower = lower; upper = upper }) d) output.new 0 (bitmap_words max_doc) }
     ensures output_len_unchanged { length output.new ≡ length output.old }
 {
     let at = column as usize;

@@ -2,7 +2,7 @@
 ghost use Rattle.std.specs.Prelude.{◌≡◌, ◌≤◌, length, take};
 ghost use Rattle.io.specs.Counts.{IsPrefixLen};
 ghost use Rattle.index.specs.Slices.{lent};
-ghost use Rattle.hits.specs.Text.{searchText, hitsText};
+ghost use Rattle.hits.specs.Text.{search_text, hits_text};
 ghost use Rattle.hits_text.specs.Puts.{Put};
 ghost use Rattle.hits_text.specs.Text.{files};
 
@@ -26,7 +26,7 @@ fn answer(
     out: &mut [u8],
 ) -> usize
     requires { 32768 ≤ length out.old }
-    ensures { Put out.old 0 (searchText (lent max_doc fields.now leaves.now postings.now positions.now norms.now live.now columns.now values.now) q.now k t) result out.new }
+    ensures { Put out.old 0 (search_text (lent max_doc fields.now leaves.now postings.now positions.now norms.now live.now columns.now values.now) q.now k t) result out.new }
 {
     let mut states = [0u32; 256 * NODE_STATE_WORDS];
     let mut a = [0i32; 16384];
@@ -76,7 +76,7 @@ pub fn report(
     out: &mut [u8; 32768],
 ) -> usize
     ensures prefix_len { IsPrefixLen result out.new }
-    ensures out_after { take result out.new ≡ hitsText (files run.now fields.now leaves.now postings.now positions.now norms.now live.now columns.now values.now query.now) }
+    ensures out_after { take result out.new ≡ hits_text (files run.now fields.now leaves.now postings.now positions.now norms.now live.now columns.now values.now query.now) }
 {
     if !hits_text::files::taken(
         run, fields, leaves, postings, positions, norms, live, columns, values, query,

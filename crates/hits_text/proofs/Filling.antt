@@ -5,9 +5,9 @@ use Prim.Native.Nat.{ℕ, ◌+◌, ◌<◌}
 use native.Mathlib.Numerals.{add-one}
 use lib.ListN.{length, take, set}
 use lib.Seq.{take-suc-set}
-use Rattle.meaning.specs.Below.{listTo}
-use Rattle.meaning.proofs.Below.{listTo-next}
+use Rattle.meaning.specs.Below.{list_to}
+use Rattle.meaning.proofs.Below.{list_to-next}
 
-pub taken_more : (f : ℕ → ℕ) (xs : List ℕ) (i x : ℕ) → i < length xs → take i xs ≡ listTo i f → x ≡ f i → take (i + 1) (set xs i x) ≡ listTo (i + 1) f
+pub taken_more : (f : ℕ → ℕ) (xs : List ℕ) (i x : ℕ) → i < length xs → take i xs ≡ list_to i f → x ≡ f i → take (i + 1) (set xs i x) ≡ list_to (i + 1) f
 taken_more f xs i x h e g =
-    ap (λ (n : ℕ). take n (set xs i x)) (add-one i) ∙ take-suc-set xs i x h ∙ ap (λ (l : List ℕ). l ++ (x ∷ [])) e ∙ ap (λ (y : ℕ). listTo i f ++ (y ∷ [])) g ∙ sym (listTo-next f i)
+    ap (λ (n : ℕ). take n (set xs i x)) (add-one i) ∙ take-suc-set xs i x h ∙ ap (λ (l : List ℕ). l ++ (x ∷ [])) e ∙ ap (λ (y : ℕ). list_to i f ++ (y ∷ [])) g ∙ sym (list_to-next f i)

@@ -10,33 +10,33 @@ use lib.Dec.{ltb}
 use lib.ListN.{length, length-append}
 use borrow.Author.Tests.{lt-ltb, le-ltb}
 use Rattle.meaning.proofs.Tests.{cmp}
-use Rattle.hits_text.specs.Text.{digitOf, digitsTo, decimal, hexDigits}
+use Rattle.hits_text.specs.Text.{digit_of, digits_to, decimal, hex_digits}
 
 -- ---- decimal digits
 -- more room than the number of digits changes nothing
-enough : (f g n : ℕ) → n < f → n < g → digitsTo f n ≡ digitsTo g n
-unfolding digitsTo
+enough : (f g n : ℕ) → n < f → n < g → digits_to f n ≡ digits_to g n
+unfolding digits_to
 enough zero g n h k = absurd (omega arith)
 enough (suc f) zero n h k = absurd (omega arith)
 enough (suc f) (suc g) n h k =
     ⊎_elim
     (λ s. let e = lt-ltb n 10 s in rw e)
-    (λ s. ap (λ (xs : List ℕ). cond (ltb n 10) [] xs ++ (digitOf (n % 10) ∷ [])) (enough f g (n / 10) (omega arith) (omega arith)))
+    (λ s. ap (λ (xs : List ℕ). cond (ltb n 10) [] xs ++ (digit_of (n % 10) ∷ [])) (enough f g (n / 10) (omega arith) (omega arith)))
     (cmp n 10)
 
-pub decimal-one : (n : ℕ) → n < 10 → decimal n ≡ digitOf n ∷ []
-unfolding decimal digitsTo
+pub decimal-one : (n : ℕ) → n < 10 → decimal n ≡ digit_of n ∷ []
+unfolding decimal digits_to
 decimal-one n h = let e = lt-ltb n 10 h in let m : n % 10 ≡ n = mod-eq_of_lt h in rw (e, m, e)
 
-pub decimal-more : (n : ℕ) → 10 ≤ n → decimal n ≡ decimal (n / 10) ++ (digitOf (n % 10) ∷ [])
-unfolding decimal digitsTo
+pub decimal-more : (n : ℕ) → 10 ≤ n → decimal n ≡ decimal (n / 10) ++ (digit_of (n % 10) ∷ [])
+unfolding decimal digits_to
 decimal-more n h =
     let e = le-ltb n 10 h in
-    ap (λ (b : Bool). cond b [] (digitsTo n (n / 10)) ++ (digitOf (n % 10) ∷ [])) e
-    ∙ ap (λ (xs : List ℕ). xs ++ (digitOf (n % 10) ∷ [])) (enough n (suc (n / 10)) (n / 10) (omega arith) (omega arith))
+    ap (λ (b : Bool). cond b [] (digits_to n (n / 10)) ++ (digit_of (n % 10) ∷ [])) e
+    ∙ ap (λ (xs : List ℕ). xs ++ (digit_of (n % 10) ∷ [])) (enough n (suc (n / 10)) (n / 10) (omega arith) (omega arith))
 
 pub length_more : (n : ℕ) → 10 ≤ n → length (decimal n) ≡ length (decimal (n / 10)) + 1
-length_more n h = ap length (decimal-more n h) ∙ length-append (decimal (n / 10)) (digitOf (n % 10) ∷ [])
+length_more n h = ap length (decimal-more n h) ∙ length-append (decimal (n / 10)) (digit_of (n % 10) ∷ [])
 
 -- a number below 10 to the k has at most k digits
 pub decimal-short : (k n : ℕ) → n < 10 ^ suc k → length (decimal n) ≤ suc k
@@ -48,16 +48,16 @@ decimal-short (suc k) n h =
     (cmp n 10)
 
 -- ---- hexadecimal digits
-pub length-hex : (k n : ℕ) → length (hexDigits k n) ≡ k
-unfolding hexDigits
+pub length-hex : (k n : ℕ) → length (hex_digits k n) ≡ k
+unfolding hex_digits
 length-hex zero n = refl
-length-hex (suc k) n = omega (arith, length-append (hexDigits k (n / 16)) (digitOf (n % 16) ∷ []), length-hex k (n / 16))
+length-hex (suc k) n = omega (arith, length-append (hex_digits k (n / 16)) (digit_of (n % 16) ∷ []), length-hex k (n / 16))
 
-pub hex-none : (k n : ℕ) → k ≡ 0 → hexDigits k n ≡ []
-unfolding hexDigits
+pub hex-none : (k n : ℕ) → k ≡ 0 → hex_digits k n ≡ []
+unfolding hex_digits
 hex-none k n e = rw e
 
-pub hex-more : (k n : ℕ) → (k ≡ 0 → ⊥) → hexDigits k n ≡ hexDigits (k - 1) (n / 16) ++ (digitOf (n % 16) ∷ [])
-unfolding hexDigits
+pub hex-more : (k n : ℕ) → (k ≡ 0 → ⊥) → hex_digits k n ≡ hex_digits (k - 1) (n / 16) ++ (digit_of (n % 16) ∷ [])
+unfolding hex_digits
 hex-more zero n h = absurd (h refl)
-hex-more (suc k) n h = let e : k ≡ suc k - 1 = omega arith in ap (λ (j : ℕ). hexDigits j (n / 16) ++ (digitOf (n % 16) ∷ [])) e
+hex-more (suc k) n h = let e : k ≡ suc k - 1 = omega arith in ap (λ (j : ℕ). hex_digits j (n / 16) ++ (digit_of (n % 16) ∷ [])) e

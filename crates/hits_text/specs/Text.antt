@@ -1,10 +1,10 @@
 -- Document 01, "BM25 and the hits" and "Sizes": the words of the files of `hits`, and its lines. Assumes nothing: these are definitions.
 use Rattle.std.specs.Prelude.{Bool, cond, ◌&&◌, List, [], ◌∷◌, ◌++◌, ℕ, zero, suc, ◌+◌, ◌*◌, ◌/◌, ◌%◌, ◌^◌, eqb, leb, ltb, length, get_or, ℤ}
 use Rattle.std.specs.Int.Signed.{shr_z}
-use Rattle.meaning.specs.Below.{listTo}
+use Rattle.meaning.specs.Below.{list_to}
 use Rattle.meaning.specs.Lent.{joined}
-use Rattle.meaning.specs.Ieee754.{sortableBits}
-use Rattle.meaning.specs.Hits.{toDoc}
+use Rattle.meaning.specs.Ieee754.{sortable_bits}
+use Rattle.meaning.specs.Hits.{to_doc}
 
 -- ---- the words of a file
 -- "in files the words are little-endian": the i-th of 32 bits
@@ -13,69 +13,69 @@ word_at bytes i =
     get_or bytes (4 * i) 0 + 256 * get_or bytes (4 * i + 1) 0 + 65536 * get_or bytes (4 * i + 2) 0 + 16777216 * get_or bytes (4 * i + 3) 0
 
 -- the i-th of 64 bits
-abbrev pub longAt : List ℕ → ℕ → ℕ
-longAt bytes i = joined (word_at bytes (2 * i)) (word_at bytes (2 * i + 1))
+abbrev pub long_at : List ℕ → ℕ → ℕ
+long_at bytes i = joined (word_at bytes (2 * i)) (word_at bytes (2 * i + 1))
 
 -- all whole words of a file
 unfoldable pub words_of : List ℕ → List ℕ
-words_of bytes = listTo (length bytes / 4) (word_at bytes)
+words_of bytes = list_to (length bytes / 4) (word_at bytes)
 
 -- all of "live.rec of 8 bytes"
-unfoldable pub longsOf : List ℕ → List ℕ
-longsOf bytes = listTo (length bytes / 8) (longAt bytes)
+unfoldable pub longs_of : List ℕ → List ℕ
+longs_of bytes = list_to (length bytes / 8) (long_at bytes)
 
 -- ---- numbers as text
 -- the ASCII code of a digit below 16: `0` to `9`, then `a` to `f`
-abbrev pub digitOf : ℕ → ℕ
-digitOf d = cond (ltb d 10) (48 + d) (87 + d)
+abbrev pub digit_of : ℕ → ℕ
+digit_of d = cond (ltb d 10) (48 + d) (87 + d)
 
 -- the decimal digits of a number, the last one at the end; at most so many
-unfoldable pub digitsTo : ℕ → ℕ → List ℕ
-digitsTo zero n = []
-digitsTo (suc most) n = cond (ltb n 10) [] (digitsTo most (n / 10)) ++ (digitOf (n % 10) ∷ [])
+unfoldable pub digits_to : ℕ → ℕ → List ℕ
+digits_to zero n = []
+digits_to (suc most) n = cond (ltb n 10) [] (digits_to most (n / 10)) ++ (digit_of (n % 10) ∷ [])
 
 -- all decimal digits: a number has no more of them than its own size and one
 unfoldable pub decimal : ℕ → List ℕ
-decimal n = digitsTo (suc n) n
+decimal n = digits_to (suc n) n
 
 -- the last so many hexadecimal digits
-unfoldable pub hexDigits : ℕ → ℕ → List ℕ
-hexDigits zero n = []
-hexDigits (suc k) n = hexDigits k (n / 16) ++ (digitOf (n % 16) ∷ [])
+unfoldable pub hex_digits : ℕ → ℕ → List ℕ
+hex_digits zero n = []
+hex_digits (suc k) n = hex_digits k (n / 16) ++ (digit_of (n % 16) ∷ [])
 
 -- "8 hexadecimal digits"
 abbrev pub hex8 : ℕ → List ℕ
-hex8 n = hexDigits 8 n
+hex8 n = hex_digits 8 n
 
 -- ---- the lines
 -- "prints `count`", and a blank
-abbrev pub countWord : List ℕ
-countWord = 99 ∷ 111 ∷ 117 ∷ 110 ∷ 116 ∷ 32 ∷ []
+abbrev pub count_word : List ℕ
+count_word = 99 ∷ 111 ∷ 117 ∷ 110 ∷ 116 ∷ 32 ∷ []
 
 -- "prints `refused`", and a blank
-abbrev pub refusedWord : List ℕ
-refusedWord = 114 ∷ 101 ∷ 102 ∷ 117 ∷ 115 ∷ 101 ∷ 100 ∷ 32 ∷ []
+abbrev pub refused_word : List ℕ
+refused_word = 114 ∷ 101 ∷ 102 ∷ 117 ∷ 115 ∷ 101 ∷ 100 ∷ 32 ∷ []
 
--- the bits of a code's score, as `toScore` has them
-abbrev pub scoreBits : ℤ → ℕ
-scoreBits c = sortableBits (shr_z c (2 ^ 32))
+-- the bits of a code's score, as `to_score` has them
+abbrev pub score_bits : ℤ → ℕ
+score_bits c = sortable_bits (shr_z c (2 ^ 32))
 
 -- "per hit the document and the score's bits as 8 hexadecimal digits"
-unfoldable pub hitLine : ℤ → List ℕ
-hitLine c = decimal (toDoc c) ++ (32 ∷ (hex8 (scoreBits c) ++ (10 ∷ [])))
+unfoldable pub hit_line : ℤ → List ℕ
+hit_line c = decimal (to_doc c) ++ (32 ∷ (hex8 (score_bits c) ++ (10 ∷ [])))
 
 -- the lines of all hits, the best first
-unfoldable pub hitLines : List ℤ → List ℕ
-hitLines [] = []
-hitLines (c ∷ cs) = hitLine c ++ hitLines cs
+unfoldable pub hit_lines : List ℤ → List ℕ
+hit_lines [] = []
+hit_lines (c ∷ cs) = hit_line c ++ hit_lines cs
 
 -- "prints `count`, the count, `+` when marked; then per hit .."
-unfoldable pub foundText : ℕ → Bool → List ℤ → List ℕ
-foundText count marked codes = countWord ++ (decimal count ++ (cond marked (43 ∷ 10 ∷ []) (10 ∷ []) ++ hitLines codes))
+unfoldable pub found_text : ℕ → Bool → List ℤ → List ℕ
+found_text count marked codes = count_word ++ (decimal count ++ (cond marked (43 ∷ 10 ∷ []) (10 ∷ []) ++ hit_lines codes))
 
 -- "A refusal prints `refused` and its number alone"
-unfoldable pub refusedText : ℕ → List ℕ
-refusedText n = refusedWord ++ (decimal n ++ (10 ∷ []))
+unfoldable pub refused_text : ℕ → List ℕ
+refused_text n = refused_word ++ (decimal n ++ (10 ∷ []))
 
 -- ---- the ten files
 -- what was read of each; 65,537 bytes stand for a file that is longer than 64 KiB, or missing

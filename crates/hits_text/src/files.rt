@@ -1,11 +1,11 @@
 // Which files the program takes.
 ghost use Rattle.std.specs.Prelude.{◌≡◌, ◌<◌};
-ghost use Rattle.hits_text.specs.Text.{files, whole as wholeFile, taken as takenFiles};
+ghost use Rattle.hits_text.specs.Text.{files, whole as whole_file, taken as taken_files};
 
 // Whether a file is not too long and of whole words of so many bytes.
 fn whole(bytes: &[u8], size: usize) -> bool
     requires { 0 < size }
-    ensures { result ≡ wholeFile size bytes.now }
+    ensures { result ≡ whole_file size bytes.now }
 {
     (bytes.len() <= 65536) & (bytes.len() % size == 0)
 }
@@ -23,7 +23,7 @@ pub fn taken(
     values: &[u8],
     query: &[u8],
 ) -> bool
-    ensures { result ≡ takenFiles (files run.now fields.now leaves.now postings.now positions.now norms.now live.now columns.now values.now query.now) }
+    ensures { result ≡ taken_files (files run.now fields.now leaves.now postings.now positions.now norms.now live.now columns.now values.now query.now) }
 {
     (run.len() == 12)
         & whole(fields, 4)

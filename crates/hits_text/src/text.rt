@@ -1,6 +1,6 @@
 // Bytes, decimal and hexadecimal numbers put into a lent output at a place; each answers the place after what it put.
 ghost use Rattle.std.specs.Prelude.{◌≡◌, [], ◌∷◌, ◌+◌, ◌≤◌, ◌<◌, length};
-ghost use Rattle.hits_text.specs.Text.{digitOf, decimal, hexDigits};
+ghost use Rattle.hits_text.specs.Text.{digit_of, decimal, hex_digits};
 ghost use Rattle.hits_text.specs.Puts.{Put};
 
 pub fn put_byte(b: u8, out: &mut [u8], at: usize) -> usize
@@ -27,7 +27,7 @@ pub fn put_text(text: &[u8], out: &mut [u8], at: usize) -> usize
 // The ASCII code of a digit below 16.
 fn digit(d: u64) -> u8
     requires { d < 16 }
-    ensures { result ≡ digitOf d }
+    ensures { result ≡ digit_of d }
 {
     if d < 10 {
         return 48 + d as u8;
@@ -49,7 +49,7 @@ pub fn put_decimal(n: u64, out: &mut [u8], at: usize) -> usize
 // The last so many hexadecimal digits.
 pub fn put_hex(n: u64, digits: u32, out: &mut [u8], at: usize) -> usize
     requires { at + digits ≤ length out.old }
-    ensures { Put out.old at (hexDigits digits n) result out.new }
+    ensures { Put out.old at (hex_digits digits n) result out.new }
 {
     if digits == 0 {
         return at;

@@ -1,7 +1,7 @@
 // The words of a file's bytes.
 ghost use Rattle.std.specs.Prelude.{◌≡◌, ◌+◌, ◌*◌, ◌/◌, ◌≤◌, ◌<◌, length, take};
 ghost use Rattle.io.specs.Counts.{IsPrefixLen};
-ghost use Rattle.hits_text.specs.Text.{word_at, longAt, words_of, longsOf};
+ghost use Rattle.hits_text.specs.Text.{word_at, long_at, words_of, longs_of};
 
 fn wide(b: u8) -> u32
     ensures { (result ≡ b) × (b < 256) }
@@ -25,7 +25,7 @@ pub fn word_at(bytes: &[u8], i: usize) -> u32
 // The i-th of 64 bits.
 fn long_at(bytes: &[u8], i: usize) -> u64
     requires { 8 * i + 7 < length bytes.now }
-    ensures { result ≡ longAt bytes.now i }
+    ensures { result ≡ long_at bytes.now i }
 {
     let low = word_at(bytes, 2 * i);
     let high = word_at(bytes, 2 * i + 1);
@@ -50,7 +50,7 @@ pub fn read_words(bytes: &[u8], words: &mut [u32]) -> usize
 pub fn read_longs(bytes: &[u8], words: &mut [u64]) -> usize
     requires { length bytes.now / 8 ≤ length words.old }
     ensures prefix_len { IsPrefixLen result words.new }
-    ensures words_after { take result words.new ≡ longsOf bytes.now }
+    ensures words_after { take result words.new ≡ longs_of bytes.now }
 {
     let n = bytes.len() / 8;
     let mut i = 0;

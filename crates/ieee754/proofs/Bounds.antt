@@ -12,8 +12,8 @@ use lib.Ieee.Bits.{of_bits-fits}
 use lib.Ieee.Exact.{HasValue, round_exact}
 use lib.Ieee.Back.{round_whole}
 use lib.Ieee.Positive.{num, den, den_pos, value→cross, through}
-use Rattle.meaning.specs.Ieee754.{zeroFloat, narrow}
-use Rattle.ieee754.specs.Nonneg.{nonneg, signClear, AtMost}
+use Rattle.meaning.specs.Ieee754.{zero_float, narrow}
+use Rattle.ieee754.specs.Nonneg.{nonneg, sign_clear, AtMost}
 use Rattle.ieee754.proofs.Nonneg.{nonneg-of-value, no_nan}
 use Rattle.ieee754.proofs.Patterns.{lt-is, pattern-nonneg, pattern-back, pattern-clear, clear-le}
 use Rattle.ieee754.proofs.Ranges.{Within, add_is, mul_is, round-nonneg, round-cross, cross→le, le→cross}
@@ -45,7 +45,7 @@ atmost-more {p} {q} {x} h m = record { sign = m.sign; most = le_trans m.most (mu
 pub atmost-number : {p : ℕ} {x : Float} → AtMost p x → T (not (is_nan x))
 atmost-number {p} {x} m = no_nan x m.sign
 
-pub zero-atmost : (p : ℕ) → AtMost p zeroFloat
+pub zero-atmost : (p : ℕ) → AtMost p zero_float
 zero-atmost p = record { sign = tt; most = zero-le }
 
 -- what is at most a weight is at most what that is
@@ -54,11 +54,11 @@ upto-atmost p w x i u =
     let m : num x * 1 ≤ p * den x = through (num x) (num w) p (den x) (den w) 1 (den_pos w) u.most (subst (λ (z : ℕ). z ≤ p * den w) (sym (mul-one (num w))) i.most) in
     record { sign = u.sign; most = subst (λ (z : ℕ). z ≤ p * den x) (mul-one (num x)) m }
 
-pub zero-le-nonneg : (x : Float) → T (nonneg x) → T (le zeroFloat x)
-zero-le-nonneg x p = cross→le zeroFloat x tt p (le_trans (le_of_eq (zero-mul (den x))) zero-le)
+pub zero-le-nonneg : (x : Float) → T (nonneg x) → T (le zero_float x)
+zero-le-nonneg x p = cross→le zero_float x tt p (le_trans (le_of_eq (zero-mul (den x))) zero-le)
 
 -- in the words of `le`
-pub upto_le : (w x : Float) → T (nonneg w) → UpTo w x → T (le zeroFloat x) × T (le x w)
+pub upto_le : (w x : Float) → T (nonneg w) → UpTo w x → T (le zero_float x) × T (le x w)
 upto_le w x W u = (zero-le-nonneg x u.sign, cross→le x w u.sign W u.most)
 
 -- what is not above a limit
@@ -68,7 +68,7 @@ inf-above nan p = absurd p
 inf-above (inf s) p = absurd p
 inf-above (fin s m e) p = refl
 
-pub limit-upto : (w x : Float) → T (nonneg w) → T (signClear x) → lt w x ≡ false → UpTo w x
+pub limit-upto : (w x : Float) → T (nonneg w) → T (sign_clear x) → lt w x ≡ false → UpTo w x
 limit-upto w nan W p h = absurd p
 limit-upto w (inf true) W p h = absurd p
 limit-upto w (inf false) W p h = absurd (true≢false (sym (inf-above w W) ∙ h))

@@ -1,4 +1,4 @@
--- The steps of IEEE 754's text (`narrowInSteps`) give what `narrow` gives: for every value, whether or not binary64 holds it. Assumes nothing.
+-- The steps of IEEE 754's text (`narrow_in_steps`) give what `narrow` gives: for every value, whether or not binary64 holds it. Assumes nothing.
 use mathlib.Core.Path.{◌≡◌, refl, sym, ap, ◌∙◌, subst}
 use mathlib.Core.Bool.{Bool, true, false, not, cond}
 use Prim.Native.Nat.{ℕ, zero, suc, ◌+◌, ◌-◌, ◌*◌, ◌/◌, ◌%◌, ◌^◌, ◌≤◌, ◌<◌, compare}
@@ -16,8 +16,8 @@ use lib.Ieee.Fits.{down_pos, nearest-le, kept-lt, odd-fits, round_is}
 use lib.Ieee.Bits.{of_bits-to_bits}
 use lib.Ieee.Nearest.{closest, closest_mono, closest_same, nearest-ge}
 use Rattle.meaning.specs.Ieee754.{narrow}
-use Rattle.meaning.specs.Narrowing.{dropped, rounded, overflows, tiny, subnormal, float, narrowInSteps}
-use Rattle.ieee754.proofs.Nonneg.{nonneg-of-value, pattern, toBits-units}
+use Rattle.meaning.specs.Narrowing.{dropped, rounded, overflows, tiny, subnormal, float, narrow_in_steps}
+use Rattle.ieee754.proofs.Nonneg.{nonneg-of-value, pattern, to_bits-units}
 use Rattle.ieee754.proofs.Narrowing.{narrow-is, narrow-nan, narrow-inf, narrow-neg, neg-fin, odd-neg}
 use Rattle.ieee754.proofs.NarrowSteps.{size_exact, few, units_of, wide, units_small, units-large, nearest-below}
 
@@ -311,7 +311,7 @@ by-pattern q k h l =
     let x = odd 25 false q k 149 in
     let v : HasValue x false (q * 2 ^ k) (2 ^ 149) = odd_sign 25 false q k 149 in
     sym (of_bits-to_bits binary32 x (odd-fits binary32 25 false q k (wide q h) h l))
-    ∙ ap (of_bits binary32) (toBits-units binary32 x (nonneg-of-value x (q * 2 ^ k) (2 ^ 149) v) ∙ ap (pattern binary32) (units_of binary32 x (q * 2 ^ k) v))
+    ∙ ap (of_bits binary32) (to_bits-units binary32 x (nonneg-of-value x (q * 2 ^ k) (2 ^ 149) v) ∙ ap (pattern binary32) (units_of binary32 x (q * 2 ^ k) v))
 
 same-value : (q k q' k' : ℕ) → q ≤ 2 ^ 24 → q' ≤ 2 ^ 24 → q * 2 ^ k < 2 ^ 277 → q * 2 ^ k ≡ q' * 2 ^ k' → odd 25 false q k 149 ≡ odd 25 false q' k' 149
 same-value q k q' k' h h' l e =
@@ -374,8 +374,8 @@ overflow-is : (m : ℕ) (e : ℤ) → Normal m e → T (overflows m e) → inf f
 overflow-is m e h o = sym (narrow-units m e ∙ units-large (kept m e) (cutoff m e) (overflow-large m e h o))
 
 -- every finite value from 0 up
-pub in-steps : (m : ℕ) (e : ℤ) → narrowInSteps (fin false m e) ≡ narrow (fin false m e)
-unfolding narrowInSteps
+pub in-steps : (m : ℕ) (e : ℤ) → narrow_in_steps (fin false m e) ≡ narrow (fin false m e)
+unfolding narrow_in_steps
 in-steps m e =
     go (overflows m e) (tiny m e) (tiny-fits m e) (tiny-is m e) (λ n. nltb→le (m * up e * 2 ^ 126) (down e) n) (λ n o. overflow-is m e n o) (λ n o. normal-is m e n o)
   where
@@ -397,8 +397,8 @@ float-neg : (s : Bool) (q d : ℕ) (e : ℤ) → neg (float s q d e) ≡ float (
 float-neg s q d (pos i) = odd-neg 25 s q (d + i) 0
 float-neg s q d (negsuc i) = odd-neg 25 s q d (suc i)
 
-steps-neg : (s : Bool) (m : ℕ) (e : ℤ) → neg (narrowInSteps (fin s m e)) ≡ narrowInSteps (fin (not s) m e)
-unfolding narrowInSteps neg
+steps-neg : (s : Bool) (m : ℕ) (e : ℤ) → neg (narrow_in_steps (fin s m e)) ≡ narrow_in_steps (fin (not s) m e)
+unfolding narrow_in_steps neg
 steps-neg s m e = go (overflows m e) (tiny m e)
   where
     go : (o t : Bool) → neg (cond o (inf s) (cond t (subnormal s m e) (float s (rounded m) (dropped m) e))) ≡ cond o (inf (not s)) (cond t (subnormal (not s) m e) (float (not s) (rounded m) (dropped m) e))
@@ -407,16 +407,16 @@ steps-neg s m e = go (overflows m e) (tiny m e)
     go false false = float-neg s (rounded m) (dropped m) e
 
 -- every value
-pub in-steps-all : (x : Float) → narrowInSteps x ≡ narrow x
-unfolding narrowInSteps
+pub in-steps-all : (x : Float) → narrow_in_steps x ≡ narrow x
+unfolding narrow_in_steps
 in-steps-all nan = sym narrow-nan
 in-steps-all (inf s) = sym (narrow-inf s)
 in-steps-all (fin false m e) = in-steps m e
 in-steps-all (fin true m e) = sym (steps-neg false m e) ∙ ap neg (in-steps m e) ∙ narrow-neg (fin false m e) ∙ ap narrow (neg-fin false m e)
 
 -- ---- 7.5 allows step 3 to ask whether the rounded result lies below 2^-126
-pub tinyRounded : ℕ → ℤ → Bool
-tinyRounded m e = ltb (result m * up e * 2 ^ 126) (down e)
+pub tiny_rounded : ℕ → ℤ → Bool
+tiny_rounded m e = ltb (result m * up e * 2 ^ 126) (down e)
 
 -- the rounded result of a value from 2^-126 on is not below it
 normal-stays : (m : ℕ) (e : ℤ) → Normal m e → down e ≤ result m * up e * 2 ^ 126
@@ -542,11 +542,11 @@ least s m (negsuc i) h k = go (dropped m) refl
         cross m a c e = omega (arith, ap (λ (x : ℕ). m * x) e)
 
 -- whichever of the two step 3 asks, the result is the same
-pub tiny-either-way : (s : Bool) (m : ℕ) (e : ℤ) → cond (overflows m e) (inf s) (cond (tinyRounded m e) (subnormal s m e) (float s (rounded m) (dropped m) e)) ≡ narrowInSteps (fin s m e)
-unfolding narrowInSteps tinyRounded
+pub tiny-either-way : (s : Bool) (m : ℕ) (e : ℤ) → cond (overflows m e) (inf s) (cond (tiny_rounded m e) (subnormal s m e) (float s (rounded m) (dropped m) e)) ≡ narrow_in_steps (fin s m e)
+unfolding narrow_in_steps tiny_rounded
 tiny-either-way s m e =
     ap (cond (overflows m e) (inf s))
-    (go (tiny m e) (tinyRounded m e) (ltb→lt (m * up e * 2 ^ 126) (down e)) (nltb→le (m * up e * 2 ^ 126) (down e)) (ltb→lt (result m * up e * 2 ^ 126) (down e)) (nltb→le (result m * up e * 2 ^ 126) (down e)))
+    (go (tiny m e) (tiny_rounded m e) (ltb→lt (m * up e * 2 ^ 126) (down e)) (nltb→le (m * up e * 2 ^ 126) (down e)) (ltb→lt (result m * up e * 2 ^ 126) (down e)) (nltb→le (result m * up e * 2 ^ 126) (down e)))
   where
     go :
         (t r : Bool) →

@@ -16,7 +16,7 @@ use lib.Ieee.Nearest.{closest, closest_mono, closest_same, nearest-ge}
 use lib.Ieee.Positive.{den, den_pos, value→cross}
 use Rattle.meaning.specs.Ieee754.{narrow}
 use Rattle.ieee754.specs.Nonneg.{nonneg}
-use Rattle.ieee754.proofs.Nonneg.{nonneg-of-value, inUnits, pattern, toBits-units}
+use Rattle.ieee754.proofs.Nonneg.{nonneg-of-value, in_units, pattern, to_bits-units}
 use Rattle.ieee754.proofs.Patterns.{number-bits, pattern-infinite}
 use Rattle.ieee754.proofs.Narrowing.{narrow_at, narrow-neg, narrow-nan, odd-neg}
 
@@ -88,7 +88,7 @@ packs q k lo hi = elim (eq-or-lt_of_le hi) [
   | inr l ↦ pattern-full q k lo l
 ]
 
-pub units_of : (f : Format) (x : Float) (a : ℕ) → HasValue x false a (2 ^ low f) → inUnits f x ≡ a
+pub units_of : (f : Format) (x : Float) (a : ℕ) → HasValue x false a (2 ^ low f) → in_units f x ≡ a
 units_of f x a h = ap (λ (z : ℕ). z / den x) (value→cross x a (2 ^ low f) h) ∙ mul-div_cancel a (den_pos x)
 
 pub wide : (q : ℕ) → q ≤ 2 ^ 24 → q < 2 ^ 25
@@ -116,7 +116,7 @@ units-bits q k hi p h =
     let v : HasValue x false (q * 2 ^ k) (2 ^ 149) = odd_sign 25 false q k 149 in
     units_small q k h
     ∙ sym (of_bits-to_bits binary32 x (odd-fits binary32 25 false q k (wide q hi) hi h))
-    ∙ ap (of_bits binary32) (toBits-units binary32 x (nonneg-of-value x (q * 2 ^ k) (2 ^ 149) v) ∙ ap (pattern binary32) (units_of binary32 x (q * 2 ^ k) v) ∙ p)
+    ∙ ap (of_bits binary32) (to_bits-units binary32 x (nonneg-of-value x (q * 2 ^ k) (2 ^ 149) v) ∙ ap (pattern binary32) (units_of binary32 x (q * 2 ^ k) v) ∙ p)
 
 zero_bits : of_bits binary32 0 ≡ fin false 0 (lib.IntN.pos 0)
 unfolding of_bits

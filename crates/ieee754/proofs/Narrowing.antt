@@ -11,7 +11,7 @@ use lib.Ieee.Order.{round_mono}
 use lib.Ieee.Scale.{round_same}
 use lib.Ieee.Positive.{num, den, den_pos, value→cross}
 use Rattle.meaning.specs.Ieee754.{narrow}
-use Rattle.ieee754.specs.Nonneg.{nonneg, signClear}
+use Rattle.ieee754.specs.Nonneg.{nonneg, sign_clear}
 use Rattle.ieee754.proofs.Nonneg.{nonneg-of-value, round-self}
 use Rattle.ieee754.proofs.Ranges.{le→cross, round-clear}
 
@@ -75,7 +75,7 @@ pub neg-fin : (s : Bool) (m : ℕ) (e : ℤ) → neg (fin s m e) ≡ fin (not s)
 unfolding neg
 neg-fin s m e = refl
 
-pub narrow-clear : (x : Float) → T (signClear x) → T (signClear (narrow x))
+pub narrow-clear : (x : Float) → T (sign_clear x) → T (sign_clear (narrow x))
 unfolding narrow
 narrow-clear nan p = absurd p
 narrow-clear (inf s) p = p
@@ -93,7 +93,7 @@ narrow_exact (fin true m e) F =
     ap narrow (sym (neg-fin false m e)) ∙ sym (narrow-neg y) ∙ ap neg (narrow-is y tt ∙ round-self binary32 y G tt) ∙ neg-fin false m e
 
 -- ---- monotone, where the sign is clear
-le-inf : (x : Float) → T (signClear x) → T (le x (inf false))
+le-inf : (x : Float) → T (sign_clear x) → T (le x (inf false))
 unfolding le
 le-inf nan p = absurd p
 le-inf (inf true) p = absurd p
@@ -104,7 +104,7 @@ inf-not-le : (m : ℕ) (e : ℤ) → T (le (inf false) (fin false m e)) → ⊥
 unfolding le
 inf-not-le m e h = h
 
-pub narrow-mono : (x y : Float) → T (signClear x) → T (signClear y) → T (le x y) → T (le (narrow x) (narrow y))
+pub narrow-mono : (x y : Float) → T (sign_clear x) → T (sign_clear y) → T (le x y) → T (le (narrow x) (narrow y))
 narrow-mono x nan p q h = absurd q
 narrow-mono x (inf true) p q h = absurd q
 narrow-mono x (fin true n d) p q h = absurd q

@@ -35,23 +35,23 @@ nonneg-of-value (fin true m e) a c h = absurd (subst (λ (b : Bool). T b) h.0 tt
 nonneg-of-value (fin false m e) a c h = tt
 
 -- ---- the size in units of the format's smallest value, and the pattern of such a size
-abbrev pub inUnits : Format → Float → ℕ
-inUnits f x = num x * 2 ^ low f / den x
+abbrev pub in_units : Format → Float → ℕ
+in_units f x = num x * 2 ^ low f / den x
 
 abbrev pub pattern : Format → ℕ → ℕ
 pattern f n = (size n - prec f) * hid f + n / 2 ^ (size n - prec f)
 
-pub toBits-units : (f : Format) (x : Float) → T (nonneg x) → to_bits f x ≡ pattern f (inUnits f x)
+pub to_bits-units : (f : Format) (x : Float) → T (nonneg x) → to_bits f x ≡ pattern f (in_units f x)
 unfolding to_bits
-toBits-units f nan p = absurd p
-toBits-units f (inf s) p = absurd p
-toBits-units f (fin true m e) p = absurd p
-toBits-units f (fin false m e) p =
+to_bits-units f nan p = absurd p
+to_bits-units f (inf s) p = absurd p
+to_bits-units f (fin true m e) p = absurd p
+to_bits-units f (fin false m e) p =
     let n = m * up e * 2 ^ low f / down e in
     let k = size n - prec f in
     ap (λ (z : ℕ). z + n / 2 ^ k) (zero-add (k * hid f))
 
-pub units-same : (f : Format) (x y : Float) → num x * den y ≡ num y * den x → inUnits f x ≡ inUnits f y
+pub units-same : (f : Format) (x y : Float) → num x * den y ≡ num y * den x → in_units f x ≡ in_units f y
 units-same f x y h =
     let l = 2 ^ low f in
     div_same (num x * l) (den x) (num y * l) (den y) (den_pos x) (den_pos y)
@@ -61,7 +61,7 @@ units-same f x y h =
 pub unique : (f : Format) (x y : Float) → T (fits f x) → T (fits f y) → T (nonneg x) → T (nonneg y) → num x * den y ≡ num y * den x → x ≡ y
 unique f x y F G p q h =
     sym (of_bits-to_bits f x F)
-    ∙ ap (of_bits f) (toBits-units f x p ∙ ap (pattern f) (units-same f x y h) ∙ sym (toBits-units f y q))
+    ∙ ap (of_bits f) (to_bits-units f x p ∙ ap (pattern f) (units-same f x y h) ∙ sym (to_bits-units f y q))
     ∙ of_bits-to_bits f y G
 
 -- ---- what `fits` says, taken apart

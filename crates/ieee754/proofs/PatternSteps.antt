@@ -10,7 +10,7 @@ use lib.Dec.{T, not_T, leb, leb→le, le→leb, nleb→lt}
 use lib.Pow.{pow-add, pow_pos, pow_mono, pow-lt, shl_lt}
 use lib.Ieee.{binary32, binary64, of_bits}
 use lib.Ieee.Nearest.{closest, closest_mono}
-use Rattle.meaning.specs.Narrowing.{rounded, narrowInSteps}
+use Rattle.meaning.specs.Narrowing.{rounded, narrow_in_steps}
 use Rattle.ieee754.proofs.TotalOrder.{same_test}
 use Rattle.ieee754.proofs.NarrowSteps.{size_exact, closest-shift, gives-zero, gives-small, gives-normal, gives-large}
 use Rattle.ieee754.proofs.InSteps.{in-steps-all}
@@ -110,7 +110,7 @@ pattern-is b p h = let e = rounded-pattern b in omega (arith, h, e)
 
 module _ (b : ℕ) where
   abbrev InSteps : ℕ → Type 0
-  InSteps n = of_bits binary32 n ≡ narrowInSteps (of_bits binary64 b)
+  InSteps n = of_bits binary32 n ≡ narrow_in_steps (of_bits binary64 b)
 
   -- below 2^-150
   pub steps-zero : b < 873 * 2 ^ 52 → InSteps 0

@@ -15,9 +15,9 @@ use lib.Ieee.Digits.{size-lt, size-le, size_reaches}
 use lib.Ieee.Bits.{is_true, is_false, of_bits-to_bits, to_bits-of_bits, nan_bits_is, nan_bits_above}
 use lib.Ieee.Nearest.{div_mono}
 use lib.Ieee.Positive.{num, den, den_pos}
-use Rattle.ieee754.specs.Nonneg.{nonneg, signClear}
+use Rattle.ieee754.specs.Nonneg.{nonneg, sign_clear}
 use Rattle.ieee754.proofs.TotalOrder.{same_test}
-use Rattle.ieee754.proofs.Nonneg.{inUnits, pattern, toBits-units, parts, nonneg-of-value}
+use Rattle.ieee754.proofs.Nonneg.{in_units, pattern, to_bits-units, parts, nonneg-of-value}
 
 size_mono : (a b : ℕ) → a ≤ b → size a ≤ size b
 size_mono a b h = size-le a (size b) (lt_of_le_of_lt h (size-lt b))
@@ -44,7 +44,7 @@ twice (suc p) h = go p
     go : (p : ℕ) → 2 ^ suc p ≡ 2 ^ (suc p - 1) + 2 ^ (suc p - 1)
     go p = two-pow-succ p ∙ ap (λ (z : ℕ). 2 ^ z + 2 ^ z) (sym (same p))
 
--- j fields and less than two more are at most k fields and one more, for j < k. H is the inUnits of a field
+-- j fields and less than two more are at most k fields and one more, for j < k. H is the in_units of a field
 carry : (j k H a b x y : ℕ) → suc j * H ≤ k * H → x ≡ j * H → x + H ≡ suc j * H → y ≡ k * H → a < H + H → H ≤ b → x + a ≤ y + b
 carry j k H a b x y h p r q l g = omega arith
 
@@ -68,9 +68,9 @@ module _ (f : Format) (x y : Float) (F : T (fits f x)) (G : T (fits f y)) (p : T
   pub bits-le : num x * den y ≤ num y * den x → to_bits f x ≤ to_bits f y
   bits-le h =
       let l = 2 ^ low f in
-      subst (λ (z : ℕ). z ≤ to_bits f y) (sym (toBits-units f x p))
-      (subst (λ (z : ℕ). pattern f (inUnits f x) ≤ z) (sym (toBits-units f y q))
-      (pattern-mono f (inUnits f x) (inUnits f y)
+      subst (λ (z : ℕ). z ≤ to_bits f y) (sym (to_bits-units f x p))
+      (subst (λ (z : ℕ). pattern f (in_units f x) ≤ z) (sym (to_bits-units f y q))
+      (pattern-mono f (in_units f x) (in_units f y)
       (div_mono (num x * l) (den x) (num y * l) (den y) (den_pos x) (den_pos y)
       (le_trans (le_of_eq (mul_right_comm (num x) l (den y))) (le_trans (mul-le-mul_right l h) (le_of_eq (mul_right_comm (num y) (den x) l)))))))
 
@@ -111,7 +111,7 @@ lt-bits f x y F G p q =
     (λ t. not_T (ltb (to_bits f x) (to_bits f y)) (λ u. not-le_of_lt (ltb→lt (to_bits f x) (to_bits f y) u) (bits-le f y x G F q p (nltb→le a b t))))
 
 -- ---- the sign is clear, and the exponent's field is not all ones
-pub units_lt : (f : Format) (x : Float) → T (fits f x) → T (nonneg x) → inUnits f x < 2 ^ (low f + suc (emax f))
+pub units_lt : (f : Format) (x : Float) → T (fits f x) → T (nonneg x) → in_units f x < 2 ^ (low f + suc (emax f))
 units_lt f x F p =
     let z = parts f x F p in
     subst (λ (w : ℕ). w < 2 ^ (low f + suc (emax f))) (sym (ap (λ (w : ℕ). w / den x) z.4 ∙ mul-div_cancel (z.0 * 2 ^ z.1) (den_pos x))) z.3
@@ -122,8 +122,8 @@ largest = refl
 
 pub bits-finite : (x : Float) → T (fits binary32 x) → T (nonneg x) → to_bits binary32 x < 255 * 2 ^ 23
 bits-finite x F p =
-    subst (λ (z : ℕ). z < 255 * 2 ^ 23) (sym (toBits-units binary32 x p))
-    (lt_of_le_of_lt (pattern-mono binary32 (inUnits binary32 x) (2 ^ 277 - 1) (le_ones 277 (units_lt binary32 x F p)))
+    subst (λ (z : ℕ). z < 255 * 2 ^ 23) (sym (to_bits-units binary32 x p))
+    (lt_of_le_of_lt (pattern-mono binary32 (in_units binary32 x) (2 ^ 277 - 1) (le_ones 277 (units_lt binary32 x F p)))
     (subst (λ (z : ℕ). z < 255 * 2 ^ 23) (sym largest) (lit< tt)))
 
 -- `x ≤ y` of two floats is `≤` of their patterns
@@ -163,14 +163,14 @@ pub inf-pattern : to_bits binary32 (inf false) ≡ 0x7f80_0000
 unfolding to_bits
 inf-pattern = refl
 
-pub clear-bits : (x : Float) → T (fits binary32 x) → T (signClear x) → to_bits binary32 x ≤ 0x7f80_0000
+pub clear-bits : (x : Float) → T (fits binary32 x) → T (sign_clear x) → to_bits binary32 x ≤ 0x7f80_0000
 clear-bits nan F p = absurd p
 clear-bits (inf true) F p = absurd p
 clear-bits (inf false) F p = le_of_eq inf-pattern
 clear-bits (fin true m e) F p = absurd p
 clear-bits (fin false m e) F p = le_of_lt (bits-finite (fin false m e) F tt)
 
-pub clear-lt : (x y : Float) → T (fits binary32 x) → T (fits binary32 y) → T (signClear x) → T (signClear y) → lt x y ≡ ltb (to_bits binary32 x) (to_bits binary32 y)
+pub clear-lt : (x y : Float) → T (fits binary32 x) → T (fits binary32 y) → T (sign_clear x) → T (sign_clear y) → lt x y ≡ ltb (to_bits binary32 x) (to_bits binary32 y)
 unfolding lt
 clear-lt nan y F G p q = absurd p
 clear-lt (inf true) y F G p q = absurd p
@@ -192,7 +192,7 @@ clear-lt (fin false m e) (inf false) F G p q =
     sym (is_true (ltb (to_bits binary32 x) (to_bits binary32 (inf false))) (lt→ltb (to_bits binary32 x) (to_bits binary32 (inf false)) (lt_of_lt_of_le (bits-finite x F tt) (le_of_eq (sym inf-pattern)))))
 clear-lt (fin false m e) (fin false n d) F G p q = lt-bits binary32 (fin false m e) (fin false n d) F G tt tt
 
-pub clear-le : (x y : Float) → T (fits binary32 x) → T (fits binary32 y) → T (signClear x) → T (signClear y) → le x y ≡ leb (to_bits binary32 x) (to_bits binary32 y)
+pub clear-le : (x y : Float) → T (fits binary32 x) → T (fits binary32 y) → T (sign_clear x) → T (sign_clear y) → le x y ≡ leb (to_bits binary32 x) (to_bits binary32 y)
 unfolding le lt eq
 clear-le nan y F G p q = absurd p
 clear-le (inf true) y F G p q = absurd p
@@ -214,7 +214,7 @@ clear-le (fin false m e) (inf false) F G p q =
     sym (is_true (leb (to_bits binary32 x) (to_bits binary32 (inf false))) (le→leb (to_bits binary32 x) (to_bits binary32 (inf false)) (le_trans (le_of_lt (bits-finite x F tt)) (le_of_eq (sym inf-pattern)))))
 clear-le (fin false m e) (fin false n d) F G p q = le-bits binary32 (fin false m e) (fin false n d) F G tt tt
 
-pub nonneg-clear : (x : Float) → T (nonneg x) → T (signClear x)
+pub nonneg-clear : (x : Float) → T (nonneg x) → T (sign_clear x)
 nonneg-clear nan p = absurd p
 nonneg-clear (inf s) p = absurd p
 nonneg-clear (fin s m e) p = p
@@ -258,13 +258,13 @@ pub pattern-infinite : of_bits binary32 0x7f80_0000 ≡ inf false
 unfolding of_bits
 pattern-infinite = refl
 
-pub pattern-clear : (n : ℕ) → n ≤ 0x7f80_0000 → T (signClear (of_bits binary32 n))
+pub pattern-clear : (n : ℕ) → n ≤ 0x7f80_0000 → T (sign_clear (of_bits binary32 n))
 pattern-clear n h = elim (eq-or-lt_of_le h) [
-  | inl e ↦ subst (λ (z : Float). T (signClear z)) (sym (ap (of_bits binary32) e ∙ pattern-infinite)) tt
+  | inl e ↦ subst (λ (z : Float). T (sign_clear z)) (sym (ap (of_bits binary32) e ∙ pattern-infinite)) tt
   | inr l ↦ nonneg-clear (of_bits binary32 n) (pattern-nonneg n l)
 ]
 
-pub clear-number : (x : Float) → T (signClear x) → T (not (is_nan x))
+pub clear-number : (x : Float) → T (sign_clear x) → T (not (is_nan x))
 unfolding is_nan
 clear-number nan p = absurd p
 clear-number (inf s) p = tt

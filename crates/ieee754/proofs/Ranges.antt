@@ -13,7 +13,7 @@ use lib.Ieee.Fits.{and_l, round_is}
 use lib.Ieee.Exact.{odd_sign}
 use lib.Ieee.Order.{le_of_values, round_mono, kept, drop}
 use lib.Ieee.Positive.{num, den, den_pos, first_pos}
-use Rattle.ieee754.specs.Nonneg.{nonneg, signClear}
+use Rattle.ieee754.specs.Nonneg.{nonneg, sign_clear}
 use Rattle.ieee754.proofs.Nonneg.{own_value, nonneg-of-value}
 use Rattle.ieee754.proofs.Patterns.{le_is, nonneg-clear}
 
@@ -38,20 +38,20 @@ pub cross→le : (x y : Float) → T (nonneg x) → T (nonneg y) → num x * den
 cross→le x y p q h = le_of_values x y (num x) (den x) (num y) (den y) (den_pos x) (den_pos y) (own_value x p) (own_value y q) h
 
 -- ---- what `round f false` gives is an infinity above zero, or is `nonneg`
-units-clear : (f : Format) (q k : ℕ) → T (signClear (units f false q k))
+units-clear : (f : Format) (q k : ℕ) → T (sign_clear (units f false q k))
 unfolding units
 units-clear f q k = go (ltb (q * 2 ^ k) (2 ^ (low f + suc (emax f))))
   where
-    go : (b : Bool) → T (signClear (cond b (odd (suc (prec f)) false q k (low f)) (inf false)))
+    go : (b : Bool) → T (sign_clear (cond b (odd (suc (prec f)) false q k (low f)) (inf false)))
     go true =
         let x = odd (suc (prec f)) false q k (low f) in
         nonneg-clear x (nonneg-of-value x (q * 2 ^ k) (2 ^ low f) (odd_sign (suc (prec f)) false q k (low f)))
     go false = tt
 
-pub round-clear : (f : Format) (a b : ℕ) → T (signClear (round f false a b))
-round-clear f a b = subst (λ (z : Float). T (signClear z)) (sym (round_is f false a b)) (units-clear f (kept (prec f) (a * 2 ^ low f) b) (drop (prec f) (a * 2 ^ low f) b))
+pub round-clear : (f : Format) (a b : ℕ) → T (sign_clear (round f false a b))
+round-clear f a b = subst (λ (z : Float). T (sign_clear z)) (sym (round_is f false a b)) (units-clear f (kept (prec f) (a * 2 ^ low f) b) (drop (prec f) (a * 2 ^ low f) b))
 
-under : (z hi : Float) → T (signClear z) → T (nonneg hi) → T (le z hi) → T (nonneg z)
+under : (z hi : Float) → T (sign_clear z) → T (nonneg hi) → T (le z hi) → T (nonneg z)
 unfolding le
 under nan hi a p h = absurd a
 under (inf true) hi a p h = absurd a
@@ -107,11 +107,11 @@ div_is f (fin false m e) (fin false n d) p q h = go (eqb n 0) (eqb→eq n 0)
     go false z = refl
 
 -- a sum or a product of two such values has the sign clear, if only as plus infinity
-pub add-clear : (f : Format) (x y : Float) → T (nonneg x) → T (nonneg y) → T (signClear (add f x y))
-add-clear f x y p q = subst (λ (z : Float). T (signClear z)) (sym (add_is f x y p q)) (round-clear f (num x * den y + num y * den x) (den x * den y))
+pub add-clear : (f : Format) (x y : Float) → T (nonneg x) → T (nonneg y) → T (sign_clear (add f x y))
+add-clear f x y p q = subst (λ (z : Float). T (sign_clear z)) (sym (add_is f x y p q)) (round-clear f (num x * den y + num y * den x) (den x * den y))
 
-pub mul-clear : (f : Format) (x y : Float) → T (nonneg x) → T (nonneg y) → T (signClear (mul f x y))
-mul-clear f x y p q = subst (λ (z : Float). T (signClear z)) (sym (mul_is f x y p q)) (round-clear f (num x * num y) (den x * den y))
+pub mul-clear : (f : Format) (x y : Float) → T (nonneg x) → T (nonneg y) → T (sign_clear (mul f x y))
+mul-clear f x y p q = subst (λ (z : Float). T (sign_clear z)) (sym (mul_is f x y p q)) (round-clear f (num x * num y) (den x * den y))
 
 pick : (f : Format) (a b c : ℕ) → b ≤ a → sum f false a true b c ≡ round f false (a - b) c
 unfolding sum

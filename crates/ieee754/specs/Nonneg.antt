@@ -10,10 +10,10 @@ nonneg (inf s) = false
 nonneg (fin s m e) = not s
 
 -- no NaN, and the sign is clear: plus infinity too
-abbrev pub signClear : Float → Bool
-signClear nan = false
-signClear (inf s) = not s
-signClear (fin s m e) = not s
+abbrev pub sign_clear : Float → Bool
+sign_clear nan = false
+sign_clear (inf s) = not s
+sign_clear (fin s m e) = not s
 
 -- finite, not negative, and at most the whole number p
 pub record AtMost (p : ℕ) (x : Float) : Type 0 where

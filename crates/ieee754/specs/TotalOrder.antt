@@ -2,5 +2,5 @@
 use Rattle.std.specs.Prelude.{cond, ℕ, ◌+◌, ◌-◌, ◌^◌, leb}
 
 -- the number whose order is totalOrder: a negative pattern turned over, a positive one above them
-unfoldable pub totalKey : ℕ → ℕ
-totalKey bits = cond (leb (2 ^ 63) bits) (2 ^ 64 - 1 - bits) (2 ^ 63 + bits)
+unfoldable pub total_key : ℕ → ℕ
+total_key bits = cond (leb (2 ^ 63) bits) (2 ^ 64 - 1 - bits) (2 ^ 63 + bits)

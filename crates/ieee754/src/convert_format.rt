@@ -3,7 +3,7 @@ ghost use Rattle.std.specs.Prelude.{◌≡◌, ◌+◌, ◌*◌, ◌/◌, ◌%�
 ghost use Rattle.std.specs.Float.{binary64};
 ghost use Rattle.std.specs.Float.Ieee.{of_bits};
 ghost use Rattle.std.specs.Float.Ieee.Nearest.{closest};
-ghost use Rattle.meaning.specs.Narrowing.{rounded, narrowInSteps};
+ghost use Rattle.meaning.specs.Narrowing.{rounded, narrow_in_steps};
 
 // n / u to the nearest whole number, a tie to the even one.
 fn nearest(n: u64, u: u64) -> u64
@@ -35,7 +35,7 @@ fn overflows(pattern: u64) -> bool
 // 3. (7.5) The subnormal case, from the value that is not rounded: of a pattern below 2^-126, the nearest multiple of 2^-149.
 fn subnormal(bits: u64) -> f32
     requires { bits < 0x3810_0000_0000_0000 }
-    ensures { result ≡ narrowInSteps (of_bits binary64 bits) }
+    ensures { result ≡ narrow_in_steps (of_bits binary64 bits) }
 {
     if bits < 0x3690_0000_0000_0000 {
         // below 2^-150, half of the smallest f32: so are all patterns without a leading digit
@@ -49,7 +49,7 @@ fn subnormal(bits: u64) -> f32
 // The steps, for a pattern whose sign is clear and that is no NaN's.
 fn in_steps(bits: u64) -> f32
     requires { bits ≤ 2047 * 2 ^ 52 }
-    ensures { result ≡ narrowInSteps (of_bits binary64 bits) }
+    ensures { result ≡ narrow_in_steps (of_bits binary64 bits) }
 {
     // Below 2^-1022 a pattern has no leading digit, and the digits that are rounded here are not its own: 2 does not hold of them,
     // and 3 reads the pattern.
@@ -65,7 +65,7 @@ fn in_steps(bits: u64) -> f32
 
 // The sign goes through the steps; NaN stays.
 pub fn narrow_in_steps(x: f64) -> f32
-    ensures { result ≡ narrowInSteps x }
+    ensures { result ≡ narrow_in_steps x }
 {
     if x != x {
         return 0.0 / 0.0;

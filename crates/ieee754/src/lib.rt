@@ -6,12 +6,12 @@ pub mod convert_format;
 ghost use Rattle.std.specs.Prelude.{◌≡◌, not, T, pos};
 ghost use Rattle.std.specs.Float.{binary32, binary64};
 ghost use Rattle.std.specs.Float.Ieee.{is_nan, add, of_int};
-ghost use Rattle.meaning.specs.Ieee754.{totalBelow, narrow, nextUp};
-ghost use Rattle.ieee754.specs.TotalOrder.{totalKey};
+ghost use Rattle.meaning.specs.Ieee754.{total_below, narrow, next_up};
+ghost use Rattle.ieee754.specs.TotalOrder.{total_key};
 
 // A number in the order of the patterns: the negative ones turned over, below the positive ones.
 pub fn total_key(bits: u64) -> u64
-    ensures { result ≡ totalKey bits }
+    ensures { result ≡ total_key bits }
 {
     if bits < 0x8000_0000_0000_0000 {
         bits + 0x8000_0000_0000_0000
@@ -22,7 +22,7 @@ pub fn total_key(bits: u64) -> u64
 
 // Whether the first of two patterns is strictly below the other.
 pub fn total_below(a: u64, b: u64) -> bool
-    ensures { result ≡ totalBelow a b }
+    ensures { result ≡ total_below a b }
 {
     total_key(a) < total_key(b)
 }
@@ -46,7 +46,7 @@ pub fn length_to_f32(n: u32) -> f32
 
 // The least value above f; from the largest one on, plus infinity.
 pub fn next_up(f: f32) -> f32
-    ensures { result ≡ nextUp f }
+    ensures { result ≡ next_up f }
 {
     if f != f {
         return f;

@@ -8,12 +8,12 @@ use native.Mathlib.Omega.{arith}
 use lib.Dec.{ltb, leb, eqb}
 use lib.ListN.{length}
 use borrow.Author.Tests.{ltb-false, leb-false, eqb-true, eqb-false, not-false, lt-ltb, ne_eqb}
-use Rattle.meaning.specs.Below.{anyBelow, countBelow}
-use Rattle.meaning.specs.Limits.{noMoreDocs, maxColumns, largestFrequency}
-use Rattle.meaning.specs.Lent.{Index, fieldCount, hasNorms, hasPositions, leafCount, leafField, leafNumber, leafDocument, leafFrequency, leafPositionsIndex, leafPosition, columnCount, columnType, valuePresent}
-use Rattle.meaning.specs.IndexRefusals.{notWhole, wrong1, wrong2, wrong3, wrong4, wrong5, wrong6, wrongPosting, wrongPositions, wrongPosition, wrongColumn}
+use Rattle.meaning.specs.Below.{any_below, count_below}
+use Rattle.meaning.specs.Limits.{no_more_docs, max_columns, largest_frequency}
+use Rattle.meaning.specs.Lent.{Index, field_count, has_norms, has_positions, leaf_count, leaf_field, leaf_number, leaf_document, leaf_frequency, leaf_positions_index, leaf_position, column_count, column_type, value_present}
+use Rattle.meaning.specs.IndexRefusals.{not_whole, wrong1, wrong2, wrong3, wrong4, wrong5, wrong6, wrong_posting, wrong_positions, wrong_position, wrong_column}
 use Rattle.index.specs.Accepted.{Accepted, PostingOk, Ascending, ColumnOk}
-use Rattle.index.specs.Refusal.{indexRefusal}
+use Rattle.index.specs.Refusal.{index_refusal}
 use Rattle.index.proofs.Refused.{not-1, not-2, not-3, not-4, not-5, not-6}
 use Rattle.meaning.proofs.Tests.{and_second, or_left, or_right, or-3, or-4}
 use Rattle.meaning.proofs.Below.{last-or-below, none_below, count-lt}
@@ -32,120 +32,120 @@ rising f n h j k l g =
 
 -- 3
 module _ (ix : Index) (e : wrong3 ix ≡ false) where
-  lengths-right : (not (eqb (length ix.norms) (countBelow (fieldCount ix) (hasNorms ix) * ix.maxDoc)) ≡ false) × (not (eqb (length ix.live) 0 || eqb (length ix.live) ((ix.maxDoc + 63) / 64)) ≡ false)
+  lengths-right : (not (eqb (length ix.norms) (count_below (field_count ix) (has_norms ix) * ix.max_doc)) ≡ false) × (not (eqb (length ix.live) 0 || eqb (length ix.live) ((ix.max_doc + 63) / 64)) ≡ false)
   unfolding wrong3
   lengths-right =
-      (or_left (not (eqb (length ix.norms) (countBelow (fieldCount ix) (hasNorms ix) * ix.maxDoc))) (not (eqb (length ix.live) 0 || eqb (length ix.live) ((ix.maxDoc + 63) / 64))) e, or_right (not (eqb (length ix.norms) (countBelow (fieldCount ix) (hasNorms ix) * ix.maxDoc))) (not (eqb (length ix.live) 0 || eqb (length ix.live) ((ix.maxDoc + 63) / 64))) e)
+      (or_left (not (eqb (length ix.norms) (count_below (field_count ix) (has_norms ix) * ix.max_doc))) (not (eqb (length ix.live) 0 || eqb (length ix.live) ((ix.max_doc + 63) / 64))) e, or_right (not (eqb (length ix.norms) (count_below (field_count ix) (has_norms ix) * ix.max_doc))) (not (eqb (length ix.live) 0 || eqb (length ix.live) ((ix.max_doc + 63) / 64))) e)
 
-  norm-bytes : length ix.norms ≡ countBelow (fieldCount ix) (hasNorms ix) * ix.maxDoc
+  norm-bytes : length ix.norms ≡ count_below (field_count ix) (has_norms ix) * ix.max_doc
   norm-bytes = eqb-true _ _ (not-false _ lengths-right.0)
 
-  norm-byte : (f d : ℕ) → f < fieldCount ix → hasNorms ix f ≡ true → d < ix.maxDoc → countBelow f (hasNorms ix) * ix.maxDoc + d < length ix.norms
+  norm-byte : (f d : ℕ) → f < field_count ix → has_norms ix f ≡ true → d < ix.max_doc → count_below f (has_norms ix) * ix.max_doc + d < length ix.norms
   norm-byte f d l h g =
-      let m : (countBelow f (hasNorms ix) + 1) * ix.maxDoc ≤ countBelow (fieldCount ix) (hasNorms ix) * ix.maxDoc = mul-le-mul_right ix.maxDoc (count-lt f (fieldCount ix) (hasNorms ix) l h) in omega (arith, norm-bytes)
+      let m : (count_below f (has_norms ix) + 1) * ix.max_doc ≤ count_below (field_count ix) (has_norms ix) * ix.max_doc = mul-le-mul_right ix.max_doc (count-lt f (field_count ix) (has_norms ix) l h) in omega (arith, norm-bytes)
 
-  live-words : 0 < length ix.live → length ix.live ≡ (ix.maxDoc + 63) / 64
+  live-words : 0 < length ix.live → length ix.live ≡ (ix.max_doc + 63) / 64
   live-words h =
-      let n : eqb (length ix.live) 0 ≡ false = ne_eqb _ _ (λ (g : length ix.live ≡ 0). omega arith) in eqb-true _ _ (sym (ap (λ (b : Bool). b || eqb (length ix.live) ((ix.maxDoc + 63) / 64)) n) ∙ not-false _ lengths-right.1)
+      let n : eqb (length ix.live) 0 ≡ false = ne_eqb _ _ (λ (g : length ix.live ≡ 0). omega arith) in eqb-true _ _ (sym (ap (λ (b : Bool). b || eqb (length ix.live) ((ix.max_doc + 63) / 64)) n) ∙ not-false _ lengths-right.1)
 
 -- 5
 module _ (ix : Index) (e : wrong5 ix ≡ false) where
-  runs-right : (notWhole (length ix.postings) 3 ≡ false) × (anyBelow (leafCount ix) (λ l. anyBelow (leafNumber ix l) (wrongPosting ix l)) ≡ false)
+  runs-right : (not_whole (length ix.postings) 3 ≡ false) × (any_below (leaf_count ix) (λ l. any_below (leaf_number ix l) (wrong_posting ix l)) ≡ false)
   unfolding wrong5
   runs-right =
-      (or_left (notWhole (length ix.postings) 3) (anyBelow (leafCount ix) (λ l. anyBelow (leafNumber ix l) (wrongPosting ix l))) e, or_right (notWhole (length ix.postings) 3) (anyBelow (leafCount ix) (λ l. anyBelow (leafNumber ix l) (wrongPosting ix l))) e)
+      (or_left (not_whole (length ix.postings) 3) (any_below (leaf_count ix) (λ l. any_below (leaf_number ix l) (wrong_posting ix l))) e, or_right (not_whole (length ix.postings) 3) (any_below (leaf_count ix) (λ l. any_below (leaf_number ix l) (wrong_posting ix l))) e)
 
-  module _ (l i : ℕ) (m : l < leafCount ix) (n : i < leafNumber ix l) where
-    posting-right : wrongPosting ix l i ≡ false
-    posting-right = none_below (leafNumber ix l) (wrongPosting ix l) (none_below (leafCount ix) (λ k. anyBelow (leafNumber ix k) (wrongPosting ix k)) runs-right.1 l m) i n
+  module _ (l i : ℕ) (m : l < leaf_count ix) (n : i < leaf_number ix l) where
+    posting-right : wrong_posting ix l i ≡ false
+    posting-right = none_below (leaf_number ix l) (wrong_posting ix l) (none_below (leaf_count ix) (λ k. any_below (leaf_number ix k) (wrong_posting ix k)) runs-right.1 l m) i n
 
-    words_right : ((leb ix.maxDoc (leafDocument ix l i) ≡ false) × ((ltb 0 i && leb (leafDocument ix l i) (leafDocument ix l (i - 1))) ≡ false) × (eqb (leafFrequency ix l i) 0 ≡ false) × (ltb largestFrequency (leafFrequency ix l i) ≡ false)) × (wrongPositions ix l i ≡ false)
-    unfolding wrongPosting
+    words_right : ((leb ix.max_doc (leaf_document ix l i) ≡ false) × ((ltb 0 i && leb (leaf_document ix l i) (leaf_document ix l (i - 1))) ≡ false) × (eqb (leaf_frequency ix l i) 0 ≡ false) × (ltb largest_frequency (leaf_frequency ix l i) ≡ false)) × (wrong_positions ix l i ≡ false)
+    unfolding wrong_posting
     words_right =
-        (or-4 (leb ix.maxDoc (leafDocument ix l i)) (ltb 0 i && leb (leafDocument ix l i) (leafDocument ix l (i - 1))) (eqb (leafFrequency ix l i) 0) (ltb largestFrequency (leafFrequency ix l i)) (or_left (leb ix.maxDoc (leafDocument ix l i) || (ltb 0 i && leb (leafDocument ix l i) (leafDocument ix l (i - 1))) || eqb (leafFrequency ix l i) 0 || ltb largestFrequency (leafFrequency ix l i)) (wrongPositions ix l i) posting-right), or_right (leb ix.maxDoc (leafDocument ix l i) || (ltb 0 i && leb (leafDocument ix l i) (leafDocument ix l (i - 1))) || eqb (leafFrequency ix l i) 0 || ltb largestFrequency (leafFrequency ix l i)) (wrongPositions ix l i) posting-right)
+        (or-4 (leb ix.max_doc (leaf_document ix l i)) (ltb 0 i && leb (leaf_document ix l i) (leaf_document ix l (i - 1))) (eqb (leaf_frequency ix l i) 0) (ltb largest_frequency (leaf_frequency ix l i)) (or_left (leb ix.max_doc (leaf_document ix l i) || (ltb 0 i && leb (leaf_document ix l i) (leaf_document ix l (i - 1))) || eqb (leaf_frequency ix l i) 0 || ltb largest_frequency (leaf_frequency ix l i)) (wrong_positions ix l i) posting-right), or_right (leb ix.max_doc (leaf_document ix l i) || (ltb 0 i && leb (leaf_document ix l i) (leaf_document ix l (i - 1))) || eqb (leaf_frequency ix l i) 0 || ltb largest_frequency (leaf_frequency ix l i)) (wrong_positions ix l i) posting-right)
 
-    places-right : hasPositions ix (leafField ix l) ≡ true → (ltb (length ix.positions) (leafPositionsIndex ix l i + leafFrequency ix l i) || anyBelow (leafFrequency ix l i) (wrongPosition ix l i)) ≡ false
-    unfolding wrongPositions
+    places-right : has_positions ix (leaf_field ix l) ≡ true → (ltb (length ix.positions) (leaf_positions_index ix l i + leaf_frequency ix l i) || any_below (leaf_frequency ix l i) (wrong_position ix l i)) ≡ false
+    unfolding wrong_positions
     places-right h = rw h at words_right.1
 
-    no_index : hasPositions ix (leafField ix l) ≡ false → leafPositionsIndex ix l i ≡ 0
-    unfolding wrongPositions
-    no_index h = eqb-true _ _ (not-false _ (rw h at words_right.1))
+    no_index_lem : has_positions ix (leaf_field ix l) ≡ false → leaf_positions_index ix l i ≡ 0
+    unfolding wrong_positions
+    no_index_lem h = eqb-true _ _ (not-false _ (rw h at words_right.1))
 
-    module _ (h : hasPositions ix (leafField ix l) ≡ true) where
-      position-right : (j : ℕ) → j < leafFrequency ix l i → wrongPosition ix l i j ≡ false
-      position-right j g = none_below _ _ (or_right (ltb (length ix.positions) (leafPositionsIndex ix l i + leafFrequency ix l i)) (anyBelow (leafFrequency ix l i) (wrongPosition ix l i)) (places-right h)) j g
+    module _ (h : has_positions ix (leaf_field ix l) ≡ true) where
+      position-right : (j : ℕ) → j < leaf_frequency ix l i → wrong_position ix l i j ≡ false
+      position-right j g = none_below _ _ (or_right (ltb (length ix.positions) (leaf_positions_index ix l i + leaf_frequency ix l i)) (any_below (leaf_frequency ix l i) (wrong_position ix l i)) (places-right h)) j g
 
-      places-fit : leafPositionsIndex ix l i + leafFrequency ix l i ≤ length ix.positions
-      places-fit = ltb-false _ _ (or_left (ltb (length ix.positions) (leafPositionsIndex ix l i + leafFrequency ix l i)) (anyBelow (leafFrequency ix l i) (wrongPosition ix l i)) (places-right h))
+      places-fit : leaf_positions_index ix l i + leaf_frequency ix l i ≤ length ix.positions
+      places-fit = ltb-false _ _ (or_left (ltb (length ix.positions) (leaf_positions_index ix l i + leaf_frequency ix l i)) (any_below (leaf_frequency ix l i) (wrong_position ix l i)) (places-right h))
 
-      place-small : (j : ℕ) → j < leafFrequency ix l i → leafPosition ix l i j ≤ noMoreDocs
-      unfolding wrongPosition
-      place-small j g = ltb-false _ _ (or_left (ltb noMoreDocs (leafPosition ix l i j)) (ltb 0 j && ltb (leafPosition ix l i j) (leafPosition ix l i (j - 1))) (position-right j g))
+      place-small : (j : ℕ) → j < leaf_frequency ix l i → leaf_position ix l i j ≤ no_more_docs
+      unfolding wrong_position
+      place-small j g = ltb-false _ _ (or_left (ltb no_more_docs (leaf_position ix l i j)) (ltb 0 j && ltb (leaf_position ix l i j) (leaf_position ix l i (j - 1))) (position-right j g))
 
-      place-next : (j : ℕ) → j + 1 < leafFrequency ix l i → leafPosition ix l i j ≤ leafPosition ix l i (j + 1)
-      unfolding wrongPosition
+      place-next : (j : ℕ) → j + 1 < leaf_frequency ix l i → leaf_position ix l i j ≤ leaf_position ix l i (j + 1)
+      unfolding wrong_position
       place-next j g =
-          let a : ltb 0 (j + 1) ≡ true = lt-ltb 0 (j + 1) (omega arith) in let b : ltb (leafPosition ix l i (j + 1)) (leafPosition ix l i (j + 1 - 1)) ≡ false = and_second (ltb 0 (j + 1)) (ltb (leafPosition ix l i (j + 1)) (leafPosition ix l i (j + 1 - 1))) (or_right (ltb noMoreDocs (leafPosition ix l i (j + 1))) (ltb 0 (j + 1) && ltb (leafPosition ix l i (j + 1)) (leafPosition ix l i (j + 1 - 1))) (position-right (j + 1) g)) a in let k : leafPosition ix l i (j + 1 - 1) ≤ leafPosition ix l i (j + 1) = ltb-false _ _ b in omega (arith, ap (λ (m : ℕ). leafPosition ix l i m) (add-sub_cancel j 1))
+          let a : ltb 0 (j + 1) ≡ true = lt-ltb 0 (j + 1) (omega arith) in let b : ltb (leaf_position ix l i (j + 1)) (leaf_position ix l i (j + 1 - 1)) ≡ false = and_second (ltb 0 (j + 1)) (ltb (leaf_position ix l i (j + 1)) (leaf_position ix l i (j + 1 - 1))) (or_right (ltb no_more_docs (leaf_position ix l i (j + 1))) (ltb 0 (j + 1) && ltb (leaf_position ix l i (j + 1)) (leaf_position ix l i (j + 1 - 1))) (position-right (j + 1) g)) a in let k : leaf_position ix l i (j + 1 - 1) ≤ leaf_position ix l i (j + 1) = ltb-false _ _ b in omega (arith, ap (λ (m : ℕ). leaf_position ix l i m) (add-sub_cancel j 1))
 
     posting-ok : PostingOk ix l i
     posting-ok =
         record {
           document = leb-false _ _ words_right.0.0;
-          some = let h : leafFrequency ix l i ≡ 0 → ⊥ = eqb-false _ _ words_right.0.2 in omega arith;
+          some = let h : leaf_frequency ix l i ≡ 0 → ⊥ = eqb-false _ _ words_right.0.2 in omega arith;
           most = ltb-false _ _ words_right.0.3;
           places = places-fit;
-          rising = λ h j k. not-falling (leafPosition ix l i) (leafFrequency ix l i) (place-next h) j k;
+          rising = λ h j k. not-falling (leaf_position ix l i) (leaf_frequency ix l i) (place-next h) j k;
           small = place-small;
-          noIndex = no_index;
+          no_index = no_index_lem;
         }
 
-  document-next : (l i : ℕ) → l < leafCount ix → i + 1 < leafNumber ix l → leafDocument ix l i < leafDocument ix l (i + 1)
+  document-next : (l i : ℕ) → l < leaf_count ix → i + 1 < leaf_number ix l → leaf_document ix l i < leaf_document ix l (i + 1)
   document-next l i m n =
-      let a : ltb 0 (i + 1) ≡ true = lt-ltb 0 (i + 1) (omega arith) in let b : leb (leafDocument ix l (i + 1)) (leafDocument ix l (i + 1 - 1)) ≡ false = and_second (ltb 0 (i + 1)) (leb (leafDocument ix l (i + 1)) (leafDocument ix l (i + 1 - 1))) (words_right l (i + 1) m n).0.1 a in let k : leafDocument ix l (i + 1 - 1) < leafDocument ix l (i + 1) = leb-false _ _ b in omega (arith, ap (λ (m : ℕ). leafDocument ix l m) (add-sub_cancel i 1))
+      let a : ltb 0 (i + 1) ≡ true = lt-ltb 0 (i + 1) (omega arith) in let b : leb (leaf_document ix l (i + 1)) (leaf_document ix l (i + 1 - 1)) ≡ false = and_second (ltb 0 (i + 1)) (leb (leaf_document ix l (i + 1)) (leaf_document ix l (i + 1 - 1))) (words_right l (i + 1) m n).0.1 a in let k : leaf_document ix l (i + 1 - 1) < leaf_document ix l (i + 1) = leb-false _ _ b in omega (arith, ap (λ (m : ℕ). leaf_document ix l m) (add-sub_cancel i 1))
 
-  ascends : (l : ℕ) → l < leafCount ix → Ascending ix l
-  ascends l m = λ i j. rising (leafDocument ix l) (leafNumber ix l) (λ k. document-next l k m) i j
+  ascends : (l : ℕ) → l < leaf_count ix → Ascending ix l
+  ascends l m = λ i j. rising (leaf_document ix l) (leaf_number ix l) (λ k. document-next l k m) i j
 
 -- 6
 module _ (ix : Index) (e : wrong6 ix ≡ false) where
-  columns-right : (ltb maxColumns (columnCount ix) ≡ false) × (not (eqb (length ix.values) (3 * (columnCount ix * ix.maxDoc))) ≡ false) × (anyBelow (columnCount ix) (wrongColumn ix) ≡ false)
+  columns-right : (ltb max_columns (column_count ix) ≡ false) × (not (eqb (length ix.values) (3 * (column_count ix * ix.max_doc))) ≡ false) × (any_below (column_count ix) (wrong_column ix) ≡ false)
   unfolding wrong6
-  columns-right = or-3 (ltb maxColumns (columnCount ix)) (not (eqb (length ix.values) (3 * (columnCount ix * ix.maxDoc)))) (anyBelow (columnCount ix) (wrongColumn ix)) e
+  columns-right = or-3 (ltb max_columns (column_count ix)) (not (eqb (length ix.values) (3 * (column_count ix * ix.max_doc)))) (any_below (column_count ix) (wrong_column ix)) e
 
-  whole-values : length ix.values ≡ 3 * (columnCount ix * ix.maxDoc)
+  whole-values : length ix.values ≡ 3 * (column_count ix * ix.max_doc)
   whole-values = eqb-true _ _ (not-false _ columns-right.1)
 
-  value-words : (c d : ℕ) → c < columnCount ix → d < ix.maxDoc → 3 * (c * ix.maxDoc + d) + 2 < length ix.values
-  value-words c d l g = let m : (c + 1) * ix.maxDoc ≤ columnCount ix * ix.maxDoc = mul-le-mul_right ix.maxDoc (omega arith) in omega (arith, whole-values)
+  value-words : (c d : ℕ) → c < column_count ix → d < ix.max_doc → 3 * (c * ix.max_doc + d) + 2 < length ix.values
+  value-words c d l g = let m : (c + 1) * ix.max_doc ≤ column_count ix * ix.max_doc = mul-le-mul_right ix.max_doc (omega arith) in omega (arith, whole-values)
 
-  column-ok : (c : ℕ) → c < columnCount ix → ColumnOk ix c
-  unfolding wrongColumn
+  column-ok : (c : ℕ) → c < column_count ix → ColumnOk ix c
+  unfolding wrong_column
   column-ok c l =
-      let h : wrongColumn ix c ≡ false = none_below _ _ columns-right.2 c l in record { type = ltb-false _ _ (or_left (ltb 1 (columnType ix c)) (anyBelow ix.maxDoc (λ d. ltb 1 (valuePresent ix c d))) h); words = λ d g. value-words c d l g; present = λ d g. ltb-false _ _ (none_below ix.maxDoc (λ k. ltb 1 (valuePresent ix c k)) (or_right (ltb 1 (columnType ix c)) (anyBelow ix.maxDoc (λ k. ltb 1 (valuePresent ix c k))) h) d g) }
+      let h : wrong_column ix c ≡ false = none_below _ _ columns-right.2 c l in record { type = ltb-false _ _ (or_left (ltb 1 (column_type ix c)) (any_below ix.max_doc (λ d. ltb 1 (value_present ix c d))) h); words = λ d g. value-words c d l g; present = λ d g. ltb-false _ _ (none_below ix.max_doc (λ k. ltb 1 (value_present ix c k)) (or_right (ltb 1 (column_type ix c)) (any_below ix.max_doc (λ k. ltb 1 (value_present ix c k))) h) d g) }
 
 pub accepted : (ix : Index) → wrong1 ix ≡ false → wrong2 ix ≡ false → wrong3 ix ≡ false → wrong4 ix ≡ false → wrong5 ix ≡ false → wrong6 ix ≡ false → Accepted ix
 accepted ix e1 e2 e3 e4 e5 e6 =
     record {
       documents = documents-few ix e1;
-      fewFields = fields-few ix e2;
-      wholeFields = omega (arith, fields-whole ix e2);
+      few_fields = fields-few ix e2;
+      whole_fields = omega (arith, fields-whole ix e2);
       field = field-ok ix e2;
-      normBytes = norm-bytes ix e3;
-      normByte = norm-byte ix e3;
-      liveWords = live-words ix e3;
-      liveBit = λ h d g. omega (arith, live-words ix e3 h);
-      fewLeaves = leaves-few ix e4;
-      wholeLeaves = omega (arith, leaves-whole ix e4);
+      norm_bytes = norm-bytes ix e3;
+      norm_byte = norm-byte ix e3;
+      live_words = live-words ix e3;
+      live_bit = λ h d g. omega (arith, live-words ix e3 h);
+      few_leaves = leaves-few ix e4;
+      whole_leaves = omega (arith, leaves-whole ix e4);
       leaf = leaf-ok ix e4;
-      wholePostings = omega (arith, whole_words (length ix.postings) 3 (runs-right ix e5).0);
+      whole_postings = omega (arith, whole_words (length ix.postings) 3 (runs-right ix e5).0);
       posting = posting-ok ix e5;
       ascending = ascends ix e5;
-      fewColumns = ltb-false _ _ (columns-right ix e6).0;
-      wholeValues = whole-values ix e6;
+      few_columns = ltb-false _ _ (columns-right ix e6).0;
+      whole_values = whole-values ix e6;
       column = column-ok ix e6;
     }
 
 -- the same from the number that `check_index` gives
-pub accepted-checked : (ix : Index) → indexRefusal ix ≡ 0 → Accepted ix
+pub accepted-checked : (ix : Index) → index_refusal ix ≡ 0 → Accepted ix
 accepted-checked ix e = accepted ix (not-1 ix e) (not-2 ix e) (not-3 ix e) (not-4 ix e) (not-5 ix e) (not-6 ix e)

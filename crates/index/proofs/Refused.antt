@@ -8,34 +8,34 @@ use lib.Dec.{lit<}
 use Rattle.meaning.specs.Lent.{Index}
 use Rattle.meaning.specs.Refusals.{Condition, ◌when◌, lowest}
 use Rattle.meaning.specs.IndexRefusals.{wrong1, wrong2, wrong3, wrong4, wrong5, wrong6}
-use Rattle.index.specs.Refusal.{indexConditions, indexRefusal}
+use Rattle.index.specs.Refusal.{index_conditions, index_refusal}
 
 module _ (ix : Index) where
-  pub refused-1 : wrong1 ix ≡ true → ◌≡◌ {A = ℕ} 1 (indexRefusal ix)
+  pub refused-1 : wrong1 ix ≡ true → ◌≡◌ {A = ℕ} 1 (index_refusal ix)
   unfolding lowest
   refused-1 e1 = rw (e1)
 
-  pub refused-2 : wrong1 ix ≡ false → wrong2 ix ≡ true → ◌≡◌ {A = ℕ} 2 (indexRefusal ix)
+  pub refused-2 : wrong1 ix ≡ false → wrong2 ix ≡ true → ◌≡◌ {A = ℕ} 2 (index_refusal ix)
   unfolding lowest
   refused-2 e1 e2 = rw (e1, e2)
 
-  pub refused-3 : wrong1 ix ≡ false → wrong2 ix ≡ false → wrong3 ix ≡ true → ◌≡◌ {A = ℕ} 3 (indexRefusal ix)
+  pub refused-3 : wrong1 ix ≡ false → wrong2 ix ≡ false → wrong3 ix ≡ true → ◌≡◌ {A = ℕ} 3 (index_refusal ix)
   unfolding lowest
   refused-3 e1 e2 e3 = rw (e1, e2, e3)
 
-  pub refused-4 : wrong1 ix ≡ false → wrong2 ix ≡ false → wrong3 ix ≡ false → wrong4 ix ≡ true → ◌≡◌ {A = ℕ} 4 (indexRefusal ix)
+  pub refused-4 : wrong1 ix ≡ false → wrong2 ix ≡ false → wrong3 ix ≡ false → wrong4 ix ≡ true → ◌≡◌ {A = ℕ} 4 (index_refusal ix)
   unfolding lowest
   refused-4 e1 e2 e3 e4 = rw (e1, e2, e3, e4)
 
-  pub refused-5 : wrong1 ix ≡ false → wrong2 ix ≡ false → wrong3 ix ≡ false → wrong4 ix ≡ false → wrong5 ix ≡ true → ◌≡◌ {A = ℕ} 5 (indexRefusal ix)
+  pub refused-5 : wrong1 ix ≡ false → wrong2 ix ≡ false → wrong3 ix ≡ false → wrong4 ix ≡ false → wrong5 ix ≡ true → ◌≡◌ {A = ℕ} 5 (index_refusal ix)
   unfolding lowest
   refused-5 e1 e2 e3 e4 e5 = rw (e1, e2, e3, e4, e5)
 
-  pub refused-6 : wrong1 ix ≡ false → wrong2 ix ≡ false → wrong3 ix ≡ false → wrong4 ix ≡ false → wrong5 ix ≡ false → wrong6 ix ≡ true → ◌≡◌ {A = ℕ} 6 (indexRefusal ix)
+  pub refused-6 : wrong1 ix ≡ false → wrong2 ix ≡ false → wrong3 ix ≡ false → wrong4 ix ≡ false → wrong5 ix ≡ false → wrong6 ix ≡ true → ◌≡◌ {A = ℕ} 6 (index_refusal ix)
   unfolding lowest
   refused-6 e1 e2 e3 e4 e5 e6 = rw (e1, e2, e3, e4, e5, e6)
 
-  pub not-refused : wrong1 ix ≡ false → wrong2 ix ≡ false → wrong3 ix ≡ false → wrong4 ix ≡ false → wrong5 ix ≡ false → wrong6 ix ≡ false → ◌≡◌ {A = ℕ} 0 (indexRefusal ix)
+  pub not-refused : wrong1 ix ≡ false → wrong2 ix ≡ false → wrong3 ix ≡ false → wrong4 ix ≡ false → wrong5 ix ≡ false → wrong6 ix ≡ false → ◌≡◌ {A = ℕ} 0 (index_refusal ix)
   unfolding lowest
   not-refused e1 e2 e3 e4 e5 e6 = rw (e1, e2, e3, e4, e5, e6)
 
@@ -73,11 +73,11 @@ lowest-some (c ∷ cs) ds h = go c.holds refl (lowest-some cs ds)
 
 -- the same of the loader's numbers, which every entry over an index and a query lists first
 module _ (ix : Index) (ds : List Condition) where
-  pub index-accepted : indexRefusal ix ≡ 0 → lowest (indexConditions ix ++ ds) ≡ lowest ds
-  index-accepted e = lowest-none (indexConditions ix) ds (lit< tt, (lit< tt, (lit< tt, (lit< tt, (lit< tt, (lit< tt, tt)))))) e
+  pub index-accepted : index_refusal ix ≡ 0 → lowest (index_conditions ix ++ ds) ≡ lowest ds
+  index-accepted e = lowest-none (index_conditions ix) ds (lit< tt, (lit< tt, (lit< tt, (lit< tt, (lit< tt, (lit< tt, tt)))))) e
 
-  pub index-refused : 0 < indexRefusal ix → lowest (indexConditions ix ++ ds) ≡ indexRefusal ix
-  index-refused h = lowest-some (indexConditions ix) ds h
+  pub index-refused : 0 < index_refusal ix → lowest (index_conditions ix ++ ds) ≡ index_refusal ix
+  index-refused h = lowest-some (index_conditions ix) ds h
 
 -- none of 1 to 6 holds where the number is 0
 module _ (n : ℕ) (above : 0 < n) (cs : List Condition) where
@@ -89,7 +89,7 @@ module _ (n : ℕ) (above : 0 < n) (cs : List Condition) where
   rest-none true e = absurd (omega (arith, lowest_step (n when true) cs true refl))
   rest-none false e = sym (lowest_step (n when false) cs false refl) ∙ e
 
-module _ (ix : Index) (e : indexRefusal ix ≡ 0) where
+module _ (ix : Index) (e : index_refusal ix ≡ 0) where
   abbrev from6 : List Condition
   from6 = (6 when wrong6 ix) ∷ []
 

@@ -7,9 +7,9 @@ use native.Mathlib.Omega.{arith}
 use lib.Dec.{ltb}
 use lib.ListN.{length, get_or}
 use borrow.Author.Tests.{lt-ltb, le-ltb, eq-eqb, ne_eqb}
-use Rattle.meaning.specs.Below.{anyBelow}
-use Rattle.meaning.specs.Lent.{Index, columnCount, columnType, valuePresent}
-use Rattle.meaning.specs.IndexRefusals.{wrong6, wrongColumn}
+use Rattle.meaning.specs.Below.{any_below}
+use Rattle.meaning.specs.Lent.{Index, column_count, column_type, value_present}
+use Rattle.meaning.specs.IndexRefusals.{wrong6, wrong_column}
 use Rattle.meaning.proofs.Below.{any-or, any-rows}
 
 -- a product of two bounded numbers
@@ -17,23 +17,23 @@ pub product_le : (a b m n : ℕ) → a ≤ m → b ≤ n → a * b ≤ m * n
 product_le a b m n h g = mul-le-mul h g
 
 module _ (ix : Index) where
-  pub columns-many : 8 < columnCount ix → true ≡ wrong6 ix
+  pub columns-many : 8 < column_count ix → true ≡ wrong6 ix
   unfolding wrong6
   columns-many h = rw (lt-ltb _ _ h)
 
-  pub columns-length : columnCount ix ≤ 8 → (length ix.values ≡ 3 * (columnCount ix * ix.maxDoc) → ⊥) → true ≡ wrong6 ix
+  pub columns-length : column_count ix ≤ 8 → (length ix.values ≡ 3 * (column_count ix * ix.max_doc) → ⊥) → true ≡ wrong6 ix
   unfolding wrong6
   columns-length h g = rw (le-ltb _ _ h, ne_eqb _ _ g)
 
-  module _ (h : columnCount ix ≤ 8) (g : length ix.values ≡ 3 * (columnCount ix * ix.maxDoc)) where
-    values-count : length ix.values / 3 ≡ columnCount ix * ix.maxDoc
+  module _ (h : column_count ix ≤ 8) (g : length ix.values ≡ 3 * (column_count ix * ix.max_doc)) where
+    values-count : length ix.values / 3 ≡ column_count ix * ix.max_doc
     values-count = omega arith
 
-    columns-are : anyBelow (columnCount ix) (wrongColumn ix) ≡ wrong6 ix
+    columns-are : any_below (column_count ix) (wrong_column ix) ≡ wrong6 ix
     unfolding wrong6
     columns-are = rw (le-ltb _ _ h, eq-eqb _ _ g)
 
-    pub columns-some : (anyBelow (length ix.columns) (λ c. ltb 1 (get_or ix.columns c 0)) || anyBelow (length ix.values / 3) (λ k. ltb 1 (get_or ix.values (3 * k) 0))) ≡ wrong6 ix
-    unfolding wrongColumn
+    pub columns-some : (any_below (length ix.columns) (λ c. ltb 1 (get_or ix.columns c 0)) || any_below (length ix.values / 3) (λ k. ltb 1 (get_or ix.values (3 * k) 0))) ≡ wrong6 ix
+    unfolding wrong_column
     columns-some =
-        rw (values-count, any-rows (columnCount ix) ix.maxDoc (λ k. ltb 1 (get_or ix.values (3 * k) 0))) (sym (any-or (columnCount ix) (λ c. ltb 1 (columnType ix c)) (λ c. anyBelow ix.maxDoc (λ d. ltb 1 (valuePresent ix c d)))) ∙ columns-are)
+        rw (values-count, any-rows (column_count ix) ix.max_doc (λ k. ltb 1 (get_or ix.values (3 * k) 0))) (sym (any-or (column_count ix) (λ c. ltb 1 (column_type ix c)) (λ c. any_below ix.max_doc (λ d. ltb 1 (value_present ix c d)))) ∙ columns-are)

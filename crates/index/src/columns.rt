@@ -1,9 +1,9 @@
 // Columns, a word each: 0 for i64 values, 1 for f64; and their values, three words each: present 0 or 1, low half, high half.
 ghost use Rattle.std.specs.Prelude.{◌≡◌, false, [], ◌*◌, ◌/◌, ltb, length, get_or};
-ghost use Rattle.meaning.specs.Below.{anyBelow};
+ghost use Rattle.meaning.specs.Below.{any_below};
 ghost use Rattle.meaning.specs.IndexRefusals.{wrong1, wrong6};
-ghost use Rattle.meaning.specs.QueryRefusals.{wrongRange};
-ghost use Rattle.meaning.specs.Entries.{columnsOnly};
+ghost use Rattle.meaning.specs.QueryRefusals.{wrong_range};
+ghost use Rattle.meaning.specs.Entries.{columns_only};
 
 use super::wide;
 
@@ -12,7 +12,7 @@ const MAX_COLUMNS: usize = 8;
 
 // A type that is not 0 or 1.
 fn wrong_types(columns: &[u32]) -> bool
-    ensures { result ≡ anyBelow (length columns.now) (λ c. ltb 1 (get_or columns.now c 0)) }
+    ensures { result ≡ any_below (length columns.now) (λ c. ltb 1 (get_or columns.now c 0)) }
 {
     let mut bad = false;
     let mut c = 0;
@@ -25,7 +25,7 @@ fn wrong_types(columns: &[u32]) -> bool
 
 // A value whose first word, "present", is not 0 or 1, in one pass over all columns' values without an early exit.
 fn wrong_presence(values: &[u32]) -> bool
-    ensures { result ≡ anyBelow (length values.now / 3) (λ k. ltb 1 (get_or values.now (3 * k) 0)) }
+    ensures { result ≡ any_below (length values.now / 3) (λ k. ltb 1 (get_or values.now (3 * k) 0)) }
 {
     let count = values.len() / 3;
     let mut bad = false;
@@ -39,8 +39,8 @@ fn wrong_presence(values: &[u32]) -> bool
 
 // 6, the columns: too many, values of wrong length, or a flag outside its values.
 pub fn wrong_columns(max_doc: u32, columns: &[u32], values: &[u32]) -> bool
-    requires { wrong1 (columnsOnly max_doc columns.now values.now) ≡ false }
-    ensures { result ≡ wrong6 (columnsOnly max_doc columns.now values.now) }
+    requires { wrong1 (columns_only max_doc columns.now values.now) ≡ false }
+    ensures { result ≡ wrong6 (columns_only max_doc columns.now values.now) }
 {
     if columns.len() > MAX_COLUMNS {
         return true;
@@ -53,7 +53,7 @@ pub fn wrong_columns(max_doc: u32, columns: &[u32], values: &[u32]) -> bool
 
 // The Range entry's 8: the column absent, a range kind above 8, or an unbounded value not 0.
 pub fn wrong_range(columns: &[u32], column: u32, kinds: u32, lower: u64, upper: u64) -> bool
-    ensures { result ≡ wrongRange (columnsOnly 0 columns.now []) (record { column = column; kinds = kinds; lower = lower; upper = upper }) }
+    ensures { result ≡ wrong_range (columns_only 0 columns.now []) (record { column = column; kinds = kinds; lower = lower; upper = upper }) }
 {
     (wide(column) >= columns.len())
         | (kinds > 8)

@@ -1,7 +1,7 @@
 // Field records, three words each: average length as f32 bits, norms 0 or 1, positions 0 or 1.
 ghost use Rattle.std.specs.Prelude.{◌≡◌, ◌<◌, ◌/◌, length};
-ghost use Rattle.meaning.specs.IndexRefusals.{wrongField, wrong2};
-ghost use Rattle.index.specs.Slices.{fieldsOnly};
+ghost use Rattle.meaning.specs.IndexRefusals.{wrong_field, wrong2};
+ghost use Rattle.index.specs.Slices.{fields_only};
 ghost use Rattle.index.specs.Records.{field_of};
 
 // The limits of document 01: 16 fields, an average of 1 to 16,777,216 as f32 bits.
@@ -22,7 +22,7 @@ pub struct Field {
 // Field number f.
 pub fn field_at(fields: &[u32], f: usize) -> Field
     requires { f < length fields.now / 3 }
-    ensures { result ≡ field_of (fieldsOnly fields.now) f }
+    ensures { result ≡ field_of (fields_only fields.now) f }
 {
     Field {
         average: fields[3 * f],
@@ -34,7 +34,7 @@ pub fn field_at(fields: &[u32], f: usize) -> Field
 // An average or a flag of field f outside its values.
 fn wrong_field(fields: &[u32], f: usize) -> bool
     requires { f < length fields.now / 3 }
-    ensures { result ≡ wrongField (fieldsOnly fields.now) f }
+    ensures { result ≡ wrong_field (fields_only fields.now) f }
 {
     let field = field_at(fields, f);
     (field.average < LEAST_AVERAGE)
@@ -45,7 +45,7 @@ fn wrong_field(fields: &[u32], f: usize) -> bool
 
 // 2, the field records: not whole, too many, or one of them wrong.
 pub fn wrong_fields(fields: &[u32]) -> bool
-    ensures { result ≡ wrong2 (fieldsOnly fields.now) }
+    ensures { result ≡ wrong2 (fields_only fields.now) }
 {
     if fields.len() % 3 != 0 {
         return true;

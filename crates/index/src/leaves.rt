@@ -1,8 +1,8 @@
 // Leaf records, four words each: field, first posting, number of postings, idf as f32 bits.
 ghost use Rattle.std.specs.Prelude.{◌≡◌, [], ◌<◌, ◌/◌, length};
-ghost use Rattle.meaning.specs.IndexRefusals.{wrongLeaf, wrong4};
-ghost use Rattle.index.specs.Slices.{leavesOnly};
-ghost use Rattle.index.specs.Records.{leafOf};
+ghost use Rattle.meaning.specs.IndexRefusals.{wrong_leaf, wrong4};
+ghost use Rattle.index.specs.Slices.{leaves_only};
+ghost use Rattle.index.specs.Records.{leaf_of};
 
 use super::{sum, wide};
 
@@ -23,7 +23,7 @@ pub struct Leaf {
 // Leaf number l.
 pub fn leaf_at(leaves: &[u32], l: usize) -> Leaf
     requires { l < length leaves.now / 4 }
-    ensures { result ≡ leafOf (leavesOnly [] leaves.now []) l }
+    ensures { result ≡ leaf_of (leaves_only [] leaves.now []) l }
 {
     Leaf {
         field: leaves[4 * l],
@@ -36,7 +36,7 @@ pub fn leaf_at(leaves: &[u32], l: usize) -> Leaf
 // Leaf l: its field absent, its run past the postings, or its idf outside.
 fn wrong_leaf(fields: &[u32], leaves: &[u32], postings: &[u32], l: usize) -> bool
     requires { l < length leaves.now / 4 }
-    ensures { result ≡ wrongLeaf (leavesOnly fields.now leaves.now postings.now) l }
+    ensures { result ≡ wrong_leaf (leaves_only fields.now leaves.now postings.now) l }
 {
     let leaf = leaf_at(leaves, l);
     let end = sum(leaf.first, leaf.number);
@@ -45,7 +45,7 @@ fn wrong_leaf(fields: &[u32], leaves: &[u32], postings: &[u32], l: usize) -> boo
 
 // 4, the leaf records: not whole, too many, or one of them wrong.
 pub fn wrong_leaves(fields: &[u32], leaves: &[u32], postings: &[u32]) -> bool
-    ensures { result ≡ wrong4 (leavesOnly fields.now leaves.now postings.now) }
+    ensures { result ≡ wrong4 (leaves_only fields.now leaves.now postings.now) }
 {
     if leaves.len() % 4 != 0 {
         return true;

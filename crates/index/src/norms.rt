@@ -1,16 +1,16 @@
 // Norm bytes: N for each field with norms, in field order.
 ghost use Rattle.std.specs.Prelude.{◌≡◌, false, ◌≤◌, ◌*◌, ◌/◌, length};
-ghost use Rattle.meaning.specs.Below.{countBelow};
-ghost use Rattle.meaning.specs.Lent.{hasNorms};
+ghost use Rattle.meaning.specs.Below.{count_below};
+ghost use Rattle.meaning.specs.Lent.{has_norms};
 ghost use Rattle.meaning.specs.IndexRefusals.{wrong2, wrong3};
-ghost use Rattle.index.specs.Slices.{fieldsOnly, lengthsOnly};
+ghost use Rattle.index.specs.Slices.{fields_only, lengths_only};
 
 use super::wide;
 
 // How many of the fields before field f have norms.
 fn norms_before(fields: &[u32], f: usize) -> usize
     requires { f ≤ length fields.now / 3 }
-    ensures { result ≡ countBelow f (hasNorms (fieldsOnly fields.now)) }
+    ensures { result ≡ count_below f (has_norms (fields_only fields.now)) }
 {
     let mut count: usize = 0;
     let mut i = 0;
@@ -26,15 +26,15 @@ fn norms_before(fields: &[u32], f: usize) -> usize
 // Where the norm bytes of a field with norms begin.
 pub fn norms_offset(max_doc: u32, fields: &[u32], field: usize) -> usize
     requires { (field ≤ length fields.now / 3) × (field ≤ 16) }
-    ensures { result ≡ countBelow field (hasNorms (fieldsOnly fields.now)) * max_doc }
+    ensures { result ≡ count_below field (has_norms (fields_only fields.now)) * max_doc }
 {
     norms_before(fields, field) * wide(max_doc)
 }
 
 // 3, the lengths of the norm bytes and of the live words, which are none or N ÷ 64 rounded up.
 pub fn wrong_lengths(max_doc: u32, fields: &[u32], norms: &[u8], live: &[u64]) -> bool
-    requires { wrong2 (fieldsOnly fields.now) ≡ false }
-    ensures { result ≡ wrong3 (lengthsOnly max_doc fields.now norms.now live.now) }
+    requires { wrong2 (fields_only fields.now) ≡ false }
+    ensures { result ≡ wrong3 (lengths_only max_doc fields.now norms.now live.now) }
 {
     let bytes = norms_offset(max_doc, fields, fields.len() / 3);
     let words = (wide(max_doc) + 63) / 64;

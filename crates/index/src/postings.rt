@@ -1,6 +1,6 @@
 // Posting records, three words each: document, frequency, index of the first position.
 ghost use Rattle.std.specs.Prelude.{◌≡◌, ◌<◌, ◌+◌, ◌/◌, length};
-ghost use Rattle.index.specs.Runs.{postingDocument, postingFrequency, postingIndex};
+ghost use Rattle.index.specs.Runs.{posting_document, posting_frequency, posting_index};
 
 // The limits of document 01: NO_MORE_DOCS is also the largest position; a frequency of 1 to 16,777,216.
 pub const NO_MORE_DOCS: u32 = 2147483647;
@@ -10,7 +10,7 @@ pub const LARGEST_FREQUENCY: u32 = 16777216;
 // The document of the i-th posting at or after posting first.
 pub fn posting_document(postings: &[u32], first: usize, i: usize) -> u32
     requires { first + i < length postings.now / 3 }
-    ensures { result ≡ postingDocument postings.now first i }
+    ensures { result ≡ posting_document postings.now first i }
 {
     postings[3 * (first + i)]
 }
@@ -18,7 +18,7 @@ pub fn posting_document(postings: &[u32], first: usize, i: usize) -> u32
 // Its frequency.
 pub fn posting_frequency(postings: &[u32], first: usize, i: usize) -> u32
     requires { first + i < length postings.now / 3 }
-    ensures { result ≡ postingFrequency postings.now first i }
+    ensures { result ≡ posting_frequency postings.now first i }
 {
     postings[3 * (first + i) + 1]
 }
@@ -26,7 +26,7 @@ pub fn posting_frequency(postings: &[u32], first: usize, i: usize) -> u32
 // The index of its first position.
 pub fn posting_index(postings: &[u32], first: usize, i: usize) -> u32
     requires { first + i < length postings.now / 3 }
-    ensures { result ≡ postingIndex postings.now first i }
+    ensures { result ≡ posting_index postings.now first i }
 {
     postings[3 * (first + i) + 2]
 }

@@ -3,7 +3,7 @@
 
 ghost use Rattle.std.specs.Prelude.{◌≡◌};
 ghost use Rattle.index.specs.Slices.{lent};
-ghost use Rattle.index.specs.Refusal.{indexRefusal};
+ghost use Rattle.index.specs.Refusal.{index_refusal};
 
 // The lowest number of 1 to 6 whose condition holds for what is lent, and 0 where none does.
 pub fn check_index(
@@ -17,7 +17,7 @@ pub fn check_index(
     columns: &[u32],
     values: &[u32],
 ) -> u32
-    ensures { result ≡ indexRefusal (lent max_doc fields.now leaves.now postings.now positions.now norms.now live.now columns.now values.now) }
+    ensures { result ≡ index_refusal (lent max_doc fields.now leaves.now postings.now positions.now norms.now live.now columns.now values.now) }
 {
     if index::wrong_max_doc(max_doc) {
         return 1;

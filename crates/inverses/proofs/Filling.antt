@@ -12,40 +12,40 @@ use lib.Seq.{append_snoc, set_at, drop-cons, drop-append-le, drop-drop, length-t
 use lib.Ieee.{Float, nan, binary32, of_bits}
 use borrow.Author.Tests.{eq-eqb, ne_eqb, eqb-true, eqb-false}
 use borrow.Rule.Slice.PartMut.{put_mid, post_of, mid_of}
-use Rattle.meaning.specs.Below.{listTo}
+use Rattle.meaning.specs.Below.{list_to}
 use Rattle.meaning.specs.Bm25.{length_of, inverse}
-use Rattle.meaning.specs.Limits.{leastAverage, largestAverage}
-use Rattle.meaning.specs.Lent.{Index, fieldCount, fieldAverage, leafField}
-use Rattle.meaning.specs.Query.{recordCount, recordKind, recordValue}
-use Rattle.meaning.proofs.Below.{listTo-next, length-listTo, getD-listTo, last-or-below}
+use Rattle.meaning.specs.Limits.{least_average, largest_average}
+use Rattle.meaning.specs.Lent.{Index, field_count, field_average, leaf_field}
+use Rattle.meaning.specs.Query.{record_count, record_kind, record_value}
+use Rattle.meaning.proofs.Below.{list_to-next, length-list_to, get_or-list_to, last-or-below}
 use Rattle.meaning.proofs.Tests.{cmp}
 use Rattle.query.proofs.Accepted.{term-leaf, phrase-right}
 use Rattle.weight.specs.Measured.{Asks}
 use Rattle.weight.specs.Sound.{FieldTable}
 use Rattle.node_words.specs.Placed.{LeafLent}
-use Rattle.inverses.specs.Inverses.{fieldAt, hasField}
+use Rattle.inverses.specs.Inverses.{field_at, has_field}
 use Rattle.node_words.proofs.Norms.{field-here}
 
 -- ---- of one field: one entry more in front of what was there
-pub entry_more : (f : ℕ → Float) (before t : List Float) (n : ℕ) (v : Float) → n < length before → t ≡ listTo n f ++ drop n before → v ≡ f n → set t n v ≡ listTo (n + 1) f ++ drop (n + 1) before
+pub entry_more : (f : ℕ → Float) (before t : List Float) (n : ℕ) (v : Float) → n < length before → t ≡ list_to n f ++ drop n before → v ≡ f n → set t n v ≡ list_to (n + 1) f ++ drop (n + 1) before
 entry_more f before t n v h e is =
-    ap (λ (z : List Float). set z n v) (e ∙ ap (λ (z : List Float). listTo n f ++ z) (drop-cons before n nan h))
-    ∙ set_at (listTo n f) (get_or before n nan) (drop (suc n) before) v n (length-listTo n f)
-    ∙ ap (λ (z : Float). listTo n f ++ z ∷ drop (suc n) before) is
-    ∙ sym (append_snoc (listTo n f) (f n) (drop (suc n) before))
-    ∙ ap (λ (z : List Float). z ++ drop (suc n) before) (sym (listTo-next f n))
-    ∙ ap (λ (z : ℕ). listTo (n + 1) f ++ drop z before) (sym (add-one n))
+    ap (λ (z : List Float). set z n v) (e ∙ ap (λ (z : List Float). list_to n f ++ z) (drop-cons before n nan h))
+    ∙ set_at (list_to n f) (get_or before n nan) (drop (suc n) before) v n (length-list_to n f)
+    ∙ ap (λ (z : Float). list_to n f ++ z ∷ drop (suc n) before) is
+    ∙ sym (append_snoc (list_to n f) (f n) (drop (suc n) before))
+    ∙ ap (λ (z : List Float). z ++ drop (suc n) before) (sym (list_to-next f n))
+    ∙ ap (λ (z : ℕ). list_to (n + 1) f ++ drop z before) (sym (add-one n))
 
 -- ---- the table with one field's places filled
 module _ (e : ℕ → Float) (t : List Float) (a : ℕ) (room : a + 256 ≤ length t) where
-  abbrev filledAt : List Float
-  filledAt = take a t ++ (listTo 256 e ++ drop (a + 256) t)
+  abbrev filled_at : List Float
+  filled_at = take a t ++ (list_to 256 e ++ drop (a + 256) t)
 
   -- what the loan of its places gives back
-  pub put-field : (out : List Float) → out ≡ listTo 256 e ++ drop 256 (mid_of a (length t - a) t) → put_mid a (length t - a) t out ≡ filledAt
+  pub put-field : (out : List Float) → out ≡ list_to 256 e ++ drop 256 (mid_of a (length t - a) t) → put_mid a (length t - a) t out ≡ filled_at
   put-field out is =
       ap (λ (z : List Float). take a t ++ (z ++ post_of a (length t - a) t)) is
-      ∙ ap (λ (z : List Float). take a t ++ z) (append_assoc (listTo 256 e) (drop 256 (mid_of a (length t - a) t)) (post_of a (length t - a) t) ∙ ap (λ (z : List Float). listTo 256 e ++ z) rest)
+      ∙ ap (λ (z : List Float). take a t ++ z) (append_assoc (list_to 256 e) (drop 256 (mid_of a (length t - a) t)) (post_of a (length t - a) t) ∙ ap (λ (z : List Float). list_to 256 e ++ z) rest)
     where
       long : length (mid_of a (length t - a) t) ≡ length t - a
       long = length-take-le (length t - a) (drop a t) (rw (length-drop a t) (omega arith))
@@ -59,32 +59,32 @@ module _ (e : ℕ → Float) (t : List Float) (a : ℕ) (room : a + 256 ≤ leng
   front_long : length (take a t) ≡ a
   front_long = length-take-le a t (omega (arith, room))
 
-  both_long : length (take a t ++ listTo 256 e) ≡ a + 256
-  both_long = let l = length-listTo 256 e in let f = front_long in length-append (take a t) (listTo 256 e) ∙ omega (arith, l, f)
+  both_long : length (take a t ++ list_to 256 e) ≡ a + 256
+  both_long = let l = length-list_to 256 e in let f = front_long in length-append (take a t) (list_to 256 e) ∙ omega (arith, l, f)
 
-  pub filled-here : (n : ℕ) → n < 256 → get_or filledAt (a + n) nan ≡ e n
+  pub filled-here : (n : ℕ) → n < 256 → get_or filled_at (a + n) nan ≡ e n
   filled-here n h =
-      ap (λ (z : ℕ). get_or filledAt (z + n) nan) (sym front_long)
-      ∙ get_or-append-add (take a t) (listTo 256 e ++ drop (a + 256) t) n nan
-      ∙ get_or-append (listTo 256 e) (drop (a + 256) t) nan n (let l = length-listTo 256 e in omega (arith, l, h))
-      ∙ getD-listTo 256 e nan n h
+      ap (λ (z : ℕ). get_or filled_at (z + n) nan) (sym front_long)
+      ∙ get_or-append-add (take a t) (list_to 256 e ++ drop (a + 256) t) n nan
+      ∙ get_or-append (list_to 256 e) (drop (a + 256) t) nan n (let l = length-list_to 256 e in omega (arith, l, h))
+      ∙ get_or-list_to 256 e nan n h
 
-  filled-before : (i : ℕ) → i < a → get_or filledAt i nan ≡ get_or t i nan
+  filled-before : (i : ℕ) → i < a → get_or filled_at i nan ≡ get_or t i nan
   filled-before i h =
-      get_or-append (take a t) (listTo 256 e ++ drop (a + 256) t) nan i (let f = front_long in omega (arith, f, h))
+      get_or-append (take a t) (list_to 256 e ++ drop (a + 256) t) nan i (let f = front_long in omega (arith, f, h))
       ∙ get_or-take a t i nan h
 
-  filled-after : (k : ℕ) → get_or filledAt (a + 256 + k) nan ≡ get_or t (a + 256 + k) nan
+  filled-after : (k : ℕ) → get_or filled_at (a + 256 + k) nan ≡ get_or t (a + 256 + k) nan
   filled-after k =
-      ap (λ (z : List Float). get_or z (a + 256 + k) nan) (sym (append_assoc (take a t) (listTo 256 e) (drop (a + 256) t)))
-      ∙ ap (λ (z : ℕ). get_or ((take a t ++ listTo 256 e) ++ drop (a + 256) t) (z + k) nan) (sym both_long)
-      ∙ get_or-append-add (take a t ++ listTo 256 e) (drop (a + 256) t) k nan
+      ap (λ (z : List Float). get_or z (a + 256 + k) nan) (sym (append_assoc (take a t) (list_to 256 e) (drop (a + 256) t)))
+      ∙ ap (λ (z : ℕ). get_or ((take a t ++ list_to 256 e) ++ drop (a + 256) t) (z + k) nan) (sym both_long)
+      ∙ get_or-append-add (take a t ++ list_to 256 e) (drop (a + 256) t) k nan
       ∙ get_or-drop (a + 256) t k nan
 
-  pub filled-elsewhere : (i : ℕ) → (a ≤ i → a + 256 ≤ i) → get_or filledAt i nan ≡ get_or t i nan
+  pub filled-elsewhere : (i : ℕ) → (a ≤ i → a + 256 ≤ i) → get_or filled_at i nan ≡ get_or t i nan
   filled-elsewhere i h = elim (cmp i a) [
     | inl g ↦ filled-before i g
-    | inr g ↦ let past = h g in let is : a + 256 + (i - (a + 256)) ≡ i = omega (arith, past) in subst (λ (z : ℕ). get_or filledAt z nan ≡ get_or t z nan) is (filled-after (i - (a + 256)))
+    | inr g ↦ let past = h g in let is : a + 256 + (i - (a + 256)) ≡ i = omega (arith, past) in subst (λ (z : ℕ). get_or filled_at z nan ≡ get_or t z nan) is (filled-after (i - (a + 256)))
   ]
 
 -- ---- the fields of the records
@@ -98,45 +98,45 @@ pub no_field : (k : ℕ) → (k ≡ 1 → ⊥) → (k ≡ 2 → ⊥) → false �
 no_field k g h = rw (ne_eqb k 1 g, ne_eqb k 2 h)
 
 module _ (ix : Index) (q : List ℕ) (at : ℕ) where
-  pub field-of-term : (v : ℕ) → recordKind q at ≡ 1 → v ≡ recordValue q at 0 → leafField ix v ≡ fieldAt ix q at
-  field-of-term v k e = rw (eq-eqb (recordKind q at) 1 k) (ap (leafField ix) e)
+  pub field-of-term : (v : ℕ) → record_kind q at ≡ 1 → v ≡ record_value q at 0 → leaf_field ix v ≡ field_at ix q at
+  field-of-term v k e = rw (eq-eqb (record_kind q at) 1 k) (ap (leaf_field ix) e)
 
-  pub field-of-phrase : (v : ℕ) → (recordKind q at ≡ 1 → ⊥) → v ≡ recordValue q at 0 → v ≡ fieldAt ix q at
-  field-of-phrase v k e = rw (ne_eqb (recordKind q at) 1 k) e
+  pub field-of-phrase : (v : ℕ) → (record_kind q at ≡ 1 → ⊥) → v ≡ record_value q at 0 → v ≡ field_at ix q at
+  field-of-phrase v k e = rw (ne_eqb (record_kind q at) 1 k) e
 
   -- it is a field of the index
-  pub field-there : Asks ix q → at < recordCount q → hasField q at ≡ true → fieldAt ix q at < fieldCount ix
-  field-there a h has = go (eqb (recordKind q at) 1) refl has
+  pub field-there : Asks ix q → at < record_count q → has_field q at ≡ true → field_at ix q at < field_count ix
+  field-there a h has = go (eqb (record_kind q at) 1) refl has
     where
-      go : (b : Bool) → eqb (recordKind q at) 1 ≡ b → (b || eqb (recordKind q at) 2) ≡ true → cond b (leafField ix (recordValue q at 0)) (recordValue q at 0) < fieldCount ix
-      go true e g = (a.accepted.leaf (recordValue q at 0) (term-leaf ix q a.values-right at h (eqb-true (recordKind q at) 1 e))).field
-      go false e g = (phrase-right ix q a.values-right at h (eqb-true (recordKind q at) 2 g)).field-present
+      go : (b : Bool) → eqb (record_kind q at) 1 ≡ b → (b || eqb (record_kind q at) 2) ≡ true → cond b (leaf_field ix (record_value q at 0)) (record_value q at 0) < field_count ix
+      go true e g = (a.accepted.leaf (record_value q at 0) (term-leaf ix q a.values-right at h (eqb-true (record_kind q at) 1 e))).field
+      go false e g = (phrase-right ix q a.values-right at h (eqb-true (record_kind q at) 2 g)).field-present
 
 -- what the code reads of it
 pub record FieldRead (fields : List ℕ) (f : ℕ) : Type 0 where
   pub few : f < 16
   pub there : 3 * f < length fields
-  pub least : leastAverage ≤ get_or fields (3 * f) 0
-  pub largest : get_or fields (3 * f) 0 ≤ largestAverage
+  pub least : least_average ≤ get_or fields (3 * f) 0
+  pub largest : get_or fields (3 * f) 0 ≤ largest_average
 
-pub field-read : (ix : Index) (n : ℕ) (q fields leaves : List ℕ) (at f : ℕ) → Asks ix q → LeafLent ix n fields leaves → at < recordCount q → hasField q at ≡ true → f ≡ fieldAt ix q at → FieldRead fields f
+pub field-read : (ix : Index) (n : ℕ) (q fields leaves : List ℕ) (at f : ℕ) → Asks ix q → LeafLent ix n fields leaves → at < record_count q → has_field q at ≡ true → f ≡ field_at ix q at → FieldRead fields f
 field-read ix n q fields leaves at f a lent h has e =
     let are = lent.field-lent.fields-are in
-    let there : f < fieldCount ix = subst (λ (z : ℕ). z < fieldCount ix) (sym e) (field-there ix q at a h has) in
+    let there : f < field_count ix = subst (λ (z : ℕ). z < field_count ix) (sym e) (field-there ix q at a h has) in
     let here = field-here ix n fields f lent.field-lent there in
     let low = here.there in
     let ok = a.accepted.field f there in
     record {
       few = here.few;
       there = omega (arith, low);
-      least = subst (λ (z : List ℕ). leastAverage ≤ get_or z (3 * f) 0) are ok.least;
-      largest = subst (λ (z : List ℕ). get_or z (3 * f) 0 ≤ largestAverage) are ok.largest;
+      least = subst (λ (z : List ℕ). least_average ≤ get_or z (3 * f) 0) are ok.least;
+      largest = subst (λ (z : List ℕ). get_or z (3 * f) 0 ≤ largest_average) are ok.largest;
     }
 
 -- the fields that are filled have their inverses, and those of the records before `at` are filled
 pub record Filled (ix : Index) (q : List ℕ) (table : List Float) (filled : List Bool) (at : ℕ) : Type 0 where
   pub tables : (f : ℕ) → get_or filled f false ≡ true → FieldTable ix table f
-  pub met : (r : ℕ) → r < at → hasField q r ≡ true → get_or filled (fieldAt ix q r) false ≡ true
+  pub met : (r : ℕ) → r < at → has_field q r ≡ true → get_or filled (field_at ix q r) false ≡ true
 
 pub none_filled : (ix : Index) (q : List ℕ) (table : List Float) → Filled ix q table (replicate 16 false) 0
 none_filled ix q table =
@@ -149,32 +149,32 @@ none_filled ix q table =
     ]
 
 module _ (ix : Index) (q : List ℕ) (table : List Float) (filled : List Bool) (at : ℕ) (was : Filled ix q table filled at) where
-  one_more : (filled' : List Bool) → ((f : ℕ) → get_or filled f false ≡ true → get_or filled' f false ≡ true) → (hasField q at ≡ true → get_or filled' (fieldAt ix q at) false ≡ true) → (r : ℕ) → r < at + 1 → hasField q r ≡ true → get_or filled' (fieldAt ix q r) false ≡ true
+  one_more : (filled' : List Bool) → ((f : ℕ) → get_or filled f false ≡ true → get_or filled' f false ≡ true) → (has_field q at ≡ true → get_or filled' (field_at ix q at) false ≡ true) → (r : ℕ) → r < at + 1 → has_field q r ≡ true → get_or filled' (field_at ix q r) false ≡ true
   one_more filled' keep new r h has = elim (last-or-below r at (omega (arith, h))) [
-    | inl e ↦ subst (λ (z : ℕ). hasField q z ≡ true → get_or filled' (fieldAt ix q z) false ≡ true) (sym e) new has
-    | inr g ↦ keep (fieldAt ix q r) (was.met r g has)
+    | inl e ↦ subst (λ (z : ℕ). has_field q z ≡ true → get_or filled' (field_at ix q z) false ≡ true) (sym e) new has
+    | inr g ↦ keep (field_at ix q r) (was.met r g has)
   ]
 
-  pub filled-skip : hasField q at ≡ false → Filled ix q table filled (at + 1)
+  pub filled-skip : has_field q at ≡ false → Filled ix q table filled (at + 1)
   filled-skip no_field = record { tables = was.tables; met = one_more filled (λ f e. e) (λ e. absurd (false≢true (sym no_field ∙ e))) }
 
-  pub filled-again : (f : ℕ) → f ≡ fieldAt ix q at → get_or filled f false ≡ true → Filled ix q table filled (at + 1)
+  pub filled-again : (f : ℕ) → f ≡ field_at ix q at → get_or filled f false ≡ true → Filled ix q table filled (at + 1)
   filled-again f e is = record { tables = was.tables; met = one_more filled (λ f e. e) (λ h. subst (λ (z : ℕ). get_or filled z false ≡ true) e is) }
 
-  pub filled-new : (fields : List ℕ) (f : ℕ) (out : List Float) → ix.fields ≡ fields → f ≡ fieldAt ix q at → f < length filled → 256 * f + 256 ≤ length table → out ≡ listTo 256 (λ n. inverse (of_bits binary32 (get_or fields (3 * f) 0)) (length_of n)) ++ drop 256 (mid_of (256 * f) (length table - 256 * f) table) → Filled ix q (put_mid (256 * f) (length table - 256 * f) table out) (set filled f true) (at + 1)
+  pub filled-new : (fields : List ℕ) (f : ℕ) (out : List Float) → ix.fields ≡ fields → f ≡ field_at ix q at → f < length filled → 256 * f + 256 ≤ length table → out ≡ list_to 256 (λ n. inverse (of_bits binary32 (get_or fields (3 * f) 0)) (length_of n)) ++ drop 256 (mid_of (256 * f) (length table - 256 * f) table) → Filled ix q (put_mid (256 * f) (length table - 256 * f) table out) (set filled f true) (at + 1)
   filled-new fields f out are e here room is =
       record { tables = tabled; met = one_more (set filled f true) keep (λ h. subst (λ (z : ℕ). get_or (set filled f true) z false ≡ true) e (get_or-set_same filled f true false here)) }
     where
       entries : ℕ → Float
-      entries n = inverse (of_bits binary32 (fieldAverage ix f)) (length_of n)
+      entries n = inverse (of_bits binary32 (field_average ix f)) (length_of n)
 
       after : List Float
       after = put_mid (256 * f) (length table - 256 * f) table out
 
-      same : after ≡ filledAt entries table (256 * f) room
+      same : after ≡ filled_at entries table (256 * f) room
       same =
           put-field entries table (256 * f) room out
-          (subst (λ (z : List ℕ). out ≡ listTo 256 (λ n. inverse (of_bits binary32 (get_or z (3 * f) 0)) (length_of n)) ++ drop 256 (mid_of (256 * f) (length table - 256 * f) table)) (sym are) is)
+          (subst (λ (z : List ℕ). out ≡ list_to 256 (λ n. inverse (of_bits binary32 (get_or z (3 * f) 0)) (length_of n)) ++ drop 256 (mid_of (256 * f) (length table - 256 * f) table)) (sym are) is)
 
       keep : (g : ℕ) → get_or filled g false ≡ true → get_or (set filled f true) g false ≡ true
       keep g h = go (eqb g f) refl

@@ -8,23 +8,23 @@ use lib.Dec.{T}
 use mathlib.Core.Bool.{true, not}
 use lib.Ieee.{Float, nan, binary32, nan_bits, of_bits}
 use Rattle.ieee754.proofs.Patterns.{pattern_number}
-use Rattle.meaning.specs.Below.{listTo}
+use Rattle.meaning.specs.Below.{list_to}
 use Rattle.meaning.specs.Bm25.{length_of, inverse}
-use Rattle.meaning.specs.Lent.{Index, fieldAverage}
-use Rattle.meaning.specs.Query.{recordCount}
-use Rattle.meaning.proofs.Below.{getD-listTo}
+use Rattle.meaning.specs.Lent.{Index, field_average}
+use Rattle.meaning.specs.Query.{record_count}
+use Rattle.meaning.proofs.Below.{get_or-list_to}
 use Rattle.weight.specs.Measured.{Asks}
 use Rattle.weight.specs.Sound.{FieldTable}
-use Rattle.inverses.specs.Inverses.{hasField, fieldAt, FieldTables}
+use Rattle.inverses.specs.Inverses.{has_field, field_at, FieldTables}
 use Rattle.inverses.proofs.Filling.{field-there}
 
 pub first-average : (ix : Index) (q : List ℕ) → Asks ix q → length ix.fields ≡ 3 → T (not (nan_bits binary32 (get_or ix.fields 0 0)))
 first-average ix q asks one = let most = (asks.accepted.field 0 (omega (arith, one))).largest in pattern_number (get_or ix.fields 0 0) (omega (arith, most))
 
-pub one-field : (ix : Index) (q : List ℕ) (table : List Float) → Asks ix q → length ix.fields ≡ 3 → table ≡ listTo 256 (λ n. inverse (of_bits binary32 (fieldAverage ix 0)) (length_of n)) → FieldTables ix q table
+pub one-field : (ix : Index) (q : List ℕ) (table : List Float) → Asks ix q → length ix.fields ≡ 3 → table ≡ list_to 256 (λ n. inverse (of_bits binary32 (field_average ix 0)) (length_of n)) → FieldTables ix q table
 one-field ix q table asks one is at h has =
     let there = field-there ix q at asks h has in
-    let first : 0 ≡ fieldAt ix q at = omega (arith, there, one) in
+    let first : 0 ≡ field_at ix q at = omega (arith, there, one) in
     subst (FieldTable ix table) first first-table
   where
     first-table : FieldTable ix table 0
@@ -32,7 +32,7 @@ one-field ix q table asks one is at h has =
         let here : 256 * 0 + n ≡ n = omega arith in
         ap (λ (z : ℕ). get_or table z nan) here
         ∙ ap (λ (z : List Float). get_or z n nan) is
-        ∙ getD-listTo 256 (λ n. inverse (of_bits binary32 (fieldAverage ix 0)) (length_of n)) nan n low
+        ∙ get_or-list_to 256 (λ n. inverse (of_bits binary32 (field_average ix 0)) (length_of n)) nan n low
 
-pub no-field-lent : (ix : Index) (q : List ℕ) → Asks ix q → length ix.fields ≤ 3 → (length ix.fields ≡ 3 → ⊥) → (at : ℕ) → at < recordCount q → hasField q at ≡ true → ⊥
+pub no-field-lent : (ix : Index) (q : List ℕ) → Asks ix q → length ix.fields ≤ 3 → (length ix.fields ≡ 3 → ⊥) → (at : ℕ) → at < record_count q → has_field q at ≡ true → ⊥
 no-field-lent ix q asks few other at h has = let there = field-there ix q at asks h has in other (omega (arith, there, few))

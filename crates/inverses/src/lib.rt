@@ -4,14 +4,14 @@
 ghost use Rattle.std.specs.Prelude.{◌≡◌, true, List, ◌++◌, ℕ, ◌<◌, ◌≤◌, length, drop};
 ghost use Rattle.std.specs.Float.{binary32};
 ghost use Rattle.std.specs.Float.Ieee.{of_bits};
-ghost use Rattle.meaning.specs.Below.{listTo};
-ghost use Rattle.meaning.specs.Limits.{leastAverage, largestAverage};
+ghost use Rattle.meaning.specs.Below.{list_to};
+ghost use Rattle.meaning.specs.Limits.{least_average, largest_average};
 ghost use Rattle.meaning.specs.Lent.{Index};
 ghost use Rattle.meaning.specs.Bm25.{length_of, inverse};
-ghost use Rattle.meaning.specs.Query.{recordCount};
+ghost use Rattle.meaning.specs.Query.{record_count};
 ghost use Rattle.weight.specs.Measured.{Asks};
 ghost use Rattle.node_words.specs.Placed.{LeafLent};
-ghost use Rattle.inverses.specs.Inverses.{fieldAt, hasField, FieldTables};
+ghost use Rattle.inverses.specs.Inverses.{field_at, has_field, FieldTables};
 
 use sim::bm25::Bm25;
 
@@ -28,8 +28,8 @@ pub fn first_inverses(fields: &[u32]) -> Bm25
 
 // Of one field, into its places of the table.
 fn fill_field(average: u32, table: &mut [f32])
-    requires { (256 ≤ length table.old) × (leastAverage ≤ average) × (average ≤ largestAverage) }
-    ensures { table.new ≡ listTo 256 (λ n. inverse (of_bits binary32 average) (length_of n)) ++ drop 256 table.old }
+    requires { (256 ≤ length table.old) × (least_average ≤ average) × (average ≤ largest_average) }
+    ensures { table.new ≡ list_to 256 (λ n. inverse (of_bits binary32 average) (length_of n)) ++ drop 256 table.old }
 {
     let bm25 = Bm25::new(f32::from_bits(average));
     let mut n: usize = 0;
@@ -41,8 +41,8 @@ fn fill_field(average: u32, table: &mut [f32])
 
 // Whether the record at `at` is a Term or a Phrase.
 fn has_field(q: &[u32], at: usize) -> bool
-    requires { at < recordCount q.now }
-    ensures { result ≡ hasField q.now at }
+    requires { at < record_count q.now }
+    ensures { result ≡ has_field q.now at }
 {
     match query::kind(q, at) {
         1 => true,
@@ -53,8 +53,8 @@ fn has_field(q: &[u32], at: usize) -> bool
 
 // The field of the Term or Phrase at `at`.
 fn field_at(q: &[u32], leaves: &[u32], at: usize) -> u32
-    requires { (ix : Index) × Asks ix q.now × (ix.leaves ≡ leaves.now) × (at < recordCount q.now) × (hasField q.now at ≡ true) }
-    ensures { (ix : Index) → ix.leaves ≡ leaves.now → result ≡ fieldAt ix q.now at }
+    requires { (ix : Index) × Asks ix q.now × (ix.leaves ≡ leaves.now) × (at < record_count q.now) × (has_field q.now at ≡ true) }
+    ensures { (ix : Index) → ix.leaves ≡ leaves.now → result ≡ field_at ix q.now at }
 {
     let v = query::value(q, at, 0);
     if query::kind(q, at) == 1 {

@@ -7,7 +7,7 @@ use native.Mathlib.Omega.{arith}
 use lib.Dec.{lit<}
 use lib.Ieee.{Float, binary32, binary64, add, of_bits}
 use lib.Ieee.Exact.{round_exact}
-use Rattle.meaning.specs.Ieee754.{zeroFloat, narrow}
+use Rattle.meaning.specs.Ieee754.{zero_float, narrow}
 use Rattle.ieee754.specs.Nonneg.{AtMost}
 use Rattle.ieee754.proofs.Bounds.{Held, atmost-more, sum-two-atmost, narrow-atmost}
 
@@ -37,10 +37,10 @@ pub scores-more : (p q : ℕ) (x : Float) → p ≤ q → AtMost (p * 2 ^ 29) x 
 scores-more p q x h i = let m : p * 2 ^ 29 ≤ q * 2 ^ 29 = omega arith in atmost-more m i
 
 -- the code's 0.0
-pub zero-32 : of_bits binary32 0 ≡ zeroFloat
+pub zero-32 : of_bits binary32 0 ≡ zero_float
 unfolding of_bits
 zero-32 = refl
 
-pub zero-64 : of_bits binary64 0 ≡ zeroFloat
+pub zero-64 : of_bits binary64 0 ≡ zero_float
 unfolding of_bits
 zero-64 = refl

@@ -9,14 +9,14 @@ use native.Mathlib.Nat.{le_refl, le_trans, le_of_eq, add-le-add}
 use native.Mathlib.Omega.{arith}
 use lib.IntN.{ℤ}
 use lib.ListN.{length, length-append, length-map}
-use Rattle.meaning.specs.Below.{listTo}
-use Rattle.meaning.specs.Limits.{largestFrequency}
-use Rattle.meaning.specs.Lent.{Index, leafCount, leafFirst, leafNumber, leafDocument, leafFrequency, leafPosition}
-use Rattle.meaning.specs.Postings.{postingAt, found, frequencyOf, positionsOf}
-use Rattle.meaning.specs.Phrase.{PhraseTerm, starts, termStarts, multiplicity, smallest, distinct, sumSmallest, commonSize, phraseFrequency}
+use Rattle.meaning.specs.Below.{list_to}
+use Rattle.meaning.specs.Limits.{largest_frequency}
+use Rattle.meaning.specs.Lent.{Index, leaf_count, leaf_first, leaf_number, leaf_document, leaf_frequency, leaf_position}
+use Rattle.meaning.specs.Postings.{posting_at, found, frequency_of, positions_of}
+use Rattle.meaning.specs.Phrase.{PhraseTerm, starts, term_starts, multiplicity, smallest, distinct, sum_smallest, common_size, phrase_frequency}
 use Rattle.phrase.proofs.Size.{common-length}
 use Rattle.index.specs.Accepted.{Accepted}
-use Rattle.index.specs.Runs.{postingDocument, postingFrequency}
+use Rattle.index.specs.Runs.{posting_document, posting_frequency}
 use Rattle.index.proofs.PostingAt.{posting-is}
 use Rattle.weight.specs.Held.{RunAt}
 use Rattle.weight.specs.Sound.{EachTerm}
@@ -25,19 +25,19 @@ use Rattle.meaning.proofs.Tests.{cmp}
 -- what a scan from the cursor answers
 abbrev pub Scanned : List ℕ → ℕ → ℕ → ℕ → ℕ → ℕ → Type 0
 Scanned postings first number cursor doc r =
-    (i : ℕ) → cursor ≤ i → i < number → postingDocument postings first i ≡ doc → ((k : ℕ) → k < i → postingDocument postings first k ≡ doc → ⊥) → r ≡ postingFrequency postings first i
+    (i : ℕ) → cursor ≤ i → i < number → posting_document postings first i ≡ doc → ((k : ℕ) → k < i → posting_document postings first k ≡ doc → ⊥) → r ≡ posting_frequency postings first i
 
-module _ (ix : Index) (A : Accepted ix) (l : ℕ) (there : l < leafCount ix) (doc cursor : ℕ) (run : RunAt (leafDocument ix l) (leafNumber ix l) cursor doc) where
-  pub scanned-at : (o : Option ℕ) → postingAt ix l doc ≡ o → found o ≡ true → (r : ℕ) → Scanned ix.postings (leafFirst ix l) (leafNumber ix l) cursor doc r → (r ≡ frequencyOf ix l o) × (r ≤ largestFrequency)
+module _ (ix : Index) (A : Accepted ix) (l : ℕ) (there : l < leaf_count ix) (doc cursor : ℕ) (run : RunAt (leaf_document ix l) (leaf_number ix l) cursor doc) where
+  pub scanned-at : (o : Option ℕ) → posting_at ix l doc ≡ o → found o ≡ true → (r : ℕ) → Scanned ix.postings (leaf_first ix l) (leaf_number ix l) cursor doc r → (r ≡ frequency_of ix l o) × (r ≤ largest_frequency)
   scanned-at none e f r h = absurd (false≢true f)
   scanned-at (some i) e f r h =
       let p = posting-is ix l doc i e in
       let c : cursor ≤ i = ⊎_elim (λ m. absurd (omega (arith, run.passed i m, p.1))) (λ m. m) (cmp i cursor) in
-      let q : r ≡ leafFrequency ix l i = h i c p.0 p.1 (λ k m n. omega (arith, A.ascending l there k i m p.0, n, p.1)) in
+      let q : r ≡ leaf_frequency ix l i = h i c p.0 p.1 (λ k m n. omega (arith, A.ascending l there k i m p.0, n, p.1)) in
       (q, omega (arith, q, (A.posting l i there p.0).most))
 
-  pub scanned : found (postingAt ix l doc) ≡ true → (r : ℕ) → Scanned ix.postings (leafFirst ix l) (leafNumber ix l) cursor doc r → (r ≡ frequencyOf ix l (postingAt ix l doc)) × (r ≤ largestFrequency)
-  scanned f r h = scanned-at (postingAt ix l doc) refl f r h
+  pub scanned : found (posting_at ix l doc) ≡ true → (r : ℕ) → Scanned ix.postings (leaf_first ix l) (leaf_number ix l) cursor doc r → (r ≡ frequency_of ix l (posting_at ix l doc)) × (r ≤ largest_frequency)
+  scanned f r h = scanned-at (posting_at ix l doc) refl f r h
 
 -- ---- a phrase
 smallest-le : (s : ℤ) (xs : List ℤ) (xss : List (List ℤ)) → smallest s (xs ∷ xss) ≤ smallest s (xs ∷ [])
@@ -45,8 +45,8 @@ unfolding smallest
 smallest-le s xs [] = le_refl _
 smallest-le s xs (ys ∷ yss) = omega arith
 
-sum-le : (ss xs : List ℤ) (xss : List (List ℤ)) → sumSmallest ss (xs ∷ xss) ≤ sumSmallest ss (xs ∷ [])
-unfolding sumSmallest
+sum-le : (ss xs : List ℤ) (xss : List (List ℤ)) → sum_smallest ss (xs ∷ xss) ≤ sum_smallest ss (xs ∷ [])
+unfolding sum_smallest
 sum-le [] xs xss = le_refl _
 sum-le (s ∷ ss) xs xss = add-le-add (smallest-le s xs xss) (sum-le ss xs xss)
 
@@ -54,26 +54,26 @@ one_list : (s : ℤ) (xs : List ℤ) → multiplicity s xs ≡ smallest s (xs �
 unfolding smallest
 one_list s xs = refl
 
-common-le : (xs : List ℤ) (xss : List (List ℤ)) → commonSize (xs ∷ xss) ≤ length xs
-unfolding commonSize
+common-le : (xs : List ℤ) (xss : List (List ℤ)) → common_size (xs ∷ xss) ≤ length xs
+unfolding common_size
 common-le xs xss = le_trans (sum-le (distinct xs) xs xss) (le_of_eq (sym (common-length (xs ∷ []) xs (omega arith) (λ s. one_list s xs))))
 
-length_to : (n : ℕ) (f : ℕ → ℕ) → length (listTo n f) ≡ n
-unfolding listTo
+length_to : (n : ℕ) (f : ℕ → ℕ) → length (list_to n f) ≡ n
+unfolding list_to
 length_to zero f = refl
-length_to (suc n) f = omega (arith, length-append (listTo n f) (f n ∷ []), length_to n f)
+length_to (suc n) f = omega (arith, length-append (list_to n f) (f n ∷ []), length_to n f)
 
-positions-few : (ix : Index) → Accepted ix → (l doc : ℕ) → l < leafCount ix → (o : Option ℕ) → postingAt ix l doc ≡ o → length (positionsOf ix l o) ≤ largestFrequency
+positions-few : (ix : Index) → Accepted ix → (l doc : ℕ) → l < leaf_count ix → (o : Option ℕ) → posting_at ix l doc ≡ o → length (positions_of ix l o) ≤ largest_frequency
 positions-few ix A l doc there none e = omega arith
-positions-few ix A l doc there (some i) e = omega (arith, length_to (leafFrequency ix l i) (leafPosition ix l i), (A.posting l i there (posting-is ix l doc i e).0).most)
+positions-few ix A l doc there (some i) e = omega (arith, length_to (leaf_frequency ix l i) (leaf_position ix l i), (A.posting l i there (posting-is ix l doc i e).0).most)
 
 starts-length : (o : ℕ) (ps : List ℕ) → length (starts o ps) ≡ length ps
 unfolding starts
 starts-length o ps = length-map ps _
 
-pub phrase-frequency-few : (ix : Index) → Accepted ix → (f places : ℕ) (ts : List PhraseTerm) (doc : ℕ) → EachTerm ix f places ts → phraseFrequency ix ts doc ≤ largestFrequency
-unfolding phraseFrequency commonSize termStarts EachTerm
+pub phrase-frequency-few : (ix : Index) → Accepted ix → (f places : ℕ) (ts : List PhraseTerm) (doc : ℕ) → EachTerm ix f places ts → phrase_frequency ix ts doc ≤ largest_frequency
+unfolding phrase_frequency common_size term_starts EachTerm
 phrase-frequency-few ix A f places [] doc p = omega arith
 phrase-frequency-few ix A f places (t ∷ ts) doc p =
-    let ps = positionsOf ix t.leaf (postingAt ix t.leaf doc) in
-    le_trans (common-le (starts t.offset ps) _) (omega (arith, starts-length t.offset ps, positions-few ix A t.leaf doc p.0.leaf-there (postingAt ix t.leaf doc) refl))
+    let ps = positions_of ix t.leaf (posting_at ix t.leaf doc) in
+    le_trans (common-le (starts t.offset ps) _) (omega (arith, starts-length t.offset ps, positions-few ix A t.leaf doc p.0.leaf-there (posting_at ix t.leaf doc) refl))

@@ -9,19 +9,19 @@ use lib.IntN.{pos}
 use lib.ListN.{length, get_or}
 use lib.Ieee.{Float, nan, binary32, nan_bits, of_bits, of_int}
 use borrow.Author.Tests.{ltb-true}
-use Rattle.meaning.specs.Limits.{noMoreDocs, largestFrequency, nodeStateWords}
-use Rattle.meaning.specs.Lent.{Index, leafField, normByte}
-use Rattle.meaning.specs.Ieee754.{zeroFloat}
+use Rattle.meaning.specs.Limits.{no_more_docs, largest_frequency, node_state_words}
+use Rattle.meaning.specs.Lent.{Index, leaf_field, norm_byte}
+use Rattle.meaning.specs.Ieee754.{zero_float}
 use Rattle.meaning.specs.Bm25.{bm25}
-use Rattle.meaning.specs.Score.{fieldScore}
-use Rattle.meaning.specs.Postings.{postingAt, frequencyOf}
-use Rattle.meaning.specs.Phrase.{PhraseTerm, phraseFrequency}
+use Rattle.meaning.specs.Score.{field_score}
+use Rattle.meaning.specs.Postings.{posting_at, frequency_of}
+use Rattle.meaning.specs.Phrase.{PhraseTerm, phrase_frequency}
 use Rattle.ieee754.specs.Nonneg.{AtMost}
 use Rattle.ieee754.proofs.Bounds.{zero-atmost}
 use Rattle.index.specs.Accepted.{Accepted}
-use Rattle.weight.specs.ScorerTree.{Leaf, nothing, term, phrase, range, everything, weighted, leafMatches, leafScore}
+use Rattle.weight.specs.ScorerTree.{Leaf, nothing, term, phrase, range, everything, weighted, leaf_matches, leaf_score}
 use Rattle.weight.specs.State.{State, words_of}
-use Rattle.weight.specs.Held.{normsWord, PhraseIs, LeafIs, FloatIs}
+use Rattle.weight.specs.Held.{norms_word, PhraseIs, LeafIs, FloatIs}
 use Rattle.weight.specs.Sound.{LeafSound, FieldTable, LeafTable}
 use Rattle.leaf_score.specs.declared.Node.{Node}
 use Rattle.leaf_score.specs.Words.{NodeIs, byte_at}
@@ -33,8 +33,8 @@ use Rattle.leaf_score.proofs.Weights.{float-number, norm-there, norm-is, inverse
 -- the record's words, as they are read
 pub record Read (n : Node) (s : State) : Type 0 where
   pub kind-is : n.kind ≡ s.kind
-  pub required-end : n.required_end ≡ s.requiredEnd
-  pub optional-end : n.optional_end ≡ s.optionalEnd
+  pub required-end : n.required_end ≡ s.required_end
+  pub optional-end : n.optional_end ≡ s.optional_end
   pub first-is : n.first ≡ s.first
   pub number_is : n.number ≡ s.number
   pub cursor-is : n.cursor ≡ s.cursor
@@ -42,7 +42,7 @@ pub record Read (n : Node) (s : State) : Type 0 where
   pub constant-is : n.constant ≡ s.constant
   pub weight_is : n.weight ≡ s.weight
   pub afterwards-is : n.afterwards ≡ s.afterwards
-  pub group_at : n.group_at ≡ s.groupAt
+  pub group_at : n.group_at ≡ s.group_at
   pub norms-is : n.norms ≡ s.norms
 
 pub read : (st v : List ℕ) (s : State) (n : Node) → st ≡ words_of s ++ v → NodeIs st n → Read n s
@@ -62,7 +62,7 @@ read st v s n e r =
       norms-is = r.norms-is ∙ ap (λ (l : List ℕ). get_or l 18 0) e;
     }
 
-pub words_long : (st v : List ℕ) (s : State) → st ≡ words_of s ++ v → nodeStateWords ≤ length st
+pub words_long : (st v : List ℕ) (s : State) → st ≡ words_of s ++ v → node_state_words ≤ length st
 words_long st v s e = omega (arith, ap length e)
 
 -- what `weighted` asks, and its answer
@@ -80,7 +80,7 @@ module _ (ix : Index) (max : ℕ) (postings positions norms : List ℕ) (doc : �
   A : Accepted ix
   A = L.lends.accepted
 
-  inside : doc < ix.maxDoc
+  inside : doc < ix.max_doc
   inside = subst (λ (i : ℕ). doc < i) (sym L.lends.documents) L.document
 
   byte_small : byte_at norms n.norms doc < 256
@@ -91,8 +91,8 @@ module _ (ix : Index) (max : ℕ) (postings positions norms : List ℕ) (doc : �
       go false = bytes (n.norms - 1 + doc)
 
   -- of a field
-  module _ (f : ℕ) (there : f < Rattle.meaning.specs.Lent.fieldCount ix) (F : FieldTable ix table f) (w : Float) (x : FloatIs w n.weight) (field_is : n.field ≡ f) (norms-is : n.norms ≡ normsWord ix f) (frequency : ℕ) (few : frequency ≤ largestFrequency) where
-    byte-is : byte_at norms n.norms doc ≡ normByte ix f doc
+  module _ (f : ℕ) (there : f < Rattle.meaning.specs.Lent.field_count ix) (F : FieldTable ix table f) (w : Float) (x : FloatIs w n.weight) (field_is : n.field ≡ f) (norms-is : n.norms ≡ norms_word ix f) (frequency : ℕ) (few : frequency ≤ largest_frequency) where
+    byte-is : byte_at norms n.norms doc ≡ norm_byte ix f doc
     byte-is = ap (λ (l : List ℕ). byte_at l n.norms doc) (sym L.norms-are) ∙ norm-is ix A f there doc inside n.norms norms-is
 
     pub field-weighs : Weighs n norms table doc frequency
@@ -100,14 +100,14 @@ module _ (ix : Index) (max : ℕ) (postings positions norms : List ℕ) (doc : �
         record {
           frequency-few = few;
           number = float-number w n.weight x;
-          field-few = omega (arith, field_is, there, A.fewFields);
+          field-few = omega (arith, field_is, there, A.few_fields);
           byte-there = λ g. subst (λ (l : List ℕ). n.norms - 1 + doc < length l) L.norms-are (norm-there ix A f there doc inside n.norms norms-is g);
           inverse-there = subst (λ (i : ℕ). 256 * i + byte_at norms n.norms doc < length table) (sym field_is) (inverse-there ix A f there doc inside table F (byte_at norms n.norms doc) byte_small);
         }
 
-    pub field-answer : (r : Float) → r ≡ answer n norms table doc frequency → (r ≡ fieldScore ix f w frequency doc) × AtMost (2 ^ 29) r
+    pub field-answer : (r : Float) → r ≡ answer n norms table doc frequency → (r ≡ field_score ix f w frequency doc) × AtMost (2 ^ 29) r
     field-answer r e =
-        let q : r ≡ fieldScore ix f w frequency doc = e ∙ ap (λ (i : ℕ). bm25 (of_bits binary32 n.weight) (of_int binary32 (pos frequency)) (get_or table (256 * i + byte_at norms n.norms doc) nan)) field_is ∙ weighted-is ix A f there doc inside table F (byte_at norms n.norms doc) byte_small w n.weight frequency x byte-is in
+        let q : r ≡ field_score ix f w frequency doc = e ∙ ap (λ (i : ℕ). bm25 (of_bits binary32 n.weight) (of_int binary32 (pos frequency)) (get_or table (256 * i + byte_at norms n.norms doc) nan)) field_is ∙ weighted-is ix A f there doc inside table F (byte_at norms n.norms doc) byte_small w n.weight frequency x byte-is in
         (q, subst (λ (z : Float). AtMost (2 ^ 29) z) (sym q) (weighted-small ix A f there doc inside table F (byte_at norms n.norms doc) byte_small w n.weight frequency x few byte-is))
 
   module _ (ranges : List ℕ) (places : ℕ) (w : Float) (s : State) (v st : List ℕ) (e : st ≡ words_of s ++ v) (R : Read n s) where
@@ -118,7 +118,7 @@ module _ (ix : Index) (max : ℕ) (postings positions norms : List ℕ) (doc : �
     weight-at x = subst (λ (i : ℕ). FloatIs w i) (sym R.weight_is) x
 
     abbrev Done : Leaf → Float → List ℕ → Type 0
-    Done l r st' = (r ≡ leafScore ix l (weighted w) doc) × AtMost (2 ^ 29) r × LeafKept ix ranges l s doc st'
+    Done l r st' = (r ≡ leaf_score ix l (weighted w) doc) × AtMost (2 ^ 29) r × LeafKept ix ranges l s doc st'
 
     -- a term
     pub term-run : (l : Leaf) → Asks l → n.kind ≡ 1 → n.first + n.number ≤ length postings / 3
@@ -130,11 +130,11 @@ module _ (ix : Index) (max : ℕ) (postings positions norms : List ℕ) (doc : �
     term-run everything p k = absurd (omega (arith, R.kind-is, p.words.0))
 
     module _ (frequency : ℕ) (h : Scanned postings n.first n.number n.cursor doc frequency) where
-      at-term : (l : ℕ) → Asks (term l) → (frequency ≡ frequencyOf ix l (postingAt ix l doc)) × (frequency ≤ largestFrequency)
-      unfolding LeafIs LeafSound leafMatches
+      at-term : (l : ℕ) → Asks (term l) → (frequency ≡ frequency_of ix l (posting_at ix l doc)) × (frequency ≤ largest_frequency)
+      unfolding LeafIs LeafSound leaf_matches
       at-term l p =
-          let a : n.first ≡ Rattle.meaning.specs.Lent.leafFirst ix l = R.first-is ∙ p.words.0.first-is in
-          let b : n.number ≡ Rattle.meaning.specs.Lent.leafNumber ix l = R.number_is ∙ p.words.0.number_is in
+          let a : n.first ≡ Rattle.meaning.specs.Lent.leaf_first ix l = R.first-is ∙ p.words.0.first-is in
+          let b : n.number ≡ Rattle.meaning.specs.Lent.leaf_number ix l = R.number_is ∙ p.words.0.number_is in
           let c : n.cursor ≡ s.cursor = R.cursor-is in
           let d : postings ≡ ix.postings = sym L.lends.postings-are in
           scanned ix A l p.sound doc s.cursor p.words.0.run p.match frequency (moved _ _ _ _ _ _ _ _ d a b c h)
@@ -145,30 +145,30 @@ module _ (ix : Index) (max : ℕ) (postings positions norms : List ℕ) (doc : �
       pub term-weighs : (l : Leaf) → Asks l → n.kind ≡ 1 → Weighs n norms table doc frequency
       unfolding LeafIs LeafSound LeafTable
       term-weighs nothing p k = absurd (omega (arith, R.kind-is, p.words.0))
-      term-weighs (term l) p k = field-weighs (leafField ix l) (A.leaf l p.sound).field p.tables w (weight-at p.weight) (R.field_is ∙ p.words.0.field_is) (R.norms-is ∙ p.words.0.norms-is) frequency (at-term l p).1
+      term-weighs (term l) p k = field-weighs (leaf_field ix l) (A.leaf l p.sound).field p.tables w (weight-at p.weight) (R.field_is ∙ p.words.0.field_is) (R.norms-is ∙ p.words.0.norms-is) frequency (at-term l p).1
       term-weighs (phrase f ts) p k = absurd (omega (arith, R.kind-is, p.words.kind-is))
       term-weighs (range r) p k = absurd (omega (arith, R.kind-is, p.words.0.kind-is))
       term-weighs everything p k = absurd (omega (arith, R.kind-is, p.words.0))
 
       pub term-done : (l : Leaf) → Asks l → n.kind ≡ 1 → (r : Float) → r ≡ answer n norms table doc frequency → Done l r st
-      unfolding LeafIs LeafSound LeafTable leafScore
+      unfolding LeafIs LeafSound LeafTable leaf_score
       term-done nothing p k r q = absurd (omega (arith, R.kind-is, p.words.0))
       term-done (term l) p k r q =
-          let t = field-answer (leafField ix l) (A.leaf l p.sound).field p.tables w (weight-at p.weight) (R.field_is ∙ p.words.0.field_is) (R.norms-is ∙ p.words.0.norms-is) frequency (at-term l p).1 r q in
-          (t.0 ∙ ap (λ (i : ℕ). fieldScore ix (leafField ix l) w i doc) (at-term l p).0, t.1, record { s' = s; v' = v; is = e; same = record { cached = refl; constant = refl; weight = refl; scores = refl }; words = p.words })
+          let t = field-answer (leaf_field ix l) (A.leaf l p.sound).field p.tables w (weight-at p.weight) (R.field_is ∙ p.words.0.field_is) (R.norms-is ∙ p.words.0.norms-is) frequency (at-term l p).1 r q in
+          (t.0 ∙ ap (λ (i : ℕ). field_score ix (leaf_field ix l) w i doc) (at-term l p).0, t.1, record { s' = s; v' = v; is = e; same = record { cached = refl; constant = refl; weight = refl; scores = refl }; words = p.words })
       term-done (phrase f ts) p k r q = absurd (omega (arith, R.kind-is, p.words.kind-is))
       term-done (range i) p k r q = absurd (omega (arith, R.kind-is, p.words.0.kind-is))
       term-done everything p k r q = absurd (omega (arith, R.kind-is, p.words.0))
 
     -- a phrase
-    pub few-documents : doc < noMoreDocs
+    pub few-documents : doc < no_more_docs
     few-documents = omega (arith, inside, A.documents)
 
     held : (f : ℕ) (ts : List PhraseTerm) → LeafSound ix places (phrase f ts) → PhraseIs ix f ts s v doc → PhraseHeld postings positions ix places f ts s v st doc
     held f ts a i = record { accepted = A; postings-are = L.lends.postings-are; positions-are = L.lends.positions-are; sound = a; words = e; is = i }
 
-    pub phrase-asks : (l : Leaf) → Asks l → n.kind ≡ 2 → (f : ℕ) × (ts : List PhraseTerm) × PhraseHeld postings positions ix places f ts s v st doc × (0 < phraseFrequency ix ts doc)
-    unfolding LeafIs leafMatches
+    pub phrase-asks : (l : Leaf) → Asks l → n.kind ≡ 2 → (f : ℕ) × (ts : List PhraseTerm) × PhraseHeld postings positions ix places f ts s v st doc × (0 < phrase_frequency ix ts doc)
+    unfolding LeafIs leaf_matches
     phrase-asks nothing p k = absurd (omega (arith, R.kind-is, p.words.0))
     phrase-asks (term l) p k = absurd (omega (arith, R.kind-is, p.words.0.kind-is))
     phrase-asks (phrase f ts) p k = (f, ts, held f ts p.sound p.words, ltb-true _ _ p.match)
@@ -177,7 +177,7 @@ module _ (ix : Index) (max : ℕ) (postings positions norms : List ℕ) (doc : �
 
     module _ (frequency : ℕ) (st' : List ℕ) (h : FrequencyPost postings positions st doc frequency st') where
       pub phrase-weighs : (l : Leaf) → Asks l → n.kind ≡ 2 → Weighs n norms table doc frequency
-      unfolding LeafIs LeafSound LeafTable leafMatches
+      unfolding LeafIs LeafSound LeafTable leaf_matches
       phrase-weighs nothing p k = absurd (omega (arith, R.kind-is, p.words.0))
       phrase-weighs (term l) p k = absurd (omega (arith, R.kind-is, p.words.0.kind-is))
       phrase-weighs (phrase f ts) p k =
@@ -187,19 +187,19 @@ module _ (ix : Index) (max : ℕ) (postings positions norms : List ℕ) (doc : �
       phrase-weighs everything p k = absurd (omega (arith, R.kind-is, p.words.0))
 
       pub phrase-done : (l : Leaf) → Asks l → n.kind ≡ 2 → (r : Float) → r ≡ answer n norms table doc frequency → Done l r st'
-      unfolding LeafIs LeafSound LeafTable leafMatches leafScore
+      unfolding LeafIs LeafSound LeafTable leaf_matches leaf_score
       phrase-done nothing p k r q = absurd (omega (arith, R.kind-is, p.words.0))
       phrase-done (term l) p k r q = absurd (omega (arith, R.kind-is, p.words.0.kind-is))
       phrase-done (phrase f ts) p k r q =
           let g = h ix places f ts s v (held f ts p.sound p.words) (ltb-true _ _ p.match) in
           let t = field-answer f p.sound.0 p.tables w (weight-at p.weight) (R.field_is ∙ p.words.field_is) (R.norms-is ∙ p.words.norms-is) frequency (omega (arith, g.0, phrase-frequency-few ix A f places ts doc p.sound.4)) r q in
-          (t.0 ∙ ap (λ (i : ℕ). fieldScore ix f w i doc) g.0, t.1, record { s' = g.1.0; v' = g.1.1; is = g.1.2; same = g.1.3; words = g.1.4 })
+          (t.0 ∙ ap (λ (i : ℕ). field_score ix f w i doc) g.0, t.1, record { s' = g.1.0; v' = g.1.1; is = g.1.2; same = g.1.3; words = g.1.4 })
       phrase-done (range i) p k r q = absurd (omega (arith, R.kind-is, p.words.0.kind-is))
       phrase-done everything p k r q = absurd (omega (arith, R.kind-is, p.words.0))
 
     -- what else is there scores 0
-    pub other-done : (l : Leaf) → Asks l → (n.kind ≡ 1 → ⊥) → (n.kind ≡ 2 → ⊥) → (r : Float) → r ≡ zeroFloat → Done l r st
-    unfolding LeafIs leafScore
+    pub other-done : (l : Leaf) → Asks l → (n.kind ≡ 1 → ⊥) → (n.kind ≡ 2 → ⊥) → (r : Float) → r ≡ zero_float → Done l r st
+    unfolding LeafIs leaf_score
     other-done nothing p i j x q = (q, subst (λ (y : Float). AtMost (2 ^ 29) y) (sym q) (zero-atmost _), record { s' = s; v' = v; is = e; same = record { cached = refl; constant = refl; weight = refl; scores = refl }; words = p.words })
     other-done (term l) p i j x q = absurd (i (R.kind-is ∙ p.words.0.kind-is))
     other-done (phrase f ts) p i j x q = absurd (j (R.kind-is ∙ p.words.kind-is))

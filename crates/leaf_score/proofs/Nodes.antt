@@ -12,10 +12,10 @@ use lib.Ieee.{Float, binary32, nan_bits, of_bits}
 use Rattle.meaning.specs.Lent.{Index}
 use Rattle.ieee754.specs.Nonneg.{AtMost}
 use Rattle.ieee754.proofs.Bounds.{atmost-more}
-use Rattle.weight.specs.ScorerTree.{Leaf, constant, weighted, Scorer, leaf, boolean, matches, leafScore, scorerScore}
+use Rattle.weight.specs.ScorerTree.{Leaf, constant, weighted, Scorer, leaf, boolean, matches, leaf_score, scorer_score}
 use Rattle.weight.specs.State.{State, words_of}
 use Rattle.weight.specs.Held.{Cache, LeafIs, ScoringIs, KeptIs, FloatIs, Ok}
-use Rattle.weight.specs.Sound.{Sound, Tables, nodes, nodesOf}
+use Rattle.weight.specs.Sound.{Sound, Tables, nodes, nodes_of}
 use Rattle.meaning.proofs.Tests.{cmp}
 use Rattle.leaf_score.specs.declared.Node.{Node}
 use Rattle.leaf_score.specs.Words.{NodeIs}
@@ -34,7 +34,7 @@ at-most-there P doc cached y h = ⊎_elim (λ l. go l (h doc (le_refl _) l).from
 module _ (ix : Index) (ranges : List ℕ) (table : List Float) (places k doc : ℕ) (st : List ℕ) (n : Node) (N : NodeIs st n) where
   -- a score that is the same for each document
   pub constant-is : (S : Scorer) (sc : ℕ) → Ok ix ranges S k sc st doc → n.constant ≡ 1 → T (not (nan_bits binary32 n.weight)) × ScoreIs ix S doc (of_bits binary32 n.weight)
-  unfolding Ok ScoringIs KeptIs scorerScore leafScore nodes
+  unfolding Ok ScoringIs KeptIs scorer_score leaf_score nodes
   constant-is (leaf l (constant c)) sc p e =
       let R = read st p.1 p.0 n p.2 N in
       let f : FloatIs c n.weight = subst (λ (i : ℕ). FloatIs c i) (sym R.weight_is) p.5.1 in
@@ -44,8 +44,8 @@ module _ (ix : Index) (ranges : List ℕ) (table : List Float) (places k doc : �
   constant-is (boolean (some c) j need rs os ps) sc p e =
       let R = read st (p.1 ++ (p.2 ++ p.3)) p.0 n p.4 N in
       let f : FloatIs c n.weight = subst (λ (i : ℕ). FloatIs c i) (sym R.weight_is) p.7.kept.1 in
-      let m : 2 ^ 29 ≤ (1 + (nodesOf rs + (nodesOf os + nodesOf ps))) * 2 ^ 29 = omega arith in
-      (float-number c n.weight f, record { is = float_back c n.weight f; small = subst (λ (z : Float). AtMost ((1 + (nodesOf rs + (nodesOf os + nodesOf ps))) * 2 ^ 29) z) (sym (float_back c n.weight f)) (atmost-more m f.small) })
+      let m : 2 ^ 29 ≤ (1 + (nodes_of rs + (nodes_of os + nodes_of ps))) * 2 ^ 29 = omega arith in
+      (float-number c n.weight f, record { is = float_back c n.weight f; small = subst (λ (z : Float). AtMost ((1 + (nodes_of rs + (nodes_of os + nodes_of ps))) * 2 ^ 29) z) (sym (float_back c n.weight f)) (atmost-more m f.small) })
 
   -- a leaf by BM25
   pub record LeafAt (T : Scorer) (sc : ℕ) : Type 0 where
@@ -55,10 +55,10 @@ module _ (ix : Index) (ranges : List ℕ) (table : List Float) (places k doc : �
     pub v : List ℕ
     pub is : st ≡ words_of s ++ v
     pub asks : LeafAsks ix ranges table places l w s v doc
-    pub done : (r : Float) (st' : List ℕ) → (r ≡ leafScore ix l (weighted w) doc) × AtMost (2 ^ 29) r × LeafKept ix ranges l s doc st' → ScoreIs ix T doc r × Ok ix ranges T k sc st' doc
+    pub done : (r : Float) (st' : List ℕ) → (r ≡ leaf_score ix l (weighted w) doc) × AtMost (2 ^ 29) r × LeafKept ix ranges l s doc st' → ScoreIs ix T doc r × Ok ix ranges T k sc st' doc
 
   pub leaf-at : (T : Scorer) (sc : ℕ) → Scorable ix table places T → matches ix T doc ≡ true → Ok ix ranges T k sc st doc → (n.constant ≡ 1 → ⊥) → (n.kind ≡ 3 → ⊥) → LeafAt T sc
-  unfolding Ok ScoringIs scorerScore nodes matches Sound Tables
+  unfolding Ok ScoringIs scorer_score nodes matches Sound Tables
   leaf-at (leaf l (constant c)) sc g m p i j = let R = read st p.1 p.0 n p.2 N in absurd (i (R.constant-is ∙ p.5.0))
   leaf-at (leaf l (weighted w)) sc g m p i j =
       let b : max doc (p.0.cached - 1) ≡ doc = at-most-there (matches ix (leaf l (weighted w))) doc p.0.cached m p.6 in
@@ -72,7 +72,7 @@ module _ (ix : Index) (ranges : List ℕ) (table : List Float) (places k doc : �
         done = λ r st' d. back p.0 p.3 p.5 p.6 b r st' d.0 d.1 d.2;
       }
     where
-      back : (s : State) → s.scores ≡ sc → (s.constant ≡ 0) × FloatIs w s.weight → Rattle.weight.specs.Held.Cache (matches ix (leaf l (weighted w))) doc s.cached → max doc (s.cached - 1) ≡ doc → (r : Float) (st' : List ℕ) → r ≡ leafScore ix l (weighted w) doc → AtMost (2 ^ 29) r → LeafKept ix ranges l s doc st' → ScoreIs ix (leaf l (weighted w)) doc r × Ok ix ranges (leaf l (weighted w)) k sc st' doc
+      back : (s : State) → s.scores ≡ sc → (s.constant ≡ 0) × FloatIs w s.weight → Rattle.weight.specs.Held.Cache (matches ix (leaf l (weighted w))) doc s.cached → max doc (s.cached - 1) ≡ doc → (r : Float) (st' : List ℕ) → r ≡ leaf_score ix l (weighted w) doc → AtMost (2 ^ 29) r → LeafKept ix ranges l s doc st' → ScoreIs ix (leaf l (weighted w)) doc r × Ok ix ranges (leaf l (weighted w)) k sc st' doc
       back s a f c b r st' q h z =
           let e : z.s'.cached ≡ s.cached = z.same.cached in (
             record { is = q; small = h },

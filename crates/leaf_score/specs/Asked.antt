@@ -1,10 +1,10 @@
 -- What the score of a node asks and gives, and of a leaf. Assumes nothing: these are definitions.
 use Rattle.std.specs.Prelude.{◌≡◌, true, List, ◌++◌, ℕ, ◌*◌, ◌^◌, ◌≤◌, ◌<◌, get_or, Float}
-use Rattle.meaning.specs.Limits.{noMoreDocs}
+use Rattle.meaning.specs.Limits.{no_more_docs}
 use Rattle.meaning.specs.Lent.{Index}
-use Rattle.meaning.specs.Phrase.{PhraseTerm, phraseFrequency}
+use Rattle.meaning.specs.Phrase.{PhraseTerm, phrase_frequency}
 use Rattle.ieee754.specs.Nonneg.{AtMost}
-use Rattle.weight.specs.ScorerTree.{Leaf, weighted, Scorer, leafMatches, matches, leafScore, scorerScore}
+use Rattle.weight.specs.ScorerTree.{Leaf, weighted, Scorer, leaf_matches, matches, leaf_score, scorer_score}
 use Rattle.weight.specs.State.{State, words_of}
 use Rattle.weight.specs.Held.{PhraseIs, LeafIs, FloatIs, Ok}
 use Rattle.weight.specs.Sound.{Lends, LeafSound, Sound, LeafTable, Tables, nodes}
@@ -24,7 +24,7 @@ pub record Scorable (ix : Index) (table : List Float) (places : ℕ) (T : Scorer
 
 -- the score, and that it is at most 2^29 for each leaf
 pub record ScoreIs (ix : Index) (T : Scorer) (doc : ℕ) (r : Float) : Type 0 where
-  pub is : r ≡ scorerScore ix T doc
+  pub is : r ≡ scorer_score ix T doc
   pub small : AtMost (nodes T * 2 ^ 29) r
 
 -- some index, tree and scores word that the words hold, where the tree matches the document
@@ -41,7 +41,7 @@ ScorePost st n postings positions norms ranges table places doc depth r st' =
 pub record LeafAsks (ix : Index) (ranges : List ℕ) (table : List Float) (places : ℕ) (l : Leaf) (w : Float) (s : State) (v : List ℕ) (doc : ℕ) : Type 0 where
   pub sound : LeafSound ix places l
   pub tables : LeafTable ix table l (weighted w)
-  pub match : leafMatches ix l doc ≡ true
+  pub match : leaf_matches ix l doc ≡ true
   pub words : LeafIs ix ranges l s v doc
   pub weight : FloatIs w s.weight
 
@@ -55,12 +55,12 @@ pub record Same (s s' : State) : Type 0 where
 -- a phrase that stands in the document
 abbrev pub FrequencyPre : List ℕ → List ℕ → ℕ → ℕ → List ℕ → ℕ → Type 0
 FrequencyPre postings positions a b st doc =
-    (doc < noMoreDocs) × ((ix : Index) × (places : ℕ) × (f : ℕ) × (ts : List PhraseTerm) × (s : State) × (w : List ℕ) × (places ≤ a) × (places ≤ b) × PhraseHeld postings positions ix places f ts s w st doc × (0 < phraseFrequency ix ts doc))
+    (doc < no_more_docs) × ((ix : Index) × (places : ℕ) × (f : ℕ) × (ts : List PhraseTerm) × (s : State) × (w : List ℕ) × (places ≤ a) × (places ≤ b) × PhraseHeld postings positions ix places f ts s w st doc × (0 < phrase_frequency ix ts doc))
 
 -- its frequency there
 abbrev pub FrequencyPost : List ℕ → List ℕ → List ℕ → ℕ → ℕ → List ℕ → Type 0
 FrequencyPost postings positions st doc r st' =
-    (ix : Index) (places f : ℕ) (ts : List PhraseTerm) (s : State) (w : List ℕ) → PhraseHeld postings positions ix places f ts s w st doc → 0 < phraseFrequency ix ts doc → (r ≡ phraseFrequency ix ts doc) × ((s' : State) × (w' : List ℕ) × (st' ≡ words_of s' ++ w') × Same s s' × PhraseIs ix f ts s' w' doc)
+    (ix : Index) (places f : ℕ) (ts : List PhraseTerm) (s : State) (w : List ℕ) → PhraseHeld postings positions ix places f ts s w st doc → 0 < phrase_frequency ix ts doc → (r ≡ phrase_frequency ix ts doc) × ((s' : State) × (w' : List ℕ) × (st' ≡ words_of s' ++ w') × Same s s' × PhraseIs ix f ts s' w' doc)
 
 -- a leaf's words after its score: but for a phrase's terms and frequency they are the same
 pub record LeafKept (ix : Index) (ranges : List ℕ) (l : Leaf) (s : State) (doc : ℕ) (st' : List ℕ) : Type 0 where
@@ -76,7 +76,7 @@ LeafPre st n postings positions norms table places doc =
 
 abbrev pub LeafPost : List ℕ → ℕ → List ℕ → List ℕ → List ℕ → List Float → ℕ → ℕ → Float → List ℕ → Type 0
 LeafPost st n postings positions norms table places doc r st' =
-    (ix : Index) (ranges : List ℕ) (l : Leaf) (w : Float) (s : State) (v : List ℕ) → LentAt ix n postings positions norms doc → LeafAsks ix ranges table places l w s v doc → st ≡ words_of s ++ v → (r ≡ leafScore ix l (weighted w) doc) × AtMost (2 ^ 29) r × LeafKept ix ranges l s doc st'
+    (ix : Index) (ranges : List ℕ) (l : Leaf) (w : Float) (s : State) (v : List ℕ) → LentAt ix n postings positions norms doc → LeafAsks ix ranges table places l w s v doc → st ≡ words_of s ++ v → (r ≡ leaf_score ix l (weighted w) doc) × AtMost (2 ^ 29) r × LeafKept ix ranges l s doc st'
 
 -- a term's words, whatever else is lent and however deep it stands
 abbrev pub TermPre : List ℕ → List ℕ → List ℕ → List Float → ℕ → Type 0

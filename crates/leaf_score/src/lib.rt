@@ -4,9 +4,9 @@
 ghost use Rattle.std.specs.Prelude.{◌≡◌, not, ℕ, ◌+◌, ◌-◌, ◌*◌, ◌/◌, ◌≤◌, ◌<◌, min, T, pos, length, get_or};
 ghost use Rattle.std.specs.Float.{nan, binary32};
 ghost use Rattle.std.specs.Float.Ieee.{nan_bits, of_bits, of_int};
-ghost use Rattle.meaning.specs.Limits.{nodeStateWords};
+ghost use Rattle.meaning.specs.Limits.{node_state_words};
 ghost use Rattle.meaning.specs.Bm25.{bm25};
-ghost use Rattle.index.specs.Runs.{postingDocument, postingFrequency};
+ghost use Rattle.index.specs.Runs.{posting_document, posting_frequency};
 ghost use Rattle.leaf_score.specs.Words.{NodeIs, byte_at};
 ghost use Rattle.leaf_score.specs.Asked.{LeafPre, LeafPost, FrequencyPre, FrequencyPost, TermPre, TermPost};
 
@@ -30,7 +30,7 @@ pub struct Node {
 }
 
 pub fn node_at(st: &[u32]) -> Node
-    requires { nodeStateWords ≤ length st.now }
+    requires { node_state_words ≤ length st.now }
     ensures { NodeIs st.now result }
 {
     Node {
@@ -52,7 +52,7 @@ pub fn node_at(st: &[u32]) -> Node
 // The frequency of the document's posting, which stands at the cursor or behind it.
 fn term_frequency(postings: &[u32], first: usize, number: usize, cursor: usize, doc: u32) -> u32
     requires { first + number ≤ length postings.now / 3 }
-    ensures { (i : ℕ) → cursor ≤ i → i < number → postingDocument postings.now first i ≡ doc → ((k : ℕ) → k < i → postingDocument postings.now first k ≡ doc → ⊥) → result ≡ postingFrequency postings.now first i }
+    ensures { (i : ℕ) → cursor ≤ i → i < number → posting_document postings.now first i ≡ doc → ((k : ℕ) → k < i → posting_document postings.now first k ≡ doc → ⊥) → result ≡ posting_frequency postings.now first i }
 {
     let mut i = cursor;
     while i < number {

@@ -1,7 +1,7 @@
 -- The next bit that is set in a bitmap: a word whose lower bits are skipped, none left in it or its lowest one. Assumes nothing.
 use Rattle.std.proofs.Common.{◌≡◌, refl, sym, ap, ◌∙◌, Bool, true, false, not, ◌&&◌, ⊎_elim, List, ℕ, ◌+◌, ◌-◌, ◌*◌, ◌^◌, ◌≤◌, ◌<◌, ltb, get_or, arith, lt-ltb, le-ltb}
 use Rattle.std.proofs.lemmas.Bool.{false≢true}
-use Rattle.meaning.specs.Limits.{noMoreDocs}
+use Rattle.meaning.specs.Limits.{no_more_docs}
 use Rattle.meaning.proofs.Tests.{cmp}
 use Rattle.bits.specs.Bit.{bit, LowestBit, Bitmap}
 use Rattle.bits.proofs.Laws.{bit-zero, bit-high}
@@ -53,7 +53,7 @@ module _ (words : List ℕ) (first number target at skip below w : ℕ) (small :
       let p = and-not (bit t (get_or words (first + at) 0)) (ltb t skip) (sym (left t l.within) ∙ l.set) in
       (⊎_elim (λ h. h) (λ h. absurd (false≢true (sym (no-more-bits t (get_or words (first + at) 0) small h) ∙ p.0))) (cmp t 32), not-below t skip p.1)
 
-  pub lowest-first : 32 * number ≤ noMoreDocs → (t r : ℕ) → LowestBit w t → r ≡ 32 * at + t → FirstSet words first number target r
+  pub lowest-first : 32 * number ≤ no_more_docs → (t r : ℕ) → LowestBit w t → r ≡ 32 * at + t → FirstSet words first number target r
   lowest-first few t r l e P B over top =
       let in32 = lowest-within t l in
       record {
@@ -67,7 +67,7 @@ module _ (words : List ℕ) (first number target at skip below w : ℕ) (small :
       apart at t = omega arith
 
 -- behind the last word nothing is set
-pub none-first : (words : List ℕ) (first number target at skip : ℕ) → number ≤ at → ((P : ℕ → Bool) → Bitmap P words first number → (d : ℕ) → target ≤ d → d < 32 * at + skip → P d ≡ false) → FirstSet words first number target noMoreDocs
+pub none-first : (words : List ℕ) (first number target at skip : ℕ) → number ≤ at → ((P : ℕ → Bool) → Bitmap P words first number → (d : ℕ) → target ≤ d → d < 32 * at + skip → P d ≡ false) → FirstSet words first number target no_more_docs
 none-first words first number target at skip g before P B over top =
     record {
       from = top;

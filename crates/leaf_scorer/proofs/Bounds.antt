@@ -6,11 +6,11 @@ use Prim.Native.Nat.{ℕ, ◌+◌, ◌-◌, ◌*◌, ◌≤◌, max}
 use native.Mathlib.Nat.{le_trans, lt_of_lt_of_le}
 use native.Mathlib.Omega.{arith}
 use lib.ListN.{get_or, length, length-append}
-use Rattle.meaning.specs.Limits.{nodeStateWords}
+use Rattle.meaning.specs.Limits.{node_state_words}
 use Rattle.meaning.specs.Lent.{Index}
 use Rattle.meaning.specs.Phrase.{PhraseTerm}
 use Rattle.weight.specs.ScorerTree.{Leaf, nothing, term, phrase, range, everything, Scorer, leaf, boolean, Scorers, end, more, matches}
-use Rattle.weight.specs.State.{State, words_of, leafSize, size_of, sizesOf}
+use Rattle.weight.specs.State.{State, words_of, leaf_size, size_of, sizes_of}
 use Rattle.weight.specs.Held.{Cache, RunAt, TermIs, TermsAre, LeafIs, Ok, Oks}
 
 -- ---- a larger bound asks less
@@ -85,17 +85,17 @@ mutual
   oks-mono ix R (more f T ss) k w b e h p = (p.0, p.1, p.2, ok-mono ix R T k (cond f 1 0) p.0 b e h p.3, oks-mono ix R ss k p.1 b e h p.4)
 
 -- ---- how many words
-pub terms-length : (ix : Index) (ts : List PhraseTerm) (w : List ℕ) (b : ℕ) → TermsAre ix ts w b → length w ≡ nodeStateWords * length ts
+pub terms-length : (ix : Index) (ts : List PhraseTerm) (w : List ℕ) (b : ℕ) → TermsAre ix ts w b → length w ≡ node_state_words * length ts
 unfolding TermsAre
 terms-length ix [] w b p = ap length p
 terms-length ix (t ∷ ts) w b p = omega (arith, ap length p.2, terms-length ix ts p.1 b p.5)
 
 pub record Sizes (l : Leaf) (s : State) (w : List ℕ) : Type 0 where
-  pub size : s.size ≡ leafSize l
-  pub words : nodeStateWords + length w ≡ leafSize l
+  pub size : s.size ≡ leaf_size l
+  pub words : node_state_words + length w ≡ leaf_size l
 
 pub leaf-sizes : (ix : Index) (R : List ℕ) (l : Leaf) (s : State) (w : List ℕ) (b : ℕ) → LeafIs ix R l s w b → Sizes l s w
-unfolding LeafIs leafSize
+unfolding LeafIs leaf_size
 leaf-sizes ix R nothing s w b p = record { size = p.1; words = omega (arith, ap length p.3) }
 leaf-sizes ix R (term l) s w b p = record { size = p.0.size_is; words = omega (arith, ap length p.1) }
 leaf-sizes ix R (phrase f ts) s w b p = record { size = p.size_is; words = omega (arith, terms-length ix ts w b p.terms) }
@@ -112,7 +112,7 @@ mutual
       let e = max b (p.0.cached - 1) in
       omega (arith, ap length p.4, length-append p.1 (p.2 ++ p.3), length-append p.2 p.3, oks-length ix R rs (k - 1) p.1 e p.9, oks-length ix R os (k - 1) p.2 e p.10, oks-length ix R ps (k - 1) p.3 e p.11)
 
-  pub oks-length : (ix : Index) (R : List ℕ) (ss : Scorers) (k : ℕ) (w : List ℕ) (b : ℕ) → Oks ix R ss k w b → length w ≡ sizesOf ss
+  pub oks-length : (ix : Index) (R : List ℕ) (ss : Scorers) (k : ℕ) (w : List ℕ) (b : ℕ) → Oks ix R ss k w b → length w ≡ sizes_of ss
   oks-length ix R end k w b p = ap length p
   oks-length ix R (more f T ss) k w b p =
       omega (arith, ap length p.2, length-append p.0 p.1, ok-length ix R T k (cond f 1 0) p.0 b p.3, oks-length ix R ss k p.1 b p.4)
@@ -125,7 +125,7 @@ pub record Front (P : ℕ → Bool) (b : ℕ) (y : List ℕ) : Type 0 where
   pub size : state.size ≡ length y
   pub cache : Cache P b state.cached
 
-pub front_long : {P : ℕ → Bool} {b : ℕ} {y : List ℕ} → Front P b y → nodeStateWords ≤ length y
+pub front_long : {P : ℕ → Bool} {b : ℕ} {y : List ℕ} → Front P b y → node_state_words ≤ length y
 front_long f = omega (arith, ap length f.is)
 
 pub front-size : {P : ℕ → Bool} {b : ℕ} {y : List ℕ} → Front P b y → get_or y 1 0 ≡ length y
@@ -150,7 +150,7 @@ ok-front ix R (boolean c j need rs os ps) k o y b p =
       cache = p.8;
     }
 
-pub ok-long : (ix : Index) (R : List ℕ) (T : Scorer) (k o : ℕ) (y : List ℕ) (b : ℕ) → Ok ix R T k o y b → nodeStateWords ≤ length y
+pub ok-long : (ix : Index) (R : List ℕ) (T : Scorer) (k o : ℕ) (y : List ℕ) (b : ℕ) → Ok ix R T k o y b → node_state_words ≤ length y
 ok-long ix R T k o y b p = front_long (ok-front ix R T k o y b p)
 
 -- the document of the cached word
@@ -158,7 +158,7 @@ pub ok-cached : (ix : Index) (R : List ℕ) (T : Scorer) (k o : ℕ) (y : List �
 ok-cached ix R T k o y b p = let f = ok-front ix R T k o y b p in rw f.is f.cache
 
 -- a node that is neither a phrase nor a Boolean: its part is one record
-pub ok-single : (ix : Index) (R : List ℕ) (T : Scorer) (k o : ℕ) (y : List ℕ) (b : ℕ) → Ok ix R T k o y b → (get_or y 0 0 ≡ 2 → ⊥) → (get_or y 0 0 ≡ 3 → ⊥) → length y ≡ nodeStateWords
+pub ok-single : (ix : Index) (R : List ℕ) (T : Scorer) (k o : ℕ) (y : List ℕ) (b : ℕ) → Ok ix R T k o y b → (get_or y 0 0 ≡ 2 → ⊥) → (get_or y 0 0 ≡ 3 → ⊥) → length y ≡ node_state_words
 unfolding Ok LeafIs
 ok-single ix R (leaf nothing sc) k o y b p n2 n3 = omega (arith, ap length p.2, ap length p.4.3)
 ok-single ix R (leaf (term l) sc) k o y b p n2 n3 = omega (arith, ap length p.2, ap length p.4.1)
@@ -168,5 +168,5 @@ ok-single ix R (leaf everything sc) k o y b p n2 n3 = omega (arith, ap length p.
 ok-single ix R (boolean c j need rs os ps) k o y b p n2 n3 = absurd (n3 (ap (λ (l : List ℕ). get_or l 0 0) p.4 ∙ p.7.kind-is))
 
 -- so one whose first word is 1, a term
-pub ok-term : (ix : Index) (R : List ℕ) (T : Scorer) (k o : ℕ) (y : List ℕ) (b : ℕ) → Ok ix R T k o y b → get_or y 0 0 ≡ 1 → length y ≡ nodeStateWords
+pub ok-term : (ix : Index) (R : List ℕ) (T : Scorer) (k o : ℕ) (y : List ℕ) (b : ℕ) → Ok ix R T k o y b → get_or y 0 0 ≡ 1 → length y ≡ node_state_words
 ok-term ix R T k o y b p e = ok-single ix R T k o y b p (λ x. omega (arith, e)) (λ x. omega (arith, e))

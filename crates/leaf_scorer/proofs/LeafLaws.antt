@@ -9,18 +9,18 @@ use native.Mathlib.Omega.{arith}
 use lib.Dec.{ltb}
 use lib.ListN.{get_or, length, set}
 use borrow.Author.Tests.{lt-ltb, le-ltb}
-use Rattle.meaning.specs.Limits.{noMoreDocs, maxDocuments}
-use Rattle.meaning.specs.Lent.{Index, leafNumber, leafDocument, leafCount}
-use Rattle.meaning.specs.Postings.{postingAt, found}
+use Rattle.meaning.specs.Limits.{no_more_docs, max_documents}
+use Rattle.meaning.specs.Lent.{Index, leaf_number, leaf_document, leaf_count}
+use Rattle.meaning.specs.Postings.{posting_at, found}
 use Rattle.meaning.specs.Range.{NumericRange, in_range}
 use Rattle.meaning.specs.First.{First}
 use Rattle.index.specs.Accepted.{Accepted}
 use Rattle.index.proofs.PostingAt.{posting-at, posting-none}
-use Rattle.weight.specs.ScorerTree.{range, leafMatches}
+use Rattle.weight.specs.ScorerTree.{range, leaf_matches}
 use Rattle.weight.specs.State.{State, words_of}
 use Rattle.weight.specs.Held.{TermIs, RangeIs}
-use Rattle.run.specs.Run.{documentAt, Run, Lower}
-use Rattle.leaf_scorer.specs.Search.{cursorAt, SearchHeld, SearchMoved, SearchPost, AnyDocument, FirstSet, RangeHeld}
+use Rattle.run.specs.Run.{document_at, Run, Lower}
+use Rattle.leaf_scorer.specs.Search.{cursor_at, SearchHeld, SearchMoved, SearchPost, AnyDocument, FirstSet, RangeHeld}
 use Rattle.meaning.proofs.Tests.{cmp}
 
 -- ---- `search`
@@ -38,10 +38,10 @@ module _ (words : List ℕ) (stride : ℕ) (st : List ℕ) (t f n u : ℕ) (ef :
     pub search-run : Run words stride f n × (u ≤ n)
     search-run = rw (at_first, at-number, at-cursor) (h.run, h.within)
 
-    pub search-passed : (c : ℕ) → Lower words stride f n u t c → (i : ℕ) → i < c → documentAt words stride s.first i < t
+    pub search-passed : (c : ℕ) → Lower words stride f n u t c → (i : ℕ) → i < c → document_at words stride s.first i < t
     search-passed c p i l = let q = rw (at_first, at-cursor) at p.passed in ⊎_elim (λ g. h.passed i g) (λ g. q i g l) (cmp i s.cursor)
 
-  pub search-hit : (c r : ℕ) → Lower words stride f n u t c → c < n → r ≡ documentAt words stride f c → SearchPost words stride st t r (set st 8 c)
+  pub search-hit : (c r : ℕ) → Lower words stride f n u t c → c < n → r ≡ document_at words stride f c → SearchPost words stride st t r (set st 8 c)
   search-hit c r p l e s w h =
       record {
         cursor = c;
@@ -52,7 +52,7 @@ module _ (words : List ℕ) (stride : ℕ) (st : List ℕ) (t f n u : ℕ) (ef :
         ended = λ g. absurd (omega (arith, at-number s w h));
       }
 
-  pub search-end : (c r : ℕ) → Lower words stride f n u t c → n ≤ c → r ≡ noMoreDocs → SearchPost words stride st t r (set st 8 c)
+  pub search-end : (c r : ℕ) → Lower words stride f n u t c → n ≤ c → r ≡ no_more_docs → SearchPost words stride st t r (set st 8 c)
   search-end c r p l e s w h =
       record {
         cursor = c;
@@ -64,20 +64,20 @@ module _ (words : List ℕ) (stride : ℕ) (st : List ℕ) (t f n u : ℕ) (ef :
       }
 
   -- the posting after the cursor
-  pub search-next : (d e : ℕ) → u + 1 < n → d ≡ documentAt words stride f u → d < t → e ≡ documentAt words stride f (u + 1) → t ≤ e → SearchPost words stride st t e (set st 8 (u + 1))
+  pub search-next : (d e : ℕ) → u + 1 < n → d ≡ document_at words stride f u → d < t → e ≡ document_at words stride f (u + 1) → t ≤ e → SearchPost words stride st t e (set st 8 (u + 1))
   search-next d e l p q r g =
       search-hit (u + 1) e (record {
         within = omega arith;
         passed = λ i a b.
             let z : u ≡ i = omega arith in
-            subst (λ (j : ℕ). documentAt words stride f j < t) z (subst (λ (x : ℕ). x < t) p q);
+            subst (λ (j : ℕ). document_at words stride f j < t) z (subst (λ (x : ℕ). x < t) p q);
         stops = λ _. subst (λ (x : ℕ). t ≤ x) r g;
       }) l r
 
 -- ---- the first document of a run
-module _ (P : ℕ → Bool) (doc : ℕ → ℕ) (n t u r : ℕ) (top : t ≤ noMoreDocs) (small : (i : ℕ) → i < n → doc i < noMoreDocs) (ascending : (i j : ℕ) → i < j → j < n → doc i < doc j)
+module _ (P : ℕ → Bool) (doc : ℕ → ℕ) (n t u r : ℕ) (top : t ≤ no_more_docs) (small : (i : ℕ) → i < n → doc i < no_more_docs) (ascending : (i j : ℕ) → i < j → j < n → doc i < doc j)
     (hits : (i : ℕ) → i < n → P (doc i) ≡ true) (misses : (d : ℕ) → ((i : ℕ) → i < n → doc i ≡ d → ⊥) → P d ≡ false)
-    (passed : (i : ℕ) → i < u → doc i < t) (hit : u < n → (r ≡ doc u) × (t ≤ r)) (ended : n ≤ u → r ≡ noMoreDocs) where
+    (passed : (i : ℕ) → i < u → doc i < t) (hit : u < n → (r ≡ doc u) × (t ≤ r)) (ended : n ≤ u → r ≡ no_more_docs) where
   run-here : u < n → First P t r
   run-here l =
       let e : r ≡ doc u = (hit l).0 in
@@ -90,7 +90,7 @@ module _ (P : ℕ → Bool) (doc : ℕ → ℕ) (n t u r : ℕ) (top : t ≤ noM
 
   run-over : n ≤ u → First P t r
   run-over l =
-      let e : r ≡ noMoreDocs = ended l in
+      let e : r ≡ no_more_docs = ended l in
       record {
         from = omega arith;
         top = omega arith;
@@ -102,7 +102,7 @@ module _ (P : ℕ → Bool) (doc : ℕ → ℕ) (n t u r : ℕ) (top : t ≤ noM
   run-first = ⊎_elim run-here run-over (cmp u n)
 
 -- ---- a term
-module _ (ix : Index) (acc : Accepted ix) (k l : ℕ) (there : l < leafCount ix) (s : State) (t : ℕ) (is : TermIs ix k l s t) where
+module _ (ix : Index) (acc : Accepted ix) (k l : ℕ) (there : l < leaf_count ix) (s : State) (t : ℕ) (is : TermIs ix k l s t) where
   pub term-run : length ix.postings < 9223372036854775808 → (w st : List ℕ) → st ≡ words_of s ++ w → SearchHeld ix.postings 3 s w st t
   term-run size w st e =
       let o = acc.leaf l there in
@@ -123,7 +123,7 @@ module _ (ix : Index) (acc : Accepted ix) (k l : ℕ) (there : l < leafCount ix)
 
   -- the record after a search, and the document that was found
   module _ (w st : List ℕ) (r : ℕ) (m : SearchMoved ix.postings 3 s w st t r) where
-    pub term_moved : TermIs ix k l (cursorAt s m.cursor) t
+    pub term_moved : TermIs ix k l (cursor_at s m.cursor) t
     term_moved =
         record {
           kind-is = is.kind-is;
@@ -135,15 +135,15 @@ module _ (ix : Index) (acc : Accepted ix) (k l : ℕ) (there : l < leafCount ix)
           run = record { within = rw is.number_is at m.within; passed = rw is.first-is at m.passed };
         }
 
-    pub term-stands : m.cursor < s.number → (m.cursor < leafNumber ix l) × (leafDocument ix l m.cursor ≡ r)
+    pub term-stands : m.cursor < s.number → (m.cursor < leaf_number ix l) × (leaf_document ix l m.cursor ≡ r)
     term-stands g = (rw is.number_is at g, sym (rw is.first-is at (m.hit g).0))
 
-    pub term-first : t ≤ noMoreDocs → First (λ d. found (postingAt ix l d)) t r
+    pub term-first : t ≤ no_more_docs → First (λ d. found (posting_at ix l d)) t r
     term-first top =
-        run-first (λ d. found (postingAt ix l d)) (leafDocument ix l) (leafNumber ix l) t m.cursor r top
+        run-first (λ d. found (posting_at ix l d)) (leaf_document ix l) (leaf_number ix l) t m.cursor r top
         (λ i g. omega (arith, (acc.posting l i there g).document, acc.documents))
         (acc.ascending l there)
-        (λ i g. ap found (posting-at ix l (leafDocument ix l i) (acc.ascending l there) i g refl))
+        (λ i g. ap found (posting-at ix l (leaf_document ix l i) (acc.ascending l there) i g refl))
         (λ d g. ap found (posting-none ix l d g))
         (rw is.first-is at m.passed)
         (rw (is.first-is, is.number_is) at m.hit)
@@ -155,19 +155,19 @@ module _ (ix : Index) (acc : Accepted ix) (R : List ℕ) (r : NumericRange) (s :
   range-held w st e = record { words_are = e; there = is.there; few = omega (arith, is.number_is, acc.documents) }
 
   -- the bitmap has a bit for each document
-  pub range-over : (d : ℕ) → 32 * s.number ≤ d → leafMatches ix (range r) d ≡ false
-  unfolding leafMatches
-  range-over d h = ap (λ (b : Bool). b && in_range ix r d) (le-ltb d ix.maxDoc (omega (arith, is.number_is)))
+  pub range-over : (d : ℕ) → 32 * s.number ≤ d → leaf_matches ix (range r) d ≡ false
+  unfolding leaf_matches
+  range-over d h = ap (λ (b : Bool). b && in_range ix r d) (le-ltb d ix.max_doc (omega (arith, is.number_is)))
 
-  pub range-first : (t d : ℕ) → t ≤ noMoreDocs → FirstSet R s.first s.number t d → First (leafMatches ix (range r)) t d
-  range-first t d top first = first (leafMatches ix (range r)) is.bits range-over top
+  pub range-first : (t d : ℕ) → t ≤ no_more_docs → FirstSet R s.first s.number t d → First (leaf_matches ix (range r)) t d
+  range-first t d top first = first (leaf_matches ix (range r)) is.bits range-over top
 
 -- ---- everything
-pub any-first : (n t r : ℕ) → t ≤ noMoreDocs → n ≤ maxDocuments → AnyDocument n t r → First (λ d. ltb d n) t r
+pub any-first : (n t r : ℕ) → t ≤ no_more_docs → n ≤ max_documents → AnyDocument n t r → First (λ d. ltb d n) t r
 any-first n t r top small p = ⊎_elim here over (cmp t n)
   where
     here : t < n → First (λ d. ltb d n) t r
     here l = let e : r ≡ t = p.there l in record { from = omega arith; top = omega arith; before = λ d a b. absurd (omega arith); hit = λ _. lt-ltb r n (omega arith) }
 
     over : n ≤ t → First (λ d. ltb d n) t r
-    over l = let e : r ≡ noMoreDocs = p.ended l in record { from = omega arith; top = omega arith; before = λ d a b. le-ltb d n (omega arith); hit = λ g. absurd (omega arith) }
+    over l = let e : r ≡ no_more_docs = p.ended l in record { from = omega arith; top = omega arith; before = λ d a b. le-ltb d n (omega arith); hit = λ g. absurd (omega arith) }

@@ -12,24 +12,24 @@ use lib.IntN.{ℤ}
 use lib.ListN.{get_or, length, take, drop, set, length-append, length-set}
 use lib.Seq.{take_at, drop_at, take-length, drop-length, get_or-append-add, get_or-set_same, get_or-set_other, take-suc-set}
 use borrow.Author.Tests.{ltb-true, lt-ltb, le-ltb}
-use Rattle.meaning.specs.CallRefusals.{largestIn}
-use Rattle.meaning.specs.Limits.{noMoreDocs, nodeStateWords}
-use Rattle.meaning.specs.Lent.{Index, leafNumber, leafFirst, leafFrequency, leafPositionsIndex, leafField, hasPositions}
-use Rattle.meaning.specs.Postings.{postingAt, found, positionsOf}
-use Rattle.meaning.specs.Phrase.{PhraseTerm, starts, termStarts, multiplicity, smallest, commonSize, phraseFrequency}
+use Rattle.meaning.specs.CallRefusals.{largest_in}
+use Rattle.meaning.specs.Limits.{no_more_docs, node_state_words}
+use Rattle.meaning.specs.Lent.{Index, leaf_number, leaf_first, leaf_frequency, leaf_positions_index, leaf_field, has_positions}
+use Rattle.meaning.specs.Postings.{posting_at, found, positions_of}
+use Rattle.meaning.specs.Phrase.{PhraseTerm, starts, term_starts, multiplicity, smallest, common_size, phrase_frequency}
 use Rattle.meaning.specs.First.{First}
 use Rattle.meaning.proofs.Tests.{cmp}
 use Rattle.meaning.proofs.Below.{largest-at}
 use Rattle.meaning.proofs.Phrases.{common-start}
 use Rattle.index.specs.Accepted.{Accepted}
 use Rattle.index.proofs.PostingAt.{posting-at}
-use Rattle.phrase.specs.Terms.{termAt, startsOf, startLists, GoodTerm, Good, Room}
+use Rattle.phrase.specs.Terms.{term_at, starts_of, start_lists, GoodTerm, Good, Room}
 use Rattle.weight.specs.ScorerTree.{phrase}
 use Rattle.weight.specs.State.{State, words_of}
 use Rattle.weight.specs.Held.{TermsAre}
 use Rattle.weight.specs.Sound.{PhraseTermIs, EachTerm, LeafSound}
-use Rattle.leaf_scorer.specs.Search.{cursorAt, SearchHeld, SearchPost}
-use Rattle.leaf_scorer.specs.Phrases.{allFound, LeavesThere, TermsAt, TermsHeld, TermsPassed, Leapt, Gathered, GatherHeld, GatheredTo, PlaceAt, PlaceRead, FrequencyHeld, PhraseHeld, PhraseMoved, workedAt}
+use Rattle.leaf_scorer.specs.Search.{cursor_at, SearchHeld, SearchPost}
+use Rattle.leaf_scorer.specs.Phrases.{all_found, LeavesThere, TermsAt, TermsHeld, TermsPassed, Leapt, Gathered, GatherHeld, GatheredTo, PlaceAt, PlaceRead, FrequencyHeld, PhraseHeld, PhraseMoved, worked_at}
 use Rattle.leaf_scorer.proofs.Bounds.{term-mono, terms-mono}
 use Rattle.leaf_scorer.proofs.LeafLaws.{term-run, term_moved, term-stands, term-first}
 
@@ -45,16 +45,16 @@ pub record TermsZip (postings : List ℕ) (ix : Index) (ts : List PhraseTerm) (f
   pub there : LeavesThere ix left
   pub rest : TermsAre ix left z d
   pub lo : from ≤ d
-  pub top : d ≤ noMoreDocs
-  pub before : (y : ℕ) → from ≤ y → y < d → allFound ix ts y ≡ false
-  pub fails : (y : ℕ) → allFound ix left y ≡ false → allFound ix ts y ≡ false
+  pub top : d ≤ no_more_docs
+  pub before : (y : ℕ) → from ≤ y → y < d → all_found ix ts y ≡ false
+  pub fails : (y : ℕ) → all_found ix left y ≡ false → all_found ix ts y ≡ false
   pub back : (e : ℕ) → d ≤ e → (z' : List ℕ) → TermsAre ix left z' e → TermsAre ix ts (x ++ z') e
-  pub stand : last ≡ 0 → d < noMoreDocs → (z' : List ℕ) → TermsAt ix left z' d → TermsAt ix ts (x ++ z') d
+  pub stand : last ≡ 0 → d < no_more_docs → (z' : List ℕ) → TermsAt ix left z' d → TermsAt ix ts (x ++ z') d
   pub fresh : at ≡ 0 → (y : ℕ) (z' : List ℕ) → TermsAt ix left z' y → TermsAt ix ts (x ++ z') y
   pub rise : 0 < last → from < d
 
 module _ {postings : List ℕ} {ix : Index} {ts : List PhraseTerm} {from : ℕ} where
-  pub terms-start : {terms : List ℕ} → from ≤ noMoreDocs → TermsHeld postings ix ts terms from → TermsZip postings ix ts from terms from 0 0
+  pub terms-start : {terms : List ℕ} → from ≤ no_more_docs → TermsHeld postings ix ts terms from → TermsZip postings ix ts from terms from 0 0
   terms-start {terms} top h =
       record {
         left = ts;
@@ -77,26 +77,26 @@ module _ {postings : List ℕ} {ix : Index} {ts : List PhraseTerm} {from : ℕ} 
       }
 
 -- the words of a record in a list, where it begins at a place
-module _ (terms x w' : List ℕ) (s : State) (at e : ℕ) (is : terms ≡ x ++ (words_of s ++ w')) (place : at ≡ length x) (stop : e ≡ at + nodeStateWords) where
-  span : e - at ≡ nodeStateWords
+module _ (terms x w' : List ℕ) (s : State) (at e : ℕ) (is : terms ≡ x ++ (words_of s ++ w')) (place : at ≡ length x) (stop : e ≡ at + node_state_words) where
+  span : e - at ≡ node_state_words
   span = omega arith
 
-  pub record-fits : at + nodeStateWords ≤ length terms
+  pub record-fits : at + node_state_words ≤ length terms
   record-fits = omega (arith, ap length is, length-append x (words_of s ++ w'))
 
   pub record-part : take (e - at) (drop at terms) ≡ words_of s
-  record-part = rw (span, is, drop_at x (words_of s ++ w') at (sym place), take_at (words_of s) w' nodeStateWords refl)
+  record-part = rw (span, is, drop_at x (words_of s ++ w') at (sym place), take_at (words_of s) w' node_state_words refl)
 
   pub record-back : (ys : List ℕ) → take at terms ++ (ys ++ drop (e - at) (drop at terms)) ≡ x ++ (ys ++ w')
-  record-back ys = rw (span, is, take_at x (words_of s ++ w') at (sym place), drop_at x (words_of s ++ w') at (sym place), drop_at (words_of s) w' nodeStateWords refl)
+  record-back ys = rw (span, is, take_at x (words_of s ++ w') at (sym place), drop_at x (words_of s ++ w') at (sym place), drop_at (words_of s) w' node_state_words refl)
 
-pub found-miss : (ix : Index) (t : PhraseTerm) (ts : List PhraseTerm) (d : ℕ) → found (postingAt ix t.leaf d) ≡ false → allFound ix (t ∷ ts) d ≡ false
-unfolding allFound
+pub found-miss : (ix : Index) (t : PhraseTerm) (ts : List PhraseTerm) (d : ℕ) → found (posting_at ix t.leaf d) ≡ false → all_found ix (t ∷ ts) d ≡ false
+unfolding all_found
 found-miss ix t ts d e = rw e
 
-pub found-rest : (ix : Index) (t : PhraseTerm) (ts : List PhraseTerm) (d : ℕ) → allFound ix ts d ≡ false → allFound ix (t ∷ ts) d ≡ false
-unfolding allFound
-found-rest ix t ts d e = rw e (and-false (found (postingAt ix t.leaf d)))
+pub found-rest : (ix : Index) (t : PhraseTerm) (ts : List PhraseTerm) (d : ℕ) → all_found ix ts d ≡ false → all_found ix (t ∷ ts) d ≡ false
+unfolding all_found
+found-rest ix t ts d e = rw e (and-false (found (posting_at ix t.leaf d)))
   where
     and-false : (b : Bool) → b && false ≡ false
     and-false true = refl
@@ -107,16 +107,16 @@ module _ {postings : List ℕ} {ix : Index} {ts : List PhraseTerm} {from : ℕ} 
   unfolding TermsAre TermsAt
   terms-end l hit stood went = go q.left q.rest q.back q.stand
     where
-      go : (g : List PhraseTerm) → TermsAre ix g q.z d → ((e : ℕ) → d ≤ e → (z' : List ℕ) → TermsAre ix g z' e → TermsAre ix ts (q.x ++ z') e) → (last ≡ 0 → d < noMoreDocs → (z' : List ℕ) → TermsAt ix g z' d → TermsAt ix ts (q.x ++ z') d) → TermsPassed ix ts from d hit terms
+      go : (g : List PhraseTerm) → TermsAre ix g q.z d → ((e : ℕ) → d ≤ e → (z' : List ℕ) → TermsAre ix g z' e → TermsAre ix ts (q.x ++ z') e) → (last ≡ 0 → d < no_more_docs → (z' : List ℕ) → TermsAt ix g z' d → TermsAt ix ts (q.x ++ z') d) → TermsPassed ix ts from d hit terms
       go [] r b s = record { from = q.lo; top = q.top; before = q.before; are = rw q.is (b d (le_refl _) q.z r); stand = λ e h. rw q.is (s (stood e) h q.z r); moved = λ e. q.rise (went e) }
       go (t ∷ g) r b s = absurd (omega (arith, ap length q.is, length-append q.x q.z, ap length r.2, q.place))
 
-  module _ (l : at < length terms) (e : ℕ) (stop : e ≡ at + nodeStateWords) (size : length postings < 9223372036854775808) where
-    pub terms-next : (at + nodeStateWords ≤ length terms) × ((s : State) × (w : List ℕ) × SearchHeld postings 3 s w (take (e - at) (drop at terms)) d)
+  module _ (l : at < length terms) (e : ℕ) (stop : e ≡ at + node_state_words) (size : length postings < 9223372036854775808) where
+    pub terms-next : (at + node_state_words ≤ length terms) × ((s : State) × (w : List ℕ) × SearchHeld postings 3 s w (take (e - at) (drop at terms)) d)
     unfolding TermsAre LeavesThere
     terms-next = go q.left q.rest q.there
       where
-        go : (g : List PhraseTerm) → TermsAre ix g q.z d → LeavesThere ix g → (at + nodeStateWords ≤ length terms) × ((s : State) × (w : List ℕ) × SearchHeld postings 3 s w (take (e - at) (drop at terms)) d)
+        go : (g : List PhraseTerm) → TermsAre ix g q.z d → LeavesThere ix g → (at + node_state_words ≤ length terms) × ((s : State) × (w : List ℕ) × SearchHeld postings 3 s w (take (e - at) (drop at terms)) d)
         go [] r h = absurd (omega (arith, ap length q.is, length-append q.x q.z, ap length r, q.place))
         go (t ∷ g) r h =
             let is = q.is ∙ ap (λ (y : List ℕ). q.x ++ y) r.2 in (
@@ -129,7 +129,7 @@ module _ {postings : List ℕ} {ix : Index} {ts : List PhraseTerm} {from : ℕ} 
     unfolding TermsAre TermsAt LeavesThere
     terms-took r last' how ys len post = go q.left q.rest q.there q.fails q.back q.stand q.fresh
       where
-        go : (g : List PhraseTerm) → TermsAre ix g q.z d → LeavesThere ix g → ((y : ℕ) → allFound ix g y ≡ false → allFound ix ts y ≡ false) → ((e : ℕ) → d ≤ e → (z' : List ℕ) → TermsAre ix g z' e → TermsAre ix ts (q.x ++ z') e) → (last ≡ 0 → d < noMoreDocs → (z' : List ℕ) → TermsAt ix g z' d → TermsAt ix ts (q.x ++ z') d) → (at ≡ 0 → (y : ℕ) (z' : List ℕ) → TermsAt ix g z' y → TermsAt ix ts (q.x ++ z') y) → TermsZip postings ix ts from (take at terms ++ (ys ++ drop (e - at) (drop at terms))) r last' e
+        go : (g : List PhraseTerm) → TermsAre ix g q.z d → LeavesThere ix g → ((y : ℕ) → all_found ix g y ≡ false → all_found ix ts y ≡ false) → ((e : ℕ) → d ≤ e → (z' : List ℕ) → TermsAre ix g z' e → TermsAre ix ts (q.x ++ z') e) → (last ≡ 0 → d < no_more_docs → (z' : List ℕ) → TermsAt ix g z' d → TermsAt ix ts (q.x ++ z') d) → (at ≡ 0 → (y : ℕ) (z' : List ℕ) → TermsAt ix g z' y → TermsAt ix ts (q.x ++ z') y) → TermsZip postings ix ts from (take at terms ++ (ys ++ drop (e - at) (drop at terms))) r last' e
         go [] h k f b s n = absurd (omega (arith, ap length q.is, length-append q.x q.z, ap length h, q.place))
         go (t ∷ g) h k f b s n =
             let is = q.is ∙ ap (λ (y : List ℕ). q.x ++ y) h.2 in
@@ -139,12 +139,12 @@ module _ {postings : List ℕ} {ix : Index} {ts : List PhraseTerm} {from : ℕ} 
             let m = own h.0 [] (term-run ix q.accepted 9 t.leaf k.0 h.0 d h.3 (omega (arith, ap length q.postings-are)) [] st part) in
             let first = term-first ix q.accepted 9 t.leaf k.0 h.0 d h.3 [] ys r m q.top in
             let moved = term_moved ix q.accepted 9 t.leaf k.0 h.0 d h.3 [] ys r m in
-            let here : ys ≡ words_of (cursorAt h.0 m.cursor) = m.words_are in
-            let stands : r < noMoreDocs → (z' : List ℕ) → TermsAt ix g z' r → TermsAt ix (t ∷ g) (ys ++ z') r =
+            let here : ys ≡ words_of (cursor_at h.0 m.cursor) = m.words_are in
+            let stands : r < no_more_docs → (z' : List ℕ) → TermsAt ix g z' r → TermsAt ix (t ∷ g) (ys ++ z') r =
             λ j z' v.
             let in-run : m.cursor < h.0.number = ⊎_elim (λ c. c) (λ c. absurd (omega (arith, m.ended c))) (cmp m.cursor h.0.number) in
             let doc = term-stands ix q.accepted 9 t.leaf k.0 h.0 d h.3 [] ys r m in-run in
-            (cursorAt h.0 m.cursor, z', ap (λ (y : List ℕ). y ++ z') here, term-mono ix 9 t.leaf (cursorAt h.0 m.cursor) d r first.from moved, h.4, doc.0, doc.1, v)
+            (cursor_at h.0 m.cursor, z', ap (λ (y : List ℕ). y ++ z') here, term-mono ix 9 t.leaf (cursor_at h.0 m.cursor) d r first.from moved, h.4, doc.0, doc.1, v)
             in
             record {
               left = g;
@@ -160,7 +160,7 @@ module _ {postings : List ℕ} {ix : Index} {ts : List PhraseTerm} {from : ℕ} 
               top = first.top;
               before = λ y i j. ⊎_elim (λ c. q.before y i c) (λ c. f y (found-miss ix t g y (first.before y c j))) (cmp y d);
               fails = λ y c. f y (found-rest ix t g y c);
-              back = λ e' i z' j. rw append_assoc (b e' (le_trans first.from i) (ys ++ z') (cursorAt h.0 m.cursor, z', ap (λ (y : List ℕ). y ++ z') here, term-mono ix 9 t.leaf (cursorAt h.0 m.cursor) d e' (le_trans first.from i) moved, h.4, j));
+              back = λ e' i z' j. rw append_assoc (b e' (le_trans first.from i) (ys ++ z') (cursor_at h.0 m.cursor, z', ap (λ (y : List ℕ). y ++ z') here, term-mono ix 9 t.leaf (cursor_at h.0 m.cursor) d e' (le_trans first.from i) moved, h.4, j));
               stand = λ i j z' v. rw append_assoc (⊎_elim
                   (λ (w : (last' ≡ last) × (r ≡ d)). let same : r ≡ d = w.1 in subst (λ (y : ℕ). TermsAt ix ts (q.x ++ (ys ++ z')) y) (sym same) (s (sym w.0 ∙ i) (omega arith) (ys ++ z') (subst (λ (y : ℕ). TermsAt ix (t ∷ g) (ys ++ z') y) same (stands j z' v))))
                   (λ (w : (last' ≡ at) × (r ≡ d → ⊥)). n (sym w.0 ∙ i) r (ys ++ z') (stands j z' v))
@@ -173,8 +173,8 @@ module _ {postings : List ℕ} {ix : Index} {ts : List PhraseTerm} {from : ℕ} 
 pub leap-held : {postings : List ℕ} {ix : Index} {ts : List PhraseTerm} {terms terms' : List ℕ} {b e : ℕ} → TermsHeld postings ix ts terms b → TermsAre ix ts terms' e → TermsHeld postings ix ts terms' e
 leap-held h r = record { accepted = h.accepted; postings-are = h.postings-are; there = h.there; are = r }
 
-module _ {ix : Index} {ts : List PhraseTerm} {terms : List ℕ} {target d e : ℕ} {hit : Bool} (lo : target ≤ d) (before : (x : ℕ) → target ≤ x → x < d → allFound ix ts x ≡ false) (p : TermsPassed ix ts d e hit terms) where
-  pub leap-more : (x : ℕ) → target ≤ x → x < e → allFound ix ts x ≡ false
+module _ {ix : Index} {ts : List PhraseTerm} {terms : List ℕ} {target d e : ℕ} {hit : Bool} (lo : target ≤ d) (before : (x : ℕ) → target ≤ x → x < d → all_found ix ts x ≡ false) (p : TermsPassed ix ts d e hit terms) where
+  pub leap-more : (x : ℕ) → target ≤ x → x < e → all_found ix ts x ≡ false
   leap-more x a b = ⊎_elim (λ h. before x a h) (λ h. p.before x h b) (cmp x d)
 
   pub leap-done : hit ≡ true → Leapt ix ts target e terms
@@ -241,30 +241,30 @@ module _ {postings : List ℕ} {ix : Index} {ts : List PhraseTerm} {d : ℕ} {te
               let long = ap length q.postings-are in
               record {
                 place = record {
-                  fits = record-fits terms q.x r.1 r.0 at (at + nodeStateWords) is q.place refl;
+                  fits = record-fits terms q.x r.1 r.0 at (at + node_state_words) is q.place refl;
                   small = omega (arith, six, eight, o.words, r.3.first-is, r.5, long);
                 };
                 posting = omega (arith, six, eight, o.words, r.3.first-is, r.5, long);
                 room = omega (arith, e);
               }
 
-      pub gather-took : (p o : ℕ) → PlaceRead terms at p o → GatherAt postings ix ts d terms (set (set (set out n (get_or postings (p + 2) 0)) (n + 1) (get_or postings (p + 1) 0)) (n + 2) o) (n + 3) (at + nodeStateWords)
+      pub gather-took : (p o : ℕ) → PlaceRead terms at p o → GatherAt postings ix ts d terms (set (set (set out n (get_or postings (p + 2) 0)) (n + 1) (get_or postings (p + 1) 0)) (n + 2) o) (n + 3) (at + node_state_words)
       unfolding TermsAt LeavesThere Gathered
       gather-took p o read = go q.left q.rest q.there q.number q.back
         where
           out' : List ℕ
           out' = set (set (set out n (get_or postings (p + 2) 0)) (n + 1) (get_or postings (p + 1) 0)) (n + 2) o
 
-          go : (g : List PhraseTerm) → TermsAt ix g q.z d → LeavesThere ix g → n + 3 * length g ≡ 3 * length ts → ((l : List ℕ) → Gathered ix g d l → Gathered ix ts d (take n out ++ l)) → GatherAt postings ix ts d terms out' (n + 3) (at + nodeStateWords)
+          go : (g : List PhraseTerm) → TermsAt ix g q.z d → LeavesThere ix g → n + 3 * length g ≡ 3 * length ts → ((l : List ℕ) → Gathered ix g d l → Gathered ix ts d (take n out ++ l)) → GatherAt postings ix ts d terms out' (n + 3) (at + node_state_words)
           go [] r h e b = absurd (omega (arith, ap length q.is, length-append q.x q.z, ap length r, q.place))
           go (t ∷ g) r h e b =
               let is : terms ≡ q.x ++ (words_of r.0 ++ r.1) = q.is ∙ ap (λ (y : List ℕ). q.x ++ y) r.2 in
               let six : get_or terms (at + 6) 0 ≡ r.0.first = rw (is, q.place, get_or-append-add) in
               let eight : get_or terms (at + 8) 0 ≡ r.0.cursor = rw (is, q.place, get_or-append-add) in
               let nine : get_or terms (at + 9) 0 ≡ r.0.offset = rw (is, q.place, get_or-append-add) in
-              let pp : p ≡ 3 * (leafFirst ix t.leaf + r.0.cursor) = read.posting ∙ ap (λ (y : ℕ). 3 * (y + get_or terms (at + 8) 0)) (six ∙ r.3.first-is) ∙ ap (λ (y : ℕ). 3 * (leafFirst ix t.leaf + y)) eight in
-              let two : get_or postings (p + 2) 0 ≡ leafPositionsIndex ix t.leaf r.0.cursor = rw (← q.postings-are, pp) in
-              let one : get_or postings (p + 1) 0 ≡ leafFrequency ix t.leaf r.0.cursor = rw (← q.postings-are, pp) in
+              let pp : p ≡ 3 * (leaf_first ix t.leaf + r.0.cursor) = read.posting ∙ ap (λ (y : ℕ). 3 * (y + get_or terms (at + 8) 0)) (six ∙ r.3.first-is) ∙ ap (λ (y : ℕ). 3 * (leaf_first ix t.leaf + y)) eight in
+              let two : get_or postings (p + 2) 0 ≡ leaf_positions_index ix t.leaf r.0.cursor = rw (← q.postings-are, pp) in
+              let one : get_or postings (p + 1) 0 ≡ leaf_frequency ix t.leaf r.0.cursor = rw (← q.postings-are, pp) in
               let oo : o ≡ t.offset = read.offset ∙ nine ∙ r.4 in
               record {
                 left = g;
@@ -288,49 +288,49 @@ unfolding Gathered
 gathered-length ix [] d l p = ap length p
 gathered-length ix (t ∷ ts) d l p = omega (arith, ap length p.4, gathered-length ix ts d p.1 p.5)
 
-pub gathered-lists : (ix : Index) → Accepted ix → (ts : List PhraseTerm) → LeavesThere ix ts → (d : ℕ) (l : List ℕ) → Gathered ix ts d l → startLists ix.positions l ≡ termStarts ix ts d
-unfolding Gathered LeavesThere startLists startsOf termStarts
+pub gathered-lists : (ix : Index) → Accepted ix → (ts : List PhraseTerm) → LeavesThere ix ts → (d : ℕ) (l : List ℕ) → Gathered ix ts d l → start_lists ix.positions l ≡ term_starts ix ts d
+unfolding Gathered LeavesThere start_lists starts_of term_starts
 gathered-lists ix acc [] h d l p = rw p
 gathered-lists ix acc (t ∷ ts) h d l p = rw (p.4, posting-at ix t.leaf d (acc.ascending t.leaf h.0) p.0 p.2 p.3, gathered-lists ix acc ts h.1 d p.1 p.5)
 
-term-later : (a b c : ℕ) (l : List ℕ) (n : ℕ) → termAt (a ∷ b ∷ c ∷ l) (3 + n) ≡ termAt l n
+term-later : (a b c : ℕ) (l : List ℕ) (n : ℕ) → term_at (a ∷ b ∷ c ∷ l) (3 + n) ≡ term_at l n
 term-later a b c l n =
     let e1 : 3 + n + 1 ≡ 3 + (n + 1) = omega arith in
     let e2 : 3 + n + 2 ≡ 3 + (n + 2) = omega arith in
     let m = a ∷ b ∷ c ∷ [] in
     rw (e1, e2, get_or-append-add m l n 0, get_or-append-add m l (n + 1) 0, get_or-append-add m l (n + 2) 0)
 
-module _ (ix : Index) (acc : Accepted ix) (f places : ℕ) (has : hasPositions ix f ≡ true) (d : ℕ) where
-  good-term : (t : PhraseTerm) → PhraseTermIs ix f places t → (i : ℕ) → i < leafNumber ix t.leaf → GoodTerm ix.positions (record { first = leafPositionsIndex ix t.leaf i; freq = leafFrequency ix t.leaf i; offset = t.offset })
+module _ (ix : Index) (acc : Accepted ix) (f places : ℕ) (has : has_positions ix f ≡ true) (d : ℕ) where
+  good-term : (t : PhraseTerm) → PhraseTermIs ix f places t → (i : ℕ) → i < leaf_number ix t.leaf → GoodTerm ix.positions (record { first = leaf_positions_index ix t.leaf i; freq = leaf_frequency ix t.leaf i; offset = t.offset })
   good-term t k i l =
       let o = acc.posting t.leaf i k.leaf-there l in
-      let h : hasPositions ix (leafField ix t.leaf) ≡ true = rw k.field_is has in
+      let h : has_positions ix (leaf_field ix t.leaf) ≡ true = rw k.field_is has in
       record { within = o.places h; rising = λ j g. o.rising h j (suc j) (omega arith) g; small = o.small h; offset-small = k.offset-small }
 
-  pub gathered-each : (ts : List PhraseTerm) → EachTerm ix f places ts → (l : List ℕ) → Gathered ix ts d l → (at : ℕ) → at % 3 ≡ 0 → at < length l → GoodTerm ix.positions (termAt l at)
+  pub gathered-each : (ts : List PhraseTerm) → EachTerm ix f places ts → (l : List ℕ) → Gathered ix ts d l → (at : ℕ) → at % 3 ≡ 0 → at < length l → GoodTerm ix.positions (term_at l at)
   unfolding Gathered EachTerm
   gathered-each [] k l p at m h = absurd (omega (arith, ap length p))
   gathered-each (t ∷ ts) k l p at m h = ⊎_elim front (λ g. behind (at - 3) (omega arith) (λ n a b. gathered-each ts k.1 p.1 p.5 n a b)) (cmp at 3)
     where
-      front : at < 3 → GoodTerm ix.positions (termAt l at)
+      front : at < 3 → GoodTerm ix.positions (term_at l at)
       front g = let e : at ≡ 0 = omega arith in rw (e, p.4) (good-term t k.0 p.0 p.2)
 
-      behind : (n : ℕ) → at ≡ 3 + n → ((n : ℕ) → n % 3 ≡ 0 → n < length p.1 → GoodTerm ix.positions (termAt p.1 n)) → GoodTerm ix.positions (termAt l at)
+      behind : (n : ℕ) → at ≡ 3 + n → ((n : ℕ) → n % 3 ≡ 0 → n < length p.1 → GoodTerm ix.positions (term_at p.1 n)) → GoodTerm ix.positions (term_at l at)
       behind n e more =
-          rw (e, p.4, term-later (leafPositionsIndex ix t.leaf p.0) (leafFrequency ix t.leaf p.0) t.offset p.1 n)
+          rw (e, p.4, term-later (leaf_positions_index ix t.leaf p.0) (leaf_frequency ix t.leaf p.0) t.offset p.1 n)
           (more n (omega arith) (omega (arith, ap length p.4)))
 
   pub gathered-room : (ts : List PhraseTerm) → EachTerm ix f places ts → 0 < length ts → (l : List ℕ) → Gathered ix ts d l → get_or l 1 0 ≤ places
-  unfolding Gathered EachTerm largestIn
+  unfolding Gathered EachTerm largest_in
   gathered-room [] k h l p = absurd (omega arith)
-  gathered-room (t ∷ ts) k h l p = rw p.4 (le_trans (largest-at (leafNumber ix t.leaf) (leafFrequency ix t.leaf) p.0 p.2) k.0.room)
+  gathered-room (t ∷ ts) k h l p = rw p.4 (le_trans (largest-at (leaf_number ix t.leaf) (leaf_frequency ix t.leaf) p.0 p.2) k.0.room)
 
 pub leaves-there : (ix : Index) (f places : ℕ) (ts : List PhraseTerm) → EachTerm ix f places ts → LeavesThere ix ts
 unfolding EachTerm LeavesThere
 leaves-there ix f places [] k = tt
 leaves-there ix f places (t ∷ ts) k = (k.0.leaf-there, leaves-there ix f places ts k.1)
 
-pub terms-at-length : (ix : Index) (ts : List PhraseTerm) (w : List ℕ) (d : ℕ) → TermsAt ix ts w d → length w ≡ nodeStateWords * length ts
+pub terms-at-length : (ix : Index) (ts : List PhraseTerm) (w : List ℕ) (d : ℕ) → TermsAt ix ts w d → length w ≡ node_state_words * length ts
 unfolding TermsAt
 terms-at-length ix [] w d p = ap length p
 terms-at-length ix (t ∷ ts) w d p = omega (arith, ap length p.2, terms-at-length ix ts p.1 d p.7)
@@ -345,21 +345,21 @@ module _ (ix : Index) (acc : Accepted ix) (f places : ℕ) (ts : List PhraseTerm
   unfolding LeafSound
   gathered-places n h = record { term = 0; record-start = refl; one-of-them = omega (arith, gathered-length ix ts d l g, sound.2); enough = le_trans (gathered-room ix acc f places sound.1 d ts sound.4 sound.2 l g) h }
 
-  pub gathered-frequency : commonSize (startLists ix.positions l) ≡ phraseFrequency ix ts d
-  unfolding LeafSound phraseFrequency
-  gathered-frequency = ap commonSize (gathered-lists ix acc ts (leaves-there ix f places ts sound.4) d l g)
+  pub gathered-frequency : common_size (start_lists ix.positions l) ≡ phrase_frequency ix ts d
+  unfolding LeafSound phrase_frequency
+  gathered-frequency = ap common_size (gathered-lists ix acc ts (leaves-there ix f places ts sound.4) d l g)
 
 -- ---- a document that some term lacks
-starts-some : (ix : Index) (l n d : ℕ) (s : ℤ) → 0 < multiplicity s (starts n (positionsOf ix l (postingAt ix l d))) → found (postingAt ix l d) ≡ true
+starts-some : (ix : Index) (l n d : ℕ) (s : ℤ) → 0 < multiplicity s (starts n (positions_of ix l (posting_at ix l d))) → found (posting_at ix l d) ≡ true
 unfolding multiplicity starts
-starts-some ix l n d s h = go (postingAt ix l d) h
+starts-some ix l n d s h = go (posting_at ix l d) h
   where
-    go : (o : Option ℕ) → 0 < multiplicity s (starts n (positionsOf ix l o)) → found o ≡ true
+    go : (o : Option ℕ) → 0 < multiplicity s (starts n (positions_of ix l o)) → found o ≡ true
     go none h = absurd (not-suc-le-zero h)
     go (some i) h = refl
 
-all_of : (ix : Index) (d : ℕ) (s : ℤ) (ts : List PhraseTerm) → 0 < smallest s (termStarts ix ts d) → allFound ix ts d ≡ true
-unfolding allFound termStarts smallest
+all_of : (ix : Index) (d : ℕ) (s : ℤ) (ts : List PhraseTerm) → 0 < smallest s (term_starts ix ts d) → all_found ix ts d ≡ true
+unfolding all_found term_starts smallest
 all_of ix d s [] h = refl
 all_of ix d s (t ∷ []) h = rw (starts-some ix t.leaf t.offset d s h)
 all_of ix d s (t ∷ u ∷ ts) h =
@@ -367,13 +367,13 @@ all_of ix d s (t ∷ u ∷ ts) h =
     let b = all_of ix d s (u ∷ ts) (omega (arith, h)) in
     rw (a, b)
 
-pub lacking : (ix : Index) (ts : List PhraseTerm) (d : ℕ) → allFound ix ts d ≡ false → ltb 0 (phraseFrequency ix ts d) ≡ false
-unfolding phraseFrequency
-lacking ix ts d e = go (ltb 0 (phraseFrequency ix ts d)) refl
+pub lacking : (ix : Index) (ts : List PhraseTerm) (d : ℕ) → all_found ix ts d ≡ false → ltb 0 (phrase_frequency ix ts d) ≡ false
+unfolding phrase_frequency
+lacking ix ts d e = go (ltb 0 (phrase_frequency ix ts d)) refl
   where
-    go : (b : Bool) → ltb 0 (phraseFrequency ix ts d) ≡ b → b ≡ false
+    go : (b : Bool) → ltb 0 (phrase_frequency ix ts d) ≡ b → b ≡ false
     go false q = refl
-    go true q = let c = common-start (termStarts ix ts d) (ltb-true 0 (phraseFrequency ix ts d) q) in absurd (false≢true (sym e ∙ all_of ix d c.0 ts c.1))
+    go true q = let c = common-start (term_starts ix ts d) (ltb-true 0 (phrase_frequency ix ts d) q) in absurd (false≢true (sym e ∙ all_of ix d c.0 ts c.1))
 
 -- ---- `frequency`
 module _ {postings positions : List ℕ} {ix : Index} {places f : ℕ} {ts : List PhraseTerm} {d : ℕ} {terms : List ℕ} (h : FrequencyHeld postings positions ix places f ts d terms) where
@@ -385,7 +385,7 @@ module _ {postings positions : List ℕ} {ix : Index} {places f : ℕ} {ts : Lis
   unfolding LeafSound
   frequency-few = omega (arith, h.sound.3)
 
-  pub frequency-four : length terms ≤ 4 * nodeStateWords → 3 * length ts ≤ 12
+  pub frequency-four : length terms ≤ 4 * node_state_words → 3 * length ts ≤ 12
   frequency-four l = omega (arith, terms-at-length ix ts terms d h.stand)
 
   pub frequency-good : (l : List ℕ) → Gathered ix ts d l → Good positions l
@@ -394,35 +394,35 @@ module _ {postings positions : List ℕ} {ix : Index} {places f : ℕ} {ts : Lis
   pub frequency-room : (l : List ℕ) → Gathered ix ts d l → (n : ℕ) → places ≤ n → Room l n
   frequency-room l g = gathered-places ix h.accepted f places ts h.sound d l g
 
-  pub frequency-is : (l : List ℕ) → Gathered ix ts d l → commonSize (startLists positions l) ≡ phraseFrequency ix ts d
-  frequency-is l g = subst (λ (y : List ℕ). commonSize (startLists y l) ≡ phraseFrequency ix ts d) h.positions-are (gathered-frequency ix h.accepted f places ts h.sound d l g)
+  pub frequency-is : (l : List ℕ) → Gathered ix ts d l → common_size (start_lists positions l) ≡ phrase_frequency ix ts d
+  frequency-is l g = subst (λ (y : List ℕ). common_size (start_lists y l) ≡ phrase_frequency ix ts d) h.positions-are (gathered-frequency ix h.accepted f places ts h.sound d l g)
 
 -- ---- `seek_phrase`
 -- the words behind a record
-pub behind-part : (s : State) (st w : List ℕ) → st ≡ words_of s ++ w → take (length st - nodeStateWords) (drop nodeStateWords st) ≡ w
-behind-part s st w e = let size : length st - nodeStateWords ≡ length w = omega (arith, ap length e) in rw (size, e, take-length)
+pub behind-part : (s : State) (st w : List ℕ) → st ≡ words_of s ++ w → take (length st - node_state_words) (drop node_state_words st) ≡ w
+behind-part s st w e = let size : length st - node_state_words ≡ length w = omega (arith, ap length e) in rw (size, e, take-length)
 
 module _ {ix : Index} {f : ℕ} {ts : List PhraseTerm} {s : State} {st : List ℕ} {b : ℕ} (m : PhraseMoved ix f ts s st b) where
-  behind-length : length st - nodeStateWords ≡ length m.behind
+  behind-length : length st - node_state_words ≡ length m.behind
   behind-length = omega (arith, ap length m.words)
 
-  pub moved-long : nodeStateWords ≤ length st
+  pub moved-long : node_state_words ≤ length st
   moved-long = omega (arith, ap length m.words)
 
-  pub moved-behind : take (length st - nodeStateWords) (drop nodeStateWords st) ≡ m.behind
+  pub moved-behind : take (length st - node_state_words) (drop node_state_words st) ≡ m.behind
   moved-behind = behind-part m.state st m.behind m.words
 
-  pub moved-terms : {postings : List ℕ} → Accepted ix → ix.postings ≡ postings → LeavesThere ix ts → TermsHeld postings ix ts (take (length st - nodeStateWords) (drop nodeStateWords st)) b
+  pub moved-terms : {postings : List ℕ} → Accepted ix → ix.postings ≡ postings → LeavesThere ix ts → TermsHeld postings ix ts (take (length st - node_state_words) (drop node_state_words st)) b
   moved-terms acc e there = record { accepted = acc; postings-are = e; there = there; are = rw moved-behind m.is.terms }
 
   -- the terms' words put back
-  put_back : (ys : List ℕ) → take nodeStateWords st ++ (ys ++ drop (length st - nodeStateWords) (drop nodeStateWords st)) ≡ words_of m.state ++ ys
+  put_back : (ys : List ℕ) → take node_state_words st ++ (ys ++ drop (length st - node_state_words) (drop node_state_words st)) ≡ words_of m.state ++ ys
   put_back ys = rw (behind-length, m.words, drop-length, append-nil)
 
-  pub leapt-behind : (ys st' : List ℕ) → st' ≡ take nodeStateWords st ++ (ys ++ drop (length st - nodeStateWords) (drop nodeStateWords st)) → take (length st' - nodeStateWords) (drop nodeStateWords st') ≡ ys
+  pub leapt-behind : (ys st' : List ℕ) → st' ≡ take node_state_words st ++ (ys ++ drop (length st - node_state_words) (drop node_state_words st)) → take (length st' - node_state_words) (drop node_state_words st') ≡ ys
   leapt-behind ys st' e = behind-part m.state st' ys (e ∙ put_back ys)
 
-  pub moved-leapt : (r : ℕ) (ys : List ℕ) → TermsAre ix ts ys r → PhraseMoved ix f ts s (take nodeStateWords st ++ (ys ++ drop (length st - nodeStateWords) (drop nodeStateWords st))) r
+  pub moved-leapt : (r : ℕ) (ys : List ℕ) → TermsAre ix ts ys r → PhraseMoved ix f ts s (take node_state_words st ++ (ys ++ drop (length st - node_state_words) (drop node_state_words st))) r
   moved-leapt r ys are =
       record {
         state = m.state;
@@ -449,10 +449,10 @@ module _ {ix : Index} {f : ℕ} {ts : List PhraseTerm} {s : State} {st : List �
       }
 
   -- the frequency that was worked out is stored
-  pub moved-worked : (n : ℕ) → n ≡ phraseFrequency ix ts b → PhraseMoved ix f ts s (set (set st 16 (b + 1)) 17 n) b
+  pub moved-worked : (n : ℕ) → n ≡ phrase_frequency ix ts b → PhraseMoved ix f ts s (set (set st 16 (b + 1)) 17 n) b
   moved-worked n e =
       record {
-        state = workedAt m.state (b + 1) n;
+        state = worked_at m.state (b + 1) n;
         behind = m.behind;
         words = rw m.words;
         cached = m.cached;
@@ -465,12 +465,12 @@ module _ {ix : Index} {f : ℕ} {ts : List PhraseTerm} {s : State} {st : List �
           field_is = m.is.field_is;
           norms-is = m.is.norms-is;
           terms = m.is.terms;
-          worked-out = λ d q. let z : b ≡ d = omega arith in subst (λ (y : ℕ). n ≡ phraseFrequency ix ts y) z e;
+          worked-out = λ d q. let z : b ≡ d = omega arith in subst (λ (y : ℕ). n ≡ phrase_frequency ix ts y) z e;
         };
       }
 
 -- the document + 1 of the frequency that is stored
-pub stored_at : (y : List ℕ) (v n : ℕ) → nodeStateWords ≤ length y → get_or (set (set y 16 v) 17 n) 16 0 ≡ v
+pub stored_at : (y : List ℕ) (v n : ℕ) → node_state_words ≤ length y → get_or (set (set y 16 v) 17 n) 16 0 ≡ v
 stored_at y v n l = get_or-set_other (set y 16 v) 17 16 n 0 (λ e. omega arith) ∙ get_or-set_same y 16 v 0 (omega arith)
 
 pub moved-start : {postings positions : List ℕ} {ix : Index} {places f : ℕ} {ts : List PhraseTerm} {s : State} {w st : List ℕ} {b : ℕ} → PhraseHeld postings positions ix places f ts s w st b → PhraseMoved ix f ts s st b
@@ -483,15 +483,15 @@ held-there {ix = ix} {places = places} {f = f} {ts = ts} h = leaves-there ix f p
 pub held-frequency : {postings positions : List ℕ} {ix : Index} {places f : ℕ} {ts : List PhraseTerm} {s : State} {w st : List ℕ} {b : ℕ} → PhraseHeld postings positions ix places f ts s w st b → (d : ℕ) (terms : List ℕ) → TermsAt ix ts terms d → FrequencyHeld postings positions ix places f ts d terms
 held-frequency h d terms r = record { accepted = h.accepted; postings-are = h.postings-are; positions-are = h.positions-are; sound = h.sound; stand = r }
 
-module _ {ix : Index} {ts : List PhraseTerm} {target t d : ℕ} {terms : List ℕ} (lo : target ≤ t) (un : (x : ℕ) → target ≤ x → x < t → ltb 0 (phraseFrequency ix ts x) ≡ false) (p : Leapt ix ts t d terms) where
-  phrase-before : (x : ℕ) → target ≤ x → x < d → ltb 0 (phraseFrequency ix ts x) ≡ false
+module _ {ix : Index} {ts : List PhraseTerm} {target t d : ℕ} {terms : List ℕ} (lo : target ≤ t) (un : (x : ℕ) → target ≤ x → x < t → ltb 0 (phrase_frequency ix ts x) ≡ false) (p : Leapt ix ts t d terms) where
+  phrase-before : (x : ℕ) → target ≤ x → x < d → ltb 0 (phrase_frequency ix ts x) ≡ false
   phrase-before x a b = ⊎_elim (λ h. un x a h) (λ h. lacking ix ts x (p.before x h b)) (cmp x t)
 
-  pub phrase-top : d ≡ noMoreDocs → First (λ x. ltb 0 (phraseFrequency ix ts x)) target d
+  pub phrase-top : d ≡ no_more_docs → First (λ x. ltb 0 (phrase_frequency ix ts x)) target d
   phrase-top e = record { from = le_trans lo p.from; top = p.top; before = phrase-before; hit = λ h. absurd (omega arith) }
 
-  pub phrase-hit : (n : ℕ) → n ≡ phraseFrequency ix ts d → (n ≡ 0 → ⊥) → First (λ x. ltb 0 (phraseFrequency ix ts x)) target d
-  phrase-hit n e ne = record { from = le_trans lo p.from; top = p.top; before = phrase-before; hit = λ _. lt-ltb 0 (phraseFrequency ix ts d) (omega arith) }
+  pub phrase-hit : (n : ℕ) → n ≡ phrase_frequency ix ts d → (n ≡ 0 → ⊥) → First (λ x. ltb 0 (phrase_frequency ix ts x)) target d
+  phrase-hit n e ne = record { from = le_trans lo p.from; top = p.top; before = phrase-before; hit = λ _. lt-ltb 0 (phrase_frequency ix ts d) (omega arith) }
 
-  pub phrase-more : (n : ℕ) → n ≡ phraseFrequency ix ts d → n ≡ 0 → (x : ℕ) → target ≤ x → x < d + 1 → ltb 0 (phraseFrequency ix ts x) ≡ false
-  phrase-more n e z x a b = ⊎_elim (λ h. phrase-before x a h) (λ h. let s : x ≡ d = omega arith in rw s (le-ltb 0 (phraseFrequency ix ts d) (omega arith))) (cmp x d)
+  pub phrase-more : (n : ℕ) → n ≡ phrase_frequency ix ts d → n ≡ 0 → (x : ℕ) → target ≤ x → x < d + 1 → ltb 0 (phrase_frequency ix ts x) ≡ false
+  phrase-more n e z x a b = ⊎_elim (λ h. phrase-before x a h) (λ h. let s : x ≡ d = omega arith in rw s (le-ltb 0 (phrase_frequency ix ts d) (omega arith))) (cmp x d)

@@ -4,13 +4,13 @@ use mathlib.Core.List.{List}
 use Prim.Native.Nat.{ℕ, ◌≤◌, ◌<◌}
 use native.Mathlib.Omega.{arith}
 use lib.ListN.{get_or, length}
-use Rattle.meaning.specs.Limits.{noMoreDocs, nodeStateWords}
+use Rattle.meaning.specs.Limits.{no_more_docs, node_state_words}
 use Rattle.meaning.specs.Lent.{Index}
-use Rattle.weight.specs.ScorerTree.{Leaf, nothing, term, phrase, range, everything, leafMatches}
+use Rattle.weight.specs.ScorerTree.{Leaf, nothing, term, phrase, range, everything, leaf_matches}
 use Rattle.weight.specs.State.{State}
 use Rattle.weight.specs.Held.{LeafIs}
 use Rattle.weight.specs.Sound.{LeafSound}
-use Rattle.leaf_scorer.specs.Search.{cursorAt, SearchPre, SearchPost, AnyDocument, RangePre, RangePost}
+use Rattle.leaf_scorer.specs.Search.{cursor_at, SearchPre, SearchPost, AnyDocument, RangePre, RangePost}
 use Rattle.leaf_scorer.specs.Phrases.{PhraseHeld, PhrasePost}
 use Rattle.leaf_scorer.specs.Calls.{Lent, LeafHeld, LeafPost}
 use Rattle.leaf_scorer.proofs.Loops.{first-like}
@@ -18,7 +18,7 @@ use Rattle.leaf_scorer.proofs.Bounds.{leaf-mono}
 use Rattle.leaf_scorer.proofs.LeafLaws.{term-run, term_moved, term-first, range-held, range-first, any-first}
 
 module _ (E : Lent) (st : List ℕ) (t : ℕ) where
-  pub seek-long : {ix : Index} {p : ℕ} {l : Leaf} {s : State} {w : List ℕ} → LeafHeld E ix p l s w st t → nodeStateWords ≤ length st
+  pub seek-long : {ix : Index} {p : ℕ} {l : Leaf} {s : State} {w : List ℕ} → LeafHeld E ix p l s w st t → node_state_words ≤ length st
   seek-long h = omega (arith, ap length h.words)
 
   kind-of : {ix : Index} {p : ℕ} {l : Leaf} {s : State} {w : List ℕ} → LeafHeld E ix p l s w st t → get_or st 0 0 ≡ s.kind
@@ -34,8 +34,8 @@ module _ (E : Lent) (st : List ℕ) (t : ℕ) where
     seek-term-pre ix p (range r) s w h = absurd (omega (arith, kind-of h, h.is.0.kind-is))
     seek-term-pre ix p everything s w h = absurd (omega (arith, kind-of h, h.is.0))
 
-    pub seek-term-done : t ≤ noMoreDocs → (r : ℕ) (st' : List ℕ) → SearchPost E.postings 3 st t r st' → LeafPost E st t r st'
-    unfolding LeafIs LeafSound leafMatches
+    pub seek-term-done : t ≤ no_more_docs → (r : ℕ) (st' : List ℕ) → SearchPost E.postings 3 st t r st' → LeafPost E st t r st'
+    unfolding LeafIs LeafSound leaf_matches
     seek-term-done top r st' post ix p nothing s w h = absurd (omega (arith, kind-of h, h.is.0))
     seek-term-done top r st' post ix p (term l) s w h =
         let acc = h.lends.accepted in
@@ -44,11 +44,11 @@ module _ (E : Lent) (st : List ℕ) (t : ℕ) where
         let first = term-first ix acc 1 l h.sound s t h.is.0 w st' r m top in (
           first-like (λ d. refl) first,
           record {
-            state = cursorAt s m.cursor;
+            state = cursor_at s m.cursor;
             behind = w;
             words = m.words_are;
             kept = record { cached = refl; constant = refl; weight = refl; scores = refl };
-            is = leaf-mono ix E.ranges (term l) (cursorAt s m.cursor) w t r first.from (term_moved ix acc 1 l h.sound s t h.is.0 w st' r m, h.is.1);
+            is = leaf-mono ix E.ranges (term l) (cursor_at s m.cursor) w t r first.from (term_moved ix acc 1 l h.sound s t h.is.0 w st' r m, h.is.1);
           },
         )
     seek-term-done top r st' post ix p (phrase f ts) s w h = absurd (omega (arith, kind-of h, h.is.kind-is))
@@ -65,7 +65,7 @@ module _ (E : Lent) (st : List ℕ) (t : ℕ) where
     seek-range-pre ix p (range r) s w h = (s, w, range-held ix h.lends.accepted E.ranges r s h.is.0 w st h.words)
     seek-range-pre ix p everything s w h = absurd (omega (arith, kind-of h, h.is.0))
 
-    pub seek-range-done : t ≤ noMoreDocs → (r : ℕ) → RangePost E.ranges st t r → LeafPost E st t r st
+    pub seek-range-done : t ≤ no_more_docs → (r : ℕ) → RangePost E.ranges st t r → LeafPost E st t r st
     unfolding LeafIs
     seek-range-done top r post ix p nothing s w h = absurd (omega (arith, kind-of h, h.is.0))
     seek-range-done top r post ix p (term l) s w h = absurd (omega (arith, kind-of h, h.is.0.kind-is))
@@ -94,7 +94,7 @@ module _ (E : Lent) (st : List ℕ) (t : ℕ) where
     seek-phrase-pre ix p everything s w h = absurd (omega (arith, kind-of h, h.is.0))
 
     pub seek-phrase-done : (r : ℕ) (st' : List ℕ) → PhrasePost E.postings E.positions st t r st' → LeafPost E st t r st'
-    unfolding LeafIs leafMatches
+    unfolding LeafIs leaf_matches
     seek-phrase-done r st' post ix p nothing s w h = absurd (omega (arith, kind-of h, h.is.0))
     seek-phrase-done r st' post ix p (term l) s w h = absurd (omega (arith, kind-of h, h.is.0.kind-is))
     seek-phrase-done r st' post ix p (phrase f ts) s w h =
@@ -112,14 +112,14 @@ module _ (E : Lent) (st : List ℕ) (t : ℕ) where
     seek-phrase-done r st' post ix p everything s w h = absurd (omega (arith, kind-of h, h.is.0))
 
   -- ---- everything
-  pub seek-any-done : (get_or st 0 0 ≡ 1 → ⊥) → (get_or st 0 0 ≡ 2 → ⊥) → (get_or st 0 0 ≡ 4 → ⊥) → t ≤ noMoreDocs → (r : ℕ) → AnyDocument E.documents t r → LeafPost E st t r st
-  unfolding LeafIs leafMatches
+  pub seek-any-done : (get_or st 0 0 ≡ 1 → ⊥) → (get_or st 0 0 ≡ 2 → ⊥) → (get_or st 0 0 ≡ 4 → ⊥) → t ≤ no_more_docs → (r : ℕ) → AnyDocument E.documents t r → LeafPost E st t r st
+  unfolding LeafIs leaf_matches
   seek-any-done n1 n2 n4 top r a ix p nothing s w h = absurd (omega (arith, h.is.2, h.due))
   seek-any-done n1 n2 n4 top r a ix p (term l) s w h = absurd (n1 (kind-of h ∙ h.is.0.kind-is))
   seek-any-done n1 n2 n4 top r a ix p (phrase f ts) s w h = absurd (n2 (kind-of h ∙ h.is.kind-is))
   seek-any-done n1 n2 n4 top r a ix p (range x) s w h = absurd (n4 (kind-of h ∙ h.is.0.kind-is))
   seek-any-done n1 n2 n4 top r a ix p everything s w h = (
-    first-like (λ d. refl) (any-first ix.maxDoc t r top h.lends.accepted.documents (subst (λ (n : ℕ). AnyDocument n t r) (sym h.lends.documents) a)),
+    first-like (λ d. refl) (any-first ix.max_doc t r top h.lends.accepted.documents (subst (λ (n : ℕ). AnyDocument n t r) (sym h.lends.documents) a)),
     record {
       state = s;
       behind = w;

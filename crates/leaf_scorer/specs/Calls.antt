@@ -1,9 +1,9 @@
 -- What a leaf of a scorer tree asks and answers. Assumes nothing: these are definitions.
 use Rattle.std.specs.Prelude.{◌≡◌, Bool, true, false, List, ◌++◌, ℕ, ◌≤◌, ◌<◌}
-use Rattle.meaning.specs.Limits.{noMoreDocs}
+use Rattle.meaning.specs.Limits.{no_more_docs}
 use Rattle.meaning.specs.Lent.{Index}
 use Rattle.meaning.specs.First.{First}
-use Rattle.weight.specs.ScorerTree.{Leaf, leafMatches}
+use Rattle.weight.specs.ScorerTree.{Leaf, leaf_matches}
 use Rattle.weight.specs.State.{State, words_of}
 use Rattle.weight.specs.Held.{LeafIs}
 use Rattle.weight.specs.Sound.{Lends, LeafSound}
@@ -47,14 +47,14 @@ pub record LeafMoved (E : Lent) (ix : Index) (l : Leaf) (s : State) (st : List �
   pub is : LeafIs ix E.ranges l state behind r
 
 abbrev pub LeafPre : Lent → ℕ → ℕ → List ℕ → ℕ → Type 0
-LeafPre E a b st target = (target ≤ noMoreDocs) × ((ix : Index) × (places : ℕ) × (l : Leaf) × (s : State) × (w : List ℕ) × RoomIn places a b × LeafHeld E ix places l s w st target)
+LeafPre E a b st target = (target ≤ no_more_docs) × ((ix : Index) × (places : ℕ) × (l : Leaf) × (s : State) × (w : List ℕ) × RoomIn places a b × LeafHeld E ix places l s w st target)
 
 abbrev pub LeafPost : Lent → List ℕ → ℕ → ℕ → List ℕ → Type 0
-LeafPost E st target r st' = (ix : Index) (places : ℕ) (l : Leaf) (s : State) (w : List ℕ) → LeafHeld E ix places l s w st target → First (leafMatches ix l) target r × LeafMoved E ix l s st' r
+LeafPost E st target r st' = (ix : Index) (places : ℕ) (l : Leaf) (s : State) (w : List ℕ) → LeafHeld E ix places l s w st target → First (leaf_matches ix l) target r × LeafMoved E ix l s st' r
 
 -- asked about t alone, or one pass over several: nothing from t up to r is taken, and r is if it is t
 pub record Passes (P : ℕ → Bool) (t r : ℕ) : Type 0 where
   pub from : t ≤ r
-  pub top : r ≤ noMoreDocs
+  pub top : r ≤ no_more_docs
   pub before : (d : ℕ) → t ≤ d → d < r → P d ≡ false
-  pub hit : r ≡ t → r < noMoreDocs → P r ≡ true
+  pub hit : r ≡ t → r < no_more_docs → P r ≡ true

@@ -1,9 +1,9 @@
 -- The terms of a phrase, moved to a common document, and its frequency there. Assumes nothing: these are definitions.
 use Rattle.std.specs.Prelude.{◌≡◌, Bool, true, false, ◌&&◌, List, [], ◌∷◌, ◌++◌, ℕ, ◌+◌, ◌*◌, ◌≤◌, ◌<◌, ltb, length, get_or, take}
-use Rattle.meaning.specs.Limits.{noMoreDocs, nodeStateWords}
-use Rattle.meaning.specs.Lent.{Index, leafNumber, leafDocument, leafFrequency, leafPositionsIndex, leafCount}
-use Rattle.meaning.specs.Postings.{postingAt, found}
-use Rattle.meaning.specs.Phrase.{PhraseTerm, phraseFrequency}
+use Rattle.meaning.specs.Limits.{no_more_docs, node_state_words}
+use Rattle.meaning.specs.Lent.{Index, leaf_number, leaf_document, leaf_frequency, leaf_positions_index, leaf_count}
+use Rattle.meaning.specs.Postings.{posting_at, found}
+use Rattle.meaning.specs.Phrase.{PhraseTerm, phrase_frequency}
 use Rattle.meaning.specs.First.{First}
 use Rattle.index.specs.Accepted.{Accepted}
 use Rattle.weight.specs.ScorerTree.{phrase}
@@ -13,20 +13,20 @@ use Rattle.weight.specs.Sound.{LeafSound}
 use Rattle.leaf_scorer.specs.Calls.{Passes}
 
 -- every term has a posting of the document
-unfoldable pub allFound : Index → List PhraseTerm → ℕ → Bool
-allFound ix [] d = true
-allFound ix (t ∷ ts) d = found (postingAt ix t.leaf d) && allFound ix ts d
+unfoldable pub all_found : Index → List PhraseTerm → ℕ → Bool
+all_found ix [] d = true
+all_found ix (t ∷ ts) d = found (posting_at ix t.leaf d) && all_found ix ts d
 
 -- the leaves of the terms are there
 unfoldable pub LeavesThere : Index → List PhraseTerm → Type 0
 LeavesThere ix [] = Unit
-LeavesThere ix (t ∷ ts) = (t.leaf < leafCount ix) × LeavesThere ix ts
+LeavesThere ix (t ∷ ts) = (t.leaf < leaf_count ix) × LeavesThere ix ts
 
 -- the records of the terms, each standing at its posting of the document
 unfoldable pub TermsAt : Index → List PhraseTerm → List ℕ → ℕ → Type 0
 TermsAt ix [] w d = w ≡ []
 TermsAt ix (t ∷ ts) w d =
-    (s : State) × (w' : List ℕ) × (w ≡ words_of s ++ w') × TermIs ix 9 t.leaf s d × (s.offset ≡ t.offset) × (s.cursor < leafNumber ix t.leaf) × (leafDocument ix t.leaf s.cursor ≡ d) × TermsAt ix ts w' d
+    (s : State) × (w' : List ℕ) × (w ≡ words_of s ++ w') × TermIs ix 9 t.leaf s d × (s.offset ≡ t.offset) × (s.cursor < leaf_number ix t.leaf) × (leaf_document ix t.leaf s.cursor ≡ d) × TermsAt ix ts w' d
 
 -- an accepted index with these postings, and the words of a phrase's terms
 pub record TermsHeld (postings : List ℕ) (ix : Index) (ts : List PhraseTerm) (terms : List ℕ) (b : ℕ) : Type 0 where
@@ -36,15 +36,15 @@ pub record TermsHeld (postings : List ℕ) (ix : Index) (ts : List PhraseTerm) (
   pub are : TermsAre ix ts terms b
 
 abbrev pub TermsPre : List ℕ → List ℕ → ℕ → Type 0
-TermsPre postings terms target = (target ≤ noMoreDocs) × ((ix : Index) × (ts : List PhraseTerm) × TermsHeld postings ix ts terms target)
+TermsPre postings terms target = (target ≤ no_more_docs) × ((ix : Index) × (ts : List PhraseTerm) × TermsHeld postings ix ts terms target)
 
 -- one pass: nothing from t up to r is a document of all; they stand there, or it moved
 pub record TermsPassed (ix : Index) (ts : List PhraseTerm) (t r : ℕ) (hit : Bool) (terms : List ℕ) : Type 0 where
   pub from : t ≤ r
-  pub top : r ≤ noMoreDocs
-  pub before : (d : ℕ) → t ≤ d → d < r → allFound ix ts d ≡ false
+  pub top : r ≤ no_more_docs
+  pub before : (d : ℕ) → t ≤ d → d < r → all_found ix ts d ≡ false
   pub are : TermsAre ix ts terms r
-  pub stand : hit ≡ true → r < noMoreDocs → TermsAt ix ts terms r
+  pub stand : hit ≡ true → r < no_more_docs → TermsAt ix ts terms r
   pub moved : hit ≡ false → t < r
 
 abbrev pub PassTermsPost : List ℕ → List ℕ → ℕ → ℕ → Bool → List ℕ → Type 0
@@ -53,17 +53,17 @@ PassTermsPost postings terms target r hit terms' = (ix : Index) (ts : List Phras
 -- r is the first document of all, or the end, and they stand there
 pub record Leapt (ix : Index) (ts : List PhraseTerm) (t r : ℕ) (terms : List ℕ) : Type 0 where
   pub from : t ≤ r
-  pub top : r ≤ noMoreDocs
-  pub before : (d : ℕ) → t ≤ d → d < r → allFound ix ts d ≡ false
+  pub top : r ≤ no_more_docs
+  pub before : (d : ℕ) → t ≤ d → d < r → all_found ix ts d ≡ false
   pub are : TermsAre ix ts terms r
-  pub stand : r < noMoreDocs → TermsAt ix ts terms r
+  pub stand : r < no_more_docs → TermsAt ix ts terms r
 
 abbrev pub LeapfrogPost : List ℕ → List ℕ → ℕ → ℕ → List ℕ → Type 0
 LeapfrogPost postings terms target r terms' = (ix : Index) (ts : List PhraseTerm) → TermsHeld postings ix ts terms target → Leapt ix ts target r terms'
 
 -- what is read of a term's record at a place
 pub record PlaceAt (terms : List ℕ) (at : ℕ) : Type 0 where
-  pub fits : at + nodeStateWords ≤ length terms
+  pub fits : at + node_state_words ≤ length terms
   pub small : get_or terms (at + 6) 0 + get_or terms (at + 8) 0 < 3074457345618258602
 
 pub record PlaceRead (terms : List ℕ) (at p o : ℕ) : Type 0 where
@@ -74,7 +74,7 @@ pub record PlaceRead (terms : List ℕ) (at p o : ℕ) : Type 0 where
 unfoldable pub Gathered : Index → List PhraseTerm → ℕ → List ℕ → Type 0
 Gathered ix [] d l = l ≡ []
 Gathered ix (t ∷ ts) d l =
-    (i : ℕ) × (l' : List ℕ) × (i < leafNumber ix t.leaf) × (leafDocument ix t.leaf i ≡ d) × (l ≡ leafPositionsIndex ix t.leaf i ∷ leafFrequency ix t.leaf i ∷ t.offset ∷ l') × Gathered ix ts d l'
+    (i : ℕ) × (l' : List ℕ) × (i < leaf_number ix t.leaf) × (leaf_document ix t.leaf i ≡ d) × (l ≡ leaf_positions_index ix t.leaf i ∷ leaf_frequency ix t.leaf i ∷ t.offset ∷ l') × Gathered ix ts d l'
 
 pub record GatherHeld (postings : List ℕ) (ix : Index) (ts : List PhraseTerm) (d : ℕ) (terms : List ℕ) : Type 0 where
   pub accepted : Accepted ix
@@ -105,19 +105,19 @@ abbrev pub FrequencyPre : List ℕ → List ℕ → List ℕ → ℕ → ℕ →
 FrequencyPre postings positions terms a b = (ix : Index) × (places : ℕ) × (f : ℕ) × (ts : List PhraseTerm) × (d : ℕ) × (places ≤ a) × (places ≤ b) × FrequencyHeld postings positions ix places f ts d terms
 
 abbrev pub FrequencyPost : List ℕ → List ℕ → List ℕ → ℕ → Type 0
-FrequencyPost postings positions terms r = (ix : Index) (places f : ℕ) (ts : List PhraseTerm) (d : ℕ) → FrequencyHeld postings positions ix places f ts d terms → r ≡ phraseFrequency ix ts d
+FrequencyPost postings positions terms r = (ix : Index) (places f : ℕ) (ts : List PhraseTerm) (d : ℕ) → FrequencyHeld postings positions ix places f ts d terms → r ≡ phrase_frequency ix ts d
 
 -- ---- the phrase
 -- a record with another frequency that was worked out
-abbrev pub workedAt : State → ℕ → ℕ → State
-workedAt s d n =
+abbrev pub worked_at : State → ℕ → ℕ → State
+worked_at s d n =
     record {
       kind = s.kind;
       size = s.size;
       cached = s.cached;
       need = s.need;
-      requiredEnd = s.requiredEnd;
-      optionalEnd = s.optionalEnd;
+      required_end = s.required_end;
+      optional_end = s.optional_end;
       first = s.first;
       number = s.number;
       cursor = s.cursor;
@@ -126,19 +126,19 @@ workedAt s d n =
       constant = s.constant;
       weight = s.weight;
       afterwards = s.afterwards;
-      groupAt = s.groupAt;
+      group_at = s.group_at;
       scores = s.scores;
-      frequencyOf = d;
+      frequency_of = d;
       frequency = n;
       norms = s.norms;
-      windowFirst = s.windowFirst;
-      windowLow = s.windowLow;
-      windowHigh = s.windowHigh;
-      windowNext = s.windowNext;
-      onesLow = s.onesLow;
-      onesHigh = s.onesHigh;
-      twosLow = s.twosLow;
-      twosHigh = s.twosHigh;
+      window_first = s.window_first;
+      window_low = s.window_low;
+      window_high = s.window_high;
+      window_next = s.window_next;
+      ones_low = s.ones_low;
+      ones_high = s.ones_high;
+      twos_low = s.twos_low;
+      twos_high = s.twos_high;
       spare1 = s.spare1;
       spare2 = s.spare2;
       spare3 = s.spare3;
@@ -155,7 +155,7 @@ pub record PhraseHeld (postings positions : List ℕ) (ix : Index) (places f : �
   pub is : PhraseIs ix f ts s w b
 
 abbrev pub PhrasePre : List ℕ → List ℕ → ℕ → ℕ → List ℕ → ℕ → Type 0
-PhrasePre postings positions a b st target = (target ≤ noMoreDocs) × ((ix : Index) × (places : ℕ) × (f : ℕ) × (ts : List PhraseTerm) × (s : State) × (w : List ℕ) × (places ≤ a) × (places ≤ b) × PhraseHeld postings positions ix places f ts s w st target)
+PhrasePre postings positions a b st target = (target ≤ no_more_docs) × ((ix : Index) × (places : ℕ) × (f : ℕ) × (ts : List PhraseTerm) × (s : State) × (w : List ℕ) × (places ≤ a) × (places ≤ b) × PhraseHeld postings positions ix places f ts s w st target)
 
 -- the record after the move, where only the frequency that was worked out is new
 pub record PhraseMoved (ix : Index) (f : ℕ) (ts : List PhraseTerm) (s : State) (st : List ℕ) (b : ℕ) : Type 0 where
@@ -170,9 +170,9 @@ pub record PhraseMoved (ix : Index) (f : ℕ) (ts : List PhraseTerm) (s : State)
 
 -- .. and the frequency that is stored is that of the document where the phrase stands
 abbrev pub PhrasePost : List ℕ → List ℕ → List ℕ → ℕ → ℕ → List ℕ → Type 0
-PhrasePost postings positions st target r st' = (ix : Index) (places f : ℕ) (ts : List PhraseTerm) (s : State) (w : List ℕ) → PhraseHeld postings positions ix places f ts s w st target → First (λ d. ltb 0 (phraseFrequency ix ts d)) target r × PhraseMoved ix f ts s st' r × (r < noMoreDocs → get_or st' 16 0 ≡ r + 1)
+PhrasePost postings positions st target r st' = (ix : Index) (places f : ℕ) (ts : List PhraseTerm) (s : State) (w : List ℕ) → PhraseHeld postings positions ix places f ts s w st target → First (λ d. ltb 0 (phrase_frequency ix ts d)) target r × PhraseMoved ix f ts s st' r × (r < no_more_docs → get_or st' 16 0 ≡ r + 1)
 
 -- asked about the target alone: r is the target where the phrase stands there
 abbrev pub PhraseAtPost : List ℕ → List ℕ → List ℕ → ℕ → ℕ → List ℕ → Type 0
 PhraseAtPost postings positions st target r st' =
-    (ix : Index) (places f : ℕ) (ts : List PhraseTerm) (s : State) (w : List ℕ) → PhraseHeld postings positions ix places f ts s w st target → Passes (λ d. ltb 0 (phraseFrequency ix ts d)) target r × PhraseMoved ix f ts s st' r
+    (ix : Index) (places f : ℕ) (ts : List PhraseTerm) (s : State) (w : List ℕ) → PhraseHeld postings positions ix places f ts s w st target → Passes (λ d. ltb 0 (phrase_frequency ix ts d)) target r × PhraseMoved ix f ts s st' r

@@ -1,21 +1,21 @@
 -- The cursor of a record that is moved along its run, and the next bit of a bitmap. Assumes nothing: these are definitions.
 use Rattle.std.specs.Prelude.{◌≡◌, Bool, false, List, ◌++◌, ℕ, ◌+◌, ◌*◌, ◌≤◌, ◌<◌, length, get_or}
-use Rattle.meaning.specs.Limits.{noMoreDocs}
+use Rattle.meaning.specs.Limits.{no_more_docs}
 use Rattle.meaning.specs.First.{First}
 use Rattle.bits.specs.Bit.{Bitmap}
 use Rattle.weight.specs.State.{State, words_of}
-use Rattle.run.specs.Run.{documentAt, Run}
+use Rattle.run.specs.Run.{document_at, Run}
 
 -- a record with another cursor
-abbrev pub cursorAt : State → ℕ → State
-cursorAt s u =
+abbrev pub cursor_at : State → ℕ → State
+cursor_at s u =
     record {
       kind = s.kind;
       size = s.size;
       cached = s.cached;
       need = s.need;
-      requiredEnd = s.requiredEnd;
-      optionalEnd = s.optionalEnd;
+      required_end = s.required_end;
+      optional_end = s.optional_end;
       first = s.first;
       number = s.number;
       cursor = u;
@@ -24,19 +24,19 @@ cursorAt s u =
       constant = s.constant;
       weight = s.weight;
       afterwards = s.afterwards;
-      groupAt = s.groupAt;
+      group_at = s.group_at;
       scores = s.scores;
-      frequencyOf = s.frequencyOf;
+      frequency_of = s.frequency_of;
       frequency = s.frequency;
       norms = s.norms;
-      windowFirst = s.windowFirst;
-      windowLow = s.windowLow;
-      windowHigh = s.windowHigh;
-      windowNext = s.windowNext;
-      onesLow = s.onesLow;
-      onesHigh = s.onesHigh;
-      twosLow = s.twosLow;
-      twosHigh = s.twosHigh;
+      window_first = s.window_first;
+      window_low = s.window_low;
+      window_high = s.window_high;
+      window_next = s.window_next;
+      ones_low = s.ones_low;
+      ones_high = s.ones_high;
+      twos_low = s.twos_low;
+      twos_high = s.twos_high;
       spare1 = s.spare1;
       spare2 = s.spare2;
       spare3 = s.spare3;
@@ -54,18 +54,18 @@ pub record CursorRead (st : List ℕ) (f n u : ℕ) : Type 0 where
 pub record SearchHeld (words : List ℕ) (stride : ℕ) (s : State) (w st : List ℕ) (target : ℕ) : Type 0 where
   pub words_are : st ≡ words_of s ++ w
   pub run : Run words stride s.first s.number
-  pub small : (i : ℕ) → i < s.number → documentAt words stride s.first i < noMoreDocs
+  pub small : (i : ℕ) → i < s.number → document_at words stride s.first i < no_more_docs
   pub within : s.cursor ≤ s.number
-  pub passed : (i : ℕ) → i < s.cursor → documentAt words stride s.first i < target
+  pub passed : (i : ℕ) → i < s.cursor → document_at words stride s.first i < target
 
 -- its cursor stands at the first document that is not below the target, which is r
 pub record SearchMoved (words : List ℕ) (stride : ℕ) (s : State) (w st : List ℕ) (target r : ℕ) : Type 0 where
   pub cursor : ℕ
-  pub words_are : st ≡ words_of (cursorAt s cursor) ++ w
+  pub words_are : st ≡ words_of (cursor_at s cursor) ++ w
   pub within : cursor ≤ s.number
-  pub passed : (i : ℕ) → i < cursor → documentAt words stride s.first i < target
-  pub hit : cursor < s.number → (r ≡ documentAt words stride s.first cursor) × (target ≤ r)
-  pub ended : s.number ≤ cursor → r ≡ noMoreDocs
+  pub passed : (i : ℕ) → i < cursor → document_at words stride s.first i < target
+  pub hit : cursor < s.number → (r ≡ document_at words stride s.first cursor) × (target ≤ r)
+  pub ended : s.number ≤ cursor → r ≡ no_more_docs
 
 abbrev pub SearchPre : List ℕ → ℕ → List ℕ → ℕ → Type 0
 SearchPre words stride st target = (s : State) × (w : List ℕ) × SearchHeld words stride s w st target
@@ -76,13 +76,13 @@ SearchPost words stride st target r st' = (s : State) (w : List ℕ) → SearchH
 -- r is the first number at or after the target whose bit is set in some words, or NO_MORE_DOCS
 abbrev pub FirstSet : List ℕ → ℕ → ℕ → ℕ → ℕ → Type 0
 FirstSet words first number target r =
-    (P : ℕ → Bool) → Bitmap P words first number → ((d : ℕ) → 32 * number ≤ d → P d ≡ false) → target ≤ noMoreDocs → First P target r
+    (P : ℕ → Bool) → Bitmap P words first number → ((d : ℕ) → 32 * number ≤ d → P d ≡ false) → target ≤ no_more_docs → First P target r
 
 -- s is the record at the front of the words, and its bitmap is in the lent words
 pub record RangeHeld (words : List ℕ) (s : State) (w st : List ℕ) : Type 0 where
   pub words_are : st ≡ words_of s ++ w
   pub there : s.first + s.number ≤ length words
-  pub few : 32 * s.number ≤ noMoreDocs
+  pub few : 32 * s.number ≤ no_more_docs
 
 abbrev pub RangePre : List ℕ → List ℕ → Type 0
 RangePre words st = (s : State) × (w : List ℕ) × RangeHeld words s w st
@@ -93,4 +93,4 @@ RangePost words st target r = (s : State) (w : List ℕ) → RangeHeld words s w
 -- the first document at or after the target, of all that there are
 pub record AnyDocument (n target r : ℕ) : Type 0 where
   pub there : target < n → r ≡ target
-  pub ended : n ≤ target → r ≡ noMoreDocs
+  pub ended : n ≤ target → r ≡ no_more_docs

@@ -2,7 +2,7 @@
 #![tactic(auto)]
 
 ghost use Rattle.std.specs.Prelude.{◌≡◌, ℕ, ◌+◌, ◌*◌, ◌≤◌, ◌<◌, length};
-ghost use Rattle.meaning.specs.Limits.{nodeStateWords, noMoreDocs};
+ghost use Rattle.meaning.specs.Limits.{node_state_words, no_more_docs};
 ghost use Rattle.leaf_scorer.specs.Search.{CursorRead, SearchPre, SearchPost, AnyDocument, FirstSet, RangePre, RangePost};
 ghost use Rattle.leaf_scorer.specs.Phrases.{TermsPre, PassTermsPost, LeapfrogPost, PlaceAt, PlaceRead, GatherPre, GatherPost, FrequencyPre, FrequencyPost, PhrasePre, PhrasePost, PhraseAtPost};
 ghost use Rattle.leaf_scorer.specs.Calls.{lent, LeafPre, LeafPost};
@@ -34,7 +34,7 @@ pub struct Cursor {
 }
 
 fn cursor_at(st: &[u32]) -> Cursor
-    requires { nodeStateWords ≤ length st.now }
+    requires { node_state_words ≤ length st.now }
     ensures { CursorRead st.now result.first result.number result.cursor }
 {
     Cursor {
@@ -84,7 +84,7 @@ pub fn search_postings(st: &mut [u32], postings: &[u32], target: u32) -> u32
 
 // The next bit that is set in a bitmap, at or after the target.
 fn next_set(words: &[u32], first: usize, number: usize, target: u32) -> u32
-    requires { (first + number ≤ length words.now) × (32 * number ≤ noMoreDocs) }
+    requires { (first + number ≤ length words.now) × (32 * number ≤ no_more_docs) }
     ensures { FirstSet words.now first number target result }
 {
     let mut at = wide(target / 32);

@@ -5,87 +5,87 @@ use Prim.Native.Nat.{ℕ}
 use lib.Ieee.{Float, binary32, binary64, of_bits, of_fields, round, units, odd, size, span, climb}
 use lib.Count.{count_trailing_zeros}
 use Rattle.meaning.specs.Ieee754.{narrow}
-use Rattle.meaning.specs.Narrowing.{narrowInSteps}
+use Rattle.meaning.specs.Narrowing.{narrow_in_steps}
 
 data Row : Type 0 where
   -- 1 + 2^-24 and 1 + 3 × 2^-24, the f64 below 2^128 - 2^103: step 1
-  tieDown tieUp largest : Row
+  tie_down tie_up largest : Row
   -- 2^128 - 2^103, the largest f64: step 2, the first after a carry
   carry beyond : Row
   -- 2^-126 and 2^-125 + 2^-149: step 1, neither is tiny
-  leastNormal tieAboveNormal : Row
+  least_normal tie_above_normal : Row
   -- 2^-126 - 2^-150 and the f64 below 2^-126: step 3
-  tieBelowNormal belowNormal : Row
+  tie_below_normal below_normal : Row
   -- the f64 below 1.5 × 2^-149, which rounded twice would be 2 × 2^-149: step 3
   twice : Row
   -- 2^-150, the f64 above it, 2^-1074, 0: step 3
-  half aboveHalf leastSubnormal zeroRow : Row
+  half above_half least_subnormal zero_row : Row
 
 pattern : Row → ℕ
-pattern tieDown = 0x3ff0_0000_1000_0000
-pattern tieUp = 0x3ff0_0000_3000_0000
+pattern tie_down = 0x3ff0_0000_1000_0000
+pattern tie_up = 0x3ff0_0000_3000_0000
 pattern largest = 0x47ef_ffff_efff_ffff
 pattern carry = 0x47ef_ffff_f000_0000
 pattern beyond = 0x7fef_ffff_ffff_ffff
-pattern leastNormal = 0x3810_0000_0000_0000
-pattern tieAboveNormal = 0x3820_0000_1000_0000
-pattern tieBelowNormal = 0x380f_ffff_e000_0000
-pattern belowNormal = 0x380f_ffff_ffff_ffff
+pattern least_normal = 0x3810_0000_0000_0000
+pattern tie_above_normal = 0x3820_0000_1000_0000
+pattern tie_below_normal = 0x380f_ffff_e000_0000
+pattern below_normal = 0x380f_ffff_ffff_ffff
 pattern twice = 0x36a7_ffff_ffff_ffff
 pattern half = 0x3690_0000_0000_0000
-pattern aboveHalf = 0x3690_0000_0000_0001
-pattern leastSubnormal = 1
-pattern zeroRow = 0
+pattern above_half = 0x3690_0000_0000_0001
+pattern least_subnormal = 1
+pattern zero_row = 0
 
 expected : Row → ℕ
-expected tieDown = 0x3f80_0000
-expected tieUp = 0x3f80_0002
+expected tie_down = 0x3f80_0000
+expected tie_up = 0x3f80_0002
 expected largest = 0x7f7f_ffff
 expected carry = 0x7f80_0000
 expected beyond = 0x7f80_0000
-expected leastNormal = 0x0080_0000
-expected tieAboveNormal = 0x0100_0000
-expected tieBelowNormal = 0x0080_0000
-expected belowNormal = 0x0080_0000
+expected least_normal = 0x0080_0000
+expected tie_above_normal = 0x0100_0000
+expected tie_below_normal = 0x0080_0000
+expected below_normal = 0x0080_0000
 expected twice = 1
 expected half = 0
-expected aboveHalf = 1
-expected leastSubnormal = 0
-expected zeroRow = 0
+expected above_half = 1
+expected least_subnormal = 0
+expected zero_row = 0
 
 abbrev value : Row → Float
 value r = of_bits binary64 (pattern r)
 
-table : (r : Row) → narrowInSteps (value r) ≡ of_bits binary32 (expected r)
-unfolding pattern expected narrowInSteps of_bits of_fields odd size span climb count_trailing_zeros
-table tieDown = refl
-table tieUp = refl
+table : (r : Row) → narrow_in_steps (value r) ≡ of_bits binary32 (expected r)
+unfolding pattern expected narrow_in_steps of_bits of_fields odd size span climb count_trailing_zeros
+table tie_down = refl
+table tie_up = refl
 table largest = refl
 table carry = refl
 table beyond = refl
-table leastNormal = refl
-table tieAboveNormal = refl
-table tieBelowNormal = refl
-table belowNormal = refl
+table least_normal = refl
+table tie_above_normal = refl
+table tie_below_normal = refl
+table below_normal = refl
 table twice = refl
 table half = refl
-table aboveHalf = refl
-table leastSubnormal = refl
-table zeroRow = refl
+table above_half = refl
+table least_subnormal = refl
+table zero_row = refl
 
-tableInOnePiece : (r : Row) → narrow (value r) ≡ of_bits binary32 (expected r)
+table_in_one_piece : (r : Row) → narrow (value r) ≡ of_bits binary32 (expected r)
 unfolding pattern expected narrow of_bits of_fields round units odd size span climb count_trailing_zeros
-tableInOnePiece tieDown = refl
-tableInOnePiece tieUp = refl
-tableInOnePiece largest = refl
-tableInOnePiece carry = refl
-tableInOnePiece beyond = refl
-tableInOnePiece leastNormal = refl
-tableInOnePiece tieAboveNormal = refl
-tableInOnePiece tieBelowNormal = refl
-tableInOnePiece belowNormal = refl
-tableInOnePiece twice = refl
-tableInOnePiece half = refl
-tableInOnePiece aboveHalf = refl
-tableInOnePiece leastSubnormal = refl
-tableInOnePiece zeroRow = refl
+table_in_one_piece tie_down = refl
+table_in_one_piece tie_up = refl
+table_in_one_piece largest = refl
+table_in_one_piece carry = refl
+table_in_one_piece beyond = refl
+table_in_one_piece least_normal = refl
+table_in_one_piece tie_above_normal = refl
+table_in_one_piece tie_below_normal = refl
+table_in_one_piece below_normal = refl
+table_in_one_piece twice = refl
+table_in_one_piece half = refl
+table_in_one_piece above_half = refl
+table_in_one_piece least_subnormal = refl
+table_in_one_piece zero_row = refl

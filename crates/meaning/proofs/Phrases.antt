@@ -9,7 +9,7 @@ use native.Mathlib.Omega.{arith}
 use lib.Dec.{T, ltb, ltb→lt, lt→ltb, eqb→eq, eqb_refl}
 use lib.IntN.{ℤ, pos, negsuc}
 use Rattle.meaning.specs.Lent.{Index}
-use Rattle.meaning.specs.Phrase.{PhraseTerm, eqℤ, termStarts, multiplicity, smallest, distinct, sumSmallest, commonSize, phraseFrequency, standsAt}
+use Rattle.meaning.specs.Phrase.{PhraseTerm, eqℤ, term_starts, multiplicity, smallest, distinct, sum_smallest, common_size, phrase_frequency, stands_at}
 
 pub eqℤ→eq : (a b : ℤ) → T (eqℤ a b) → a ≡ b
 eqℤ→eq (pos a) (pos b) h = ap pos (eqb→eq a b h)
@@ -27,17 +27,17 @@ sum-above : (a b : ℕ) → 0 < a + b → (0 < a) ⊎ (0 < b)
 sum-above zero b h = inr (omega (arith, h))
 sum-above (suc a) b h = inl (omega arith)
 
-common-entry : (ss : List ℤ) (xss : List (List ℤ)) → 0 < sumSmallest ss xss → (s : ℤ) × (0 < smallest s xss)
-unfolding sumSmallest
+common-entry : (ss : List ℤ) (xss : List (List ℤ)) → 0 < sum_smallest ss xss → (s : ℤ) × (0 < smallest s xss)
+unfolding sum_smallest
 common-entry [] xss h = absurd (not-suc-le-zero h)
-common-entry (s ∷ ss) xss h = elim (sum-above (smallest s xss) (sumSmallest ss xss) h) [
+common-entry (s ∷ ss) xss h = elim (sum-above (smallest s xss) (sum_smallest ss xss) h) [
   | inl a ↦ (s, a)
   | inr b ↦ common-entry ss xss b
 ]
 
 -- an entry that every list has, where the common part is not empty
-pub common-start : (xss : List (List ℤ)) → 0 < commonSize xss → (s : ℤ) × (0 < smallest s xss)
-unfolding commonSize
+pub common-start : (xss : List (List ℤ)) → 0 < common_size xss → (s : ℤ) × (0 < smallest s xss)
+unfolding common_size
 common-start [] h = absurd (not-suc-le-zero h)
 common-start (xs ∷ xss) h = common-entry (distinct xs) (xs ∷ xss) h
 
@@ -70,12 +70,12 @@ distinct-has s (x ∷ xs) h = go (eqℤ s x) (eqℤ→eq s x) h (distinct-has s 
     go false q k more = distinct_tail s (cond (ltb 0 (multiplicity x xs)) [] (x ∷ [])) (distinct xs) (more (omega (arith, k)))
 
 -- a sum over entries has each entry's part
-sum-has : (s : ℤ) (ss : List ℤ) (xss : List (List ℤ)) → 0 < multiplicity s ss → 0 < smallest s xss → 0 < sumSmallest ss xss
-unfolding multiplicity sumSmallest
+sum-has : (s : ℤ) (ss : List ℤ) (xss : List (List ℤ)) → 0 < multiplicity s ss → 0 < smallest s xss → 0 < sum_smallest ss xss
+unfolding multiplicity sum_smallest
 sum-has s [] xss h k = absurd (not-suc-le-zero h)
 sum-has s (x ∷ ss) xss h k = go (eqℤ s x) (eqℤ→eq s x) h (λ g. sum-has s ss xss g k)
   where
-    go : (b : Bool) → (T b → s ≡ x) → 0 < cond b 1 0 + multiplicity s ss → (0 < multiplicity s ss → 0 < sumSmallest ss xss) → 0 < smallest x xss + sumSmallest ss xss
+    go : (b : Bool) → (T b → s ≡ x) → 0 < cond b 1 0 + multiplicity s ss → (0 < multiplicity s ss → 0 < sum_smallest ss xss) → 0 < smallest x xss + sum_smallest ss xss
     go true q g more = let e = subst (λ (z : ℤ). 0 < smallest z xss) (q tt) k in omega (arith, e)
     go false q g more = let e = more (omega (arith, g)) in omega (arith, e)
 
@@ -84,18 +84,18 @@ unfolding smallest
 smallest-head s xs [] h = h
 smallest-head s xs (ys ∷ yss) h = omega (arith, h)
 
-pub start-common : (s : ℤ) (xss : List (List ℤ)) → 0 < smallest s xss → 0 < commonSize xss
-unfolding commonSize smallest
+pub start-common : (s : ℤ) (xss : List (List ℤ)) → 0 < smallest s xss → 0 < common_size xss
+unfolding common_size smallest
 start-common s [] h = absurd (not-suc-le-zero h)
 start-common s (xs ∷ xss) h = sum-has s (distinct xs) (xs ∷ xss) (distinct-has s xs (smallest-head s xs xss h)) h
 
 -- ---- of a phrase
-pub stands-somewhere : (ix : Index) (ts : List PhraseTerm) (d : ℕ) → 0 < phraseFrequency ix ts d → (s : ℤ) × T (standsAt ix ts d s)
-unfolding phraseFrequency standsAt
+pub stands-somewhere : (ix : Index) (ts : List PhraseTerm) (d : ℕ) → 0 < phrase_frequency ix ts d → (s : ℤ) × T (stands_at ix ts d s)
+unfolding phrase_frequency stands_at
 stands-somewhere ix ts d h =
-    let e = common-start (termStarts ix ts d) h in
-    (e.0, lt→ltb 0 (smallest e.0 (termStarts ix ts d)) e.1)
+    let e = common-start (term_starts ix ts d) h in
+    (e.0, lt→ltb 0 (smallest e.0 (term_starts ix ts d)) e.1)
 
-pub stands-often : (ix : Index) (ts : List PhraseTerm) (d : ℕ) (s : ℤ) → T (standsAt ix ts d s) → 0 < phraseFrequency ix ts d
-unfolding phraseFrequency standsAt
-stands-often ix ts d s h = start-common s (termStarts ix ts d) (ltb→lt 0 (smallest s (termStarts ix ts d)) h)
+pub stands-often : (ix : Index) (ts : List PhraseTerm) (d : ℕ) (s : ℤ) → T (stands_at ix ts d s) → 0 < phrase_frequency ix ts d
+unfolding phrase_frequency stands_at
+stands-often ix ts d s h = start-common s (term_starts ix ts d) (ltb→lt 0 (smallest s (term_starts ix ts d)) h)

@@ -7,9 +7,9 @@ use native.Mathlib.Numerals.{add-one}
 use native.Mathlib.Omega.{arith}
 use lib.ListN.{length, set, drop}
 use lib.Seq.{sets, sets-eq, set-set, set_comm}
-use Rattle.meaning.specs.Below.{listTo}
+use Rattle.meaning.specs.Below.{list_to}
 use Rattle.meaning.specs.Entries.{written}
-use Rattle.meaning.proofs.Below.{listTo-next, length-listTo}
+use Rattle.meaning.proofs.Below.{list_to-next, length-list_to}
 
 module _ {ℓ} {A : Type ℓ} where
   pub sets-append : (l : List A) (i : ℕ) (xs ys : List A) → sets l i (xs ++ ys) ≡ sets (sets l i xs) (i + length xs) ys
@@ -54,15 +54,15 @@ module _ {ℓ} {A : Type ℓ} where
       ap₂ (λ (k m : ℕ). set (set (set l i a) k b) m c) (add-one i) e
 
   -- nothing stored, and a turn of a loop that stores a list
-  pub sets-none : (l : List A) (i : ℕ) (f : ℕ → A) → l ≡ sets l i (listTo 0 f)
-  unfolding listTo
+  pub sets-none : (l : List A) (i : ℕ) (f : ℕ → A) → l ≡ sets l i (list_to 0 f)
+  unfolding list_to
   sets-none l i f = refl
 
-  pub sets-next : (f : ℕ → A) (l t : List A) (i j : ℕ) (v : A) → t ≡ sets l i (listTo j f) → v ≡ f j → set t (i + j) v ≡ sets l i (listTo (j + 1) f)
+  pub sets-next : (f : ℕ → A) (l t : List A) (i j : ℕ) (v : A) → t ≡ sets l i (list_to j f) → v ≡ f j → set t (i + j) v ≡ sets l i (list_to (j + 1) f)
   sets-next f l t i j v e g =
       ap (set t (i + j)) g
-      ∙ sets_behind l t i (i + j) (listTo j f) (f j ∷ []) e (ap (λ (k : ℕ). i + k) (sym (length-listTo j f)))
-      ∙ ap (sets l i) (sym (listTo-next f j))
+      ∙ sets_behind l t i (i + j) (list_to j f) (f j ∷ []) e (ap (λ (k : ℕ). i + k) (sym (length-list_to j f)))
+      ∙ ap (sets l i) (sym (list_to-next f j))
 
   pub sets-front : (xs l : List A) → length xs ≤ length l → sets l 0 xs ≡ written xs l
   sets-front xs l h =

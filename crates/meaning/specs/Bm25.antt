@@ -2,7 +2,7 @@
 use Rattle.std.specs.Prelude.{ℕ, pos, Float}
 use Rattle.std.specs.Float.{binary32}
 use Rattle.std.specs.Float.Ieee.{add, sub, mul, div, of_int, of_bits}
-use Rattle.meaning.specs.SmallFloat.{byte4ToInt}
+use Rattle.meaning.specs.SmallFloat.{byte4_to_int}
 
 abbrev pub one : Float
 one = of_bits binary32 0x3f80_0000
@@ -17,7 +17,7 @@ b = of_bits binary32 0x3f40_0000
 
 -- L(b) is `byte4_to_int` rounded to the nearest f32, ties to even
 unfoldable pub length_of : ℕ → Float
-length_of n = of_int binary32 (pos (byte4ToInt n))
+length_of n = of_int binary32 (pos (byte4_to_int n))
 
 -- the inverse for a length: 1 ÷ (K1 × ((1 − B) + (B × L) ÷ average)), in f32
 abbrev pub inverse : Float → Float → Float

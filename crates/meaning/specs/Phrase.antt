@@ -2,7 +2,7 @@
 use Rattle.std.specs.Prelude.{Bool, false, cond, List, [], ◌∷◌, ◌++◌, map, ℕ, ◌+◌, min, eqb, ltb, ℤ, pos, negsuc}
 use Rattle.std.proofs.Math.IntN.{sub_ℕ}
 use Rattle.meaning.specs.Lent.{Index}
-use Rattle.meaning.specs.Postings.{postingAt, positionsOf}
+use Rattle.meaning.specs.Postings.{posting_at, positions_of}
 
 -- PhraseTerm (leaf, offset)
 pub record PhraseTerm : Type 0 where
@@ -20,8 +20,8 @@ unfoldable pub starts : ℕ → List ℕ → List ℤ
 starts offset ps = map (λ p. sub_ℕ p offset) ps
 
 -- for each term of the phrase, its starts in a document
-unfoldable pub termStarts : Index → List PhraseTerm → ℕ → List (List ℤ)
-termStarts ix ts d = map (λ t. starts t.offset (positionsOf ix t.leaf (postingAt ix t.leaf d))) ts
+unfoldable pub term_starts : Index → List PhraseTerm → ℕ → List (List ℤ)
+term_starts ix ts d = map (λ t. starts t.offset (positions_of ix t.leaf (posting_at ix t.leaf d))) ts
 
 -- how often an entry stands in a list
 unfoldable pub multiplicity : ℤ → List ℤ → ℕ
@@ -40,19 +40,19 @@ distinct [] = []
 distinct (x ∷ xs) = cond (ltb 0 (multiplicity x xs)) [] (x ∷ []) ++ distinct xs
 
 -- the sum, over some entries, of their smallest multiplicity in the lists
-unfoldable pub sumSmallest : List ℤ → List (List ℤ) → ℕ
-sumSmallest [] xss = 0
-sumSmallest (s ∷ ss) xss = smallest s xss + sumSmallest ss xss
+unfoldable pub sum_smallest : List ℤ → List (List ℤ) → ℕ
+sum_smallest [] xss = 0
+sum_smallest (s ∷ ss) xss = smallest s xss + sum_smallest ss xss
 
 -- "the size of the lists' common part, equal entries counting with the smallest multiplicity"
-unfoldable pub commonSize : List (List ℤ) → ℕ
-commonSize [] = 0
-commonSize (xs ∷ xss) = sumSmallest (distinct xs) (xs ∷ xss)
+unfoldable pub common_size : List (List ℤ) → ℕ
+common_size [] = 0
+common_size (xs ∷ xss) = sum_smallest (distinct xs) (xs ∷ xss)
 
 -- the frequency of a phrase in a document
-unfoldable pub phraseFrequency : Index → List PhraseTerm → ℕ → ℕ
-phraseFrequency ix ts d = commonSize (termStarts ix ts d)
+unfoldable pub phrase_frequency : Index → List PhraseTerm → ℕ → ℕ
+phrase_frequency ix ts d = common_size (term_starts ix ts d)
 
 -- s is a start at which the phrase stands in the document: every term's list has it
-unfoldable pub standsAt : Index → List PhraseTerm → ℕ → ℤ → Bool
-standsAt ix ts d s = ltb 0 (smallest s (termStarts ix ts d))
+unfoldable pub stands_at : Index → List PhraseTerm → ℕ → ℤ → Bool
+stands_at ix ts d s = ltb 0 (smallest s (term_starts ix ts d))

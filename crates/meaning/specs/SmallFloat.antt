@@ -3,25 +3,25 @@ use Rattle.std.specs.Prelude.{cond, ℕ, ◌+◌, ◌-◌, ◌*◌, ◌/◌, ◌
 use Rattle.std.specs.Float.Ieee.{size}
 
 -- longToInt4: a number of fewer than four binary digits is its own code; else the shift + 1 in front of the three digits after the first
-unfoldable pub longToInt4 : ℕ → ℕ
-longToInt4 i = cond (ltb (size i) 4) i ((size i - 4 + 1) * 8 + i / 2 ^ (size i - 4) % 8)
+unfoldable pub long_to_int4 : ℕ → ℕ
+long_to_int4 i = cond (ltb (size i) 4) i ((size i - 4 + 1) * 8 + i / 2 ^ (size i - 4) % 8)
 
 -- int4ToLong
-unfoldable pub int4ToLong : ℕ → ℕ
-int4ToLong i = cond (ltb i 8) i ((8 + i % 8) * 2 ^ (i / 8 - 1))
+unfoldable pub int4_to_long : ℕ → ℕ
+int4_to_long i = cond (ltb i 8) i ((8 + i % 8) * 2 ^ (i / 8 - 1))
 
 -- MAX_INT4, the code of Integer.MAX_VALUE
-unfoldable pub maxInt4 : ℕ
-maxInt4 = longToInt4 2147483647
+unfoldable pub max_int4 : ℕ
+max_int4 = long_to_int4 2147483647
 
 -- NUM_FREE_VALUES: the bytes that stand for themselves
-unfoldable pub numFreeValues : ℕ
-numFreeValues = 255 - maxInt4
+unfoldable pub num_free_values : ℕ
+num_free_values = 255 - max_int4
 
 -- intToByte4
-unfoldable pub intToByte4 : ℕ → ℕ
-intToByte4 i = cond (ltb i numFreeValues) i (numFreeValues + longToInt4 (i - numFreeValues))
+unfoldable pub int_to_byte4 : ℕ → ℕ
+int_to_byte4 i = cond (ltb i num_free_values) i (num_free_values + long_to_int4 (i - num_free_values))
 
 -- byte4ToInt: "Length decodes a norm byte"
-unfoldable pub byte4ToInt : ℕ → ℕ
-byte4ToInt b = cond (ltb b numFreeValues) b (numFreeValues + int4ToLong (b - numFreeValues))
+unfoldable pub byte4_to_int : ℕ → ℕ
+byte4_to_int b = cond (ltb b num_free_values) b (num_free_values + int4_to_long (b - num_free_values))

@@ -10,75 +10,75 @@ use lib.Dec.{eqb, ltb}
 use lib.ListN.{length, get_or, set, take, length-take, get_or-append}
 use lib.Seq.{get_or-set_same, get_or-set_other, get_or-take, get_or-append-add}
 use borrow.Author.Tests.{le-ltb, eq-eqb, eqb-true}
-use Rattle.meaning.specs.Below.{countBelow}
-use Rattle.meaning.specs.Limits.{maxDocuments}
-use Rattle.meaning.specs.Lent.{Index, joined, columnCount, columnType, valuePresent}
-use Rattle.meaning.specs.Range.{NumericRange, in_range, rangeDocuments}
-use Rattle.meaning.specs.Entries.{columnsOnly}
-use Rattle.meaning.specs.IndexRefusals.{wrong1, wrong6, wrongColumn}
-use Rattle.meaning.specs.QueryRefusals.{wrongRange}
-use Rattle.meaning.specs.CallRefusals.{rangeRecords, rangesNeeded}
-use Rattle.meaning.specs.Query.{recordCount, recordKind, recordValue, range_of}
+use Rattle.meaning.specs.Below.{count_below}
+use Rattle.meaning.specs.Limits.{max_documents}
+use Rattle.meaning.specs.Lent.{Index, joined, column_count, column_type, value_present}
+use Rattle.meaning.specs.Range.{NumericRange, in_range, range_documents}
+use Rattle.meaning.specs.Entries.{columns_only}
+use Rattle.meaning.specs.IndexRefusals.{wrong1, wrong6, wrong_column}
+use Rattle.meaning.specs.QueryRefusals.{wrong_range}
+use Rattle.meaning.specs.CallRefusals.{range_records, ranges_needed}
+use Rattle.meaning.specs.Query.{record_count, record_kind, record_value, range_of}
 use Rattle.index.specs.Accepted.{Accepted}
 use Rattle.index.proofs.Below.{count-more, count-lt, count_none, count-le}
 use Rattle.doc_values.proofs.Lists.{any_none}
-use Rattle.doc_values.proofs.Ranges.{columnsOf, range-of-columns, in-range-of-columns, wrong1-of-columns, wrong6-of-columns, wrongRange-of-columns}
+use Rattle.doc_values.proofs.Ranges.{columns_of, range-of-columns, in-range-of-columns, wrong1-of-columns, wrong6-of-columns, wrong_range-of-columns}
 use Rattle.query.proofs.Accepted.{range-right}
 use Rattle.weight.proofs.Measures.{from_or}
-use Rattle.weight.specs.ScorerTree.{range, leafMatches}
-use Rattle.bits.specs.Bit.{bit, bitmapWords, Bitmap}
+use Rattle.weight.specs.ScorerTree.{range, leaf_matches}
+use Rattle.bits.specs.Bit.{bit, bitmap_words, Bitmap}
 use Rattle.weight.specs.Measured.{Asks, Columns, RangeListed, RangesListed}
 
 -- ---- an accepted index has neither 1 nor 6
 right1 : (ix : Index) → Accepted ix → wrong1 ix ≡ false
 unfolding wrong1
-right1 ix a = le-ltb maxDocuments ix.maxDoc a.documents
+right1 ix a = le-ltb max_documents ix.max_doc a.documents
 
-column-right : (ix : Index) → Accepted ix → (c : ℕ) → c < columnCount ix → wrongColumn ix c ≡ false
-unfolding wrongColumn
+column-right : (ix : Index) → Accepted ix → (c : ℕ) → c < column_count ix → wrong_column ix c ≡ false
+unfolding wrong_column
 column-right ix a c h =
     let k = a.column c h in
-    rw (le-ltb 1 (columnType ix c) k.type) (any_none ix.maxDoc (λ d. ltb 1 (valuePresent ix c d)) (λ d g. le-ltb 1 (valuePresent ix c d) (k.present d g)))
+    rw (le-ltb 1 (column_type ix c) k.type) (any_none ix.max_doc (λ d. ltb 1 (value_present ix c d)) (λ d g. le-ltb 1 (value_present ix c d) (k.present d g)))
 
 right6 : (ix : Index) → Accepted ix → wrong6 ix ≡ false
 unfolding wrong6
 right6 ix a =
-    rw (le-ltb 8 (columnCount ix) a.fewColumns, eq-eqb (length ix.values) (3 * (columnCount ix * ix.maxDoc)) a.wholeValues) (any_none (columnCount ix) (wrongColumn ix) (column-right ix a))
+    rw (le-ltb 8 (column_count ix) a.few_columns, eq-eqb (length ix.values) (3 * (column_count ix * ix.max_doc)) a.whole_values) (any_none (column_count ix) (wrong_column ix) (column-right ix a))
 
 -- ---- the range of a record
-module _ (ix : Index) (q columns values : List ℕ) (n at : ℕ) (a : Asks ix q) (cs : Columns ix n columns values) (h : at < recordCount q) (kind : recordKind q at ≡ 4) where
-  lent-columns : columnsOf ix ≡ columnsOnly n columns values
+module _ (ix : Index) (q columns values : List ℕ) (n at : ℕ) (a : Asks ix q) (cs : Columns ix n columns values) (h : at < record_count q) (kind : record_kind q at ≡ 4) where
+  lent-columns : columns_of ix ≡ columns_only n columns values
   lent-columns = rw (cs.documents, cs.columns-are, cs.values-are)
 
-  module _ (v0 v1 v2 v3 v4 v5 lower upper : ℕ) (e0 : v0 ≡ recordValue q at 0) (e1 : v1 ≡ recordValue q at 1) (e2 : v2 ≡ recordValue q at 2) (e3 : v3 ≡ recordValue q at 3) (e4 : v4 ≡ recordValue q at 4) (e5 : v5 ≡ recordValue q at 5) (el : lower ≡ joined v2 v3) (eu : upper ≡ joined v4 v5) where
+  module _ (v0 v1 v2 v3 v4 v5 lower upper : ℕ) (e0 : v0 ≡ record_value q at 0) (e1 : v1 ≡ record_value q at 1) (e2 : v2 ≡ record_value q at 2) (e3 : v3 ≡ record_value q at 3) (e4 : v4 ≡ record_value q at 4) (e5 : v5 ≡ record_value q at 5) (el : lower ≡ joined v2 v3) (eu : upper ≡ joined v4 v5) where
     abbrev said : NumericRange
     said = record { column = v0; kinds = v1; lower = lower; upper = upper }
 
     said-is : said ≡ range_of q at
     said-is = rw (el, eu, e0, e1, e2, e3, e4, e5)
 
-    pub range-asks : (wrong1 (columnsOnly n columns values) ≡ false) × (wrong6 (columnsOnly n columns values) ≡ false) × (wrongRange (columnsOnly n columns values) said ≡ false)
-    range-asks = (sym (ap wrong1 lent-columns) ∙ sym (wrong1-of-columns ix) ∙ right1 ix a.accepted, sym (ap wrong6 lent-columns) ∙ sym (wrong6-of-columns ix) ∙ right6 ix a.accepted, ap (wrongRange (columnsOnly n columns values)) said-is ∙ sym (ap (λ (i : Index). wrongRange i (range_of q at)) lent-columns) ∙ sym (wrongRange-of-columns ix (range_of q at)) ∙ range-right ix q a.values-right at h kind)
+    pub range-asks : (wrong1 (columns_only n columns values) ≡ false) × (wrong6 (columns_only n columns values) ≡ false) × (wrong_range (columns_only n columns values) said ≡ false)
+    range-asks = (sym (ap wrong1 lent-columns) ∙ sym (wrong1-of-columns ix) ∙ right1 ix a.accepted, sym (ap wrong6 lent-columns) ∙ sym (wrong6-of-columns ix) ∙ right6 ix a.accepted, ap (wrong_range (columns_only n columns values)) said-is ∙ sym (ap (λ (i : Index). wrong_range i (range_of q at)) lent-columns) ∙ sym (wrong_range-of-columns ix (range_of q at)) ∙ range-right ix q a.values-right at h kind)
 
-    pub range_gives : rangeDocuments (columnsOnly n columns values) said ≡ rangeDocuments ix (range_of q at)
-    range_gives = ap (rangeDocuments (columnsOnly n columns values)) said-is ∙ sym (ap (λ (i : Index). rangeDocuments i (range_of q at)) lent-columns) ∙ sym (range-of-columns ix (range_of q at))
+    pub range_gives : range_documents (columns_only n columns values) said ≡ range_documents ix (range_of q at)
+    range_gives = ap (range_documents (columns_only n columns values)) said-is ∙ sym (ap (λ (i : Index). range_documents i (range_of q at)) lent-columns) ∙ sym (range-of-columns ix (range_of q at))
 
-    takes-same : (d : ℕ) → in_range (columnsOnly n columns values) said d ≡ in_range ix (range_of q at) d
-    takes-same d = ap (λ (r : NumericRange). in_range (columnsOnly n columns values) r d) said-is ∙ sym (ap (λ (i : Index). in_range i (range_of q at) d) lent-columns) ∙ sym (in-range-of-columns ix (range_of q at) d)
+    takes-same : (d : ℕ) → in_range (columns_only n columns values) said d ≡ in_range ix (range_of q at) d
+    takes-same d = ap (λ (r : NumericRange). in_range (columns_only n columns values) r d) said-is ∙ sym (ap (λ (i : Index). in_range i (range_of q at) d) lent-columns) ∙ sym (in-range-of-columns ix (range_of q at) d)
 
-    pub range-bitmap : (out : List ℕ) (k : ℕ) → Bitmap (λ d. ltb d n && in_range (columnsOnly n columns values) said d) out 0 k → Bitmap (leafMatches ix (range (range_of q at))) out 0 k
-    unfolding leafMatches
+    pub range-bitmap : (out : List ℕ) (k : ℕ) → Bitmap (λ d. ltb d n && in_range (columns_only n columns values) said d) out 0 k → Bitmap (leaf_matches ix (range (range_of q at))) out 0 k
+    unfolding leaf_matches
     range-bitmap out k b i p h l = b i p h l ∙ ap₂ (λ (x y : Bool). x && y) (ap (ltb (32 * i + p)) (sym cs.documents)) (takes-same (32 * i + p))
 
 -- ---- the words used in the range buffer
-abbrev pub isRange : List ℕ → ℕ → Bool
-isRange q r = eqb (recordKind q r) 4
+abbrev pub is_range : List ℕ → ℕ → Bool
+is_range q r = eqb (record_kind q r) 4
 
 abbrev pub words_to : List ℕ → ℕ → ℕ → ℕ
-words_to q n at = n * countBelow at (isRange q)
+words_to q n at = n * count_below at (is_range q)
 
 pub no_words : (q : List ℕ) (n : ℕ) → 0 ≡ words_to q n 0
-no_words q n = rw (count_none (isRange q)) (none n)
+no_words q n = rw (count_none (is_range q)) (none n)
   where
     none : (n : ℕ) → 0 ≡ n * 0
     none n = omega arith
@@ -86,15 +86,15 @@ no_words q n = rw (count_none (isRange q)) (none n)
 plus_none : (n : ℕ) → n + 0 ≡ n
 plus_none n = omega arith
 
-pub words_more : (q : List ℕ) (n at used step : ℕ) → used ≡ words_to q n at → step ≡ cond (isRange q at) n 0 → used + step ≡ words_to q n (at + 1)
-words_more q n at used step e f = rw (count-more at (isRange q)) (go (isRange q at) f)
+pub words_more : (q : List ℕ) (n at used step : ℕ) → used ≡ words_to q n at → step ≡ cond (is_range q at) n 0 → used + step ≡ words_to q n (at + 1)
+words_more q n at used step e f = rw (count-more at (is_range q)) (go (is_range q at) f)
   where
-    go : (b : Bool) → step ≡ cond b n 0 → used + step ≡ n * (countBelow at (isRange q) + cond b 1 0)
-    go true g = ap (λ (z : ℕ). z + step) e ∙ ap (λ (z : ℕ). n * countBelow at (isRange q) + z) g ∙ one (countBelow at (isRange q))
+    go : (b : Bool) → step ≡ cond b n 0 → used + step ≡ n * (count_below at (is_range q) + cond b 1 0)
+    go true g = ap (λ (z : ℕ). z + step) e ∙ ap (λ (z : ℕ). n * count_below at (is_range q) + z) g ∙ one (count_below at (is_range q))
       where
         one : (k : ℕ) → n * k + n ≡ n * (k + 1)
         one k = sym (mul-add n k 1 ∙ ap (λ (z : ℕ). n * k + z) (mul-one n))
-    go false g = ap (λ (z : ℕ). z + step) e ∙ ap (λ (z : ℕ). n * countBelow at (isRange q) + z) g ∙ same (countBelow at (isRange q))
+    go false g = ap (λ (z : ℕ). z + step) e ∙ ap (λ (z : ℕ). n * count_below at (is_range q) + z) g ∙ same (count_below at (is_range q))
       where
         same : (k : ℕ) → n * k + 0 ≡ n * (k + 0)
         same k = plus_none (n * k) ∙ ap (λ (z : ℕ). n * z) (sym (plus_none k))
@@ -102,30 +102,30 @@ words_more q n at used step e f = rw (count-more at (isRange q)) (go (isRange q 
 -- the bitmap of each Range record below `at`, in the words used
 pub record Listing (ix : Index) (q places counts ranges : List ℕ) (used at : ℕ) : Type 0 where
   pub lists : RangesListed ix q places counts ranges at
-  pub below : (r : ℕ) → r < at → recordKind q r ≡ 4 → get_or places r 0 + bitmapWords ix.maxDoc ≤ used
+  pub below : (r : ℕ) → r < at → record_kind q r ≡ 4 → get_or places r 0 + bitmap_words ix.max_doc ≤ used
 
 -- what the code asks of the words used, before the record at `at`
 pub record Room (q : List ℕ) (n at used : ℕ) (ranges : List ℕ) : Type 0 where
   pub within : used ≤ length ranges
-  pub enough : recordKind q at ≡ 4 → bitmapWords n ≤ length ranges - used
+  pub enough : record_kind q at ≡ 4 → bitmap_words n ≤ length ranges - used
   pub small : used ≤ 268435456
 
-needed-enough : (ix : Index) (q : List ℕ) → ix.maxDoc * rangeRecords q ≤ rangesNeeded ix q
-unfolding rangesNeeded
-needed-enough ix q = go (eqb (rangeRecords q) 0) refl
+needed-enough : (ix : Index) (q : List ℕ) → ix.max_doc * range_records q ≤ ranges_needed ix q
+unfolding ranges_needed
+needed-enough ix q = go (eqb (range_records q) 0) refl
   where
-    go : (b : Bool) → eqb (rangeRecords q) 0 ≡ b → ix.maxDoc * rangeRecords q ≤ cond b 0 (ix.maxDoc * (rangeRecords q + 1))
-    go true e = let z = ap (λ (k : ℕ). ix.maxDoc * k) (eqb-true (rangeRecords q) 0 e) in let none = times_none ix.maxDoc in omega (arith, z, none)
+    go : (b : Bool) → eqb (range_records q) 0 ≡ b → ix.max_doc * range_records q ≤ cond b 0 (ix.max_doc * (range_records q + 1))
+    go true e = let z = ap (λ (k : ℕ). ix.max_doc * k) (eqb-true (range_records q) 0 e) in let none = times_none ix.max_doc in omega (arith, z, none)
       where
         times_none : (n : ℕ) → n * 0 ≡ 0
         times_none n = omega arith
-    go false e = more ix.maxDoc (rangeRecords q)
+    go false e = more ix.max_doc (range_records q)
       where
         more : (n k : ℕ) → n * k ≤ n * (k + 1)
         more n k = mul-le-mul (omega arith) (omega arith)
 
-count-mono : (a b : ℕ) (p : ℕ → Bool) → a ≤ b → countBelow a p ≤ countBelow b p
-unfolding countBelow
+count-mono : (a b : ℕ) (p : ℕ → Bool) → a ≤ b → count_below a p ≤ count_below b p
+unfolding count_below
 count-mono zero b p h = omega arith
 count-mono (suc a) zero p h = absurd (omega (arith, h))
 count-mono (suc a) (suc b) p h = elim (from_or a b (omega (arith, h))) [
@@ -133,32 +133,32 @@ count-mono (suc a) (suc b) p h = elim (from_or a b (omega (arith, h))) [
   | inr g ↦ let k = count-mono (suc a) b p (omega (arith, g)) in omega (arith, k)
 ]
 
-pub room : (ix : Index) (q columns values ranges : List ℕ) (n at used : ℕ) → Asks ix q → Columns ix n columns values → rangesNeeded ix q ≤ length ranges → recordCount q ≤ 256 → at < recordCount q → used ≡ words_to q (bitmapWords n) at → Room q n at used ranges
-unfolding rangeRecords
+pub room : (ix : Index) (q columns values ranges : List ℕ) (n at used : ℕ) → Asks ix q → Columns ix n columns values → ranges_needed ix q ≤ length ranges → record_count q ≤ 256 → at < record_count q → used ≡ words_to q (bitmap_words n) at → Room q n at used ranges
+unfolding range_records
 room ix q columns values ranges n at used a cs need few h e =
-    let p = isRange q in
-    let all = countBelow (recordCount q) p in
+    let p = is_range q in
+    let all = count_below (record_count q) p in
     let enough = needed-enough ix q in
     let same = ap (λ (z : ℕ). z * all) cs.documents in
-    let w = bitmapWords n in
+    let w = bitmap_words n in
     let narrow : w ≤ n = omega arith in
     let whole : w * all ≤ n * all = mul-le-mul narrow (same-le all) in
-    let some-less : w * countBelow at p ≤ w * all = mul-le-mul (same-le w) (count-mono at (recordCount q) p (omega (arith, h))) in
+    let some-less : w * count_below at p ≤ w * all = mul-le-mul (same-le w) (count-mono at (record_count q) p (omega (arith, h))) in
     let docs = a.accepted.documents in
     let is = cs.documents in
     let few-docs : n ≤ 1048576 = omega (arith, docs, is) in
     let few-words : w ≤ 1048576 = omega (arith, narrow, few-docs) in
-    let least-words : w * countBelow at p ≤ 1048576 * 256 = mul-le-mul few-words (few-count (count-le at p)) in
+    let least-words : w * count_below at p ≤ 1048576 * 256 = mul-le-mul few-words (few-count (count-le at p)) in
     record {
       within = omega (arith, e, some-less, whole, same, enough, need);
-      enough = λ kind. let more : w * (countBelow at p + 1) ≤ w * all = mul-le-mul (same-le w) (count-lt at (recordCount q) p h (eq-eqb (recordKind q at) 4 kind)) in let apart = mul-add w (countBelow at p) 1 in let one = mul-one w in omega (arith, e, more, apart, one, whole, same, enough, need);
+      enough = λ kind. let more : w * (count_below at p + 1) ≤ w * all = mul-le-mul (same-le w) (count-lt at (record_count q) p h (eq-eqb (record_kind q at) 4 kind)) in let apart = mul-add w (count_below at p) 1 in let one = mul-one w in omega (arith, e, more, apart, one, whole, same, enough, need);
       small = omega (arith, e, least-words);
     }
   where
     same-le : (m : ℕ) → m ≤ m
     same-le m = omega arith
 
-    few-count : countBelow at (isRange q) ≤ at → countBelow at (isRange q) ≤ 256
+    few-count : count_below at (is_range q) ≤ at → count_below at (is_range q) ≤ 256
     few-count k = omega (arith, k, h, few)
 
 front : (xs zs : List ℕ) (n j : ℕ) → j < n → n ≤ length xs → get_or (take n xs ++ zs) j 0 ≡ get_or xs j 0
@@ -183,30 +183,30 @@ start i = omega arith
 -- one record more
 module _ (ix : Index) (q columns values places counts ranges out rest : List ℕ) (n used at k step : ℕ) (cs : Columns ix n columns values) (l : Listing ix q places counts ranges used at) where
   abbrev docs : List ℕ
-  docs = rangeDocuments ix (range_of q at)
+  docs = range_documents ix (range_of q at)
 
   abbrev after : List ℕ
   after = take used ranges ++ (out ++ rest)
 
-  pub listing-more : at < length places → at < length counts → used ≤ length ranges → (recordKind q at ≡ 4 → bitmapWords n ≤ length ranges - used) → (recordKind q at ≡ 4 → bitmapWords n ≤ length out) → length after ≡ length ranges → (recordKind q at ≡ 4 → (k ≡ length docs) × Bitmap (leafMatches ix (range (range_of q at))) out 0 (bitmapWords n)) → step ≡ cond (isRange q at) (bitmapWords n) 0 → Listing ix q (set places at used) (set counts at k) after (used + step) (at + 1)
+  pub listing-more : at < length places → at < length counts → used ≤ length ranges → (record_kind q at ≡ 4 → bitmap_words n ≤ length ranges - used) → (record_kind q at ≡ 4 → bitmap_words n ≤ length out) → length after ≡ length ranges → (record_kind q at ≡ 4 → (k ≡ length docs) × Bitmap (leaf_matches ix (range (range_of q at))) out 0 (bitmap_words n)) → step ≡ cond (is_range q at) (bitmap_words n) 0 → Listing ix q (set places at used) (set counts at k) after (used + step) (at + 1)
   listing-more hp hc within enough fits long gave stepped =
       record { lists = λ r g kind. (one r g kind).0; below = λ r g kind. (one r g kind).1 }
     where
       other : (i j : ℕ) → j < i → j ≡ i → ⊥
       other i j g e = omega (arith, g, e)
 
-      old : (r : ℕ) → r < at → recordKind q r ≡ 4 → RangeListed ix q after r (get_or places r 0) (get_or counts r 0) × (get_or places r 0 + bitmapWords ix.maxDoc ≤ used + step)
+      old : (r : ℕ) → r < at → record_kind q r ≡ 4 → RangeListed ix q after r (get_or places r 0) (get_or counts r 0) × (get_or places r 0 + bitmap_words ix.max_doc ≤ used + step)
       old r g kind =
           let was = l.lists r g kind in
           let low = l.below r g kind in
           (record { count-is = was.count-is; there = omega (arith, low, within, long); bits = λ i p h m. ap (bit p) (front ranges (out ++ rest) used (get_or places r 0 + i) (omega (arith, h, low)) within) ∙ was.bits i p h m }, omega (arith, low))
 
-      new : recordKind q at ≡ 4 → RangeListed ix q after at used k × (used + bitmapWords ix.maxDoc ≤ used + step)
+      new : record_kind q at ≡ 4 → RangeListed ix q after at used k × (used + bitmap_words ix.max_doc ≤ used + step)
       new kind =
           let g = gave kind in
           let room = enough kind in
-          let w : bitmapWords ix.maxDoc ≡ bitmapWords n = ap bitmapWords cs.documents in
-          let fit : step ≡ bitmapWords n = stepped ∙ rw (eq-eqb (recordKind q at) 4 kind) in
+          let w : bitmap_words ix.max_doc ≡ bitmap_words n = ap bitmap_words cs.documents in
+          let fit : step ≡ bitmap_words n = stepped ∙ rw (eq-eqb (record_kind q at) 4 kind) in
           let size = fits kind in (
             record {
               count-is = g.0;
@@ -216,9 +216,9 @@ module _ (ix : Index) (q columns values places counts ranges out rest : List ℕ
             omega (arith, w, fit),
           )
 
-      one : (r : ℕ) → r < at + 1 → recordKind q r ≡ 4 → RangeListed ix q after r (get_or (set places at used) r 0) (get_or (set counts at k) r 0) × (get_or (set places at used) r 0 + bitmapWords ix.maxDoc ≤ used + step)
+      one : (r : ℕ) → r < at + 1 → record_kind q r ≡ 4 → RangeListed ix q after r (get_or (set places at used) r 0) (get_or (set counts at k) r 0) × (get_or (set places at used) r 0 + bitmap_words ix.max_doc ≤ used + step)
       one r g kind = elim (below_or r at g) [
-        | inl e ↦ subst (λ (z : ℕ). RangeListed ix q after z (get_or (set places at used) z 0) (get_or (set counts at k) z 0) × (get_or (set places at used) z 0 + bitmapWords ix.maxDoc ≤ used + step)) (sym e) (rw (get_or-set_same places at used 0 hp, get_or-set_same counts at k 0 hc) (new (subst (λ (z : ℕ). recordKind q z ≡ 4) e kind)))
+        | inl e ↦ subst (λ (z : ℕ). RangeListed ix q after z (get_or (set places at used) z 0) (get_or (set counts at k) z 0) × (get_or (set places at used) z 0 + bitmap_words ix.max_doc ≤ used + step)) (sym e) (rw (get_or-set_same places at used 0 hp, get_or-set_same counts at k 0 hc) (new (subst (λ (z : ℕ). record_kind q z ≡ 4) e kind)))
         | inr h ↦ rw (get_or-set_other places at r used 0 (other at r h), get_or-set_other counts at r k 0 (other at r h)) (old r h kind)
       ]
 

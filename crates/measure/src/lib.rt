@@ -3,15 +3,15 @@
 
 ghost use Rattle.std.specs.Prelude.{◌≡◌, Bool, true, false, cond, not, ◌&&◌, ◌||◌, List, ℕ, ◌+◌, ◌*◌, ◌/◌, ◌≤◌, ◌<◌, max, min, eqb, leb, ltb, length, get_or};
 ghost use Rattle.std.proofs.Math.Option.{some};
-ghost use Rattle.meaning.specs.Lent.{Index, leafNumber};
-ghost use Rattle.meaning.specs.Query.{recordCount, recordKind, recordChildren, recordValue, range_of, Occur, must, should, occurOf, Decoded, decode};
-ghost use Rattle.meaning.specs.Range.{rangeDocuments};
-ghost use Rattle.meaning.specs.CallRefusals.{rangesNeeded};
+ghost use Rattle.meaning.specs.Lent.{Index, leaf_number};
+ghost use Rattle.meaning.specs.Query.{record_count, record_kind, record_children, record_value, range_of, Occur, must, should, occur_of, Decoded, decode};
+ghost use Rattle.meaning.specs.Range.{range_documents};
+ghost use Rattle.meaning.specs.CallRefusals.{ranges_needed};
 ghost use Rattle.meaning.specs.Cost.{least};
-ghost use Rattle.weight.specs.Measured.{Asks, Held, Columns, RangesListed, Known, MeasureIs, Measured, termNumbers};
-ghost use Rattle.weight.specs.ScorerTree.{range, leafMatches};
-ghost use Rattle.bits.specs.Bit.{bitmapWords, Bitmap};
-ghost use Rattle.measure.specs.Tallied.{tallied, tallyPresent, tallyCost};
+ghost use Rattle.weight.specs.Measured.{Asks, Held, Columns, RangesListed, Known, MeasureIs, Measured, term_numbers};
+ghost use Rattle.weight.specs.ScorerTree.{range, leaf_matches};
+ghost use Rattle.bits.specs.Bit.{bitmap_words, Bitmap};
+ghost use Rattle.measure.specs.Tallied.{tallied, tally_present, tally_cost};
 
 #[derive(Drop)]
 pub struct Measure {
@@ -60,9 +60,9 @@ fn postings_of(leaves: &[u32], leaf: u32) -> u64
 
 // The fewest postings that a term of the phrase at `at` has.
 fn phrase_postings(q: &[u32], leaves: &[u32], at: usize) -> u64
-    requires at_bound { (at + 1 + recordChildren q.now at ≤ recordCount q.now) × (1 ≤ recordChildren q.now at) }
-    requires by_index { (j : ℕ) → j < recordChildren q.now at → recordValue q.now (at + 1 + j) 0 < length leaves.now / 4 }
-    ensures { (result ≡ least (termNumbers q.now leaves.now at (recordChildren q.now at))) × (result < 4294967296) }
+    requires at_bound { (at + 1 + record_children q.now at ≤ record_count q.now) × (1 ≤ record_children q.now at) }
+    requires by_index { (j : ℕ) → j < record_children q.now at → record_value q.now (at + 1 + j) 0 < length leaves.now / 4 }
+    ensures { (result ≡ least (term_numbers q.now leaves.now at (record_children q.now at))) × (result < 4294967296) }
 {
     let terms = wide(query::children(q, at));
     let mut fewest = postings_of(leaves, query::value(q, at + 1, 0));
@@ -121,7 +121,7 @@ fn tally_required(t: Tally, present: u32, size: u64) -> Tally
 
 fn tally_clause(t: Tally, occurrence: u32, present: u32, size: u64) -> Tally
     requires { (t.shoulds < 1000) × (t.group + size < 18446744073709551616) }
-    ensures { (o : Occur) (p : Bool) → occurOf occurrence ≡ some o → present ≡ cond p 1 0 → result ≡ tallied t o p size }
+    ensures { (o : Occur) (p : Bool) → occur_of occurrence ≡ some o → present ≡ cond p 1 0 → result ≡ tallied t o p size }
 {
     if occurrence == 3 {
         return t;
@@ -144,7 +144,7 @@ pub fn shoulds_needed(required: bool, msm: u32) -> u32
 
 // A Boolean has no scorer where a Must or Filter has none, or where too few Shoulds have one.
 fn boolean_present(t: Tally, msm: u32) -> u32
-    ensures { result ≡ tallyPresent t msm }
+    ensures { result ≡ tally_present t msm }
 {
     if t.missing {
         return 0;
@@ -154,7 +154,7 @@ fn boolean_present(t: Tally, msm: u32) -> u32
 
 // A conjunction costs the least, with msm above 0 the Should group as one more; a disjunction the sum.
 fn boolean_cost(t: Tally, msm: u32) -> u64
-    ensures { result ≡ tallyCost t msm }
+    ensures { result ≡ tally_cost t msm }
 {
     if !t.required {
         return t.group;
@@ -177,7 +177,7 @@ fn measure_boolean(
     costs: &[u64],
     at: usize,
 ) -> Measure
-    requires held { Held q.now nexts.now presents.now costs.now at × (recordKind q.now at ≡ 3) }
+    requires held { Held q.now nexts.now presents.now costs.now at × (record_kind q.now at ≡ 3) }
     requires asks { (ix : Index) × Asks ix q.now × Measured ix q.now nexts.now presents.now costs.now (at + 1) }
     ensures { (ix : Index) (k : ℕ) (D : Decoded) → Measured ix q.now nexts.now presents.now costs.now (at + 1) → decode q.now k at ≡ some D → MeasureIs ix at D result.next result.present result.cost }
 {
@@ -206,7 +206,7 @@ fn measure_boolean(
 
 // Of the phrase at `at`: it has a scorer where each of its terms has postings.
 fn measure_phrase(q: &[u32], leaves: &[u32], at: usize) -> Measure
-    requires at_bound { (at < recordCount q.now) × (recordKind q.now at ≡ 2) }
+    requires at_bound { (at < record_count q.now) × (record_kind q.now at ≡ 2) }
     requires asks { (ix : Index) × Asks ix q.now × (ix.leaves ≡ leaves.now) }
     ensures { (ix : Index) (k : ℕ) (D : Decoded) → ix.leaves ≡ leaves.now → decode q.now k at ≡ some D → MeasureIs ix at D result.next result.present result.cost }
 {
@@ -220,7 +220,7 @@ fn measure_phrase(q: &[u32], leaves: &[u32], at: usize) -> Measure
 
 // Of the term at `at`.
 fn measure_term(q: &[u32], leaves: &[u32], at: usize) -> Measure
-    requires at_bound { (at < recordCount q.now) × (recordKind q.now at ≡ 1) }
+    requires at_bound { (at < record_count q.now) × (record_kind q.now at ≡ 1) }
     requires asks { (ix : Index) × Asks ix q.now × (ix.leaves ≡ leaves.now) }
     ensures { (ix : Index) (k : ℕ) (D : Decoded) → ix.leaves ≡ leaves.now → decode q.now k at ≡ some D → MeasureIs ix at D result.next result.present result.cost }
 {
@@ -255,7 +255,7 @@ fn measure_record(
     costs: &[u64],
     at: usize,
 ) -> Measure
-    requires held { Held q.now nexts.now presents.now costs.now at × (recordCount q.now ≤ length counts.now) }
+    requires held { Held q.now nexts.now presents.now costs.now at × (record_count q.now ≤ length counts.now) }
     requires known { (ix : Index) × Known ix q.now max_doc leaves.now counts.now × Measured ix q.now nexts.now presents.now costs.now (at + 1) }
     ensures { (ix : Index) (k : ℕ) (D : Decoded) → Known ix q.now max_doc leaves.now counts.now → Measured ix q.now nexts.now presents.now costs.now (at + 1) → decode q.now k at ≡ some D → MeasureIs ix at D result.next result.present result.cost }
 {
@@ -293,7 +293,7 @@ pub fn measure_all(
     presents: &mut [u32],
     costs: &mut [u64],
 )
-    requires q_in_bounds { (recordCount q.now ≤ length counts.now) × (recordCount q.now ≤ length nexts.old) × (recordCount q.now ≤ length presents.old) × (recordCount q.now ≤ length costs.old) }
+    requires q_in_bounds { (record_count q.now ≤ length counts.now) × (record_count q.now ≤ length nexts.old) × (record_count q.now ≤ length presents.old) × (record_count q.now ≤ length costs.old) }
     requires known { (ix : Index) × Known ix q.now max_doc leaves.now counts.now }
     ensures measured { (ix : Index) → Known ix q.now max_doc leaves.now counts.now → Measured ix q.now nexts.new presents.new costs.new 0 }
     ensures nexts_len_unchanged { (length nexts.new ≡ length nexts.old) × (length presents.new ≡ length presents.old) × (length costs.new ≡ length costs.old) }
@@ -310,8 +310,8 @@ pub fn measure_all(
 
 // The words that the record at `at` takes in the range buffer: a Range has a bit for each document.
 fn range_words(q: &[u32], max_doc: u32, at: usize) -> usize
-    requires { at < recordCount q.now }
-    ensures { result ≡ cond (eqb (recordKind q.now at) 4) (bitmapWords max_doc) 0 }
+    requires { at < record_count q.now }
+    ensures { result ≡ cond (eqb (record_kind q.now at) 4) (bitmap_words max_doc) 0 }
 {
     if query::kind(q, at) == 4 {
         wide(bits::bitmap_words(max_doc))
@@ -330,9 +330,9 @@ fn list_range(
     at: usize,
     output: &mut [u32],
 ) -> u32
-    requires at_bound { (at < recordCount q.now) × (recordKind q.now at ≡ 4 → bitmapWords max_doc ≤ length output.old) }
+    requires at_bound { (at < record_count q.now) × (record_kind q.now at ≡ 4 → bitmap_words max_doc ≤ length output.old) }
     requires asks { (ix : Index) × Asks ix q.now × Columns ix max_doc columns.now values.now }
-    ensures value { (ix : Index) → Asks ix q.now → Columns ix max_doc columns.now values.now → recordKind q.now at ≡ 4 → (result ≡ length (rangeDocuments ix (range_of q.now at))) × Bitmap (leafMatches ix (range (range_of q.now at))) output.new 0 (bitmapWords max_doc) }
+    ensures value { (ix : Index) → Asks ix q.now → Columns ix max_doc columns.now values.now → record_kind q.now at ≡ 4 → (result ≡ length (range_documents ix (range_of q.now at))) × Bitmap (leaf_matches ix (range (range_of q.now at))) output.new 0 (bitmap_words max_doc) }
     ensures output_len_unchanged { length output.new ≡ length output.old }
 {
     if query::kind(q, at) != 4 {
@@ -362,9 +362,9 @@ pub fn list_ranges(
     counts: &mut [u32],
     ranges: &mut [u32],
 )
-    requires q_in_bounds { (recordCount q.now ≤ length places.old) × (recordCount q.now ≤ length counts.old) }
-    requires asks { (ix : Index) × Asks ix q.now × Columns ix max_doc columns.now values.now × (rangesNeeded ix q.now ≤ length ranges.old) }
-    ensures ranges_listed { (ix : Index) → Asks ix q.now → Columns ix max_doc columns.now values.now → RangesListed ix q.now places.new counts.new ranges.new (recordCount q.now) }
+    requires q_in_bounds { (record_count q.now ≤ length places.old) × (record_count q.now ≤ length counts.old) }
+    requires asks { (ix : Index) × Asks ix q.now × Columns ix max_doc columns.now values.now × (ranges_needed ix q.now ≤ length ranges.old) }
+    ensures ranges_listed { (ix : Index) → Asks ix q.now → Columns ix max_doc columns.now values.now → RangesListed ix q.now places.new counts.new ranges.new (record_count q.now) }
     ensures places_len_unchanged { (length places.new ≡ length places.old) × (length counts.new ≡ length counts.old) × (length ranges.new ≡ length ranges.old) }
 {
     let count = query::record_count(q);

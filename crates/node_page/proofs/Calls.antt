@@ -6,9 +6,9 @@ use Prim.Native.Nat.{ℕ, ◌*◌, ◌≤◌, min}
 use native.Mathlib.Omega.{arith}
 use lib.ListN.{length}
 use lib.IntN.{ℤ}
-use Rattle.meaning.specs.Limits.{nodeStateWords, maxRecords}
+use Rattle.meaning.specs.Limits.{node_state_words, max_records}
 use Rattle.meaning.specs.Lent.{Index}
-use Rattle.meaning.specs.CallRefusals.{statesNeeded}
+use Rattle.meaning.specs.CallRefusals.{states_needed}
 use Rattle.meaning.specs.Entries.{page_of}
 use Rattle.index.specs.Slices as Slices
 use Rattle.query.proofs.Whole.{whole}
@@ -21,25 +21,25 @@ use Rattle.searcher.specs.declared.page.Paged.TheVariants as Paged
 use Rattle.order_check.proofs.CallConditions.{Pages as Lends}
 use Rattle.searcher.proofs.Answering.{page-refused, page-given, page-not-refused}
 use Rattle.node_state.specs.Standing.{Standing, tree_of}
-use Rattle.node_page.specs.Pages.{Pages, refusalOf, workOf, TreeAsked, ListAsked}
+use Rattle.node_page.specs.Pages.{Pages, refusal_of, work_of, TreeAsked, ListAsked}
 
 -- an order has no more records than the words have room for
-pub states-few : (ix : Index) (q : List ℕ) → Asks ix q → statesNeeded q ≤ nodeStateWords * maxRecords
-unfolding statesNeeded
+pub states-few : (ix : Index) (q : List ℕ) → Asks ix q → states_needed q ≤ node_state_words * max_records
+unfolding states_needed
 states-few ix q a = let few = (whole q a.records-right).few-records in omega (arith, few)
 
 module _ (n : ℕ) (fields leaves postings positions norms live columns values q : List ℕ) (target nodes : ℕ) (a b : List ℤ) (ranges documents scores : List ℕ) where
   abbrev ix : Index
   ix = Slices.lent n fields leaves postings positions norms live columns values
 
-  module _ (l : Lends ix q target (workOf nodes a b ranges) (length documents) (length scores)) where
-    pub tree-asked : (resume : Bool) (words : List ℕ) → nodeStateWords * maxRecords ≤ length words → (resume ≡ true → Standing ix q ranges words target) → TreeAsked ix n fields leaves columns values q resume words ranges target
+  module _ (l : Lends ix q target (work_of nodes a b ranges) (length documents) (length scores)) where
+    pub tree-asked : (resume : Bool) (words : List ℕ) → node_state_words * max_records ≤ length words → (resume ≡ true → Standing ix q ranges words target) → TreeAsked ix n fields leaves columns values q resume words ranges target
     tree-asked resume words h s = record {
       asks = l.asks;
       leaves-lent = record { field-lent = record { accepted = l.asks.accepted; documents = refl; fields-are = refl }; leaves-are = refl };
       columns-lent = record { documents = refl; columns-are = refl; values-are = refl };
       states-room = omega (arith, states-few ix q l.asks, h);
-      ranges-room = ranges-room ix q (workOf nodes a b ranges) l.long;
+      ranges-room = ranges-room ix q (work_of nodes a b ranges) l.long;
       standing = s;
     }
 
@@ -51,28 +51,28 @@ module _ (n : ℕ) (fields leaves postings positions norms live columns values q
       positions-are = refl;
       norms-are = refl;
       live-are = refl;
-      starts-room = starts-room ix q (workOf nodes a b ranges) l.long;
+      starts-room = starts-room ix q (work_of nodes a b ranges) l.long;
       target-within = l.target-within;
       size_is = s.0;
       standing = s.1;
     }
 
-  module _ (r : ℕ) (e : r ≡ refusalOf ix q target nodes a b ranges documents scores) where
-    pub refuses : (r ≡ 0 → ⊥) → (words : List ℕ) → Pages ix q target (workOf nodes a b ranges) documents documents scores scores a a b b ranges ranges words (Paged.Refused r)
+  module _ (r : ℕ) (e : r ≡ refusal_of ix q target nodes a b ranges documents scores) where
+    pub refuses : (r ≡ 0 → ⊥) → (words : List ℕ) → Pages ix q target (work_of nodes a b ranges) documents documents scores scores a a b b ranges ranges words (Paged.Refused r)
     refuses h words =
-        let p = page-refused ix q target (workOf nodes a b ranges) documents scores r e h in
+        let p = page-refused ix q target (work_of nodes a b ranges) documents scores r e h in
         record { numbers = p.0; documents-are = p.1; scores-are = p.2; starts-kept = λ z. refl; other-starts-kept = λ z. refl; ranges-kept = λ z. refl; standing = λ z. absurd (h (e ∙ z)) }
 
     pub gives : r ≡ 0 → (k : Listed) (documents' scores' : List ℕ) (a' b' : List ℤ) (ranges' words' : List ℕ) → PageIs (page_of ix q target (length documents)) documents scores k documents' scores' × Standing ix q ranges' words' k.next
-        → Pages ix q target (workOf nodes a b ranges) documents documents' scores scores' a a' b b' ranges ranges' words' (Paged.Given k)
+        → Pages ix q target (work_of nodes a b ranges) documents documents' scores scores' a a' b b' ranges ranges' words' (Paged.Given k)
     gives z k documents' scores' a' b' ranges' words' g =
-        let p = page-given ix q target (workOf nodes a b ranges) documents scores r e z k documents' scores' g.0 in
+        let p = page-given ix q target (work_of nodes a b ranges) documents scores r e z k documents' scores' g.0 in
         record {
           numbers = p.0;
           documents-are = p.1;
           scores-are = p.2;
-          starts-kept = λ h. absurd (page-not-refused ix q target (workOf nodes a b ranges) documents scores r e z h);
-          other-starts-kept = λ h. absurd (page-not-refused ix q target (workOf nodes a b ranges) documents scores r e z h);
-          ranges-kept = λ h. absurd (page-not-refused ix q target (workOf nodes a b ranges) documents scores r e z h);
+          starts-kept = λ h. absurd (page-not-refused ix q target (work_of nodes a b ranges) documents scores r e z h);
+          other-starts-kept = λ h. absurd (page-not-refused ix q target (work_of nodes a b ranges) documents scores r e z h);
+          ranges-kept = λ h. absurd (page-not-refused ix q target (work_of nodes a b ranges) documents scores r e z h);
           standing = λ h. subst (λ (m : ℕ). Standing ix q ranges' words' m) g.0.next-is g.1;
         }

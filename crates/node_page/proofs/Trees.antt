@@ -8,10 +8,10 @@ use native.Mathlib.Omega.{arith}
 use lib.ListN.{length, get_or, take, drop, length-append, length-take}
 use lib.Seq.{get_or-take, take_at}
 use lib.Ieee.{Float}
-use Rattle.meaning.specs.Limits.{nodeStateWords}
+use Rattle.meaning.specs.Limits.{node_state_words}
 use Rattle.meaning.specs.Lent.{Index}
 use Rattle.meaning.specs.Bm25.{one}
-use Rattle.meaning.specs.Query.{recordCount}
+use Rattle.meaning.specs.Query.{record_count}
 use Rattle.weight.specs.State.{size_of}
 use Rattle.weight.specs.Held.{Ok}
 use Rattle.weight.specs.Sound.{FieldTable}
@@ -19,7 +19,7 @@ use Rattle.weight.proofs.Queries.{query-sound, query-nodes}
 use Rattle.node_words.specs.Placed.{Placed}
 use Rattle.node_words.proofs.Placing.{placed-ok}
 use Rattle.leaf_scorer.proofs.Bounds.{ok-mono, ok-length, ok-long, ok-front, front-size}
-use Rattle.inverses.specs.Inverses.{fieldAt, hasField}
+use Rattle.inverses.specs.Inverses.{field_at, has_field}
 use Rattle.inverses.proofs.QueryTables.{query-tables}
 use Rattle.scorer.specs.Calls.{lent}
 use Rattle.walk.specs.Walks.{PageHeld}
@@ -28,7 +28,7 @@ use Rattle.node_page.specs.Pages.{ListAsked}
 
 module _ (ix : Index) (q ranges words : List ℕ) (from : ℕ) where
   -- there is a record at least, and its second word is the size of the tree
-  pub stands-long : Standing ix q ranges words from → nodeStateWords ≤ length words
+  pub stands-long : Standing ix q ranges words from → node_state_words ≤ length words
   stands-long s =
       let n = size_of (tree_of ix q) in
       let long = ok-long ix ranges (tree_of ix q) 16 0 (take n words) from s.ok in
@@ -58,7 +58,7 @@ stands_on ix q ranges words out size next e ok =
 
 -- what the walk asks for
 pub page-held : (ix : Index) (n : ℕ) (fields leaves postings positions norms live q ranges words : List ℕ) (places size target : ℕ) → ListAsked ix n fields leaves postings positions norms live q ranges words places size target
-    → (table : List Float) → ((at : ℕ) → at < recordCount q → hasField q at ≡ true → FieldTable ix table (fieldAt ix q at))
+    → (table : List Float) → ((at : ℕ) → at < record_count q → has_field q at ≡ true → FieldTable ix table (field_at ix q at))
     → PageHeld (lent n postings positions ranges) norms live table ix places (tree_of ix q) 16 0 (take size words) target
 page-held ix n fields leaves postings positions norms live q ranges words places size target l table t =
     let a = l.asks in

@@ -3,14 +3,14 @@
 
 ghost use Rattle.std.specs.Prelude.{◌≡◌, true, ℕ, ◌≤◌, ◌<◌, ◌*◌, ◌^◌, min, length};
 ghost use Rattle.meaning.specs.Lent.{Index};
-ghost use Rattle.meaning.specs.Limits.{nodeStateWords, maxRecords};
+ghost use Rattle.meaning.specs.Limits.{node_state_words, max_records};
 ghost use Rattle.meaning.specs.Entries.{Kept, page_of};
 ghost use Rattle.index.specs.Slices.{lent};
 ghost use Rattle.walk.specs.Walks.{PageIs};
 ghost use Rattle.weight.specs.State.{size_of};
-ghost use Rattle.node_state.specs.Records.{recordWords};
+ghost use Rattle.node_state.specs.Records.{record_words};
 ghost use Rattle.node_state.specs.Standing.{Standing, tree_of};
-ghost use Rattle.node_page.specs.Pages.{Pages, refusalOf, workOf, TreeAsked, ListAsked, used};
+ghost use Rattle.node_page.specs.Pages.{Pages, refusal_of, work_of, TreeAsked, ListAsked, used};
 
 use node_state::NodeState;
 use searcher::page::Paged;
@@ -109,8 +109,8 @@ fn page_words(
     documents: &mut [u32],
     scores: &mut [u32],
 ) -> Paged
-    requires { (nodeStateWords * nodes < 2 ^ 64) × (nodeStateWords * maxRecords ≤ length words.old) × (resume ≡ true → refusalOf (lent max_doc fields.now leaves.now postings.now positions.now norms.now live.now columns.now values.now) q.now target nodes a.old b.old ranges.old documents.old scores.old ≡ 0 → Standing (lent max_doc fields.now leaves.now postings.now positions.now norms.now live.now columns.now values.now) q.now ranges.old words.old target) }
-    ensures { Pages (lent max_doc fields.now leaves.now postings.now positions.now norms.now live.now columns.now values.now) q.now target (workOf nodes a.old b.old ranges.old) documents.old documents.new scores.old scores.new a.old a.new b.old b.new ranges.old ranges.new words.new result }
+    requires { (node_state_words * nodes < 2 ^ 64) × (node_state_words * max_records ≤ length words.old) × (resume ≡ true → refusal_of (lent max_doc fields.now leaves.now postings.now positions.now norms.now live.now columns.now values.now) q.now target nodes a.old b.old ranges.old documents.old scores.old ≡ 0 → Standing (lent max_doc fields.now leaves.now postings.now positions.now norms.now live.now columns.now values.now) q.now ranges.old words.old target) }
+    ensures { Pages (lent max_doc fields.now leaves.now postings.now positions.now norms.now live.now columns.now values.now) q.now target (work_of nodes a.old b.old ranges.old) documents.old documents.new scores.old scores.new a.old a.new b.old b.new ranges.old ranges.new words.new result }
 {
     let refusal = order_check::page_refusal(
         max_doc,
@@ -174,9 +174,9 @@ pub fn page_nodes(
     documents: &mut [u32],
     scores: &mut [u32],
 ) -> Paged
-    requires { resume ≡ true → refusalOf (lent max_doc fields.now leaves.now postings.now positions.now norms.now live.now columns.now values.now) q.now target (length nodes.old) a.old b.old ranges.old documents.old scores.old ≡ 0 → Standing (lent max_doc fields.now leaves.now postings.now positions.now norms.now live.now columns.now values.now) q.now ranges.old (recordWords nodes.old) target }
-    ensures { Pages (lent max_doc fields.now leaves.now postings.now positions.now norms.now live.now columns.now values.now) q.now target (workOf (length nodes.old) a.old b.old ranges.old) documents.old documents.new scores.old scores.new a.old a.new b.old b.new ranges.old ranges.new (recordWords nodes.new) result
-        × Kept (refusalOf (lent max_doc fields.now leaves.now postings.now positions.now norms.now live.now columns.now values.now) q.now target (length nodes.old) a.old b.old ranges.old documents.old scores.old) nodes.old nodes.new }
+    requires { resume ≡ true → refusal_of (lent max_doc fields.now leaves.now postings.now positions.now norms.now live.now columns.now values.now) q.now target (length nodes.old) a.old b.old ranges.old documents.old scores.old ≡ 0 → Standing (lent max_doc fields.now leaves.now postings.now positions.now norms.now live.now columns.now values.now) q.now ranges.old (record_words nodes.old) target }
+    ensures { Pages (lent max_doc fields.now leaves.now postings.now positions.now norms.now live.now columns.now values.now) q.now target (work_of (length nodes.old) a.old b.old ranges.old) documents.old documents.new scores.old scores.new a.old a.new b.old b.new ranges.old ranges.new (record_words nodes.new) result
+        × Kept (refusal_of (lent max_doc fields.now leaves.now postings.now positions.now norms.now live.now columns.now values.now) q.now target (length nodes.old) a.old b.old ranges.old documents.old scores.old) nodes.old nodes.new }
 {
     let count = nodes.len();
     let mut words = node_state::unpacked(nodes);

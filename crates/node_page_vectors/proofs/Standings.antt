@@ -5,15 +5,15 @@ use Prim.Native.Nat.{ℕ, zero, suc}
 use native.Mathlib.Omega.{arith}
 use lib.ListN.{length, get_or}
 use lib.IntN.{ℤ}
-use Rattle.meaning.specs.Limits.{noMoreDocs}
+use Rattle.meaning.specs.Limits.{no_more_docs}
 use Rattle.meaning.specs.Lent.{Index}
 use Rattle.meaning.specs.CallRefusals.{Work}
-use Rattle.meaning.specs.Entries.{answered, pageAnswer}
+use Rattle.meaning.specs.Entries.{answered, page_answer}
 use Rattle.searcher.specs.declared.page.Paged.{Paged}
-use Rattle.searcher.specs.Answers.{pagedNumbers}
+use Rattle.searcher.specs.Answers.{paged_numbers}
 use Rattle.node_state.specs.Standing.{Standing}
 use Rattle.node_page.specs.Pages.{Pages}
-use Rattle.node_page_vectors.specs.Next.{nextOf}
+use Rattle.node_page_vectors.specs.Next.{next_of}
 
 -- three numbers are an accepted call's answer
 given-answer : (z g n given next : ℕ) → (0 ∷ g ∷ n ∷ []) ≡ answered z (0 ∷ given ∷ next ∷ []) (λ m. m ∷ []) → (z ≡ 0) × (n ≡ next)
@@ -21,8 +21,8 @@ given-answer zero g n given next e = (refl, ap (λ (l : List ℕ). get_or l 2 0)
 given-answer (suc z) g n given next e = let l = ap length e in absurd (omega (arith, l))
 
 module _ (ix : Index) (q : List ℕ) (target : ℕ) (w : Work) (documents documents' scores scores' : List ℕ) (a a' b b' : List ℤ) (ranges ranges' words' : List ℕ) where
-  pub stands-next : (r : Paged) → Pages ix q target w documents documents' scores scores' a a' b b' ranges ranges' words' r → (nextOf r ≡ noMoreDocs → ⊥) → Standing ix q ranges' words' (nextOf r)
-  unfolding nextOf pagedNumbers pageAnswer
+  pub stands-next : (r : Paged) → Pages ix q target w documents documents' scores scores' a a' b b' ranges ranges' words' r → (next_of r ≡ no_more_docs → ⊥) → Standing ix q ranges' words' (next_of r)
+  unfolding next_of paged_numbers page_answer
   stands-next (Paged.Refused x) g h = absurd (h refl)
   stands-next (Paged.Given l) g h =
       let s = given-answer _ l.given l.next _ _ g.numbers in

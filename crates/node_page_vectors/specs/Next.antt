@@ -1,9 +1,9 @@
 -- The next match that a page tells. Assumes nothing: these are definitions.
 use Rattle.std.specs.Prelude.{ℕ}
-use Rattle.meaning.specs.Limits.{noMoreDocs}
+use Rattle.meaning.specs.Limits.{no_more_docs}
 use Rattle.searcher.specs.declared.page.Paged.{Paged}
 
 -- none where the call was refused
-unfoldable pub nextOf : Paged → ℕ
-nextOf (Paged.Refused _) = noMoreDocs
-nextOf (Paged.Given l) = l.next
+unfoldable pub next_of : Paged → ℕ
+next_of (Paged.Refused _) = no_more_docs
+next_of (Paged.Given l) = l.next

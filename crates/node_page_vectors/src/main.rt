@@ -4,11 +4,11 @@
 
 ghost use Rattle.std.specs.Prelude.{◌≡◌, true};
 ghost use Rattle.index.specs.Slices.{lent};
-ghost use Rattle.node_state.specs.Records.{recordWords};
+ghost use Rattle.node_state.specs.Records.{record_words};
 ghost use Rattle.node_state.specs.Standing.{Standing};
-ghost use Rattle.node_page.specs.Pages.{Pages, workOf};
-ghost use Rattle.node_page_vectors.specs.Next.{nextOf};
-ghost use Rattle.meaning.specs.Limits.{noMoreDocs};
+ghost use Rattle.node_page.specs.Pages.{Pages, work_of};
+ghost use Rattle.node_page_vectors.specs.Next.{next_of};
+ghost use Rattle.meaning.specs.Limits.{no_more_docs};
 
 use node_state::NodeState;
 use searcher::page::Paged;
@@ -172,8 +172,8 @@ fn step(
     documents: &mut [u32],
     scores: &mut [u32],
 ) -> Stepped
-    requires { resume ≡ true → Standing (lent max_doc fields.now leaves.now postings.now positions.now norms.now live.now columns.now values.now) q.now ranges.old (recordWords records) target }
-    ensures { Pages (lent max_doc fields.now leaves.now postings.now positions.now norms.now live.now columns.now values.now) q.now target (workOf 8 a.old b.old ranges.old) documents.old documents.new scores.old scores.new a.old a.new b.old b.new ranges.old ranges.new (recordWords result.records) result.page }
+    requires { resume ≡ true → Standing (lent max_doc fields.now leaves.now postings.now positions.now norms.now live.now columns.now values.now) q.now ranges.old (record_words records) target }
+    ensures { Pages (lent max_doc fields.now leaves.now postings.now positions.now norms.now live.now columns.now values.now) q.now target (work_of 8 a.old b.old ranges.old) documents.old documents.new scores.old scores.new a.old a.new b.old b.new ranges.old ranges.new (record_words result.records) result.page }
 {
     let mut nodes = records;
     let r = node_page::page_nodes(
@@ -188,7 +188,7 @@ fn step(
 
 // The next match, and none where the call was refused.
 fn next_of(p: Paged) -> u32
-    ensures { result ≡ nextOf p }
+    ensures { result ≡ next_of p }
 {
     match p {
         Paged::Refused(_) => walk::NO_MORE_DOCS,
@@ -294,8 +294,8 @@ fn turn(
     states: &mut [u32],
     other_ranges: &mut [u32],
 ) -> Turned
-    requires { resume ≡ true → Standing (lent max_doc fields.now leaves.now postings.now positions.now norms.now live.now columns.now values.now) q.now ranges.old (recordWords records) target }
-    ensures { (nextOf result.page ≡ noMoreDocs → ⊥) → Standing (lent max_doc fields.now leaves.now postings.now positions.now norms.now live.now columns.now values.now) q.now ranges.new (recordWords result.records) (nextOf result.page) }
+    requires { resume ≡ true → Standing (lent max_doc fields.now leaves.now postings.now positions.now norms.now live.now columns.now values.now) q.now ranges.old (record_words records) target }
+    ensures { (next_of result.page ≡ no_more_docs → ⊥) → Standing (lent max_doc fields.now leaves.now postings.now positions.now norms.now live.now columns.now values.now) q.now ranges.new (record_words result.records) (next_of result.page) }
 {
     let mut documents = [0u32; 1];
     let mut scores = [0u32; 1];

@@ -2,11 +2,11 @@
 #![tactic(auto)]
 
 ghost use Rattle.std.specs.Prelude.{◌≡◌, false, ◌≤◌, ◌<◌, ◌*◌, length};
-ghost use Rattle.meaning.specs.Limits.{noMoreDocs, maxHits, nodeStateWords};
-ghost use Rattle.meaning.specs.Query.{queryTree};
-ghost use Rattle.meaning.specs.FullList.{fullList};
-ghost use Rattle.meaning.specs.Hits.{hits as hitsOf};
-ghost use Rattle.meaning.specs.CallRefusals.{workShort};
+ghost use Rattle.meaning.specs.Limits.{no_more_docs, max_hits, node_state_words};
+ghost use Rattle.meaning.specs.Query.{query_tree};
+ghost use Rattle.meaning.specs.FullList.{full_list};
+ghost use Rattle.meaning.specs.Hits.{hits as hits_of};
+ghost use Rattle.meaning.specs.CallRefusals.{work_short};
 ghost use Rattle.meaning.specs.Entries.{written};
 ghost use Rattle.index.specs.Slices.{lent};
 ghost use Rattle.collector.specs.Collected.{answer};
@@ -39,11 +39,11 @@ fn find(
     ranges: &mut [u32],
     heap: &mut [i64],
 ) -> TopDocs
-    requires heap_nonzero { (0 < length heap.old) × (length heap.old ≤ maxHits) }
-    requires asks { Asks (lent max_doc fields.now leaves.now postings.now positions.now norms.now live.now columns.now values.now) q.now × (workShort (lent max_doc fields.now leaves.now postings.now positions.now norms.now live.now columns.now values.now) q.now (work (length states.old) (length a.old) (length b.old) (length ranges.old)) ≡ false) }
-    ensures value { result ≡ answer (length heap.old) t (fullList (lent max_doc fields.now leaves.now postings.now positions.now norms.now live.now columns.now values.now) (queryTree q.now)) }
-    ensures heap_after { heap.new ≡ written (hitsOf (length heap.old) (fullList (lent max_doc fields.now leaves.now postings.now positions.now norms.now live.now columns.now values.now) (queryTree q.now))) heap.old }
-    ensures standing { Standing (lent max_doc fields.now leaves.now postings.now positions.now norms.now live.now columns.now values.now) q.now ranges.new states.new noMoreDocs }
+    requires heap_nonzero { (0 < length heap.old) × (length heap.old ≤ max_hits) }
+    requires asks { Asks (lent max_doc fields.now leaves.now postings.now positions.now norms.now live.now columns.now values.now) q.now × (work_short (lent max_doc fields.now leaves.now postings.now positions.now norms.now live.now columns.now values.now) q.now (work (length states.old) (length a.old) (length b.old) (length ranges.old)) ≡ false) }
+    ensures value { result ≡ answer (length heap.old) t (full_list (lent max_doc fields.now leaves.now postings.now positions.now norms.now live.now columns.now values.now) (query_tree q.now)) }
+    ensures heap_after { heap.new ≡ written (hits_of (length heap.old) (full_list (lent max_doc fields.now leaves.now postings.now positions.now norms.now live.now columns.now values.now) (query_tree q.now))) heap.old }
+    ensures standing { Standing (lent max_doc fields.now leaves.now postings.now positions.now norms.now live.now columns.now values.now) q.now ranges.new states.new no_more_docs }
 {
     let mut inverses: [f32; 4096] = [0.0; 4096];
     inverses::fill_inverses(fields, leaves, q, &mut inverses);
@@ -88,7 +88,7 @@ fn search_words(
     ranges: &mut [u32],
     hits: &mut [i64],
 ) -> Searched
-    requires { nodeStateWords * n ≤ length words.old }
+    requires { node_state_words * n ≤ length words.old }
     ensures { SearchesWords (lent max_doc fields.now leaves.now postings.now positions.now norms.now live.now columns.now values.now) q.now k t n words.new a.old a.new b.old b.new ranges.old ranges.new hits.old hits.new result }
 {
     let end = NODE_STATE_WORDS * n;

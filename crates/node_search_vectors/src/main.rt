@@ -3,11 +3,11 @@
 #![tactic(auto)]
 
 ghost use Rattle.std.specs.Prelude.{◌≡◌, ◌*◌, length};
-ghost use Rattle.meaning.specs.Limits.{nodeStateWords};
-ghost use Rattle.meaning.specs.Entries.{searchAnswer, searchHits};
+ghost use Rattle.meaning.specs.Limits.{node_state_words};
+ghost use Rattle.meaning.specs.Entries.{search_answer, search_hits};
 ghost use Rattle.index.specs.Slices.{lent};
 ghost use Rattle.order_check.specs.Lends.{work};
-ghost use Rattle.searcher.specs.Answers.{searchedNumbers};
+ghost use Rattle.searcher.specs.Answers.{searched_numbers};
 
 use node_state::NodeState;
 use searcher::search::Searched;
@@ -292,8 +292,8 @@ fn search_lent(
     hits: &mut [i64],
     untouched: &mut bool,
 ) -> Searched
-    ensures { (searchedNumbers result ≡ searchAnswer (lent max_doc fields.now leaves.now postings.now positions.now norms.now live.now columns.now values.now) q.now k t (work (nodeStateWords * 8) (length a.old) (length b.old) (length ranges.old)) (length hits.old))
-        × (hits.new ≡ searchHits (lent max_doc fields.now leaves.now postings.now positions.now norms.now live.now columns.now values.now) q.now k (work (nodeStateWords * 8) (length a.old) (length b.old) (length ranges.old)) hits.old) }
+    ensures { (searched_numbers result ≡ search_answer (lent max_doc fields.now leaves.now postings.now positions.now norms.now live.now columns.now values.now) q.now k t (work (node_state_words * 8) (length a.old) (length b.old) (length ranges.old)) (length hits.old))
+        × (hits.new ≡ search_hits (lent max_doc fields.now leaves.now postings.now positions.now norms.now live.now columns.now values.now) q.now k (work (node_state_words * 8) (length a.old) (length b.old) (length ranges.old)) hits.old) }
 {
     let mut nodes = records;
     let r = node_search::search_nodes(

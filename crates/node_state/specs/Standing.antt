@@ -3,7 +3,7 @@ use Rattle.std.specs.Prelude.{List, ℕ, ◌≤◌, length, take}
 use Rattle.std.proofs.Math.Option.{none}
 use Rattle.meaning.specs.Lent.{Index}
 use Rattle.meaning.specs.Bm25.{one}
-use Rattle.meaning.specs.Query.{queryTree}
+use Rattle.meaning.specs.Query.{query_tree}
 use Rattle.weight.specs.ScorerTree.{Scorer}
 use Rattle.weight.specs.Weigh.{weigh}
 use Rattle.weight.specs.State.{size_of}
@@ -11,7 +11,7 @@ use Rattle.weight.specs.Held.{Ok}
 
 -- the scorer tree of an order
 abbrev pub tree_of : Index → List ℕ → Scorer
-tree_of ix q = weigh ix (queryTree q) one none
+tree_of ix q = weigh ix (query_tree q) one none
 
 -- the words hold the scorer tree of an order in their first places, asked for documents up to a bound
 pub record Standing (ix : Index) (q ranges words : List ℕ) (from : ℕ) : Type 0 where

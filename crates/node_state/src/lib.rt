@@ -2,13 +2,13 @@
 #![tactic(auto)]
 
 ghost use Rattle.std.specs.Prelude.{◌≡◌, ◌++◌, ◌≤◌, ◌+◌, ◌*◌, length, take, drop};
-ghost use Rattle.meaning.specs.Limits.{nodeStateWords};
+ghost use Rattle.meaning.specs.Limits.{node_state_words};
 ghost use Rattle.weight.specs.State.{words_of};
-ghost use Rattle.node_state.specs.Records.{state_of, recordWords, nodeFrom, held};
+ghost use Rattle.node_state.specs.Records.{state_of, record_words, node_from, held};
 
 use weight::NODE_STATE_WORDS;
 
-// The most query records of an order: as `maxRecords` in meaning's Limits.
+// The most query records of an order: as `max_records` in meaning's Limits.
 const MAX_RECORDS: usize = 256;
 
 // One scorer of the tree, or one term of a phrase.
@@ -60,8 +60,8 @@ pub fn held(nodes: usize) -> usize
 
 // The record at i to its words.
 fn put_node(words: &mut [u32], i: usize, s: NodeState)
-    requires { nodeStateWords * i + nodeStateWords ≤ length words.old }
-    ensures { words.new ≡ take (nodeStateWords * i) words.old ++ (words_of (state_of s) ++ drop (nodeStateWords * i + nodeStateWords) words.old) }
+    requires { node_state_words * i + node_state_words ≤ length words.old }
+    ensures { words.new ≡ take (node_state_words * i) words.old ++ (words_of (state_of s) ++ drop (node_state_words * i + node_state_words) words.old) }
 {
     let at = NODE_STATE_WORDS * i;
     node_words::place::put(
@@ -105,8 +105,8 @@ fn put_node(words: &mut [u32], i: usize, s: NodeState)
 
 // The record of the first words.
 fn first_node(words: &[u32]) -> NodeState
-    requires { nodeStateWords ≤ length words.now }
-    ensures { result ≡ nodeFrom words.now }
+    requires { node_state_words ≤ length words.now }
+    ensures { result ≡ node_from words.now }
 {
     NodeState {
         kind: words[0],
@@ -146,8 +146,8 @@ fn first_node(words: &[u32]) -> NodeState
 
 // The record of the words at i.
 fn node_at(words: &[u32], i: usize) -> NodeState
-    requires { nodeStateWords * i + nodeStateWords ≤ length words.now }
-    ensures { result ≡ nodeFrom (drop (nodeStateWords * i) words.now) }
+    requires { node_state_words * i + node_state_words ≤ length words.now }
+    ensures { result ≡ node_from (drop (node_state_words * i) words.now) }
 {
     let at = NODE_STATE_WORDS * i;
     first_node(&words[at..])
@@ -155,8 +155,8 @@ fn node_at(words: &[u32], i: usize) -> NodeState
 
 // The first n records to the words.
 pub fn unpack(nodes: &[NodeState], n: usize, words: &mut [u32])
-    requires { (n ≤ length nodes.now) × (nodeStateWords * n ≤ length words.old) }
-    ensures { words.new ≡ recordWords (take n nodes.now) ++ drop (nodeStateWords * n) words.old }
+    requires { (n ≤ length nodes.now) × (node_state_words * n ≤ length words.old) }
+    ensures { words.new ≡ record_words (take n nodes.now) ++ drop (node_state_words * n) words.old }
 {
     let mut i = 0;
     while i < n {
@@ -172,7 +172,7 @@ pub fn zeros() -> [u32; MAX_RECORDS * NODE_STATE_WORDS] {
 
 // The words of the records that a call can need, in an array of the largest order's size.
 pub fn unpacked(nodes: &[NodeState]) -> [u32; MAX_RECORDS * NODE_STATE_WORDS]
-    ensures { take (nodeStateWords * held (length nodes.now)) result ≡ recordWords (take (held (length nodes.now)) nodes.now) }
+    ensures { take (node_state_words * held (length nodes.now)) result ≡ record_words (take (held (length nodes.now)) nodes.now) }
 {
     let mut words = zeros();
     let n = held(nodes.len());
@@ -182,8 +182,8 @@ pub fn unpacked(nodes: &[NodeState]) -> [u32; MAX_RECORDS * NODE_STATE_WORDS]
 
 // The first n records from the words.
 pub fn pack(words: &[u32], n: usize, nodes: &mut [NodeState])
-    requires { (n ≤ length nodes.old) × (nodeStateWords * n ≤ length words.now) }
-    ensures { (recordWords (take n nodes.new) ≡ take (nodeStateWords * n) words.now) × (drop n nodes.new ≡ drop n nodes.old) }
+    requires { (n ≤ length nodes.old) × (node_state_words * n ≤ length words.now) }
+    ensures { (record_words (take n nodes.new) ≡ take (node_state_words * n) words.now) × (drop n nodes.new ≡ drop n nodes.old) }
 {
     let mut i = 0;
     while i < n {

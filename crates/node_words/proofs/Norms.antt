@@ -8,62 +8,62 @@ use native.Mathlib.Numerals.{add-one}
 use lib.Dec.{eqb}
 use lib.ListN.{length, get_or}
 use borrow.Author.Tests.{eq-eqb, ne_eqb}
-use Rattle.meaning.specs.Below.{countBelow}
-use Rattle.meaning.specs.Lent.{Index, fieldCount, fieldNorms, hasNorms, leafCount, leafField, leafFirst, leafNumber}
-use Rattle.index.specs.Slices.{fieldsOnly}
+use Rattle.meaning.specs.Below.{count_below}
+use Rattle.meaning.specs.Lent.{Index, field_count, field_norms, has_norms, leaf_count, leaf_field, leaf_first, leaf_number}
+use Rattle.index.specs.Slices.{fields_only}
 use Rattle.index.proofs.Below.{count-le}
-use Rattle.weight.specs.Held.{normsWord}
+use Rattle.weight.specs.Held.{norms_word}
 use Rattle.node_words.specs.Placed.{FieldLent, LeafLent}
 
 pub record FieldHere (fields : List ℕ) (f : ℕ) : Type 0 where
   pub there : f < length fields / 3
   pub few : f < 16
 
-pub field-here : (ix : Index) (n : ℕ) (fields : List ℕ) (f : ℕ) → FieldLent ix n fields → f < fieldCount ix → FieldHere fields f
+pub field-here : (ix : Index) (n : ℕ) (fields : List ℕ) (f : ℕ) → FieldLent ix n fields → f < field_count ix → FieldHere fields f
 field-here ix n fields f l h =
-    let few = l.accepted.fewFields in
+    let few = l.accepted.few_fields in
     record { there = subst (λ (z : List ℕ). f < length z / 3) l.fields-are h; few = omega (arith, few, h) }
 
 module _ (ix : Index) (n : ℕ) (fields : List ℕ) (f : ℕ) (l : FieldLent ix n fields) where
-  flag_is : get_or fields (3 * f + 1) 0 ≡ fieldNorms ix f
+  flag_is : get_or fields (3 * f + 1) 0 ≡ field_norms ix f
   flag_is = ap (λ (z : List ℕ). get_or z (3 * f + 1) 0) (sym l.fields-are)
 
-  pub norms-none : (w : ℕ) → w ≡ get_or fields (3 * f + 1) 0 → (w ≡ 1 → ⊥) → 0 ≡ normsWord ix f
-  unfolding normsWord
-  norms-none w e h = rw (ne_eqb (fieldNorms ix f) 1 (λ g. h (e ∙ flag_is ∙ g)))
+  pub norms-none : (w : ℕ) → w ≡ get_or fields (3 * f + 1) 0 → (w ≡ 1 → ⊥) → 0 ≡ norms_word ix f
+  unfolding norms_word
+  norms-none w e h = rw (ne_eqb (field_norms ix f) 1 (λ g. h (e ∙ flag_is ∙ g)))
 
-  pub norms-some : (w o : ℕ) → w ≡ get_or fields (3 * f + 1) 0 → w ≡ 1 → o ≡ countBelow f (hasNorms (fieldsOnly fields)) * n → o + 1 ≡ normsWord ix f
-  unfolding normsWord
+  pub norms-some : (w o : ℕ) → w ≡ get_or fields (3 * f + 1) 0 → w ≡ 1 → o ≡ count_below f (has_norms (fields_only fields)) * n → o + 1 ≡ norms_word ix f
+  unfolding norms_word
   norms-some w o e h is =
-      rw (eq-eqb (fieldNorms ix f) 1 (sym flag_is ∙ sym e ∙ h))
-      (add-one o ∙ ap suc (is ∙ ap (λ (z : List ℕ). countBelow f (λ g. eqb (get_or z (3 * g + 1) 0) 1) * n) (sym l.fields-are) ∙ ap (λ (z : ℕ). countBelow f (hasNorms ix) * z) (sym l.documents)))
+      rw (eq-eqb (field_norms ix f) 1 (sym flag_is ∙ sym e ∙ h))
+      (add-one o ∙ ap suc (is ∙ ap (λ (z : List ℕ). count_below f (λ g. eqb (get_or z (3 * g + 1) 0) 1) * n) (sym l.fields-are) ∙ ap (λ (z : ℕ). count_below f (has_norms ix) * z) (sym l.documents)))
 
-  pub norms-small : (o : ℕ) → f < 16 → o ≡ countBelow f (hasNorms (fieldsOnly fields)) * n → o ≤ 16777216
+  pub norms-small : (o : ℕ) → f < 16 → o ≡ count_below f (has_norms (fields_only fields)) * n → o ≤ 16777216
   norms-small o h is =
       let docs = l.accepted.documents in
       let same = l.documents in
       let few-docs : n ≤ 1048576 = omega (arith, docs, same) in
-      let count = count-le f (hasNorms (fieldsOnly fields)) in
-      let few : countBelow f (hasNorms (fieldsOnly fields)) ≤ 16 = omega (arith, count, h) in
-      let product : countBelow f (hasNorms (fieldsOnly fields)) * n ≤ 16 * 1048576 = mul-le-mul few few-docs in
+      let count = count-le f (has_norms (fields_only fields)) in
+      let few : count_below f (has_norms (fields_only fields)) ≤ 16 = omega (arith, count, h) in
+      let product : count_below f (has_norms (fields_only fields)) * n ≤ 16 * 1048576 = mul-le-mul few few-docs in
       omega (arith, is, product)
 
 -- ---- a leaf's words
 module _ (ix : Index) (n : ℕ) (fields leaves : List ℕ) (l w : ℕ) (e : LeafLent ix n fields leaves) (same : w ≡ l) where
-  pub leaf-there : l < leafCount ix → w < length leaves / 4
-  leaf-there h = subst (λ (z : List ℕ). w < length z / 4) e.leaves-are (subst (λ (z : ℕ). z < leafCount ix) (sym same) h)
+  pub leaf-there : l < leaf_count ix → w < length leaves / 4
+  leaf-there h = subst (λ (z : List ℕ). w < length z / 4) e.leaves-are (subst (λ (z : ℕ). z < leaf_count ix) (sym same) h)
 
   word-is : (k : ℕ) → get_or leaves (4 * w + k) 0 ≡ get_or ix.leaves (4 * l + k) 0
   word-is k = ap (λ (z : ℕ). get_or leaves (4 * z + k) 0) same ∙ ap (λ (z : List ℕ). get_or z (4 * l + k) 0) (sym e.leaves-are)
 
-  pub field_of : (x : ℕ) → x ≡ get_or leaves (4 * w) 0 → x ≡ leafField ix l
+  pub field_of : (x : ℕ) → x ≡ get_or leaves (4 * w) 0 → x ≡ leaf_field ix l
   field_of x f = f ∙ ap (λ (z : ℕ). get_or leaves (4 * z) 0) same ∙ ap (λ (z : List ℕ). get_or z (4 * l) 0) (sym e.leaves-are)
 
-  pub first_of : (x : ℕ) → x ≡ get_or leaves (4 * w + 1) 0 → x ≡ leafFirst ix l
+  pub first_of : (x : ℕ) → x ≡ get_or leaves (4 * w + 1) 0 → x ≡ leaf_first ix l
   first_of x f = f ∙ word-is 1
 
-  pub number_of : (x : ℕ) → x ≡ get_or leaves (4 * w + 2) 0 → x ≡ leafNumber ix l
+  pub number_of : (x : ℕ) → x ≡ get_or leaves (4 * w + 2) 0 → x ≡ leaf_number ix l
   number_of x f = f ∙ word-is 2
 
-  pub field-known : (x : ℕ) → x ≡ get_or leaves (4 * w) 0 → l < leafCount ix → x < fieldCount ix
-  field-known x f h = subst (λ (z : ℕ). z < fieldCount ix) (sym (field_of x f)) (e.field-lent.accepted.leaf l h).field
+  pub field-known : (x : ℕ) → x ≡ get_or leaves (4 * w) 0 → l < leaf_count ix → x < field_count ix
+  field-known x f h = subst (λ (z : ℕ). z < field_count ix) (sym (field_of x f)) (e.field-lent.accepted.leaf l h).field

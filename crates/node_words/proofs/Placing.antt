@@ -9,22 +9,22 @@ use native.Mathlib.Numerals.{add-one}
 use lib.Dec.{T}
 use lib.ListN.{length, get_or, set, take, drop, length-append, length-take, length-drop}
 use lib.Ieee.{Float, binary32, fits, to_bits}
-use Rattle.meaning.specs.Limits.{nodeStateWords}
-use Rattle.meaning.specs.Lent.{Index, leafFirst, leafNumber, leafField}
+use Rattle.meaning.specs.Limits.{node_state_words}
+use Rattle.meaning.specs.Lent.{Index, leaf_first, leaf_number, leaf_field}
 use Rattle.meaning.specs.Query.{range_of}
-use Rattle.meaning.specs.Ieee754.{zeroFloat}
+use Rattle.meaning.specs.Ieee754.{zero_float}
 use Rattle.ieee754.specs.Nonneg.{AtMost}
 use Rattle.ieee754.proofs.Bounds.{zero-atmost}
-use Rattle.weight.specs.ScorerTree.{Leaf, nothing, term, range, everything, Scoring, constant, Scorer, leaf, leafMatches}
-use Rattle.weight.specs.State.{State, words_of, leafSize, size_of}
-use Rattle.weight.specs.Weigh.{noScorer}
-use Rattle.weight.specs.Held.{ScoringIs, FloatIs, normsWord, Ok}
+use Rattle.weight.specs.ScorerTree.{Leaf, nothing, term, range, everything, Scoring, constant, Scorer, leaf, leaf_matches}
+use Rattle.weight.specs.State.{State, words_of, leaf_size, size_of}
+use Rattle.weight.specs.Weigh.{no_scorer}
+use Rattle.weight.specs.Held.{ScoringIs, FloatIs, norms_word, Ok}
 use Rattle.window_words.specs.Windowed.{nowhere, LeafWindowed, Windowed}
 use Rattle.window_words.proofs.Laws.{windowed-ok}
 use Rattle.window_words.proofs.Unasked.{unasked-stored, unasked-term}
 use Rattle.weight.specs.Measured.{RangeListed}
-use Rattle.bits.specs.Bit.{bitmapWords}
-use Rattle.node_words.specs.Placed.{Placed, scoringOf}
+use Rattle.bits.specs.Bit.{bitmap_words}
+use Rattle.node_words.specs.Placed.{Placed, scoring_of}
 use lib.Seq.{take-suc, drop-cons, set-append_seam, take_all}
 
 -- ---- one word more of a record
@@ -48,11 +48,11 @@ put-long words st₀ st i h g e =
     let s = ap length e in
     omega (arith, a, b, d, s, h, g)
 
-pub put_all : (words st₀ st : List ℕ) (i : ℕ) → i ≡ nodeStateWords → length words ≡ nodeStateWords → st ≡ take i words ++ drop i st₀ → st ≡ words ++ drop nodeStateWords st₀
-put_all words st₀ st i h g e = e ∙ ap (λ (n : ℕ). take n words ++ drop n st₀) h ∙ ap (λ (z : List ℕ). z ++ drop nodeStateWords st₀) (take_all nodeStateWords words (omega (arith, g)))
+pub put_all : (words st₀ st : List ℕ) (i : ℕ) → i ≡ node_state_words → length words ≡ node_state_words → st ≡ take i words ++ drop i st₀ → st ≡ words ++ drop node_state_words st₀
+put_all words st₀ st i h g e = e ∙ ap (λ (n : ℕ). take n words ++ drop n st₀) h ∙ ap (λ (z : List ℕ). z ++ drop node_state_words st₀) (take_all node_state_words words (omega (arith, g)))
 
-pub put_same : (words st₀ st : List ℕ) → st ≡ words ++ drop nodeStateWords st₀ → length words ≡ nodeStateWords → nodeStateWords ≤ length st₀ → length st ≡ length st₀
-put_same words st₀ st e f h = let a = ap length e ∙ length-append words (drop nodeStateWords st₀) in let d = length-drop nodeStateWords st₀ in omega (arith, a, d, f, h)
+pub put_same : (words st₀ st : List ℕ) → st ≡ words ++ drop node_state_words st₀ → length words ≡ node_state_words → node_state_words ≤ length st₀ → length st ≡ length st₀
+put_same words st₀ st e f h = let a = ap length e ∙ length-append words (drop node_state_words st₀) in let d = length-drop node_state_words st₀ in omega (arith, a, d, f, h)
 
 pub score-is : (x : Float) → T (fits binary32 x) → AtMost (2 ^ 29) x → FloatIs x (to_bits binary32 x)
 score-is x f a = record { held = f; small = a; bits_are = refl }
@@ -63,49 +63,49 @@ placed-ok ix ranges s d scores r words p = windowed-ok ix ranges s d scores (tak
 
 -- ---- a leaf's part
 -- the words of a leaf's record; the others are 0
-abbrev pub leafState : ℕ → ℕ → ℕ → ℕ → ℕ → ℕ → ℕ → ℕ → ℕ → ℕ → State
-leafState kind cached first number offset field fixed weight scores norms =
-    record { kind = kind; size = nodeStateWords; cached = cached; need = 0; requiredEnd = 0; optionalEnd = 0; first = first; number = number; cursor = 0; offset = offset; field = field; constant = fixed; weight = weight; afterwards = 0; groupAt = 0; scores = scores; frequencyOf = 0; frequency = 0; norms = norms; windowFirst = 0; windowLow = 0; windowHigh = 0; windowNext = 0; onesLow = 0; onesHigh = 0; twosLow = 0; twosHigh = 0; spare1 = 0; spare2 = 0; spare3 = 0; spare4 = 0; spare5 = 0 }
+abbrev pub leaf_state : ℕ → ℕ → ℕ → ℕ → ℕ → ℕ → ℕ → ℕ → ℕ → ℕ → State
+leaf_state kind cached first number offset field fixed weight scores norms =
+    record { kind = kind; size = node_state_words; cached = cached; need = 0; required_end = 0; optional_end = 0; first = first; number = number; cursor = 0; offset = offset; field = field; constant = fixed; weight = weight; afterwards = 0; group_at = 0; scores = scores; frequency_of = 0; frequency = 0; norms = norms; window_first = 0; window_low = 0; window_high = 0; window_next = 0; ones_low = 0; ones_high = 0; twos_low = 0; twos_high = 0; spare1 = 0; spare2 = 0; spare3 = 0; spare4 = 0; spare5 = 0 }
 
-pub scored : (x : Float) (bits : ℕ) → FloatIs x bits → (b : Bool) (s : State) → s.constant ≡ cond b 1 0 → s.weight ≡ bits → ScoringIs (scoringOf b x) s
+pub scored : (x : Float) (bits : ℕ) → FloatIs x bits → (b : Bool) (s : State) → s.constant ≡ cond b 1 0 → s.weight ≡ bits → ScoringIs (scoring_of b x) s
 unfolding ScoringIs
 scored x bits is true s e f = (e, rw f is)
 scored x bits is false s e f = (e, rw f is)
 
-module _ (ix : Index) (ranges st₀ st : List ℕ) (d scores : ℕ) (room : nodeStateWords ≤ length st₀) where
-  record-long : (s : State) → st ≡ words_of s ++ drop nodeStateWords st₀ → nodeStateWords ≤ length st
-  record-long s e = let a = ap length e ∙ length-append (words_of s) (drop nodeStateWords st₀) in omega (arith, a)
+module _ (ix : Index) (ranges st₀ st : List ℕ) (d scores : ℕ) (room : node_state_words ≤ length st₀) where
+  record-long : (s : State) → st ≡ words_of s ++ drop node_state_words st₀ → node_state_words ≤ length st
+  record-long s e = let a = ap length e ∙ length-append (words_of s) (drop node_state_words st₀) in omega (arith, a)
 
-  pub placed-leaf : (l : Leaf) (sc : Scoring) (s : State) → st ≡ words_of s ++ drop nodeStateWords st₀ → nodeStateWords ≡ leafSize l → s.scores ≡ scores → LeafWindowed ix ranges l s [] 0 0 nowhere → ScoringIs sc s → Placed ix ranges (leaf l sc) d scores nodeStateWords st
+  pub placed-leaf : (l : Leaf) (sc : Scoring) (s : State) → st ≡ words_of s ++ drop node_state_words st₀ → node_state_words ≡ leaf_size l → s.scores ≡ scores → LeafWindowed ix ranges l s [] 0 0 nowhere → ScoringIs sc s → Placed ix ranges (leaf l sc) d scores node_state_words st
   unfolding size_of Windowed
   placed-leaf l sc s e size scored is scoring =
       record {
         size_is = size;
         within = record-long s e;
-        held = (s, [], ap (take nodeStateWords) e, scored, is, scoring, unasked-stored (leafMatches ix l) s 0);
+        held = (s, [], ap (take node_state_words) e, scored, is, scoring, unasked-stored (leaf_matches ix l) s 0);
       }
 
-  pub placed-nothing : st ≡ words_of (leafState 0 2147483648 0 0 0 0 1 0 scores 0) ++ drop nodeStateWords st₀ → Placed ix ranges noScorer d scores nodeStateWords st
-  unfolding leafSize LeafWindowed ScoringIs fits to_bits
+  pub placed-nothing : st ≡ words_of (leaf_state 0 2147483648 0 0 0 0 1 0 scores 0) ++ drop node_state_words st₀ → Placed ix ranges no_scorer d scores node_state_words st
+  unfolding leaf_size LeafWindowed ScoringIs fits to_bits
   placed-nothing e =
-      placed-leaf nothing (constant zeroFloat) (leafState 0 2147483648 0 0 0 0 1 0 scores 0) e refl refl (refl, refl, refl, refl) (refl, record { held = tt; small = zero-atmost (2 ^ 29); bits_are = refl })
+      placed-leaf nothing (constant zero_float) (leaf_state 0 2147483648 0 0 0 0 1 0 scores 0) e refl refl (refl, refl, refl, refl) (refl, record { held = tt; small = zero-atmost (2 ^ 29); bits_are = refl })
 
   module _ (x : Float) (bits : ℕ) (is : FloatIs x bits) where
-    pub placed-everything : st ≡ words_of (leafState 5 0 0 0 0 0 1 bits scores 0) ++ drop nodeStateWords st₀ → Placed ix ranges (leaf everything (constant x)) d scores nodeStateWords st
-    unfolding leafSize LeafWindowed ScoringIs
+    pub placed-everything : st ≡ words_of (leaf_state 5 0 0 0 0 0 1 bits scores 0) ++ drop node_state_words st₀ → Placed ix ranges (leaf everything (constant x)) d scores node_state_words st
+    unfolding leaf_size LeafWindowed ScoringIs
     placed-everything e =
-        placed-leaf everything (constant x) (leafState 5 0 0 0 0 0 1 bits scores 0) e refl refl (refl, refl, refl, refl) (refl, is)
+        placed-leaf everything (constant x) (leaf_state 5 0 0 0 0 0 1 bits scores 0) e refl refl (refl, refl, refl, refl) (refl, is)
 
-    pub placed-range : (q : List ℕ) (at first number count : ℕ) → number ≡ bitmapWords ix.maxDoc → RangeListed ix q ranges at first count → st ≡ words_of (leafState 4 0 first number 0 0 1 bits scores 0) ++ drop nodeStateWords st₀ → Placed ix ranges (leaf (range (range_of q at)) (constant x)) d scores nodeStateWords st
-    unfolding leafSize LeafWindowed ScoringIs
+    pub placed-range : (q : List ℕ) (at first number count : ℕ) → number ≡ bitmap_words ix.max_doc → RangeListed ix q ranges at first count → st ≡ words_of (leaf_state 4 0 first number 0 0 1 bits scores 0) ++ drop node_state_words st₀ → Placed ix ranges (leaf (range (range_of q at)) (constant x)) d scores node_state_words st
+    unfolding leaf_size LeafWindowed ScoringIs
     placed-range q at first number count words listed e =
-        placed-leaf (range (range_of q at)) (constant x) (leafState 4 0 first number 0 0 1 bits scores 0) e refl refl
+        placed-leaf (range (range_of q at)) (constant x) (leaf_state 4 0 first number 0 0 1 bits scores 0) e refl refl
         (record { kind-is = refl; size_is = refl; number_is = words; there = omega (arith, listed.there, words); bits = λ i p h. listed.bits i p (omega (arith, h, words)) }, refl, refl)
         (refl, is)
 
-    pub placed-term : (b : Bool) (l fixed first number field norms : ℕ) → fixed ≡ cond b 1 0 → first ≡ leafFirst ix l → number ≡ leafNumber ix l → field ≡ leafField ix l → norms ≡ normsWord ix field → st ≡ words_of (leafState 1 0 first number 0 field fixed bits scores norms) ++ drop nodeStateWords st₀ → Placed ix ranges (leaf (term l) (scoringOf b x)) d scores nodeStateWords st
-    unfolding leafSize LeafWindowed
+    pub placed-term : (b : Bool) (l fixed first number field norms : ℕ) → fixed ≡ cond b 1 0 → first ≡ leaf_first ix l → number ≡ leaf_number ix l → field ≡ leaf_field ix l → norms ≡ norms_word ix field → st ≡ words_of (leaf_state 1 0 first number 0 field fixed bits scores norms) ++ drop node_state_words st₀ → Placed ix ranges (leaf (term l) (scoring_of b x)) d scores node_state_words st
+    unfolding leaf_size LeafWindowed
     placed-term b l fixed first number field norms k f n g m e =
-        placed-leaf (term l) (scoringOf b x) (leafState 1 0 first number 0 field fixed bits scores norms) e refl refl
-        (record { kind-is = refl; size_is = refl; first-is = f; number_is = n; field_is = g; norms-is = m ∙ ap (normsWord ix) g; run = record { within = omega arith; passed = λ i h. absurd (omega (arith, h)) } }, refl, refl, unasked-term ix l (leafState 1 0 first number 0 field fixed bits scores norms) 0)
-        (scored x bits is b (leafState 1 0 first number 0 field fixed bits scores norms) k refl)
+        placed-leaf (term l) (scoring_of b x) (leaf_state 1 0 first number 0 field fixed bits scores norms) e refl refl
+        (record { kind-is = refl; size_is = refl; first-is = f; number_is = n; field_is = g; norms-is = m ∙ ap (norms_word ix) g; run = record { within = omega arith; passed = λ i h. absurd (omega (arith, h)) } }, refl, refl, unasked-term ix l (leaf_state 1 0 first number 0 field fixed bits scores norms) 0)
+        (scored x bits is b (leaf_state 1 0 first number 0 field fixed bits scores norms) k refl)

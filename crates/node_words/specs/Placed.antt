@@ -1,7 +1,7 @@
 -- What the second pass writes, and what it needs to know of the index. Assumes nothing: these are definitions.
 use Rattle.std.specs.Prelude.{◌≡◌, Bool, true, false, cond, List, ◌++◌, ℕ, ◌≤◌, length, take, drop, Float}
 use Rattle.std.proofs.Math.Option.{Option, none, some}
-use Rattle.meaning.specs.Limits.{nodeStateWords}
+use Rattle.meaning.specs.Limits.{node_state_words}
 use Rattle.meaning.specs.Lent.{Index}
 use Rattle.meaning.specs.Phrase.{PhraseTerm}
 use Rattle.index.specs.Accepted.{Accepted}
@@ -17,14 +17,14 @@ pub record Placed (ix : Index) (ranges : List ℕ) (s : Scorer) (depth scores r 
   pub held : Windowed ix ranges s depth scores (take r words) 0 0 nowhere
 
 -- the same score for each document, or BM25 at this weight
-abbrev pub scoringOf : Bool → Float → Scoring
-scoringOf true x = constant x
-scoringOf false x = weighted x
+abbrev pub scoring_of : Bool → Float → Scoring
+scoring_of true x = constant x
+scoring_of false x = weighted x
 
 -- an accepted index whose N and fields are those lent
 pub record FieldLent (ix : Index) (n : ℕ) (fields : List ℕ) : Type 0 where
   pub accepted : Accepted ix
-  pub documents : ix.maxDoc ≡ n
+  pub documents : ix.max_doc ≡ n
   pub fields-are : ix.fields ≡ fields
 
 -- its leaves too
@@ -32,17 +32,17 @@ pub record LeafLent (ix : Index) (n : ℕ) (fields leaves : List ℕ) : Type 0 w
   pub field-lent : FieldLent ix n fields
   pub leaves-are : ix.leaves ≡ leaves
 
--- a record of a phrase's term stands in the first `nodeStateWords` words, and the others are as they were
+-- a record of a phrase's term stands in the first `node_state_words` words, and the others are as they were
 abbrev pub PhraseTermPlaced : Index → PhraseTerm → List ℕ → List ℕ → Type 0
 PhraseTermPlaced ix t before after =
-    (s : State) × (after ≡ words_of s ++ drop nodeStateWords before) × TermIs ix 9 t.leaf s 0 × (s.offset ≡ t.offset)
+    (s : State) × (after ≡ words_of s ++ drop node_state_words before) × TermIs ix 9 t.leaf s 0 × (s.offset ≡ t.offset)
 
 -- the score that a node has already, if any
-abbrev pub keptOf : Bool → Float → Option Float
-keptOf true x = some x
-keptOf false x = none
+abbrev pub kept_of : Bool → Float → Option Float
+kept_of true x = some x
+kept_of false x = none
 
 -- a Boolean's record, not asked yet
-abbrev pub booleanState : ℕ → ℕ → ℕ → ℕ → Bool → ℕ → Bool → ℕ → ℕ → State
-booleanState size need requiredEnd optionalEnd fixed bits after groupAt scores =
-    record { kind = 3; size = size; cached = 0; need = need; requiredEnd = requiredEnd; optionalEnd = optionalEnd; first = 0; number = 0; cursor = 0; offset = 0; field = 0; constant = cond fixed 1 0; weight = bits; afterwards = cond after 1 0; groupAt = groupAt; scores = scores; frequencyOf = 0; frequency = 0; norms = 0; windowFirst = 0; windowLow = 0; windowHigh = 0; windowNext = 0; onesLow = 0; onesHigh = 0; twosLow = 0; twosHigh = 0; spare1 = 0; spare2 = 0; spare3 = 0; spare4 = 0; spare5 = 0 }
+abbrev pub boolean_state : ℕ → ℕ → ℕ → ℕ → Bool → ℕ → Bool → ℕ → ℕ → State
+boolean_state size need required_end optional_end fixed bits after group_at scores =
+    record { kind = 3; size = size; cached = 0; need = need; required_end = required_end; optional_end = optional_end; first = 0; number = 0; cursor = 0; offset = 0; field = 0; constant = cond fixed 1 0; weight = bits; afterwards = cond after 1 0; group_at = group_at; scores = scores; frequency_of = 0; frequency = 0; norms = 0; window_first = 0; window_low = 0; window_high = 0; window_next = 0; ones_low = 0; ones_high = 0; twos_low = 0; twos_high = 0; spare1 = 0; spare2 = 0; spare3 = 0; spare4 = 0; spare5 = 0 }

@@ -1,6 +1,6 @@
 // The words of a record without trees below it: Term, Phrase, Range, MatchAll, MatchNone.
 ghost use Rattle.std.specs.Prelude.{◌≡◌, cond, List, ℕ, length};
-ghost use Rattle.meaning.specs.Query.{recordKind};
+ghost use Rattle.meaning.specs.Query.{record_kind};
 ghost use Rattle.node_words.specs.Prepared.{records, TreePre, TreePost};
 
 use crate::place::{place_everything, place_nothing, place_phrase_at, place_range, place_term_at};
@@ -27,7 +27,7 @@ pub fn place_leaf(
     boost: f32,
     scores: u32,
 ) -> usize
-    requires fact { (recordKind q.now at ≡ 3 → ⊥) × (recordKind q.now at ≡ 6 → ⊥) × (recordKind q.now at ≡ 7 → ⊥) }
+    requires fact { (record_kind q.now at ≡ 3 → ⊥) × (record_kind q.now at ≡ 6 → ⊥) × (record_kind q.now at ≡ 7 → ⊥) }
     requires by_index { (nexts : List ℕ) × (costs : List ℕ) × (depth : ℕ) × TreePre (records q.now max_doc fields.now leaves.now nexts presents.now costs places.now) at fixed kept boost (length st.old) depth }
     ensures by_index_2 { (nexts costs : List ℕ) (depth : ℕ) → TreePost (records q.now max_doc fields.now leaves.now nexts presents.now costs places.now) at fixed kept boost (length st.old) depth scores result st.new }
     ensures st_len_unchanged { length st.new ≡ length st.old }

@@ -3,19 +3,19 @@ ghost use Rattle.std.specs.Prelude.{◌≡◌, cond, List, ◌++◌, ℕ, ◌+�
 ghost use Rattle.std.proofs.Math.Option.{some};
 ghost use Rattle.std.specs.Float.{binary32};
 ghost use Rattle.std.specs.Float.Ieee.{of_bits};
-ghost use Rattle.meaning.specs.Limits.{nodeStateWords};
-ghost use Rattle.meaning.specs.Lent.{Index, leafCount, leafIdf, fieldCount};
+ghost use Rattle.meaning.specs.Limits.{node_state_words};
+ghost use Rattle.meaning.specs.Lent.{Index, leaf_count, leaf_idf, field_count};
 ghost use Rattle.meaning.specs.Bm25.{weight};
-ghost use Rattle.meaning.specs.Score.{phraseIdf};
-ghost use Rattle.meaning.specs.Scorer.{hasScorer};
+ghost use Rattle.meaning.specs.Score.{phrase_idf};
+ghost use Rattle.meaning.specs.Scorer.{has_scorer};
 ghost use Rattle.index.specs.Accepted.{Accepted};
-ghost use Rattle.meaning.specs.Query.{recordCount, recordKind, Decoded, decode, recordChildren, recordValue, phraseTermsOf, range_of};
+ghost use Rattle.meaning.specs.Query.{record_count, record_kind, Decoded, decode, record_children, record_value, phrase_terms_of, range_of};
 ghost use Rattle.ieee754.specs.Nonneg.{AtMost};
 ghost use Rattle.weight.specs.ScorerTree.{Scorer, leaf, term, phrase, range, everything, constant};
-ghost use Rattle.weight.specs.Weigh.{weigh, noScorer};
-ghost use Rattle.weight.specs.Held.{TermsAre, normsWord};
+ghost use Rattle.weight.specs.Weigh.{weigh, no_scorer};
+ghost use Rattle.weight.specs.Held.{TermsAre, norms_word};
 ghost use Rattle.weight.specs.Measured.{Asks, RangeListed};
-ghost use Rattle.node_words.specs.Placed.{Placed, PhraseTermPlaced, scoringOf, keptOf, FieldLent, LeafLent};
+ghost use Rattle.node_words.specs.Placed.{Placed, PhraseTermPlaced, scoring_of, kept_of, FieldLent, LeafLent};
 
 use weight::NODE_STATE_WORDS;
 
@@ -24,8 +24,8 @@ const SIZE: u32 = NODE_STATE_WORDS as u32;
 
 // A node's record.
 pub fn put(st: &mut [u32], words: [u32; NODE_STATE_WORDS])
-    requires { nodeStateWords ≤ length st.old }
-    ensures { st.new ≡ words ++ drop nodeStateWords st.old }
+    requires { node_state_words ≤ length st.old }
+    ensures { st.new ≡ words ++ drop node_state_words st.old }
 {
     let mut i = 0;
     while i < NODE_STATE_WORDS {
@@ -36,8 +36,8 @@ pub fn put(st: &mut [u32], words: [u32; NODE_STATE_WORDS])
 
 // A node that matches nothing stands at the end from the start.
 pub fn place_nothing(st: &mut [u32], scores: u32) -> usize
-    requires { nodeStateWords ≤ length st.old }
-    ensures placed { (ix : Index) (ranges : List ℕ) (d : ℕ) → Placed ix ranges noScorer d scores result st.new }
+    requires { node_state_words ≤ length st.old }
+    ensures placed { (ix : Index) (ranges : List ℕ) (d : ℕ) → Placed ix ranges no_scorer d scores result st.new }
     ensures st_len_unchanged { length st.new ≡ length st.old }
 {
     put(
@@ -52,7 +52,7 @@ pub fn place_nothing(st: &mut [u32], scores: u32) -> usize
 
 // Every document, each with the same score.
 pub fn place_everything(st: &mut [u32], score: f32, scores: u32) -> usize
-    requires { (nodeStateWords ≤ length st.old) × AtMost (2 ^ 29) score }
+    requires { (node_state_words ≤ length st.old) × AtMost (2 ^ 29) score }
     ensures placed { (ix : Index) (ranges : List ℕ) (d : ℕ) → Placed ix ranges (leaf everything (constant score)) d scores result st.new }
     ensures st_len_unchanged { length st.new ≡ length st.old }
 {
@@ -69,8 +69,8 @@ pub fn place_everything(st: &mut [u32], score: f32, scores: u32) -> usize
 
 // The documents of a range, whose bitmap stands in the range buffer, each with the same score.
 pub fn place_range(st: &mut [u32], max_doc: u32, first: u32, score: f32, scores: u32) -> usize
-    requires { (nodeStateWords ≤ length st.old) × AtMost (2 ^ 29) score }
-    ensures placed { (ix : Index) (ranges q : List ℕ) (at count d : ℕ) → ix.maxDoc ≡ max_doc → RangeListed ix q ranges at first count → Placed ix ranges (leaf (range (range_of q at)) (constant score)) d scores result st.new }
+    requires { (node_state_words ≤ length st.old) × AtMost (2 ^ 29) score }
+    ensures placed { (ix : Index) (ranges q : List ℕ) (at count d : ℕ) → ix.max_doc ≡ max_doc → RangeListed ix q ranges at first count → Placed ix ranges (leaf (range (range_of q at)) (constant score)) d scores result st.new }
     ensures st_len_unchanged { length st.new ≡ length st.old }
 {
     let bits = f32::to_bits(score);
@@ -99,8 +99,8 @@ pub fn word(b: bool) -> u32
 
 // Where a field's norm bytes begin, + 1; 0 without norms.
 fn norms_word(max_doc: u32, fields: &[u32], field: u32) -> u32
-    requires { (ix : Index) × FieldLent ix max_doc fields.now × (field < fieldCount ix) }
-    ensures { (ix : Index) → FieldLent ix max_doc fields.now → result ≡ normsWord ix field }
+    requires { (ix : Index) × FieldLent ix max_doc fields.now × (field < field_count ix) }
+    ensures { (ix : Index) → FieldLent ix max_doc fields.now → result ≡ norms_word ix field }
 {
     let f = wide(field);
     if fields[3 * f + 1] != 1 {
@@ -120,9 +120,9 @@ fn place_term(
     score: f32,
     scores: u32,
 ) -> usize
-    requires node_state_words_in_bounds { (nodeStateWords ≤ length st.old) × AtMost (2 ^ 29) score }
-    requires leaf_lent { (ix : Index) × LeafLent ix max_doc fields.now leaves.now × (leaf < leafCount ix) }
-    ensures placed { (ix : Index) (ranges : List ℕ) (d : ℕ) → LeafLent ix max_doc fields.now leaves.now → Placed ix ranges (Scorer.leaf (term leaf) (scoringOf fixed score)) d scores result st.new }
+    requires node_state_words_in_bounds { (node_state_words ≤ length st.old) × AtMost (2 ^ 29) score }
+    requires leaf_lent { (ix : Index) × LeafLent ix max_doc fields.now leaves.now × (leaf < leaf_count ix) }
+    ensures placed { (ix : Index) (ranges : List ℕ) (d : ℕ) → LeafLent ix max_doc fields.now leaves.now → Placed ix ranges (Scorer.leaf (term leaf) (scoring_of fixed score)) d scores result st.new }
     ensures st_len_unchanged { length st.new ≡ length st.old }
 {
     let l = index::leaves::leaf_at(leaves, wide(leaf));
@@ -151,8 +151,8 @@ fn place_phrase_term(
     leaf: u32,
     offset: u32,
 )
-    requires node_state_words_in_bounds { nodeStateWords ≤ length st.old }
-    requires leaf_lent { (ix : Index) × LeafLent ix max_doc fields.now leaves.now × (leaf < leafCount ix) }
+    requires node_state_words_in_bounds { node_state_words ≤ length st.old }
+    requires leaf_lent { (ix : Index) × LeafLent ix max_doc fields.now leaves.now × (leaf < leaf_count ix) }
     ensures { (ix : Index) → LeafLent ix max_doc fields.now leaves.now → PhraseTermPlaced ix (record { leaf = leaf; offset = offset }) st.old st.new }
 {
     let l = index::leaves::leaf_at(leaves, wide(leaf));
@@ -171,9 +171,9 @@ fn place_phrase_term(
 
 // The terms of the phrase at `at`, in record order.
 fn place_terms(st: &mut [u32], q: &[u32], max_doc: u32, fields: &[u32], leaves: &[u32], at: usize)
-    requires at_in_bounds { (nodeStateWords * recordChildren q.now at ≤ length st.old) × (at + 1 + recordChildren q.now at ≤ recordCount q.now) × (recordChildren q.now at ≤ 32) }
-    requires leaf_lent { (ix : Index) × LeafLent ix max_doc fields.now leaves.now × ((j : ℕ) → j < recordChildren q.now at → recordValue q.now (at + 1 + j) 0 < leafCount ix) }
-    ensures terms_are { (ix : Index) → LeafLent ix max_doc fields.now leaves.now → TermsAre ix (phraseTermsOf q.now at) (take (nodeStateWords * recordChildren q.now at) st.new) 0 }
+    requires at_in_bounds { (node_state_words * record_children q.now at ≤ length st.old) × (at + 1 + record_children q.now at ≤ record_count q.now) × (record_children q.now at ≤ 32) }
+    requires leaf_lent { (ix : Index) × LeafLent ix max_doc fields.now leaves.now × ((j : ℕ) → j < record_children q.now at → record_value q.now (at + 1 + j) 0 < leaf_count ix) }
+    ensures terms_are { (ix : Index) → LeafLent ix max_doc fields.now leaves.now → TermsAre ix (phrase_terms_of q.now at) (take (node_state_words * record_children q.now at) st.new) 0 }
     ensures st_len_unchanged { length st.new ≡ length st.old }
 {
     let terms = wide(query::children(q, at));
@@ -205,9 +205,9 @@ fn place_phrase(
     score: f32,
     scores: u32,
 ) -> usize
-    requires at_in_bounds { (nodeStateWords + nodeStateWords * recordChildren q.now at ≤ length st.old) × (at + 1 + recordChildren q.now at ≤ recordCount q.now) × (recordChildren q.now at ≤ 32) × AtMost (2 ^ 29) score }
-    requires leaf_lent { (ix : Index) × LeafLent ix max_doc fields.now leaves.now × ((j : ℕ) → j < recordChildren q.now at → recordValue q.now (at + 1 + j) 0 < leafCount ix) × (recordValue q.now at 0 < fieldCount ix) }
-    ensures placed { (ix : Index) (ranges : List ℕ) (d : ℕ) → LeafLent ix max_doc fields.now leaves.now → Placed ix ranges (Scorer.leaf (phrase (recordValue q.now at 0) (phraseTermsOf q.now at)) (scoringOf fixed score)) d scores result st.new }
+    requires at_in_bounds { (node_state_words + node_state_words * record_children q.now at ≤ length st.old) × (at + 1 + record_children q.now at ≤ record_count q.now) × (record_children q.now at ≤ 32) × AtMost (2 ^ 29) score }
+    requires leaf_lent { (ix : Index) × LeafLent ix max_doc fields.now leaves.now × ((j : ℕ) → j < record_children q.now at → record_value q.now (at + 1 + j) 0 < leaf_count ix) × (record_value q.now at 0 < field_count ix) }
+    ensures placed { (ix : Index) (ranges : List ℕ) (d : ℕ) → LeafLent ix max_doc fields.now leaves.now → Placed ix ranges (Scorer.leaf (phrase (record_value q.now at 0) (phrase_terms_of q.now at)) (scoring_of fixed score)) d scores result st.new }
     ensures st_len_unchanged { length st.new ≡ length st.old }
 {
     let field = query::value(q, at, 0);
@@ -228,17 +228,17 @@ fn place_phrase(
 
 // A leaf's idf.
 fn idf_of(leaves: &[u32], leaf: u32) -> f32
-    requires { (ix : Index) × Accepted ix × (ix.leaves ≡ leaves.now) × (leaf < leafCount ix) }
-    ensures { (ix : Index) → ix.leaves ≡ leaves.now → result ≡ of_bits binary32 (leafIdf ix leaf) }
+    requires { (ix : Index) × Accepted ix × (ix.leaves ≡ leaves.now) × (leaf < leaf_count ix) }
+    ensures { (ix : Index) → ix.leaves ≡ leaves.now → result ≡ of_bits binary32 (leaf_idf ix leaf) }
 {
     f32::from_bits(leaves[4 * wide(leaf) + 3])
 }
 
 // A phrase's idf: its terms' added in f64 in record order, then narrowed.
 fn phrase_idf(q: &[u32], leaves: &[u32], at: usize) -> f32
-    requires at_bound { (at + 1 + recordChildren q.now at ≤ recordCount q.now) × (recordChildren q.now at ≤ 32) }
-    requires accepted { (ix : Index) × Accepted ix × (ix.leaves ≡ leaves.now) × ((j : ℕ) → j < recordChildren q.now at → recordValue q.now (at + 1 + j) 0 < leafCount ix) }
-    ensures { (ix : Index) → ix.leaves ≡ leaves.now → result ≡ phraseIdf ix (phraseTermsOf q.now at) }
+    requires at_bound { (at + 1 + record_children q.now at ≤ record_count q.now) × (record_children q.now at ≤ 32) }
+    requires accepted { (ix : Index) × Accepted ix × (ix.leaves ≡ leaves.now) × ((j : ℕ) → j < record_children q.now at → record_value q.now (at + 1 + j) 0 < leaf_count ix) }
+    ensures { (ix : Index) → ix.leaves ≡ leaves.now → result ≡ phrase_idf ix (phrase_terms_of q.now at) }
 {
     let terms = wide(query::children(q, at));
     let mut sum: f64 = 0.0;
@@ -275,9 +275,9 @@ pub fn place_term_at(
     boost: f32,
     scores: u32,
 ) -> usize
-    requires node_state_words_in_bounds { (nodeStateWords ≤ length st.old) × (at < recordCount q.now) × (recordKind q.now at ≡ 1) × AtMost (2 ^ 29) kept × AtMost (2 ^ 16) boost }
+    requires node_state_words_in_bounds { (node_state_words ≤ length st.old) × (at < record_count q.now) × (record_kind q.now at ≡ 1) × AtMost (2 ^ 29) kept × AtMost (2 ^ 16) boost }
     requires asks { (ix : Index) × Asks ix q.now × LeafLent ix max_doc fields.now leaves.now }
-    ensures placed { (ix : Index) (ranges : List ℕ) (d k : ℕ) (D : Decoded) → LeafLent ix max_doc fields.now leaves.now → decode q.now k at ≡ some D → present ≡ cond (hasScorer ix D.tree) 1 0 → Placed ix ranges (weigh ix D.tree boost (keptOf fixed kept)) d scores result st.new }
+    ensures placed { (ix : Index) (ranges : List ℕ) (d k : ℕ) (D : Decoded) → LeafLent ix max_doc fields.now leaves.now → decode q.now k at ≡ some D → present ≡ cond (has_scorer ix D.tree) 1 0 → Placed ix ranges (weigh ix D.tree boost (kept_of fixed kept)) d scores result st.new }
     ensures st_len_unchanged { length st.new ≡ length st.old }
 {
     if present == 0 {
@@ -303,9 +303,9 @@ pub fn place_phrase_at(
     boost: f32,
     scores: u32,
 ) -> usize
-    requires node_state_words_in_bounds { (nodeStateWords ≤ length st.old) × (present ≡ 1 → nodeStateWords + nodeStateWords * recordChildren q.now at ≤ length st.old) × (present ≤ 1) × (at < recordCount q.now) × (recordKind q.now at ≡ 2) × AtMost (2 ^ 29) kept × AtMost (2 ^ 16) boost }
+    requires node_state_words_in_bounds { (node_state_words ≤ length st.old) × (present ≡ 1 → node_state_words + node_state_words * record_children q.now at ≤ length st.old) × (present ≤ 1) × (at < record_count q.now) × (record_kind q.now at ≡ 2) × AtMost (2 ^ 29) kept × AtMost (2 ^ 16) boost }
     requires asks { (ix : Index) × Asks ix q.now × LeafLent ix max_doc fields.now leaves.now }
-    ensures placed { (ix : Index) (ranges : List ℕ) (d k : ℕ) (D : Decoded) → LeafLent ix max_doc fields.now leaves.now → decode q.now k at ≡ some D → present ≡ cond (hasScorer ix D.tree) 1 0 → Placed ix ranges (weigh ix D.tree boost (keptOf fixed kept)) d scores result st.new }
+    ensures placed { (ix : Index) (ranges : List ℕ) (d k : ℕ) (D : Decoded) → LeafLent ix max_doc fields.now leaves.now → decode q.now k at ≡ some D → present ≡ cond (has_scorer ix D.tree) 1 0 → Placed ix ranges (weigh ix D.tree boost (kept_of fixed kept)) d scores result st.new }
     ensures st_len_unchanged { length st.new ≡ length st.old }
 {
     if present == 0 {

@@ -4,12 +4,12 @@
 
 ghost use Rattle.std.specs.Prelude.{◌≡◌, ℕ, ◌+◌, ◌-◌, ◌*◌, ◌<◌, ◌≤◌, ◌^◌, min, length, get_or};
 ghost use Rattle.std.proofs.lemmas.List.Edits.{sets};
-ghost use Rattle.meaning.specs.Below.{countBelow, listTo};
-ghost use Rattle.meaning.specs.Lent.{fieldCount, hasNorms};
-ghost use Rattle.meaning.specs.SmallFloat.{intToByte4};
+ghost use Rattle.meaning.specs.Below.{count_below, list_to};
+ghost use Rattle.meaning.specs.Lent.{field_count, has_norms};
+ghost use Rattle.meaning.specs.SmallFloat.{int_to_byte4};
 ghost use Rattle.meaning.specs.Entries.{written};
-ghost use Rattle.index.specs.Slices.{fieldsOnly};
-ghost use Rattle.norm_writer.specs.Lengths.{inRun, lengthIn, before, normBytes, RunOk, RunsOk, cursorsAt};
+ghost use Rattle.index.specs.Slices.{fields_only};
+ghost use Rattle.norm_writer.specs.Lengths.{in_run, length_in, before, norm_bytes, RunOk, RunsOk, cursors_at};
 
 use index::postings::{posting_document, posting_frequency};
 use index::{fields, wide};
@@ -29,9 +29,9 @@ fn add_run(
     counts: &mut [u32],
 ) -> usize
     requires run_ok { RunOk postings.now first number × (from ≡ before postings.now first number base) × (base + length counts.old < 2 ^ 32) }
-    requires by_index { (j : ℕ) → j < length counts.old → get_or counts.old j 0 + inRun postings.now first number (base + j) < 2 ^ 32 }
+    requires by_index { (j : ℕ) → j < length counts.old → get_or counts.old j 0 + in_run postings.now first number (base + j) < 2 ^ 32 }
     ensures value { result ≡ before postings.now first number (base + length counts.old) }
-    ensures counts_after { counts.new ≡ listTo (length counts.old) (λ j. get_or counts.old j 0 + inRun postings.now first number (base + j)) }
+    ensures counts_after { counts.new ≡ list_to (length counts.old) (λ j. get_or counts.old j 0 + in_run postings.now first number (base + j)) }
 {
     let mut i = from;
     while i < number {
@@ -56,10 +56,10 @@ fn add_leaves(
     counts: &mut [u32],
 )
     requires runs_ok { RunsOk leaf_fields.now postings.now runs.now × (base + length counts.old < 2 ^ 32) }
-    requires cursors_value { cursors.old ≡ listTo 512 (cursorsAt leaf_fields.now postings.now runs.now field base) }
-    requires counts_value { counts.old ≡ listTo (length counts.old) (λ j. 0) }
-    ensures cursors_after { cursors.new ≡ listTo 512 (cursorsAt leaf_fields.now postings.now runs.now field (base + length counts.old)) }
-    ensures counts_after { counts.new ≡ listTo (length counts.old) (λ j. lengthIn leaf_fields.now postings.now runs.now field (base + j)) }
+    requires cursors_value { cursors.old ≡ list_to 512 (cursors_at leaf_fields.now postings.now runs.now field base) }
+    requires counts_value { counts.old ≡ list_to (length counts.old) (λ j. 0) }
+    ensures cursors_after { cursors.new ≡ list_to 512 (cursors_at leaf_fields.now postings.now runs.now field (base + length counts.old)) }
+    ensures counts_after { counts.new ≡ list_to (length counts.old) (λ j. length_in leaf_fields.now postings.now runs.now field (base + j)) }
 {
     let mut l = 0;
     while l < leaf_fields.len() {
@@ -81,7 +81,7 @@ fn add_leaves(
 fn code_lengths(lengths: &[u32], norms: &mut [u8], at: usize)
     requires lengths_in_bounds { at + length lengths.now ≤ length norms.old }
     requires by_index { (j : ℕ) → j < length lengths.now → get_or lengths.now j 0 ≤ 2147483647 }
-    ensures { norms.new ≡ sets norms.old at (listTo (length lengths.now) (λ j. intToByte4 (get_or lengths.now j 0))) }
+    ensures { norms.new ≡ sets norms.old at (list_to (length lengths.now) (λ j. int_to_byte4 (get_or lengths.now j 0))) }
 {
     let mut j = 0;
     while j < lengths.len() {
@@ -103,9 +103,9 @@ fn write_window(
     at: usize,
 )
     requires runs_ok { RunsOk leaf_fields.now postings.now runs.now × (base < max_doc) × (max_doc ≤ 1048576) × (at + max_doc ≤ length norms.old) }
-    requires cursors_value { cursors.old ≡ listTo 512 (cursorsAt leaf_fields.now postings.now runs.now field base) }
-    ensures cursors_after { cursors.new ≡ listTo 512 (cursorsAt leaf_fields.now postings.now runs.now field (base + 4096)) }
-    ensures norms_after { norms.new ≡ sets norms.old (at + base) (listTo (min 4096 (max_doc - base)) (λ j. intToByte4 (lengthIn leaf_fields.now postings.now runs.now field (base + j)))) }
+    requires cursors_value { cursors.old ≡ list_to 512 (cursors_at leaf_fields.now postings.now runs.now field base) }
+    ensures cursors_after { cursors.new ≡ list_to 512 (cursors_at leaf_fields.now postings.now runs.now field (base + 4096)) }
+    ensures norms_after { norms.new ≡ sets norms.old (at + base) (list_to (min 4096 (max_doc - base)) (λ j. int_to_byte4 (length_in leaf_fields.now postings.now runs.now field (base + j)))) }
 {
     let mut counts = [0u32; WINDOW];
     add_leaves(
@@ -136,7 +136,7 @@ fn write_field(
     at: usize,
 )
     requires { RunsOk leaf_fields.now postings.now runs.now × (max_doc ≤ 1048576) × (at + max_doc ≤ length norms.old) }
-    ensures { norms.new ≡ sets norms.old at (listTo max_doc (λ d. intToByte4 (lengthIn leaf_fields.now postings.now runs.now field d))) }
+    ensures { norms.new ≡ sets norms.old at (list_to max_doc (λ d. int_to_byte4 (length_in leaf_fields.now postings.now runs.now field d))) }
 {
     let mut cursors = [0usize; 512];
     let mut base = 0;
@@ -165,9 +165,9 @@ pub fn write_norms(
     runs: &[u32],
     norms: &mut [u8],
 )
-    requires runs_ok { RunsOk leaf_fields.now postings.now runs.now × (max_doc ≤ 1048576) × (fieldCount (fieldsOnly fields.now) ≤ 16) }
-    requires max_doc_in_bounds { countBelow (fieldCount (fieldsOnly fields.now)) (hasNorms (fieldsOnly fields.now)) * max_doc ≤ length norms.old }
-    ensures { norms.new ≡ written (normBytes max_doc fields.now leaf_fields.now postings.now runs.now) norms.old }
+    requires runs_ok { RunsOk leaf_fields.now postings.now runs.now × (max_doc ≤ 1048576) × (field_count (fields_only fields.now) ≤ 16) }
+    requires max_doc_in_bounds { count_below (field_count (fields_only fields.now)) (has_norms (fields_only fields.now)) * max_doc ≤ length norms.old }
+    ensures { norms.new ≡ written (norm_bytes max_doc fields.now leaf_fields.now postings.now runs.now) norms.old }
 {
     let mut at = 0;
     let mut f: u32 = 0;

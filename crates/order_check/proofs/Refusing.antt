@@ -8,12 +8,12 @@ use native.Mathlib.Nat.{eq-or-lt_of_le}
 use native.Mathlib.Omega.{arith}
 use lib.Dec.{lit<}
 use Rattle.meaning.specs.Lent.{Index}
-use Rattle.meaning.specs.Query.{recordCount, recordValue}
-use Rattle.meaning.specs.Limits.{maxRecords}
+use Rattle.meaning.specs.Query.{record_count, record_value}
+use Rattle.meaning.specs.Limits.{max_records}
 use Rattle.meaning.specs.Refusals.{Condition, ◌when◌, lowest}
 use Rattle.meaning.specs.QueryRefusals.{wrong7, wrong8, wrong9, wrong10}
-use Rattle.meaning.specs.Entries.{orderConditions}
-use Rattle.index.specs.Refusal.{indexRefusal}
+use Rattle.meaning.specs.Entries.{order_conditions}
+use Rattle.index.specs.Refusal.{index_refusal}
 use Rattle.index.proofs.Refused.{Numbered, lowest-none, lowest-some, index-accepted, index-refused}
 use Rattle.index.proofs.Accepted.{accepted-checked}
 use Rattle.query.specs.Read.{PhraseRuns}
@@ -61,17 +61,17 @@ module _ (ix : Index) (q : List ℕ) where
   from7 = (7 when wrong7 q) ∷ from8
 
   -- the index is refused, or the query decides
-  pub order-index : (r : ℕ) → r ≡ indexRefusal ix → (r ≡ 0 → ⊥) → r ≡ lowest (orderConditions ix q)
+  pub order-index : (r : ℕ) → r ≡ index_refusal ix → (r ≡ 0 → ⊥) → r ≡ lowest (order_conditions ix q)
   order-index r e h = e ∙ sym (index-refused ix from7 (subst (λ (i : ℕ). 0 < i) e (above_zero r h)))
 
-  pub order-query : (i : ℕ) → i ≡ indexRefusal ix → i ≡ 0 → (r : ℕ) → r ≡ lowest from7 → r ≡ lowest (orderConditions ix q)
+  pub order-query : (i : ℕ) → i ≡ index_refusal ix → i ≡ 0 → (r : ℕ) → r ≡ lowest from7 → r ≡ lowest (order_conditions ix q)
   order-query i d e r f = f ∙ sym (index-accepted ix from7 (sym d ∙ e))
 
   -- none of them holds
-  pub order-asks : lowest (orderConditions ix q) ≡ 0 → Asks ix q
-  order-asks e = ⊎_elim (λ z. go (sym z)) (λ l. absurd (omega (arith, l, index-refused ix from7 l, e))) (eq-or-lt_of_le {n = 0} {m = indexRefusal ix} (omega arith))
+  pub order-asks : lowest (order_conditions ix q) ≡ 0 → Asks ix q
+  order-asks e = ⊎_elim (λ z. go (sym z)) (λ l. absurd (omega (arith, l, index-refused ix from7 l, e))) (eq-or-lt_of_le {n = 0} {m = index_refusal ix} (omega arith))
     where
-      go : indexRefusal ix ≡ 0 → Asks ix q
+      go : index_refusal ix ≡ 0 → Asks ix q
       go z =
           let e7 : lowest from7 ≡ 0 = sym (index-accepted ix from7 z) ∙ e in
           let l7 = lowest-zero 7 (wrong7 q) from8 (lit< tt) e7 in
@@ -85,33 +85,33 @@ module _ (ix : Index) (q : List ℕ) where
             positions-right = (lowest-zero 10 (wrong10 ix q) [] (lit< tt) l9.1).0;
           }
 
-  pub order-checked : (r : ℕ) → r ≡ lowest (orderConditions ix q) → r ≡ 0 → Asks ix q
+  pub order-checked : (r : ℕ) → r ≡ lowest (order_conditions ix q) → r ≡ 0 → Asks ix q
   order-checked r o e = order-asks (sym o ∙ e)
 
-  order-numbered : Numbered (orderConditions ix q)
+  order-numbered : Numbered (order_conditions ix q)
   order-numbered = (lit< tt, (lit< tt, (lit< tt, (lit< tt, (lit< tt, (lit< tt, (lit< tt, (lit< tt, (lit< tt, (lit< tt, tt))))))))))
 
   -- with further conditions behind them
   module _ (ds : List Condition) where
-    pub order-refused : (r : ℕ) → r ≡ lowest (orderConditions ix q) → (r ≡ 0 → ⊥) → r ≡ lowest (orderConditions ix q ++ ds)
-    order-refused r e h = e ∙ sym (lowest-some (orderConditions ix q) ds (subst (λ (i : ℕ). 0 < i) e (above_zero r h)))
+    pub order-refused : (r : ℕ) → r ≡ lowest (order_conditions ix q) → (r ≡ 0 → ⊥) → r ≡ lowest (order_conditions ix q ++ ds)
+    order-refused r e h = e ∙ sym (lowest-some (order_conditions ix q) ds (subst (λ (i : ℕ). 0 < i) e (above_zero r h)))
 
-    pub order-passed : lowest (orderConditions ix q) ≡ 0 → (r : ℕ) → r ≡ lowest ds → r ≡ lowest (orderConditions ix q ++ ds)
-    order-passed e r f = f ∙ sym (lowest-none (orderConditions ix q) ds order-numbered e)
+    pub order-passed : lowest (order_conditions ix q) ≡ 0 → (r : ℕ) → r ≡ lowest ds → r ≡ lowest (order_conditions ix q ++ ds)
+    order-passed e r f = f ∙ sym (lowest-none (order_conditions ix q) ds order-numbered e)
 
-    pub order-accepted : lowest (orderConditions ix q ++ ds) ≡ 0 → (lowest (orderConditions ix q) ≡ 0) × (lowest ds ≡ 0)
+    pub order-accepted : lowest (order_conditions ix q ++ ds) ≡ 0 → (lowest (order_conditions ix q) ≡ 0) × (lowest ds ≡ 0)
     order-accepted e =
-        ⊎_elim (λ z. (sym z, sym (lowest-none (orderConditions ix q) ds order-numbered (sym z)) ∙ e))
-        (λ l. absurd (omega (arith, l, lowest-some (orderConditions ix q) ds l, e)))
-        (eq-or-lt_of_le {n = 0} {m = lowest (orderConditions ix q)} (omega arith))
+        ⊎_elim (λ z. (sym z, sym (lowest-none (order_conditions ix q) ds order-numbered (sym z)) ∙ e))
+        (λ l. absurd (omega (arith, l, lowest-some (order_conditions ix q) ds l, e)))
+        (eq-or-lt_of_le {n = 0} {m = lowest (order_conditions ix q)} (omega arith))
 
 -- ---- what the work's measures ask
 module _ (ix : Index) (n : ℕ) (leaves postings q : List ℕ) (h : QueryLent ix n leaves postings q) where
   pub query-runs : PhraseRuns q leaves postings
   query-runs = rw (← h.leaves-are, ← h.postings-are) record {
     present = λ r l k. (phrase-term-right ix q h.asks.values-right r l k).leaf-present;
-    within = λ r l k. (h.asks.accepted.leaf (recordValue q r 0) (phrase-term-right ix q h.asks.values-right r l k).leaf-present).run;
+    within = λ r l k. (h.asks.accepted.leaf (record_value q r 0) (phrase-term-right ix q h.asks.values-right r l k).leaf-present).run;
   }
 
-  pub query-few : recordCount q ≤ maxRecords
+  pub query-few : record_count q ≤ max_records
   query-few = (whole q h.asks.records-right).few-records

@@ -6,11 +6,11 @@ use Rattle.weight.specs.Measured.{Asks}
 
 -- the lengths of the work buffers: node states, two phrase buffers, the range buffer
 abbrev pub work : ℕ → ℕ → ℕ → ℕ → Work
-work states starts otherStarts ranges = record { states = states; starts = starts; otherStarts = otherStarts; ranges = ranges }
+work states starts other_starts ranges = record { states = states; starts = starts; other_starts = other_starts; ranges = ranges }
 
 -- an accepted index and query, whose N, leaves and postings are those lent
 pub record QueryLent (ix : Index) (n : ℕ) (leaves postings q : List ℕ) : Type 0 where
   pub asks : Asks ix q
-  pub documents : ix.maxDoc ≡ n
+  pub documents : ix.max_doc ≡ n
   pub leaves-are : ix.leaves ≡ leaves
   pub postings-are : ix.postings ≡ postings

@@ -4,8 +4,8 @@
 ghost use Rattle.std.specs.Prelude.{◌≡◌, ℕ};
 ghost use Rattle.meaning.specs.Lent.{Index};
 ghost use Rattle.meaning.specs.Refusals.{lowest};
-ghost use Rattle.meaning.specs.CallRefusals.{startsShort, workShort};
-ghost use Rattle.meaning.specs.Entries.{orderConditions, searchRefusal, pageRefusal};
+ghost use Rattle.meaning.specs.CallRefusals.{starts_short, work_short};
+ghost use Rattle.meaning.specs.Entries.{order_conditions, search_refusal, page_refusal};
 ghost use Rattle.index.specs.Slices.{lent};
 ghost use Rattle.order_check.specs.Lends.{work, QueryLent};
 
@@ -22,7 +22,7 @@ pub fn check_order(
     values: &[u32],
     q: &[u32],
 ) -> u32
-    ensures { result ≡ lowest (orderConditions (lent max_doc fields.now leaves.now postings.now positions.now norms.now live.now columns.now values.now) q.now) }
+    ensures { result ≡ lowest (order_conditions (lent max_doc fields.now leaves.now postings.now positions.now norms.now live.now columns.now values.now) q.now) }
 {
     let refusal = index_check::check_index(
         max_doc, fields, leaves, postings, positions, norms, live, columns, values,
@@ -42,7 +42,7 @@ pub fn starts_short(
     other_starts: usize,
 ) -> bool
     requires { (ix : Index) × (n : ℕ) × QueryLent ix n leaves.now postings.now q.now }
-    ensures { (ix : Index) (n : ℕ) → QueryLent ix n leaves.now postings.now q.now → result ≡ startsShort ix q.now (work 0 starts other_starts 0) }
+    ensures { (ix : Index) (n : ℕ) → QueryLent ix n leaves.now postings.now q.now → result ≡ starts_short ix q.now (work 0 starts other_starts 0) }
 {
     let needed = query_check::buffers::starts_needed(q, leaves, postings) as usize;
     if starts < needed {
@@ -63,7 +63,7 @@ pub fn work_short(
     ranges: usize,
 ) -> bool
     requires { (ix : Index) × QueryLent ix max_doc leaves.now postings.now q.now }
-    ensures { (ix : Index) → QueryLent ix max_doc leaves.now postings.now q.now → result ≡ workShort ix q.now (work states starts other_starts ranges) }
+    ensures { (ix : Index) → QueryLent ix max_doc leaves.now postings.now q.now → result ≡ work_short ix q.now (work states starts other_starts ranges) }
 {
     if (states as u64) < query_check::buffers::states_needed(q) {
         return true;
@@ -93,7 +93,7 @@ pub fn search_refusal(
     ranges: usize,
     places: usize,
 ) -> u32
-    ensures { result ≡ searchRefusal (lent max_doc fields.now leaves.now postings.now positions.now norms.now live.now columns.now values.now) q.now k (work states starts other_starts ranges) places }
+    ensures { result ≡ search_refusal (lent max_doc fields.now leaves.now postings.now positions.now norms.now live.now columns.now values.now) q.now k (work states starts other_starts ranges) places }
 {
     let refusal = check_order(
         max_doc, fields, leaves, postings, positions, norms, live, columns, values, q,
@@ -145,7 +145,7 @@ pub fn page_refusal(
     documents: usize,
     scores: usize,
 ) -> u32
-    ensures { result ≡ pageRefusal (lent max_doc fields.now leaves.now postings.now positions.now norms.now live.now columns.now values.now) q.now target (work states starts other_starts ranges) documents scores }
+    ensures { result ≡ page_refusal (lent max_doc fields.now leaves.now postings.now positions.now norms.now live.now columns.now values.now) q.now target (work states starts other_starts ranges) documents scores }
 {
     let refusal = check_order(
         max_doc, fields, leaves, postings, positions, norms, live, columns, values, q,

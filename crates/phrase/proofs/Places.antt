@@ -7,7 +7,7 @@ use native.Mathlib.Omega.{arith}
 use lib.Dec.{T}
 use lib.IntN.{ℤ, pos}
 use lib.ListN.{length, get_or}
-use Rattle.meaning.specs.Phrase.{eqℤ, multiplicity, smallest, commonSize}
+use Rattle.meaning.specs.Phrase.{eqℤ, multiplicity, smallest, common_size}
 use Rattle.meaning.proofs.Phrases.{eqℤ-refl, start-common}
 use Rattle.phrase.specs.declared.Placed.{Placed}
 use Rattle.phrase.specs.declared.Placed.TheVariants.{At, Nothing}
@@ -28,7 +28,7 @@ pub first-common : (xss : List (List ℤ)) (zs : List ℤ) → Common xss zs →
 first-common xss zs k h = subst (λ (n : ℕ). 0 < n) (k.counts (get_or zs 0 (pos 0))) (first-there zs h)
 
 -- a start is given only where the common part is not empty, so where it is empty the answer is Nothing
-pub nothing-without : (xss : List (List ℤ)) (r : Placed) → PlacedIn xss r → commonSize xss ≡ 0 → r ≡ Nothing
+pub nothing-without : (xss : List (List ℤ)) (r : Placed) → PlacedIn xss r → common_size xss ≡ 0 → r ≡ Nothing
 unfolding PlacedIn
 nothing-without xss Nothing p e = refl
 nothing-without xss (At s) p e = let h = start-common s xss p in absurd (omega (arith, h, e))

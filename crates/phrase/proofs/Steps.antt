@@ -9,9 +9,9 @@ use lib.Dec.{T, eqb, eqb→eq}
 use lib.IntN.{ℤ}
 use lib.ListN.{length, drop}
 use Rattle.meaning.specs.Phrase.{multiplicity, smallest}
-use Rattle.phrase_starts.specs.Terms.{termAt, startsOf, startLists, Good}
+use Rattle.phrase_starts.specs.Terms.{term_at, starts_of, start_lists, Good}
 use Rattle.phrase_starts.specs.Common.{Ascending, Common}
-use Rattle.phrase.specs.Step.{Held, unmetFrom, Candidates, Left, Meets}
+use Rattle.phrase.specs.Step.{Held, unmet_from, Candidates, Left, Meets}
 use Rattle.phrase_starts.proofs.Records.{lists_at, lists-end, lists-some, smallest-at}
 
 -- ---- the common part of lists
@@ -43,7 +43,7 @@ left_end ps ts at cs e a =
     }
 
 pub left-none : (ps ts : List ℕ) (at : ℕ) (cs : List ℤ) → length cs ≡ 0 → Left ps ts at cs cs
-left-none ps ts at [] e = record { common = common-none (startLists ps (drop at ts)); no_more = omega arith }
+left-none ps ts at [] e = record { common = common-none (start_lists ps (drop at ts)); no_more = omega arith }
 left-none ps ts at (c ∷ cs) e = absurd (omega (arith, e))
 
 none-same : (ms zs : List ℤ) → length ms ≡ 0 → length zs ≡ 0 → ms ≡ zs
@@ -53,24 +53,24 @@ none-same [] (z ∷ zs) e f = absurd (omega (arith, f))
 
 -- ---- the next record to meet
 module _ (ps ts : List ℕ) (r : ℕ) (cs : List ℤ) (k : Held ps ts r cs) (at : ℕ) (w : at % 3 ≡ 0) (h : at ≤ length ts) where
-  pub unmet-start : unmetFrom r at % 3 ≡ 0
-  unfolding unmetFrom
+  pub unmet-start : unmet_from r at % 3 ≡ 0
+  unfolding unmet_from
   unmet-start = go (eqb at r)
     where
       go : (b : Bool) → cond b (at + 3) at % 3 ≡ 0
       go true = omega (arith, w)
       go false = w
 
-  pub unmet-not-past : unmetFrom r at ≤ length ts
-  unfolding unmetFrom
+  pub unmet-not-past : unmet_from r at ≤ length ts
+  unfolding unmet_from
   unmet-not-past = go (eqb at r) (eqb→eq at r)
     where
       go : (b : Bool) → (T b → at ≡ r) → cond b (at + 3) at ≤ length ts
       go true e = let q = e tt in omega (arith, q, k.good.whole, k.rarest-there, k.rarest-start)
       go false e = h
 
-  unmet-not-before : at ≤ unmetFrom r at
-  unfolding unmetFrom
+  unmet-not-before : at ≤ unmet_from r at
+  unfolding unmet_from
   unmet-not-before = go (eqb at r)
     where
       go : (b : Bool) → at ≤ cond b (at + 3) at
@@ -78,8 +78,8 @@ module _ (ps ts : List ℕ) (r : ℕ) (cs : List ℤ) (k : Held ps ts r cs) (at 
       go false = omega arith
 
   -- the rarest term takes none of its own starts away
-  pub left-unmet : (zs : List ℤ) → Left ps ts (unmetFrom r at) cs zs → Left ps ts at cs zs
-  unfolding unmetFrom
+  pub left-unmet : (zs : List ℤ) → Left ps ts (unmet_from r at) cs zs → Left ps ts at cs zs
+  unfolding unmet_from
   left-unmet zs l = go (eqb at r) (eqb→eq at r) l
     where
       go : (b : Bool) → (T b → at ≡ r) → Left ps ts (cond b (at + 3) at) cs zs → Left ps ts at cs zs
@@ -87,7 +87,7 @@ module _ (ps ts : List ℕ) (r : ℕ) (cs : List ℤ) (k : Held ps ts r cs) (at 
           let q = e tt in
           let there : at + 2 < length ts = omega (arith, q, k.good.whole, k.rarest-there, k.rarest-start) in
           record {
-            common = rw (lists_at ps ts at there) (common-skipped cs (startsOf ps (termAt ts at)) (startLists ps (drop (at + 3) ts)) zs (subst (λ (n : ℕ). (s : ℤ) → multiplicity s cs ≤ multiplicity s (startsOf ps (termAt ts n))) (sym q) k.of-the-rarest) m.common);
+            common = rw (lists_at ps ts at there) (common-skipped cs (starts_of ps (term_at ts at)) (start_lists ps (drop (at + 3) ts)) zs (subst (λ (n : ℕ). (s : ℤ) → multiplicity s cs ≤ multiplicity s (starts_of ps (term_at ts n))) (sym q) k.of-the-rarest) m.common);
             no_more = m.no_more;
           }
       go false e m = m
@@ -98,7 +98,7 @@ module _ (ps ts : List ℕ) (r at : ℕ) (cs : List ℤ) (places : ℕ) (c : Can
   pub record-there : at + 2 < length ts
   record-there = omega (arith, c.held.good.whole, c.record-start, c.there)
 
-  module _ (ms : List ℤ) (m : Common (cs ∷ startsOf ps (termAt ts at) ∷ []) ms) (few : length ms ≤ length cs) where
+  module _ (ms : List ℤ) (m : Common (cs ∷ starts_of ps (term_at ts at) ∷ []) ms) (few : length ms ≤ length cs) where
     held-met : Held ps ts r ms
     unfolding smallest
     held-met =
@@ -120,12 +120,12 @@ module _ (ps ts : List ℕ) (r at : ℕ) (cs : List ℤ) (places : ℕ) (c : Can
     left-met : (zs : List ℤ) → Left ps ts (at + 3) ms zs → Left ps ts at cs zs
     left-met zs l =
         record {
-          common = rw (lists_at ps ts at record-there) (common-met cs (startsOf ps (termAt ts at)) ms (startLists ps (drop (at + 3) ts)) zs m l.common);
+          common = rw (lists_at ps ts at record-there) (common-met cs (starts_of ps (term_at ts at)) ms (start_lists ps (drop (at + 3) ts)) zs m l.common);
           no_more = le_trans l.no_more few;
         }
 
     -- the other terms are still to be met
-    pub meets : Meets ps ts r at cs ms (unmetFrom r (at + 3))
+    pub meets : Meets ps ts r at cs ms (unmet_from r (at + 3))
     meets =
         record {
           rising = m.rising;
@@ -164,8 +164,8 @@ smallest-among s xs [] h k = absurd (omega (arith, h))
 smallest-among s xs (ys ∷ yss) h k = omega (arith, k)
 
 -- what all terms leave of one term's starts is the common part of all
-pub left-of-all : (ps ts : List ℕ) (r : ℕ) (zs : List ℤ) → Good ps ts → r % 3 ≡ 0 → r < length ts → Left ps ts 0 (startsOf ps (termAt ts r)) zs → Common (startLists ps ts) zs
+pub left-of-all : (ps ts : List ℕ) (r : ℕ) (zs : List ℤ) → Good ps ts → r % 3 ≡ 0 → r < length ts → Left ps ts 0 (starts_of ps (term_at ts r)) zs → Common (start_lists ps ts) zs
 left-of-all ps ts r zs g e h l = record {
-  counts = λ s. (let a = smallest-among s (startsOf ps (termAt ts r)) (startLists ps ts) (lists-some ps ts g.whole g.some) (smallest-at s ps ts r g.whole e h) in let b = l.common.counts s in omega (arith, a, b));
+  counts = λ s. (let a = smallest-among s (starts_of ps (term_at ts r)) (start_lists ps ts) (lists-some ps ts g.whole g.some) (smallest-at s ps ts r g.whole e h) in let b = l.common.counts s in omega (arith, a, b));
   rising = l.common.rising;
 }

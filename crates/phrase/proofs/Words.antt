@@ -9,99 +9,99 @@ use native.Mathlib.Omega.{arith}
 use borrow.Author.Tests.{ltb-false, lt-ltb}
 use lib.Dec.{ltb}
 use lib.ListN.{length}
-use Rattle.meaning.specs.Below.{listTo, anyBelow}
-use Rattle.meaning.specs.Limits.{noMoreDocs}
-use Rattle.meaning.specs.Lent.{Index, hasPositions, leafField, leafFrequency, leafPosition, leafPositionsIndex}
-use Rattle.meaning.specs.IndexRefusals.{wrongPosition, wrongPositions}
-use Rattle.meaning.specs.Postings.{postingAt, frequencyOf, positionsOf}
-use Rattle.meaning.specs.Phrase.{PhraseTerm, starts, termStarts, commonSize, phraseFrequency}
+use Rattle.meaning.specs.Below.{list_to, any_below}
+use Rattle.meaning.specs.Limits.{no_more_docs}
+use Rattle.meaning.specs.Lent.{Index, has_positions, leaf_field, leaf_frequency, leaf_position, leaf_positions_index}
+use Rattle.meaning.specs.IndexRefusals.{wrong_position, wrong_positions}
+use Rattle.meaning.specs.Postings.{posting_at, frequency_of, positions_of}
+use Rattle.meaning.specs.Phrase.{PhraseTerm, starts, term_starts, common_size, phrase_frequency}
 use Rattle.meaning.proofs.Tests.{or_left, or_right}
 use Rattle.meaning.proofs.Below.{none_below}
 use Rattle.phrase_starts.specs.declared.Term.{Term}
-use Rattle.phrase_starts.specs.Terms.{termAt, startsOf, startLists, GoodTerm, Good, Room}
-use Rattle.phrase.specs.Words.{first_of, phraseWords}
+use Rattle.phrase_starts.specs.Terms.{term_at, starts_of, start_lists, GoodTerm, Good, Room}
+use Rattle.phrase.specs.Words.{first_of, phrase_words}
 use Rattle.phrase_starts.proofs.Records.{term-past}
 
 -- ---- what they say
 abbrev term_of : Index → ℕ → ℕ → Option ℕ → Term
-term_of ix l offset p = record { first = first_of ix l p; freq = frequencyOf ix l p; offset = offset }
+term_of ix l offset p = record { first = first_of ix l p; freq = frequency_of ix l p; offset = offset }
 
-starts-of-posting : (ix : Index) (l offset : ℕ) (p : Option ℕ) → startsOf ix.positions (term_of ix l offset p) ≡ starts offset (positionsOf ix l p)
-unfolding startsOf starts listTo
+starts-of-posting : (ix : Index) (l offset : ℕ) (p : Option ℕ) → starts_of ix.positions (term_of ix l offset p) ≡ starts offset (positions_of ix l p)
+unfolding starts_of starts list_to
 starts-of-posting ix l offset none = refl
 starts-of-posting ix l offset (some i) = refl
 
 -- for each term its starts in the document
-pub words-starts : (ix : Index) (d : ℕ) (ts : List PhraseTerm) → startLists ix.positions (phraseWords ix d ts) ≡ termStarts ix ts d
-unfolding startLists phraseWords termStarts
+pub words-starts : (ix : Index) (d : ℕ) (ts : List PhraseTerm) → start_lists ix.positions (phrase_words ix d ts) ≡ term_starts ix ts d
+unfolding start_lists phrase_words term_starts
 words-starts ix d [] = refl
-words-starts ix d (t ∷ ts) = rw (starts-of-posting ix t.leaf t.offset (postingAt ix t.leaf d), words-starts ix d ts)
+words-starts ix d (t ∷ ts) = rw (starts-of-posting ix t.leaf t.offset (posting_at ix t.leaf d), words-starts ix d ts)
 
 -- so that the frequency is the paper's
-pub words-frequency : (ix : Index) (d : ℕ) (ts : List PhraseTerm) → commonSize (startLists ix.positions (phraseWords ix d ts)) ≡ phraseFrequency ix ts d
-unfolding phraseFrequency
-words-frequency ix d ts = ap commonSize (words-starts ix d ts)
+pub words-frequency : (ix : Index) (d : ℕ) (ts : List PhraseTerm) → common_size (start_lists ix.positions (phrase_words ix d ts)) ≡ phrase_frequency ix ts d
+unfolding phrase_frequency
+words-frequency ix d ts = ap common_size (words-starts ix d ts)
 
 -- ---- an accepted posting's positions
-good-posting : (ix : Index) (l offset i : ℕ) → hasPositions ix (leafField ix l) ≡ true → wrongPositions ix l i ≡ false → offset ≤ noMoreDocs → GoodTerm ix.positions (term_of ix l offset (some i))
-unfolding wrongPositions wrongPosition
+good-posting : (ix : Index) (l offset i : ℕ) → has_positions ix (leaf_field ix l) ≡ true → wrong_positions ix l i ≡ false → offset ≤ no_more_docs → GoodTerm ix.positions (term_of ix l offset (some i))
+unfolding wrong_positions wrong_position
 good-posting ix l offset i p w o =
     record {
-      within = ltb-false (length ix.positions) (leafPositionsIndex ix l i + leafFrequency ix l i) (or_left (ltb (length ix.positions) (leafPositionsIndex ix l i + leafFrequency ix l i)) (anyBelow (leafFrequency ix l i) (wrongPosition ix l i)) all);
-      rising = λ j h. rises j (or_right (ltb noMoreDocs (leafPosition ix l i (suc j))) (ltb 0 (suc j) && ltb (leafPosition ix l i (suc j)) (leafPosition ix l i (suc j - 1))) (each (suc j) h));
-      small = λ j h. ltb-false noMoreDocs (leafPosition ix l i j) (or_left (ltb noMoreDocs (leafPosition ix l i j)) (ltb 0 j && ltb (leafPosition ix l i j) (leafPosition ix l i (j - 1))) (each j h));
+      within = ltb-false (length ix.positions) (leaf_positions_index ix l i + leaf_frequency ix l i) (or_left (ltb (length ix.positions) (leaf_positions_index ix l i + leaf_frequency ix l i)) (any_below (leaf_frequency ix l i) (wrong_position ix l i)) all);
+      rising = λ j h. rises j (or_right (ltb no_more_docs (leaf_position ix l i (suc j))) (ltb 0 (suc j) && ltb (leaf_position ix l i (suc j)) (leaf_position ix l i (suc j - 1))) (each (suc j) h));
+      small = λ j h. ltb-false no_more_docs (leaf_position ix l i j) (or_left (ltb no_more_docs (leaf_position ix l i j)) (ltb 0 j && ltb (leaf_position ix l i j) (leaf_position ix l i (j - 1))) (each j h));
       offset-small = o;
     }
   where
-    all : (ltb (length ix.positions) (leafPositionsIndex ix l i + leafFrequency ix l i) || anyBelow (leafFrequency ix l i) (wrongPosition ix l i)) ≡ false
+    all : (ltb (length ix.positions) (leaf_positions_index ix l i + leaf_frequency ix l i) || any_below (leaf_frequency ix l i) (wrong_position ix l i)) ≡ false
     all = rw p at w
 
-    each : (j : ℕ) → j < leafFrequency ix l i → wrongPosition ix l i j ≡ false
-    each j h = none_below (leafFrequency ix l i) (wrongPosition ix l i) (or_right (ltb (length ix.positions) (leafPositionsIndex ix l i + leafFrequency ix l i)) (anyBelow (leafFrequency ix l i) (wrongPosition ix l i)) all) j h
+    each : (j : ℕ) → j < leaf_frequency ix l i → wrong_position ix l i j ≡ false
+    each j h = none_below (leaf_frequency ix l i) (wrong_position ix l i) (or_right (ltb (length ix.positions) (leaf_positions_index ix l i + leaf_frequency ix l i)) (any_below (leaf_frequency ix l i) (wrong_position ix l i)) all) j h
 
-    rises : (j : ℕ) → (ltb 0 (suc j) && ltb (leafPosition ix l i (suc j)) (leafPosition ix l i (suc j - 1))) ≡ false → leafPosition ix l i j ≤ leafPosition ix l i (suc j)
+    rises : (j : ℕ) → (ltb 0 (suc j) && ltb (leaf_position ix l i (suc j)) (leaf_position ix l i (suc j - 1))) ≡ false → leaf_position ix l i j ≤ leaf_position ix l i (suc j)
     rises j e =
         let q : ltb 0 (suc j) ≡ true = lt-ltb 0 (suc j) (omega arith) in
         let k : suc j - 1 ≡ j = omega arith in
-        ltb-false (leafPosition ix l i (suc j)) (leafPosition ix l i j) (rw (q, k) at e)
+        ltb-false (leaf_position ix l i (suc j)) (leaf_position ix l i j) (rw (q, k) at e)
 
 -- what an accepted index and query say of a term: a small offset, and positions that are not wrong
 pub record Fine (ix : Index) (d : ℕ) (t : PhraseTerm) : Type 0 where
-  pub offset-small : t.offset ≤ noMoreDocs
-  pub positions : (i : ℕ) → postingAt ix t.leaf d ≡ some i → (hasPositions ix (leafField ix t.leaf) ≡ true) × (wrongPositions ix t.leaf i ≡ false)
+  pub offset-small : t.offset ≤ no_more_docs
+  pub positions : (i : ℕ) → posting_at ix t.leaf d ≡ some i → (has_positions ix (leaf_field ix t.leaf) ≡ true) × (wrong_positions ix t.leaf i ≡ false)
 
 -- each term is fine
 unfoldable pub AllFine : Index → ℕ → List PhraseTerm → Type 0
 AllFine ix d [] = Unit
 AllFine ix d (t ∷ ts) = Fine ix d t × AllFine ix d ts
 
-good-term : (ix : Index) (d : ℕ) (t : PhraseTerm) → Fine ix d t → GoodTerm ix.positions (term_of ix t.leaf t.offset (postingAt ix t.leaf d))
-good-term ix d t f = go (postingAt ix t.leaf d) f.positions
+good-term : (ix : Index) (d : ℕ) (t : PhraseTerm) → Fine ix d t → GoodTerm ix.positions (term_of ix t.leaf t.offset (posting_at ix t.leaf d))
+good-term ix d t f = go (posting_at ix t.leaf d) f.positions
   where
-    go : (p : Option ℕ) → ((i : ℕ) → p ≡ some i → (hasPositions ix (leafField ix t.leaf) ≡ true) × (wrongPositions ix t.leaf i ≡ false)) → GoodTerm ix.positions (term_of ix t.leaf t.offset p)
+    go : (p : Option ℕ) → ((i : ℕ) → p ≡ some i → (has_positions ix (leaf_field ix t.leaf) ≡ true) × (wrong_positions ix t.leaf i ≡ false)) → GoodTerm ix.positions (term_of ix t.leaf t.offset p)
     go none h = record { within = omega arith; rising = λ j k. absurd (not-suc-le-zero k); small = λ j k. absurd (not-suc-le-zero k); offset-small = f.offset-small }
     go (some i) h = let e = h i refl in good-posting ix t.leaf t.offset i e.0 e.1 f.offset-small
 
 -- ---- what `frequency` and `place` ask
-pub words-length : (ix : Index) (d : ℕ) (ts : List PhraseTerm) → length (phraseWords ix d ts) ≡ 3 * length ts
-unfolding phraseWords
+pub words-length : (ix : Index) (d : ℕ) (ts : List PhraseTerm) → length (phrase_words ix d ts) ≡ 3 * length ts
+unfolding phrase_words
 words-length ix d [] = refl
 words-length ix d (t ∷ ts) = let e = words-length ix d ts in omega (arith, e)
 
-words-each : (ix : Index) (d : ℕ) (ts : List PhraseTerm) → AllFine ix d ts → (at : ℕ) → at % 3 ≡ 0 → at < length (phraseWords ix d ts) → GoodTerm ix.positions (termAt (phraseWords ix d ts) at)
-unfolding phraseWords AllFine
+words-each : (ix : Index) (d : ℕ) (ts : List PhraseTerm) → AllFine ix d ts → (at : ℕ) → at % 3 ≡ 0 → at < length (phrase_words ix d ts) → GoodTerm ix.positions (term_at (phrase_words ix d ts) at)
+unfolding phrase_words AllFine
 words-each ix d [] f at e h = absurd (not-suc-le-zero h)
 words-each ix d (t ∷ ts) f zero e h = good-term ix d t f.0
 words-each ix d (t ∷ ts) f (suc zero) e h = absurd (omega (arith, e))
 words-each ix d (t ∷ ts) f (suc (suc zero)) e h = absurd (omega (arith, e))
 words-each ix d (t ∷ ts) f (suc (suc (suc at))) e h =
-    rw (term-past (first_of ix t.leaf (postingAt ix t.leaf d)) (frequencyOf ix t.leaf (postingAt ix t.leaf d)) t.offset (phraseWords ix d ts) at) (words-each ix d ts f.1 at (omega (arith, e)) (omega (arith, h)))
+    rw (term-past (first_of ix t.leaf (posting_at ix t.leaf d)) (frequency_of ix t.leaf (posting_at ix t.leaf d)) t.offset (phrase_words ix d ts) at) (words-each ix d ts f.1 at (omega (arith, e)) (omega (arith, h)))
 
-pub words-good : (ix : Index) (d : ℕ) (ts : List PhraseTerm) → 0 < length ts → AllFine ix d ts → Good ix.positions (phraseWords ix d ts)
+pub words-good : (ix : Index) (d : ℕ) (ts : List PhraseTerm) → 0 < length ts → AllFine ix d ts → Good ix.positions (phrase_words ix d ts)
 words-good ix d ts h f =
     let n = words-length ix d ts in
     record { some = omega (arith, n, h); whole = omega (arith, n); each = words-each ix d ts f }
 
-pub words-room : (ix : Index) (d : ℕ) (t : PhraseTerm) (ts : List PhraseTerm) (places : ℕ) → frequencyOf ix t.leaf (postingAt ix t.leaf d) ≤ places → Room (phraseWords ix d (t ∷ ts)) places
-unfolding phraseWords
+pub words-room : (ix : Index) (d : ℕ) (t : PhraseTerm) (ts : List PhraseTerm) (places : ℕ) → frequency_of ix t.leaf (posting_at ix t.leaf d) ≤ places → Room (phrase_words ix d (t ∷ ts)) places
+unfolding phrase_words
 words-room ix d t ts places h = record { term = 0; record-start = omega arith; one-of-them = omega arith; enough = h }

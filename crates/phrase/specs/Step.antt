@@ -1,7 +1,7 @@
 -- What each step of the common part asks for and leaves. Assumes nothing: these are definitions.
 use Rattle.std.specs.Prelude.{◌≡◌, cond, List, ◌∷◌, ℕ, ◌+◌, ◌%◌, ◌≤◌, ◌<◌, eqb, ℤ, length, drop}
 use Rattle.meaning.specs.Phrase.{multiplicity}
-use Rattle.phrase_starts.specs.Terms.{Good, termAt, startsOf, startLists}
+use Rattle.phrase_starts.specs.Terms.{Good, term_at, starts_of, start_lists}
 use Rattle.phrase_starts.specs.Common.{Ascending, Common}
 
 -- the candidates are some of the rarest term's starts, and do not fall
@@ -9,12 +9,12 @@ pub record Held (ps ts : List ℕ) (rarest : ℕ) (cs : List ℤ) : Type 0 where
   pub good : Good ps ts
   pub rarest-start : rarest % 3 ≡ 0
   pub rarest-there : rarest < length ts
-  pub of-the-rarest : (s : ℤ) → multiplicity s cs ≤ multiplicity s (startsOf ps (termAt ts rarest))
+  pub of-the-rarest : (s : ℤ) → multiplicity s cs ≤ multiplicity s (starts_of ps (term_at ts rarest))
   pub rising : Ascending cs
 
 -- the record to meet at or after a word: the rarest term's is met already
-unfoldable pub unmetFrom : ℕ → ℕ → ℕ
-unmetFrom rarest at = cond (eqb at rarest) (at + 3) at
+unfoldable pub unmet_from : ℕ → ℕ → ℕ
+unmet_from rarest at = cond (eqb at rarest) (at + 3) at
 
 -- what the phrase step asks: candidates, a record to meet, and as many spare places
 pub record Candidates (ps ts : List ℕ) (rarest at : ℕ) (cs : List ℤ) (places : ℕ) : Type 0 where
@@ -25,7 +25,7 @@ pub record Candidates (ps ts : List ℕ) (rarest at : ℕ) (cs : List ℤ) (plac
 
 -- what is left of the candidates: their common part with the starts of the terms from a word on
 pub record Left (ps ts : List ℕ) (at : ℕ) (cs zs : List ℤ) : Type 0 where
-  pub common : Common (cs ∷ startLists ps (drop at ts)) zs
+  pub common : Common (cs ∷ start_lists ps (drop at ts)) zs
   pub no_more : length zs ≤ length cs
 
 -- one more term is met: ms is what it leaves, and what is left of ms from the next record on is left of the candidates

@@ -3,10 +3,10 @@
 #![tactic(auto)]
 
 ghost use Rattle.std.specs.Prelude.{◌≡◌, ◌≤◌, ◌<◌, ◌+◌, ◌%◌, length, take};
-ghost use Rattle.meaning.specs.Phrase.{commonSize};
-ghost use Rattle.phrase_starts.specs.Terms.{startLists, Good, Room, Rarest};
+ghost use Rattle.meaning.specs.Phrase.{common_size};
+ghost use Rattle.phrase_starts.specs.Terms.{start_lists, Good, Room, Rarest};
 ghost use Rattle.phrase_starts.specs.Common.{Common};
-ghost use Rattle.phrase.specs.Step.{unmetFrom, Candidates, Left, Meets};
+ghost use Rattle.phrase.specs.Step.{unmet_from, Candidates, Left, Meets};
 ghost use Rattle.phrase.specs.Place.{PlacedIn};
 
 use phrase_starts::{intersect, pair, term_at, write_starts};
@@ -39,7 +39,7 @@ fn rarest(terms: &[u32]) -> usize
 // The record to meet at or after a word: the rarest term's is not met again.
 fn unmet(rarest: usize, at: usize) -> usize
     requires { rarest + 3 < 18446744073709551616 }
-    ensures { result ≡ unmetFrom rarest at }
+    ensures { result ≡ unmet_from rarest at }
 {
     if at == rarest { at + 3 } else { at }
 }
@@ -100,7 +100,7 @@ fn survivors<'a>(
 // the others is met here, so that a phrase of two terms makes no further call.
 fn common<'a>(positions: &[u32], terms: &[u32], a: &'a mut [i32], b: &'a mut [i32]) -> &'a mut [i32]
     requires { Good positions.now terms.now × (Room terms.now (length a.old) × Room terms.now (length b.old)) }
-    ensures { Common (startLists positions.now terms.now) result.now × (length result.now < 4294967296) }
+    ensures { Common (start_lists positions.now terms.now) result.now × (length result.now < 4294967296) }
 {
     let best = rarest(terms);
     let t = term_at(terms, best);
@@ -121,7 +121,7 @@ fn common<'a>(positions: &[u32], terms: &[u32], a: &'a mut [i32], b: &'a mut [i3
 
 pub fn frequency(positions: &[u32], terms: &[u32], a: &mut [i32], b: &mut [i32]) -> u32
     requires { Good positions.now terms.now × (Room terms.now (length a.old) × Room terms.now (length b.old)) }
-    ensures { result ≡ commonSize (startLists positions.now terms.now) }
+    ensures { result ≡ common_size (start_lists positions.now terms.now) }
 {
     // two terms need no buffers
     if terms.len() == 6 {
@@ -133,7 +133,7 @@ pub fn frequency(positions: &[u32], terms: &[u32], a: &mut [i32], b: &mut [i32])
 
 pub fn place(positions: &[u32], terms: &[u32], a: &mut [i32], b: &mut [i32]) -> Placed
     requires { Good positions.now terms.now × (Room terms.now (length a.old) × Room terms.now (length b.old)) }
-    ensures { PlacedIn (startLists positions.now terms.now) result }
+    ensures { PlacedIn (start_lists positions.now terms.now) result }
 {
     let left = common(positions, terms, a, b);
     if left.len() == 0 {

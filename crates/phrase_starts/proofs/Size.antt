@@ -7,7 +7,7 @@ use native.Mathlib.Omega.{arith}
 use lib.Dec.{T, ltb, ltb→lt, nltb→le}
 use lib.IntN.{ℤ}
 use lib.ListN.{length}
-use Rattle.meaning.specs.Phrase.{eqℤ, multiplicity, smallest, distinct, sumSmallest, commonSize}
+use Rattle.meaning.specs.Phrase.{eqℤ, multiplicity, smallest, distinct, sum_smallest, common_size}
 use Rattle.meaning.proofs.Phrases.{eqℤ→eq, eqℤ-refl, smallest-head}
 
 -- ---- the different entries of a list, each once
@@ -40,19 +40,19 @@ distinct-once s (x ∷ xs) =
     ∙ kept (ltb 0 (multiplicity x xs)) (eqℤ s x) (multiplicity x xs) (multiplicity s xs) (multiplicity s (distinct xs)) (ltb→lt 0 (multiplicity x xs)) (nltb→le 0 (multiplicity x xs)) (λ t. ap (λ (z : ℤ). multiplicity z xs) (eqℤ→eq s x t)) (distinct-once s xs)
 
 -- ---- the sum of multiplicities
-sum_same : (ss : List ℤ) (xss yss : List (List ℤ)) → ((s : ℤ) → smallest s xss ≡ smallest s yss) → sumSmallest ss xss ≡ sumSmallest ss yss
-unfolding sumSmallest
+sum_same : (ss : List ℤ) (xss yss : List (List ℤ)) → ((s : ℤ) → smallest s xss ≡ smallest s yss) → sum_smallest ss xss ≡ sum_smallest ss yss
+unfolding sum_smallest
 sum_same [] xss yss h = refl
 sum_same (s ∷ ss) xss yss h = let a = h s in let b = sum_same ss xss yss h in omega (arith, a, b)
 
-sum-none : (ss : List ℤ) → sumSmallest ss ([] ∷ []) ≡ 0
-unfolding sumSmallest smallest multiplicity
+sum-none : (ss : List ℤ) → sum_smallest ss ([] ∷ []) ≡ 0
+unfolding sum_smallest smallest multiplicity
 sum-none [] = refl
 sum-none (s ∷ ss) = let e = sum-none ss in omega (arith, e)
 
 -- one more entry counts as often as it is among those summed over
-sum_more : (ss : List ℤ) (z : ℤ) (zs : List ℤ) → sumSmallest ss ((z ∷ zs) ∷ []) ≡ multiplicity z ss + sumSmallest ss (zs ∷ [])
-unfolding sumSmallest smallest multiplicity
+sum_more : (ss : List ℤ) (z : ℤ) (zs : List ℤ) → sum_smallest ss ((z ∷ zs) ∷ []) ≡ multiplicity z ss + sum_smallest ss (zs ∷ [])
+unfolding sum_smallest smallest multiplicity
 sum_more [] z zs = refl
 sum_more (s ∷ ss) z zs =
     let e = sum_more ss z zs in
@@ -60,7 +60,7 @@ sum_more (s ∷ ss) z zs =
     omega (arith, e, q)
 
 -- over entries that have each entry of zs once, it is the length of zs
-sum-length : (ss zs : List ℤ) → ((s : ℤ) → 0 < multiplicity s zs → multiplicity s ss ≡ 1) → sumSmallest ss (zs ∷ []) ≡ length zs
+sum-length : (ss zs : List ℤ) → ((s : ℤ) → 0 < multiplicity s zs → multiplicity s ss ≡ 1) → sum_smallest ss (zs ∷ []) ≡ length zs
 unfolding multiplicity
 sum-length ss [] h = sum-none ss
 sum-length ss (z ∷ zs) h =
@@ -77,8 +77,8 @@ sum-length ss (z ∷ zs) h =
     more b n k = omega (arith, k)
 
 -- ---- the law
-pub common-length : (xss : List (List ℤ)) (zs : List ℤ) → 0 < length xss → ((s : ℤ) → multiplicity s zs ≡ smallest s xss) → length zs ≡ commonSize xss
-unfolding commonSize smallest
+pub common-length : (xss : List (List ℤ)) (zs : List ℤ) → 0 < length xss → ((s : ℤ) → multiplicity s zs ≡ smallest s xss) → length zs ≡ common_size xss
+unfolding common_size smallest
 common-length [] zs h e = absurd (omega (arith, h))
 common-length (xs ∷ xss) zs h e =
     sym (sum_same (distinct xs) (xs ∷ xss) (zs ∷ []) (λ s. sym (e s)) ∙ sum-length (distinct xs) zs once)
@@ -90,14 +90,14 @@ common-length (xs ∷ xss) zs h e =
         omega (arith, d, m)
 
 -- the common part has no more entries than the first list
-sum-least : (ss xs : List ℤ) (xss : List (List ℤ)) → sumSmallest ss (xs ∷ xss) ≤ sumSmallest ss (xs ∷ [])
-unfolding sumSmallest smallest
+sum-least : (ss xs : List ℤ) (xss : List (List ℤ)) → sum_smallest ss (xs ∷ xss) ≤ sum_smallest ss (xs ∷ [])
+unfolding sum_smallest smallest
 sum-least [] xs xss = omega arith
 sum-least (s ∷ ss) xs [] = omega arith
 sum-least (s ∷ ss) xs (ys ∷ yss) = let e = sum-least ss xs (ys ∷ yss) in omega (arith, e)
 
-pub common-size-le : (xs : List ℤ) (xss : List (List ℤ)) → commonSize (xs ∷ xss) ≤ length xs
-unfolding commonSize
+pub common-size-le : (xs : List ℤ) (xss : List (List ℤ)) → common_size (xs ∷ xss) ≤ length xs
+unfolding common_size
 common-size-le xs xss =
     let a = sum-least (distinct xs) xs xss in
     let b = sum-length (distinct xs) xs (λ s k. (let d = distinct-once s xs in omega (arith, d, k))) in

@@ -1,23 +1,23 @@
 -- A phrase's terms in the document at hand: records of three words, the index of the first position, the frequency and the offset. Assumes nothing: these are definitions.
 use Rattle.std.specs.Prelude.{◌≡◌, List, [], ◌∷◌, ℕ, suc, ◌+◌, ◌%◌, ◌≤◌, ◌<◌, ℤ, length, get_or}
-use Rattle.meaning.specs.Below.{listTo}
+use Rattle.meaning.specs.Below.{list_to}
 use Rattle.meaning.specs.Phrase.{starts}
 use Rattle.phrase_starts.specs.declared.Term.{Term}
 
 -- the term whose record begins at a word
-abbrev pub termAt : List ℕ → ℕ → Term
-termAt ts at = record { first = get_or ts at 0; freq = get_or ts (at + 1) 0; offset = get_or ts (at + 2) 0 }
+abbrev pub term_at : List ℕ → ℕ → Term
+term_at ts at = record { first = get_or ts at 0; freq = get_or ts (at + 1) 0; offset = get_or ts (at + 2) 0 }
 
 -- its starts
-unfoldable pub startsOf : List ℕ → Term → List ℤ
-startsOf ps t = starts t.offset (listTo t.freq (λ j. get_or ps (t.first + j) 0))
+unfoldable pub starts_of : List ℕ → Term → List ℤ
+starts_of ps t = starts t.offset (list_to t.freq (λ j. get_or ps (t.first + j) 0))
 
 -- the starts of each term, in record order
-unfoldable pub startLists : List ℕ → List ℕ → List (List ℤ)
-startLists ps [] = []
-startLists ps (f ∷ []) = []
-startLists ps (f ∷ n ∷ []) = []
-startLists ps (f ∷ n ∷ o ∷ ts) = startsOf ps (record { first = f; freq = n; offset = o }) ∷ startLists ps ts
+unfoldable pub start_lists : List ℕ → List ℕ → List (List ℤ)
+start_lists ps [] = []
+start_lists ps (f ∷ []) = []
+start_lists ps (f ∷ n ∷ []) = []
+start_lists ps (f ∷ n ∷ o ∷ ts) = starts_of ps (record { first = f; freq = n; offset = o }) ∷ start_lists ps ts
 
 -- a term's positions are there, do not fall and, like its offset, are at most 2147483647
 pub record GoodTerm (ps : List ℕ) (t : Term) : Type 0 where
@@ -30,7 +30,7 @@ pub record GoodTerm (ps : List ℕ) (t : Term) : Type 0 where
 pub record Good (ps ts : List ℕ) : Type 0 where
   pub some : 0 < length ts
   pub whole : length ts % 3 ≡ 0
-  pub each : (at : ℕ) → at % 3 ≡ 0 → at < length ts → GoodTerm ps (termAt ts at)
+  pub each : (at : ℕ) → at % 3 ≡ 0 → at < length ts → GoodTerm ps (term_at ts at)
 
 -- some term's starts have room in so many places (then so have the rarest term's)
 pub record Room (ts : List ℕ) (places : ℕ) : Type 0 where

@@ -4,8 +4,8 @@
 
 ghost use Rattle.std.specs.Prelude.{◌≡◌, [], ◌∷◌, ◌≤◌, ◌<◌, ◌+◌, length, take, pos};
 ghost use Rattle.std.proofs.Math.IntN.{sub_ℕ};
-ghost use Rattle.meaning.specs.Phrase.{commonSize};
-ghost use Rattle.phrase_starts.specs.Terms.{termAt, startsOf, GoodTerm};
+ghost use Rattle.meaning.specs.Phrase.{common_size};
+ghost use Rattle.phrase_starts.specs.Terms.{term_at, starts_of, GoodTerm};
 ghost use Rattle.phrase_starts.specs.Common.{Ascending, Common};
 
 // One term's words.
@@ -42,7 +42,7 @@ fn start(position: u32, offset: u32) -> i32
 
 pub fn term_at(terms: &[u32], at: usize) -> Term
     requires { at + 2 < length terms.now }
-    ensures { result ≡ termAt terms.now at }
+    ensures { result ≡ term_at terms.now at }
 {
     Term {
         first: wide(terms[at]),
@@ -54,7 +54,7 @@ pub fn term_at(terms: &[u32], at: usize) -> Term
 // The starts of one term, written to the front of `out`.
 pub fn write_starts(positions: &[u32], t: Term, out: &mut [i32])
     requires { GoodTerm positions.now t × (t.freq ≤ length out.old) }
-    ensures { take t.freq out.new ≡ startsOf positions.now t }
+    ensures { take t.freq out.new ≡ starts_of positions.now t }
 {
     let first = t.first;
     let freq = t.freq;
@@ -70,7 +70,7 @@ pub fn write_starts(positions: &[u32], t: Term, out: &mut [i32])
 // candidate with each match, and reads no position after the last candidate is passed.
 pub fn intersect(positions: &[u32], t: Term, cands: &[i32], out: &mut [i32]) -> usize
     requires { GoodTerm positions.now t × ((length cands.now ≤ length out.old) × Ascending cands.now) }
-    ensures { (result ≤ length cands.now) × Common (cands.now ∷ startsOf positions.now t ∷ []) (take result out.new) }
+    ensures { (result ≤ length cands.now) × Common (cands.now ∷ starts_of positions.now t ∷ []) (take result out.new) }
 {
     let first = t.first;
     let freq = t.freq;
@@ -101,7 +101,7 @@ pub fn intersect(positions: &[u32], t: Term, cands: &[i32], out: &mut [i32]) -> 
 // The number of starts that two terms have in common: a merge that uses up one of each with each match.
 pub fn pair(positions: &[u32], s: Term, t: Term) -> usize
     requires { GoodTerm positions.now s × GoodTerm positions.now t }
-    ensures { result ≡ commonSize (startsOf positions.now s ∷ startsOf positions.now t ∷ []) }
+    ensures { result ≡ common_size (starts_of positions.now s ∷ starts_of positions.now t ∷ []) }
 {
     let first = s.first;
     let freq = s.freq;

@@ -1,6 +1,6 @@
 -- What has been seen of a term's positions, and of a phrase's terms, while they are checked one by one. Assumes nothing.
 use Rattle.std.proofs.Common.{◌≡◌, ℕ, suc, ◌+◌, ◌%◌, ◌<◌, ◌≤◌, List, length, get_or}
-use Rattle.phrase.specs.Terms.{GoodTerm, termAt}
+use Rattle.phrase.specs.Terms.{GoodTerm, term_at}
 
 -- j positions do not fall and are small, and the last of them is told
 pub record Passed (ps : List ℕ) (first freq last j : ℕ) : Type 0 where
@@ -17,4 +17,4 @@ pub record Seen (ps ts : List ℕ) (places at : ℕ) : Type 0 where
   pub record-start : at % 3 ≡ 0
   pub not-past : at ≤ length ts
   pub enough : get_or ts 1 0 ≤ places
-  pub each : (k : ℕ) → k % 3 ≡ 0 → k < at → GoodTerm ps (termAt ts k)
+  pub each : (k : ℕ) → k % 3 ≡ 0 → k < at → GoodTerm ps (term_at ts k)

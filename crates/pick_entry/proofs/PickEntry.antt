@@ -7,51 +7,51 @@ use lib.Dec.{leb, ltb, lit<}
 use lib.IntN.{ℤ}
 use lib.ListN.{length, get_or, take, drop}
 use borrow.Author.Tests.{lt-ltb, le-ltb, ltb-false, eq-eqb, ne_eqb}
-use Rattle.meaning.specs.Below.{anyBelow}
-use Rattle.meaning.specs.Limits.{noMoreDocs, plusInfinity}
+use Rattle.meaning.specs.Below.{any_below}
+use Rattle.meaning.specs.Limits.{no_more_docs, plus_infinity}
 use Rattle.meaning.specs.Hits.{hits}
 use Rattle.meaning.specs.Refusals.{lowest}
-use Rattle.meaning.specs.CallRefusals.{wrong11, wrong12Pick, wrongPicked, wrong14}
-use Rattle.meaning.specs.Entries.{written, pickRefusal, pickedList, pickAnswer, pickHits}
+use Rattle.meaning.specs.CallRefusals.{wrong11, wrong12_pick, wrong_picked, wrong14}
+use Rattle.meaning.specs.Entries.{written, pick_refusal, picked_list, pick_answer, pick_hits}
 use Rattle.meaning.proofs.Tests.{true-left, true-right, or_left, or_right}
 use Rattle.meaning.proofs.Below.{any-zero}
 use Rattle.collector.specs.declared.TopDocs.{TopDocs}
 use Rattle.collector.specs.Collected.{answer}
 use Rattle.collector.proofs.Best.{written-part}
 use Rattle.pick_entry.specs.declared.Picked.{Picked}
-use Rattle.pick_entry.specs.Answers.{pickedNumbers}
+use Rattle.pick_entry.specs.Answers.{picked_numbers}
 use Rattle.meaning.proofs.Lowest.{lowest-here, lowest-past, lowest-zero, answered-refused, answered-accepted}
 
 -- ---- the lists
 module _ (documents scores : List ℕ) where
-  pub picked-after : (i : ℕ) → 0 < i → ((leb (get_or documents i 0) (get_or documents (i - 1) 0) || leb noMoreDocs (get_or documents i 0)) || ltb plusInfinity (get_or scores i 0)) ≡ wrongPicked documents scores i
-  unfolding wrongPicked
+  pub picked-after : (i : ℕ) → 0 < i → ((leb (get_or documents i 0) (get_or documents (i - 1) 0) || leb no_more_docs (get_or documents i 0)) || ltb plus_infinity (get_or scores i 0)) ≡ wrong_picked documents scores i
+  unfolding wrong_picked
   picked-after i h = rw (lt-ltb 0 i h)
 
   -- the first has none before it
-  pub picked_first : (leb noMoreDocs (get_or documents 0 0) || ltb plusInfinity (get_or scores 0 0)) ≡ anyBelow 1 (wrongPicked documents scores)
-  unfolding anyBelow wrongPicked
+  pub picked_first : (leb no_more_docs (get_or documents 0 0) || ltb plus_infinity (get_or scores 0 0)) ≡ any_below 1 (wrong_picked documents scores)
+  unfolding any_below wrong_picked
   picked_first = refl
 
   pub lists-unequal : (length documents ≡ length scores → ⊥) → true ≡ wrong14 documents scores
   unfolding wrong14
   lists-unequal h = rw (ne_eqb (length documents) (length scores) h)
 
-  pub lists-equal : length documents ≡ length scores → anyBelow (length documents) (wrongPicked documents scores) ≡ wrong14 documents scores
+  pub lists-equal : length documents ≡ length scores → any_below (length documents) (wrong_picked documents scores) ≡ wrong14 documents scores
   unfolding wrong14
   lists-equal e = rw (eq-eqb (length documents) (length scores) e)
 
   pub lists-empty : length documents ≡ length scores → length documents ≡ 0 → false ≡ wrong14 documents scores
-  lists-empty e z = sym (any-zero (wrongPicked documents scores)) ∙ ap (λ (n : ℕ). anyBelow n (wrongPicked documents scores)) (sym z) ∙ lists-equal e
+  lists-empty e z = sym (any-zero (wrong_picked documents scores)) ∙ ap (λ (n : ℕ). any_below n (wrong_picked documents scores)) (sym z) ∙ lists-equal e
 
   module _ (k places : ℕ) where
     -- ---- each way out
-    pub pick_low : k < 1 → 11 ≡ pickRefusal documents scores k places
-    unfolding pickRefusal wrong11
+    pub pick_low : k < 1 → 11 ≡ pick_refusal documents scores k places
+    unfolding pick_refusal wrong11
     pick_low h = lowest-here 11 _ _ (true-left _ _ (lt-ltb k 1 h))
 
-    pub pick-high : 1024 < k → 11 ≡ pickRefusal documents scores k places
-    unfolding pickRefusal wrong11
+    pub pick-high : 1024 < k → 11 ≡ pick_refusal documents scores k places
+    unfolding pick_refusal wrong11
     pick-high h = lowest-here 11 _ _ (true-right (ltb k 1) _ (lt-ltb 1024 k h))
 
     module _ (low : 1 ≤ k) (high : k ≤ 1024) where
@@ -59,17 +59,17 @@ module _ (documents scores : List ℕ) where
       unfolding wrong11
       k-right = rw (le-ltb k 1 low, le-ltb 1024 k high)
 
-      pub pick-short : places < k → 12 ≡ pickRefusal documents scores k places
-      unfolding pickRefusal wrong12Pick
+      pub pick-short : places < k → 12 ≡ pick_refusal documents scores k places
+      unfolding pick_refusal wrong12_pick
       pick-short h = lowest-past 11 _ _ 12 k-right (lowest-here 12 _ _ (lt-ltb places k h))
 
       module _ (room : k ≤ places) where
-        pub pick-wrong : wrong14 documents scores ≡ true → 14 ≡ pickRefusal documents scores k places
-        unfolding pickRefusal wrong12Pick
+        pub pick-wrong : wrong14 documents scores ≡ true → 14 ≡ pick_refusal documents scores k places
+        unfolding pick_refusal wrong12_pick
         pick-wrong h = lowest-past 11 _ _ 14 k-right (lowest-past 12 _ _ 14 (le-ltb places k room) (lowest-here 14 _ _ h))
 
-        pub pick-0 : wrong14 documents scores ≡ false → 0 ≡ pickRefusal documents scores k places
-        unfolding pickRefusal wrong12Pick lowest
+        pub pick-0 : wrong14 documents scores ≡ false → 0 ≡ pick_refusal documents scores k places
+        unfolding pick_refusal wrong12_pick lowest
         pick-0 h = rw (k-right, le-ltb places k room, h)
 
     -- ---- what a call that is not refused knows
@@ -79,8 +79,8 @@ module _ (documents scores : List ℕ) where
       pub room : k ≤ places
       pub lists : wrong14 documents scores ≡ false
 
-    pub pick-right : (n : ℕ) → n ≡ pickRefusal documents scores k places → n ≡ 0 → PickRight
-    unfolding pickRefusal wrong11 wrong12Pick
+    pub pick-right : (n : ℕ) → n ≡ pick_refusal documents scores k places → n ≡ 0 → PickRight
+    unfolding pick_refusal wrong11 wrong12_pick
     pick-right n is z =
         let a = lowest-zero 11 _ _ (lit< tt) (sym is ∙ z) in
         let b = lowest-zero 12 _ _ (lit< tt) a.1 in
@@ -93,16 +93,16 @@ module _ (documents scores : List ℕ) where
         }
 
   -- ---- the answer
-  module _ (k t n : ℕ) (buffer : List ℤ) (is : n ≡ pickRefusal documents scores k (length buffer)) where
+  module _ (k t n : ℕ) (buffer : List ℤ) (is : n ≡ pick_refusal documents scores k (length buffer)) where
     abbrev Answer : Picked → List ℤ → Type 0
-    Answer a buffer' = (pickedNumbers a ≡ pickAnswer documents scores k t (length buffer)) × (buffer' ≡ pickHits documents scores k buffer)
+    Answer a buffer' = (picked_numbers a ≡ pick_answer documents scores k t (length buffer)) × (buffer' ≡ pick_hits documents scores k buffer)
 
     pub pick-refused : (n ≡ 0 → ⊥) → Answer (Picked.Refused n) buffer
-    unfolding pickedNumbers pickAnswer pickHits
+    unfolding picked_numbers pick_answer pick_hits
     pick-refused h = rw (← is) (answered-refused _ _ n h, answered-refused _ _ n h)
 
     -- of the part of the buffer with k places
-    pub pick-done : n ≡ 0 → (j : ℕ) → j ≡ k → k ≤ length buffer → (r : TopDocs) (part : List ℤ) → r ≡ answer j t (pickedList documents scores) → part ≡ written (hits j (pickedList documents scores)) (take k buffer) → Answer (Picked.Found r) (part ++ drop k buffer)
-    unfolding pickedNumbers pickAnswer pickHits
+    pub pick-done : n ≡ 0 → (j : ℕ) → j ≡ k → k ≤ length buffer → (r : TopDocs) (part : List ℤ) → r ≡ answer j t (picked_list documents scores) → part ≡ written (hits j (picked_list documents scores)) (take k buffer) → Answer (Picked.Found r) (part ++ drop k buffer)
+    unfolding picked_numbers pick_answer pick_hits
     pick-done z j size room r part e f =
-        rw (← is, e, f, size) (answered-accepted _ _ n z, written-part k (pickedList documents scores) buffer room ∙ answered-accepted _ _ n z)
+        rw (← is, e, f, size) (answered-accepted _ _ n z, written-part k (picked_list documents scores) buffer room ∙ answered-accepted _ _ n z)

@@ -3,6 +3,6 @@ use Rattle.std.specs.Prelude.{List, [], ◌∷◌, ℕ}
 use Rattle.collector.specs.Collected.{numbers}
 use Rattle.pick_entry.specs.declared.Picked.{Picked}
 
-unfoldable pub pickedNumbers : Picked → List ℕ
-pickedNumbers (Picked.Refused n) = n ∷ []
-pickedNumbers (Picked.Found t) = numbers t
+unfoldable pub picked_numbers : Picked → List ℕ
+picked_numbers (Picked.Refused n) = n ∷ []
+picked_numbers (Picked.Found t) = numbers t

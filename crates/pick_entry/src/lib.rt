@@ -2,9 +2,9 @@
 #![tactic(auto)]
 
 ghost use Rattle.std.specs.Prelude.{◌≡◌, length, ℕ, ◌<◌};
-ghost use Rattle.meaning.specs.CallRefusals.{wrongPicked, wrong14};
-ghost use Rattle.meaning.specs.Entries.{pickRefusal, pickAnswer, pickHits};
-ghost use Rattle.pick_entry.specs.Answers.{pickedNumbers};
+ghost use Rattle.meaning.specs.CallRefusals.{wrong_picked, wrong14};
+ghost use Rattle.meaning.specs.Entries.{pick_refusal, pick_answer, pick_hits};
+ghost use Rattle.pick_entry.specs.Answers.{picked_numbers};
 
 use collector::TopDocs;
 
@@ -22,7 +22,7 @@ pub enum Picked {
 // Whether one after the first is out of order, or no document or score that can be ranked.
 fn wrong_picked(documents: &[u32], scores: &[u32], i: usize) -> bool
     requires { (0 < i) × (i < length documents.now) × (i < length scores.now) }
-    ensures { result ≡ wrongPicked documents.now scores.now i }
+    ensures { result ≡ wrong_picked documents.now scores.now i }
 {
     (documents[i] <= documents[i - 1])
         | (NO_MORE_DOCS <= documents[i])
@@ -50,7 +50,7 @@ fn wrong_lists(documents: &[u32], scores: &[u32]) -> bool
 
 // The lowest number of 11, 12 and 14 whose condition holds, and 0 where none does.
 pub fn pick_refusal(documents: &[u32], scores: &[u32], k: u32, places: usize) -> u32
-    ensures { result ≡ pickRefusal documents.now scores.now k places }
+    ensures { result ≡ pick_refusal documents.now scores.now k places }
 {
     if k < 1 {
         return 11;
@@ -69,8 +69,8 @@ pub fn pick_refusal(documents: &[u32], scores: &[u32], k: u32, places: usize) ->
 
 // The scores are lent as bits; the hits stand as codes in the first places of the hits buffer.
 pub fn pick(documents: &[u32], scores: &[u32], k: u32, t: u32, hits: &mut [i64]) -> Picked
-    ensures result_value { pickedNumbers result ≡ pickAnswer documents.now scores.now k t (length hits.old) }
-    ensures hits_after { hits.new ≡ pickHits documents.now scores.now k hits.old }
+    ensures result_value { picked_numbers result ≡ pick_answer documents.now scores.now k t (length hits.old) }
+    ensures hits_after { hits.new ≡ pick_hits documents.now scores.now k hits.old }
 {
     let refusal = pick_refusal(documents, scores, k, hits.len());
     if refusal != 0 {

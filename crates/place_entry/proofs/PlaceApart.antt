@@ -8,9 +8,9 @@ use lib.IntN.{ℤ, pos, negsuc}
 use lib.ListN.{length}
 use Rattle.meaning.specs.Lent.{Index}
 use Rattle.meaning.specs.CallRefusals.{Work}
-use Rattle.meaning.specs.Entries.{answered, placeRefusal, startNumbers, PlaceFound, PlaceAnswer}
+use Rattle.meaning.specs.Entries.{answered, place_refusal, start_numbers, PlaceFound, PlaceAnswer}
 use Rattle.place_entry.specs.declared.Placed.TheVariants as Placed
-use Rattle.place_entry.specs.Answers.{placedNumbers}
+use Rattle.place_entry.specs.Answers.{placed_numbers}
 
 -- a list's first number where it is not below 0
 first : List ℤ → ℕ
@@ -19,11 +19,11 @@ first (pos n ∷ xs) = n
 first (negsuc n ∷ xs) = 0
 
 module _ (ix : Index) (q : List ℕ) (r d : ℕ) (w : Work) where
-  pub never-refused-0 : PlaceAnswer ix q r d w (placedNumbers (Placed.Refused 0)) → ⊥
-  unfolding PlaceAnswer placedNumbers first
-  never-refused-0 h = go (placeRefusal ix q r d w) h
+  pub never-refused-0 : PlaceAnswer ix q r d w (placed_numbers (Placed.Refused 0)) → ⊥
+  unfolding PlaceAnswer placed_numbers first
+  never-refused-0 h = go (place_refusal ix q r d w) h
     where
-      longer : (start : Option ℤ) → (pos 0 ∷ []) ≡ startNumbers start → ⊥
+      longer : (start : Option ℤ) → (pos 0 ∷ []) ≡ start_numbers start → ⊥
       longer none e = let n : ◌≡◌ {A = ℕ} 1 2 = ap length e in absurd (omega (arith, n))
       longer (some s) e = let n : ◌≡◌ {A = ℕ} 1 3 = ap length e in absurd (omega (arith, n))
 

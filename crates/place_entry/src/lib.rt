@@ -3,13 +3,13 @@
 
 ghost use Rattle.std.specs.Prelude.{◌≡◌, [], ℕ, ◌+◌, ◌*◌, ◌/◌, ◌≤◌, ◌<◌, length, take};
 ghost use Rattle.meaning.specs.Lent.{Index};
-ghost use Rattle.meaning.specs.Query.{recordCount, recordKind, recordChildren, phraseTermsOf};
-ghost use Rattle.meaning.specs.Entries.{Kept, placeRefusal, PlaceFound, PlaceAnswer};
-ghost use Rattle.meaning.specs.Postings.{postingAt, frequencyOf};
-ghost use Rattle.index.specs.Slices.{lent, leavesOnly};
+ghost use Rattle.meaning.specs.Query.{record_count, record_kind, record_children, phrase_terms_of};
+ghost use Rattle.meaning.specs.Entries.{Kept, place_refusal, PlaceFound, PlaceAnswer};
+ghost use Rattle.meaning.specs.Postings.{posting_at, frequency_of};
+ghost use Rattle.index.specs.Slices.{lent, leaves_only};
 ghost use Rattle.order_check.specs.Lends.{work, QueryLent};
-ghost use Rattle.phrase.specs.Words.{first_of, phraseWords};
-ghost use Rattle.place_entry.specs.Answers.{placedNumbers};
+ghost use Rattle.phrase.specs.Words.{first_of, phrase_words};
+ghost use Rattle.place_entry.specs.Answers.{placed_numbers};
 ghost use Rattle.place_entry.specs.Runs.{RunOk, PlaceLent};
 
 use index::leaves::leaf_at;
@@ -41,7 +41,7 @@ fn place_refusal(
     starts: usize,
     other_starts: usize,
 ) -> u32
-    ensures { result ≡ placeRefusal (lent max_doc fields.now leaves.now postings.now positions.now norms.now live.now columns.now values.now) q.now record_number document (work 0 starts other_starts 0) }
+    ensures { result ≡ place_refusal (lent max_doc fields.now leaves.now postings.now positions.now norms.now live.now columns.now values.now) q.now record_number document (work 0 starts other_starts 0) }
 {
     let refusal = order_check::check_order(
         max_doc, fields, leaves, postings, positions, norms, live, columns, values, q,
@@ -76,7 +76,7 @@ fn locate(
     b: &mut [i32],
 ) -> Placed
     requires { (ix : Index) × PlaceLent ix leaves.now postings.now positions.now q.now record_number document (length a.old) (length b.old) }
-    ensures { (ix : Index) → PlaceLent ix leaves.now postings.now positions.now q.now record_number document (length a.old) (length b.old) → PlaceFound ix q.now record_number document (placedNumbers result) }
+    ensures { (ix : Index) → PlaceLent ix leaves.now postings.now positions.now q.now record_number document (length a.old) (length b.old) → PlaceFound ix q.now record_number document (placed_numbers result) }
 {
     let at = record_number as usize;
     let count = query::children(q, at) as usize;
@@ -97,8 +97,8 @@ pub struct Occurrences {
 
 // Those of a leaf, 0 and 0 without a posting: a search by halves in its run.
 fn occurrences_in(leaves: &[u32], postings: &[u32], l: usize, document: u32) -> Occurrences
-    requires { RunOk (leavesOnly [] leaves.now postings.now) l }
-    ensures { (result.first ≡ first_of (leavesOnly [] leaves.now postings.now) l (postingAt (leavesOnly [] leaves.now postings.now) l document)) × (result.frequency ≡ frequencyOf (leavesOnly [] leaves.now postings.now) l (postingAt (leavesOnly [] leaves.now postings.now) l document)) }
+    requires { RunOk (leaves_only [] leaves.now postings.now) l }
+    ensures { (result.first ≡ first_of (leaves_only [] leaves.now postings.now) l (posting_at (leaves_only [] leaves.now postings.now) l document)) × (result.frequency ≡ frequency_of (leaves_only [] leaves.now postings.now) l (posting_at (leaves_only [] leaves.now postings.now) l document)) }
 {
     let leaf = leaf_at(leaves, l);
     let first = wide(leaf.first);
@@ -127,9 +127,9 @@ fn write_terms(
     document: u32,
     terms: &mut [u32],
 )
-    requires at_bound { (at < recordCount q.now) × (recordKind q.now at ≡ 2) × (length terms.old ≡ 96) }
+    requires at_bound { (at < record_count q.now) × (record_kind q.now at ≡ 2) × (length terms.old ≡ 96) }
     requires by_index { (ix : Index) × (n : ℕ) × QueryLent ix n leaves.now postings.now q.now }
-    ensures terms_after { (ix : Index) (n : ℕ) → QueryLent ix n leaves.now postings.now q.now → take (3 * recordChildren q.now at) terms.new ≡ phraseWords ix document (phraseTermsOf q.now at) }
+    ensures terms_after { (ix : Index) (n : ℕ) → QueryLent ix n leaves.now postings.now q.now → take (3 * record_children q.now at) terms.new ≡ phrase_words ix document (phrase_terms_of q.now at) }
     ensures terms_len { length terms.new ≡ 96 }
 {
     let count = wide(query::children(q, at));
@@ -161,9 +161,9 @@ pub fn place(
     a: &mut [i32],
     b: &mut [i32],
 ) -> Placed
-    ensures place_answer { PlaceAnswer (lent max_doc fields.now leaves.now postings.now positions.now norms.now live.now columns.now values.now) q.now record_number document (work 0 (length a.old) (length b.old) 0) (placedNumbers result) }
-    ensures kept { Kept (placeRefusal (lent max_doc fields.now leaves.now postings.now positions.now norms.now live.now columns.now values.now) q.now record_number document (work 0 (length a.old) (length b.old) 0)) a.old a.new }
-    ensures kept_2 { Kept (placeRefusal (lent max_doc fields.now leaves.now postings.now positions.now norms.now live.now columns.now values.now) q.now record_number document (work 0 (length a.old) (length b.old) 0)) b.old b.new }
+    ensures place_answer { PlaceAnswer (lent max_doc fields.now leaves.now postings.now positions.now norms.now live.now columns.now values.now) q.now record_number document (work 0 (length a.old) (length b.old) 0) (placed_numbers result) }
+    ensures kept { Kept (place_refusal (lent max_doc fields.now leaves.now postings.now positions.now norms.now live.now columns.now values.now) q.now record_number document (work 0 (length a.old) (length b.old) 0)) a.old a.new }
+    ensures kept_2 { Kept (place_refusal (lent max_doc fields.now leaves.now postings.now positions.now norms.now live.now columns.now values.now) q.now record_number document (work 0 (length a.old) (length b.old) 0)) b.old b.new }
 {
     let refusal = place_refusal(
         max_doc,

@@ -2,11 +2,11 @@
 #![tactic(auto)]
 
 ghost use Rattle.std.specs.Prelude.{◌≡◌, ◌+◌, ◌-◌, ◌/◌, ◌<◌, ◌≤◌, false, [], length};
-ghost use Rattle.meaning.specs.Below.{anyBelow};
-ghost use Rattle.meaning.specs.Lent.{leafNumber};
-ghost use Rattle.meaning.specs.IndexRefusals.{wrong4, wrong5, wrongPosting};
-ghost use Rattle.index.specs.Slices.{leavesOnly, runsOnly};
-ghost use Rattle.posting_check.specs.Runs.{wrongRecord};
+ghost use Rattle.meaning.specs.Below.{any_below};
+ghost use Rattle.meaning.specs.Lent.{leaf_number};
+ghost use Rattle.meaning.specs.IndexRefusals.{wrong4, wrong5, wrong_posting};
+ghost use Rattle.index.specs.Slices.{leaves_only, runs_only};
+ghost use Rattle.posting_check.specs.Runs.{wrong_record};
 
 use adjacent_leaves::plain_leaves;
 use index::fields::field_at;
@@ -20,7 +20,7 @@ use std::num::{wrapping_add_u32, wrapping_sub_u32};
 // a document, or its distance above the document before, from 2^31 on; a frequency less 1 from 2^24 on; an index from 1 on.
 fn wrong_records(run: &[u32], max_doc: u32, has_positions: bool) -> bool
     requires { max_doc ≤ 2147483648 }
-    ensures { result ≡ anyBelow (length run.now / 3) (wrongRecord max_doc has_positions run.now) }
+    ensures { result ≡ any_below (length run.now / 3) (wrong_record max_doc has_positions run.now) }
 {
     let count = run.len() / 3;
     let mut steps: u32 = 0;
@@ -51,9 +51,9 @@ fn wrong_run(
     l: usize,
 ) -> bool
     requires max_doc_bound { max_doc ≤ 1048576 }
-    requires postings_value { wrong4 (leavesOnly fields.now leaves.now postings.now) ≡ false }
+    requires postings_value { wrong4 (leaves_only fields.now leaves.now postings.now) ≡ false }
     requires l_in_bounds { l < length leaves.now / 4 }
-    ensures { result ≡ anyBelow (leafNumber (leavesOnly [] leaves.now []) l) (wrongPosting (runsOnly max_doc fields.now leaves.now postings.now positions.now) l) }
+    ensures { result ≡ any_below (leaf_number (leaves_only [] leaves.now []) l) (wrong_posting (runs_only max_doc fields.now leaves.now postings.now positions.now) l) }
 {
     let leaf = leaf_at(leaves, l);
     let field = field_at(fields, wide(leaf.field));
@@ -82,9 +82,9 @@ fn wrong_runs(
     end: usize,
 ) -> bool
     requires max_doc_bound { max_doc ≤ 1048576 }
-    requires postings_value { wrong4 (leavesOnly fields.now leaves.now postings.now) ≡ false }
+    requires postings_value { wrong4 (leaves_only fields.now leaves.now postings.now) ≡ false }
     requires l_le_end { (l ≤ end) × (end ≤ length leaves.now / 4) }
-    ensures { result ≡ anyBelow (end - l) (λ i. anyBelow (leafNumber (leavesOnly [] leaves.now []) (l + i)) (wrongPosting (runsOnly max_doc fields.now leaves.now postings.now positions.now) (l + i))) }
+    ensures { result ≡ any_below (end - l) (λ i. any_below (leaf_number (leaves_only [] leaves.now []) (l + i)) (wrong_posting (runs_only max_doc fields.now leaves.now postings.now positions.now) (l + i))) }
 {
     let mut bad = false;
     let mut k = l;
@@ -104,8 +104,8 @@ pub fn wrong_postings(
     positions: &[u32],
 ) -> bool
     requires max_doc_bound { max_doc ≤ 1048576 }
-    requires postings_value { wrong4 (leavesOnly fields.now leaves.now postings.now) ≡ false }
-    ensures { result ≡ wrong5 (runsOnly max_doc fields.now leaves.now postings.now positions.now) }
+    requires postings_value { wrong4 (leaves_only fields.now leaves.now postings.now) ≡ false }
+    ensures { result ≡ wrong5 (runs_only max_doc fields.now leaves.now postings.now positions.now) }
 {
     if postings.len() % 3 != 0 {
         return true;

@@ -2,7 +2,7 @@
 use Rattle.std.proofs.Common.{◌≡◌, ℕ, ◌+◌, ◌-◌, ◌/◌, ◌%◌, ◌<◌, ◌≤◌, Bool, true, false, cond, ◌&&◌, ltb, leb, List, get_or, sym, refl, ap, ◌∙◌, ⊎_elim, true≢false, arith, le-ltb, lt-ltb, le-leb}
 use lib.Bits.{bit_or, or_comm}
 use borrow.Author.Tests.{lt-leb}
-use Rattle.meaning.specs.Below.{countBelow}
+use Rattle.meaning.specs.Below.{count_below}
 use Rattle.meaning.proofs.Tests.{cmp}
 use Rattle.meaning.proofs.Below.{count-more, last-or-below}
 use Rattle.posting_positions.specs.Places.{gap, drop_at}
@@ -36,8 +36,8 @@ pub only : (f : ℕ → ℕ) (i : ℕ) → i < 1 → f i ≤ f 0
 only f i l = let e : i ≡ 0 = omega arith in omega (arith, ap f e)
 
 -- ---- positions
-pub drop-first : (part : List ℕ) → ◌≡◌ {A = ℕ} 0 (countBelow 1 (drop_at part))
-unfolding countBelow drop_at
+pub drop-first : (part : List ℕ) → ◌≡◌ {A = ℕ} 0 (count_below 1 (drop_at part))
+unfolding count_below drop_at
 drop-first part = refl
 
 drop-is : (part : List ℕ) (k s : ℕ) → 0 < k → (s + get_or part (k - 1) 0) % 4294967296 ≡ get_or part k 0 → s < 4294967296 → get_or part (k - 1) 0 < 4294967296 → s / 2147483648 ≡ cond (drop_at part k) 1 0
@@ -45,11 +45,11 @@ unfolding drop_at
 drop-is part k s p e l m = rw (lt-ltb _ _ p) (high_bit s l ∙ ap (λ (z : ℕ). cond (leb 2147483648 z) 1 0) (gap_is (get_or part k 0) (get_or part (k - 1) 0) s e l m))
 
 -- one position more
-pub drop_more : (part : List ℕ) (k f s : ℕ) → 0 < k → f ≡ countBelow k (drop_at part) → (s + get_or part (k - 1) 0) % 4294967296 ≡ get_or part k 0 → s < 4294967296 → get_or part (k - 1) 0 < 4294967296 → f + s / 2147483648 ≡ countBelow (k + 1) (drop_at part)
+pub drop_more : (part : List ℕ) (k f s : ℕ) → 0 < k → f ≡ count_below k (drop_at part) → (s + get_or part (k - 1) 0) % 4294967296 ≡ get_or part k 0 → s < 4294967296 → get_or part (k - 1) 0 < 4294967296 → f + s / 2147483648 ≡ count_below (k + 1) (drop_at part)
 drop_more part k f s p g e l m = rw (g, drop-is part k s p e l m) (sym (count-more k (drop_at part)))
 
-pub drop-end : (part : List ℕ) (k n f : ℕ) → f ≡ countBelow k (drop_at part) → k ≡ n → f ≡ countBelow n (drop_at part)
-drop-end part k n f g e = g ∙ ap (λ (z : ℕ). countBelow z (drop_at part)) e
+pub drop-end : (part : List ℕ) (k n f : ℕ) → f ≡ count_below k (drop_at part) → k ≡ n → f ≡ count_below n (drop_at part)
+drop-end part k n f g e = g ∙ ap (λ (z : ℕ). count_below z (drop_at part)) e
 
 -- ---- both parts of a true `&&`
 pub and_left : (a b : Bool) → (a && b) ≡ true → a ≡ true

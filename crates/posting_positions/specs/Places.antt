@@ -1,25 +1,25 @@
 -- What the passes over positions look for in a posting's part of the positions, and in a run of posting records.
 -- Assumes nothing: these are definitions.
 use Rattle.std.specs.Prelude.{ℕ, ◌+◌, ◌-◌, ◌*◌, ◌%◌, Bool, not, ◌&&◌, ◌||◌, List, length, drop, ◌==◌, nat_le, nat_lt, slice_index}
-use Rattle.meaning.specs.Below.{anyBelow}
-use Rattle.meaning.specs.Limits.{noMoreDocs}
+use Rattle.meaning.specs.Below.{any_below}
+use Rattle.meaning.specs.Limits.{no_more_docs}
 
 -- a position falling, or above 2147483647
-unfoldable pub wrongPlace : List ℕ → ℕ → Bool
-wrongPlace part j = nat_lt noMoreDocs (slice_index part j) || (nat_lt 0 j && nat_lt (slice_index part j) (slice_index part (j - 1)))
+unfoldable pub wrong_place : List ℕ → ℕ → Bool
+wrong_place part j = nat_lt no_more_docs (slice_index part j) || (nat_lt 0 j && nat_lt (slice_index part j) (slice_index part (j - 1)))
 
 -- positions of the i-th record past the slice, or one of them wrong
-unfoldable pub wrongPlaces : List ℕ → List ℕ → ℕ → Bool
-wrongPlaces run positions i =
-    nat_lt (length positions) (slice_index run (3 * i + 2) + slice_index run (3 * i + 1)) || anyBelow (slice_index run (3 * i + 1)) (wrongPlace (drop (slice_index run (3 * i + 2)) positions))
+unfoldable pub wrong_places : List ℕ → List ℕ → ℕ → Bool
+wrong_places run positions i =
+    nat_lt (length positions) (slice_index run (3 * i + 2) + slice_index run (3 * i + 1)) || any_below (slice_index run (3 * i + 1)) (wrong_place (drop (slice_index run (3 * i + 2)) positions))
 
 -- the positions of the i-th record do not begin where those of the one before end
-unfoldable pub apartAt : List ℕ → ℕ → Bool
-apartAt run i = nat_lt 0 i && not (slice_index run (3 * i + 2) == slice_index run (3 * (i - 1) + 2) + slice_index run (3 * (i - 1) + 1))
+unfoldable pub apart_at : List ℕ → ℕ → Bool
+apart_at run i = nat_lt 0 i && not (slice_index run (3 * i + 2) == slice_index run (3 * (i - 1) + 2) + slice_index run (3 * (i - 1) + 1))
 
 -- a fall where the positions of the i-th record begin
-unfoldable pub seamAt : List ℕ → List ℕ → ℕ → Bool
-seamAt run positions i =
+unfoldable pub seam_at : List ℕ → List ℕ → ℕ → Bool
+seam_at run positions i =
     nat_lt 0 i && nat_lt (slice_index positions (slice_index run (3 * i + 2))) (slice_index positions (slice_index run (3 * i + 2) - 1))
 
 -- a - b where a word wraps

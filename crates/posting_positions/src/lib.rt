@@ -2,8 +2,8 @@
 #![tactic(auto)]
 
 ghost use Rattle.std.specs.Prelude.{◌≡◌, ℕ, ◌+◌, ◌*◌, ◌/◌, ◌<◌, ◌≤◌, true, false, length, slice_index};
-ghost use Rattle.meaning.specs.Below.{anyBelow, countBelow};
-ghost use Rattle.posting_positions.specs.Places.{wrongPlace, wrongPlaces, apartAt, seamAt, drop_at};
+ghost use Rattle.meaning.specs.Below.{any_below, count_below};
+ghost use Rattle.posting_positions.specs.Places.{wrong_place, wrong_places, apart_at, seam_at, drop_at};
 
 use index::postings::NO_MORE_DOCS;
 use index::{sum, wide};
@@ -11,7 +11,7 @@ use std::num::wrapping_sub_u32;
 
 // The positions of one posting in one pass without a branch: falling, or above NO_MORE_DOCS, by the high bit of an or.
 fn wrong_places(part: &[u32]) -> bool
-    ensures { result ≡ anyBelow (length part.now) (wrongPlace part.now) }
+    ensures { result ≡ any_below (length part.now) (wrong_place part.now) }
 {
     let mut steps: u32 = 0;
     let mut previous: u32 = 0;
@@ -27,7 +27,7 @@ fn wrong_places(part: &[u32]) -> bool
 
 // The positions of a run's postings, where they lie within the slice.
 pub fn wrong_run_places(run: &[u32], positions: &[u32]) -> bool
-    ensures { result ≡ anyBelow (length run.now / 3) (wrongPlaces run.now positions.now) }
+    ensures { result ≡ any_below (length run.now / 3) (wrong_places run.now positions.now) }
 {
     let count = run.len() / 3;
     let mut bad = false;
@@ -69,7 +69,7 @@ pub struct Seen {
 fn seen_in(part: &[u32]) -> Seen
     requires { (0 < length part.now) × (length part.now ≤ 4294967295) }
     ensures by_index { (k : ℕ) → k < length part.now → slice_index part.now k ≤ result.all }
-    ensures falls_value { result.falls ≡ countBelow (length part.now) (drop_at part.now) }
+    ensures falls_value { result.falls ≡ count_below (length part.now) (drop_at part.now) }
 {
     let mut all = part[0];
     let mut falls: u32 = 0;
@@ -87,7 +87,7 @@ fn seen_in(part: &[u32]) -> Seen
 fn seams(run: &[u32], positions: &[u32]) -> usize
     requires nonzero { 0 < length run.now / 3 }
     requires by_index { (i : ℕ) → 0 < i → i < length run.now / 3 → (0 < slice_index run.now (3 * i + 2)) × (slice_index run.now (3 * i + 2) < length positions.now) }
-    ensures { result ≡ countBelow (length run.now / 3) (seamAt run.now positions.now) }
+    ensures { result ≡ count_below (length run.now / 3) (seam_at run.now positions.now) }
 {
     let count = run.len() / 3;
     let mut falls: usize = 0;
@@ -106,9 +106,9 @@ fn seams(run: &[u32], positions: &[u32]) -> usize
 // from one posting to the next. Where no frequency is above 1 there is no other fall.
 pub fn plain_positions(run: &[u32], positions: &[u32], frequencies: u32) -> bool
     requires nonzero { 0 < length run.now / 3 }
-    requires run_value { anyBelow (length run.now / 3) (apartAt run.now) ≡ false }
+    requires run_value { any_below (length run.now / 3) (apart_at run.now) ≡ false }
     requires by_index { (i : ℕ) → i < length run.now / 3 → (0 < slice_index run.now (3 * i + 1)) × (slice_index run.now (3 * i + 1) ≤ frequencies) }
-    ensures { result ≡ true → anyBelow (length run.now / 3) (wrongPlaces run.now positions.now) ≡ false }
+    ensures { result ≡ true → any_below (length run.now / 3) (wrong_places run.now positions.now) ≡ false }
 {
     let count = run.len() / 3;
     let last = 3 * (count - 1);

@@ -3,15 +3,15 @@ use Rattle.std.proofs.Common.{◌≡◌, ℕ, zero, suc, ◌+◌, ◌-◌, ◌*�
 use lib.Bits.{bit_or}
 use Rattle.meaning.proofs.Below.{count-zero, count-more, count-le, last-or-below}
 use Rattle.posting_positions.specs.Places.{gap}
-use Rattle.posting_rows.specs.Rows.{upAt, off_at, Lane}
+use Rattle.posting_rows.specs.Rows.{up_at, off_at, Lane}
 use Rattle.posting_positions.proofs.Gaps.{gap_is, high_bit, bound-more}
 
 module _ (words : List ℕ) (at : ℕ) where
   pub lane-none : Lane words at 0 0 0 0
   lane-none = record { count = sym (count-zero _); off = λ i l. absurd (omega arith); most = λ i l. absurd (omega arith) }
 
-  up_is : (n k : ℕ) → k ≡ at + 12 * n → leb 2147483648 (gap (get_or words (k - 3) 0) (get_or words k 0)) ≡ upAt words (at + 12 * n)
-  unfolding upAt
+  up_is : (n k : ℕ) → k ≡ at + 12 * n → leb 2147483648 (gap (get_or words (k - 3) 0) (get_or words k 0)) ≡ up_at words (at + 12 * n)
+  unfolding up_at
   up_is n k e = rw e
 
   off-is : (n k : ℕ) → k ≡ at + 12 * n → (gap (get_or words (k - 3) 0) (get_or words k 0) + get_or words (k - 4) 0) % 4294967296 ≡ off_at words (at + 12 * n)
@@ -22,13 +22,13 @@ module _ (words : List ℕ) (at : ℕ) where
   lane-more n r a o k s x h e g l m f =
       let is : s ≡ gap (get_or words (k - 3) 0) (get_or words k 0) = gap_is _ _ _ g l m in
       record {
-        count = ap (λ (z : ℕ). r + z) (high_bit s l ∙ ap (λ (z : ℕ). cond (leb 2147483648 z) 1 0) is ∙ ap (λ (b : Bool). cond b 1 0) (up_is n k e)) ∙ ap (λ (z : ℕ). z + cond (upAt words (at + 12 * n)) 1 0) h.count ∙ sym (count-more n _);
+        count = ap (λ (z : ℕ). r + z) (high_bit s l ∙ ap (λ (z : ℕ). cond (leb 2147483648 z) 1 0) is ∙ ap (λ (b : Bool). cond b 1 0) (up_is n k e)) ∙ ap (λ (z : ℕ). z + cond (up_at words (at + 12 * n)) 1 0) h.count ∙ sym (count-more n _);
         off = bound-more (λ i. off_at words (at + 12 * i)) n a x h.off (f ∙ ap (λ (z : ℕ). (z + get_or words (k - 4) 0) % 4294967296) is ∙ off-is n k e);
         most = bound-more (λ i. get_or words (at + 12 * i) 0) n o (get_or words k 0) h.most (ap (λ (z : ℕ). get_or words z 0) e);
       }
 
   pub lane_count : (n r a o : ℕ) → Lane words at n r a o → r ≤ n
-  lane_count n r a o h = omega (arith, h.count, count-le n (λ i. upAt words (at + 12 * i)))
+  lane_count n r a o h = omega (arith, h.count, count-le n (λ i. up_at words (at + 12 * i)))
 
 -- in row i the words before the j-th are gathered
 pub record Filled (words : List ℕ) (i j : ℕ) (rises apart all : List ℕ) : Type 0 where

@@ -1,10 +1,10 @@
 -- Rows of four records beside what was gathered before them. Assumes nothing.
 use Rattle.std.proofs.Common.{◌≡◌, ℕ, zero, suc, ◌+◌, ◌-◌, ◌*◌, ◌/◌, ◌%◌, ◌<◌, ◌≤◌, Bool, cond, ◌&&◌, ltb, List, length, get_or, take, drop, sym, refl, ap, ◌∙◌, subst, ⊎_elim, arith, length-drop, length-take, get_or-drop, get_or-take, lt-ltb}
 use lib.Bits.{bit_or}
-use Rattle.meaning.specs.Below.{countBelow}
+use Rattle.meaning.specs.Below.{count_below}
 use Rattle.meaning.proofs.Tests.{cmp}
 use Rattle.meaning.proofs.Below.{count-le}
-use Rattle.posting_rows.specs.Rows.{upAt, off_at, Lane, Over, documentUp, indexUp, laneDocuments, laneIndexes, joinedOf}
+use Rattle.posting_rows.specs.Rows.{up_at, off_at, Lane, Over, document_up, index_up, lane_documents, lane_indexes, joined_of}
 use Rattle.posting_rows.specs.declared.Lanes.{Lanes}
 use Rattle.posting_rows.specs.declared.Tally.{Tally}
 use Rattle.posting_positions.proofs.High.{or-ge}
@@ -19,8 +19,8 @@ module _ (run : List ℕ) (a c : ℕ) where
   word-part : (k m : ℕ) → k < c → a + k ≡ m → get_or part k 0 ≡ get_or run m 0
   word-part k m l e = get_or-take c (drop a run) k 0 l ∙ get_or-drop a run k 0 ∙ ap (λ (z : ℕ). get_or run z 0) e
 
-  up-part : (k m : ℕ) → 3 ≤ k → k < c → a + k ≡ m → upAt part k ≡ upAt run m
-  unfolding upAt
+  up-part : (k m : ℕ) → 3 ≤ k → k < c → a + k ≡ m → up_at part k ≡ up_at run m
+  unfolding up_at
   up-part k m h l e = rw (word-part (k - 3) (m - 3) (omega arith) (omega arith), word-part k m l e)
 
   off_part : (k m : ℕ) → 4 ≤ k → k < c → a + k ≡ m → off_at part k ≡ off_at run m
@@ -40,8 +40,8 @@ module _ (run : List ℕ) (a c : ℕ) where
 four : (m : ℕ) → 4 * suc m ≡ suc (suc (suc (suc (4 * m))))
 four m = omega arith
 
-count-rows : (m : ℕ) (p : ℕ → Bool) → countBelow (4 * m) p ≡ countBelow m (λ i. p (4 * i + 0)) + countBelow m (λ i. p (4 * i + 1)) + countBelow m (λ i. p (4 * i + 2)) + countBelow m (λ i. p (4 * i + 3))
-unfolding countBelow
+count-rows : (m : ℕ) (p : ℕ → Bool) → count_below (4 * m) p ≡ count_below m (λ i. p (4 * i + 0)) + count_below m (λ i. p (4 * i + 1)) + count_below m (λ i. p (4 * i + 2)) + count_below m (λ i. p (4 * i + 3))
+unfolding count_below
 count-rows zero p = refl
 count-rows (suc m) p =
     let z : 4 * m ≡ 4 * m + 0 = omega arith in
@@ -53,15 +53,15 @@ count-rows (suc m) p =
 -- k says where a word of a record stands: w words after the record begins
 module _ (n m w : ℕ) (some : 0 < n) (k : ℕ → ℕ) (k-is : (i : ℕ) → k i ≡ 3 * i + w) where
   -- what is counted at a word of each record
-  rows-up : (run : List ℕ) (x a b c d : ℕ) → x ≡ countBelow n (λ i. ltb 0 i && upAt run (k i)) → a ≡ countBelow m (λ i. upAt run (3 * n + w + 12 * i)) → b ≡ countBelow m (λ i. upAt run (3 * n + (w + 3) + 12 * i)) → c ≡ countBelow m (λ i. upAt run (3 * n + (w + 6) + 12 * i)) → d ≡ countBelow m (λ i. upAt run (3 * n + (w + 9) + 12 * i)) → x + (a + b + c + d) ≡ countBelow (n + 4 * m) (λ i. ltb 0 i && upAt run (k i))
+  rows-up : (run : List ℕ) (x a b c d : ℕ) → x ≡ count_below n (λ i. ltb 0 i && up_at run (k i)) → a ≡ count_below m (λ i. up_at run (3 * n + w + 12 * i)) → b ≡ count_below m (λ i. up_at run (3 * n + (w + 3) + 12 * i)) → c ≡ count_below m (λ i. up_at run (3 * n + (w + 6) + 12 * i)) → d ≡ count_below m (λ i. up_at run (3 * n + (w + 9) + 12 * i)) → x + (a + b + c + d) ≡ count_below (n + 4 * m) (λ i. ltb 0 i && up_at run (k i))
   rows-up run x a b c d e f g h u =
-      let s = count_add n (4 * m) (λ i. ltb 0 i && upAt run (k i)) in
-      let r = count-rows m (λ i. ltb 0 (n + i) && upAt run (k (n + i))) in
+      let s = count_add n (4 * m) (λ i. ltb 0 i && up_at run (k i)) in
+      let r = count-rows m (λ i. ltb 0 (n + i) && up_at run (k (n + i))) in
       omega (arith, e, f, g, h, u, s, r, row 0 w (omega arith), row 1 (w + 3) (omega arith), row 2 (w + 6) (omega arith), row 3 (w + 9) (omega arith))
     where
-      row : (q v : ℕ) → 3 * q + w ≡ v → countBelow m (λ i. ltb 0 (n + (4 * i + q)) && upAt run (k (n + (4 * i + q)))) ≡ countBelow m (λ i. upAt run (3 * n + v + 12 * i))
+      row : (q v : ℕ) → 3 * q + w ≡ v → count_below m (λ i. ltb 0 (n + (4 * i + q)) && up_at run (k (n + (4 * i + q)))) ≡ count_below m (λ i. up_at run (3 * n + v + 12 * i))
       row q v z =
-          count-like m _ _ (λ i l. let b : 0 < n + (4 * i + q) = omega arith in let y : k (n + (4 * i + q)) ≡ 3 * n + v + 12 * i = omega (arith, k-is (n + (4 * i + q))) in rw (lt-ltb _ _ b) (ap (λ (u : ℕ). upAt run u) y))
+          count-like m _ _ (λ i l. let b : 0 < n + (4 * i + q) = omega arith in let y : k (n + (4 * i + q)) ≡ 3 * n + v + 12 * i = omega (arith, k-is (n + (4 * i + q))) in rw (lt-ltb _ _ b) (ap (λ (u : ℕ). up_at run u) y))
 
   -- what bounds a word of each record
   rows_bound : (g : ℕ → ℕ) (x a b c d : ℕ) → ((i : ℕ) → i < m → g (3 * n + w + 12 * i) ≤ a) → ((i : ℕ) → i < m → g (3 * n + (w + 3) + 12 * i) ≤ b) → ((i : ℕ) → i < m → g (3 * n + (w + 6) + 12 * i) ≤ c) → ((i : ℕ) → i < m → g (3 * n + (w + 9) + 12 * i) ≤ d) → (i : ℕ) → (i < n → g (k i) ≤ x) → i < n + 4 * m → g (k i) ≤ bit_or (bit_or (bit_or (bit_or x a) b) c) d
@@ -95,7 +95,7 @@ module _ (run : List ℕ) (n m start stop : ℕ) (t : Tally) (l : Lanes) (two : 
   lane j b =
       lane-part run start (stop - start) (6 + j) (3 * n + j) m _ _ _ (omega arith) (omega arith) (omega arith) (subst (λ (z : ℕ). Lane (take (stop - start) (drop start run)) (6 + j) z (get_or l.rises j 0) (get_or l.apart j 0) (get_or l.all j 0)) rows-many (h j b))
 
-  pub over-rows : Over run (n + 4 * m) (joinedOf t l)
+  pub over-rows : Over run (n + 4 * m) (joined_of t l)
   over-rows =
       record {
         documents-up = rows-up n m 0 (omega arith) (λ i. 3 * i) (λ i. omega arith) run _ _ _ _ _ o.documents-up (lane 0 (omega arith)).count (lane 3 (omega arith)).count (lane 6 (omega arith)).count (lane 9 (omega arith)).count;
@@ -107,5 +107,5 @@ module _ (run : List ℕ) (n m start stop : ℕ) (t : Tally) (l : Lanes) (two : 
       }
 
   -- the sums stay below the number of records
-  pub rows_few : (t.ascents + laneDocuments l ≤ n + 4 * m) × (t.advances + laneIndexes l ≤ n + 4 * m)
-  rows_few = (omega (arith, over-rows.documents-up, count-le (n + 4 * m) (documentUp run)), omega (arith, over-rows.indexes-up, count-le (n + 4 * m) (indexUp run)))
+  pub rows_few : (t.ascents + lane_documents l ≤ n + 4 * m) × (t.advances + lane_indexes l ≤ n + 4 * m)
+  rows_few = (omega (arith, over-rows.documents-up, count-le (n + 4 * m) (document_up run)), omega (arith, over-rows.indexes-up, count-le (n + 4 * m) (index_up run)))

@@ -1,13 +1,13 @@
 -- What the pass over records in rows gathers. Assumes nothing: these are definitions.
 use Rattle.std.specs.Prelude.{◌≡◌, ℕ, ◌+◌, ◌-◌, ◌*◌, ◌%◌, ◌<◌, ◌≤◌, Bool, ◌&&◌, List, bit_or, nat_le, nat_lt, slice_index}
-use Rattle.meaning.specs.Below.{countBelow}
+use Rattle.meaning.specs.Below.{count_below}
 use Rattle.posting_positions.specs.Places.{gap}
 use Rattle.posting_rows.specs.declared.Lanes.{Lanes}
 use Rattle.posting_rows.specs.declared.Tally.{Tally}
 
 -- the word at k is above that of the record before: so where neither has its high bit set
-unfoldable pub upAt : List ℕ → ℕ → Bool
-upAt words k = nat_le 2147483648 (gap (slice_index words (k - 3)) (slice_index words k))
+unfoldable pub up_at : List ℕ → ℕ → Bool
+up_at words k = nat_le 2147483648 (gap (slice_index words (k - 3)) (slice_index words k))
 
 -- an index less the index and the frequency of the record before, with the sign changed
 unfoldable pub off_at : List ℕ → ℕ → ℕ
@@ -15,43 +15,43 @@ off_at words k = (gap (slice_index words (k - 3)) (slice_index words k) + slice_
 
 -- what is gathered of n words from `at` on, each twelve after the one before
 pub record Lane (words : List ℕ) (at n rises apart all : ℕ) : Type 0 where
-  pub count : rises ≡ countBelow n (λ i. upAt words (at + 12 * i))
+  pub count : rises ≡ count_below n (λ i. up_at words (at + 12 * i))
   pub off : (i : ℕ) → i < n → off_at words (at + 12 * i) ≤ apart
   pub most : (i : ℕ) → i < n → slice_index words (at + 12 * i) ≤ all
 
 -- the document, or the index, of record i is above that of the record before
-abbrev pub documentUp : List ℕ → ℕ → Bool
-documentUp run i = nat_lt 0 i && upAt run (3 * i)
+abbrev pub document_up : List ℕ → ℕ → Bool
+document_up run i = nat_lt 0 i && up_at run (3 * i)
 
-abbrev pub indexUp : List ℕ → ℕ → Bool
-indexUp run i = nat_lt 0 i && upAt run (3 * i + 2)
+abbrev pub index_up : List ℕ → ℕ → Bool
+index_up run i = nat_lt 0 i && up_at run (3 * i + 2)
 
 -- what is gathered of the first n records
 pub record Over (run : List ℕ) (n : ℕ) (t : Tally) : Type 0 where
-  pub documents-up : t.ascents ≡ countBelow n (documentUp run)
-  pub indexes-up : t.advances ≡ countBelow n (indexUp run)
+  pub documents-up : t.ascents ≡ count_below n (document_up run)
+  pub indexes-up : t.advances ≡ count_below n (index_up run)
   pub off : (i : ℕ) → 0 < i → i < n → off_at run (3 * i + 2) ≤ t.apart
   pub document : (i : ℕ) → i < n → slice_index run (3 * i) ≤ t.docs
   pub frequency : (i : ℕ) → i < n → slice_index run (3 * i + 1) ≤ t.frequencies
   pub index : (i : ℕ) → i < n → slice_index run (3 * i + 2) ≤ t.indexes
 
 -- the rises of a row's documents, and of its indexes
-abbrev pub laneDocuments : Lanes → ℕ
-laneDocuments l = slice_index l.rises 0 + slice_index l.rises 3 + slice_index l.rises 6 + slice_index l.rises 9
+abbrev pub lane_documents : Lanes → ℕ
+lane_documents l = slice_index l.rises 0 + slice_index l.rises 3 + slice_index l.rises 6 + slice_index l.rises 9
 
-abbrev pub laneIndexes : Lanes → ℕ
-laneIndexes l = slice_index l.rises 2 + slice_index l.rises 5 + slice_index l.rises 8 + slice_index l.rises 11
+abbrev pub lane_indexes : Lanes → ℕ
+lane_indexes l = slice_index l.rises 2 + slice_index l.rises 5 + slice_index l.rises 8 + slice_index l.rises 11
 
 -- a word of a row in each of its four records
 abbrev pub or_of : ℕ → List ℕ → ℕ → ℕ → ℕ → ℕ → ℕ
 or_of x xs a b c d = bit_or (bit_or (bit_or (bit_or x (slice_index xs a)) (slice_index xs b)) (slice_index xs c)) (slice_index xs d)
 
 -- rows beside what was gathered before them
-abbrev pub joinedOf : Tally → Lanes → Tally
-joinedOf t l =
+abbrev pub joined_of : Tally → Lanes → Tally
+joined_of t l =
     record {
-      ascents = t.ascents + laneDocuments l;
-      advances = t.advances + laneIndexes l;
+      ascents = t.ascents + lane_documents l;
+      advances = t.advances + lane_indexes l;
       apart = or_of t.apart l.apart 2 5 8 11;
       docs = or_of t.docs l.all 0 3 6 9;
       frequencies = or_of t.frequencies l.all 1 4 7 10;

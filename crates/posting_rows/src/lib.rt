@@ -2,7 +2,7 @@
 #![tactic(auto)]
 
 ghost use Rattle.std.specs.Prelude.{◌≡◌, ℕ, ◌+◌, ◌-◌, ◌/◌, ◌<◌, ◌≤◌, length, slice_index};
-ghost use Rattle.posting_rows.specs.Rows.{Lane, Over, laneDocuments, laneIndexes, joinedOf};
+ghost use Rattle.posting_rows.specs.Rows.{Lane, Over, lane_documents, lane_indexes, joined_of};
 
 use std::num::{wrapping_add_u32, wrapping_sub_u32};
 
@@ -87,8 +87,8 @@ fn head(run: &[u32], to: usize) -> Tally
 
 // Rows beside what was gathered before them.
 fn joined(t: Tally, l: Lanes) -> Tally
-    requires { (t.ascents + laneDocuments l ≤ 4294967295) × (t.advances + laneIndexes l ≤ 4294967295) }
-    ensures { result ≡ joinedOf t l }
+    requires { (t.ascents + lane_documents l ≤ 4294967295) × (t.advances + lane_indexes l ≤ 4294967295) }
+    ensures { result ≡ joined_of t l }
 {
     let rises = l.rises;
     let apart = l.apart;

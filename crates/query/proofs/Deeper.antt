@@ -7,49 +7,49 @@ use Prim.Native.Nat.{ℕ, zero, suc, ◌+◌, ◌-◌, ◌≤◌}
 use native.Mathlib.Omega.{arith}
 use lib.Dec.{eqb, leb, ltb}
 use borrow.Author.Tests.{lt-ltb}
-use Rattle.meaning.specs.Query.{Kind, aTerm, aPhrase, aBoolean, aRange, aMatchAll, aConstantScore, aBoost, aMatchNone, aPhraseTerm, recordCount, recordOccurrence, recordChildren, Decoded, DecodedClauses, decode, decodeKind, decodeClauses, decodeChild, decodePhrase, guard}
+use Rattle.meaning.specs.Query.{Kind, a_term, a_phrase, a_boolean, a_range, a_match_all, a_constant_score, a_boost, a_match_none, a_phrase_term, record_count, record_occurrence, record_children, Decoded, DecodedClauses, decode, decode_kind, decode_clauses, decode_child, decode_phrase, guard}
 use Rattle.query.proofs.Inverse.{bind-some, guard-some, both_true, opened, one-clause, some_same}
 use Rattle.query.proofs.Steps.{decode-kind}
 use Rattle.query.proofs.Spans.{no-depth, nothing}
 
-phrase-deeper : (q : List ℕ) (k r : ℕ) (D : Decoded) → decodePhrase q k r ≡ some D → decodePhrase q (suc k) r ≡ some D
-unfolding decodePhrase
+phrase-deeper : (q : List ℕ) (k r : ℕ) (D : Decoded) → decode_phrase q k r ≡ some D → decode_phrase q (suc k) r ≡ some D
+unfolding decode_phrase
 phrase-deeper q k r D e =
-    let a = bind-some (guard (ltb 0 k && leb (r + 1 + recordChildren q r) (recordCount q))) _ D e in
-    let deep = (both_true (ltb 0 k) (leb (r + 1 + recordChildren q r) (recordCount q)) (guard-some (ltb 0 k && leb (r + 1 + recordChildren q r) (recordCount q)) a.0 a.1)).0 in
+    let a = bind-some (guard (ltb 0 k && leb (r + 1 + record_children q r) (record_count q))) _ D e in
+    let deep = (both_true (ltb 0 k) (leb (r + 1 + record_children q r) (record_count q)) (guard-some (ltb 0 k && leb (r + 1 + record_children q r) (record_count q)) a.0 a.1)).0 in
     rw (lt-ltb 0 (suc k) (omega arith)) (rw deep at e)
 
 module _ (q : List ℕ) (at more : ℕ → Option Decoded) (f : (r : ℕ) (D : Decoded) → at r ≡ some D → more r ≡ some D) where
-  clauses-deeper : (n r : ℕ) (C : DecodedClauses) → decodeClauses q at n r ≡ some C → decodeClauses q more n r ≡ some C
-  unfolding decodeClauses
+  clauses-deeper : (n r : ℕ) (C : DecodedClauses) → decode_clauses q at n r ≡ some C → decode_clauses q more n r ≡ some C
+  unfolding decode_clauses
   clauses-deeper zero r C e = e
   clauses-deeper (suc n) r C e =
       let o = one-clause q at n r C e in
       rw (o.occur-is, f r o.first o.first-is, clauses-deeper n o.first.next o.rest o.rest-is, ← o.clauses-are, ← o.next-is)
 
-  child-deeper : (r : ℕ) (D : Decoded) → decodeChild q at r ≡ some D → decodeChild q more r ≡ some D
-  unfolding decodeChild
+  child-deeper : (r : ℕ) (D : Decoded) → decode_child q at r ≡ some D → decode_child q more r ≡ some D
+  unfolding decode_child
   child-deeper r D e =
-      let a = bind-some (guard (eqb (recordOccurrence q (r + 1)) 0)) (λ ok. at (r + 1)) D e in
+      let a = bind-some (guard (eqb (record_occurrence q (r + 1)) 0)) (λ ok. at (r + 1)) D e in
       rw a.1 (f (r + 1) D a.2)
 
-  kind-deeper : (k r : ℕ) (kind : Kind) (D : Decoded) → decodeKind q at k r kind ≡ some D → decodeKind q more (suc k) r kind ≡ some D
-  unfolding decodeKind
-  kind-deeper k r aTerm D e = e
-  kind-deeper k r aPhrase D e = phrase-deeper q k r D e
-  kind-deeper k r aBoolean D e =
-      let a = bind-some (decodeClauses q at (recordChildren q r) (r + 1)) _ D e in
-      rw (clauses-deeper (recordChildren q r) (r + 1) a.0 a.1) a.2
-  kind-deeper k r aRange D e = e
-  kind-deeper k r aMatchAll D e = e
-  kind-deeper k r aConstantScore D e =
-      let a = bind-some (decodeChild q at r) _ D e in
+  kind-deeper : (k r : ℕ) (kind : Kind) (D : Decoded) → decode_kind q at k r kind ≡ some D → decode_kind q more (suc k) r kind ≡ some D
+  unfolding decode_kind
+  kind-deeper k r a_term D e = e
+  kind-deeper k r a_phrase D e = phrase-deeper q k r D e
+  kind-deeper k r a_boolean D e =
+      let a = bind-some (decode_clauses q at (record_children q r) (r + 1)) _ D e in
+      rw (clauses-deeper (record_children q r) (r + 1) a.0 a.1) a.2
+  kind-deeper k r a_range D e = e
+  kind-deeper k r a_match_all D e = e
+  kind-deeper k r a_constant_score D e =
+      let a = bind-some (decode_child q at r) _ D e in
       rw (child-deeper r a.0 a.1) a.2
-  kind-deeper k r aBoost D e =
-      let a = bind-some (decodeChild q at r) _ D e in
+  kind-deeper k r a_boost D e =
+      let a = bind-some (decode_child q at r) _ D e in
       rw (child-deeper r a.0 a.1) a.2
-  kind-deeper k r aMatchNone D e = e
-  kind-deeper k r aPhraseTerm D e = e
+  kind-deeper k r a_match_none D e = e
+  kind-deeper k r a_phrase_term D e = e
 
 pub deeper : (q : List ℕ) (k r : ℕ) (D : Decoded) → decode q k r ≡ some D → decode q (suc k) r ≡ some D
 deeper q zero r D e = nothing D (no-depth q r D e)

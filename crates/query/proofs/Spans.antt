@@ -6,7 +6,7 @@ use mathlib.Core.Option.{Option, none, some}
 use mathlib.Core.Logic.{◌⊎◌, inl, inr}
 use Prim.Native.Nat.{ℕ, zero, suc, ◌+◌, ◌-◌, ◌≤◌, ◌<◌}
 use native.Mathlib.Omega.{arith}
-use Rattle.meaning.specs.Query.{recordCount, recordKind, recordChildren, Decoded, DecodedClauses, decode, decodeClauses, isPhraseTerm}
+use Rattle.meaning.specs.Query.{record_count, record_kind, record_children, Decoded, DecodedClauses, decode, decode_clauses, is_phrase_term}
 use Rattle.query.proofs.Inverse.{one-clause, record-here, term-at, phrase-at, boolean-at, range_at, all-at, constant-at, boost-at, none-at, kind-is, KindIs, is-term, is-phrase, is-boolean, is-range, is_all, is-constant, is-boost, is_none, some_same}
 
 pub nothing : {A : Type 0} {P : Type 0} (x : A) → ◌≡◌ {A = Option A} none (some x) → P
@@ -15,10 +15,10 @@ nothing x e = let z : ◌≡◌ {A = ℕ} 0 1 = cc in absurd (omega arith)
 -- ---- a tree ends after its own record and within the query
 pub record Span (q : List ℕ) (r next : ℕ) : Type 0 where
   pub past : r < next
-  pub within : next ≤ recordCount q
+  pub within : next ≤ record_count q
 
-pub clauses-span : (q : List ℕ) (at : ℕ → Option Decoded) → ((r : ℕ) (D : Decoded) → at r ≡ some D → Span q r D.next) → (n r : ℕ) (C : DecodedClauses) → r ≤ recordCount q → decodeClauses q at n r ≡ some C → (r ≤ C.next) × (C.next ≤ recordCount q)
-unfolding decodeClauses
+pub clauses-span : (q : List ℕ) (at : ℕ → Option Decoded) → ((r : ℕ) (D : Decoded) → at r ≡ some D → Span q r D.next) → (n r : ℕ) (C : DecodedClauses) → r ≤ record_count q → decode_clauses q at n r ≡ some C → (r ≤ C.next) × (C.next ≤ record_count q)
+unfolding decode_clauses
 clauses-span q at f zero r C h e = let same = ap DecodedClauses.next (some_same _ C e) in (omega (arith, same), omega (arith, same))
 clauses-span q at f (suc n) r C h e =
     let o = one-clause q at n r C e in
@@ -42,14 +42,14 @@ tree-span q (suc k) r D e = go (tree-span q k) (kind-is q k r D e)
     child : (C : Decoded) → D.next ≡ C.next → Span q (r + 1) C.next → Span q r D.next
     child C n s = let p = s.past in let w = s.within in record { past = omega (arith, n, p); within = omega (arith, n, w) }
 
-    go : ((r : ℕ) (D : Decoded) → decode q k r ≡ some D → Span q r D.next) → KindIs (recordKind q r) → Span q r D.next
+    go : ((r : ℕ) (D : Decoded) → decode q k r ≡ some D → Span q r D.next) → KindIs (record_kind q r) → Span q r D.next
     go f (is-term h) = leaf (term-at q k r D e h).next-is
     go f (is-phrase h) = let p = phrase-at q k r D e h in let n = p.next-is in let w = p.terms-here in record { past = omega (arith, n); within = omega (arith, n, w) }
     go f (is-boolean h) =
         let b = boolean-at q k r D e h in
         let here = record-here q k r D e in
         let n = b.next-is in
-        let s = clauses-span q (decode q k) f (recordChildren q r) (r + 1) b.inside (omega (arith, here)) b.decoded in
+        let s = clauses-span q (decode q k) f (record_children q r) (r + 1) b.inside (omega (arith, here)) b.decoded in
         record { past = omega (arith, n, s.0); within = omega (arith, n, s.1) }
     go f (is-range h) = leaf (range_at q k r D e h).next-is
     go f (is_all h) = leaf (all-at q k r D e h).next-is
@@ -58,13 +58,13 @@ tree-span q (suc k) r D e = go (tree-span q k) (kind-is q k r D e)
     go f (is_none h) = leaf (none-at q k r D e h).next-is
 
 -- the clauses of a Boolean end within the query, not before they begin
-pub decoded-clauses-span : (q : List ℕ) (k n r : ℕ) (C : DecodedClauses) → r ≤ recordCount q → decodeClauses q (decode q k) n r ≡ some C → (r ≤ C.next) × (C.next ≤ recordCount q)
+pub decoded-clauses-span : (q : List ℕ) (k n r : ℕ) (C : DecodedClauses) → r ≤ record_count q → decode_clauses q (decode q k) n r ≡ some C → (r ≤ C.next) × (C.next ≤ record_count q)
 decoded-clauses-span q k n r C h e = clauses-span q (decode q k) (tree-span q k) n r C h e
 
 -- ---- each record from a tree's to its end stands for a tree, or for a phrase's term
 pub data Stands (q : List ℕ) (i : ℕ) : Type 0 where
   a-tree : (k : ℕ) (D : Decoded) → decode q (suc k) i ≡ some D → Stands q i
-  a-phrase-term : isPhraseTerm q i ≡ true → Stands q i
+  a-phrase-term : is_phrase_term q i ≡ true → Stands q i
 
 -- r itself, or one after it
 from_or : (r i : ℕ) → r ≤ i → (i ≡ r) ⊎ (r + 1 ≤ i)
@@ -87,8 +87,8 @@ before-or (suc e) (suc i) = elim (before-or e i) [
 abbrev pub Standing : List ℕ → ℕ → ℕ → Type 0
 Standing q r e = (i : ℕ) → r ≤ i → i < e → Stands q i
 
-clauses-stand : (q : List ℕ) (at : ℕ → Option Decoded) → ((r : ℕ) (D : Decoded) → at r ≡ some D → Standing q r D.next) → (n r : ℕ) (C : DecodedClauses) → decodeClauses q at n r ≡ some C → Standing q r C.next
-unfolding decodeClauses
+clauses-stand : (q : List ℕ) (at : ℕ → Option Decoded) → ((r : ℕ) (D : Decoded) → at r ≡ some D → Standing q r D.next) → (n r : ℕ) (C : DecodedClauses) → decode_clauses q at n r ≡ some C → Standing q r C.next
+unfolding decode_clauses
 clauses-stand q at f zero r C e i h g = let same = ap DecodedClauses.next (some_same _ C e) in absurd (omega (arith, same, h, g))
 clauses-stand q at f (suc n) r C e i h g =
     let o = one-clause q at n r C e in
@@ -102,17 +102,17 @@ pub tree-stands : (q : List ℕ) (k r : ℕ) (D : Decoded) → decode q k r ≡ 
 tree-stands q zero r D e i h g = nothing D (no-depth q r D e)
 tree-stands q (suc k) r D e i h g = here-or (tree-stands q k) (from_or r i h)
   where
-    after : ((r : ℕ) (D : Decoded) → decode q k r ≡ some D → Standing q r D.next) → r + 1 ≤ i → KindIs (recordKind q r) → Stands q i
+    after : ((r : ℕ) (D : Decoded) → decode q k r ≡ some D → Standing q r D.next) → r + 1 ≤ i → KindIs (record_kind q r) → Stands q i
     after f b (is-term h) = let n = (term-at q k r D e h).next-is in absurd (omega (arith, n, b, g))
     after f b (is-phrase h) =
         let p = phrase-at q k r D e h in
         let n = p.next-is in
         let at : r + 1 + (i - (r + 1)) ≡ i = omega (arith, b) in
-        a-phrase-term (subst (λ (z : ℕ). isPhraseTerm q z ≡ true) at (p.terms-are (i - (r + 1)) (omega (arith, n, b, g))))
+        a-phrase-term (subst (λ (z : ℕ). is_phrase_term q z ≡ true) at (p.terms-are (i - (r + 1)) (omega (arith, n, b, g))))
     after f b (is-boolean h) =
         let o = boolean-at q k r D e h in
         let n = o.next-is in
-        clauses-stand q (decode q k) f (recordChildren q r) (r + 1) o.inside o.decoded i b (omega (arith, n, g))
+        clauses-stand q (decode q k) f (record_children q r) (r + 1) o.inside o.decoded i b (omega (arith, n, g))
     after f b (is-range h) = let n = (range_at q k r D e h).next-is in absurd (omega (arith, n, b, g))
     after f b (is_all h) = let n = (all-at q k r D e h).next-is in absurd (omega (arith, n, b, g))
     after f b (is-constant h) = let c = constant-at q k r D e h in let n = c.next-is in f (r + 1) c.child c.decoded i b (omega (arith, n, g))

@@ -8,8 +8,8 @@ use native.Mathlib.Omega.{arith}
 use lib.Dec.{eqb, ltb}
 use lib.ListN.{length}
 use borrow.Author.Tests.{lt-ltb, le-ltb, eq-eqb, ne_eqb, ltb-false, eqb-true, eqb-false, not-false}
-use Rattle.meaning.specs.Query.{recordCount, recordKind, recordChildren, recordOccurrence, Decoded, decode, decodeQuery, queryTree, tree_of, guard}
-use Rattle.meaning.specs.QueryRefusals.{wrong7, wrongRecords}
+use Rattle.meaning.specs.Query.{record_count, record_kind, record_children, record_occurrence, Decoded, decode, decode_query, query_tree, tree_of, guard}
+use Rattle.meaning.specs.QueryRefusals.{wrong7, wrong_records}
 use Rattle.query.specs.Inner.{end_of}
 use Rattle.meaning.proofs.Tests.{true-left, true-right, or_left, or_right}
 use Rattle.query.proofs.Inverse.{bind-some, guard-some, both_true, phrase-at}
@@ -20,60 +20,60 @@ module _ (q : List ℕ) where
   unfolding wrong7
   not-whole h = rw (ne_eqb (length q % 9) 0 h)
 
-  pub no-records : recordCount q ≡ 0 → true ≡ wrong7 q
+  pub no-records : record_count q ≡ 0 → true ≡ wrong7 q
   unfolding wrong7
-  no-records e = sym (true-left _ _ (true-left _ _ (true-right (not (eqb (length q % 9) 0)) (eqb (recordCount q) 0) (eq-eqb (recordCount q) 0 e))))
+  no-records e = sym (true-left _ _ (true-left _ _ (true-right (not (eqb (length q % 9) 0)) (eqb (record_count q) 0) (eq-eqb (record_count q) 0 e))))
 
-  pub many-records : 256 < recordCount q → true ≡ wrong7 q
+  pub many-records : 256 < record_count q → true ≡ wrong7 q
   unfolding wrong7
-  many-records h = sym (true-left _ _ (true-right (not (eqb (length q % 9) 0) || eqb (recordCount q) 0) (ltb 256 (recordCount q)) (lt-ltb 256 (recordCount q) h)))
+  many-records h = sym (true-left _ _ (true-right (not (eqb (length q % 9) 0) || eqb (record_count q) 0) (ltb 256 (record_count q)) (lt-ltb 256 (record_count q) h)))
 
-  pub root-placed : (recordOccurrence q 0 ≡ 0 → ⊥) → true ≡ wrong7 q
-  unfolding wrong7 decodeQuery wrongRecords
-  root-placed h = sym (true-right (not (eqb (length q % 9) 0) || eqb (recordCount q) 0 || ltb 256 (recordCount q)) _ (rw (ne_eqb (recordOccurrence q 0) 0 h)))
+  pub root-placed : (record_occurrence q 0 ≡ 0 → ⊥) → true ≡ wrong7 q
+  unfolding wrong7 decode_query wrong_records
+  root-placed h = sym (true-right (not (eqb (length q % 9) 0) || eqb (record_count q) 0 || ltb 256 (record_count q)) _ (rw (ne_eqb (record_occurrence q 0) 0 h)))
 
-  ends-wrong : (o : Option Decoded) → (recordCount q ≡ 0 → ⊥) → not (eqb (end_of o) (recordCount q)) ≡ wrongRecords q o
-  unfolding wrongRecords
-  ends-wrong none h = rw (ne_eqb 0 (recordCount q) (λ e. h (sym e)))
+  ends-wrong : (o : Option Decoded) → (record_count q ≡ 0 → ⊥) → not (eqb (end_of o) (record_count q)) ≡ wrong_records q o
+  unfolding wrong_records
+  ends-wrong none h = rw (ne_eqb 0 (record_count q) (λ e. h (sym e)))
   ends-wrong (some D) h = refl
 
   -- "records left over", where all else is right
-  pub left_over : length q % 9 ≡ 0 → (recordCount q ≡ 0 → ⊥) → recordCount q ≤ 256 → recordOccurrence q 0 ≡ 0 → not (eqb (end_of (decode q 16 0)) (recordCount q)) ≡ wrong7 q
-  unfolding wrong7 decodeQuery
+  pub left_over : length q % 9 ≡ 0 → (record_count q ≡ 0 → ⊥) → record_count q ≤ 256 → record_occurrence q 0 ≡ 0 → not (eqb (end_of (decode q 16 0)) (record_count q)) ≡ wrong7 q
+  unfolding wrong7 decode_query
   left_over w n m o =
-      rw (eq-eqb (length q % 9) 0 w, ne_eqb (recordCount q) 0 n, le-ltb 256 (recordCount q) m, eq-eqb (recordOccurrence q 0) 0 o)
+      rw (eq-eqb (length q % 9) 0 w, ne_eqb (record_count q) 0 n, le-ltb 256 (record_count q) m, eq-eqb (record_occurrence q 0) 0 o)
       (ends-wrong (decode q 16 0) n)
 
   -- ---- what 7 lets through
   pub record Whole : Type 0 where
     pub whole : length q % 9 ≡ 0
-    pub some-records : 0 < recordCount q
-    pub few-records : recordCount q ≤ 256
-    pub root-occurrence : recordOccurrence q 0 ≡ 0
+    pub some-records : 0 < record_count q
+    pub few-records : record_count q ≤ 256
+    pub root-occurrence : record_occurrence q 0 ≡ 0
     pub root : Decoded
     pub root_is : decode q 16 0 ≡ some root
-    pub query-is : decodeQuery q ≡ some root
-    pub tree_is : queryTree q ≡ root.tree
-    pub none_left : root.next ≡ recordCount q
+    pub query-is : decode_query q ≡ some root
+    pub tree_is : query_tree q ≡ root.tree
+    pub none_left : root.next ≡ record_count q
 
-  right-some : (o : Option Decoded) → wrongRecords q o ≡ false → (D : Decoded) × (o ≡ some D) × (D.next ≡ recordCount q)
-  unfolding wrongRecords
+  right-some : (o : Option Decoded) → wrong_records q o ≡ false → (D : Decoded) × (o ≡ some D) × (D.next ≡ record_count q)
+  unfolding wrong_records
   right-some none e = let z : ◌≡◌ {A = ℕ} 0 1 = cc in absurd (omega arith)
-  right-some (some D) e = (D, refl, eqb-true D.next (recordCount q) (not-false (eqb D.next (recordCount q)) e))
+  right-some (some D) e = (D, refl, eqb-true D.next (record_count q) (not-false (eqb D.next (record_count q)) e))
 
   pub whole : wrong7 q ≡ false → Whole
-  unfolding wrong7 decodeQuery queryTree
+  unfolding wrong7 decode_query query_tree
   whole e =
-      let ab = or_left (not (eqb (length q % 9) 0) || eqb (recordCount q) 0 || ltb 256 (recordCount q)) (wrongRecords q (decodeQuery q)) e in
-      let a = or_left (not (eqb (length q % 9) 0) || eqb (recordCount q) 0) (ltb 256 (recordCount q)) ab in
-      let none = eqb-false (recordCount q) 0 (or_right (not (eqb (length q % 9) 0)) (eqb (recordCount q) 0) a) in
-      let d = right-some (decodeQuery q) (or_right (not (eqb (length q % 9) 0) || eqb (recordCount q) 0 || ltb 256 (recordCount q)) (wrongRecords q (decodeQuery q)) e) in
-      let g = bind-some (guard (eqb (recordOccurrence q 0) 0)) (λ ok. decode q 16 0) d.0 d.1 in
+      let ab = or_left (not (eqb (length q % 9) 0) || eqb (record_count q) 0 || ltb 256 (record_count q)) (wrong_records q (decode_query q)) e in
+      let a = or_left (not (eqb (length q % 9) 0) || eqb (record_count q) 0) (ltb 256 (record_count q)) ab in
+      let none = eqb-false (record_count q) 0 (or_right (not (eqb (length q % 9) 0)) (eqb (record_count q) 0) a) in
+      let d = right-some (decode_query q) (or_right (not (eqb (length q % 9) 0) || eqb (record_count q) 0 || ltb 256 (record_count q)) (wrong_records q (decode_query q)) e) in
+      let g = bind-some (guard (eqb (record_occurrence q 0) 0)) (λ ok. decode q 16 0) d.0 d.1 in
       record {
-        whole = eqb-true (length q % 9) 0 (not-false (eqb (length q % 9) 0) (or_left (not (eqb (length q % 9) 0)) (eqb (recordCount q) 0) a));
-        some-records = above-none (recordCount q) none;
-        few-records = ltb-false 256 (recordCount q) (or_right (not (eqb (length q % 9) 0) || eqb (recordCount q) 0) (ltb 256 (recordCount q)) ab);
-        root-occurrence = eqb-true (recordOccurrence q 0) 0 (guard-some (eqb (recordOccurrence q 0) 0) g.0 g.1);
+        whole = eqb-true (length q % 9) 0 (not-false (eqb (length q % 9) 0) (or_left (not (eqb (length q % 9) 0)) (eqb (record_count q) 0) a));
+        some-records = above-none (record_count q) none;
+        few-records = ltb-false 256 (record_count q) (or_right (not (eqb (length q % 9) 0) || eqb (record_count q) 0) (ltb 256 (record_count q)) ab);
+        root-occurrence = eqb-true (record_occurrence q 0) 0 (guard-some (eqb (record_occurrence q 0) 0) g.0 g.1);
         root = d.0;
         root_is = g.2;
         query-is = d.1;
@@ -86,18 +86,18 @@ module _ (q : List ℕ) where
       above-none (suc n) h = omega arith
 
 -- each record of a whole query stands for a tree, or for a phrase's term
-pub record-stands : (q : List ℕ) → wrong7 q ≡ false → (i : ℕ) → i < recordCount q → Stands q i
+pub record-stands : (q : List ℕ) → wrong7 q ≡ false → (i : ℕ) → i < record_count q → Stands q i
 record-stands q e i h = let w = whole q e in let n = w.none_left in tree-stands q 16 0 w.root w.root_is i (omega arith) (omega (arith, n, h))
 
 -- a record that says Phrase is one, wherever it stands, and its terms are records of the query
-pub phrase-stands : (q : List ℕ) → wrong7 q ≡ false → (r : ℕ) → r < recordCount q → recordKind q r ≡ 2 → (k : ℕ) × (D : Decoded) × (decode q (suc k) r ≡ some D)
+pub phrase-stands : (q : List ℕ) → wrong7 q ≡ false → (r : ℕ) → r < record_count q → record_kind q r ≡ 2 → (k : ℕ) × (D : Decoded) × (decode q (suc k) r ≡ some D)
 phrase-stands q e r h k = go (record-stands q e r h)
   where
     go : Stands q r → (k : ℕ) × (D : Decoded) × (decode q (suc k) r ≡ some D)
     go (a-tree d D f) = (d, D, f)
     go (a-phrase-term t) =
-        let nine = eqb-true (recordKind q r) 9 (both_true (eqb (recordKind q r) 9) _ (both_true (eqb (recordKind q r) 9 && eqb (recordOccurrence q r) 0) _ t).0).0 in
+        let nine = eqb-true (record_kind q r) 9 (both_true (eqb (record_kind q r) 9) _ (both_true (eqb (record_kind q r) 9 && eqb (record_occurrence q r) 0) _ t).0).0 in
         absurd (omega (arith, nine, k))
 
-pub terms-here : (q : List ℕ) → wrong7 q ≡ false → (r : ℕ) → r < recordCount q → recordKind q r ≡ 2 → r + 1 + recordChildren q r ≤ recordCount q
+pub terms-here : (q : List ℕ) → wrong7 q ≡ false → (r : ℕ) → r < record_count q → record_kind q r ≡ 2 → r + 1 + record_children q r ≤ record_count q
 terms-here q e r h k = let p = phrase-stands q e r h k in (phrase-at q p.0 r p.1 p.2 k).terms-here

@@ -1,16 +1,16 @@
 // 7: the shape of the query, by recursion on the depth left.
 ghost use Rattle.std.specs.Prelude.{◌≡◌, ◌+◌, ◌<◌};
-ghost use Rattle.meaning.specs.Query.{recordCount, recordChildren, decode, decodeClauses, decodePhrase, decodeChild, isPhraseTerm, aTerm, aPhrase, aBoolean, aBoost};
+ghost use Rattle.meaning.specs.Query.{record_count, record_children, decode, decode_clauses, decode_phrase, decode_child, is_phrase_term, a_term, a_phrase, a_boolean, a_boost};
 ghost use Rattle.meaning.specs.QueryRefusals.{wrong7};
-ghost use Rattle.query.specs.Inner.{end_of, endOfClauses, fitting};
+ghost use Rattle.query.specs.Inner.{end_of, end_of_clauses, fitting};
 
 use crate::{children, kind, occurrence, record_count};
 use index::wide;
 
 // Below a phrase stand PhraseTerms, of occurrence 0 and without children.
 fn is_phrase_term(q: &[u32], at: usize) -> bool
-    requires { at < recordCount q.now }
-    ensures { result ≡ isPhraseTerm q.now at }
+    requires { at < record_count q.now }
+    ensures { result ≡ is_phrase_term q.now at }
 {
     if kind(q, at) != 9 {
         return false;
@@ -23,8 +23,8 @@ fn is_phrase_term(q: &[u32], at: usize) -> bool
 
 // The record after a leaf at `at`, or 0 where it has children.
 fn leaf_end(q: &[u32], at: usize) -> usize
-    requires { at < recordCount q.now }
-    ensures { result ≡ fitting aTerm q.now at (at + 1) }
+    requires { at < record_count q.now }
+    ensures { result ≡ fitting a_term q.now at (at + 1) }
 {
     if children(q, at) != 0 {
         return 0;
@@ -34,8 +34,8 @@ fn leaf_end(q: &[u32], at: usize) -> usize
 
 // The record after the phrase at `at`, or 0 where its terms are too few or many, missing, out of place or too deep.
 fn phrase_end(q: &[u32], depth: u32, at: usize) -> usize
-    requires { at < recordCount q.now }
-    ensures { result ≡ fitting aPhrase q.now at (end_of (decodePhrase q.now depth at)) }
+    requires { at < record_count q.now }
+    ensures { result ≡ fitting a_phrase q.now at (end_of (decode_phrase q.now depth at)) }
 {
     let terms = wide(children(q, at));
     if terms == 0 {
@@ -63,8 +63,8 @@ fn phrase_end(q: &[u32], depth: u32, at: usize) -> usize
 // The record after the only child of the one at `at`, whose occurrence is 0; or 0.
 #[cycle(child_end_clauses_end_tree_end)]
 fn child_end(q: &[u32], depth: u32, at: usize) -> usize
-    requires { at < recordCount q.now }
-    ensures { result ≡ fitting aBoost q.now at (end_of (decodeChild q.now (decode q.now depth) at)) }
+    requires { at < record_count q.now }
+    ensures { result ≡ fitting a_boost q.now at (end_of (decode_child q.now (decode q.now depth) at)) }
 {
     if children(q, at) != 1 {
         return 0;
@@ -81,8 +81,8 @@ fn child_end(q: &[u32], depth: u32, at: usize) -> usize
 // The record after the clauses of the Boolean at `at`, each of occurrence 1 to 4; or 0.
 #[cycle(child_end_clauses_end_tree_end)]
 fn clauses_end(q: &[u32], depth: u32, at: usize) -> usize
-    requires { at < recordCount q.now }
-    ensures { result ≡ fitting aBoolean q.now at (endOfClauses (decodeClauses q.now (decode q.now depth) (recordChildren q.now at) (at + 1))) }
+    requires { at < record_count q.now }
+    ensures { result ≡ fitting a_boolean q.now at (end_of_clauses (decode_clauses q.now (decode q.now depth) (record_children q.now at) (at + 1))) }
 {
     let mut left = children(q, at);
     if 64 < left {

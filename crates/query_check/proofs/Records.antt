@@ -8,29 +8,29 @@ use lib.Dec.{eqb, leb}
 use lib.ListN.{get_or}
 use borrow.Author.Tests.{eq-eqb, ne_eqb, le-leb, lt-leb}
 use Rattle.meaning.specs.Lent.{Index}
-use Rattle.meaning.specs.Query.{kind_of, recordCount, recordKind, recordValue, range_of}
-use Rattle.meaning.specs.QueryRefusals.{unusedFrom, wrongRange, otherField, wrongKind, wrongValues, wrong8, wrong10}
+use Rattle.meaning.specs.Query.{kind_of, record_count, record_kind, record_value, range_of}
+use Rattle.meaning.specs.QueryRefusals.{unused_from, wrong_range, other_field, wrong_kind, wrong_values, wrong8, wrong10}
 use Rattle.query.specs.Read.{Lends}
-use Rattle.query_check.specs.Inner.{termWrong, phraseWrong, boostWrong, phraseTermWrong, withoutPositions}
+use Rattle.query_check.specs.Inner.{term_wrong, phrase_wrong, boost_wrong, phrase_term_wrong, without_positions}
 use Rattle.query.proofs.Below.{any_false, any-true}
 
 -- ---- unused values
-abbrev pub usedAt : List ℕ → ℕ → ℕ → ℕ → Bool
-usedAt q r v j = leb v j && not (eqb (recordValue q r j) 0)
+abbrev pub used_at : List ℕ → ℕ → ℕ → ℕ → Bool
+used_at q r v j = leb v j && not (eqb (record_value q r j) 0)
 
 module _ (q : List ℕ) (r v : ℕ) where
-  pub unused-set : (j : ℕ) → v ≤ j → j < 6 → (recordValue q r j ≡ 0 → ⊥) → true ≡ unusedFrom q r v
-  unfolding unusedFrom
-  unused-set j h g n = sym (any-true 6 (usedAt q r v) j g (rw (le-leb v j h, ne_eqb (recordValue q r j) 0 n)))
+  pub unused-set : (j : ℕ) → v ≤ j → j < 6 → (record_value q r j ≡ 0 → ⊥) → true ≡ unused_from q r v
+  unfolding unused_from
+  unused-set j h g n = sym (any-true 6 (used_at q r v) j g (rw (le-leb v j h, ne_eqb (record_value q r j) 0 n)))
 
-  pub unused-clear : ((j : ℕ) → j < 6 → usedAt q r v j ≡ false) → false ≡ unusedFrom q r v
-  unfolding unusedFrom
-  unused-clear h = sym (any_false 6 (usedAt q r v) h)
+  pub unused-clear : ((j : ℕ) → j < 6 → used_at q r v j ≡ false) → false ≡ unused_from q r v
+  unfolding unused_from
+  unused-clear h = sym (any_false 6 (used_at q r v) h)
 
-  pub used-below : (j : ℕ) → j < v → usedAt q r v j ≡ false
+  pub used-below : (j : ℕ) → j < v → used_at q r v j ≡ false
   used-below j h = rw (lt-leb v j h)
 
-  pub used-zero : (j : ℕ) → recordValue q r j ≡ 0 → usedAt q r v j ≡ false
+  pub used-zero : (j : ℕ) → record_value q r j ≡ 0 → used_at q r v j ≡ false
   used-zero j e = rw e (go (leb v j))
     where
       go : (b : Bool) → (b && false) ≡ false
@@ -38,71 +38,71 @@ module _ (q : List ℕ) (r v : ℕ) where
       go false = refl
 
 -- ---- a term of another field
-abbrev pub fieldOther : List ℕ → List ℕ → ℕ → ℕ → Bool
-fieldOther leaves q r j = not (eqb (get_or leaves (4 * recordValue q (r + 1 + j) 0) 0) (recordValue q r 0))
+abbrev pub field_other : List ℕ → List ℕ → ℕ → ℕ → Bool
+field_other leaves q r j = not (eqb (get_or leaves (4 * record_value q (r + 1 + j) 0) 0) (record_value q r 0))
 
-module _ (leaves q : List ℕ) (r j leaf : ℕ) (is : leaf ≡ recordValue q (r + 1 + j) 0) where
-  pub other-other : (get_or leaves (4 * leaf) 0 ≡ recordValue q r 0 → ⊥) → fieldOther leaves q r j ≡ true
-  other-other h = rw (← is, ne_eqb (get_or leaves (4 * leaf) 0) (recordValue q r 0) h)
+module _ (leaves q : List ℕ) (r j leaf : ℕ) (is : leaf ≡ record_value q (r + 1 + j) 0) where
+  pub other-other : (get_or leaves (4 * leaf) 0 ≡ record_value q r 0 → ⊥) → field_other leaves q r j ≡ true
+  other-other h = rw (← is, ne_eqb (get_or leaves (4 * leaf) 0) (record_value q r 0) h)
 
-  pub other-same : get_or leaves (4 * leaf) 0 ≡ recordValue q r 0 → fieldOther leaves q r j ≡ false
-  other-same h = rw (← is, eq-eqb (get_or leaves (4 * leaf) 0) (recordValue q r 0) h)
+  pub other-same : get_or leaves (4 * leaf) 0 ≡ record_value q r 0 → field_other leaves q r j ≡ false
+  other-same h = rw (← is, eq-eqb (get_or leaves (4 * leaf) 0) (record_value q r 0) h)
 
 -- ---- 8 in a record, by its kind
 module _ (ix : Index) (fields leaves columns q : List ℕ) (r : ℕ) (l : Lends ix fields leaves columns) where
-  pub value-term : recordKind q r ≡ 1 → termWrong leaves q r ≡ wrongValues ix q r (kind_of (recordKind q r))
-  unfolding wrongValues wrongKind
+  pub value-term : record_kind q r ≡ 1 → term_wrong leaves q r ≡ wrong_values ix q r (kind_of (record_kind q r))
+  unfolding wrong_values wrong_kind
   value-term e = rw (e, l.leaves-are)
 
-  pub value-phrase : recordKind q r ≡ 2 → phraseWrong fields leaves q r ≡ wrongValues ix q r (kind_of (recordKind q r))
-  unfolding wrongValues wrongKind otherField
+  pub value-phrase : record_kind q r ≡ 2 → phrase_wrong fields leaves q r ≡ wrong_values ix q r (kind_of (record_kind q r))
+  unfolding wrong_values wrong_kind other_field
   value-phrase e = rw (e, l.leaves-are, l.fields-are)
 
-  pub value-boolean : recordKind q r ≡ 3 → unusedFrom q r 1 ≡ wrongValues ix q r (kind_of (recordKind q r))
-  unfolding wrongValues wrongKind
+  pub value-boolean : record_kind q r ≡ 3 → unused_from q r 1 ≡ wrong_values ix q r (kind_of (record_kind q r))
+  unfolding wrong_values wrong_kind
   value-boolean e = rw e
 
-  pub value-range : recordKind q r ≡ 4 → wrongRange ix (range_of q r) ≡ wrongValues ix q r (kind_of (recordKind q r))
-  unfolding wrongValues wrongKind
+  pub value-range : record_kind q r ≡ 4 → wrong_range ix (range_of q r) ≡ wrong_values ix q r (kind_of (record_kind q r))
+  unfolding wrong_values wrong_kind
   value-range e = rw e
 
-  pub value-all : recordKind q r ≡ 5 → unusedFrom q r 0 ≡ wrongValues ix q r (kind_of (recordKind q r))
-  unfolding wrongValues wrongKind
+  pub value-all : record_kind q r ≡ 5 → unused_from q r 0 ≡ wrong_values ix q r (kind_of (record_kind q r))
+  unfolding wrong_values wrong_kind
   value-all e = rw e
 
-  pub value-constant : recordKind q r ≡ 6 → unusedFrom q r 0 ≡ wrongValues ix q r (kind_of (recordKind q r))
-  unfolding wrongValues wrongKind
+  pub value-constant : record_kind q r ≡ 6 → unused_from q r 0 ≡ wrong_values ix q r (kind_of (record_kind q r))
+  unfolding wrong_values wrong_kind
   value-constant e = rw e
 
-  pub value-boost : recordKind q r ≡ 7 → boostWrong q r ≡ wrongValues ix q r (kind_of (recordKind q r))
-  unfolding wrongValues wrongKind
+  pub value-boost : record_kind q r ≡ 7 → boost_wrong q r ≡ wrong_values ix q r (kind_of (record_kind q r))
+  unfolding wrong_values wrong_kind
   value-boost e = rw e
 
-  pub value_none : recordKind q r ≡ 8 → unusedFrom q r 0 ≡ wrongValues ix q r (kind_of (recordKind q r))
-  unfolding wrongValues wrongKind
+  pub value_none : record_kind q r ≡ 8 → unused_from q r 0 ≡ wrong_values ix q r (kind_of (record_kind q r))
+  unfolding wrong_values wrong_kind
   value_none e = rw e
 
-  pub value-phrase-term : recordKind q r ≡ 9 → phraseTermWrong leaves q r ≡ wrongValues ix q r (kind_of (recordKind q r))
-  unfolding wrongValues wrongKind
+  pub value-phrase-term : record_kind q r ≡ 9 → phrase_term_wrong leaves q r ≡ wrong_values ix q r (kind_of (record_kind q r))
+  unfolding wrong_values wrong_kind
   value-phrase-term e = rw (e, l.leaves-are)
 
-  pub value-other : kind_of (recordKind q r) ≡ none → false ≡ wrongValues ix q r (kind_of (recordKind q r))
-  unfolding wrongValues
+  pub value-other : kind_of (record_kind q r) ≡ none → false ≡ wrong_values ix q r (kind_of (record_kind q r))
+  unfolding wrong_values
   value-other e = rw e
 
 -- ---- in some record
-pub some-value : (ix : Index) (q : List ℕ) (r : ℕ) → r < recordCount q → true ≡ wrongValues ix q r (kind_of (recordKind q r)) → true ≡ wrong8 ix q
+pub some-value : (ix : Index) (q : List ℕ) (r : ℕ) → r < record_count q → true ≡ wrong_values ix q r (kind_of (record_kind q r)) → true ≡ wrong8 ix q
 unfolding wrong8
-some-value ix q r h e = sym (any-true (recordCount q) (λ r. wrongValues ix q r (kind_of (recordKind q r))) r h (sym e))
+some-value ix q r h e = sym (any-true (record_count q) (λ r. wrong_values ix q r (kind_of (record_kind q r))) r h (sym e))
 
-pub no_value : (ix : Index) (q : List ℕ) → ((r : ℕ) → r < recordCount q → wrongValues ix q r (kind_of (recordKind q r)) ≡ false) → false ≡ wrong8 ix q
+pub no_value : (ix : Index) (q : List ℕ) → ((r : ℕ) → r < record_count q → wrong_values ix q r (kind_of (record_kind q r)) ≡ false) → false ≡ wrong8 ix q
 unfolding wrong8
-no_value ix q h = sym (any_false (recordCount q) (λ r. wrongValues ix q r (kind_of (recordKind q r))) h)
+no_value ix q h = sym (any_false (record_count q) (λ r. wrong_values ix q r (kind_of (record_kind q r))) h)
 
-pub some-positions : (ix : Index) (q : List ℕ) (r : ℕ) → r < recordCount q → true ≡ withoutPositions ix.fields q r → true ≡ wrong10 ix q
+pub some-positions : (ix : Index) (q : List ℕ) (r : ℕ) → r < record_count q → true ≡ without_positions ix.fields q r → true ≡ wrong10 ix q
 unfolding wrong10
-some-positions ix q r h e = sym (any-true (recordCount q) (withoutPositions ix.fields q) r h (sym e))
+some-positions ix q r h e = sym (any-true (record_count q) (without_positions ix.fields q) r h (sym e))
 
-pub no-positions : (ix : Index) (q : List ℕ) → ((r : ℕ) → r < recordCount q → withoutPositions ix.fields q r ≡ false) → false ≡ wrong10 ix q
+pub no-positions : (ix : Index) (q : List ℕ) → ((r : ℕ) → r < record_count q → without_positions ix.fields q r ≡ false) → false ≡ wrong10 ix q
 unfolding wrong10
-no-positions ix q h = sym (any_false (recordCount q) (withoutPositions ix.fields q) h)
+no-positions ix q h = sym (any_false (record_count q) (without_positions ix.fields q) h)

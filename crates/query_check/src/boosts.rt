@@ -1,17 +1,17 @@
 // 9: the boost carried down each path.
 ghost use Rattle.std.specs.Prelude.{◌≡◌, false, ◌+◌, ◌<◌};
 ghost use Rattle.std.proofs.Math.Option.{some};
-ghost use Rattle.meaning.specs.Query.{recordCount, recordChildren, Occur, occurOf, Decoded, DecodedClauses, decode, decodeClauses};
+ghost use Rattle.meaning.specs.Query.{record_count, record_children, Occur, occur_of, Decoded, DecodedClauses, decode, decode_clauses};
 ghost use Rattle.meaning.specs.Score.{passed};
 ghost use Rattle.meaning.specs.QueryRefusals.{wrong7, wrong9};
 ghost use Rattle.query.specs.Read.{Boosts};
-ghost use Rattle.query.specs.Inner.{endBelowLimit, clausesBelowLimit};
+ghost use Rattle.query.specs.Inner.{end_below_limit, clauses_below_limit};
 
 use index::wide;
 
 // Must and Should pass the boost on, Filter and MustNot pass 0.
 fn passed_on(o: u32, boost: f32) -> f32
-    ensures { (x : Occur) → occurOf o ≡ some x → result ≡ passed x boost }
+    ensures { (x : Occur) → occur_of o ≡ some x → result ≡ passed x boost }
 {
     if o == 1 {
         return boost;
@@ -26,7 +26,7 @@ fn passed_on(o: u32, boost: f32) -> f32
 #[cycle(clauses_below_tree_below)]
 fn tree_below(q: &[u32], depth: u32, at: usize, boost: f32) -> usize
     requires { Boosts q.now × ((t : Decoded) × (decode q.now depth at ≡ some t)) }
-    ensures { result ≡ endBelowLimit (decode q.now depth at) boost }
+    ensures { result ≡ end_below_limit (decode q.now depth at) boost }
 {
     if 65536.0 < boost {
         return 0;
@@ -48,8 +48,8 @@ fn tree_below(q: &[u32], depth: u32, at: usize, boost: f32) -> usize
 // The same of the clauses of the Boolean at `at`.
 #[cycle(clauses_below_tree_below)]
 fn clauses_below(q: &[u32], depth: u32, at: usize, boost: f32) -> usize
-    requires { Boosts q.now × (at < recordCount q.now) × ((cs : DecodedClauses) × (decodeClauses q.now (decode q.now depth) (recordChildren q.now at) (at + 1) ≡ some cs)) }
-    ensures { result ≡ clausesBelowLimit (decodeClauses q.now (decode q.now depth) (recordChildren q.now at) (at + 1)) boost }
+    requires { Boosts q.now × (at < record_count q.now) × ((cs : DecodedClauses) × (decode_clauses q.now (decode q.now depth) (record_children q.now at) (at + 1) ≡ some cs)) }
+    ensures { result ≡ clauses_below_limit (decode_clauses q.now (decode q.now depth) (record_children q.now at) (at + 1)) boost }
 {
     let mut left = query::children(q, at);
     let mut next = at + 1;

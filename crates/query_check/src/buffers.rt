@@ -1,10 +1,10 @@
 // What a query needs of the work buffers, for 12.
 ghost use Rattle.std.specs.Prelude.{◌≡◌, cond, ◌+◌, ◌*◌, ◌≤◌, ◌<◌, max, eqb, length, get_or};
-ghost use Rattle.meaning.specs.Below.{largestBelow};
-ghost use Rattle.meaning.specs.Limits.{maxRecords};
+ghost use Rattle.meaning.specs.Below.{largest_below};
+ghost use Rattle.meaning.specs.Limits.{max_records};
 ghost use Rattle.meaning.specs.Lent.{Index};
-ghost use Rattle.meaning.specs.Query.{recordCount, recordKind, recordValue};
-ghost use Rattle.meaning.specs.CallRefusals.{rangeRecords, statesNeeded, rangesNeeded, largestIn, startsNeeded};
+ghost use Rattle.meaning.specs.Query.{record_count, record_kind, record_value};
+ghost use Rattle.meaning.specs.CallRefusals.{range_records, states_needed, ranges_needed, largest_in, starts_needed};
 ghost use Rattle.query.specs.Read.{PhraseRuns};
 
 use index::wide;
@@ -12,15 +12,15 @@ use weight::NODE_STATE_WORDS;
 
 // 1 where the record at `at` is a Range.
 fn one_range(q: &[u32], at: usize) -> usize
-    requires { at < recordCount q.now }
-    ensures { result ≡ cond (eqb (recordKind q.now at) 4) 1 0 }
+    requires { at < record_count q.now }
+    ensures { result ≡ cond (eqb (record_kind q.now at) 4) 1 0 }
 {
     if query::kind(q, at) == 4 { 1 } else { 0 }
 }
 
 // How many Range records the query has.
 pub fn range_records(q: &[u32]) -> usize
-    ensures { result ≡ rangeRecords q.now }
+    ensures { result ≡ range_records q.now }
 {
     let count = query::record_count(q);
     let mut found = 0;
@@ -34,15 +34,15 @@ pub fn range_records(q: &[u32]) -> usize
 
 // A node state for each record.
 pub fn states_needed(q: &[u32]) -> u64
-    ensures { result ≡ statesNeeded q.now }
+    ensures { result ≡ states_needed q.now }
 {
     NODE_STATE_WORDS as u64 * query::record_count(q) as u64
 }
 
 // With range records, N words for each and N more.
 pub fn ranges_needed(max_doc: u32, q: &[u32]) -> u64
-    requires { recordCount q.now ≤ maxRecords }
-    ensures { (ix : Index) → ix.maxDoc ≡ max_doc → result ≡ rangesNeeded ix q.now }
+    requires { record_count q.now ≤ max_records }
+    ensures { (ix : Index) → ix.max_doc ≡ max_doc → result ≡ ranges_needed ix q.now }
 {
     let ranges = range_records(q) as u64;
     if ranges == 0 {
@@ -60,7 +60,7 @@ fn larger(a: u32, b: u32) -> u32
 // The largest frequency in a run of postings.
 fn largest_in(postings: &[u32], first: usize, number: usize) -> u32
     requires { 3 * (first + number) ≤ length postings.now }
-    ensures { result ≡ largestBelow number (λ i. get_or postings.now (3 * (first + i) + 1) 0) }
+    ensures { result ≡ largest_below number (λ i. get_or postings.now (3 * (first + i) + 1) 0) }
 {
     let mut largest = 0;
     let mut i = 0;
@@ -73,8 +73,8 @@ fn largest_in(postings: &[u32], first: usize, number: usize) -> u32
 
 // The largest frequency in the run of the leaf that the record at `at` names, where it is a PhraseTerm.
 fn term_starts(q: &[u32], leaves: &[u32], postings: &[u32], at: usize) -> u32
-    requires { PhraseRuns q.now leaves.now postings.now × (at < recordCount q.now) }
-    ensures { (ix : Index) → ix.leaves ≡ leaves.now → ix.postings ≡ postings.now → result ≡ cond (eqb (recordKind q.now at) 9) (largestIn ix (recordValue q.now at 0)) 0 }
+    requires { PhraseRuns q.now leaves.now postings.now × (at < record_count q.now) }
+    ensures { (ix : Index) → ix.leaves ≡ leaves.now → ix.postings ≡ postings.now → result ≡ cond (eqb (record_kind q.now at) 9) (largest_in ix (record_value q.now at 0)) 0 }
 {
     if query::kind(q, at) != 9 {
         return 0;
@@ -88,7 +88,7 @@ fn term_starts(q: &[u32], leaves: &[u32], postings: &[u32], at: usize) -> u32
 // The largest frequency in the run of a leaf that some PhraseTerm names.
 pub fn starts_needed(q: &[u32], leaves: &[u32], postings: &[u32]) -> u32
     requires { PhraseRuns q.now leaves.now postings.now }
-    ensures { (ix : Index) → ix.leaves ≡ leaves.now → ix.postings ≡ postings.now → result ≡ startsNeeded ix q.now }
+    ensures { (ix : Index) → ix.leaves ≡ leaves.now → ix.postings ≡ postings.now → result ≡ starts_needed ix q.now }
 {
     let count = query::record_count(q);
     let mut needed = 0;

@@ -1,17 +1,17 @@
 // 10: phrases in fields without positions.
 ghost use Rattle.std.specs.Prelude.{◌≡◌, ◌/◌, ◌<◌, length};
 ghost use Rattle.meaning.specs.Lent.{Index};
-ghost use Rattle.meaning.specs.Query.{recordCount, recordKind, recordValue};
+ghost use Rattle.meaning.specs.Query.{record_count, record_kind, record_value};
 ghost use Rattle.meaning.specs.QueryRefusals.{wrong10};
 ghost use Rattle.query.specs.Read.{PhraseFields};
-ghost use Rattle.query_check.specs.Inner.{withoutPositions};
+ghost use Rattle.query_check.specs.Inner.{without_positions};
 
 use index::wide;
 
 // A phrase in a field without positions, at `at`.
 fn without_positions(q: &[u32], fields: &[u32], at: usize) -> bool
-    requires { (at < recordCount q.now) × (recordKind q.now at ≡ 2 → recordValue q.now at 0 < length fields.now / 3) }
-    ensures { result ≡ withoutPositions fields.now q.now at }
+    requires { (at < record_count q.now) × (record_kind q.now at ≡ 2 → record_value q.now at 0 < length fields.now / 3) }
+    ensures { result ≡ without_positions fields.now q.now at }
 {
     if query::kind(q, at) != 2 {
         return false;

@@ -1,10 +1,10 @@
 // 8: what a record names is there, and its values are within their limits.
 ghost use Rattle.std.specs.Prelude.{◌≡◌, false, ◌+◌, ◌≤◌, ◌<◌, get_or};
 ghost use Rattle.meaning.specs.Lent.{Index, joined};
-ghost use Rattle.meaning.specs.Query.{recordCount, recordKind, recordChildren, kind_of, range_of};
-ghost use Rattle.meaning.specs.QueryRefusals.{wrong7, wrong8, unusedFrom, wrongRange, wrongValues};
+ghost use Rattle.meaning.specs.Query.{record_count, record_kind, record_children, kind_of, range_of};
+ghost use Rattle.meaning.specs.QueryRefusals.{wrong7, wrong8, unused_from, wrong_range, wrong_values};
 ghost use Rattle.query.specs.Read.{Lends};
-ghost use Rattle.query_check.specs.Inner.{termWrong, phraseWrong, anyOtherField, boostWrong, phraseTermWrong};
+ghost use Rattle.query_check.specs.Inner.{term_wrong, phrase_wrong, any_other_field, boost_wrong, phrase_term_wrong};
 
 use index::columns::wrong_range;
 use index::wide;
@@ -18,8 +18,8 @@ fn word_or_zero(words: &[u32], i: usize) -> u32
 
 // One of the record's six values from the v-th on is not 0.
 fn unused_from(q: &[u32], at: usize, v: usize) -> bool
-    requires { at < recordCount q.now }
-    ensures { result ≡ unusedFrom q.now at v }
+    requires { at < record_count q.now }
+    ensures { result ≡ unused_from q.now at v }
 {
     let mut j = v;
     while j < 6 {
@@ -32,8 +32,8 @@ fn unused_from(q: &[u32], at: usize, v: usize) -> bool
 }
 
 fn wrong_term(q: &[u32], leaves: &[u32], at: usize) -> bool
-    requires { at < recordCount q.now }
-    ensures { result ≡ termWrong leaves.now q.now at }
+    requires { at < record_count q.now }
+    ensures { result ≡ term_wrong leaves.now q.now at }
 {
     if leaves.len() / 4 <= wide(query::value(q, at, 0)) {
         return true;
@@ -43,8 +43,8 @@ fn wrong_term(q: &[u32], leaves: &[u32], at: usize) -> bool
 
 // Some term of the phrase at `at` names a leaf of another field.
 fn other_field(q: &[u32], leaves: &[u32], at: usize) -> bool
-    requires { (at < recordCount q.now) × (at + 1 + recordChildren q.now at ≤ recordCount q.now) }
-    ensures { result ≡ anyOtherField leaves.now q.now at }
+    requires { (at < record_count q.now) × (at + 1 + record_children q.now at ≤ record_count q.now) }
+    ensures { result ≡ any_other_field leaves.now q.now at }
 {
     let field = query::value(q, at, 0);
     let terms = wide(query::children(q, at));
@@ -60,8 +60,8 @@ fn other_field(q: &[u32], leaves: &[u32], at: usize) -> bool
 }
 
 fn wrong_phrase(q: &[u32], fields: &[u32], leaves: &[u32], at: usize) -> bool
-    requires { (at < recordCount q.now) × (at + 1 + recordChildren q.now at ≤ recordCount q.now) }
-    ensures { result ≡ phraseWrong fields.now leaves.now q.now at }
+    requires { (at < record_count q.now) × (at + 1 + record_children q.now at ≤ record_count q.now) }
+    ensures { result ≡ phrase_wrong fields.now leaves.now q.now at }
 {
     if fields.len() / 3 <= wide(query::value(q, at, 0)) {
         return true;
@@ -80,8 +80,8 @@ fn joined(low: u32, high: u32) -> u64
 }
 
 fn wrong_range_record(q: &[u32], columns: &[u32], at: usize) -> bool
-    requires { at < recordCount q.now }
-    ensures { (ix : Index) → ix.columns ≡ columns.now → result ≡ wrongRange ix (range_of q.now at) }
+    requires { at < record_count q.now }
+    ensures { (ix : Index) → ix.columns ≡ columns.now → result ≡ wrong_range ix (range_of q.now at) }
 {
     wrong_range(
         columns,
@@ -93,8 +93,8 @@ fn wrong_range_record(q: &[u32], columns: &[u32], at: usize) -> bool
 }
 
 fn wrong_boost_value(q: &[u32], at: usize) -> bool
-    requires { at < recordCount q.now }
-    ensures { result ≡ boostWrong q.now at }
+    requires { at < record_count q.now }
+    ensures { result ≡ boost_wrong q.now at }
 {
     if 0x4780_0000 < query::value(q, at, 0) {
         return true;
@@ -103,8 +103,8 @@ fn wrong_boost_value(q: &[u32], at: usize) -> bool
 }
 
 fn wrong_phrase_term(q: &[u32], leaves: &[u32], at: usize) -> bool
-    requires { at < recordCount q.now }
-    ensures { result ≡ phraseTermWrong leaves.now q.now at }
+    requires { at < record_count q.now }
+    ensures { result ≡ phrase_term_wrong leaves.now q.now at }
 {
     if leaves.len() / 4 <= wide(query::value(q, at, 0)) {
         return true;
@@ -117,8 +117,8 @@ fn wrong_phrase_term(q: &[u32], leaves: &[u32], at: usize) -> bool
 
 // 8, in the record at `at`.
 fn wrong_record(q: &[u32], fields: &[u32], leaves: &[u32], columns: &[u32], at: usize) -> bool
-    requires { (at < recordCount q.now) × (recordKind q.now at ≡ 2 → at + 1 + recordChildren q.now at ≤ recordCount q.now) }
-    ensures { (ix : Index) → Lends ix fields.now leaves.now columns.now → result ≡ wrongValues ix q.now at (kind_of (recordKind q.now at)) }
+    requires { (at < record_count q.now) × (record_kind q.now at ≡ 2 → at + 1 + record_children q.now at ≤ record_count q.now) }
+    ensures { (ix : Index) → Lends ix fields.now leaves.now columns.now → result ≡ wrong_values ix q.now at (kind_of (record_kind q.now at)) }
 {
     match query::kind(q, at) {
         1 => wrong_term(q, leaves, at),

@@ -2,6 +2,6 @@
 use Rattle.std.specs.Prelude.{List, [], ◌∷◌, ℕ}
 use Rattle.range_entry.specs.declared.Ranged.{Ranged}
 
-unfoldable pub rangedNumbers : Ranged → List ℕ
-rangedNumbers (Ranged.Refused n) = n ∷ []
-rangedNumbers (Ranged.Listed n) = 0 ∷ n ∷ []
+unfoldable pub ranged_numbers : Ranged → List ℕ
+ranged_numbers (Ranged.Refused n) = n ∷ []
+ranged_numbers (Ranged.Listed n) = 0 ∷ n ∷ []

@@ -3,8 +3,8 @@
 
 ghost use Rattle.std.specs.Prelude.{◌≡◌, ℕ, length};
 ghost use Rattle.meaning.specs.Lent.{joined};
-ghost use Rattle.meaning.specs.Entries.{Kept, columnsOnly, rangeRefusal, rangeAnswer, rangeOutput};
-ghost use Rattle.range_entry.specs.Answers.{rangedNumbers};
+ghost use Rattle.meaning.specs.Entries.{Kept, columns_only, range_refusal, range_answer, range_output};
+ghost use Rattle.range_entry.specs.Answers.{ranged_numbers};
 
 #[derive(Drop)]
 pub enum Ranged {
@@ -24,7 +24,7 @@ fn range_refusal(
     work: usize,
     output: usize,
 ) -> u32
-    ensures { result ≡ rangeRefusal (columnsOnly max_doc columns.now values.now) (record { column = column; kinds = kinds; lower = lower; upper = upper }) work output }
+    ensures { result ≡ range_refusal (columns_only max_doc columns.now values.now) (record { column = column; kinds = kinds; lower = lower; upper = upper }) work output }
 {
     if index::wrong_max_doc(max_doc) {
         return 1;
@@ -58,9 +58,9 @@ pub fn range(
     work: &mut [u32],
     output: &mut [u32],
 ) -> Ranged
-    ensures result_value { rangedNumbers result ≡ rangeAnswer (columnsOnly max_doc columns.now values.now) (record { column = column; kinds = kinds; lower = joined lower_low lower_high; upper = joined upper_low upper_high }) (length work.old) (length output.old) }
-    ensures output_after { output.new ≡ rangeOutput (columnsOnly max_doc columns.now values.now) (record { column = column; kinds = kinds; lower = joined lower_low lower_high; upper = joined upper_low upper_high }) (length work.old) output.old }
-    ensures kept { Kept (rangeRefusal (columnsOnly max_doc columns.now values.now) (record { column = column; kinds = kinds; lower = joined lower_low lower_high; upper = joined upper_low upper_high }) (length work.old) (length output.old)) work.old work.new }
+    ensures result_value { ranged_numbers result ≡ range_answer (columns_only max_doc columns.now values.now) (record { column = column; kinds = kinds; lower = joined lower_low lower_high; upper = joined upper_low upper_high }) (length work.old) (length output.old) }
+    ensures output_after { output.new ≡ range_output (columns_only max_doc columns.now values.now) (record { column = column; kinds = kinds; lower = joined lower_low lower_high; upper = joined upper_low upper_high }) (length work.old) output.old }
+    ensures kept { Kept (range_refusal (columns_only max_doc columns.now values.now) (record { column = column; kinds = kinds; lower = joined lower_low lower_high; upper = joined upper_low upper_high }) (length work.old) (length output.old)) work.old work.new }
 {
     let lower = column_keys::joined(lower_low, lower_high);
     let upper = column_keys::joined(upper_low, upper_high);

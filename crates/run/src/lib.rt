@@ -2,14 +2,14 @@
 #![tactic(auto)]
 
 ghost use Rattle.std.specs.Prelude.{◌≡◌, ℕ, ◌+◌, ◌*◌, ◌≤◌, ◌<◌, length};
-ghost use Rattle.run.specs.Run.{documentAt, Run, Lower, Between};
+ghost use Rattle.run.specs.Run.{document_at, Run, Lower, Between};
 
 // So many postings are looked at one after the other before the search takes longer steps.
 const NEAR: usize = 4;
 
 pub fn document(words: &[u32], stride: usize, first: usize, i: usize) -> u32
     requires { (0 < stride) × (stride * (first + i) < length words.now) }
-    ensures { result ≡ documentAt words.now stride first i }
+    ensures { result ≡ document_at words.now stride first i }
 {
     words[stride * (first + i)]
 }

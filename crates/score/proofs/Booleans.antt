@@ -9,13 +9,13 @@ use lib.ListN.{length, take, drop, length-append}
 use lib.Seq.{take_at, drop_at}
 use lib.Ieee.{Float, binary64, is_nan, add}
 use Rattle.meaning.specs.Lent.{Index}
-use Rattle.meaning.specs.Ieee754.{zeroFloat, narrow, sumFrom, narrowedSum}
+use Rattle.meaning.specs.Ieee754.{zero_float, narrow, sum_from, narrowed_sum}
 use Rattle.ieee754.specs.Nonneg.{nonneg, AtMost}
 use Rattle.ieee754.proofs.Bounds.{atmost-number, zero-atmost}
-use Rattle.weight.specs.ScorerTree.{Scorers, end, more, Joining, oneMore, afterwards, scoring, requiredScores, optionalScores}
-use Rattle.weight.specs.State.{sizesOf, sizesOfFirst}
+use Rattle.weight.specs.ScorerTree.{Scorers, end, more, Joining, one_more, afterwards, scoring, required_scores, optional_scores}
+use Rattle.weight.specs.State.{sizes_of, sizes_of_first}
 use Rattle.weight.specs.Held.{Oks}
-use Rattle.weight.specs.Sound.{nodesOf}
+use Rattle.weight.specs.Sound.{nodes_of}
 use Rattle.leaf_score.specs.declared.Node.{Node}
 use Rattle.score.specs.Asked.{Scorables, SumIs, RequiredPre, RequiredPost, OptionalPre, OptionalPost, JoinPre, JoinPost, JoinAsks, JoinIs, JoinsAt, PartsAre}
 use Rattle.leaf_score.specs.Asked.{LentAt}
@@ -39,21 +39,21 @@ front-part x y kids a i l = rw (i, take_at x y a l)
 front-back : (x y kids : List ℕ) (a : ℕ) → kids ≡ x ++ y → length x ≡ a → (ys : List ℕ) → ys ++ drop a kids ≡ ys ++ y
 front-back x y kids a i l ys = rw (i, drop_at x y a l)
 
-first-le : (n : ℕ) (ss : Scorers) → sizesOfFirst n ss ≤ sizesOf ss
-unfolding sizesOfFirst sizesOf
+first-le : (n : ℕ) (ss : Scorers) → sizes_of_first n ss ≤ sizes_of ss
+unfolding sizes_of_first sizes_of
 first-le zero ss = omega arith
 first-le (suc n) end = omega arith
 first-le (suc n) (more f S g) = omega (arith, first-le n g)
 
 -- which way the group joins
-no-after : (j : Joining) (rs : Scorers) (a b : ℕ) → JoinsAt j rs a b → (a ≡ 1 → ⊥) → (m : ℕ) × (j ≡ oneMore m) × (b ≡ sizesOfFirst m rs)
+no-after : (j : Joining) (rs : Scorers) (a b : ℕ) → JoinsAt j rs a b → (a ≡ 1 → ⊥) → (m : ℕ) × (j ≡ one_more m) × (b ≡ sizes_of_first m rs)
 unfolding JoinsAt
-no-after (oneMore m) rs a b p h = (m, refl, p.1)
+no-after (one_more m) rs a b p h = (m, refl, p.1)
 no-after afterwards rs a b p h = absurd (h p)
 
 is-after : (j : Joining) (rs : Scorers) (a b : ℕ) → JoinsAt j rs a b → a ≡ 1 → j ≡ afterwards
 unfolding JoinsAt
-is-after (oneMore m) rs a b p h = absurd (omega (arith, p.0))
+is-after (one_more m) rs a b p h = absurd (omega (arith, p.0))
 is-after afterwards rs a b p h = refl
 
 scorables-at : {ix : Index} {table : List Float} {places places' p : ℕ} {ss : Scorers} → places' ≡ places → Scorables ix table places p ss → Scorables ix table places' p ss
@@ -105,7 +105,7 @@ module _ (kids : List ℕ) (node : Node) (n : ℕ) (postings positions norms ran
   -- the group's sum, and the words after it
   abbrev pub Grouped : Float → List ℕ → Type 0
   Grouped sum kids₁ =
-      (ix : Index) (j : Joining) (rs os : Scorers) (rest : List ℕ) → LentAt ix n postings positions norms doc → JoinAsks ix table places j rs os node doc → PartsAre ix ranges rs os depth doc rest kids → SumIs zeroFloat (optionalScores ix os doc) (nodesOf os) sum × PartsAre ix ranges rs os depth doc rest kids₁
+      (ix : Index) (j : Joining) (rs os : Scorers) (rest : List ℕ) → LentAt ix n postings positions norms doc → JoinAsks ix table places j rs os node doc → PartsAre ix ranges rs os depth doc rest kids → SumIs zero_float (optional_scores ix os doc) (nodes_of os) sum × PartsAre ix ranges rs os depth doc rest kids₁
 
   pub grouped : (sum : Float) (ys : List ℕ) → OptionalPost (take (oe - re) (drop re kids)) n postings positions norms ranges table places doc depth sum ys → Grouped sum (put kids re oe ys)
   grouped sum ys post ix j rs os rest L K Q =
@@ -116,12 +116,12 @@ module _ (kids : List ℕ) (node : Node) (n : ℕ) (postings positions norms ran
   no-optional : re ≡ oe → (ix : Index) (j : Joining) (rs os : Scorers) → JoinAsks ix table places j rs os node doc → os ≡ end
   no-optional none ix j rs os K = none_left os (omega (arith, none, K.required-end, K.optional-end))
 
-  pub ungrouped : re ≡ oe → Grouped zeroFloat kids
-  ungrouped none ix j rs os rest L K Q = (subst (λ (o : Scorers). SumIs zeroFloat (optionalScores ix o doc) (nodesOf o) zeroFloat) (sym (no-optional none ix j rs os K)) (none-summed ix doc), Q)
+  pub ungrouped : re ≡ oe → Grouped zero_float kids
+  ungrouped none ix j rs os rest L K Q = (subst (λ (o : Scorers). SumIs zero_float (optional_scores ix o doc) (nodes_of o) zero_float) (sym (no-optional none ix j rs os K)) (none-summed ix doc), Q)
 
   module _ (osum : Float) (kids₁ : List ℕ) (G : Grouped osum kids₁) (g : Float) (g-is : g ≡ narrow osum) where
-    group_of : (ix : Index) (j : Joining) (rs os : Scorers) (rest : List ℕ) → LentAt ix n postings positions norms doc → JoinAsks ix table places j rs os node doc → PartsAre ix ranges rs os depth doc rest kids → (g ≡ narrowedSum (optionalScores ix os doc)) × AtMost (nodesOf os * 2 ^ 29) g
-    group_of ix j rs os rest L K Q = let h : nodesOf os ≤ 256 = omega (arith, K.few) in group-is (optionalScores ix os doc) (nodesOf os) osum g h (G ix j rs os rest L K Q).0 g-is
+    group_of : (ix : Index) (j : Joining) (rs os : Scorers) (rest : List ℕ) → LentAt ix n postings positions norms doc → JoinAsks ix table places j rs os node doc → PartsAre ix ranges rs os depth doc rest kids → (g ≡ narrowed_sum (optional_scores ix os doc)) × AtMost (nodes_of os * 2 ^ 29) g
+    group_of ix j rs os rest L K Q = let h : nodes_of os ≤ 256 = omega (arith, K.few) in group-is (optional_scores ix os doc) (nodes_of os) osum g h (G ix j rs os rest L K Q).0 g-is
 
     pub group-number : Pre → T (not (is_nan g))
     group-number P = atmost-number (group_of P.0 P.1 P.2 P.3 P.4 P.5 P.6 P.7).1
@@ -133,11 +133,11 @@ module _ (kids : List ℕ) (node : Node) (n : ℕ) (postings positions norms ran
         (subst (λ (s : Scorers). JoinIs ix j s os doc g) (sym (none_left rs (sym K.required-end ∙ none))) (joined-only ix doc os j g o.0 o.1), (G ix j rs os rest L K Q).1)
 
     -- ---- the group joins afterwards
-    module _ (places' : ℕ) (same : places' ≡ places) (z : Float) (z-is : z ≡ zeroFloat) where
+    module _ (places' : ℕ) (same : places' ≡ places) (z : Float) (z-is : z ≡ zero_float) where
       zero-small : AtMost (0 * 2 ^ 29) z
       zero-small = subst (λ (y : Float). AtMost (0 * 2 ^ 29) y) (sym z-is) (zero-atmost _)
 
-      sum_of : (xs : List Float) (p : ℕ) (r : Float) → SumIs z xs (0 + p) r → SumIs zeroFloat xs p r
+      sum_of : (xs : List Float) (p : ℕ) (r : Float) → SumIs z xs (0 + p) r → SumIs zero_float xs p r
       sum_of xs p r s = let e : 0 + p ≡ p = omega arith in subst (λ (y : Float). SumIs y xs p r) z-is (subst (λ (i : ℕ). SumIs z xs i r) e s)
 
       all-ok : (ix : Index) (j : Joining) (rs os : Scorers) (rest : List ℕ) → JoinAsks ix table places j rs os node doc → PartsAre ix ranges rs os depth doc rest kids₁ → Oks ix ranges rs depth (take re kids₁) doc
@@ -148,24 +148,24 @@ module _ (kids : List ℕ) (node : Node) (n : ℕ) (postings positions norms ran
           (P.0, P.2, 0, P.5, scorables-at same P.6.required, P.6.all, all-ok P.0 P.1 P.2 P.3 P.4 P.6 (G P.0 P.1 P.2 P.3 P.4 P.5 P.6 P.7).1, zero-small)
 
       module _ (sum : Float) (ys : List ℕ) (post : RequiredPost (take re kids₁) z n postings positions norms ranges table places' doc depth sum ys) where
-        after-sum : (ix : Index) (j : Joining) (rs os : Scorers) (rest : List ℕ) → LentAt ix n postings positions norms doc → JoinAsks ix table places j rs os node doc → PartsAre ix ranges rs os depth doc rest kids → SumIs zeroFloat (scoring (requiredScores ix rs doc)) (nodesOf rs) sum × Oks ix ranges rs depth ys doc
+        after-sum : (ix : Index) (j : Joining) (rs os : Scorers) (rest : List ℕ) → LentAt ix n postings positions norms doc → JoinAsks ix table places j rs os node doc → PartsAre ix ranges rs os depth doc rest kids → SumIs zero_float (scoring (required_scores ix rs doc)) (nodes_of rs) sum × Oks ix ranges rs depth ys doc
         after-sum ix j rs os rest L K Q =
             let q = post ix rs 0 L (scorables-at same K.required) K.all (all-ok ix j rs os rest K (G ix j rs os rest L K Q).1) zero-small in
-            (sum_of (scoring (requiredScores ix rs doc)) (nodesOf rs) sum q.0, q.1)
+            (sum_of (scoring (required_scores ix rs doc)) (nodes_of rs) sum q.0, q.1)
 
         pub after-number : Pre → (w : Float) → w ≡ narrow sum → T (not (is_nan w))
         after-number P w e =
             let q = after-sum P.0 P.1 P.2 P.3 P.4 P.5 P.6 P.7 in
-            let h : nodesOf P.2 ≤ 256 = omega (arith, P.6.few) in
-            subst (λ (y : Float). T (not (is_nan y))) (sym e) (atmost-number (scores-narrow (nodesOf P.2) sum h q.0.small))
+            let h : nodes_of P.2 ≤ 256 = omega (arith, P.6.few) in
+            subst (λ (y : Float). T (not (is_nan y))) (sym e) (atmost-number (scores-narrow (nodes_of P.2) sum h q.0.small))
 
         -- no optional children: the required sum is the score
         pub alone-done : re ≡ oe → (r : Float) → r ≡ narrow sum → JoinPost kids node n postings positions norms ranges table places doc depth r (ys ++ drop re kids₁)
         alone-done none r h ix j rs os rest L K Q =
             let q = after-sum ix j rs os rest L K Q in
             let R = (G ix j rs os rest L K Q).1 in
-            let few : nodesOf rs ≤ 256 = omega (arith, K.few) in
-            let front : (m : ℕ) → T (nonneg (sumFrom zeroFloat (scoring (requiredScores ix (first_of m rs) doc)))) = λ m. (first_small ix L.lends.accepted places doc m rs (oks-weighted ix ranges rs depth Q.required doc Q.required-ok) K.required.sound few).sign in (
+            let few : nodes_of rs ≤ 256 = omega (arith, K.few) in
+            let front : (m : ℕ) → T (nonneg (sum_from zero_float (scoring (required_scores ix (first_of m rs) doc)))) = λ m. (first_small ix L.lends.accepted places doc m rs (oks-weighted ix ranges rs depth Q.required doc Q.required-ok) K.required.sound few).sign in (
               subst (λ (o : Scorers). JoinIs ix j rs o doc r) (sym (no-optional none ix j rs os K)) (joined-alone ix doc rs j few front sum r q.0 h),
               record { required = ys; optional = R.optional; is = front-back R.required (R.optional ++ rest) kids₁ re R.is (required-long ix j rs os rest K R.required R.required-ok) ys; required-ok = q.1; optional-ok = R.optional-ok },
             )
@@ -184,7 +184,7 @@ module _ (kids : List ℕ) (node : Node) (n : ℕ) (postings positions norms ran
         -- the parts, the required split where the group joins
         pub record Cut (ix : Index) (j : Joining) (rs os : Scorers) (rest : List ℕ) (w : List ℕ) : Type 0 where
           pub m : ℕ
-          pub joins : j ≡ oneMore m
+          pub joins : j ≡ one_more m
           pub x : List ℕ
           pub y : List ℕ
           pub v : List ℕ
@@ -220,7 +220,7 @@ module _ (kids : List ℕ) (node : Node) (n : ℕ) (postings positions norms ran
           first-scorables : Scorables ix table places' 0 (first_of m rs)
           first-scorables = scorables-at same (record { sound = (first-sounds ix places m rs K.required.sound).0; tables = (first-tables ix table m rs K.required.tables).0; few = omega (arith, K.few, first-nodes m rs) })
 
-          rest-scorables : Scorables ix table places' (nodesOf (first_of m rs) + nodesOf os) (rest_of m rs)
+          rest-scorables : Scorables ix table places' (nodes_of (first_of m rs) + nodes_of os) (rest_of m rs)
           rest-scorables = scorables-at same (record { sound = (first-sounds ix places m rs K.required.sound).1; tables = (first-tables ix table m rs K.required.tables).1; few = omega (arith, K.few, first-nodes m rs) })
 
         front-ok : (ix : Index) (j : Joining) (rs os : Scorers) (rest : List ℕ) (w : List ℕ) (k : Cut ix j rs os rest w) → Oks ix ranges (first_of k.m rs) depth (take ga w) doc
@@ -237,7 +237,7 @@ module _ (kids : List ℕ) (node : Node) (n : ℕ) (postings positions norms ran
 
           pub record Front (ix : Index) (j : Joining) (rs os : Scorers) (rest : List ℕ) : Type 0 where
             pub parts : Cut ix j rs os rest kids₂
-            pub sum_is : SumIs zeroFloat (scoring (requiredScores ix (first_of parts.m rs) doc)) (nodesOf (first_of parts.m rs)) front
+            pub sum_is : SumIs zero_float (scoring (required_scores ix (first_of parts.m rs) doc)) (nodes_of (first_of parts.m rs)) front
 
           front_of : (ix : Index) (j : Joining) (rs os : Scorers) (rest : List ℕ) → LentAt ix n postings positions norms doc → JoinAsks ix table places j rs os node doc → PartsAre ix ranges rs os depth doc rest kids → Front ix j rs os rest
           front_of ix j rs os rest L K Q =
@@ -245,28 +245,28 @@ module _ (kids : List ℕ) (node : Node) (n : ℕ) (postings positions norms ran
               let q = post ix (first_of k.m rs) 0 L (first-scorables ix j rs os rest K k.m) (first_matches ix doc k.m rs K.all).0 (front-ok ix j rs os rest kids₁ k) zero-small in
               record {
                 parts = record { m = k.m; joins = k.joins; x = xs; y = k.y; v = k.v; is = front-back k.x (k.y ++ (k.v ++ rest)) kids₁ ga k.is k.first-long xs; first-long = long ∙ ap length (front-part k.x (k.y ++ (k.v ++ rest)) kids₁ ga k.is k.first-long) ∙ k.first-long; rest-long = k.rest-long; first-ok = q.1; rest_ok = k.rest_ok; group-ok = k.group-ok };
-                sum_is = sum_of (scoring (requiredScores ix (first_of k.m rs) doc)) (nodesOf (first_of k.m rs)) front q.0;
+                sum_is = sum_of (scoring (required_scores ix (first_of k.m rs) doc)) (nodes_of (first_of k.m rs)) front q.0;
               }
 
           module _ (places'' : ℕ) (same'' : places'' ≡ places') (sum : Float) (sum-of-two : sum ≡ add binary64 front g) where
             rest_part : (ix : Index) (j : Joining) (rs os : Scorers) (rest : List ℕ) (k : Cut ix j rs os rest kids₂) → Oks ix ranges (rest_of k.m rs) depth (take (re - ga) (drop ga kids₂)) doc
             rest_part ix j rs os rest k = subst (λ (l : List ℕ). Oks ix ranges (rest_of k.m rs) depth l doc) (sym (mid-part k.x k.y (k.v ++ rest) kids₂ ga re k.is k.first-long k.rest-long)) k.rest_ok
 
-            rest-small : (ix : Index) (j : Joining) (rs os : Scorers) (rest : List ℕ) → LentAt ix n postings positions norms doc → JoinAsks ix table places j rs os node doc → PartsAre ix ranges rs os depth doc rest kids → (f : Front ix j rs os rest) → AtMost ((nodesOf (first_of f.parts.m rs) + nodesOf os) * 2 ^ 29) sum
+            rest-small : (ix : Index) (j : Joining) (rs os : Scorers) (rest : List ℕ) → LentAt ix n postings positions norms doc → JoinAsks ix table places j rs os node doc → PartsAre ix ranges rs os depth doc rest kids → (f : Front ix j rs os rest) → AtMost ((nodes_of (first_of f.parts.m rs) + nodes_of os) * 2 ^ 29) sum
             rest-small ix j rs os rest L K Q f = let o = group_of ix j rs os rest L K Q in joined-sum ix doc rs os K.few g o.0 o.1 f.parts.m front sum f.sum_is sum-of-two
 
             pub rest-asks : Pre → RequiredPre (take (re - ga) (drop ga kids₂)) sum n postings positions norms ranges table places'' doc depth
             rest-asks P =
                 let f = front_of P.0 P.1 P.2 P.3 P.4 P.5 P.6 P.7 in
                 let k = f.parts in
-                (P.0, rest_of k.m P.2, nodesOf (first_of k.m P.2) + nodesOf P.3, P.5, scorables-at same'' (rest-scorables P.0 P.1 P.2 P.3 P.4 P.6 k.m), (first_matches P.0 doc k.m P.2 P.6.all).1, rest_part P.0 P.1 P.2 P.3 P.4 k, rest-small P.0 P.1 P.2 P.3 P.4 P.5 P.6 P.7 f)
+                (P.0, rest_of k.m P.2, nodes_of (first_of k.m P.2) + nodes_of P.3, P.5, scorables-at same'' (rest-scorables P.0 P.1 P.2 P.3 P.4 P.6 k.m), (first_matches P.0 doc k.m P.2 P.6.all).1, rest_part P.0 P.1 P.2 P.3 P.4 k, rest-small P.0 P.1 P.2 P.3 P.4 P.5 P.6 P.7 f)
 
             pub rest-done : (all : Float) (ys : List ℕ) → RequiredPost (take (re - ga) (drop ga kids₂)) sum n postings positions norms ranges table places'' doc depth all ys → (r : Float) → r ≡ narrow all → JoinPost kids node n postings positions norms ranges table places doc depth r (put kids₂ ga re ys)
             rest-done all ys last r h ix j rs os rest L K Q =
                 let f = front_of ix j rs os rest L K Q in
                 let k = f.parts in
                 let o = group_of ix j rs os rest L K Q in
-                let q = last ix (rest_of k.m rs) (nodesOf (first_of k.m rs) + nodesOf os) L (scorables-at same'' (rest-scorables ix j rs os rest K k.m)) (first_matches ix doc k.m rs K.all).1 (rest_part ix j rs os rest k) (rest-small ix j rs os rest L K Q f) in (
+                let q = last ix (rest_of k.m rs) (nodes_of (first_of k.m rs) + nodes_of os) L (scorables-at same'' (rest-scorables ix j rs os rest K k.m)) (first_matches ix doc k.m rs K.all).1 (rest_part ix j rs os rest k) (rest-small ix j rs os rest L K Q f) in (
                   subst (λ (i : Joining). JoinIs ix i rs os doc r) (sym k.joins) (joined-more ix doc rs os K.few g o.0 o.1 k.m front sum all r f.sum_is sum-of-two q.0 h),
                   record {
                     required = k.x ++ ys;

@@ -9,14 +9,14 @@ use lib.Dec.{leb}
 use lib.ListN.{length, take, drop}
 use lib.Seq.{take-length, drop-length}
 use lib.Ieee.{Float}
-use Rattle.meaning.specs.Limits.{nodeStateWords}
+use Rattle.meaning.specs.Limits.{node_state_words}
 use Rattle.meaning.specs.Lent.{Index}
 use Rattle.ieee754.specs.Nonneg.{AtMost}
 use Rattle.ieee754.proofs.Bounds.{atmost-more}
-use Rattle.weight.specs.ScorerTree.{Leaf, nothing, term, phrase, range, everything, Joining, oneMore, afterwards, Scorer, leaf, boolean, Scorers, matches, allMatch, anyMatches, matching, scorerScore}
+use Rattle.weight.specs.ScorerTree.{Leaf, nothing, term, phrase, range, everything, Joining, one_more, afterwards, Scorer, leaf, boolean, Scorers, matches, all_match, any_matches, matching, scorer_score}
 use Rattle.weight.specs.State.{State, words_of}
 use Rattle.weight.specs.Held.{LeafIs, KeptIs, JoiningIs, Ok, Oks}
-use Rattle.weight.specs.Sound.{Sound, Tables, nodes, nodesOf}
+use Rattle.weight.specs.Sound.{Sound, Tables, nodes, nodes_of}
 use Rattle.leaf_score.specs.declared.Node.{Node}
 use Rattle.leaf_score.specs.Words.{NodeIs}
 use Rattle.score.specs.Asked.{JoinAsks, JoinIs, JoinsAt, PartsAre}
@@ -36,9 +36,9 @@ both : (a b : Bool) → a && b ≡ true → (a ≡ true) × (b ≡ true)
 both true b e = (refl, e)
 both false b e = absurd (false≢true e)
 
-joins_at : (j : Joining) (rs : Scorers) (s : State) (a b : ℕ) → a ≡ s.afterwards → b ≡ s.groupAt → JoiningIs j rs s → JoinsAt j rs a b
+joins_at : (j : Joining) (rs : Scorers) (s : State) (a b : ℕ) → a ≡ s.afterwards → b ≡ s.group_at → JoiningIs j rs s → JoinsAt j rs a b
 unfolding JoiningIs JoinsAt
-joins_at (oneMore n) rs s a b e f p = (e ∙ p.0, f ∙ p.1)
+joins_at (one_more n) rs s a b e f p = (e ∙ p.0, f ∙ p.1)
 joins_at afterwards rs s a b e f p = e ∙ p
 
 module _ (ix : Index) (ranges : List ℕ) (table : List Float) (places k doc : ℕ) (st : List ℕ) (n : Node) (N : NodeIs st n) where
@@ -51,10 +51,10 @@ module _ (ix : Index) (ranges : List ℕ) (table : List Float) (places k doc : �
     pub deep : 0 < k
     pub asks : JoinAsks ix table places j rs os n doc
     pub parts : PartsAre ix ranges rs os (k - 1) doc rest kids
-    pub done : (r : Float) (kids' : List ℕ) → length kids' ≡ length kids → JoinIs ix j rs os doc r → PartsAre ix ranges rs os (k - 1) doc rest kids' → ScoreIs ix T doc r × Ok ix ranges T k sc (take nodeStateWords st ++ (kids' ++ drop (length st - nodeStateWords) (drop nodeStateWords st))) doc
+    pub done : (r : Float) (kids' : List ℕ) → length kids' ≡ length kids → JoinIs ix j rs os doc r → PartsAre ix ranges rs os (k - 1) doc rest kids' → ScoreIs ix T doc r × Ok ix ranges T k sc (take node_state_words st ++ (kids' ++ drop (length st - node_state_words) (drop node_state_words st))) doc
 
-  pub node_at : (T : Scorer) (sc : ℕ) → Scorable ix table places T → matches ix T doc ≡ true → Ok ix ranges T k sc st doc → (n.constant ≡ 1 → ⊥) → n.kind ≡ 3 → NodeAt T sc (take (length st - nodeStateWords) (drop nodeStateWords st))
-  unfolding Ok KeptIs scorerScore nodes matches Sound Tables
+  pub node_at : (T : Scorer) (sc : ℕ) → Scorable ix table places T → matches ix T doc ≡ true → Ok ix ranges T k sc st doc → (n.constant ≡ 1 → ⊥) → n.kind ≡ 3 → NodeAt T sc (take (length st - node_state_words) (drop node_state_words st))
+  unfolding Ok KeptIs scorer_score nodes matches Sound Tables
   node_at (leaf l c) sc g m p i h = let R = read st p.1 p.0 n p.2 N in absurd (leaf-kind ix ranges l p.0 p.1 (max doc (p.0.cached - 1)) p.4 (sym R.kind-is ∙ h))
   node_at (boolean (some c) j need rs os ps) sc g m p i h = let R = read st (p.1 ++ (p.2 ++ p.3)) p.0 n p.4 N in absurd (i (R.constant-is ∙ p.7.kept.0))
   node_at (boolean none j need rs os ps) sc g m p i h =
@@ -62,9 +62,9 @@ module _ (ix : Index) (ranges : List ℕ) (table : List Float) (places k doc : �
       let S : Scorer = boolean none j need rs os ps in
       let b : max doc (p.0.cached - 1) ≡ doc = at-most-there (matches ix S) doc p.0.cached m p.8 in
       let w : List ℕ = p.1 ++ (p.2 ++ p.3) in
-      let q : length st - nodeStateWords ≡ length w = omega (arith, ap length p.4) in
-      let same : take (length st - nodeStateWords) (drop nodeStateWords st) ≡ w = rw (q, p.4, take-length) in
-      let all : allMatch ix rs doc ≡ true = (both (allMatch ix rs doc) (not (anyMatches ix ps doc)) (both (allMatch ix rs doc && not (anyMatches ix ps doc)) (leb need (matching ix os doc)) m).0).0 in
+      let q : length st - node_state_words ≡ length w = omega (arith, ap length p.4) in
+      let same : take (length st - node_state_words) (drop node_state_words st) ≡ w = rw (q, p.4, take-length) in
+      let all : all_match ix rs doc ≡ true = (both (all_match ix rs doc) (not (any_matches ix ps doc)) (both (all_match ix rs doc && not (any_matches ix ps doc)) (leb need (matching ix os doc)) m).0).0 in
       record {
         j = j;
         rs = rs;
@@ -82,7 +82,7 @@ module _ (ix : Index) (ranges : List ℕ) (table : List Float) (places k doc : �
         };
         parts = record { required = p.1; optional = p.2; is = same; required-ok = subst (λ (x : ℕ). Oks ix ranges rs (k - 1) p.1 x) b p.9; optional-ok = subst (λ (x : ℕ). Oks ix ranges os (k - 1) p.2 x) b p.10 };
         done = λ r kids' len J P. (
-          record { is = J.is; small = more-nodes (nodesOf rs) (nodesOf os) (nodesOf ps) r J.small },
+          record { is = J.is; small = more-nodes (nodes_of rs) (nodes_of os) (nodes_of ps) r J.small },
           (
             p.0,
             P.required,

@@ -6,28 +6,28 @@ use Prim.Native.Nat.{ℕ, ◌+◌, ◌-◌, ◌≤◌, max}
 use native.Mathlib.Omega.{arith}
 use lib.ListN.{get_or, length, take, drop, length-append, length-take, length-drop, take-append-drop}
 use lib.Seq.{take_at, drop_at, get_or-append-add}
-use Rattle.meaning.specs.Limits.{nodeStateWords}
+use Rattle.meaning.specs.Limits.{node_state_words}
 use Rattle.meaning.specs.Lent.{Index}
 use Rattle.weight.specs.ScorerTree.{Leaf, nothing, term, phrase, range, everything, Scorer, leaf, boolean, Scorers, end, more}
-use Rattle.weight.specs.State.{State, words_of, leafSize, size_of}
+use Rattle.weight.specs.State.{State, words_of, leaf_size, size_of}
 use Rattle.weight.specs.Held.{LeafIs, Ok, Oks}
 use Rattle.leaf_scorer.proofs.Bounds.{leaf-sizes, ok-length, ok-long}
 use Rattle.score.specs.Words.{ChildThere}
 
 -- ---- the kind in the first word of a scorer's part
-unfoldable pub leafKind : Leaf → ℕ
-leafKind nothing = 0
-leafKind (term l) = 1
-leafKind (phrase f ts) = 2
-leafKind (range r) = 4
-leafKind everything = 5
+unfoldable pub leaf_kind : Leaf → ℕ
+leaf_kind nothing = 0
+leaf_kind (term l) = 1
+leaf_kind (phrase f ts) = 2
+leaf_kind (range r) = 4
+leaf_kind everything = 5
 
-unfoldable pub kindWord : Scorer → ℕ
-kindWord (leaf l c) = leafKind l
-kindWord (boolean c j need rs os ps) = 3
+unfoldable pub kind_word : Scorer → ℕ
+kind_word (leaf l c) = leaf_kind l
+kind_word (boolean c j need rs os ps) = 3
 
-leaf-kind : (ix : Index) (ranges : List ℕ) (l : Leaf) (s : State) (w : List ℕ) (b : ℕ) → LeafIs ix ranges l s w b → s.kind ≡ leafKind l
-unfolding LeafIs leafKind
+leaf-kind : (ix : Index) (ranges : List ℕ) (l : Leaf) (s : State) (w : List ℕ) (b : ℕ) → LeafIs ix ranges l s w b → s.kind ≡ leaf_kind l
+unfolding LeafIs leaf_kind
 leaf-kind ix ranges nothing s w b p = p.0
 leaf-kind ix ranges (term l) s w b p = p.0.kind-is
 leaf-kind ix ranges (phrase f ts) s w b p = p.kind-is
@@ -35,8 +35,8 @@ leaf-kind ix ranges (range r) s w b p = p.0.kind-is
 leaf-kind ix ranges everything s w b p = p.0
 
 -- a term's part is its record
-pub term-size : (T : Scorer) → kindWord T ≡ 1 → size_of T ≡ nodeStateWords
-unfolding kindWord leafKind size_of leafSize
+pub term-size : (T : Scorer) → kind_word T ≡ 1 → size_of T ≡ node_state_words
+unfolding kind_word leaf_kind size_of leaf_size
 term-size (leaf nothing c) e = refl
 term-size (leaf (term l) c) e = refl
 term-size (leaf (phrase f ts) c) e = absurd (omega (arith, e))
@@ -49,16 +49,16 @@ pub record Head (T : Scorer) (sc : ℕ) (y : List ℕ) : Type 0 where
   pub s : State
   pub w : List ℕ
   pub is : y ≡ words_of s ++ w
-  pub kind-is : s.kind ≡ kindWord T
+  pub kind-is : s.kind ≡ kind_word T
   pub size_is : s.size ≡ size_of T
   pub scores-is : s.scores ≡ sc
 
 pub head : (ix : Index) (ranges : List ℕ) (T : Scorer) (k sc : ℕ) (y : List ℕ) (b : ℕ) → Ok ix ranges T k sc y b → Head T sc y
-unfolding Ok size_of kindWord
+unfolding Ok size_of kind_word
 head ix ranges (leaf l c) k sc y b p = record { s = p.0; w = p.1; is = p.2; kind-is = leaf-kind ix ranges l p.0 p.1 (max b (p.0.cached - 1)) p.4; size_is = (leaf-sizes ix ranges l p.0 p.1 (max b (p.0.cached - 1)) p.4).size; scores-is = p.3 }
 head ix ranges (boolean c j need rs os ps) k sc y b p = record { s = p.0; w = p.1 ++ (p.2 ++ p.3); is = p.4; kind-is = p.7.kind-is; size_is = p.7.size_is; scores-is = p.5 }
 
-pub ok-kind : (ix : Index) (ranges : List ℕ) (T : Scorer) (k sc : ℕ) (y : List ℕ) (b : ℕ) → Ok ix ranges T k sc y b → get_or y 0 0 ≡ kindWord T
+pub ok-kind : (ix : Index) (ranges : List ℕ) (T : Scorer) (k sc : ℕ) (y : List ℕ) (b : ℕ) → Ok ix ranges T k sc y b → get_or y 0 0 ≡ kind_word T
 ok-kind ix ranges T k sc y b p = let h = head ix ranges T k sc y b p in ap (λ (l : List ℕ). get_or l 0 0) h.is ∙ h.kind-is
 
 -- ---- a place in the list of parts: g are the children that are left
@@ -89,11 +89,11 @@ pub record View (ix : Index) (ranges : List ℕ) (k doc : ℕ) (fs : Scorers) (f
   pub place : at ≡ length x
   pub ok : Ok ix ranges T k (cond f 1 0) y doc
   pub rest : Oks ix ranges g k z doc
-  pub kind : get_or kids at 0 ≡ kindWord T
+  pub kind : get_or kids at 0 ≡ kind_word T
   pub size : get_or kids (at + 1) 0 ≡ length y
   pub size-of : get_or kids (at + 1) 0 ≡ size_of T
   pub scores : get_or kids (at + 15) 0 ≡ cond f 1 0
-  pub long : nodeStateWords ≤ length y
+  pub long : node_state_words ≤ length y
   pub fits : at + length y ≤ length kids
   pub back : (ys z' : List ℕ) → Ok ix ranges T k (cond f 1 0) ys doc → Oks ix ranges g k z' doc → Oks ix ranges fs k (x ++ (ys ++ z')) doc
 

@@ -7,23 +7,23 @@ use native.Mathlib.Nat.{le_refl}
 use native.Mathlib.Omega.{arith}
 use lib.ListN.{get_or, length, take, drop}
 use lib.Ieee.{Float, binary64, add}
-use Rattle.meaning.specs.Limits.{nodeStateWords}
+use Rattle.meaning.specs.Limits.{node_state_words}
 use Rattle.meaning.specs.Lent.{Index}
-use Rattle.meaning.specs.Ieee754.{sumFrom}
+use Rattle.meaning.specs.Ieee754.{sum_from}
 use Rattle.ieee754.specs.Nonneg.{AtMost}
-use Rattle.weight.specs.ScorerTree.{Scorer, Scorers, end, more, matches, allMatch, scorerScore, scoring, requiredScores, optionalScores}
+use Rattle.weight.specs.ScorerTree.{Scorer, Scorers, end, more, matches, all_match, scorer_score, scoring, required_scores, optional_scores}
 use Rattle.weight.specs.State.{size_of}
 use Rattle.weight.specs.Held.{Ok, Oks}
-use Rattle.weight.specs.Sound.{Sounds, TablesOf, nodes, nodesOf}
+use Rattle.weight.specs.Sound.{Sounds, TablesOf, nodes, nodes_of}
 use Rattle.score.specs.Words.{ChildThere}
 use Rattle.leaf_score.specs.Asked.{Scorable, ScoreIs}
 use Rattle.leaf_score.proofs.Bounds.{scores-add, scores-more}
-use Rattle.score.proofs.Parts.{Zip, zip_start, zip_end, zip-none, zip-next, zip-renewed, kindWord, term-size, ok-kind, view, child-there, part-ok}
+use Rattle.score.proofs.Parts.{Zip, zip_start, zip_end, zip-none, zip-next, zip-renewed, kind_word, term-size, ok-kind, view, child-there, part-ok}
 
 -- the scores of the children that count
 unfoldable pub counted : (Bool → Scorer → Bool) → Index → Scorers → ℕ → List Float
 counted c ix end d = []
-counted c ix (more f T g) d = cond (c f T) (scorerScore ix T d ∷ []) [] ++ counted c ix g d
+counted c ix (more f T g) d = cond (c f T) (scorer_score ix T d ∷ []) [] ++ counted c ix g d
 
 -- those that count match
 unfoldable pub Matched : (Bool → Scorer → Bool) → Index → Scorers → ℕ → Type 0
@@ -37,24 +37,24 @@ scores-word f T = f
 abbrev pub matches-at : Index → ℕ → Bool → Scorer → Bool
 matches-at ix d f T = matches ix T d
 
-pub required-counted : (ix : Index) (ss : Scorers) (d : ℕ) → counted scores-word ix ss d ≡ scoring (requiredScores ix ss d)
-unfolding counted requiredScores scoring
+pub required-counted : (ix : Index) (ss : Scorers) (d : ℕ) → counted scores-word ix ss d ≡ scoring (required_scores ix ss d)
+unfolding counted required_scores scoring
 required-counted ix end d = refl
-required-counted ix (more f T g) d = ap (λ (l : List Float). cond f (scorerScore ix T d ∷ []) [] ++ l) (required-counted ix g d)
+required-counted ix (more f T g) d = ap (λ (l : List Float). cond f (scorer_score ix T d ∷ []) [] ++ l) (required-counted ix g d)
 
-pub optional-counted : (ix : Index) (ss : Scorers) (d : ℕ) → counted (matches-at ix d) ix ss d ≡ optionalScores ix ss d
-unfolding counted optionalScores
+pub optional-counted : (ix : Index) (ss : Scorers) (d : ℕ) → counted (matches-at ix d) ix ss d ≡ optional_scores ix ss d
+unfolding counted optional_scores
 optional-counted ix end d = refl
-optional-counted ix (more f T g) d = ap (λ (l : List Float). cond (matches ix T d) (scorerScore ix T d ∷ []) [] ++ l) (optional-counted ix g d)
+optional-counted ix (more f T g) d = ap (λ (l : List Float). cond (matches ix T d) (scorer_score ix T d ∷ []) [] ++ l) (optional-counted ix g d)
 
 both : (a b : Bool) → a && b ≡ true → (a ≡ true) × (b ≡ true)
 both true b e = (refl, e)
 both false b e = absurd (false≢true e)
 
-pub required-matched : (ix : Index) (ss : Scorers) (d : ℕ) → allMatch ix ss d ≡ true → Matched scores-word ix ss d
-unfolding Matched allMatch
+pub required-matched : (ix : Index) (ss : Scorers) (d : ℕ) → all_match ix ss d ≡ true → Matched scores-word ix ss d
+unfolding Matched all_match
 required-matched ix end d e = tt
-required-matched ix (more f T g) d e = let p = both (matches ix T d) (allMatch ix g d) e in ((λ h. p.0), required-matched ix g d p.1)
+required-matched ix (more f T g) d e = let p = both (matches ix T d) (all_match ix g d) e in ((λ h. p.0), required-matched ix g d p.1)
 
 pub optional-matched : (ix : Index) (ss : Scorers) (d : ℕ) → Matched (matches-at ix d) ix ss d
 unfolding Matched
@@ -64,16 +64,16 @@ optional-matched ix (more f T g) d = ((λ h. h), optional-matched ix g d)
 -- the state of the loop: g are the children that are left
 pub record SumAt (c : Bool → Scorer → Bool) (ix : Index) (ranges : List ℕ) (table : List Float) (places k doc : ℕ) (fs : Scorers) (total : Float) (most : ℕ) (g : Scorers) (kids : List ℕ) (at : ℕ) (sum : Float) : Type 0 where
   pub zip : Zip ix ranges k doc fs g kids at
-  pub left : sumFrom sum (counted c ix g doc) ≡ total
+  pub left : sum_from sum (counted c ix g doc) ≡ total
   pub q : ℕ
   pub small : AtMost (q * 2 ^ 29) sum
-  pub few : q + nodesOf g ≤ most
+  pub few : q + nodes_of g ≤ most
   pub sound : Sounds ix places g
   pub tables : TablesOf ix table g
   pub matched : Matched c ix g doc
 
 module _ (c : Bool → Scorer → Bool) (ix : Index) (ranges : List ℕ) (table : List Float) (places k doc : ℕ) (fs : Scorers) where
-  pub sum-start : (x : Float) (p : ℕ) (w : List ℕ) → Oks ix ranges fs k w doc → AtMost (p * 2 ^ 29) x → Sounds ix places fs → TablesOf ix table fs → Matched c ix fs doc → SumAt c ix ranges table places k doc fs (sumFrom x (counted c ix fs doc)) (p + nodesOf fs) fs w 0 x
+  pub sum-start : (x : Float) (p : ℕ) (w : List ℕ) → Oks ix ranges fs k w doc → AtMost (p * 2 ^ 29) x → Sounds ix places fs → TablesOf ix table fs → Matched c ix fs doc → SumAt c ix ranges table places k doc fs (sum_from x (counted c ix fs doc)) (p + nodes_of fs) fs w 0 x
   sum-start x p w o a s t m = record { zip = zip_start ix ranges k doc fs w o; left = refl; q = p; small = a; few = le_refl _; sound = s; tables = t; matched = m }
 
   module _ (total : Float) (most : ℕ) (kids : List ℕ) (at : ℕ) (sum : Float) where
@@ -81,7 +81,7 @@ module _ (c : Bool → Scorer → Bool) (ix : Index) (ranges : List ℕ) (table 
     At g = SumAt c ix ranges table places k doc fs total most g kids at sum
 
     pub sum-end : most ≤ 256 → (g : Scorers) → At g → length kids ≤ at → (sum ≡ total) × AtMost (most * 2 ^ 29) sum × Oks ix ranges fs k kids doc
-    unfolding counted sumFrom nodesOf
+    unfolding counted sum_from nodes_of
     sum-end few end p l = (p.left, scores-more p.q most sum (omega (arith, p.few)) p.small, zip_end p.zip)
     sum-end few (more f T g) p l = let v = view p.zip in absurd (omega (arith, v.long, v.fits))
 
@@ -100,15 +100,15 @@ module _ (c : Bool → Scorer → Bool) (ix : Index) (ranges : List ℕ) (table 
       pub sum-size : get_or kids (at + 1) 0 ≡ size_of T
       sum-size = (view p.zip).size-of
 
-      pub sum-kind : get_or kids at 0 ≡ kindWord T
+      pub sum-kind : get_or kids at 0 ≡ kind_word T
       sum-kind = (view p.zip).kind
 
       -- where a term's part ends
-      pub sum-stop : get_or kids at 0 ≡ 1 → (e : ℕ) → e ≡ at + nodeStateWords → e ≡ at + get_or kids (at + 1) 0
+      pub sum-stop : get_or kids at 0 ≡ 1 → (e : ℕ) → e ≡ at + node_state_words → e ≡ at + get_or kids (at + 1) 0
       sum-stop t e stop = omega (arith, stop, sum-size, term-size T (sym sum-kind ∙ t))
 
       pub sum-scorable : most ≤ 256 → Scorable ix table places T
-      unfolding Sounds TablesOf nodesOf
+      unfolding Sounds TablesOf nodes_of
       sum-scorable h = record { sound = p.sound.0; tables = p.tables.0; few = omega (arith, p.few) }
 
       pub sum-matched : c f T ≡ true → matches ix T doc ≡ true
@@ -118,7 +118,7 @@ module _ (c : Bool → Scorer → Bool) (ix : Index) (ranges : List ℕ) (table 
       pub sum-part : (e : ℕ) → e ≡ at + get_or kids (at + 1) 0 → Ok ix ranges T k (cond f 1 0) (take (e - at) (drop at kids)) doc
       sum-part e stop = part-ok (view p.zip) e stop
 
-      pub sum-part-kind : (e : ℕ) → e ≡ at + get_or kids (at + 1) 0 → get_or (take (e - at) (drop at kids)) 0 0 ≡ kindWord T
+      pub sum-part-kind : (e : ℕ) → e ≡ at + get_or kids (at + 1) 0 → get_or (take (e - at) (drop at kids)) 0 0 ≡ kind_word T
       sum-part-kind e stop = ok-kind ix ranges T k (cond f 1 0) (take (e - at) (drop at kids)) doc (sum-part e stop)
 
       -- the child's part after a call
@@ -127,14 +127,14 @@ module _ (c : Bool → Scorer → Bool) (ix : Index) (ranges : List ℕ) (table 
 
       -- on to the next child
       pub sum-skipped : c f T ≡ false → (e : ℕ) → e ≡ at + get_or kids (at + 1) 0 → SumAt c ix ranges table places k doc fs total most g kids e sum
-      unfolding Sounds TablesOf nodesOf Matched counted
+      unfolding Sounds TablesOf nodes_of Matched counted
       sum-skipped out e stop =
           record { zip = zip-next (view p.zip) e stop; left = (rw out at p.left); q = p.q; small = p.small; few = omega (arith, p.few); sound = p.sound.1; tables = p.tables.1; matched = p.matched.1 }
 
       pub sum-took : most ≤ 256 → c f T ≡ true → (e : ℕ) → e ≡ at + get_or kids (at + 1) 0 → (r : Float) → ScoreIs ix T doc r → SumAt c ix ranges table places k doc fs total most g kids e (add binary64 sum r)
-      unfolding Sounds TablesOf nodesOf Matched counted sumFrom
+      unfolding Sounds TablesOf nodes_of Matched counted sum_from
       sum-took h counts e stop r s =
-          let l : sumFrom (add binary64 sum (scorerScore ix T doc)) (counted c ix g doc) ≡ total = rw counts at p.left in
+          let l : sum_from (add binary64 sum (scorer_score ix T doc)) (counted c ix g doc) ≡ total = rw counts at p.left in
           record {
             zip = zip-next (view p.zip) e stop;
             left = rw s.is l;

@@ -1,12 +1,12 @@
 -- What `score` asks and gives of the parts of some children; what it asks and gives of a node is in `leaf_score`. Assumes nothing: these are definitions.
 use Rattle.std.specs.Prelude.{◌≡◌, true, List, ◌++◌, ℕ, ◌+◌, ◌*◌, ◌^◌, ◌≤◌, Float}
 use Rattle.meaning.specs.Lent.{Index}
-use Rattle.meaning.specs.Ieee754.{zeroFloat, sumFrom, narrowedSum}
+use Rattle.meaning.specs.Ieee754.{zero_float, sum_from, narrowed_sum}
 use Rattle.ieee754.specs.Nonneg.{AtMost}
-use Rattle.weight.specs.ScorerTree.{Scorers, Joining, oneMore, afterwards, allMatch, scoring, requiredScores, optionalScores, joinedScore}
-use Rattle.weight.specs.State.{sizesOf, sizesOfFirst}
+use Rattle.weight.specs.ScorerTree.{Scorers, Joining, one_more, afterwards, all_match, scoring, required_scores, optional_scores, joined_score}
+use Rattle.weight.specs.State.{sizes_of, sizes_of_first}
 use Rattle.weight.specs.Held.{Oks}
-use Rattle.weight.specs.Sound.{Sounds, TablesOf, nodesOf}
+use Rattle.weight.specs.Sound.{Sounds, TablesOf, nodes_of}
 use Rattle.leaf_score.specs.declared.Node.{Node}
 use Rattle.leaf_score.specs.Asked.{LentAt}
 
@@ -14,21 +14,21 @@ use Rattle.leaf_score.specs.Asked.{LentAt}
 pub record Scorables (ix : Index) (table : List Float) (places p : ℕ) (ss : Scorers) : Type 0 where
   pub sound : Sounds ix places ss
   pub tables : TablesOf ix table ss
-  pub few : p + nodesOf ss ≤ 256
+  pub few : p + nodes_of ss ≤ 256
 
 -- a sum in f64, and that it is at most 2^29 for each leaf
 pub record SumIs (x : Float) (xs : List Float) (p : ℕ) (r : Float) : Type 0 where
-  pub is : r ≡ sumFrom x xs
+  pub is : r ≡ sum_from x xs
   pub small : AtMost (p * 2 ^ 29) r
 
 -- the same of the parts of some children, and of a sum of at most 2^29 for each of p nodes: the required, which all match
 abbrev pub RequiredPre : List ℕ → Float → ℕ → List ℕ → List ℕ → List ℕ → List ℕ → List Float → ℕ → ℕ → ℕ → Type 0
 RequiredPre kids sum n postings positions norms ranges table places doc depth =
-    (ix : Index) × (ss : Scorers) × (p : ℕ) × LentAt ix n postings positions norms doc × Scorables ix table places p ss × (allMatch ix ss doc ≡ true) × Oks ix ranges ss depth kids doc × AtMost (p * 2 ^ 29) sum
+    (ix : Index) × (ss : Scorers) × (p : ℕ) × LentAt ix n postings positions norms doc × Scorables ix table places p ss × (all_match ix ss doc ≡ true) × Oks ix ranges ss depth kids doc × AtMost (p * 2 ^ 29) sum
 
 abbrev pub RequiredPost : List ℕ → Float → ℕ → List ℕ → List ℕ → List ℕ → List ℕ → List Float → ℕ → ℕ → ℕ → Float → List ℕ → Type 0
 RequiredPost kids sum n postings positions norms ranges table places doc depth r kids' =
-    (ix : Index) (ss : Scorers) (p : ℕ) → LentAt ix n postings positions norms doc → Scorables ix table places p ss → allMatch ix ss doc ≡ true → Oks ix ranges ss depth kids doc → AtMost (p * 2 ^ 29) sum → SumIs sum (scoring (requiredScores ix ss doc)) (p + nodesOf ss) r × Oks ix ranges ss depth kids' doc
+    (ix : Index) (ss : Scorers) (p : ℕ) → LentAt ix n postings positions norms doc → Scorables ix table places p ss → all_match ix ss doc ≡ true → Oks ix ranges ss depth kids doc → AtMost (p * 2 ^ 29) sum → SumIs sum (scoring (required_scores ix ss doc)) (p + nodes_of ss) r × Oks ix ranges ss depth kids' doc
 
 -- and the optional, which match or do not
 abbrev pub OptionalPre : List ℕ → ℕ → List ℕ → List ℕ → List ℕ → List ℕ → List Float → ℕ → ℕ → ℕ → Type 0
@@ -37,11 +37,11 @@ OptionalPre kids n postings positions norms ranges table places doc depth =
 
 abbrev pub OptionalPost : List ℕ → ℕ → List ℕ → List ℕ → List ℕ → List ℕ → List Float → ℕ → ℕ → ℕ → Float → List ℕ → Type 0
 OptionalPost kids n postings positions norms ranges table places doc depth r kids' =
-    (ix : Index) (ss : Scorers) → LentAt ix n postings positions norms doc → Scorables ix table places 0 ss → Oks ix ranges ss depth kids doc → SumIs zeroFloat (optionalScores ix ss doc) (nodesOf ss) r × Oks ix ranges ss depth kids' doc
+    (ix : Index) (ss : Scorers) → LentAt ix n postings positions norms doc → Scorables ix table places 0 ss → Oks ix ranges ss depth kids doc → SumIs zero_float (optional_scores ix ss doc) (nodes_of ss) r × Oks ix ranges ss depth kids' doc
 
 -- where the group joins, in the two words of the record
 unfoldable pub JoinsAt : Joining → Scorers → ℕ → ℕ → Type 0
-JoinsAt (oneMore n) rs after at = (after ≡ 0) × (at ≡ sizesOfFirst n rs)
+JoinsAt (one_more n) rs after at = (after ≡ 0) × (at ≡ sizes_of_first n rs)
 JoinsAt afterwards rs after at = after ≡ 1
 
 -- the words behind a Boolean's record: the required parts, the optional, and the rest
@@ -56,10 +56,10 @@ pub record PartsAre (ix : Index) (ranges : List ℕ) (rs os : Scorers) (depth do
 pub record JoinAsks (ix : Index) (table : List Float) (places : ℕ) (j : Joining) (rs os : Scorers) (n : Node) (doc : ℕ) : Type 0 where
   pub required : Scorables ix table places 0 rs
   pub optional : Scorables ix table places 0 os
-  pub few : nodesOf rs + nodesOf os ≤ 256
-  pub all : allMatch ix rs doc ≡ true
-  pub required-end : n.required_end ≡ sizesOf rs
-  pub optional-end : n.optional_end ≡ sizesOf rs + sizesOf os
+  pub few : nodes_of rs + nodes_of os ≤ 256
+  pub all : all_match ix rs doc ≡ true
+  pub required-end : n.required_end ≡ sizes_of rs
+  pub optional-end : n.optional_end ≡ sizes_of rs + sizes_of os
   pub joins : JoinsAt j rs n.afterwards n.group_at
 
 abbrev pub JoinPre : List ℕ → Node → ℕ → List ℕ → List ℕ → List ℕ → List ℕ → List Float → ℕ → ℕ → ℕ → Type 0
@@ -68,8 +68,8 @@ JoinPre kids node n postings positions norms ranges table places doc depth =
 
 -- the joined score, and the parts as good as before
 pub record JoinIs (ix : Index) (j : Joining) (rs os : Scorers) (doc : ℕ) (r : Float) : Type 0 where
-  pub is : r ≡ joinedScore j (requiredScores ix rs doc) (narrowedSum (optionalScores ix os doc))
-  pub small : AtMost ((nodesOf rs + nodesOf os) * 2 ^ 29) r
+  pub is : r ≡ joined_score j (required_scores ix rs doc) (narrowed_sum (optional_scores ix os doc))
+  pub small : AtMost ((nodes_of rs + nodes_of os) * 2 ^ 29) r
 
 abbrev pub JoinPost : List ℕ → Node → ℕ → List ℕ → List ℕ → List ℕ → List ℕ → List Float → ℕ → ℕ → ℕ → Float → List ℕ → Type 0
 JoinPost kids node n postings positions norms ranges table places doc depth r kids' =

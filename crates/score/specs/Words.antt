@@ -1,6 +1,6 @@
 -- What is read of a child's record. Assumes nothing: these are definitions.
 use Rattle.std.specs.Prelude.{◌≡◌, List, ℕ, ◌+◌, ◌≤◌, length, get_or}
-use Rattle.meaning.specs.Limits.{nodeStateWords}
+use Rattle.meaning.specs.Limits.{node_state_words}
 use Rattle.score.specs.declared.Child.{Child}
 
 -- the child whose part begins at a word: its kind, where the part ends, and its scores word
@@ -11,5 +11,5 @@ pub record ChildIs (kids : List ℕ) (at : ℕ) (c : Child) : Type 0 where
 
 -- a child's record is there
 pub record ChildThere (kids : List ℕ) (at : ℕ) : Type 0 where
-  pub long : nodeStateWords ≤ get_or kids (at + 1) 0
+  pub long : node_state_words ≤ get_or kids (at + 1) 0
   pub fits : at + get_or kids (at + 1) 0 ≤ length kids

@@ -6,10 +6,10 @@ use Prim.Native.Nat.{ℕ, ◌+◌, ◌≤◌}
 use native.Mathlib.Nat.{le_refl}
 use native.Mathlib.Omega.{arith}
 use lib.ListN.{get_or, set}
-use Rattle.meaning.specs.Limits.{noMoreDocs}
+use Rattle.meaning.specs.Limits.{no_more_docs}
 use Rattle.meaning.specs.Lent.{Index}
 use Rattle.meaning.specs.Phrase.{PhraseTerm}
-use Rattle.weight.specs.ScorerTree.{nothing, term, phrase, range, everything, Scorer, matches, leafMatches}
+use Rattle.weight.specs.ScorerTree.{nothing, term, phrase, range, everything, Scorer, matches, leaf_matches}
 use Rattle.weight.specs.State.{State}
 use Rattle.weight.specs.Held.{LeafIs, Ok}
 use Rattle.leaf_scorer.specs.Phrases.{PhraseHeld, PhrasePre, PhraseAtPost}
@@ -27,7 +27,7 @@ module _ (ps qs st : List ℕ) (t : ℕ) (is : get_or st 0 0 ≡ 2) (due : get_o
     own : {ix : Index} {p : ℕ} {f : ℕ} {ts : List PhraseTerm} {s : State} {w : List ℕ} → PhraseHeld E.postings E.positions ix p f ts s w st t → PhraseHeld ps qs ix p f ts s w st t
     own h = record { accepted = h.accepted; postings-are = h.postings-are ∙ same; positions-are = h.positions-are ∙ alike; sound = h.sound; words = h.words; is = h.is }
 
-    pub phrase-asks : t ≤ noMoreDocs → (a b : ℕ) (ix : Index) (p : ℕ) (T : Scorer) (k o : ℕ) → p ≤ a → p ≤ b → NodeHeld E ix p T k o st t → PhrasePre ps qs a b st t
+    pub phrase-asks : t ≤ no_more_docs → (a b : ℕ) (ix : Index) (p : ℕ) (T : Scorer) (k o : ℕ) → p ≤ a → p ≤ b → NodeHeld E ix p T k o st t → PhrasePre ps qs a b st t
     phrase-asks top a b ix p T k o in-a in_b h =
         let n = node-leaf E ix p k o st t (get_or st 2 0) refl due (get_or st 0 0) refl phrase-no-boolean T h in
         let m = seek-phrase-pre E st t is ix p n.0 n.1 n.2 n.3 in
@@ -35,7 +35,7 @@ module _ (ps qs st : List ℕ) (t : ℕ) (is : get_or st 0 0 ≡ 2) (due : get_o
 
     module _ (r : ℕ) (st' : List ℕ) (post : PhraseAtPost ps qs st t r st') where
       leaf-asked : LeafAsked E st t r st'
-      unfolding LeafIs leafMatches
+      unfolding LeafIs leaf_matches
       leaf-asked ix p nothing s w h = absurd (omega (arith, rw h.words at is, h.is.0))
       leaf-asked ix p (term l) s w h = absurd (omega (arith, rw h.words at is, h.is.0.kind-is))
       leaf-asked ix p (phrase f ts) s w h =

@@ -7,7 +7,7 @@ use native.Mathlib.Nat.{le_refl, le_trans}
 use native.Mathlib.Omega.{arith}
 use lib.ListN.{get_or, length, take, drop, length-append, get_or-append}
 use lib.Seq.{take_at, drop_at, get_or-append-add, get_or-take, get_or-drop}
-use Rattle.meaning.specs.Limits.{nodeStateWords}
+use Rattle.meaning.specs.Limits.{node_state_words}
 use Rattle.meaning.specs.Lent.{Index}
 use Rattle.meaning.specs.First.{First}
 use Rattle.weight.specs.ScorerTree.{Scorer, Scorers, end, more, matches}
@@ -42,7 +42,7 @@ pub record View (E : Lent) (ix : Index) (p k : ℕ) (fs : Scorers) (f : Bool) (T
   pub sounds : Sounds ix p g
   pub ok : Ok ix E.ranges T k (cond f 1 0) y t
   pub rest : Oks ix E.ranges g k z t
-  pub long : nodeStateWords ≤ length y
+  pub long : node_state_words ≤ length y
   pub fits : at + length y ≤ length kids
   pub size : get_or kids (at + 1) 0 ≡ length y
   pub cached : get_or kids (at + 2) 0 ≡ get_or y 2 0
@@ -158,7 +158,7 @@ child-cached kids at e k h c i l = omega (arith, get_or-take (e - at) (drop at k
 
 -- a child whose first word is not that of a phrase or a Boolean: its part is one record
 module _ {E : Lent} {ix : Index} {p k : ℕ} {fs : Scorers} {kids : List ℕ} {at t : ℕ} where
-  pub child-single : (g : Scorers) → Zip E ix p k fs g kids at t → at < length kids → (get_or kids at 0 ≡ 2 → ⊥) → (get_or kids at 0 ≡ 3 → ⊥) → get_or kids (at + 1) 0 ≡ nodeStateWords
+  pub child-single : (g : Scorers) → Zip E ix p k fs g kids at t → at < length kids → (get_or kids at 0 ≡ 2 → ⊥) → (get_or kids at 0 ≡ 3 → ⊥) → get_or kids (at + 1) 0 ≡ node_state_words
   child-single end q l n2 n3 = absurd (omega (arith, zip-none q))
   child-single (more f T g) q l n2 n3 =
       let v = view q in
@@ -167,14 +167,14 @@ module _ {E : Lent} {ix : Index} {p k : ℕ} {fs : Scorers} {kids : List ℕ} {a
       v.size ∙ ok-single ix E.ranges T k (cond f 1 0) v.y t v.ok (λ e. n2 (sym first ∙ e)) (λ e. n3 (sym first ∙ e))
 
   -- so one whose first word is that of a term or a range
-  pub child-term : (g : Scorers) → Zip E ix p k fs g kids at t → at < length kids → get_or kids at 0 ≡ 1 → get_or kids (at + 1) 0 ≡ nodeStateWords
+  pub child-term : (g : Scorers) → Zip E ix p k fs g kids at t → at < length kids → get_or kids at 0 ≡ 1 → get_or kids (at + 1) 0 ≡ node_state_words
   child-term g q l e = child-single g q l (λ x. omega (arith, e)) (λ x. omega (arith, e))
 
-  pub child-range : (g : Scorers) → Zip E ix p k fs g kids at t → at < length kids → get_or kids at 0 ≡ 4 → get_or kids (at + 1) 0 ≡ nodeStateWords
+  pub child-range : (g : Scorers) → Zip E ix p k fs g kids at t → at < length kids → get_or kids at 0 ≡ 4 → get_or kids (at + 1) 0 ≡ node_state_words
   child-range g q l e = child-single g q l (λ x. omega (arith, e)) (λ x. omega (arith, e))
 
-  pub term-end : (g : Scorers) → Zip E ix p k fs g kids at t → at < length kids → get_or kids at 0 ≡ 1 → at + nodeStateWords ≡ at + get_or kids (at + 1) 0
+  pub term-end : (g : Scorers) → Zip E ix p k fs g kids at t → at < length kids → get_or kids at 0 ≡ 1 → at + node_state_words ≡ at + get_or kids (at + 1) 0
   term-end g q l e = ap (λ (n : ℕ). at + n) (sym (child-term g q l e))
 
-  pub range-end : (g : Scorers) → Zip E ix p k fs g kids at t → at < length kids → get_or kids at 0 ≡ 4 → at + nodeStateWords ≡ at + get_or kids (at + 1) 0
+  pub range-end : (g : Scorers) → Zip E ix p k fs g kids at t → at < length kids → get_or kids at 0 ≡ 4 → at + node_state_words ≡ at + get_or kids (at + 1) 0
   range-end g q l e = ap (λ (n : ℕ). at + n) (sym (child-range g q l e))

@@ -8,18 +8,18 @@ use Prim.Native.Nat.{ℕ, ◌*◌}
 use native.Mathlib.Omega.{arith}
 use lib.Dec.{lit≤, lit<}
 use lib.Ieee.{fits, to_bits}
-use Rattle.meaning.specs.Below.{anyBelow, countBelow, largestBelow}
-use Rattle.meaning.specs.Limits.{nodeStateWords}
+use Rattle.meaning.specs.Below.{any_below, count_below, largest_below}
+use Rattle.meaning.specs.Limits.{node_state_words}
 use Rattle.meaning.specs.Lent.{Index}
-use Rattle.meaning.specs.Ieee754.{zeroFloat}
+use Rattle.meaning.specs.Ieee754.{zero_float}
 use Rattle.meaning.specs.Phrase.{PhraseTerm}
-use Rattle.meaning.specs.CallRefusals.{largestIn}
-use Rattle.meaning.specs.IndexRefusals.{wrong1, wrongField, wrong2, wrong3, wrongLeaf, wrong4, wrongPosition, wrongPositions, wrongPosting, wrong5, wrongColumn, wrong6}
+use Rattle.meaning.specs.CallRefusals.{largest_in}
+use Rattle.meaning.specs.IndexRefusals.{wrong1, wrong_field, wrong2, wrong3, wrong_leaf, wrong4, wrong_position, wrong_positions, wrong_posting, wrong5, wrong_column, wrong6}
 use Rattle.index.specs.Accepted.{Accepted}
 use Rattle.index.proofs.Accepted.{accepted}
-use Rattle.weight.specs.ScorerTree.{nothing, term, phrase, constant, oneMore, Scorer, leaf, boolean, end, more, leafMatches, matches}
-use Rattle.weight.specs.State.{State, words_of, leafSize, size_of, sizesOfFirst}
-use Rattle.weight.specs.Held.{TermIs, TermsAre, normsWord, LeafIs, ScoringIs, FloatIs, KeptIs, JoiningIs, Ok}
+use Rattle.weight.specs.ScorerTree.{nothing, term, phrase, constant, one_more, Scorer, leaf, boolean, end, more, leaf_matches, matches}
+use Rattle.weight.specs.State.{State, words_of, leaf_size, size_of, sizes_of_first}
+use Rattle.weight.specs.Held.{TermIs, TermsAre, norms_word, LeafIs, ScoringIs, FloatIs, KeptIs, JoiningIs, Ok}
 use Rattle.weight.specs.Sound.{EachTerm, LeafSound, Sound}
 use Rattle.scorer.specs.Calls.{AdvancePre}
 use Rattle.leaf_scorer.specs.Calls.{lent}
@@ -33,7 +33,7 @@ positions = 0 ∷ 4 ∷ 5 ∷ []
 abbrev index : Index
 index =
     record {
-      maxDoc = 3;
+      max_doc = 3;
       fields = 0x3f80_0000 ∷ 0 ∷ 1 ∷ [];
       leaves = 0 ∷ 0 ∷ 2 ∷ 0 ∷ 0 ∷ 2 ∷ 1 ∷ 0 ∷ [];
       postings = postings;
@@ -45,7 +45,7 @@ index =
     }
 
 index-accepted : Accepted index
-unfolding wrong1 wrongField wrong2 wrong3 wrongLeaf wrong4 wrongPosition wrongPositions wrongPosting wrong5 wrongColumn wrong6 anyBelow countBelow
+unfolding wrong1 wrong_field wrong2 wrong3 wrong_leaf wrong4 wrong_position wrong_positions wrong_posting wrong5 wrong_column wrong6 any_below count_below
 index-accepted = accepted index refl refl refl refl refl refl
 
 abbrev terms : List PhraseTerm
@@ -53,7 +53,7 @@ terms = record { leaf = 0; offset = 0 } ∷ record { leaf = 1; offset = 1 } ∷ 
 
 abbrev tree : Scorer
 tree =
-    boolean none (oneMore 0) 1 (more true (leaf (term 0) (constant zeroFloat)) end) (more true (leaf (phrase 0 terms) (constant zeroFloat)) end) (more false (leaf nothing (constant zeroFloat)) end)
+    boolean none (one_more 0) 1 (more true (leaf (term 0) (constant zero_float)) end) (more true (leaf (phrase 0 terms) (constant zero_float)) end) (more false (leaf nothing (constant zero_float)) end)
 
 -- a record that has not been positioned: kind, size, cached, need, the two ends, first, number, offset, constant, scores
 abbrev fresh : ℕ → ℕ → ℕ → ℕ → ℕ → ℕ → ℕ → ℕ → ℕ → ℕ → ℕ → State
@@ -63,8 +63,8 @@ fresh kind size cached need re oe first number offset same scores =
       size = size;
       cached = cached;
       need = need;
-      requiredEnd = re;
-      optionalEnd = oe;
+      required_end = re;
+      optional_end = oe;
       first = first;
       number = number;
       cursor = 0;
@@ -73,19 +73,19 @@ fresh kind size cached need re oe first number offset same scores =
       constant = same;
       weight = 0;
       afterwards = 0;
-      groupAt = 0;
+      group_at = 0;
       scores = scores;
-      frequencyOf = 0;
+      frequency_of = 0;
       frequency = 0;
       norms = 0;
-      windowFirst = 0;
-      windowLow = 0;
-      windowHigh = 0;
-      windowNext = 0;
-      onesLow = 0;
-      onesHigh = 0;
-      twosLow = 0;
-      twosHigh = 0;
+      window_first = 0;
+      window_low = 0;
+      window_high = 0;
+      window_next = 0;
+      ones_low = 0;
+      ones_high = 0;
+      twos_low = 0;
+      twos_high = 0;
       spare1 = 0;
       spare2 = 0;
       spare3 = 0;
@@ -94,45 +94,45 @@ fresh kind size cached need re oe first number offset same scores =
     }
 
 abbrev root : State
-root = fresh 3 (6 * nodeStateWords) 0 1 nodeStateWords (4 * nodeStateWords) 0 0 0 0 1
+root = fresh 3 (6 * node_state_words) 0 1 node_state_words (4 * node_state_words) 0 0 0 0 1
 
 abbrev required : State
-required = fresh 1 nodeStateWords 0 0 0 0 0 2 0 1 1
+required = fresh 1 node_state_words 0 0 0 0 0 2 0 1 1
 
 abbrev optional : State
-optional = fresh 2 (3 * nodeStateWords) 0 0 0 0 0 0 0 1 1
+optional = fresh 2 (3 * node_state_words) 0 0 0 0 0 0 0 1 1
 
 abbrev first-term : State
-first-term = fresh 9 nodeStateWords 0 0 0 0 0 2 0 0 0
+first-term = fresh 9 node_state_words 0 0 0 0 0 2 0 0 0
 
 abbrev second-term : State
-second-term = fresh 9 nodeStateWords 0 0 0 0 2 1 1 0 0
+second-term = fresh 9 node_state_words 0 0 0 0 2 1 1 0 0
 
 abbrev prohibited : State
-prohibited = fresh 0 nodeStateWords 2147483648 0 0 0 0 0 0 1 0
+prohibited = fresh 0 node_state_words 2147483648 0 0 0 0 0 0 1 0
 
 abbrev words : List ℕ
 words = words_of root ++ (words_of required ++ ((words_of optional ++ (words_of first-term ++ words_of second-term)) ++ words_of prohibited))
 
-score-held : FloatIs zeroFloat 0
+score-held : FloatIs zero_float 0
 unfolding fits to_bits
 score-held = record { held = tt; small = record { sign = tt; most = lit≤ tt }; bits_are = refl }
 
-term-held : (kind l offset same scores b : ℕ) (s : State) → s ≡ fresh kind nodeStateWords 0 0 0 0 0 2 offset same scores → l ≡ 0 → TermIs index kind l s b
-unfolding normsWord countBelow
+term-held : (kind l offset same scores b : ℕ) (s : State) → s ≡ fresh kind node_state_words 0 0 0 0 0 2 offset same scores → l ≡ 0 → TermIs index kind l s b
+unfolding norms_word count_below
 term-held kind l offset same scores b s e z = rw (e, z) (record { kind-is = refl; size_is = refl; first-is = refl; number_is = refl; field_is = refl; norms-is = refl; run = record { within = lit≤ tt; passed = λ i h. absurd (omega arith) } })
 
 second-held : (b : ℕ) → TermIs index 9 1 second-term b
-unfolding normsWord countBelow
+unfolding norms_word count_below
 second-held b = record { kind-is = refl; size_is = refl; first-is = refl; number_is = refl; field_is = refl; norms-is = refl; run = record { within = lit≤ tt; passed = λ i h. absurd (omega arith) } }
 
 tree-sound : Sound index 1 tree
-unfolding Sound LeafSound EachTerm largestIn largestBelow
+unfolding Sound LeafSound EachTerm largest_in largest_below
 tree-sound =
     ((lit< tt, tt), ((lit< tt, refl, lit< tt, lit≤ tt, (record { leaf-there = lit< tt; field_is = refl; offset-small = lit≤ tt; room = lit≤ tt }, (record { leaf-there = lit< tt; field_is = refl; offset-small = lit≤ tt; room = lit≤ tt }, tt))), tt), (tt, tt))
 
 tree-ok : Ok index [] tree 1 1 words 0
-unfolding Ok LeafIs ScoringIs KeptIs JoiningIs TermsAre normsWord countBelow size_of leafSize sizesOfFirst matches leafMatches
+unfolding Ok LeafIs ScoringIs KeptIs JoiningIs TermsAre norms_word count_below size_of leaf_size sizes_of_first matches leaf_matches
 tree-ok = (
   root,
   words_of required,

@@ -9,10 +9,10 @@ use native.Mathlib.Omega.{arith}
 use lib.Dec.{leb, ltb}
 use lib.Ieee.{Float}
 use borrow.Author.Tests.{le-leb, lt-leb, lt-ltb, ltb-false}
-use Rattle.meaning.specs.Limits.{noMoreDocs}
+use Rattle.meaning.specs.Limits.{no_more_docs}
 use Rattle.meaning.specs.Lent.{Index}
 use Rattle.meaning.specs.First.{First}
-use Rattle.weight.specs.ScorerTree.{Joining, Scorer, Scorers, end, more, boolean, matches, allMatch, anyMatches, matching}
+use Rattle.weight.specs.ScorerTree.{Joining, Scorer, Scorers, end, more, boolean, matches, all_match, any_matches, matching}
 use Rattle.weight.specs.Held.{Cache}
 use Rattle.scorer.specs.Calls.{Passes, leads, takes, LeastIs}
 use Rattle.meaning.proofs.Tests.{cmp}
@@ -70,34 +70,34 @@ module _ (ix : Index) (f : Bool) (T : Scorer) (ss : Scorers) (d : ℕ) where
   unfolding matching
   matching-miss e = rw e (omega arith)
 
-  pub all-hit : matches ix T d ≡ true → allMatch ix (more f T ss) d ≡ allMatch ix ss d
-  unfolding allMatch
+  pub all-hit : matches ix T d ≡ true → all_match ix (more f T ss) d ≡ all_match ix ss d
+  unfolding all_match
   all-hit e = rw e
 
-  pub all-miss : matches ix T d ≡ false → allMatch ix (more f T ss) d ≡ false
-  unfolding allMatch
+  pub all-miss : matches ix T d ≡ false → all_match ix (more f T ss) d ≡ false
+  unfolding all_match
   all-miss e = rw e
 
-  pub all_rest : allMatch ix ss d ≡ false → allMatch ix (more f T ss) d ≡ false
-  unfolding allMatch
+  pub all_rest : all_match ix ss d ≡ false → all_match ix (more f T ss) d ≡ false
+  unfolding all_match
   all_rest e = rw e (and-false (matches ix T d))
 
 pub matching-end : (ix : Index) (d : ℕ) → matching ix end d ≡ 0
 unfolding matching
 matching-end ix d = refl
 
-pub all_end : (ix : Index) (d : ℕ) → allMatch ix end d ≡ true
-unfolding allMatch
+pub all_end : (ix : Index) (d : ℕ) → all_match ix end d ≡ true
+unfolding all_match
 all_end ix d = refl
 
 or-go : (a b : Bool) (n : ℕ) → b ≡ ltb 0 n → (a || b) ≡ ltb 0 (cond a 1 0 + n)
 or-go true b n e = sym (lt-ltb 0 (1 + n) (omega arith))
 or-go false b n e = let z : n ≡ 0 + n = omega arith in subst (λ (m : ℕ). b ≡ ltb 0 m) z e
 
-pub any-matching : (ix : Index) (ss : Scorers) (d : ℕ) → anyMatches ix ss d ≡ ltb 0 (matching ix ss d)
-unfolding anyMatches matching
+pub any-matching : (ix : Index) (ss : Scorers) (d : ℕ) → any_matches ix ss d ≡ ltb 0 (matching ix ss d)
+unfolding any_matches matching
 any-matching ix end d = refl
-any-matching ix (more f T ss) d = or-go (matches ix T d) (anyMatches ix ss d) (matching ix ss d) (any-matching ix ss d)
+any-matching ix (more f T ss) d = or-go (matches ix T d) (any_matches ix ss d) (matching ix ss d) (any-matching ix ss d)
 
 and-swap : (a b c : Bool) → (a && c) && b ≡ a && b && c
 and-swap true true true = refl
@@ -109,7 +109,7 @@ and-swap false b c = refl
 -- a Boolean's documents
 pub boolean-takes : (ix : Index) (c : Option Float) (j : Joining) (need : ℕ) (rs os ps : Scorers) (d : ℕ) → takes ix rs os ps need d ≡ matches ix (boolean c j need rs os ps) d
 unfolding matches
-boolean-takes ix c j need rs os ps d = ap (λ (i : Bool). leads ix rs os need d && not i) (sym (any-matching ix ps d)) ∙ (and-swap (allMatch ix rs d) (not (anyMatches ix ps d)) (leb need (matching ix os d)))
+boolean-takes ix c j need rs os ps d = ap (λ (i : Bool). leads ix rs os need d && not i) (sym (any-matching ix ps d)) ∙ (and-swap (all_match ix rs d) (not (any_matches ix ps d)) (leb need (matching ix os d)))
 
 -- ---- a disjunction that wants some: from the least document and how many stand there
 module _ {ix : Index} {ss : Scorers} {need target t d n : ℕ} (some : 0 < need) (lo : target ≤ t)
@@ -117,13 +117,13 @@ module _ {ix : Index} {ss : Scorers} {need target t d n : ℕ} (some : 0 < need)
   enough-before : (x : ℕ) → target ≤ x → x < d → leb need (matching ix ss x) ≡ false
   enough-before x a b = ⊎_elim (λ h. un x a h) (λ h. lt-leb need (matching ix ss x) (omega (arith, ltb-false 0 (matching ix ss x) (p.first.before x h b)))) (cmp x t)
 
-  pub enough-top : d ≡ noMoreDocs → First (λ x. leb need (matching ix ss x)) target d
+  pub enough-top : d ≡ no_more_docs → First (λ x. leb need (matching ix ss x)) target d
   enough-top e = record { from = le_trans lo p.first.from; top = p.first.top; before = enough-before; hit = λ h. absurd (omega arith) }
 
   pub enough-hit : need ≤ n → First (λ x. leb need (matching ix ss x)) target d
   enough-hit e = record { from = le_trans lo p.first.from; top = p.first.top; before = enough-before; hit = λ h. le-leb need (matching ix ss d) (omega (arith, p.number h)) }
 
-  pub enough-more : d < noMoreDocs → n < need → (x : ℕ) → target ≤ x → x < d + 1 → leb need (matching ix ss x) ≡ false
+  pub enough-more : d < no_more_docs → n < need → (x : ℕ) → target ≤ x → x < d + 1 → leb need (matching ix ss x) ≡ false
   enough-more h e x a b =
       ⊎_elim (λ g. enough-before x a g)
       (λ g. let s : x ≡ d = omega arith in rw s (lt-leb need (matching ix ss d) (omega (arith, p.number h))))
@@ -135,7 +135,7 @@ module _ (ix : Index) (rs os ps : Scorers) (need : ℕ) {target t d : ℕ} (lo :
   kept-before : (x : ℕ) → target ≤ x → x < d → takes ix rs os ps need x ≡ false
   kept-before x a b = ⊎_elim (λ h. un x a h) (λ h. ap (λ (i : Bool). i && not (ltb 0 (matching ix ps x))) (f.before x h b)) (cmp x t)
 
-  pub kept_top : d ≡ noMoreDocs → First (takes ix rs os ps need) target d
+  pub kept_top : d ≡ no_more_docs → First (takes ix rs os ps need) target d
   kept_top e = record { from = le_trans lo f.from; top = f.top; before = kept-before; hit = λ h. absurd (omega arith) }
 
   -- where nothing is prohibited
@@ -157,7 +157,7 @@ module _ (ix : Index) (rs os ps : Scorers) (need : ℕ) {target t d : ℕ} (lo :
         hit = λ h. ap (λ (i : Bool). i && not (ltb 0 (matching ix ps d))) (f.hit h) ∙ ap not (g.first.before d (le_refl _) (omega (arith, g.first.from)));
       }
 
-  pub kept_more : (x n : ℕ) → d < noMoreDocs → LeastIs ix ps d x n → x ≡ d → (y : ℕ) → target ≤ y → y < d + 1 → takes ix rs os ps need y ≡ false
+  pub kept_more : (x n : ℕ) → d < no_more_docs → LeastIs ix ps d x n → x ≡ d → (y : ℕ) → target ≤ y → y < d + 1 → takes ix rs os ps need y ≡ false
   kept_more x n h g q y a b =
       ⊎_elim (λ e. kept-before y a e)
       (λ e.

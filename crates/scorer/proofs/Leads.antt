@@ -9,11 +9,11 @@ use lib.Dec.{leb}
 use lib.ListN.{length, take, drop, length-append, length-take, length-drop}
 use lib.Seq.{take_at, drop_at, take-length, drop-length}
 use borrow.Author.Tests.{le-leb}
-use Rattle.meaning.specs.Limits.{noMoreDocs}
+use Rattle.meaning.specs.Limits.{no_more_docs}
 use Rattle.meaning.specs.Lent.{Index}
 use Rattle.meaning.specs.First.{First}
-use Rattle.weight.specs.ScorerTree.{Scorers, end, more, allMatch, matching}
-use Rattle.weight.specs.State.{sizesOf}
+use Rattle.weight.specs.ScorerTree.{Scorers, end, more, all_match, matching}
+use Rattle.weight.specs.State.{sizes_of}
 use Rattle.weight.specs.Held.{Oks}
 use Rattle.scorer.specs.Calls.{PartsHeld, LeadHeld, BooleanHeld, leads}
 use Rattle.leaf_scorer.specs.Calls.{Lent}
@@ -44,7 +44,7 @@ front_length kids ys n h = simp (length-append, length-take, length-drop, h) (om
 pub parts-later : {E : Lent} {ix : Index} {p k : ℕ} {ss : Scorers} {w : List ℕ} {b : ℕ} (e : ℕ) → b ≤ e → PartsHeld E ix p ss k w b → PartsHeld E ix p ss k w e
 parts-later {E} {ix} {p} {k} {ss} {w} {b} e h q = record { lends = q.lends; sounds = q.sounds; oks = oks-mono ix E.ranges ss k w b e h q.oks }
 
-pub parts-length : {E : Lent} {ix : Index} {p k : ℕ} {ss : Scorers} {w : List ℕ} {b : ℕ} → PartsHeld E ix p ss k w b → length w ≡ sizesOf ss
+pub parts-length : {E : Lent} {ix : Index} {p k : ℕ} {ss : Scorers} {w : List ℕ} {b : ℕ} → PartsHeld E ix p ss k w b → length w ≡ sizes_of ss
 parts-length {E} {ix} {p} {k} {ss} {w} {b} q = oks-length ix E.ranges ss k w b q.oks
 
 -- ---- the required and the optional
@@ -71,7 +71,7 @@ module _ {E : Lent} {ix : Index} {p k : ℕ} {rs os : Scorers} {n : ℕ} {kids :
   lead-later e l = record { x = h.x; v = h.v; is = h.is; required-end = h.required-end; required = parts-later e l h.required; optional = parts-later e l h.optional }
 
 -- without required children
-no-parts : {E : Lent} {ix : Index} {p k : ℕ} {t : ℕ} (rs : Scorers) (x : List ℕ) → PartsHeld E ix p rs k x t → length x ≡ 0 → (d : ℕ) → allMatch ix rs d ≡ true
+no-parts : {E : Lent} {ix : Index} {p k : ℕ} {t : ℕ} (rs : Scorers) (x : List ℕ) → PartsHeld E ix p rs k x t → length x ≡ 0 → (d : ℕ) → all_match ix rs d ≡ true
 unfolding Oks
 no-parts {E} {ix} {p} {k} {t} end x q e d = all_end ix d
 no-parts {E} {ix} {p} {k} {t} (more f T ss) x q e d =
@@ -91,7 +91,7 @@ nil-of [] e = refl
 nil-of (a ∷ x) e = absurd (omega (arith, e))
 
 module _ {E : Lent} {ix : Index} {p k : ℕ} {rs os : Scorers} {n : ℕ} {kids : List ℕ} {t : ℕ} (h : LeadHeld E ix p rs os k n kids t) (e : n ≡ 0) where
-  pub alone-all : (d : ℕ) → allMatch ix rs d ≡ true
+  pub alone-all : (d : ℕ) → all_match ix rs d ≡ true
   alone-all = no-parts rs h.x h.required (seam h ∙ e)
 
   alone-nil : h.x ≡ []
@@ -107,7 +107,7 @@ module _ {E : Lent} {ix : Index} {p k : ℕ} {rs os : Scorers} {n : ℕ} {kids :
   alone-first need r f = first-like (λ d. ap (λ (i : Bool). i && leb need (matching ix os d)) (sym (alone-all d))) f
 
   -- and where none of the optional is needed, each document leads
-  pub alone-here : (need : ℕ) → need ≡ 0 → t ≤ noMoreDocs → First (leads ix rs os need) t t
+  pub alone-here : (need : ℕ) → need ≡ 0 → t ≤ no_more_docs → First (leads ix rs os need) t t
   alone-here need z top = record { from = le_refl _; top = top; before = λ d a b. absurd (omega arith); hit = λ _. rw (alone-all t) (le-leb need (matching ix os t) (omega arith)) }
 
 -- ---- and the prohibited

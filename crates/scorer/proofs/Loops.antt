@@ -8,10 +8,10 @@ use native.Mathlib.Nat.{le_refl, le_trans}
 use native.Mathlib.Omega.{arith}
 use lib.ListN.{get_or, length, take, drop}
 use borrow.Author.Tests.{lt-ltb, le-ltb}
-use Rattle.meaning.specs.Limits.{noMoreDocs, nodeStateWords}
+use Rattle.meaning.specs.Limits.{no_more_docs, node_state_words}
 use Rattle.meaning.specs.Lent.{Index}
 use Rattle.meaning.specs.First.{First}
-use Rattle.weight.specs.ScorerTree.{Scorer, Scorers, end, more, matches, allMatch, matching}
+use Rattle.weight.specs.ScorerTree.{Scorer, Scorers, end, more, matches, all_match, matching}
 use Rattle.weight.specs.Held.{Ok}
 use Rattle.scorer.specs.Calls.{NodeHeld, AdvancePost, PartsHeld, Tally, LeastIs, Passes, Asks}
 use Rattle.leaf_scorer.specs.Calls.{Lent}
@@ -24,20 +24,20 @@ pub record LeastAt (E : Lent) (ix : Index) (p k : ℕ) (fs : Scorers) (kids : Li
   pub left : Scorers
   pub zip : Zip E ix p k fs left kids at t
   pub lo : t ≤ best
-  pub top : best ≤ noMoreDocs
+  pub top : best ≤ no_more_docs
   pub few : n ≤ at
   pub none' : (d : ℕ) → t ≤ d → d < best → matching ix fs d ≡ matching ix left d
-  pub here : best < noMoreDocs → matching ix fs best ≡ n + matching ix left best
-  pub some' : best < noMoreDocs → 0 < n
+  pub here : best < no_more_docs → matching ix fs best ≡ n + matching ix left best
+  pub some' : best < no_more_docs → 0 < n
 
 module _ {E : Lent} {ix : Index} {p k : ℕ} {fs : Scorers} where
-  pub least_start : {kids : List ℕ} {t : ℕ} → t ≤ noMoreDocs → PartsHeld E ix p fs k kids t → LeastAt E ix p k fs kids t noMoreDocs 0 0
+  pub least_start : {kids : List ℕ} {t : ℕ} → t ≤ no_more_docs → PartsHeld E ix p fs k kids t → LeastAt E ix p k fs kids t no_more_docs 0 0
   least_start h q = record { left = fs; zip = zip_start q; lo = h; top = le_refl _; few = le_refl _; none' = λ d a b. refl; here = λ l. absurd (omega arith); some' = λ l. absurd (omega arith) }
 
   pub least-end : {kids : List ℕ} {t best n at : ℕ} → LeastAt E ix p k fs kids t best n at → length kids ≤ at → LeastIs ix fs t best n × PartsHeld E ix p fs k kids t
   least-end {kids} {t} {best} {n} {at} q l = go q.left q.zip q.none' q.here
     where
-      go : (g : Scorers) → Zip E ix p k fs g kids at t → ((d : ℕ) → t ≤ d → d < best → matching ix fs d ≡ matching ix g d) → (best < noMoreDocs → matching ix fs best ≡ n + matching ix g best) → LeastIs ix fs t best n × PartsHeld E ix p fs k kids t
+      go : (g : Scorers) → Zip E ix p k fs g kids at t → ((d : ℕ) → t ≤ d → d < best → matching ix fs d ≡ matching ix g d) → (best < no_more_docs → matching ix fs best ≡ n + matching ix g best) → LeastIs ix fs t best n × PartsHeld E ix p fs k kids t
       go end z u h = (
         record {
           first = record {
@@ -53,8 +53,8 @@ module _ {E : Lent} {ix : Index} {p k : ℕ} {fs : Scorers} where
       go (more f T g) z u h = absurd (omega (arith, (view z).fits, (view z).long))
 
   -- one child more, which stands at d
-  least-next : {kids' : List ℕ} {t best n at : ℕ} (f : Bool) (T : Scorer) (g : Scorers) (e d best' n' : ℕ) → at + nodeStateWords ≤ e → t ≤ best → best ≤ noMoreDocs → n ≤ at
-      → ((x : ℕ) → t ≤ x → x < best → matching ix fs x ≡ matching ix (more f T g) x) → (best < noMoreDocs → matching ix fs best ≡ n + matching ix (more f T g) best) → (best < noMoreDocs → 0 < n)
+  least-next : {kids' : List ℕ} {t best n at : ℕ} (f : Bool) (T : Scorer) (g : Scorers) (e d best' n' : ℕ) → at + node_state_words ≤ e → t ≤ best → best ≤ no_more_docs → n ≤ at
+      → ((x : ℕ) → t ≤ x → x < best → matching ix fs x ≡ matching ix (more f T g) x) → (best < no_more_docs → matching ix fs best ≡ n + matching ix (more f T g) best) → (best < no_more_docs → 0 < n)
       → Zip E ix p k fs g kids' e t → First (matches ix T) t d → Tally best n d best' n' → LeastAt E ix p k fs kids' t best' n' e
   least-next {kids'} {t} {best} {n} {at} f T g e d best' n' far lo top few u h so z first tally = ⊎_elim below (λ c. ⊎_elim above same (cmp best d)) (cmp d best)
     where
@@ -117,7 +117,7 @@ module _ {E : Lent} {ix : Index} {p k : ℕ} {fs : Scorers} where
     pub least_skip : (c best' n' : ℕ) → c ≡ get_or kids (at + 2) 0 → t < c → Tally best n (c - 1) best' n' → LeastAt E ix p k fs kids t best' n' e
     least_skip c best' n' i h w = go q.left q.zip q.none' q.here
       where
-        go : (g : Scorers) → Zip E ix p k fs g kids at t → ((d : ℕ) → t ≤ d → d < best → matching ix fs d ≡ matching ix g d) → (best < noMoreDocs → matching ix fs best ≡ n + matching ix g best) → LeastAt E ix p k fs kids t best' n' e
+        go : (g : Scorers) → Zip E ix p k fs g kids at t → ((d : ℕ) → t ≤ d → d < best → matching ix fs d ≡ matching ix g d) → (best < no_more_docs → matching ix fs best ≡ n + matching ix g best) → LeastAt E ix p k fs kids t best' n' e
         go end z u r = absurd (omega (arith, zip-none z))
         go (more f T g) z u r =
             least-next f T g e (c - 1) best' n' (omega (arith, (view z).long, (view z).size)) q.lo q.top q.few u r q.some' (zip-skip (view z) e stop) (of-cached (view z) e stop c i h) w
@@ -125,7 +125,7 @@ module _ {E : Lent} {ix : Index} {p k : ℕ} {fs : Scorers} where
     pub least-took : (r best' n' : ℕ) (ys : List ℕ) → length ys ≡ length (take (e - at) (drop at kids)) → AdvancePost E (take (e - at) (drop at kids)) t k r ys → Tally best n r best' n' → LeastAt E ix p k fs (take at kids ++ (ys ++ drop (e - at) (drop at kids))) t best' n' e
     least-took r best' n' ys len post w = go q.left q.zip q.none' q.here
       where
-        go : (g : Scorers) → Zip E ix p k fs g kids at t → ((d : ℕ) → t ≤ d → d < best → matching ix fs d ≡ matching ix g d) → (best < noMoreDocs → matching ix fs best ≡ n + matching ix g best) → LeastAt E ix p k fs (take at kids ++ (ys ++ drop (e - at) (drop at kids))) t best' n' e
+        go : (g : Scorers) → Zip E ix p k fs g kids at t → ((d : ℕ) → t ≤ d → d < best → matching ix fs d ≡ matching ix g d) → (best < no_more_docs → matching ix fs best ≡ n + matching ix g best) → LeastAt E ix p k fs (take at kids ++ (ys ++ drop (e - at) (drop at kids))) t best' n' e
         go end z u h = absurd (omega (arith, zip-none z))
         go (more f T g) z u h =
             let a = of-advance (view z) e stop r ys post in
@@ -136,28 +136,28 @@ pub record PassAt (E : Lent) (ix : Index) (p k : ℕ) (fs : Scorers) (from : ℕ
   pub left : Scorers
   pub zip : Zip E ix p k fs left kids at d
   pub lo : from ≤ d
-  pub top : d ≤ noMoreDocs
-  pub before : (x : ℕ) → from ≤ x → x < d → allMatch ix fs x ≡ false
-  pub fails : (x : ℕ) → allMatch ix left x ≡ false → allMatch ix fs x ≡ false
-  pub holds : d ≡ from → d < noMoreDocs → allMatch ix left d ≡ true → allMatch ix fs d ≡ true
+  pub top : d ≤ no_more_docs
+  pub before : (x : ℕ) → from ≤ x → x < d → all_match ix fs x ≡ false
+  pub fails : (x : ℕ) → all_match ix left x ≡ false → all_match ix fs x ≡ false
+  pub holds : d ≡ from → d < no_more_docs → all_match ix left d ≡ true → all_match ix fs d ≡ true
 
 -- what stands at r was asked
 asks-first : {P : ℕ → Bool} {t d r : ℕ} → First P d r → Asks P t d r
 asks-first first = record { from = first.from; top = first.top; before = first.before; hit = λ a b. first.hit b }
 
 module _ {E : Lent} {ix : Index} {p k : ℕ} {fs : Scorers} {from : ℕ} where
-  pub pass-start : {kids : List ℕ} → from ≤ noMoreDocs → PartsHeld E ix p fs k kids from → PassAt E ix p k fs from kids from 0
+  pub pass-start : {kids : List ℕ} → from ≤ no_more_docs → PartsHeld E ix p fs k kids from → PassAt E ix p k fs from kids from 0
   pass-start h q = record { left = fs; zip = zip_start q; lo = le_refl _; top = h; before = λ x a b. absurd (omega arith); fails = λ x e. e; holds = λ a b e. e }
 
-  pub pass-end : {kids : List ℕ} {d at : ℕ} → PassAt E ix p k fs from kids d at → length kids ≤ at → Passes (allMatch ix fs) from d × PartsHeld E ix p fs k kids d
+  pub pass-end : {kids : List ℕ} {d at : ℕ} → PassAt E ix p k fs from kids d at → length kids ≤ at → Passes (all_match ix fs) from d × PartsHeld E ix p fs k kids d
   pass-end {kids} {d} {at} q l = go q.left q.zip q.holds
     where
-      go : (g : Scorers) → Zip E ix p k fs g kids at d → (d ≡ from → d < noMoreDocs → allMatch ix g d ≡ true → allMatch ix fs d ≡ true) → Passes (allMatch ix fs) from d × PartsHeld E ix p fs k kids d
+      go : (g : Scorers) → Zip E ix p k fs g kids at d → (d ≡ from → d < no_more_docs → all_match ix g d ≡ true → all_match ix fs d ≡ true) → Passes (all_match ix fs) from d × PartsHeld E ix p fs k kids d
       go end z y = (record { from = q.lo; top = q.top; before = q.before; hit = λ a b. y a b (all_end ix d) }, zip_end end z)
       go (more f T g) z y = absurd (omega (arith, (view z).fits, (view z).long))
 
   -- one child more, asked at d, where the pass comes to r
-  pass-next : {kids' : List ℕ} {d : ℕ} (f : Bool) (T : Scorer) (g : Scorers) (e r : ℕ) → from ≤ d → ((x : ℕ) → from ≤ x → x < d → allMatch ix fs x ≡ false) → ((x : ℕ) → allMatch ix (more f T g) x ≡ false → allMatch ix fs x ≡ false) → (d ≡ from → d < noMoreDocs → allMatch ix (more f T g) d ≡ true → allMatch ix fs d ≡ true)
+  pass-next : {kids' : List ℕ} {d : ℕ} (f : Bool) (T : Scorer) (g : Scorers) (e r : ℕ) → from ≤ d → ((x : ℕ) → from ≤ x → x < d → all_match ix fs x ≡ false) → ((x : ℕ) → all_match ix (more f T g) x ≡ false → all_match ix fs x ≡ false) → (d ≡ from → d < no_more_docs → all_match ix (more f T g) d ≡ true → all_match ix fs d ≡ true)
       → Zip E ix p k fs g kids' e r → Asks (matches ix T) from d r → PassAt E ix p k fs from kids' r e
   pass-next {kids'} {d} f T g e r lo before fails holds z asks =
       record {
@@ -170,14 +170,14 @@ module _ {E : Lent} {ix : Index} {p k : ℕ} {fs : Scorers} {from : ℕ} where
         holds = λ a b h.
             let up : d ≤ r = asks.from in
             let s : d ≡ r = omega arith in
-            subst (λ (j : ℕ). allMatch ix fs j ≡ true) s (holds (omega arith) (omega arith) (subst (λ (j : ℕ). allMatch ix (more f T g) j ≡ true) (sym s) (all-hit ix f T g r (asks.hit a b) ∙ h)));
+            subst (λ (j : ℕ). all_match ix fs j ≡ true) s (holds (omega arith) (omega arith) (subst (λ (j : ℕ). all_match ix (more f T g) j ≡ true) (sym s) (all-hit ix f T g r (asks.hit a b) ∙ h)));
       }
 
   module _ {kids : List ℕ} {d at : ℕ} (q : PassAt E ix p k fs from kids d at) (l : at < length kids) (e : ℕ) (stop : e ≡ at + get_or kids (at + 1) 0) where
     pub pass-skip : (c : ℕ) → c ≡ get_or kids (at + 2) 0 → d < c → PassAt E ix p k fs from kids (c - 1) e
     pass-skip c i h = go q.left q.zip q.fails q.holds
       where
-        go : (g : Scorers) → Zip E ix p k fs g kids at d → ((x : ℕ) → allMatch ix g x ≡ false → allMatch ix fs x ≡ false) → (d ≡ from → d < noMoreDocs → allMatch ix g d ≡ true → allMatch ix fs d ≡ true) → PassAt E ix p k fs from kids (c - 1) e
+        go : (g : Scorers) → Zip E ix p k fs g kids at d → ((x : ℕ) → all_match ix g x ≡ false → all_match ix fs x ≡ false) → (d ≡ from → d < no_more_docs → all_match ix g d ≡ true → all_match ix fs d ≡ true) → PassAt E ix p k fs from kids (c - 1) e
         go end z u r = absurd (omega (arith, zip-none z))
         go (more f T g) z u r =
             let a = of-cached (view z) e stop c i h in
@@ -186,7 +186,7 @@ module _ {E : Lent} {ix : Index} {p k : ℕ} {fs : Scorers} {from : ℕ} where
     pub pass-took : (r : ℕ) (ys : List ℕ) → length ys ≡ length (take (e - at) (drop at kids)) → AdvancePost E (take (e - at) (drop at kids)) d k r ys → PassAt E ix p k fs from (take at kids ++ (ys ++ drop (e - at) (drop at kids))) r e
     pass-took r ys len post = go q.left q.zip q.fails q.holds
       where
-        go : (g : Scorers) → Zip E ix p k fs g kids at d → ((x : ℕ) → allMatch ix g x ≡ false → allMatch ix fs x ≡ false) → (d ≡ from → d < noMoreDocs → allMatch ix g d ≡ true → allMatch ix fs d ≡ true) → PassAt E ix p k fs from (take at kids ++ (ys ++ drop (e - at) (drop at kids))) r e
+        go : (g : Scorers) → Zip E ix p k fs g kids at d → ((x : ℕ) → all_match ix g x ≡ false → all_match ix fs x ≡ false) → (d ≡ from → d < no_more_docs → all_match ix g d ≡ true → all_match ix fs d ≡ true) → PassAt E ix p k fs from (take at kids ++ (ys ++ drop (e - at) (drop at kids))) r e
         go end z u h = absurd (omega (arith, zip-none z))
         go (more f T g) z u h =
             let a = of-advance (view z) e stop r ys post in
@@ -196,7 +196,7 @@ module _ {E : Lent} {ix : Index} {p k : ℕ} {fs : Scorers} {from : ℕ} where
     pub pass-asked : (r : ℕ) (ys : List ℕ) → length ys ≡ length (take (e - at) (drop at kids)) → ((ix : Index) (p : ℕ) (T : Scorer) (o : ℕ) → NodeHeld E ix p T k o (take (e - at) (drop at kids)) d → Asks (matches ix T) from d r × Ok ix E.ranges T k o ys r) → PassAt E ix p k fs from (take at kids ++ (ys ++ drop (e - at) (drop at kids))) r e
     pass-asked r ys len post = go q.left q.zip q.fails q.holds
       where
-        go : (g : Scorers) → Zip E ix p k fs g kids at d → ((x : ℕ) → allMatch ix g x ≡ false → allMatch ix fs x ≡ false) → (d ≡ from → d < noMoreDocs → allMatch ix g d ≡ true → allMatch ix fs d ≡ true) → PassAt E ix p k fs from (take at kids ++ (ys ++ drop (e - at) (drop at kids))) r e
+        go : (g : Scorers) → Zip E ix p k fs g kids at d → ((x : ℕ) → all_match ix g x ≡ false → all_match ix fs x ≡ false) → (d ≡ from → d < no_more_docs → all_match ix g d ≡ true → all_match ix fs d ≡ true) → PassAt E ix p k fs from (take at kids ++ (ys ++ drop (e - at) (drop at kids))) r e
         go end z u h = absurd (omega (arith, zip-none z))
         go (more f T g) z u h =
             let a = post ix p T (cond f 1 0) (held (view z) e stop) in

@@ -9,11 +9,11 @@ use native.Mathlib.Omega.{arith}
 use lib.ListN.{get_or, length, take, drop, set, length-append}
 use lib.Seq.{take-length, drop-length}
 use lib.Ieee.{Float}
-use Rattle.meaning.specs.Limits.{noMoreDocs, nodeStateWords}
+use Rattle.meaning.specs.Limits.{no_more_docs, node_state_words}
 use Rattle.meaning.specs.Lent.{Index}
 use Rattle.meaning.specs.First.{First}
-use Rattle.weight.specs.ScorerTree.{Leaf, nothing, term, phrase, range, everything, Scoring, constant, weighted, Joining, oneMore, afterwards, Scorer, leaf, boolean, Scorers, matches, leafMatches}
-use Rattle.weight.specs.State.{State, words_of, sizesOf}
+use Rattle.weight.specs.ScorerTree.{Leaf, nothing, term, phrase, range, everything, Scoring, constant, weighted, Joining, one_more, afterwards, Scorer, leaf, boolean, Scorers, matches, leaf_matches}
+use Rattle.weight.specs.State.{State, words_of, sizes_of}
 use Rattle.weight.specs.Held.{LeafIs, ScoringIs, KeptIs, JoiningIs, Ok}
 use Rattle.weight.specs.Sound.{Sound}
 use Rattle.scorer.specs.Calls.{NodeHeld, BooleanHeld, BooleanPost}
@@ -23,15 +23,15 @@ use Rattle.scorer.proofs.Firsts.{cache-new, boolean-takes}
 use Rattle.leaf_scorer.proofs.Loops.{first-like}
 
 -- a record with another cached document
-abbrev pub cachedAt : State → ℕ → State
-cachedAt s c =
+abbrev pub cached_at : State → ℕ → State
+cached_at s c =
     record {
       kind = s.kind;
       size = s.size;
       cached = c;
       need = s.need;
-      requiredEnd = s.requiredEnd;
-      optionalEnd = s.optionalEnd;
+      required_end = s.required_end;
+      optional_end = s.optional_end;
       first = s.first;
       number = s.number;
       cursor = s.cursor;
@@ -40,19 +40,19 @@ cachedAt s c =
       constant = s.constant;
       weight = s.weight;
       afterwards = s.afterwards;
-      groupAt = s.groupAt;
+      group_at = s.group_at;
       scores = s.scores;
-      frequencyOf = s.frequencyOf;
+      frequency_of = s.frequency_of;
       frequency = s.frequency;
       norms = s.norms;
-      windowFirst = s.windowFirst;
-      windowLow = s.windowLow;
-      windowHigh = s.windowHigh;
-      windowNext = s.windowNext;
-      onesLow = s.onesLow;
-      onesHigh = s.onesHigh;
-      twosLow = s.twosLow;
-      twosHigh = s.twosHigh;
+      window_first = s.window_first;
+      window_low = s.window_low;
+      window_high = s.window_high;
+      window_next = s.window_next;
+      ones_low = s.ones_low;
+      ones_high = s.ones_high;
+      twos_low = s.twos_low;
+      twos_high = s.twos_high;
       spare1 = s.spare1;
       spare2 = s.spare2;
       spare3 = s.spare3;
@@ -70,7 +70,7 @@ leaf-kind ix R (range r) s w b p e = omega (arith, p.0.kind-is)
 leaf-kind ix R everything s w b p e = omega (arith, p.0)
 
 -- its cache is no part of what a leaf says, but where it matches nothing
-pub leaf-recached : (ix : Index) (R : List ℕ) (l : Leaf) (s : State) (w : List ℕ) (b c : ℕ) → s.cached ≤ noMoreDocs → LeafIs ix R l s w b → LeafIs ix R l (cachedAt s c) w b
+pub leaf-recached : (ix : Index) (R : List ℕ) (l : Leaf) (s : State) (w : List ℕ) (b c : ℕ) → s.cached ≤ no_more_docs → LeafIs ix R l s w b → LeafIs ix R l (cached_at s c) w b
 unfolding LeafIs
 leaf-recached ix R nothing s w b c h p = absurd (omega (arith, p.2))
 leaf-recached ix R (term l) s w b c h p = (
@@ -111,37 +111,37 @@ unfolding ScoringIs
 scoring-kept (constant x) s s' c w p = (c ∙ p.0, record { held = p.1.held; small = p.1.small; bits_are = w ∙ p.1.bits_are })
 scoring-kept (weighted x) s s' c w p = (c ∙ p.0, record { held = p.1.held; small = p.1.small; bits_are = w ∙ p.1.bits_are })
 
-kept-recached : (o : Option Float) (s : State) (c : ℕ) → KeptIs o s → KeptIs o (cachedAt s c)
+kept-recached : (o : Option Float) (s : State) (c : ℕ) → KeptIs o s → KeptIs o (cached_at s c)
 unfolding KeptIs
 kept-recached none s c p = p
 kept-recached (some x) s c p = p
 
-joining-recached : (j : Joining) (rs : Scorers) (s : State) (c : ℕ) → JoiningIs j rs s → JoiningIs j rs (cachedAt s c)
+joining-recached : (j : Joining) (rs : Scorers) (s : State) (c : ℕ) → JoiningIs j rs s → JoiningIs j rs (cached_at s c)
 unfolding JoiningIs
-joining-recached (oneMore n) rs s c p = p
+joining-recached (one_more n) rs s c p = p
 joining-recached afterwards rs s c p = p
 
 -- the children's words put back behind the record, and the cached word stored
-joined_words : (s : State) (rest st w' w : List ℕ) (c : ℕ) → st ≡ words_of s ++ rest → w' ≡ w → set (take nodeStateWords st ++ (w' ++ drop (length st - nodeStateWords) (drop nodeStateWords st))) 2 c ≡ words_of (cachedAt s c) ++ w
-joined_words s rest st w' w c e f = let size : length st - nodeStateWords ≡ length rest = omega (arith, ap length e) in rw (size, e, drop-length, append-nil, f)
+joined_words : (s : State) (rest st w' w : List ℕ) (c : ℕ) → st ≡ words_of s ++ rest → w' ≡ w → set (take node_state_words st ++ (w' ++ drop (length st - node_state_words) (drop node_state_words st))) 2 c ≡ words_of (cached_at s c) ++ w
+joined_words s rest st w' w c e f = let size : length st - node_state_words ≡ length rest = omega (arith, ap length e) in rw (size, e, drop-length, append-nil, f)
 
-rejoined-words : (s : State) (rest st w' w : List ℕ) → st ≡ words_of s ++ rest → w' ≡ w → take nodeStateWords st ++ (w' ++ drop (length st - nodeStateWords) (drop nodeStateWords st)) ≡ words_of s ++ w
-rejoined-words s rest st w' w e f = let size : length st - nodeStateWords ≡ length rest = omega (arith, ap length e) in rw (size, e, drop-length, append-nil, f)
+rejoined-words : (s : State) (rest st w' w : List ℕ) → st ≡ words_of s ++ rest → w' ≡ w → take node_state_words st ++ (w' ++ drop (length st - node_state_words) (drop node_state_words st)) ≡ words_of s ++ w
+rejoined-words s rest st w' w e f = let size : length st - node_state_words ≡ length rest = omega (arith, ap length e) in rw (size, e, drop-length, append-nil, f)
 
 -- ---- a Boolean's children, which can be asked up to the document where it stands
 module _ (E : Lent) (ix : Index) (p : ℕ) (k o : ℕ) (st : List ℕ) (t c : ℕ) (ec : c ≡ get_or st 2 0) (near : c ≤ t + 1) where
-  pub boolean-children : (re oe : ℕ) → re ≡ get_or st 4 0 → oe ≡ get_or st 5 0 → (x : Option Float) (j : Joining) (need : ℕ) (rs os ps : Scorers) → NodeHeld E ix p (boolean x j need rs os ps) k o st t → BooleanHeld E ix p rs os ps (k - 1) re oe (take (length st - nodeStateWords) (drop nodeStateWords st)) t
+  pub boolean-children : (re oe : ℕ) → re ≡ get_or st 4 0 → oe ≡ get_or st 5 0 → (x : Option Float) (j : Joining) (need : ℕ) (rs os ps : Scorers) → NodeHeld E ix p (boolean x j need rs os ps) k o st t → BooleanHeld E ix p rs os ps (k - 1) re oe (take (length st - node_state_words) (drop node_state_words st)) t
   unfolding Ok Sound
   boolean-children re oe er eo x j need rs os ps h =
       let q = h.ok in
       let rest : List ℕ = q.1 ++ (q.2 ++ q.3) in
       let d : q.0.cached ≤ t + 1 = rw (ec, q.4) at near in
       let m : max t (q.0.cached - 1) ≡ t = omega arith in
-      let size : length st - nodeStateWords ≡ length rest = omega (arith, ap length q.4) in
-      let a : length q.1 ≡ sizesOf rs = oks-length ix E.ranges rs (k - 1) q.1 (max t (q.0.cached - 1)) q.9 in
-      let b : length q.2 ≡ sizesOf os = oks-length ix E.ranges os (k - 1) q.2 (max t (q.0.cached - 1)) q.10 in
-      let r4 : re ≡ q.0.requiredEnd = rw (er, q.4) in
-      let r5 : oe ≡ q.0.optionalEnd = rw (eo, q.4) in
+      let size : length st - node_state_words ≡ length rest = omega (arith, ap length q.4) in
+      let a : length q.1 ≡ sizes_of rs = oks-length ix E.ranges rs (k - 1) q.1 (max t (q.0.cached - 1)) q.9 in
+      let b : length q.2 ≡ sizes_of os = oks-length ix E.ranges os (k - 1) q.2 (max t (q.0.cached - 1)) q.10 in
+      let r4 : re ≡ q.0.required_end = rw (er, q.4) in
+      let r5 : oe ≡ q.0.optional_end = rw (eo, q.4) in
       record {
         w = q.1 ++ q.2;
         z = q.3;
@@ -159,7 +159,7 @@ module _ (E : Lent) (ix : Index) (p : ℕ) (k o : ℕ) (st : List ℕ) (t c : �
       }
 
   -- its words with its children's put back, where they have been asked up to that document
-  pub boolean-rejoined : (re oe : ℕ) (w' : List ℕ) (x : Option Float) (j : Joining) (need : ℕ) (rs os ps : Scorers) → NodeHeld E ix p (boolean x j need rs os ps) k o st t → BooleanHeld E ix p rs os ps (k - 1) re oe w' t → Ok ix E.ranges (boolean x j need rs os ps) k o (take nodeStateWords st ++ (w' ++ drop (length st - nodeStateWords) (drop nodeStateWords st))) t
+  pub boolean-rejoined : (re oe : ℕ) (w' : List ℕ) (x : Option Float) (j : Joining) (need : ℕ) (rs os ps : Scorers) → NodeHeld E ix p (boolean x j need rs os ps) k o st t → BooleanHeld E ix p rs os ps (k - 1) re oe w' t → Ok ix E.ranges (boolean x j need rs os ps) k o (take node_state_words st ++ (w' ++ drop (length st - node_state_words) (drop node_state_words st))) t
   unfolding Ok
   boolean-rejoined re oe w' x j need rs os ps h v =
       let q = h.ok in
@@ -182,7 +182,7 @@ module _ (E : Lent) (ix : Index) (p : ℕ) (k o : ℕ) (st : List ℕ) (t c : �
 
 -- a leaf that was asked about the target alone
 abbrev pub LeafAsked : Lent → List ℕ → ℕ → ℕ → List ℕ → Type 0
-LeafAsked E st t r st' = (ix : Index) (p : ℕ) (l : Leaf) (s : State) (w : List ℕ) → LeafHeld E ix p l s w st t → Passes (leafMatches ix l) t r × LeafMoved E ix l s st' r
+LeafAsked E st t r st' = (ix : Index) (p : ℕ) (l : Leaf) (s : State) (w : List ℕ) → LeafHeld E ix p l s w st t → Passes (leaf_matches ix l) t r × LeafMoved E ix l s st' r
 
 -- ---- advance
 module _ (E : Lent) (ix : Index) (p : ℕ) (k o : ℕ) (st : List ℕ) (t c : ℕ) (ec : c ≡ get_or st 2 0) where
@@ -203,22 +203,22 @@ module _ (E : Lent) (ix : Index) (p : ℕ) (k o : ℕ) (st : List ℕ) (t c : �
     node-leaf e (leaf l sc) h = let q = leaf-held l sc h in (l, q.0, q.1, q.2)
     node-leaf e (boolean x j need rs os ps) h = absurd (e (rw (ek, h.ok.4) h.ok.7.kind-is))
 
-    pub node-sought : t ≤ noMoreDocs → (kind ≡ 3 → ⊥) → (r : ℕ) (st' : List ℕ) → LeafPost E st t r st' → (T : Scorer) → NodeHeld E ix p T k o st t → First (matches ix T) t r × Ok ix E.ranges T k o (set st' 2 (r + 1)) t
+    pub node-sought : t ≤ no_more_docs → (kind ≡ 3 → ⊥) → (r : ℕ) (st' : List ℕ) → LeafPost E st t r st' → (T : Scorer) → NodeHeld E ix p T k o st t → First (matches ix T) t r × Ok ix E.ranges T k o (set st' 2 (r + 1)) t
     unfolding Ok matches leaf-held
     node-sought top e r st' post (leaf l sc) h =
         let q = leaf-held l sc h in
         let v = post ix p l q.0 q.1 q.2 in
         let f : First (matches ix (leaf l sc)) t r = first-like (λ d. refl) v.0 in
         let s' = v.1.state in
-        let low : s'.cached ≤ noMoreDocs = omega (arith, v.1.kept.cached, q.2.due) in (
+        let low : s'.cached ≤ no_more_docs = omega (arith, v.1.kept.cached, q.2.due) in (
           f,
           (
-            cachedAt s' (r + 1),
+            cached_at s' (r + 1),
             v.1.behind,
             rw v.1.words,
             v.1.kept.scores ∙ h.ok.3,
-            leaf-mono ix E.ranges l (cachedAt s' (r + 1)) v.1.behind r (max t (r + 1 - 1)) (omega arith) (leaf-recached ix E.ranges l s' v.1.behind r (r + 1) low v.1.is),
-            scoring-kept sc h.ok.0 (cachedAt s' (r + 1)) v.1.kept.constant v.1.kept.weight h.ok.5,
+            leaf-mono ix E.ranges l (cached_at s' (r + 1)) v.1.behind r (max t (r + 1 - 1)) (omega arith) (leaf-recached ix E.ranges l s' v.1.behind r (r + 1) low v.1.is),
+            scoring-kept sc h.ok.0 (cached_at s' (r + 1)) v.1.kept.constant v.1.kept.weight h.ok.5,
             cache-new f,
           ),
         )
@@ -234,16 +234,16 @@ module _ (E : Lent) (ix : Index) (p : ℕ) (k o : ℕ) (st : List ℕ) (t c : �
         let s' = v.1.state in
         let due' : s'.cached ≤ t = omega (arith, v.1.kept.cached, q.2.due) in
         let up : t ≤ r = v.0.from in
-        let low : s'.cached ≤ noMoreDocs = omega (arith, v.0.top) in (
+        let low : s'.cached ≤ no_more_docs = omega (arith, v.0.top) in (
           record { from = v.0.from; top = v.0.top; before = v.0.before; hit = v.0.hit },
           λ same.
-              let f : First (matches ix (leaf l sc)) t t = record { from = le_refl _; top = omega (arith, v.0.top); before = λ x a b. absurd (omega arith); hit = λ g. subst (λ (y : ℕ). leafMatches ix l y ≡ true) same (v.0.hit same (omega arith)) } in (
-                cachedAt s' (t + 1),
+              let f : First (matches ix (leaf l sc)) t t = record { from = le_refl _; top = omega (arith, v.0.top); before = λ x a b. absurd (omega arith); hit = λ g. subst (λ (y : ℕ). leaf_matches ix l y ≡ true) same (v.0.hit same (omega arith)) } in (
+                cached_at s' (t + 1),
                 v.1.behind,
                 rw v.1.words,
                 v.1.kept.scores ∙ h.ok.3,
-                leaf-mono ix E.ranges l (cachedAt s' (t + 1)) v.1.behind r (max t (t + 1 - 1)) (omega arith) (leaf-recached ix E.ranges l s' v.1.behind r (t + 1) low v.1.is),
-                scoring-kept sc h.ok.0 (cachedAt s' (t + 1)) v.1.kept.constant v.1.kept.weight h.ok.5,
+                leaf-mono ix E.ranges l (cached_at s' (t + 1)) v.1.behind r (max t (t + 1 - 1)) (omega arith) (leaf-recached ix E.ranges l s' v.1.behind r (t + 1) low v.1.is),
+                scoring-kept sc h.ok.0 (cached_at s' (t + 1)) v.1.kept.constant v.1.kept.weight h.ok.5,
                 cache-new f,
               ),
           λ other. (
@@ -259,16 +259,16 @@ module _ (E : Lent) (ix : Index) (p : ℕ) (k o : ℕ) (st : List ℕ) (t c : �
     node-asked e r st' post (boolean x j need rs os ps) h = absurd (e (rw (ek, h.ok.4) h.ok.7.kind-is))
 
     module _ (is-3 : kind ≡ 3) (n : ℕ) (en : n ≡ get_or st 3 0) (re oe : ℕ) (er : re ≡ get_or st 4 0) (eo : oe ≡ get_or st 5 0) where
-      children-held : (x : Option Float) (j : Joining) (need : ℕ) (rs os ps : Scorers) → NodeHeld E ix p (boolean x j need rs os ps) k o st t → BooleanHeld E ix p rs os ps (k - 1) re oe (take (length st - nodeStateWords) (drop nodeStateWords st)) t
+      children-held : (x : Option Float) (j : Joining) (need : ℕ) (rs os ps : Scorers) → NodeHeld E ix p (boolean x j need rs os ps) k o st t → BooleanHeld E ix p rs os ps (k - 1) re oe (take (length st - node_state_words) (drop node_state_words st)) t
       children-held x j need rs os ps h = boolean-children E ix p k o st t c ec (omega arith) re oe er eo x j need rs os ps h
 
-      pub node-boolean : (T : Scorer) → NodeHeld E ix p T k o st t → (0 < k) × ((rs : Scorers) × (os : Scorers) × (ps : Scorers) × BooleanHeld E ix p rs os ps (k - 1) re oe (take (length st - nodeStateWords) (drop nodeStateWords st)) t)
+      pub node-boolean : (T : Scorer) → NodeHeld E ix p T k o st t → (0 < k) × ((rs : Scorers) × (os : Scorers) × (ps : Scorers) × BooleanHeld E ix p rs os ps (k - 1) re oe (take (length st - node_state_words) (drop node_state_words st)) t)
       unfolding Ok
       node-boolean (leaf l sc) h = absurd (leaf-kind ix E.ranges l h.ok.0 h.ok.1 (max t (h.ok.0.cached - 1)) h.ok.4 (sym (rw (ek, h.ok.2) at (sym is-3))))
       node-boolean (boolean x j need rs os ps) h = (h.ok.6, (rs, os, ps, children-held x j need rs os ps h))
 
-      pub node-joined : (r : ℕ) (w' : List ℕ) → BooleanPost E (take (length st - nodeStateWords) (drop nodeStateWords st)) re oe n t (k - 1) r w' → (T : Scorer) → NodeHeld E ix p T k o st t
-          → First (matches ix T) t r × Ok ix E.ranges T k o (set (take nodeStateWords st ++ (w' ++ drop (length st - nodeStateWords) (drop nodeStateWords st))) 2 (r + 1)) t
+      pub node-joined : (r : ℕ) (w' : List ℕ) → BooleanPost E (take (length st - node_state_words) (drop node_state_words st)) re oe n t (k - 1) r w' → (T : Scorer) → NodeHeld E ix p T k o st t
+          → First (matches ix T) t r × Ok ix E.ranges T k o (set (take node_state_words st ++ (w' ++ drop (length st - node_state_words) (drop node_state_words st))) 2 (r + 1)) t
       unfolding Ok
       node-joined r w' post (leaf l sc) h = absurd (leaf-kind ix E.ranges l h.ok.0 h.ok.1 (max t (h.ok.0.cached - 1)) h.ok.4 (sym (rw (ek, h.ok.2) at (sym is-3))))
       node-joined r w' post (boolean x j need rs os ps) h =
@@ -280,7 +280,7 @@ module _ (E : Lent) (ix : Index) (p : ℕ) (k o : ℕ) (st : List ℕ) (t c : �
           let b : max t (r + 1 - 1) ≡ r = omega (arith, f.from) in (
             f,
             (
-              cachedAt q.0 (r + 1),
+              cached_at q.0 (r + 1),
               v.1.lead.x,
               v.1.lead.v,
               v.1.z,

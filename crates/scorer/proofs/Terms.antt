@@ -4,7 +4,7 @@ use mathlib.Core.List.{List}
 use Prim.Native.Nat.{ℕ, ◌+◌, ◌≤◌, ◌<◌}
 use native.Mathlib.Omega.{arith}
 use lib.ListN.{get_or, length, set}
-use Rattle.meaning.specs.Limits.{noMoreDocs}
+use Rattle.meaning.specs.Limits.{no_more_docs}
 use Rattle.meaning.specs.Lent.{Index}
 use Rattle.meaning.specs.First.{First}
 use Rattle.weight.specs.ScorerTree.{Scorer, matches}
@@ -28,7 +28,7 @@ module _ (ps st : List ℕ) (t : ℕ) (is : get_or st 0 0 ≡ 1) (size : length 
         let n = node-leaf E ix p k o st t c ec due (get_or st 0 0) refl no-boolean T h in
         subst (λ (y : List ℕ). SearchPre y 3 st t) same (seek-term-pre E st t is room ix p n.0 n.1 n.2 n.3)
 
-    pub term-sought : t ≤ noMoreDocs → (r : ℕ) (st' : List ℕ) → SearchPost ps 3 st t r st' → First (matches ix T) t r × Ok ix E.ranges T k o (set st' 2 (r + 1)) t
+    pub term-sought : t ≤ no_more_docs → (r : ℕ) (st' : List ℕ) → SearchPost ps 3 st t r st' → First (matches ix T) t r × Ok ix E.ranges T k o (set st' 2 (r + 1)) t
     term-sought top r st' post =
         let own : SearchPost E.postings 3 st t r st' = subst (λ (y : List ℕ). SearchPost y 3 st t r st') (sym same) post in
         node-sought E ix p k o st t c ec due (get_or st 0 0) refl top no-boolean r st' (seek-term-done E st t is room top r st' own) T h
@@ -43,7 +43,7 @@ module _ (rs st : List ℕ) (t : ℕ) (is : get_or st 0 0 ≡ 4) (c : ℕ) (ec :
         let n = node-leaf E ix p k o st t c ec due (get_or st 0 0) refl range-no-boolean T h in
         subst (λ (y : List ℕ). RangePre y st) same (seek-range-pre E st t is ix p n.0 n.1 n.2 n.3)
 
-    pub range-sought : t ≤ noMoreDocs → (r : ℕ) → RangePost rs st t r → First (matches ix T) t r × Ok ix E.ranges T k o (set st 2 (r + 1)) t
+    pub range-sought : t ≤ no_more_docs → (r : ℕ) → RangePost rs st t r → First (matches ix T) t r × Ok ix E.ranges T k o (set st 2 (r + 1)) t
     range-sought top r post =
         let own : RangePost E.ranges st t r = subst (λ (y : List ℕ). RangePost y st t r) (sym same) post in
         node-sought E ix p k o st t c ec due (get_or st 0 0) refl top range-no-boolean r st (seek-range-done E st t is top r own) T h

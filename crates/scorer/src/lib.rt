@@ -2,7 +2,7 @@
 #![tactic(auto)]
 
 ghost use Rattle.std.specs.Prelude.{ℕ, ◌+◌, ◌≤◌, ◌<◌, ◌≡◌, length, get_or};
-ghost use Rattle.meaning.specs.Limits.{nodeStateWords};
+ghost use Rattle.meaning.specs.Limits.{node_state_words};
 ghost use Rattle.scorer.specs.Calls.{AdvancePre, AdvancePost, TermPre, TermPost, RangePre, RangePost, AskPre, AskPost, PartsPre, ChildAt, ChildRead, Tally, LeastPost, DisjunctionPost, PassPost, LeadPre, StepPost, LeadPost, BooleanPre, BooleanPost, HeadRead, BooleanRead};
 ghost use Rattle.leaf_scorer.specs.Calls.{lent};
 
@@ -51,7 +51,7 @@ pub struct Head {
 }
 
 fn head_at(st: &[u32]) -> Head
-    requires { nodeStateWords ≤ length st.now }
+    requires { node_state_words ≤ length st.now }
     ensures { HeadRead st.now result.kind result.cached }
 {
     Head {
@@ -68,7 +68,7 @@ pub struct Boolean {
 }
 
 fn boolean_at(st: &[u32]) -> Boolean
-    requires { nodeStateWords ≤ length st.now }
+    requires { node_state_words ≤ length st.now }
     ensures { BooleanRead st.now result.need result.required result.optional }
 {
     Boolean {

@@ -7,11 +7,11 @@ use lib.ListN.{length, take, drop, length-take}
 use lib.IntN.{ℤ}
 use lib.Ieee.{binary32, to_bits}
 use Rattle.meaning.specs.Lent.{Index}
-use Rattle.meaning.specs.Query.{queryTree}
-use Rattle.meaning.specs.FullList.{fullList}
+use Rattle.meaning.specs.Query.{query_tree}
+use Rattle.meaning.specs.FullList.{full_list}
 use Rattle.meaning.specs.Hits.{hits}
 use Rattle.meaning.specs.CallRefusals.{Work}
-use Rattle.meaning.specs.Entries.{written, topDocs, searchRefusal, searchAnswer, searchHits, page_of, pageRefusal, pageAnswer, pageDocuments, pageScores}
+use Rattle.meaning.specs.Entries.{written, top_docs, search_refusal, search_answer, search_hits, page_of, page_refusal, page_answer, page_documents, page_scores}
 use Rattle.collector.specs.declared.TopDocs.{TopDocs}
 use Rattle.collector.specs.Collected.{answer, numbers}
 use Rattle.collector.proofs.Best.{written-part}
@@ -19,32 +19,32 @@ use Rattle.walk.specs.declared.Listed.{Listed}
 use Rattle.walk.specs.Walks.{PageIs}
 use Rattle.searcher.specs.declared.search.Searched.TheVariants as Searched
 use Rattle.searcher.specs.declared.page.Paged.TheVariants as Paged
-use Rattle.searcher.specs.Answers.{searchedNumbers, pagedNumbers}
+use Rattle.searcher.specs.Answers.{searched_numbers, paged_numbers}
 use Rattle.meaning.proofs.Lowest.{answered-refused, answered-accepted}
 
 -- ---- Search
-module _ (ix : Index) (q : List ℕ) (k t : ℕ) (w : Work) (buffer : List ℤ) (r : ℕ) (e : r ≡ searchRefusal ix q k w (length buffer)) where
-  pub search-refused : (r ≡ 0 → ⊥) → (searchedNumbers (Searched.Refused r) ≡ searchAnswer ix q k t w (length buffer)) × (buffer ≡ searchHits ix q k w buffer)
-  unfolding searchedNumbers searchAnswer searchHits
+module _ (ix : Index) (q : List ℕ) (k t : ℕ) (w : Work) (buffer : List ℤ) (r : ℕ) (e : r ≡ search_refusal ix q k w (length buffer)) where
+  pub search-refused : (r ≡ 0 → ⊥) → (searched_numbers (Searched.Refused r) ≡ search_answer ix q k t w (length buffer)) × (buffer ≡ search_hits ix q k w buffer)
+  unfolding searched_numbers search_answer search_hits
   search-refused h =
-      rw (← e) (answered-refused (topDocs k t (fullList ix (queryTree q))) (λ n. n ∷ []) r h, answered-refused (written (hits k (fullList ix (queryTree q))) buffer) (λ n. buffer) r h)
+      rw (← e) (answered-refused (top_docs k t (full_list ix (query_tree q))) (λ n. n ∷ []) r h, answered-refused (written (hits k (full_list ix (query_tree q))) buffer) (λ n. buffer) r h)
 
-  pub search-not-refused : r ≡ 0 → 0 < searchRefusal ix q k w (length buffer) → ⊥
+  pub search-not-refused : r ≡ 0 → 0 < search_refusal ix q k w (length buffer) → ⊥
   search-not-refused z h = omega (arith, e, z, h)
 
   -- the hits stand in the first k places
-  pub search-found : r ≡ 0 → k ≤ length buffer → (top : TopDocs) (out : List ℤ) → (top ≡ answer (length (take k buffer)) t (fullList ix (queryTree q))) × (out ≡ written (hits (length (take k buffer)) (fullList ix (queryTree q))) (take k buffer)) → (searchedNumbers (Searched.Found top) ≡ searchAnswer ix q k t w (length buffer)) × (out ++ drop k buffer ≡ searchHits ix q k w buffer)
-  unfolding searchedNumbers searchAnswer searchHits
+  pub search-found : r ≡ 0 → k ≤ length buffer → (top : TopDocs) (out : List ℤ) → (top ≡ answer (length (take k buffer)) t (full_list ix (query_tree q))) × (out ≡ written (hits (length (take k buffer)) (full_list ix (query_tree q))) (take k buffer)) → (searched_numbers (Searched.Found top) ≡ search_answer ix q k t w (length buffer)) × (out ++ drop k buffer ≡ search_hits ix q k w buffer)
+  unfolding searched_numbers search_answer search_hits
   search-found z l top out f =
       let n : length (take k buffer) ≡ k = length-take k buffer ∙ omega arith in
-      let list = fullList ix (queryTree q) in
+      let list = full_list ix (query_tree q) in
       rw (← e) (
-        ap numbers (f.0 ∙ ap (λ (i : ℕ). answer i t list) n) ∙ answered-accepted (topDocs k t list) (λ n. n ∷ []) r z,
+        ap numbers (f.0 ∙ ap (λ (i : ℕ). answer i t list) n) ∙ answered-accepted (top_docs k t list) (λ n. n ∷ []) r z,
         ap (λ (o : List ℤ). o ++ drop k buffer) (f.1 ∙ ap (λ (i : ℕ). written (hits i list) (take k buffer)) n) ∙ written-part k list buffer l ∙ answered-accepted (written (hits k list) buffer) (λ n. buffer) r z,
       )
 
 -- ---- Page
-module _ (ix : Index) (q : List ℕ) (target : ℕ) (w : Work) (docs bits : List ℕ) (r : ℕ) (e : r ≡ pageRefusal ix q target w (length docs) (length bits)) where
+module _ (ix : Index) (q : List ℕ) (target : ℕ) (w : Work) (docs bits : List ℕ) (r : ℕ) (e : r ≡ page_refusal ix q target w (length docs) (length bits)) where
   abbrev docs-given : List ℕ
   docs-given = written (map (λ h. h.doc) (page_of ix q target (length docs)).given) docs
 
@@ -54,15 +54,15 @@ module _ (ix : Index) (q : List ℕ) (target : ℕ) (w : Work) (docs bits : List
   abbrev given : List ℕ
   given = 0 ∷ length (page_of ix q target (length docs)).given ∷ (page_of ix q target (length docs)).next ∷ []
 
-  pub page-refused : (r ≡ 0 → ⊥) → (pagedNumbers (Paged.Refused r) ≡ pageAnswer ix q target w (length docs) (length bits)) × (docs ≡ pageDocuments ix q target w docs bits) × (bits ≡ pageScores ix q target w docs bits)
-  unfolding pagedNumbers pageAnswer pageDocuments pageScores
+  pub page-refused : (r ≡ 0 → ⊥) → (paged_numbers (Paged.Refused r) ≡ page_answer ix q target w (length docs) (length bits)) × (docs ≡ page_documents ix q target w docs bits) × (bits ≡ page_scores ix q target w docs bits)
+  unfolding paged_numbers page_answer page_documents page_scores
   page-refused h = rw (← e) (answered-refused given (λ n. n ∷ []) r h, answered-refused docs-given (λ n. docs) r h, answered-refused bits-given (λ n. bits) r h)
 
-  pub page-not-refused : r ≡ 0 → 0 < pageRefusal ix q target w (length docs) (length bits) → ⊥
+  pub page-not-refused : r ≡ 0 → 0 < page_refusal ix q target w (length docs) (length bits) → ⊥
   page-not-refused z h = omega (arith, e, z, h)
 
-  pub page-given : r ≡ 0 → (l : Listed) (docs' bits' : List ℕ) → PageIs (page_of ix q target (length docs)) docs bits l docs' bits' → (pagedNumbers (Paged.Given l) ≡ pageAnswer ix q target w (length docs) (length bits)) × (docs' ≡ pageDocuments ix q target w docs bits) × (bits' ≡ pageScores ix q target w docs bits)
-  unfolding pagedNumbers pageAnswer pageDocuments pageScores
+  pub page-given : r ≡ 0 → (l : Listed) (docs' bits' : List ℕ) → PageIs (page_of ix q target (length docs)) docs bits l docs' bits' → (paged_numbers (Paged.Given l) ≡ page_answer ix q target w (length docs) (length bits)) × (docs' ≡ page_documents ix q target w docs bits) × (bits' ≡ page_scores ix q target w docs bits)
+  unfolding paged_numbers page_answer page_documents page_scores
   page-given z l docs' bits' p =
       rw (← e) (
         ap (λ (i : ℕ). 0 ∷ i ∷ l.next ∷ []) p.given_is ∙ ap (λ (i : ℕ). 0 ∷ length (page_of ix q target (length docs)).given ∷ i ∷ []) p.next-is ∙ answered-accepted given (λ n. n ∷ []) r z,

@@ -4,10 +4,10 @@ use Rattle.collector.specs.Collected.{numbers}
 use Rattle.searcher.specs.declared.search.Searched.{Searched}
 use Rattle.searcher.specs.declared.page.Paged.{Paged}
 
-unfoldable pub searchedNumbers : Searched → List ℕ
-searchedNumbers (Searched.Refused n) = n ∷ []
-searchedNumbers (Searched.Found t) = numbers t
+unfoldable pub searched_numbers : Searched → List ℕ
+searched_numbers (Searched.Refused n) = n ∷ []
+searched_numbers (Searched.Found t) = numbers t
 
-unfoldable pub pagedNumbers : Paged → List ℕ
-pagedNumbers (Paged.Refused n) = n ∷ []
-pagedNumbers (Paged.Given l) = 0 ∷ l.given ∷ l.next ∷ []
+unfoldable pub paged_numbers : Paged → List ℕ
+paged_numbers (Paged.Refused n) = n ∷ []
+paged_numbers (Paged.Given l) = 0 ∷ l.given ∷ l.next ∷ []

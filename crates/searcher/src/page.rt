@@ -1,13 +1,13 @@
 // Page: the first live documents at or after a target that an order takes, with their scores, and the next one.
 ghost use Rattle.std.specs.Prelude.{◌≡◌, false, ℕ, ◌≤◌, length};
-ghost use Rattle.meaning.specs.CallRefusals.{workShort};
-ghost use Rattle.meaning.specs.Entries.{Kept, page_of, pageRefusal, pageAnswer, pageDocuments, pageScores};
+ghost use Rattle.meaning.specs.CallRefusals.{work_short};
+ghost use Rattle.meaning.specs.Entries.{Kept, page_of, page_refusal, page_answer, page_documents, page_scores};
 ghost use Rattle.index.specs.Slices.{lent};
 ghost use Rattle.weight.specs.Measured.{Asks};
 ghost use Rattle.walk.specs.Walks.{PageIs};
 ghost use Rattle.inverses.specs.Inverses.{FieldTables};
 ghost use Rattle.order_check.specs.Lends.{work};
-ghost use Rattle.searcher.specs.Answers.{pagedNumbers};
+ghost use Rattle.searcher.specs.Answers.{paged_numbers};
 
 use walk::Listed;
 
@@ -39,7 +39,7 @@ fn list_by(
     scores: &mut [u32],
 ) -> Listed
     requires target_le_max_doc { (target ≤ max_doc) × (length documents.old ≡ length scores.old) }
-    requires asks { Asks (lent max_doc fields.now leaves.now postings.now positions.now norms.now live.now columns.now values.now) q.now × (workShort (lent max_doc fields.now leaves.now postings.now positions.now norms.now live.now columns.now values.now) q.now (work (length states.old) (length a.old) (length b.old) (length ranges.old)) ≡ false) }
+    requires asks { Asks (lent max_doc fields.now leaves.now postings.now positions.now norms.now live.now columns.now values.now) q.now × (work_short (lent max_doc fields.now leaves.now postings.now positions.now norms.now live.now columns.now values.now) q.now (work (length states.old) (length a.old) (length b.old) (length ranges.old)) ≡ false) }
     requires tables { FieldTables (lent max_doc fields.now leaves.now postings.now positions.now norms.now live.now columns.now values.now) q.now inverses.now }
     ensures { PageIs (page_of (lent max_doc fields.now leaves.now postings.now positions.now norms.now live.now columns.now values.now) q.now target (length documents.old)) documents.old scores.old result documents.new scores.new }
 {
@@ -83,7 +83,7 @@ fn list_page(
     scores: &mut [u32],
 ) -> Listed
     requires target_le_max_doc { (target ≤ max_doc) × (length documents.old ≡ length scores.old) }
-    requires asks { Asks (lent max_doc fields.now leaves.now postings.now positions.now norms.now live.now columns.now values.now) q.now × (workShort (lent max_doc fields.now leaves.now postings.now positions.now norms.now live.now columns.now values.now) q.now (work (length states.old) (length a.old) (length b.old) (length ranges.old)) ≡ false) }
+    requires asks { Asks (lent max_doc fields.now leaves.now postings.now positions.now norms.now live.now columns.now values.now) q.now × (work_short (lent max_doc fields.now leaves.now postings.now positions.now norms.now live.now columns.now values.now) q.now (work (length states.old) (length a.old) (length b.old) (length ranges.old)) ≡ false) }
     ensures { PageIs (page_of (lent max_doc fields.now leaves.now postings.now positions.now norms.now live.now columns.now values.now) q.now target (length documents.old)) documents.old scores.old result documents.new scores.new }
 {
     if fields.len() <= 3 {
@@ -137,13 +137,13 @@ pub fn page(
     documents: &mut [u32],
     scores: &mut [u32],
 ) -> Paged
-    ensures result_value { pagedNumbers result ≡ pageAnswer (lent max_doc fields.now leaves.now postings.now positions.now norms.now live.now columns.now values.now) q.now target (work (length states.old) (length a.old) (length b.old) (length ranges.old)) (length documents.old) (length scores.old) }
-    ensures documents_after { documents.new ≡ pageDocuments (lent max_doc fields.now leaves.now postings.now positions.now norms.now live.now columns.now values.now) q.now target (work (length states.old) (length a.old) (length b.old) (length ranges.old)) documents.old scores.old }
-    ensures scores_after { scores.new ≡ pageScores (lent max_doc fields.now leaves.now postings.now positions.now norms.now live.now columns.now values.now) q.now target (work (length states.old) (length a.old) (length b.old) (length ranges.old)) documents.old scores.old }
-    ensures kept { Kept (pageRefusal (lent max_doc fields.now leaves.now postings.now positions.now norms.now live.now columns.now values.now) q.now target (work (length states.old) (length a.old) (length b.old) (length ranges.old)) (length documents.old) (length scores.old)) states.old states.new }
-    ensures kept_2 { Kept (pageRefusal (lent max_doc fields.now leaves.now postings.now positions.now norms.now live.now columns.now values.now) q.now target (work (length states.old) (length a.old) (length b.old) (length ranges.old)) (length documents.old) (length scores.old)) a.old a.new }
-    ensures kept_3 { Kept (pageRefusal (lent max_doc fields.now leaves.now postings.now positions.now norms.now live.now columns.now values.now) q.now target (work (length states.old) (length a.old) (length b.old) (length ranges.old)) (length documents.old) (length scores.old)) b.old b.new }
-    ensures kept_4 { Kept (pageRefusal (lent max_doc fields.now leaves.now postings.now positions.now norms.now live.now columns.now values.now) q.now target (work (length states.old) (length a.old) (length b.old) (length ranges.old)) (length documents.old) (length scores.old)) ranges.old ranges.new }
+    ensures result_value { paged_numbers result ≡ page_answer (lent max_doc fields.now leaves.now postings.now positions.now norms.now live.now columns.now values.now) q.now target (work (length states.old) (length a.old) (length b.old) (length ranges.old)) (length documents.old) (length scores.old) }
+    ensures documents_after { documents.new ≡ page_documents (lent max_doc fields.now leaves.now postings.now positions.now norms.now live.now columns.now values.now) q.now target (work (length states.old) (length a.old) (length b.old) (length ranges.old)) documents.old scores.old }
+    ensures scores_after { scores.new ≡ page_scores (lent max_doc fields.now leaves.now postings.now positions.now norms.now live.now columns.now values.now) q.now target (work (length states.old) (length a.old) (length b.old) (length ranges.old)) documents.old scores.old }
+    ensures kept { Kept (page_refusal (lent max_doc fields.now leaves.now postings.now positions.now norms.now live.now columns.now values.now) q.now target (work (length states.old) (length a.old) (length b.old) (length ranges.old)) (length documents.old) (length scores.old)) states.old states.new }
+    ensures kept_2 { Kept (page_refusal (lent max_doc fields.now leaves.now postings.now positions.now norms.now live.now columns.now values.now) q.now target (work (length states.old) (length a.old) (length b.old) (length ranges.old)) (length documents.old) (length scores.old)) a.old a.new }
+    ensures kept_3 { Kept (page_refusal (lent max_doc fields.now leaves.now postings.now positions.now norms.now live.now columns.now values.now) q.now target (work (length states.old) (length a.old) (length b.old) (length ranges.old)) (length documents.old) (length scores.old)) b.old b.new }
+    ensures kept_4 { Kept (page_refusal (lent max_doc fields.now leaves.now postings.now positions.now norms.now live.now columns.now values.now) q.now target (work (length states.old) (length a.old) (length b.old) (length ranges.old)) (length documents.old) (length scores.old)) ranges.old ranges.new }
 {
     let refusal = order_check::page_refusal(
         max_doc,

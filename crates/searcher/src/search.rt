@@ -1,17 +1,17 @@
 // Search: the best k of the live documents that an order takes, their count, and the mark.
 ghost use Rattle.std.specs.Prelude.{◌≡◌, ℕ, ◌≤◌, ◌<◌, false, length};
-ghost use Rattle.meaning.specs.Limits.{maxHits};
-ghost use Rattle.meaning.specs.Query.{queryTree};
-ghost use Rattle.meaning.specs.FullList.{fullList};
-ghost use Rattle.meaning.specs.Hits.{hits as hitsOf};
-ghost use Rattle.meaning.specs.CallRefusals.{workShort};
-ghost use Rattle.meaning.specs.Entries.{written, Kept, searchRefusal, searchAnswer, searchHits};
+ghost use Rattle.meaning.specs.Limits.{max_hits};
+ghost use Rattle.meaning.specs.Query.{query_tree};
+ghost use Rattle.meaning.specs.FullList.{full_list};
+ghost use Rattle.meaning.specs.Hits.{hits as hits_of};
+ghost use Rattle.meaning.specs.CallRefusals.{work_short};
+ghost use Rattle.meaning.specs.Entries.{written, Kept, search_refusal, search_answer, search_hits};
 ghost use Rattle.index.specs.Slices.{lent};
 ghost use Rattle.collector.specs.Collected.{answer};
 ghost use Rattle.weight.specs.Measured.{Asks};
 ghost use Rattle.inverses.specs.Inverses.{FieldTables};
 ghost use Rattle.order_check.specs.Lends.{work};
-ghost use Rattle.searcher.specs.Answers.{searchedNumbers};
+ghost use Rattle.searcher.specs.Answers.{searched_numbers};
 
 use collector::{TopDocs, TopScoreDocCollector};
 
@@ -41,11 +41,11 @@ fn find_by(
     ranges: &mut [u32],
     heap: &mut [i64],
 ) -> TopDocs
-    requires heap_nonzero { (0 < length heap.old) × (length heap.old ≤ maxHits) }
-    requires asks { Asks (lent max_doc fields.now leaves.now postings.now positions.now norms.now live.now columns.now values.now) q.now × (workShort (lent max_doc fields.now leaves.now postings.now positions.now norms.now live.now columns.now values.now) q.now (work (length states.old) (length a.old) (length b.old) (length ranges.old)) ≡ false) }
+    requires heap_nonzero { (0 < length heap.old) × (length heap.old ≤ max_hits) }
+    requires asks { Asks (lent max_doc fields.now leaves.now postings.now positions.now norms.now live.now columns.now values.now) q.now × (work_short (lent max_doc fields.now leaves.now postings.now positions.now norms.now live.now columns.now values.now) q.now (work (length states.old) (length a.old) (length b.old) (length ranges.old)) ≡ false) }
     requires tables { FieldTables (lent max_doc fields.now leaves.now postings.now positions.now norms.now live.now columns.now values.now) q.now inverses.now }
-    ensures value { result ≡ answer (length heap.old) t (fullList (lent max_doc fields.now leaves.now postings.now positions.now norms.now live.now columns.now values.now) (queryTree q.now)) }
-    ensures heap_after { heap.new ≡ written (hitsOf (length heap.old) (fullList (lent max_doc fields.now leaves.now postings.now positions.now norms.now live.now columns.now values.now) (queryTree q.now))) heap.old }
+    ensures value { result ≡ answer (length heap.old) t (full_list (lent max_doc fields.now leaves.now postings.now positions.now norms.now live.now columns.now values.now) (query_tree q.now)) }
+    ensures heap_after { heap.new ≡ written (hits_of (length heap.old) (full_list (lent max_doc fields.now leaves.now postings.now positions.now norms.now live.now columns.now values.now) (query_tree q.now))) heap.old }
 {
     let size = build::build(max_doc, fields, leaves, columns, values, q, states, ranges);
     let c = bulk::collect_matches(
@@ -86,10 +86,10 @@ fn find(
     ranges: &mut [u32],
     heap: &mut [i64],
 ) -> TopDocs
-    requires heap_nonzero { (0 < length heap.old) × (length heap.old ≤ maxHits) }
-    requires asks { Asks (lent max_doc fields.now leaves.now postings.now positions.now norms.now live.now columns.now values.now) q.now × (workShort (lent max_doc fields.now leaves.now postings.now positions.now norms.now live.now columns.now values.now) q.now (work (length states.old) (length a.old) (length b.old) (length ranges.old)) ≡ false) }
-    ensures value { result ≡ answer (length heap.old) t (fullList (lent max_doc fields.now leaves.now postings.now positions.now norms.now live.now columns.now values.now) (queryTree q.now)) }
-    ensures heap_after { heap.new ≡ written (hitsOf (length heap.old) (fullList (lent max_doc fields.now leaves.now postings.now positions.now norms.now live.now columns.now values.now) (queryTree q.now))) heap.old }
+    requires heap_nonzero { (0 < length heap.old) × (length heap.old ≤ max_hits) }
+    requires asks { Asks (lent max_doc fields.now leaves.now postings.now positions.now norms.now live.now columns.now values.now) q.now × (work_short (lent max_doc fields.now leaves.now postings.now positions.now norms.now live.now columns.now values.now) q.now (work (length states.old) (length a.old) (length b.old) (length ranges.old)) ≡ false) }
+    ensures value { result ≡ answer (length heap.old) t (full_list (lent max_doc fields.now leaves.now postings.now positions.now norms.now live.now columns.now values.now) (query_tree q.now)) }
+    ensures heap_after { heap.new ≡ written (hits_of (length heap.old) (full_list (lent max_doc fields.now leaves.now postings.now positions.now norms.now live.now columns.now values.now) (query_tree q.now))) heap.old }
 {
     if fields.len() <= 3 {
         let bm25 = inverses::first_inverses(fields);
@@ -141,12 +141,12 @@ pub fn search(
     ranges: &mut [u32],
     hits: &mut [i64],
 ) -> Searched
-    ensures result_value { searchedNumbers result ≡ searchAnswer (lent max_doc fields.now leaves.now postings.now positions.now norms.now live.now columns.now values.now) q.now k t (work (length states.old) (length a.old) (length b.old) (length ranges.old)) (length hits.old) }
-    ensures hits_after { hits.new ≡ searchHits (lent max_doc fields.now leaves.now postings.now positions.now norms.now live.now columns.now values.now) q.now k (work (length states.old) (length a.old) (length b.old) (length ranges.old)) hits.old }
-    ensures kept { Kept (searchRefusal (lent max_doc fields.now leaves.now postings.now positions.now norms.now live.now columns.now values.now) q.now k (work (length states.old) (length a.old) (length b.old) (length ranges.old)) (length hits.old)) states.old states.new }
-    ensures kept_2 { Kept (searchRefusal (lent max_doc fields.now leaves.now postings.now positions.now norms.now live.now columns.now values.now) q.now k (work (length states.old) (length a.old) (length b.old) (length ranges.old)) (length hits.old)) a.old a.new }
-    ensures kept_3 { Kept (searchRefusal (lent max_doc fields.now leaves.now postings.now positions.now norms.now live.now columns.now values.now) q.now k (work (length states.old) (length a.old) (length b.old) (length ranges.old)) (length hits.old)) b.old b.new }
-    ensures kept_4 { Kept (searchRefusal (lent max_doc fields.now leaves.now postings.now positions.now norms.now live.now columns.now values.now) q.now k (work (length states.old) (length a.old) (length b.old) (length ranges.old)) (length hits.old)) ranges.old ranges.new }
+    ensures result_value { searched_numbers result ≡ search_answer (lent max_doc fields.now leaves.now postings.now positions.now norms.now live.now columns.now values.now) q.now k t (work (length states.old) (length a.old) (length b.old) (length ranges.old)) (length hits.old) }
+    ensures hits_after { hits.new ≡ search_hits (lent max_doc fields.now leaves.now postings.now positions.now norms.now live.now columns.now values.now) q.now k (work (length states.old) (length a.old) (length b.old) (length ranges.old)) hits.old }
+    ensures kept { Kept (search_refusal (lent max_doc fields.now leaves.now postings.now positions.now norms.now live.now columns.now values.now) q.now k (work (length states.old) (length a.old) (length b.old) (length ranges.old)) (length hits.old)) states.old states.new }
+    ensures kept_2 { Kept (search_refusal (lent max_doc fields.now leaves.now postings.now positions.now norms.now live.now columns.now values.now) q.now k (work (length states.old) (length a.old) (length b.old) (length ranges.old)) (length hits.old)) a.old a.new }
+    ensures kept_3 { Kept (search_refusal (lent max_doc fields.now leaves.now postings.now positions.now norms.now live.now columns.now values.now) q.now k (work (length states.old) (length a.old) (length b.old) (length ranges.old)) (length hits.old)) b.old b.new }
+    ensures kept_4 { Kept (search_refusal (lent max_doc fields.now leaves.now postings.now positions.now norms.now live.now columns.now values.now) q.now k (work (length states.old) (length a.old) (length b.old) (length ranges.old)) (length hits.old)) ranges.old ranges.new }
 {
     let refusal = order_check::search_refusal(
         max_doc,

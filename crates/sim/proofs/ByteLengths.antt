@@ -14,7 +14,7 @@ use lib.Seq.{length-take-le, get_or-take, get_or-drop}
 use lib.Ieee.{Float, nan, binary32, fits, round, of_int, of_bits, to_bits, size}
 use lib.Ieee.Bits.{of_bits-to_bits}
 use lib.Ieee.Fits.{round-fits}
-use Rattle.meaning.specs.SmallFloat.{longToInt4, int4ToLong, maxInt4, numFreeValues, byte4ToInt}
+use Rattle.meaning.specs.SmallFloat.{long_to_int4, int4_to_long, max_int4, num_free_values, byte4_to_int}
 use Rattle.meaning.specs.Bm25.{length_of}
 use Rattle.sim.specs.declared.lengths.TheConstants.{LENGTHS}
 
@@ -33,25 +33,25 @@ same-is x y F e =
 
 length-fits : (n : ℕ) → T (fits binary32 (length_of n))
 unfolding length_of of_int
-length-fits n = round-fits binary32 false (byte4ToInt n) 1
+length-fits n = round-fits binary32 false (byte4_to_int n) 1
 
 -- ---- the bytes from n on whose entries differ
-abbrev wrongFrom : ℕ → List Float → List ℕ
-wrongFrom n [] = []
-wrongFrom n (x ∷ xs) = cond (same x (length_of n)) [] (n ∷ []) ++ wrongFrom (suc n) xs
+abbrev wrong_from : ℕ → List Float → List ℕ
+wrong_from n [] = []
+wrong_from n (x ∷ xs) = cond (same x (length_of n)) [] (n ∷ []) ++ wrong_from (suc n) xs
 
 split : (b : Bool) (n : ℕ) (ns : List ℕ) → cond b [] (n ∷ []) ++ ns ≡ [] → (b ≡ true) × (ns ≡ [])
 split true n ns e = (refl, e)
 split false n ns e = absurd (suc-ne-zero (length ns) (ap length e))
 
-none-wrong : (xs : List Float) (n i : ℕ) → wrongFrom n xs ≡ [] → i < length xs → get_or xs i nan ≡ length_of (n + i)
+none-wrong : (xs : List Float) (n i : ℕ) → wrong_from n xs ≡ [] → i < length xs → get_or xs i nan ≡ length_of (n + i)
 none-wrong [] n i e h = absurd (not-suc-le-zero h)
 none-wrong (x ∷ xs) n zero e h =
     let first : n ≡ n + 0 = omega arith in
-    same-is x (length_of n) (length-fits n) (split (same x (length_of n)) n (wrongFrom (suc n) xs) e).0 ∙ ap length_of first
+    same-is x (length_of n) (length-fits n) (split (same x (length_of n)) n (wrong_from (suc n) xs) e).0 ∙ ap length_of first
 none-wrong (x ∷ xs) n (suc i) e h =
     let next : suc n + i ≡ n + suc i = omega arith in
-    none-wrong xs (suc n) i (split (same x (length_of n)) n (wrongFrom (suc n) xs) e).1 (le_of_suc-le-suc h) ∙ ap length_of next
+    none-wrong xs (suc n) i (split (same x (length_of n)) n (wrong_from (suc n) xs) e).1 (le_of_suc-le-suc h) ∙ ap length_of next
 
 -- ---- the table in rows of 32, each computed
 abbrev row : ℕ → List Float
@@ -59,16 +59,16 @@ row k = take 32 (drop (32 * k) LENGTHS)
 
 abbrev Right : ℕ → Type 0
 Right zero = Unit
-Right (suc k) = (wrongFrom (32 * k) (row k) ≡ []) × Right k
+Right (suc k) = (wrong_from (32 * k) (row k) ≡ []) × Right k
 
 computed : Right 8
-unfolding length_of byte4ToInt int4ToLong longToInt4 numFreeValues maxInt4 size of_int round of_bits to_bits fits
+unfolding length_of byte4_to_int int4_to_long long_to_int4 num_free_values max_int4 size of_int round of_bits to_bits fits
 computed = (refl, (refl, (refl, (refl, (refl, (refl, (refl, (refl, tt))))))))
 
-right-row : (m k : ℕ) → Right m → k < m → wrongFrom (32 * k) (row k) ≡ []
+right-row : (m k : ℕ) → Right m → k < m → wrong_from (32 * k) (row k) ≡ []
 right-row zero k r h = absurd (not-suc-le-zero h)
 right-row (suc m) k r h = elim (last-or-below k m h) [
-  | inl e ↦ subst (λ (z : ℕ). wrongFrom (32 * z) (row z) ≡ []) (sym e) r.0
+  | inl e ↦ subst (λ (z : ℕ). wrong_from (32 * z) (row z) ≡ []) (sym e) r.0
   | inr g ↦ right-row m k r.1 g
 ]
 

@@ -11,12 +11,12 @@ use lib.Count.{count_leading_zeros, leading_length}
 use lib.Ieee.{size}
 use lib.Ieee.Digits.{size-lt, size-le, size_reaches}
 use borrow.Author.Tests.{lt-ltb, le-ltb}
-use Rattle.meaning.specs.SmallFloat.{longToInt4, int4ToLong, maxInt4, numFreeValues, intToByte4, byte4ToInt}
+use Rattle.meaning.specs.SmallFloat.{long_to_int4, int4_to_long, max_int4, num_free_values, int_to_byte4, byte4_to_int}
 use Rattle.meaning.proofs.Tests.{cmp}
 
 -- ---- each definition by its cases
-num-free : numFreeValues ≡ 24
-unfolding numFreeValues maxInt4 longToInt4 size
+num-free : num_free_values ≡ 24
+unfolding num_free_values max_int4 long_to_int4 size
 num-free = refl
 
 -- a test that holds, and one that does not
@@ -27,41 +27,41 @@ module _ (a b x y : ℕ) where
   failed : b ≤ a → y ≡ cond (ltb a b) x y
   failed h = sym (ap (λ (t : Bool). cond t x y) (le-ltb a b h))
 
-pub long-few : (i : ℕ) → size i < 4 → i ≡ longToInt4 i
-unfolding longToInt4
+pub long-few : (i : ℕ) → size i < 4 → i ≡ long_to_int4 i
+unfolding long_to_int4
 long-few i h = passed (size i) 4 i ((size i - 4 + 1) * 8 + i / 2 ^ (size i - 4) % 8) h
 
-pub long-many : (i : ℕ) → 4 ≤ size i → (size i - 4 + 1) * 8 + i / 2 ^ (size i - 4) % 8 ≡ longToInt4 i
-unfolding longToInt4
+pub long-many : (i : ℕ) → 4 ≤ size i → (size i - 4 + 1) * 8 + i / 2 ^ (size i - 4) % 8 ≡ long_to_int4 i
+unfolding long_to_int4
 long-many i h = failed (size i) 4 i ((size i - 4 + 1) * 8 + i / 2 ^ (size i - 4) % 8) h
 
-pub int4-few : (i : ℕ) → i < 8 → i ≡ int4ToLong i
-unfolding int4ToLong
+pub int4-few : (i : ℕ) → i < 8 → i ≡ int4_to_long i
+unfolding int4_to_long
 int4-few i h = passed i 8 i ((8 + i % 8) * 2 ^ (i / 8 - 1)) h
 
-pub int4-many : (i : ℕ) → 8 ≤ i → (8 + i % 8) * 2 ^ (i / 8 - 1) ≡ int4ToLong i
-unfolding int4ToLong
+pub int4-many : (i : ℕ) → 8 ≤ i → (8 + i % 8) * 2 ^ (i / 8 - 1) ≡ int4_to_long i
+unfolding int4_to_long
 int4-many i h = failed i 8 i ((8 + i % 8) * 2 ^ (i / 8 - 1)) h
 
-byte-opened : (i : ℕ) → cond (ltb i 24) i (24 + longToInt4 (i - 24)) ≡ intToByte4 i
-unfolding intToByte4
-byte-opened i = ap (λ (n : ℕ). cond (ltb i n) i (n + longToInt4 (i - n))) (sym num-free)
+byte-opened : (i : ℕ) → cond (ltb i 24) i (24 + long_to_int4 (i - 24)) ≡ int_to_byte4 i
+unfolding int_to_byte4
+byte-opened i = ap (λ (n : ℕ). cond (ltb i n) i (n + long_to_int4 (i - n))) (sym num-free)
 
-int-opened : (i : ℕ) → cond (ltb i 24) i (24 + int4ToLong (i - 24)) ≡ byte4ToInt i
-unfolding byte4ToInt
-int-opened i = ap (λ (n : ℕ). cond (ltb i n) i (n + int4ToLong (i - n))) (sym num-free)
+int-opened : (i : ℕ) → cond (ltb i 24) i (24 + int4_to_long (i - 24)) ≡ byte4_to_int i
+unfolding byte4_to_int
+int-opened i = ap (λ (n : ℕ). cond (ltb i n) i (n + int4_to_long (i - n))) (sym num-free)
 
-pub byte-few : (i : ℕ) → i < 24 → i ≡ intToByte4 i
-byte-few i h = passed i 24 i (24 + longToInt4 (i - 24)) h ∙ byte-opened i
+pub byte-few : (i : ℕ) → i < 24 → i ≡ int_to_byte4 i
+byte-few i h = passed i 24 i (24 + long_to_int4 (i - 24)) h ∙ byte-opened i
 
-pub byte-many : (i : ℕ) → 24 ≤ i → 24 + longToInt4 (i - 24) ≡ intToByte4 i
-byte-many i h = failed i 24 i (24 + longToInt4 (i - 24)) h ∙ byte-opened i
+pub byte-many : (i : ℕ) → 24 ≤ i → 24 + long_to_int4 (i - 24) ≡ int_to_byte4 i
+byte-many i h = failed i 24 i (24 + long_to_int4 (i - 24)) h ∙ byte-opened i
 
-pub int-few : (i : ℕ) → i < 24 → i ≡ byte4ToInt i
-int-few i h = passed i 24 i (24 + int4ToLong (i - 24)) h ∙ int-opened i
+pub int-few : (i : ℕ) → i < 24 → i ≡ byte4_to_int i
+int-few i h = passed i 24 i (24 + int4_to_long (i - 24)) h ∙ int-opened i
 
-pub int-many : (i : ℕ) → 24 ≤ i → 24 + int4ToLong (i - 24) ≡ byte4ToInt i
-int-many i h = failed i 24 i (24 + int4ToLong (i - 24)) h ∙ int-opened i
+pub int-many : (i : ℕ) → 24 ≤ i → 24 + int4_to_long (i - 24) ≡ byte4_to_int i
+int-many i h = failed i 24 i (24 + int4_to_long (i - 24)) h ∙ int-opened i
 
 -- ---- how many digits, by the leading zeros
 pub size-leading : (i : ℕ) → i < 2 ^ 64 → 64 - count_leading_zeros 64 i ≡ size i
@@ -83,8 +83,8 @@ pub size_few : (i : ℕ) → size i < 4 → i < 8
 size_few i h = lt_of_lt_of_le (size-lt i) (pow_mono {i = size i} {j = 3} (le_of_suc-le-suc h))
 
 -- ---- bounds
-pub longToInt4-lt : (i k : ℕ) → 4 ≤ k → i < 2 ^ k → longToInt4 i < (k - 2) * 8
-longToInt4-lt i k K h = elim (cmp (size i) 4) [
+pub long_to_int4-lt : (i k : ℕ) → 4 ≤ k → i < 2 ^ k → long_to_int4 i < (k - 2) * 8
+long_to_int4-lt i k K h = elim (cmp (size i) 4) [
   | inl s ↦ subst (λ (z : ℕ). z < (k - 2) * 8) (long-few i s) (few i k K (size_few i s))
   | inr s ↦ subst (λ (z : ℕ). z < (k - 2) * 8) (long-many i s) (many (size i) (i / 2 ^ (size i - 4)) k K s (size-le i k h))
 ]
@@ -95,8 +95,8 @@ longToInt4-lt i k K h = elim (cmp (size i) 4) [
     many : (s q k : ℕ) → 4 ≤ k → 4 ≤ s → s ≤ k → (s - 4 + 1) * 8 + q % 8 < (k - 2) * 8
     many s q k K h l = omega arith
 
-pub int4ToLong-le : (i : ℕ) → i ≤ 231 → int4ToLong i ≤ 2013265920
-int4ToLong-le i h = elim (cmp i 8) [
+pub int4_to_long-le : (i : ℕ) → i ≤ 231 → int4_to_long i ≤ 2013265920
+int4_to_long-le i h = elim (cmp i 8) [
   | inl s ↦ subst (λ (z : ℕ). z ≤ 2013265920) (int4-few i s) (le_trans h (lit≤ tt))
   | inr s ↦ subst (λ (z : ℕ). z ≤ 2013265920) (int4-many i s) (le_trans (mul-le-mul (digits i) (pow_mono {i = i / 8 - 1} {j = 27} (places i h))) (lit≤ tt))
 ]
@@ -108,10 +108,10 @@ int4ToLong-le i h = elim (cmp i 8) [
     places i h = omega arith
 
 -- a length is at most 2,013,265,944, and a byte's number is below 256
-pub byte4ToInt-le : (b : ℕ) → b < 256 → byte4ToInt b ≤ 2013265944
-byte4ToInt-le b h = elim (cmp b 24) [
+pub byte4_to_int-le : (b : ℕ) → b < 256 → byte4_to_int b ≤ 2013265944
+byte4_to_int-le b h = elim (cmp b 24) [
   | inl s ↦ subst (λ (z : ℕ). z ≤ 2013265944) (int-few b s) (low b h)
-  | inr s ↦ subst (λ (z : ℕ). z ≤ 2013265944) (int-many b s) (high (int4ToLong (b - 24)) (int4ToLong-le (b - 24) (less b h)))
+  | inr s ↦ subst (λ (z : ℕ). z ≤ 2013265944) (int-many b s) (high (int4_to_long (b - 24)) (int4_to_long-le (b - 24) (less b h)))
 ]
   where
     low : (b : ℕ) → b < 256 → b ≤ 2013265944
@@ -123,10 +123,10 @@ byte4ToInt-le b h = elim (cmp b 24) [
     high : (x : ℕ) → x ≤ 2013265920 → 24 + x ≤ 2013265944
     high x h = omega arith
 
-pub intToByte4-lt : (i : ℕ) → i ≤ 2147483647 → intToByte4 i < 256
-intToByte4-lt i h = elim (cmp i 24) [
+pub int_to_byte4-lt : (i : ℕ) → i ≤ 2147483647 → int_to_byte4 i < 256
+int_to_byte4-lt i h = elim (cmp i 24) [
   | inl s ↦ subst (λ (z : ℕ). z < 256) (byte-few i s) (low i s)
-  | inr s ↦ subst (λ (z : ℕ). z < 256) (byte-many i s) (high (longToInt4 (i - 24)) (longToInt4-lt (i - 24) 31 (lit≤ tt) (less i h)))
+  | inr s ↦ subst (λ (z : ℕ). z < 256) (byte-many i s) (high (long_to_int4 (i - 24)) (long_to_int4-lt (i - 24) 31 (lit≤ tt) (less i h)))
 ]
   where
     low : (i : ℕ) → i < 24 → i < 256
@@ -159,10 +159,10 @@ module _ (m : ℕ) (h : 4 ≤ size m) where
       all : (z : ℕ) → z ≤ 4 + (z - 4)
       all z = omega arith
 
-  back : int4ToLong (longToInt4 m) ≡ q * 2 ^ s
+  back : int4_to_long (long_to_int4 m) ≡ q * 2 ^ s
   back =
       let c = (s + 1) * 8 + q % 8 in
-      ap int4ToLong (sym (long-many m h))
+      ap int4_to_long (sym (long-many m h))
       ∙ sym (int4-many c (large s q))
       ∙ ap (λ (z : ℕ). z * 2 ^ (c / 8 - 1)) (digits s q q-ge q-lt)
       ∙ ap (λ (z : ℕ). q * 2 ^ z) (shift s q)
@@ -176,18 +176,18 @@ module _ (m : ℕ) (h : 4 ≤ size m) where
       shift : (s q : ℕ) → ((s + 1) * 8 + q % 8) / 8 - 1 ≡ s
       shift s q = omega arith
 
-int4ToLong-below : (m : ℕ) → int4ToLong (longToInt4 m) ≤ m
-int4ToLong-below m = elim (cmp (size m) 4) [
-  | inl h ↦ le_of_eq (sym (int4-few m (size_few m h) ∙ ap int4ToLong (long-few m h)))
+int4_to_long-below : (m : ℕ) → int4_to_long (long_to_int4 m) ≤ m
+int4_to_long-below m = elim (cmp (size m) 4) [
+  | inl h ↦ le_of_eq (sym (int4-few m (size_few m h) ∙ ap int4_to_long (long-few m h)))
   | inr h ↦ le_trans (le_of_eq (back m h)) (div-mul-le_self m (2 ^ (size m - 4)))
 ]
 
-pub byte4ToInt-below : (n : ℕ) → byte4ToInt (intToByte4 n) ≤ n
-byte4ToInt-below n = elim (cmp n 24) [
-  | inl h ↦ le_of_eq (sym (int-few n h ∙ ap byte4ToInt (byte-few n h)))
+pub byte4_to_int-below : (n : ℕ) → byte4_to_int (int_to_byte4 n) ≤ n
+byte4_to_int-below n = elim (cmp n 24) [
+  | inl h ↦ le_of_eq (sym (int-few n h ∙ ap byte4_to_int (byte-few n h)))
   | inr h ↦
-      let c = longToInt4 (n - 24) in
-      le_trans (le_of_eq (ap byte4ToInt (sym (byte-many n h)) ∙ sym (int-many (24 + c) (more c)) ∙ ap (λ (z : ℕ). 24 + int4ToLong z) (less c))) (whole n (int4ToLong c) h (int4ToLong-below (n - 24)))
+      let c = long_to_int4 (n - 24) in
+      le_trans (le_of_eq (ap byte4_to_int (sym (byte-many n h)) ∙ sym (int-many (24 + c) (more c)) ∙ ap (λ (z : ℕ). 24 + int4_to_long z) (less c))) (whole n (int4_to_long c) h (int4_to_long-below (n - 24)))
 ]
   where
     more : (c : ℕ) → 24 ≤ 24 + c
@@ -223,26 +223,26 @@ all-at (suc n) p t k h = elim (eq-or-lt_of_le (le_of_suc-le-suc h)) [
     right true b t = t
     right false b t = absurd t
 
-abbrev comesBack : ℕ → Bool
-comesBack b = eqb (intToByte4 (byte4ToInt b)) b
+abbrev comes_back : ℕ → Bool
+comes_back b = eqb (int_to_byte4 (byte4_to_int b)) b
 
-all-bytes : T (all_below 256 comesBack)
-unfolding intToByte4 byte4ToInt longToInt4 int4ToLong numFreeValues maxInt4 size
+all-bytes : T (all_below 256 comes_back)
+unfolding int_to_byte4 byte4_to_int long_to_int4 int4_to_long num_free_values max_int4 size
 all-bytes = tt
 
-pub intToByte4-back : (b : ℕ) → b < 256 → intToByte4 (byte4ToInt b) ≡ b
-intToByte4-back b h = eqb→eq (intToByte4 (byte4ToInt b)) b (all-at 256 comesBack all-bytes b h)
+pub int_to_byte4-back : (b : ℕ) → b < 256 → int_to_byte4 (byte4_to_int b) ≡ b
+int_to_byte4-back b h = eqb→eq (int_to_byte4 (byte4_to_int b)) b (all-at 256 comes_back all-bytes b h)
 
 -- ---- where the code is exact: a length that some byte stands for, and every length below 40
-pub byte4ToInt-back : (b : ℕ) → b < 256 → byte4ToInt (intToByte4 (byte4ToInt b)) ≡ byte4ToInt b
-byte4ToInt-back b h = ap byte4ToInt (intToByte4-back b h)
+pub byte4_to_int-back : (b : ℕ) → b < 256 → byte4_to_int (int_to_byte4 (byte4_to_int b)) ≡ byte4_to_int b
+byte4_to_int-back b h = ap byte4_to_int (int_to_byte4-back b h)
 
-abbrev isExact : ℕ → Bool
-isExact n = eqb (byte4ToInt (intToByte4 n)) n
+abbrev is_exact : ℕ → Bool
+is_exact n = eqb (byte4_to_int (int_to_byte4 n)) n
 
-first-forty : T (all_below 40 isExact)
-unfolding intToByte4 byte4ToInt longToInt4 int4ToLong numFreeValues maxInt4 size
+first-forty : T (all_below 40 is_exact)
+unfolding int_to_byte4 byte4_to_int long_to_int4 int4_to_long num_free_values max_int4 size
 first-forty = tt
 
-pub byte4ToInt-exact : (n : ℕ) → n < 40 → byte4ToInt (intToByte4 n) ≡ n
-byte4ToInt-exact n h = eqb→eq (byte4ToInt (intToByte4 n)) n (all-at 40 isExact first-forty n h)
+pub byte4_to_int-exact : (n : ℕ) → n < 40 → byte4_to_int (int_to_byte4 n) ≡ n
+byte4_to_int-exact n h = eqb→eq (byte4_to_int (int_to_byte4 n)) n (all-at 40 is_exact first-forty n h)

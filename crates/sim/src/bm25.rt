@@ -1,6 +1,6 @@
 // BM25 in f32, each operation rounded once.
 ghost use Rattle.std.specs.Prelude.{◌≡◌};
-ghost use Rattle.meaning.specs.Below.{listTo};
+ghost use Rattle.meaning.specs.Below.{list_to};
 ghost use Rattle.meaning.specs.Bm25.{length_of, inverse, weight, bm25};
 
 // The inverse of each length code's norm, for a field's average length.
@@ -21,7 +21,7 @@ impl Bm25 {
     }
 
     pub fn new(average: f32) -> Bm25
-        ensures { result.cache ≡ listTo 256 (λ n. inverse average (length_of n)) }
+        ensures { result.cache ≡ list_to 256 (λ n. inverse average (length_of n)) }
     {
         let mut cache: [f32; 256] = [0.0; 256];
         let mut norm: usize = 0;

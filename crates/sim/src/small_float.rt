@@ -1,13 +1,13 @@
 // Lucene's SmallFloat: a length as a byte, with four significant digits.
 ghost use Rattle.std.specs.Prelude.{◌≡◌, ◌<◌, ◌≤◌};
-ghost use Rattle.meaning.specs.SmallFloat.{longToInt4, int4ToLong, intToByte4, byte4ToInt};
+ghost use Rattle.meaning.specs.SmallFloat.{long_to_int4, int4_to_long, int_to_byte4, byte4_to_int};
 
 // The bytes that stand for themselves.
 const NUM_FREE_VALUES: u32 = 24;
 
 // The shift + 1 in front of the three digits after the first; fewer than four digits are their own code.
 pub fn long_to_int4(i: u64) -> u32
-    ensures { result ≡ longToInt4 i }
+    ensures { result ≡ long_to_int4 i }
 {
     let digits = 64 - u64::leading_zeros(i);
     if digits < 4 {
@@ -21,7 +21,7 @@ pub fn long_to_int4(i: u64) -> u32
 // Back from a code of `long_to_int4`, which is below 496.
 pub fn int4_to_long(i: u32) -> u64
     requires { i < 496 }
-    ensures { result ≡ int4ToLong i }
+    ensures { result ≡ int4_to_long i }
 {
     if i < 8 {
         i as u64
@@ -33,7 +33,7 @@ pub fn int4_to_long(i: u32) -> u64
 // The byte of a length, which is an int of Java's and not negative.
 pub fn int_to_byte4(i: u32) -> u8
     requires { i ≤ 2147483647 }
-    ensures { result ≡ intToByte4 i }
+    ensures { result ≡ int_to_byte4 i }
 {
     if i < NUM_FREE_VALUES {
         i as u8
@@ -44,7 +44,7 @@ pub fn int_to_byte4(i: u32) -> u8
 
 // The length of a byte.
 pub fn byte4_to_int(b: u8) -> u32
-    ensures { result ≡ byte4ToInt b }
+    ensures { result ≡ byte4_to_int b }
 {
     let i = b as u32;
     if i < NUM_FREE_VALUES {

@@ -8,50 +8,50 @@ use native.Mathlib.Omega.{arith}
 use borrow.Author.Tests.{lt-ltb, ltb-true, ltb-false, leb-true, leb-false, eqb-true, not-false}
 use lib.Dec.{eqb, leb, ltb}
 use lib.ListN.{length, get_or}
-use Rattle.meaning.specs.Below.{anyBelow}
-use Rattle.meaning.specs.Limits.{noMoreDocs, maxLeaves, maxTokens}
-use Rattle.meaning.specs.Lent.{fieldCount}
-use Rattle.meaning.specs.Tokens.{Token, tokenCount, tokenAt, notAfter, fieldsLent}
+use Rattle.meaning.specs.Below.{any_below}
+use Rattle.meaning.specs.Limits.{no_more_docs, max_leaves, max_tokens}
+use Rattle.meaning.specs.Lent.{field_count}
+use Rattle.meaning.specs.Tokens.{Token, token_count, token_at, not_after, fields_lent}
 use Rattle.meaning.specs.Refusals.{Condition, ◌when◌, lowest}
-use Rattle.meaning.specs.IndexRefusals.{notWhole, wrong1, wrong2}
-use Rattle.meaning.specs.TokenRefusals.{Outputs, wrongToken, wrongLeafField, wrong15, wrong16, writeRefusal}
+use Rattle.meaning.specs.IndexRefusals.{not_whole, wrong1, wrong2}
+use Rattle.meaning.specs.TokenRefusals.{Outputs, wrong_token, wrong_leaf_field, wrong15, wrong16, write_refusal}
 use Rattle.meaning.proofs.Below.{none_below}
 use Rattle.meaning.proofs.Lowest.{lowest-zero}
 use Rattle.meaning.proofs.Tests.{or_left, or_right, or-4, and_second}
 use Rattle.token_index.specs.TokensOk.{TokensOk}
 
 -- ---- what a refusal of 0 says
-module _ (n : ℕ) (fields leafFields ws : List ℕ) (o : Outputs) (accepted : writeRefusal n fields leafFields ws o ≡ 0) where
+module _ (n : ℕ) (fields leaf_fields ws : List ℕ) (o : Outputs) (accepted : write_refusal n fields leaf_fields ws o ≡ 0) where
   abbrev behind-fifteen : List Condition
-  behind-fifteen = (16 when wrong16 n fields leafFields ws o) ∷ []
+  behind-fifteen = (16 when wrong16 n fields leaf_fields ws o) ∷ []
 
   abbrev behind-two : List Condition
-  behind-two = (15 when wrong15 n fields leafFields ws) ∷ behind-fifteen
+  behind-two = (15 when wrong15 n fields leaf_fields ws) ∷ behind-fifteen
 
   abbrev behind-one : List Condition
-  behind-one = (2 when wrong2 (fieldsLent n fields)) ∷ behind-two
+  behind-one = (2 when wrong2 (fields_lent n fields)) ∷ behind-two
 
-  one-zero : (wrong1 (fieldsLent n fields) ≡ false) × (lowest behind-one ≡ 0)
-  unfolding writeRefusal
-  one-zero = lowest-zero 1 (wrong1 (fieldsLent n fields)) behind-one (omega arith) accepted
+  one-zero : (wrong1 (fields_lent n fields) ≡ false) × (lowest behind-one ≡ 0)
+  unfolding write_refusal
+  one-zero = lowest-zero 1 (wrong1 (fields_lent n fields)) behind-one (omega arith) accepted
 
-  two-zero : (wrong2 (fieldsLent n fields) ≡ false) × (lowest behind-two ≡ 0)
-  two-zero = lowest-zero 2 (wrong2 (fieldsLent n fields)) behind-two (omega arith) one-zero.1
+  two-zero : (wrong2 (fields_lent n fields) ≡ false) × (lowest behind-two ≡ 0)
+  two-zero = lowest-zero 2 (wrong2 (fields_lent n fields)) behind-two (omega arith) one-zero.1
 
-  fifteen-zero : (wrong15 n fields leafFields ws ≡ false) × (lowest behind-fifteen ≡ 0)
-  fifteen-zero = lowest-zero 15 (wrong15 n fields leafFields ws) behind-fifteen (omega arith) two-zero.1
+  fifteen-zero : (wrong15 n fields leaf_fields ws ≡ false) × (lowest behind-fifteen ≡ 0)
+  fifteen-zero = lowest-zero 15 (wrong15 n fields leaf_fields ws) behind-fifteen (omega arith) two-zero.1
 
-  pub fine-number : wrong1 (fieldsLent n fields) ≡ false
+  pub fine-number : wrong1 (fields_lent n fields) ≡ false
   fine-number = one-zero.0
 
-  pub fine-fields : wrong2 (fieldsLent n fields) ≡ false
+  pub fine-fields : wrong2 (fields_lent n fields) ≡ false
   fine-fields = two-zero.0
 
-  pub fine-tokens : wrong15 n fields leafFields ws ≡ false
+  pub fine-tokens : wrong15 n fields leaf_fields ws ≡ false
   fine-tokens = fifteen-zero.0
 
-  pub fine-outputs : wrong16 n fields leafFields ws o ≡ false
-  fine-outputs = (lowest-zero 16 (wrong16 n fields leafFields ws o) [] (omega arith) fifteen-zero.1).0
+  pub fine-outputs : wrong16 n fields leaf_fields ws o ≡ false
+  fine-outputs = (lowest-zero 16 (wrong16 n fields leaf_fields ws o) [] (omega arith) fifteen-zero.1).0
 
 -- ---- two tokens in order
 pub record InOrder (t u : Token) : Type 0 where
@@ -59,8 +59,8 @@ pub record InOrder (t u : Token) : Type 0 where
   pub document : t.leaf ≡ u.leaf → t.document ≤ u.document
   pub position : t.leaf ≡ u.leaf → t.document ≡ u.document → t.position ≤ u.position
 
-in_order : (t u : Token) → notAfter t u ≡ true → InOrder t u
-unfolding notAfter
+in_order : (t u : Token) → not_after t u ≡ true → InOrder t u
+unfolding not_after
 in_order t u e = leaves (ltb t.leaf u.leaf) (eqb t.leaf u.leaf) refl refl e
   where
     documents : t.leaf ≡ u.leaf
@@ -109,67 +109,67 @@ order_trans t u v a b =
     first-document k m = omega (arith, a.document (first k), b.document (second k), m)
 
 -- ---- where 15 does not hold
-module _ (n : ℕ) (fields leafFields ws : List ℕ) (fine : wrong15 n fields leafFields ws ≡ false) where
+module _ (n : ℕ) (fields leaf_fields ws : List ℕ) (fine : wrong15 n fields leaf_fields ws ≡ false) where
   -- its five conditions
   abbrev leading : Bool
-  leading = notWhole (length ws) 3 || ltb maxTokens (tokenCount ws) || ltb maxLeaves (length leafFields) || anyBelow (length leafFields) (wrongLeafField fields leafFields)
+  leading = not_whole (length ws) 3 || ltb max_tokens (token_count ws) || ltb max_leaves (length leaf_fields) || any_below (length leaf_fields) (wrong_leaf_field fields leaf_fields)
 
   first-four : leading ≡ false
   unfolding wrong15
-  first-four = or_left leading (anyBelow (tokenCount ws) (wrongToken n leafFields ws)) fine
+  first-four = or_left leading (any_below (token_count ws) (wrong_token n leaf_fields ws)) fine
 
-  four : (notWhole (length ws) 3 ≡ false) × (ltb maxTokens (tokenCount ws) ≡ false) × (ltb maxLeaves (length leafFields) ≡ false) × (anyBelow (length leafFields) (wrongLeafField fields leafFields) ≡ false)
-  four = or-4 (notWhole (length ws) 3) (ltb maxTokens (tokenCount ws)) (ltb maxLeaves (length leafFields)) (anyBelow (length leafFields) (wrongLeafField fields leafFields)) first-four
+  four : (not_whole (length ws) 3 ≡ false) × (ltb max_tokens (token_count ws) ≡ false) × (ltb max_leaves (length leaf_fields) ≡ false) × (any_below (length leaf_fields) (wrong_leaf_field fields leaf_fields) ≡ false)
+  four = or-4 (not_whole (length ws) 3) (ltb max_tokens (token_count ws)) (ltb max_leaves (length leaf_fields)) (any_below (length leaf_fields) (wrong_leaf_field fields leaf_fields)) first-four
 
-  pub whole-tokens : length ws ≡ 3 * tokenCount ws
+  pub whole-tokens : length ws ≡ 3 * token_count ws
   whole-tokens = omega (arith, eqb-true (length ws % 3) 0 (not-false (eqb (length ws % 3) 0) four.0))
 
-  pub few-tokens : tokenCount ws ≤ maxTokens
-  few-tokens = ltb-false maxTokens (tokenCount ws) four.1
+  pub few-tokens : token_count ws ≤ max_tokens
+  few-tokens = ltb-false max_tokens (token_count ws) four.1
 
-  pub few-leaves : length leafFields ≤ maxLeaves
-  few-leaves = ltb-false maxLeaves (length leafFields) four.2
+  pub few-leaves : length leaf_fields ≤ max_leaves
+  few-leaves = ltb-false max_leaves (length leaf_fields) four.2
 
-  pub leaf-field : (l : ℕ) → l < length leafFields → get_or leafFields l 0 < fieldCount (fieldsLent 0 fields)
-  unfolding wrongLeafField
-  leaf-field l h = leb-false (fieldCount (fieldsLent 0 fields)) (get_or leafFields l 0) (none_below (length leafFields) (wrongLeafField fields leafFields) four.3 l h)
+  pub leaf-field : (l : ℕ) → l < length leaf_fields → get_or leaf_fields l 0 < field_count (fields_lent 0 fields)
+  unfolding wrong_leaf_field
+  leaf-field l h = leb-false (field_count (fields_lent 0 fields)) (get_or leaf_fields l 0) (none_below (length leaf_fields) (wrong_leaf_field fields leaf_fields) four.3 l h)
 
   -- one token
-  module _ (i : ℕ) (below : i < tokenCount ws) where
+  module _ (i : ℕ) (below : i < token_count ws) where
     abbrev late : Bool
-    late = ltb 0 i && not (notAfter (tokenAt ws (i - 1)) (tokenAt ws i))
+    late = ltb 0 i && not (not_after (token_at ws (i - 1)) (token_at ws i))
 
-    token-fine : (late ≡ false) × (leb (length leafFields) (tokenAt ws i).leaf ≡ false) × (leb n (tokenAt ws i).document ≡ false) × (ltb noMoreDocs (tokenAt ws i).position ≡ false)
-    unfolding wrong15 wrongToken
+    token-fine : (late ≡ false) × (leb (length leaf_fields) (token_at ws i).leaf ≡ false) × (leb n (token_at ws i).document ≡ false) × (ltb no_more_docs (token_at ws i).position ≡ false)
+    unfolding wrong15 wrong_token
     token-fine =
-        or-4 late (leb (length leafFields) (tokenAt ws i).leaf) (leb n (tokenAt ws i).document) (ltb noMoreDocs (tokenAt ws i).position)
-        (none_below (tokenCount ws) (wrongToken n leafFields ws) (or_right leading (anyBelow (tokenCount ws) (wrongToken n leafFields ws)) fine) i below)
+        or-4 late (leb (length leaf_fields) (token_at ws i).leaf) (leb n (token_at ws i).document) (ltb no_more_docs (token_at ws i).position)
+        (none_below (token_count ws) (wrong_token n leaf_fields ws) (or_right leading (any_below (token_count ws) (wrong_token n leaf_fields ws)) fine) i below)
 
-  next-in-order : (i : ℕ) → suc i < tokenCount ws → InOrder (tokenAt ws i) (tokenAt ws (suc i))
+  next-in-order : (i : ℕ) → suc i < token_count ws → InOrder (token_at ws i) (token_at ws (suc i))
   next-in-order i h =
       let e : suc i - 1 ≡ i = omega arith in
-      let before = and_second (ltb 0 (suc i)) (not (notAfter (tokenAt ws (suc i - 1)) (tokenAt ws (suc i)))) (token-fine (suc i) h).0 (lt-ltb 0 (suc i) (omega arith)) in
-      in_order (tokenAt ws i) (tokenAt ws (suc i))
-      (ap (λ (k : ℕ). notAfter (tokenAt ws k) (tokenAt ws (suc i))) (sym e) ∙ not-false (notAfter (tokenAt ws (suc i - 1)) (tokenAt ws (suc i))) before)
+      let before = and_second (ltb 0 (suc i)) (not (not_after (token_at ws (suc i - 1)) (token_at ws (suc i)))) (token-fine (suc i) h).0 (lt-ltb 0 (suc i) (omega arith)) in
+      in_order (token_at ws i) (token_at ws (suc i))
+      (ap (λ (k : ℕ). not_after (token_at ws k) (token_at ws (suc i))) (sym e) ∙ not-false (not_after (token_at ws (suc i - 1)) (token_at ws (suc i))) before)
 
-  later-in-order : (i d : ℕ) → i + d < tokenCount ws → InOrder (tokenAt ws i) (tokenAt ws (i + d))
-  later-in-order i zero h = subst (λ (k : ℕ). InOrder (tokenAt ws i) (tokenAt ws k)) (sym (add-zero i)) (order-self (tokenAt ws i))
+  later-in-order : (i d : ℕ) → i + d < token_count ws → InOrder (token_at ws i) (token_at ws (i + d))
+  later-in-order i zero h = subst (λ (k : ℕ). InOrder (token_at ws i) (token_at ws k)) (sym (add-zero i)) (order-self (token_at ws i))
   later-in-order i (suc d) h =
-      subst (λ (k : ℕ). InOrder (tokenAt ws i) (tokenAt ws k)) (sym (add-suc i d))
-      (order_trans (tokenAt ws i) (tokenAt ws (i + d)) (tokenAt ws (suc (i + d))) (later-in-order i d (omega arith)) (next-in-order (i + d) (omega arith)))
+      subst (λ (k : ℕ). InOrder (token_at ws i) (token_at ws k)) (sym (add-suc i d))
+      (order_trans (token_at ws i) (token_at ws (i + d)) (token_at ws (suc (i + d))) (later-in-order i d (omega arith)) (next-in-order (i + d) (omega arith)))
 
-  any-in-order : (i j : ℕ) → i ≤ j → j < tokenCount ws → InOrder (tokenAt ws i) (tokenAt ws j)
+  any-in-order : (i j : ℕ) → i ≤ j → j < token_count ws → InOrder (token_at ws i) (token_at ws j)
   any-in-order i j h b =
-      subst (λ (k : ℕ). InOrder (tokenAt ws i) (tokenAt ws k)) (add-sub_of_le h) (later-in-order i (j - i) (omega arith))
+      subst (λ (k : ℕ). InOrder (token_at ws i) (token_at ws k)) (add-sub_of_le h) (later-in-order i (j - i) (omega arith))
 
-  pub tokens-ok : TokensOk n (length leafFields) ws
+  pub tokens-ok : TokensOk n (length leaf_fields) ws
   tokens-ok =
       record {
         few = few-tokens;
         leaves = λ i j h b. (any-in-order i j h b).leaf;
         documents = λ i j h b. (any-in-order i j h b).document;
         positions = λ i j h b. (any-in-order i j h b).position;
-        leaf = λ i b. leb-false (length leafFields) (tokenAt ws i).leaf (token-fine i b).1;
-        document = λ i b. leb-false n (tokenAt ws i).document (token-fine i b).2;
-        position = λ i b. ltb-false noMoreDocs (tokenAt ws i).position (token-fine i b).3;
+        leaf = λ i b. leb-false (length leaf_fields) (token_at ws i).leaf (token-fine i b).1;
+        document = λ i b. leb-false n (token_at ws i).document (token-fine i b).2;
+        position = λ i b. ltb-false no_more_docs (token_at ws i).position (token-fine i b).3;
       }

@@ -9,14 +9,14 @@ use native.Mathlib.Omega.{arith}
 use borrow.Author.Tests.{eq-eqb, ne_eqb, lt-leb, lt-ltb, le-ltb}
 use lib.Dec.{eqb, leb, ltb}
 use lib.ListN.{length, get_or, length-append}
-use Rattle.meaning.specs.Below.{anyBelow, countBelow, listTo}
-use Rattle.meaning.specs.Limits.{noMoreDocs, maxLeaves, largestIdf, largestFrequency}
-use Rattle.meaning.specs.Lent.{Index, fieldCount, hasNorms, hasPositions, leafCount, leafField, leafFirst, leafNumber, leafIdf, postingCount, leafDocument, leafFrequency, leafPositionsIndex, leafPosition}
-use Rattle.meaning.specs.Packed.{Posting, run_of, joinTo}
-use Rattle.meaning.specs.Tokens.{Token, tokenCount, tokensOf, positional, fieldsLent, positionsAt, runFor, normFor, tokenRuns, tokenNorms, indexOfTokens}
-use Rattle.meaning.specs.IndexRefusals.{notWhole, wrong1, wrongField, wrong2, wrong3, wrongLeaf, wrong4, wrongPosition, wrongPositions, wrongPosting, wrong5}
-use Rattle.meaning.specs.TokenRefusals.{Outputs, wrong15, writeRefusal}
-use Rattle.meaning.proofs.Below.{any_none, length-listTo, getD-listTo}
+use Rattle.meaning.specs.Below.{any_below, count_below, list_to}
+use Rattle.meaning.specs.Limits.{no_more_docs, max_leaves, largest_idf, largest_frequency}
+use Rattle.meaning.specs.Lent.{Index, field_count, has_norms, has_positions, leaf_count, leaf_field, leaf_first, leaf_number, leaf_idf, posting_count, leaf_document, leaf_frequency, leaf_positions_index, leaf_position}
+use Rattle.meaning.specs.Packed.{Posting, run_of, join_to}
+use Rattle.meaning.specs.Tokens.{Token, token_count, tokens_of, positional, fields_lent, positions_at, run_for, norm_for, token_runs, token_norms, index_of_tokens}
+use Rattle.meaning.specs.IndexRefusals.{not_whole, wrong1, wrong_field, wrong2, wrong3, wrong_leaf, wrong4, wrong_position, wrong_positions, wrong_posting, wrong5}
+use Rattle.meaning.specs.TokenRefusals.{Outputs, wrong15, write_refusal}
+use Rattle.meaning.proofs.Below.{any_none, length-list_to, get_or-list_to}
 use Rattle.packed.specs.Packs.{Packs}
 use Rattle.packed.proofs.Back.{packed-words, packed-number, packed-idf, packed-whole, packed-room, packed-document, packed-frequency, packed-no-index, packed-within}
 use Rattle.token_index.proofs.Order.{fine-number, fine-fields, fine-tokens, few-leaves, leaf-field, tokens-ok}
@@ -43,147 +43,147 @@ rising f (suc j) h =
     let e : suc j - 1 ≡ j = omega arith in
     ap₂ (λ (a b : Bool). a && b) (lt-ltb 0 (suc j) (omega arith)) (ap (λ (k : ℕ). leb (f (suc j)) (f k)) e ∙ lt-leb (f (suc j)) (f j) (h j refl))
 
-whole : (words size : ℕ) → words % size ≡ 0 → notWhole words size ≡ false
+whole : (words size : ℕ) → words % size ≡ 0 → not_whole words size ≡ false
 whole words size e = ap not (eq-eqb (words % size) 0 e)
 
 -- ---- norms: n for each field that has them
-norms-rows : (c n : ℕ) (p : ℕ → Bool) (f : ℕ → ℕ → ℕ) → length (joinTo c (λ i. cond (p i) (listTo n (f i)) [])) ≡ countBelow c p * n
-unfolding joinTo countBelow
+norms-rows : (c n : ℕ) (p : ℕ → Bool) (f : ℕ → ℕ → ℕ) → length (join_to c (λ i. cond (p i) (list_to n (f i)) [])) ≡ count_below c p * n
+unfolding join_to count_below
 norms-rows zero n p f = zero-times n
   where
     zero-times : (n : ℕ) → 0 ≡ 0 * n
     zero-times n = omega arith
 norms-rows (suc c) n p f =
-    length-append (joinTo c (λ i. cond (p i) (listTo n (f i)) [])) (cond (p c) (listTo n (f c)) [])
+    length-append (join_to c (λ i. cond (p i) (list_to n (f i)) [])) (cond (p c) (list_to n (f c)) [])
     ∙ ap₂ (λ (a b : ℕ). a + b) (norms-rows c n p f) (row (p c))
-    ∙ more (countBelow c p) (p c)
+    ∙ more (count_below c p) (p c)
   where
-    row : (b : Bool) → length (cond b (listTo n (f c)) []) ≡ cond b n 0
-    row true = length-listTo n (f c)
+    row : (b : Bool) → length (cond b (list_to n (f c)) []) ≡ cond b n 0
+    row true = length-list_to n (f c)
     row false = refl
 
     more : (k : ℕ) (b : Bool) → k * n + cond b n 0 ≡ (k + cond b 1 0) * n
     more k true = omega arith
     more k false = omega arith
 
-pub norms-number : (n : ℕ) (fields leafFields : List ℕ) (ts : List Token)
-    → length (tokenNorms n fields leafFields ts) ≡ countBelow (fieldCount (fieldsLent n fields)) (hasNorms (fieldsLent n fields)) * n
-unfolding tokenNorms
-norms-number n fields leafFields ts = norms-rows (fieldCount (fieldsLent n fields)) n (hasNorms (fieldsLent n fields)) (normFor leafFields ts)
+pub norms-number : (n : ℕ) (fields leaf_fields : List ℕ) (ts : List Token)
+    → length (token_norms n fields leaf_fields ts) ≡ count_below (field_count (fields_lent n fields)) (has_norms (fields_lent n fields)) * n
+unfolding token_norms
+norms-number n fields leaf_fields ts = norms-rows (field_count (fields_lent n fields)) n (has_norms (fields_lent n fields)) (norm_for leaf_fields ts)
 
 -- what stands for a posting past the end of a run
 abbrev nothing : Posting
 nothing = record { document = 0; frequency = 0; positions = [] }
 
 -- posting i of leaf l as the index has it
-abbrev readAt : Index → ℕ → ℕ → Posting
-readAt ix l i =
-    record { document = leafDocument ix l i; frequency = leafFrequency ix l i; positions = cond (hasPositions ix (leafField ix l)) (listTo (leafFrequency ix l i) (leafPosition ix l i)) [] }
+abbrev read_at : Index → ℕ → ℕ → Posting
+read_at ix l i =
+    record { document = leaf_document ix l i; frequency = leaf_frequency ix l i; positions = cond (has_positions ix (leaf_field ix l)) (list_to (leaf_frequency ix l i) (leaf_position ix l i)) [] }
 
 -- ---- where 15 does not hold
-module _ (n : ℕ) (fields leafFields ws : List ℕ) (fine : wrong15 n fields leafFields ws ≡ false) (idfs live columns values : List ℕ) where
+module _ (n : ℕ) (fields leaf_fields ws : List ℕ) (fine : wrong15 n fields leaf_fields ws ≡ false) (idfs live columns values : List ℕ) where
   abbrev ix : Index
-  ix = indexOfTokens n fields ws leafFields idfs live columns values
+  ix = index_of_tokens n fields ws leaf_fields idfs live columns values
 
   abbrev rs : List (List Posting)
-  rs = tokenRuns n fields leafFields (tokensOf ws)
+  rs = token_runs n fields leaf_fields (tokens_of ws)
 
-  pub passes-3 : (length live ≡ 0) ⊎ (length live ≡ (n + 63) / 64) → wrong3 (indexOfTokens n fields ws leafFields idfs live columns values) ≡ false
-  unfolding wrong3 indexOfTokens
+  pub passes-3 : (length live ≡ 0) ⊎ (length live ≡ (n + 63) / 64) → wrong3 (index_of_tokens n fields ws leaf_fields idfs live columns values) ≡ false
+  unfolding wrong3 index_of_tokens
   passes-3 words =
-      neither (not (eqb (length (tokenNorms n fields leafFields (tokensOf ws))) (countBelow (fieldCount ix) (hasNorms ix) * n))) (not (eqb (length live) 0 || eqb (length live) ((n + 63) / 64)))
-      (ap not (eq-eqb (length (tokenNorms n fields leafFields (tokensOf ws))) (countBelow (fieldCount ix) (hasNorms ix) * n) (norms-number n fields leafFields (tokensOf ws))))
+      neither (not (eqb (length (token_norms n fields leaf_fields (tokens_of ws))) (count_below (field_count ix) (has_norms ix) * n))) (not (eqb (length live) 0 || eqb (length live) ((n + 63) / 64)))
+      (ap not (eq-eqb (length (token_norms n fields leaf_fields (tokens_of ws))) (count_below (field_count ix) (has_norms ix) * n) (norms-number n fields leaf_fields (tokens_of ws))))
       (⊎_elim
       (λ (e : length live ≡ 0). ap (λ (b : Bool). not (b || eqb (length live) ((n + 63) / 64))) (eq-eqb (length live) 0 e))
       (λ (e : length live ≡ (n + 63) / 64). ap (λ (b : Bool). not (eqb (length live) 0 || b)) (eq-eqb (length live) ((n + 63) / 64) e) ∙ ap not (or-true (eqb (length live) 0)))
       words)
 
-  packs : Packs ix leafFields idfs rs
-  packs = written-packs n fields leafFields ws idfs live columns values
+  packs : Packs ix leaf_fields idfs rs
+  packs = written-packs n fields leaf_fields ws idfs live columns values
 
-  leaves : leafCount ix ≡ length leafFields
-  leaves = written-leaves n fields leafFields ws idfs live columns values
+  leaves : leaf_count ix ≡ length leaf_fields
+  leaves = written-leaves n fields leaf_fields ws idfs live columns values
 
-  same-fields : fieldCount ix ≡ fieldCount (fieldsLent 0 fields)
-  unfolding indexOfTokens
+  same-fields : field_count ix ≡ field_count (fields_lent 0 fields)
+  unfolding index_of_tokens
   same-fields = refl
 
-  same-documents : ix.maxDoc ≡ n
-  unfolding indexOfTokens
+  same-documents : ix.max_doc ≡ n
+  unfolding index_of_tokens
   same-documents = refl
 
   -- ---- leaf l
-  module _ (l : ℕ) (below : l < length leafFields) where
+  module _ (l : ℕ) (below : l < length leaf_fields) where
     abbrev own : l < length rs
-    own = in-runs n fields leafFields ws idfs live columns values l below
+    own = in-runs n fields leaf_fields ws idfs live columns values l below
 
-    leaf-passes : get_or idfs l 0 ≤ largestIdf → wrongLeaf ix l ≡ false
-    unfolding wrongLeaf
+    leaf-passes : get_or idfs l 0 ≤ largest_idf → wrong_leaf ix l ≡ false
+    unfolding wrong_leaf
     leaf-passes small =
-        neither (leb (fieldCount ix) (leafField ix l) || ltb (postingCount ix) (leafFirst ix l + leafNumber ix l)) (ltb largestIdf (leafIdf ix l))
-        (neither (leb (fieldCount ix) (leafField ix l)) (ltb (postingCount ix) (leafFirst ix l + leafNumber ix l))
-        (lt-leb (fieldCount ix) (leafField ix l) (omega (arith, same-fields, written-field n fields leafFields ws idfs live columns values l below, leaf-field n fields leafFields ws fine l below)))
-        (le-ltb (postingCount ix) (leafFirst ix l + leafNumber ix l) (packed-room ix leafFields idfs rs packs l own)))
-        (le-ltb largestIdf (leafIdf ix l) (omega (arith, packed-idf ix leafFields idfs rs packs l own, small)))
+        neither (leb (field_count ix) (leaf_field ix l) || ltb (posting_count ix) (leaf_first ix l + leaf_number ix l)) (ltb largest_idf (leaf_idf ix l))
+        (neither (leb (field_count ix) (leaf_field ix l)) (ltb (posting_count ix) (leaf_first ix l + leaf_number ix l))
+        (lt-leb (field_count ix) (leaf_field ix l) (omega (arith, same-fields, written-field n fields leaf_fields ws idfs live columns values l below, leaf-field n fields leaf_fields ws fine l below)))
+        (le-ltb (posting_count ix) (leaf_first ix l + leaf_number ix l) (packed-room ix leaf_fields idfs rs packs l own)))
+        (le-ltb largest_idf (leaf_idf ix l) (omega (arith, packed-idf ix leaf_fields idfs rs packs l own, small)))
 
     abbrev has : Bool
-    has = positional fields leafFields l
+    has = positional fields leaf_fields l
 
     abbrev run : List Posting
-    run = runFor has n (tokensOf ws) l
+    run = run_for has n (tokens_of ws) l
 
     run_is : get_or rs l [] ≡ run
-    run_is = runs-at n fields leafFields (tokensOf ws) l below
+    run_is = runs-at n fields leaf_fields (tokens_of ws) l below
 
     -- ---- its posting i
-    module _ (i : ℕ) (in_leaf : i < leafNumber ix l) where
+    module _ (i : ℕ) (in_leaf : i < leaf_number ix l) where
       abbrev x : Posting
       x = get_or run i nothing
 
       in-run : i < length run
-      in-run = omega (arith, packed-number ix leafFields idfs rs packs l own, ap length run_is, in_leaf)
+      in-run = omega (arith, packed-number ix leaf_fields idfs rs packs l own, ap length run_is, in_leaf)
 
-      document-is : leafDocument ix l i ≡ x.document
-      document-is = packed-document ix leafFields idfs rs packs l own nothing i in_leaf ∙ ap (λ (r : List Posting). (get_or r i nothing).document) run_is
+      document-is : leaf_document ix l i ≡ x.document
+      document-is = packed-document ix leaf_fields idfs rs packs l own nothing i in_leaf ∙ ap (λ (r : List Posting). (get_or r i nothing).document) run_is
 
-      frequency-is : leafFrequency ix l i ≡ x.frequency
-      frequency-is = packed-frequency ix leafFields idfs rs packs l own nothing i in_leaf ∙ ap (λ (r : List Posting). (get_or r i nothing).frequency) run_is
+      frequency-is : leaf_frequency ix l i ≡ x.frequency
+      frequency-is = packed-frequency ix leaf_fields idfs rs packs l own nothing i in_leaf ∙ ap (λ (r : List Posting). (get_or r i nothing).frequency) run_is
 
       -- the positions that are read are those of the leaf's tokens in the document
       abbrev places : List ℕ
-      places = positionsAt (tokensOf ws) l x.document
+      places = positions_at (tokens_of ws) l x.document
 
-      positions-are : hasPositions ix (leafField ix l) ≡ true → listTo (leafFrequency ix l i) (leafPosition ix l i) ≡ places
+      positions-are : has_positions ix (leaf_field ix l) ≡ true → list_to (leaf_frequency ix l i) (leaf_position ix l i) ≡ places
       unfolding run_of
       positions-are e =
-          let chosen : has ≡ true = sym (written-positional n fields leafFields ws idfs live columns values l below) ∙ e in
-          sym (ap (λ (b : Bool). cond b (listTo (leafFrequency ix l i) (leafPosition ix l i)) []) e)
-          ∙ sym (ap (λ (y : Posting). y.positions) (getD-listTo (leafNumber ix l) (readAt ix l) nothing i in_leaf))
-          ∙ ap (λ (r : List Posting). (get_or r i nothing).positions) (written-run n fields leafFields ws idfs live columns values l below)
-          ∙ ap (λ (y : Posting). y.positions) (posting-at has n (tokensOf ws) l nothing i in-run)
+          let chosen : has ≡ true = sym (written-positional n fields leaf_fields ws idfs live columns values l below) ∙ e in
+          sym (ap (λ (b : Bool). cond b (list_to (leaf_frequency ix l i) (leaf_position ix l i)) []) e)
+          ∙ sym (ap (λ (y : Posting). y.positions) (get_or-list_to (leaf_number ix l) (read_at ix l) nothing i in_leaf))
+          ∙ ap (λ (r : List Posting). (get_or r i nothing).positions) (written-run n fields leaf_fields ws idfs live columns values l below)
+          ∙ ap (λ (y : Posting). y.positions) (posting-at has n (tokens_of ws) l nothing i in-run)
           ∙ ap (λ (b : Bool). cond b places []) chosen
 
-      position-is : hasPositions ix (leafField ix l) ≡ true → (j : ℕ) → j < leafFrequency ix l i → leafPosition ix l i j ≡ get_or places j 0
+      position-is : has_positions ix (leaf_field ix l) ≡ true → (j : ℕ) → j < leaf_frequency ix l i → leaf_position ix l i j ≡ get_or places j 0
       position-is e j h =
-          sym (getD-listTo (leafFrequency ix l i) (leafPosition ix l i) 0 j h) ∙ ap (λ (xs : List ℕ). get_or xs j 0) (positions-are e)
+          sym (get_or-list_to (leaf_frequency ix l i) (leaf_position ix l i) 0 j h) ∙ ap (λ (xs : List ℕ). get_or xs j 0) (positions-are e)
 
-      places-number : hasPositions ix (leafField ix l) ≡ true → length places ≡ leafFrequency ix l i
-      places-number e = sym (ap length (positions-are e)) ∙ length-listTo (leafFrequency ix l i) (leafPosition ix l i)
+      places-number : has_positions ix (leaf_field ix l) ≡ true → length places ≡ leaf_frequency ix l i
+      places-number e = sym (ap length (positions-are e)) ∙ length-list_to (leaf_frequency ix l i) (leaf_position ix l i)
 
-      place-fits : (j : ℕ) → j < length places → get_or places j 0 ≤ noMoreDocs
-      unfolding tokensOf
-      place-fits j g = position-fits n (length leafFields) ws (tokens-ok n fields leafFields ws fine) l x.document (tokenCount ws) j (le_refl _) g
+      place-fits : (j : ℕ) → j < length places → get_or places j 0 ≤ no_more_docs
+      unfolding tokens_of
+      place-fits j g = position-fits n (length leaf_fields) ws (tokens-ok n fields leaf_fields ws fine) l x.document (token_count ws) j (le_refl _) g
 
       places-rise : (j : ℕ) → suc j < length places → get_or places j 0 ≤ get_or places (suc j) 0
-      unfolding tokensOf
-      places-rise j g = positions-rise n (length leafFields) ws (tokens-ok n fields leafFields ws fine) l x.document (tokenCount ws) j (le_refl _) g
+      unfolding tokens_of
+      places-rise j g = positions-rise n (length leaf_fields) ws (tokens-ok n fields leaf_fields ws fine) l x.document (token_count ws) j (le_refl _) g
 
-      position-passes : hasPositions ix (leafField ix l) ≡ true → (j : ℕ) → j < leafFrequency ix l i → wrongPosition ix l i j ≡ false
-      unfolding wrongPosition
+      position-passes : has_positions ix (leaf_field ix l) ≡ true → (j : ℕ) → j < leaf_frequency ix l i → wrong_position ix l i j ≡ false
+      unfolding wrong_position
       position-passes e j h =
-          neither (ltb noMoreDocs (leafPosition ix l i j)) (ltb 0 j && ltb (leafPosition ix l i j) (leafPosition ix l i (j - 1)))
-          (le-ltb noMoreDocs (leafPosition ix l i j) (omega (arith, position-is e j h, place-fits j (omega (arith, places-number e, h)))))
-          (not-falling (leafPosition ix l i) j
+          neither (ltb no_more_docs (leaf_position ix l i j)) (ltb 0 j && ltb (leaf_position ix l i j) (leaf_position ix l i (j - 1)))
+          (le-ltb no_more_docs (leaf_position ix l i j) (omega (arith, position-is e j h, place-fits j (omega (arith, places-number e, h)))))
+          (not-falling (leaf_position ix l i) j
           (λ k g.
           omega (
             arith,
@@ -193,79 +193,79 @@ module _ (n : ℕ) (fields leafFields ws : List ℕ) (fine : wrong15 n fields le
             places-rise k (omega (arith, places-number e, g, h)),
           )))
 
-      positions-pass : wrongPositions ix l i ≡ false
-      unfolding wrongPositions
-      positions-pass = go (hasPositions ix (leafField ix l)) refl
+      positions-pass : wrong_positions ix l i ≡ false
+      unfolding wrong_positions
+      positions-pass = go (has_positions ix (leaf_field ix l)) refl
         where
           past : Bool
-          past = ltb (length ix.positions) (leafPositionsIndex ix l i + leafFrequency ix l i)
+          past = ltb (length ix.positions) (leaf_positions_index ix l i + leaf_frequency ix l i)
 
           go : (b : Bool)
-              → hasPositions ix (leafField ix l) ≡ b
-              → cond b (past || anyBelow (leafFrequency ix l i) (wrongPosition ix l i)) (not (eqb (leafPositionsIndex ix l i) 0)) ≡ false
+              → has_positions ix (leaf_field ix l) ≡ b
+              → cond b (past || any_below (leaf_frequency ix l i) (wrong_position ix l i)) (not (eqb (leaf_positions_index ix l i) 0)) ≡ false
           go true e =
-              neither past (anyBelow (leafFrequency ix l i) (wrongPosition ix l i))
-              (le-ltb (length ix.positions) (leafPositionsIndex ix l i + leafFrequency ix l i) (packed-within ix leafFields idfs rs packs l own i in_leaf e))
-              (any_none (leafFrequency ix l i) (wrongPosition ix l i) (position-passes e))
-          go false e = ap not (eq-eqb (leafPositionsIndex ix l i) 0 (packed-no-index ix leafFields idfs rs packs l own i in_leaf e))
+              neither past (any_below (leaf_frequency ix l i) (wrong_position ix l i))
+              (le-ltb (length ix.positions) (leaf_positions_index ix l i + leaf_frequency ix l i) (packed-within ix leaf_fields idfs rs packs l own i in_leaf e))
+              (any_none (leaf_frequency ix l i) (wrong_position ix l i) (position-passes e))
+          go false e = ap not (eq-eqb (leaf_positions_index ix l i) 0 (packed-no-index ix leaf_fields idfs rs packs l own i in_leaf e))
 
-    document-passes : (i : ℕ) → i < leafNumber ix l → (ltb 0 i && leb (leafDocument ix l i) (leafDocument ix l (i - 1))) ≡ false
+    document-passes : (i : ℕ) → i < leaf_number ix l → (ltb 0 i && leb (leaf_document ix l i) (leaf_document ix l (i - 1))) ≡ false
     document-passes i h =
-        rising (leafDocument ix l) i
+        rising (leaf_document ix l) i
         (λ k g.
-        let b : k < leafNumber ix l = omega (arith, g, h) in
-        omega (arith, document-is k b, document-is i h, documents-rise has n (tokensOf ws) l nothing k i (omega (arith, g)) (in-run i h)))
+        let b : k < leaf_number ix l = omega (arith, g, h) in
+        omega (arith, document-is k b, document-is i h, documents-rise has n (tokens_of ws) l nothing k i (omega (arith, g)) (in-run i h)))
 
-    posting-passes : (i : ℕ) → i < leafNumber ix l → wrongPosting ix l i ≡ false
-    unfolding wrongPosting
+    posting-passes : (i : ℕ) → i < leaf_number ix l → wrong_posting ix l i ≡ false
+    unfolding wrong_posting
     posting-passes i h =
-        let fit = frequency-fits n fields leafFields ws fine has l nothing i (in-run i h) in
-        none-of-5 (leb ix.maxDoc (leafDocument ix l i)) (ltb 0 i && leb (leafDocument ix l i) (leafDocument ix l (i - 1)))
-        (eqb (leafFrequency ix l i) 0) (ltb largestFrequency (leafFrequency ix l i)) (wrongPositions ix l i)
-        (lt-leb ix.maxDoc (leafDocument ix l i) (omega (arith, same-documents, document-is i h, document-below has n (tokensOf ws) l nothing i (in-run i h))))
+        let fit = frequency-fits n fields leaf_fields ws fine has l nothing i (in-run i h) in
+        none-of-5 (leb ix.max_doc (leaf_document ix l i)) (ltb 0 i && leb (leaf_document ix l i) (leaf_document ix l (i - 1)))
+        (eqb (leaf_frequency ix l i) 0) (ltb largest_frequency (leaf_frequency ix l i)) (wrong_positions ix l i)
+        (lt-leb ix.max_doc (leaf_document ix l i) (omega (arith, same-documents, document-is i h, document-below has n (tokens_of ws) l nothing i (in-run i h))))
         (document-passes i h)
-        (ne_eqb (leafFrequency ix l i) 0 (λ e. absurd (omega (arith, e, frequency-is i h, fit.0))))
-        (le-ltb largestFrequency (leafFrequency ix l i) (omega (arith, frequency-is i h, fit.1)))
+        (ne_eqb (leaf_frequency ix l i) 0 (λ e. absurd (omega (arith, e, frequency-is i h, fit.0))))
+        (le-ltb largest_frequency (leaf_frequency ix l i) (omega (arith, frequency-is i h, fit.1)))
         (positions-pass i h)
 
-  pub passes-4 : ((l : ℕ) → l < length leafFields → get_or idfs l 0 ≤ largestIdf) → wrong4 (indexOfTokens n fields ws leafFields idfs live columns values) ≡ false
+  pub passes-4 : ((l : ℕ) → l < length leaf_fields → get_or idfs l 0 ≤ largest_idf) → wrong4 (index_of_tokens n fields ws leaf_fields idfs live columns values) ≡ false
   unfolding wrong4
   passes-4 small =
-      neither (notWhole (length ix.leaves) 4 || ltb maxLeaves (leafCount ix)) (anyBelow (leafCount ix) (wrongLeaf ix))
-      (neither (notWhole (length ix.leaves) 4) (ltb maxLeaves (leafCount ix))
-      (whole (length ix.leaves) 4 (omega (arith, packed-words ix leafFields idfs rs packs)))
-      (le-ltb maxLeaves (leafCount ix) (omega (arith, leaves, few-leaves n fields leafFields ws fine))))
-      (any_none (leafCount ix) (wrongLeaf ix) (λ l h. let b : l < length leafFields = omega (arith, h, leaves) in leaf-passes l b (small l b)))
+      neither (not_whole (length ix.leaves) 4 || ltb max_leaves (leaf_count ix)) (any_below (leaf_count ix) (wrong_leaf ix))
+      (neither (not_whole (length ix.leaves) 4) (ltb max_leaves (leaf_count ix))
+      (whole (length ix.leaves) 4 (omega (arith, packed-words ix leaf_fields idfs rs packs)))
+      (le-ltb max_leaves (leaf_count ix) (omega (arith, leaves, few-leaves n fields leaf_fields ws fine))))
+      (any_none (leaf_count ix) (wrong_leaf ix) (λ l h. let b : l < length leaf_fields = omega (arith, h, leaves) in leaf-passes l b (small l b)))
 
-  pub passes-5 : wrong5 (indexOfTokens n fields ws leafFields idfs live columns values) ≡ false
+  pub passes-5 : wrong5 (index_of_tokens n fields ws leaf_fields idfs live columns values) ≡ false
   unfolding wrong5
   passes-5 =
-      neither (notWhole (length ix.postings) 3) (anyBelow (leafCount ix) (λ l. anyBelow (leafNumber ix l) (wrongPosting ix l)))
-      (whole (length ix.postings) 3 (omega (arith, packed-whole ix leafFields idfs rs packs)))
-      (any_none (leafCount ix) (λ l. anyBelow (leafNumber ix l) (wrongPosting ix l))
-      (λ l h. any_none (leafNumber ix l) (wrongPosting ix l) (posting-passes l (omega (arith, h, leaves)))))
+      neither (not_whole (length ix.postings) 3) (any_below (leaf_count ix) (λ l. any_below (leaf_number ix l) (wrong_posting ix l)))
+      (whole (length ix.postings) 3 (omega (arith, packed-whole ix leaf_fields idfs rs packs)))
+      (any_none (leaf_count ix) (λ l. any_below (leaf_number ix l) (wrong_posting ix l))
+      (λ l h. any_none (leaf_number ix l) (wrong_posting ix l) (posting-passes l (omega (arith, h, leaves)))))
 
 -- ---- where the writer does not refuse
 -- each number of the loader, by what is asked of what is lent beside; 6 is about columns and values alone
-pub record WrittenPasses (n : ℕ) (fields leafFields ws : List ℕ) : Type 0 where
-  pub one : (idfs live columns values : List ℕ) → wrong1 (indexOfTokens n fields ws leafFields idfs live columns values) ≡ false
-  pub two : (idfs live columns values : List ℕ) → wrong2 (indexOfTokens n fields ws leafFields idfs live columns values) ≡ false
+pub record WrittenPasses (n : ℕ) (fields leaf_fields ws : List ℕ) : Type 0 where
+  pub one : (idfs live columns values : List ℕ) → wrong1 (index_of_tokens n fields ws leaf_fields idfs live columns values) ≡ false
+  pub two : (idfs live columns values : List ℕ) → wrong2 (index_of_tokens n fields ws leaf_fields idfs live columns values) ≡ false
   pub three : (idfs live columns values : List ℕ)
       → (length live ≡ 0) ⊎ (length live ≡ (n + 63) / 64)
-      → wrong3 (indexOfTokens n fields ws leafFields idfs live columns values) ≡ false
+      → wrong3 (index_of_tokens n fields ws leaf_fields idfs live columns values) ≡ false
   pub four : (idfs live columns values : List ℕ)
-      → ((l : ℕ) → l < length leafFields → get_or idfs l 0 ≤ largestIdf)
-      → wrong4 (indexOfTokens n fields ws leafFields idfs live columns values) ≡ false
-  pub five : (idfs live columns values : List ℕ) → wrong5 (indexOfTokens n fields ws leafFields idfs live columns values) ≡ false
+      → ((l : ℕ) → l < length leaf_fields → get_or idfs l 0 ≤ largest_idf)
+      → wrong4 (index_of_tokens n fields ws leaf_fields idfs live columns values) ≡ false
+  pub five : (idfs live columns values : List ℕ) → wrong5 (index_of_tokens n fields ws leaf_fields idfs live columns values) ≡ false
 
-pub written-passes : (n : ℕ) (fields leafFields ws : List ℕ) (o : Outputs) → writeRefusal n fields leafFields ws o ≡ 0 → WrittenPasses n fields leafFields ws
-unfolding wrong1 wrong2 wrongField indexOfTokens
-written-passes n fields leafFields ws o accepted =
-    let fine = fine-tokens n fields leafFields ws o accepted in
+pub written-passes : (n : ℕ) (fields leaf_fields ws : List ℕ) (o : Outputs) → write_refusal n fields leaf_fields ws o ≡ 0 → WrittenPasses n fields leaf_fields ws
+unfolding wrong1 wrong2 wrong_field index_of_tokens
+written-passes n fields leaf_fields ws o accepted =
+    let fine = fine-tokens n fields leaf_fields ws o accepted in
     record {
-      one = λ idfs live columns values. fine-number n fields leafFields ws o accepted;
-      two = λ idfs live columns values. fine-fields n fields leafFields ws o accepted;
-      three = passes-3 n fields leafFields ws fine;
-      four = passes-4 n fields leafFields ws fine;
-      five = passes-5 n fields leafFields ws fine;
+      one = λ idfs live columns values. fine-number n fields leaf_fields ws o accepted;
+      two = λ idfs live columns values. fine-fields n fields leaf_fields ws o accepted;
+      three = passes-3 n fields leaf_fields ws fine;
+      four = passes-4 n fields leaf_fields ws fine;
+      five = passes-5 n fields leaf_fields ws fine;
     }

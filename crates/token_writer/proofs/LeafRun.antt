@@ -8,37 +8,37 @@ use native.Mathlib.Nat.{le_refl, eq-or-lt_of_le, add-zero}
 use native.Mathlib.Omega.{arith}
 use lib.ListN.{length, length-append}
 use lib.Seq.{sets, length-sets}
-use Rattle.meaning.specs.Below.{listTo}
-use Rattle.meaning.specs.Limits.{noMoreDocs}
-use Rattle.meaning.specs.Packed.{Posting, positionsIn, packRun}
-use Rattle.meaning.specs.Tokens.{tokenCount, tokenAt, tokensOf, runFor}
-use Rattle.meaning.proofs.Below.{listTo-zero, length-listTo}
+use Rattle.meaning.specs.Below.{list_to}
+use Rattle.meaning.specs.Limits.{no_more_docs}
+use Rattle.meaning.specs.Packed.{Posting, positions_in, pack_run}
+use Rattle.meaning.specs.Tokens.{token_count, token_at, tokens_of, run_for}
+use Rattle.meaning.proofs.Below.{list_to-zero, length-list_to}
 use Rattle.meaning.proofs.Tests.{cmp}
 use Rattle.packed.proofs.Longer.{positions-append, run-append, run_length}
 use Rattle.token_index.proofs.Runs.{run_none, run-longer, run-other, run-grows}
 use Rattle.tokens.specs.declared.Token.{Token}
-use Rattle.tokens.specs.Records.{tokenOf}
+use Rattle.tokens.specs.Records.{token_of}
 use Rattle.token_writer.specs.declared.postings.RunEnd.{RunEnd}
 use Rattle.token_writer.specs.Writing.{Begins, PostingsPre, PostingsPost, RunPre, RunPost}
 use Rattle.meaning.proofs.Stores.{sets_behind, sets_over}
 
 -- the run of leaf l in the first i tokens
-abbrev pub runTo : Bool → ℕ → List ℕ → ℕ → ℕ → List Posting
-runTo p n ws l i = runFor p n (listTo i (tokenAt ws)) l
+abbrev pub run_to : Bool → ℕ → List ℕ → ℕ → ℕ → List Posting
+run_to p n ws l i = run_for p n (list_to i (token_at ws)) l
 
-run-whole : (p : Bool) (n : ℕ) (ws : List ℕ) (l : ℕ) → runFor p n (tokensOf ws) l ≡ runTo p n ws l (tokenCount ws)
-unfolding tokensOf
+run-whole : (p : Bool) (n : ℕ) (ws : List ℕ) (l : ℕ) → run_for p n (tokens_of ws) l ≡ run_to p n ws l (token_count ws)
+unfolding tokens_of
 run-whole p n ws l = refl
 
 -- a list in two parts
-listTo-parts {ℓ} : {A : Type ℓ} (f g : ℕ → A) (a b : ℕ) → ((j : ℕ) → g j ≡ f (a + j)) → listTo (a + b) f ≡ listTo a f ++ listTo b g
-unfolding listTo
-listTo-parts f g a zero h = ap (λ (k : ℕ). listTo k f) (add-zero a) ∙ sym (append-nil (listTo a f))
-listTo-parts f g a (suc b) h =
+list_to-parts {ℓ} : {A : Type ℓ} (f g : ℕ → A) (a b : ℕ) → ((j : ℕ) → g j ≡ f (a + j)) → list_to (a + b) f ≡ list_to a f ++ list_to b g
+unfolding list_to
+list_to-parts f g a zero h = ap (λ (k : ℕ). list_to k f) (add-zero a) ∙ sym (append-nil (list_to a f))
+list_to-parts f g a (suc b) h =
     let e : a + suc b ≡ suc (a + b) = omega arith in
-    ap (λ (k : ℕ). listTo k f) e
-    ∙ ap₂ (λ xs x. xs ++ (x ∷ [])) (listTo-parts f g a b h) (sym (h b))
-    ∙ append_assoc (listTo a f) (listTo b g) (g b ∷ [])
+    ap (λ (k : ℕ). list_to k f) e
+    ∙ ap₂ (λ xs x. xs ++ (x ∷ [])) (list_to-parts f g a b h) (sym (h b))
+    ∙ append_assoc (list_to a f) (list_to b g) (g b ∷ [])
 
 -- there are no more positions than tokens
 pub number-le : (p : Bool) (k : ℕ) → cond p k 0 ≤ k
@@ -49,49 +49,49 @@ number-le false k = omega arith
 pub record Upto (n : ℕ) (ws : List ℕ) (l : ℕ) (p : Bool) (from posting position : ℕ) (postings₀ postings : List ℕ) (token next start before : ℕ) : Type 0 where
   pub first : from ≤ start
   pub order : start ≤ token
-  pub within : token ≤ tokenCount ws
+  pub within : token ≤ token_count ws
   pub some : from < token → start < token
-  pub none : token ≡ from → before ≡ noMoreDocs
-  pub last : from < token → before ≡ (tokenAt ws (token - 1)).document
-  pub own : (k : ℕ) → from ≤ k → k < token → (tokenAt ws k).leaf ≡ l
-  pub same : (k : ℕ) → start ≤ k → k < token → (tokenAt ws k).document ≡ (tokenAt ws start).document
-  pub lower : (k : ℕ) → k < start → (tokenAt ws k).leaf ≡ l → (tokenAt ws k).document < (tokenAt ws start).document
-  pub places : positionsIn (runTo p n ws l start) ≡ listTo (cond p (start - from) 0) (λ j. (tokenAt ws (from + j)).position)
-  pub nextIs : next ≡ posting + length (runTo p n ws l token)
-  pub fewNext : next ≤ token
-  pub written : postings ≡ sets postings₀ (3 * posting) (packRun p position (runTo p n ws l token))
+  pub none : token ≡ from → before ≡ no_more_docs
+  pub last : from < token → before ≡ (token_at ws (token - 1)).document
+  pub own : (k : ℕ) → from ≤ k → k < token → (token_at ws k).leaf ≡ l
+  pub same : (k : ℕ) → start ≤ k → k < token → (token_at ws k).document ≡ (token_at ws start).document
+  pub lower : (k : ℕ) → k < start → (token_at ws k).leaf ≡ l → (token_at ws k).document < (token_at ws start).document
+  pub places : positions_in (run_to p n ws l start) ≡ list_to (cond p (start - from) 0) (λ j. (token_at ws (from + j)).position)
+  pub next_is : next ≡ posting + length (run_to p n ws l token)
+  pub few_next : next ≤ token
+  pub written : postings ≡ sets postings₀ (3 * posting) (pack_run p position (run_to p n ws l token))
 
 -- the token is of the leaf, and its posting begins at `start` and has the number next - 1; its three words take the place of those there
 pub record Turn (n : ℕ) (ws : List ℕ) (l : ℕ) (p : Bool) (from posting position : ℕ) (postings₀ postings : List ℕ) (token next start : ℕ) : Type 0 where
   pub first : from ≤ start
   pub order : start ≤ token
-  pub within : token < tokenCount ws
-  pub own : (k : ℕ) → from ≤ k → k < token + 1 → (tokenAt ws k).leaf ≡ l
-  pub same : (k : ℕ) → start ≤ k → k < token + 1 → (tokenAt ws k).document ≡ (tokenAt ws start).document
-  pub lower : (k : ℕ) → k < start → (tokenAt ws k).leaf ≡ l → (tokenAt ws k).document < (tokenAt ws start).document
-  pub places : positionsIn (runTo p n ws l start) ≡ listTo (cond p (start - from) 0) (λ j. (tokenAt ws (from + j)).position)
-  pub nextIs : next ≡ posting + length (runTo p n ws l start) + 1
-  pub fewNext : next ≤ token + 1
-  pub stored : (a b c : ℕ) → sets postings (3 * (next - 1)) (a ∷ b ∷ c ∷ []) ≡ sets postings₀ (3 * posting) (packRun p position (runTo p n ws l start) ++ (a ∷ b ∷ c ∷ []))
+  pub within : token < token_count ws
+  pub own : (k : ℕ) → from ≤ k → k < token + 1 → (token_at ws k).leaf ≡ l
+  pub same : (k : ℕ) → start ≤ k → k < token + 1 → (token_at ws k).document ≡ (token_at ws start).document
+  pub lower : (k : ℕ) → k < start → (token_at ws k).leaf ≡ l → (token_at ws k).document < (token_at ws start).document
+  pub places : positions_in (run_to p n ws l start) ≡ list_to (cond p (start - from) 0) (λ j. (token_at ws (from + j)).position)
+  pub next_is : next ≡ posting + length (run_to p n ws l start) + 1
+  pub few_next : next ≤ token + 1
+  pub stored : (a b c : ℕ) → sets postings (3 * (next - 1)) (a ∷ b ∷ c ∷ []) ≡ sets postings₀ (3 * posting) (pack_run p position (run_to p n ws l start) ++ (a ∷ b ∷ c ∷ []))
 
 -- the stores kept the length
 pub upto-length : (n : ℕ) (ws : List ℕ) (l : ℕ) (p : Bool) (from posting position : ℕ) (postings₀ postings : List ℕ) (token next start before : ℕ) → Upto n ws l p from posting position postings₀ postings token next start before → length postings ≡ length postings₀
-upto-length n ws l p from posting position postings₀ postings token next start before h = ap length h.written ∙ length-sets postings₀ (3 * posting) (packRun p position (runTo p n ws l token))
+upto-length n ws l p from posting position postings₀ postings token next start before h = ap length h.written ∙ length-sets postings₀ (3 * posting) (pack_run p position (run_to p n ws l token))
 
 module _ (n m : ℕ) (ws : List ℕ) (l : ℕ) (p : Bool) (from posting position a : ℕ) (pre : PostingsPre n m ws l p from posting position a) (postings₀ : List ℕ) where
   -- the position of the leaf's token j
   abbrev place : ℕ → ℕ
-  place j = (tokenAt ws (from + j)).position
+  place j = (token_at ws (from + j)).position
 
   -- no token before `from` is of the leaf
-  none_yet : runTo p n ws l from ≡ []
+  none_yet : run_to p n ws l from ≡ []
   none_yet =
       run-other p n ws l 0 from (omega arith) (λ k _ h e. absurd (omega (arith, pre.begins.lower k h, e)))
-      ∙ ap (λ ts. runFor p n ts l) (listTo-zero (tokenAt ws))
+      ∙ ap (λ ts. run_for p n ts l) (list_to-zero (token_at ws))
       ∙ run_none p n l
 
-  pub upto-start : Upto n ws l p from posting position postings₀ postings₀ from posting from noMoreDocs
-  unfolding packRun positionsIn
+  pub upto-start : Upto n ws l p from posting position postings₀ postings₀ from posting from no_more_docs
+  unfolding pack_run positions_in
   upto-start =
       record {
         first = le_refl from;
@@ -103,10 +103,10 @@ module _ (n m : ℕ) (ws : List ℕ) (l : ℕ) (p : Bool) (from posting position
         own = λ k x y. absurd (omega (arith, x, y));
         same = λ k x y. absurd (omega (arith, x, y));
         lower = λ k h e. absurd (omega (arith, pre.begins.lower k h, e));
-        places = ap positionsIn none_yet ∙ sym (ap (λ (k : ℕ). listTo k place) (nothing p) ∙ listTo-zero place);
-        nextIs = sym (ap (λ (r : List Posting). posting + length r) none_yet ∙ add-zero posting);
-        fewNext = pre.fewPostings;
-        written = sym (ap (λ (r : List Posting). sets postings₀ (3 * posting) (packRun p position r)) none_yet);
+        places = ap positions_in none_yet ∙ sym (ap (λ (k : ℕ). list_to k place) (nothing p) ∙ list_to-zero place);
+        next_is = sym (ap (λ (r : List Posting). posting + length r) none_yet ∙ add-zero posting);
+        few_next = pre.few_postings;
+        written = sym (ap (λ (r : List Posting). sets postings₀ (3 * posting) (pack_run p position r)) none_yet);
       }
     where
       nothing : (q : Bool) → cond q (from - from) 0 ≡ 0
@@ -114,87 +114,87 @@ module _ (n m : ℕ) (ws : List ℕ) (l : ℕ) (p : Bool) (from posting position
       nothing false = refl
 
   -- the tokens s up to e are all of one posting, its first ones
-  module _ (s e : ℕ) (first : from ≤ s) (some : s < e) (within : e ≤ tokenCount ws)
-      (own : (k : ℕ) → s ≤ k → k < e → (tokenAt ws k).leaf ≡ l)
-      (same : (k : ℕ) → s ≤ k → k < e → (tokenAt ws k).document ≡ (tokenAt ws s).document)
-      (lower : (k : ℕ) → k < s → (tokenAt ws k).leaf ≡ l → (tokenAt ws k).document < (tokenAt ws s).document)
-      (places : positionsIn (runTo p n ws l s) ≡ listTo (cond p (s - from) 0) place)
+  module _ (s e : ℕ) (first : from ≤ s) (some : s < e) (within : e ≤ token_count ws)
+      (own : (k : ℕ) → s ≤ k → k < e → (token_at ws k).leaf ≡ l)
+      (same : (k : ℕ) → s ≤ k → k < e → (token_at ws k).document ≡ (token_at ws s).document)
+      (lower : (k : ℕ) → k < s → (token_at ws k).leaf ≡ l → (token_at ws k).document < (token_at ws s).document)
+      (places : positions_in (run_to p n ws l s) ≡ list_to (cond p (s - from) 0) place)
     where
       -- the posting
       abbrev added : Posting
-      added = record { document = (tokenAt ws s).document; frequency = e - s; positions = cond p (listTo (e - s) (λ j. (tokenAt ws (s + j)).position)) [] }
+      added = record { document = (token_at ws s).document; frequency = e - s; positions = cond p (list_to (e - s) (λ j. (token_at ws (s + j)).position)) [] }
 
-      one_more : runTo p n ws l e ≡ runTo p n ws l s ++ (added ∷ [])
+      one_more : run_to p n ws l e ≡ run_to p n ws l s ++ (added ∷ [])
       one_more =
-          run-longer p n ws l (tokenAt ws s).document s e some (pre.tokens.document s (omega (arith, some, within)))
+          run-longer p n ws l (token_at ws s).document s e some (pre.tokens.document s (omega (arith, some, within)))
           (λ k x y. (own k x y, same k x y))
           lower
 
-      length_more : length (runTo p n ws l e) ≡ length (runTo p n ws l s) + 1
-      length_more = ap length one_more ∙ length-append (runTo p n ws l s) (added ∷ [])
+      length_more : length (run_to p n ws l e) ≡ length (run_to p n ws l s) + 1
+      length_more = ap length one_more ∙ length-append (run_to p n ws l s) (added ∷ [])
 
-      words_more : packRun p position (runTo p n ws l e) ≡ packRun p position (runTo p n ws l s) ++ ((tokenAt ws s).document ∷ (e - s) ∷ cond p (position + (s - from)) 0 ∷ [])
-      unfolding packRun
+      words_more : pack_run p position (run_to p n ws l e) ≡ pack_run p position (run_to p n ws l s) ++ ((token_at ws s).document ∷ (e - s) ∷ cond p (position + (s - from)) 0 ∷ [])
+      unfolding pack_run
       words_more =
-          ap (packRun p position) one_more
-          ∙ run-append p position (runTo p n ws l s) (added ∷ [])
-          ∙ ap (λ (k : ℕ). packRun p position (runTo p n ws l s) ++ ((tokenAt ws s).document ∷ (e - s) ∷ k ∷ [])) (index p (length (positionsIn (runTo p n ws l s))) (ap length places ∙ length-listTo (cond p (s - from) 0) place))
+          ap (pack_run p position) one_more
+          ∙ run-append p position (run_to p n ws l s) (added ∷ [])
+          ∙ ap (λ (k : ℕ). pack_run p position (run_to p n ws l s) ++ ((token_at ws s).document ∷ (e - s) ∷ k ∷ [])) (index p (length (positions_in (run_to p n ws l s))) (ap length places ∙ length-list_to (cond p (s - from) 0) place))
         where
           index : (q : Bool) (x : ℕ) → x ≡ cond q (s - from) 0 → cond q (position + x) 0 ≡ cond q (position + (s - from)) 0
           index true x h = ap (λ (k : ℕ). position + k) h
           index false x h = refl
 
-      places-more : positionsIn (runTo p n ws l e) ≡ listTo (cond p (e - from) 0) place
-      unfolding positionsIn
+      places-more : positions_in (run_to p n ws l e) ≡ list_to (cond p (e - from) 0) place
+      unfolding positions_in
       places-more =
-          ap positionsIn one_more
-          ∙ positions-append (runTo p n ws l s) (added ∷ [])
-          ∙ ap (λ (xs : List ℕ). xs ++ (cond p (listTo (e - s) (λ j. (tokenAt ws (s + j)).position)) [] ++ [])) places
+          ap positions_in one_more
+          ∙ positions-append (run_to p n ws l s) (added ∷ [])
+          ∙ ap (λ (xs : List ℕ). xs ++ (cond p (list_to (e - s) (λ j. (token_at ws (s + j)).position)) [] ++ [])) places
           ∙ joined p
         where
-          joined : (q : Bool) → listTo (cond q (s - from) 0) place ++ (cond q (listTo (e - s) (λ j. (tokenAt ws (s + j)).position)) [] ++ []) ≡ listTo (cond q (e - from) 0) place
+          joined : (q : Bool) → list_to (cond q (s - from) 0) place ++ (cond q (list_to (e - s) (λ j. (token_at ws (s + j)).position)) [] ++ []) ≡ list_to (cond q (e - from) 0) place
           joined true =
               let whole : (s - from) + (e - s) ≡ e - from = omega (arith, first, some) in
               let at : (j : ℕ) → s + j ≡ from + ((s - from) + j) = λ j. omega (arith, first) in
-              ap (λ (xs : List ℕ). listTo (s - from) place ++ xs) (append-nil (listTo (e - s) (λ j. (tokenAt ws (s + j)).position)))
-              ∙ sym (listTo-parts place (λ j. (tokenAt ws (s + j)).position) (s - from) (e - s) (λ j. ap (λ (k : ℕ). (tokenAt ws k).position) (at j)))
-              ∙ ap (λ (k : ℕ). listTo k place) whole
-          joined false = append-nil (listTo 0 place)
+              ap (λ (xs : List ℕ). list_to (s - from) place ++ xs) (append-nil (list_to (e - s) (λ j. (token_at ws (s + j)).position)))
+              ∙ sym (list_to-parts place (λ j. (token_at ws (s + j)).position) (s - from) (e - s) (λ j. ap (λ (k : ℕ). (token_at ws k).position) (at j)))
+              ∙ ap (λ (k : ℕ). list_to k place) whole
+          joined false = append-nil (list_to 0 place)
 
   -- the positions of the tokens passed
-  places-now : (postings : List ℕ) (i next start before : ℕ) → Upto n ws l p from posting position postings₀ postings i next start before → positionsIn (runTo p n ws l i) ≡ listTo (cond p (i - from) 0) place
+  places-now : (postings : List ℕ) (i next start before : ℕ) → Upto n ws l p from posting position postings₀ postings i next start before → positions_in (run_to p n ws l i) ≡ list_to (cond p (i - from) 0) place
   places-now postings i next start before done =
       ⊎_elim
-      (λ (e : start ≡ i). subst (λ (k : ℕ). positionsIn (runTo p n ws l k) ≡ listTo (cond p (k - from) 0) place) e done.places)
+      (λ (e : start ≡ i). subst (λ (k : ℕ). positions_in (run_to p n ws l k) ≡ list_to (cond p (k - from) 0) place) e done.places)
       (λ (h : start < i). places-more start i done.first h done.within (λ k x y. done.own k (omega (arith, x, done.first)) y) done.same done.lower done.places)
       (eq-or-lt_of_le done.order)
 
   -- a token of the leaf
-  module _ (postings : List ℕ) (i next start before : ℕ) (done : Upto n ws l p from posting position postings₀ postings i next start before) (inside : i < tokenCount ws) (here : (tokenAt ws i).leaf ≡ l) where
-    own-more : (k : ℕ) → from ≤ k → k < i + 1 → (tokenAt ws k).leaf ≡ l
+  module _ (postings : List ℕ) (i next start before : ℕ) (done : Upto n ws l p from posting position postings₀ postings i next start before) (inside : i < token_count ws) (here : (token_at ws i).leaf ≡ l) where
+    own-more : (k : ℕ) → from ≤ k → k < i + 1 → (token_at ws k).leaf ≡ l
     own-more k x y =
         ⊎_elim
         (λ (g : k < i). done.own k x g)
-        (λ (g : i ≤ k). let e : k ≡ i = omega (arith, g, y) in ap (λ (j : ℕ). (tokenAt ws j).leaf) e ∙ here)
+        (λ (g : i ≤ k). let e : k ≡ i = omega (arith, g, y) in ap (λ (j : ℕ). (token_at ws j).leaf) e ∙ here)
         (cmp k i)
 
     -- it is not of the document before: it begins a posting
-    turn-begins : ((tokenAt ws i).document ≡ before → ⊥) → Turn n ws l p from posting position postings₀ postings i (next + 1) i
+    turn-begins : ((token_at ws i).document ≡ before → ⊥) → Turn n ws l p from posting position postings₀ postings i (next + 1) i
     turn-begins begins =
         record {
           first = omega (arith, done.first, done.order);
           order = le_refl i;
           within = inside;
           own = own-more;
-          same = λ k x y. let e : k ≡ i = omega (arith, x, y) in ap (λ (j : ℕ). (tokenAt ws j).document) e;
+          same = λ k x y. let e : k ≡ i = omega (arith, x, y) in ap (λ (j : ℕ). (token_at ws j).document) e;
           lower = lower;
           places = places-now postings i next start before done;
-          nextIs = omega (arith, done.nextIs);
-          fewNext = omega (arith, done.fewNext);
-          stored = λ x y z. sets_behind postings₀ postings (3 * posting) (3 * (next + 1 - 1)) (packRun p position (runTo p n ws l i)) (x ∷ y ∷ z ∷ []) done.written (omega (arith, done.nextIs, run_length p position (runTo p n ws l i)));
+          next_is = omega (arith, done.next_is);
+          few_next = omega (arith, done.few_next);
+          stored = λ x y z. sets_behind postings₀ postings (3 * posting) (3 * (next + 1 - 1)) (pack_run p position (run_to p n ws l i)) (x ∷ y ∷ z ∷ []) done.written (omega (arith, done.next_is, run_length p position (run_to p n ws l i)));
         }
       where
-        lower : (k : ℕ) → k < i → (tokenAt ws k).leaf ≡ l → (tokenAt ws k).document < (tokenAt ws i).document
+        lower : (k : ℕ) → k < i → (token_at ws k).leaf ≡ l → (token_at ws k).document < (token_at ws i).document
         lower k g own =
             ⊎_elim
             (λ (h : k < from). absurd (omega (arith, pre.begins.lower k h, own)))
@@ -202,20 +202,20 @@ module _ (n m : ℕ) (ws : List ℕ) (l : ℕ) (p : Bool) (from posting position
             let leaf = done.own (i - 1) (omega (arith, h, g)) (omega (arith, g)) in
             let to = pre.tokens.documents k (i - 1) (omega (arith, g)) (omega (arith, inside)) (own ∙ sym leaf) in
             let on = pre.tokens.documents (i - 1) i (omega arith) inside (leaf ∙ sym here) in
-            let not : (tokenAt ws i).document ≡ (tokenAt ws (i - 1)).document → ⊥ = λ e. begins (e ∙ sym (done.last (omega (arith, h, g)))) in
+            let not : (token_at ws i).document ≡ (token_at ws (i - 1)).document → ⊥ = λ e. begins (e ∙ sym (done.last (omega (arith, h, g)))) in
             omega (arith, to, on, not))
             (cmp k from)
 
     -- it is: it begins none, and is not the leaf's first, which no document is before
-    turn-goes : (tokenAt ws i).document ≡ before → Turn n ws l p from posting position postings₀ postings i next start
+    turn-goes : (token_at ws i).document ≡ before → Turn n ws l p from posting position postings₀ postings i next start
     turn-goes goes =
         let later : from < i =
         ⊎_elim
-        (λ (e : from ≡ i). absurd (omega (arith, goes, done.none (sym e), pre.tokens.document i inside, pre.fewDocuments)))
+        (λ (e : from ≡ i). absurd (omega (arith, goes, done.none (sym e), pre.tokens.document i inside, pre.few_documents)))
         (λ (g : from < i). g)
         (eq-or-lt_of_le (omega (arith, done.first, done.order))) in
         let has = done.some later in
-        let own : (k : ℕ) → start ≤ k → k < i → (tokenAt ws k).leaf ≡ l = λ k x y. done.own k (omega (arith, x, done.first)) y in
+        let own : (k : ℕ) → start ≤ k → k < i → (token_at ws k).leaf ≡ l = λ k x y. done.own k (omega (arith, x, done.first)) y in
         let longer = length_more start i done.first has done.within own done.same done.lower done.places in
         let words = words_more start i done.first has done.within own done.same done.lower done.places in
         record {
@@ -226,22 +226,22 @@ module _ (n m : ℕ) (ws : List ℕ) (l : ℕ) (p : Bool) (from posting position
           same = λ k x y.
               ⊎_elim
               (λ (g : k < i). done.same k x g)
-              (λ (g : i ≤ k). let e : k ≡ i = omega (arith, g, y) in ap (λ (j : ℕ). (tokenAt ws j).document) e ∙ goes ∙ done.last later ∙ done.same (i - 1) (omega (arith, has)) (omega (arith, has)))
+              (λ (g : i ≤ k). let e : k ≡ i = omega (arith, g, y) in ap (λ (j : ℕ). (token_at ws j).document) e ∙ goes ∙ done.last later ∙ done.same (i - 1) (omega (arith, has)) (omega (arith, has)))
               (cmp k i);
           lower = done.lower;
           places = done.places;
-          nextIs = omega (arith, done.nextIs, longer);
-          fewNext = omega (arith, done.fewNext);
-          stored = λ x y z. sets_over postings₀ postings (3 * posting) (3 * (next - 1)) (packRun p position (runTo p n ws l start)) ((tokenAt ws start).document ∷ (i - start) ∷ cond p (position + (start - from)) 0 ∷ []) (x ∷ y ∷ z ∷ []) (done.written ∙ ap (sets postings₀ (3 * posting)) words) (omega (arith, done.nextIs, longer, run_length p position (runTo p n ws l start))) refl;
+          next_is = omega (arith, done.next_is, longer);
+          few_next = omega (arith, done.few_next);
+          stored = λ x y z. sets_over postings₀ postings (3 * posting) (3 * (next - 1)) (pack_run p position (run_to p n ws l start)) ((token_at ws start).document ∷ (i - start) ∷ cond p (position + (start - from)) 0 ∷ []) (x ∷ y ∷ z ∷ []) (done.written ∙ ap (sets postings₀ (3 * posting)) words) (omega (arith, done.next_is, longer, run_length p position (run_to p n ws l start))) refl;
         }
 
     -- the two ways as the code takes them
     pub turn : (w : Token) (next' start' : ℕ)
-        → w ≡ tokenOf ws i
+        → w ≡ token_of ws i
         → ((w.document ≡ before → ⊥) × (next' ≡ next + 1) × (start' ≡ i)) ⊎ ((w.document ≡ before) × (next' ≡ next) × (start' ≡ start))
         → Turn n ws l p from posting position postings₀ postings i next' start'
     turn v next' start' b came =
-        let document : v.document ≡ (tokenAt ws i).document = ap (λ (t : Token). t.document) b in
+        let document : v.document ≡ (token_at ws i).document = ap (λ (t : Token). t.document) b in
         ⊎_elim
         (λ w. subst (λ (k : ℕ). Turn n ws l p from posting position postings₀ postings i k start') (sym w.1) (subst (Turn n ws l p from posting position postings₀ postings i (next + 1)) (sym w.2) (turn-begins (λ e. w.0 (document ∙ e)))))
         (λ w. subst (λ (k : ℕ). Turn n ws l p from posting position postings₀ postings i k start') (sym w.1) (subst (Turn n ws l p from posting position postings₀ postings i next) (sym w.2) (turn-goes (sym document ∙ w.0))))
@@ -249,18 +249,18 @@ module _ (n m : ℕ) (ws : List ℕ) (l : ℕ) (p : Bool) (from posting position
 
   -- its posting is stored
   module _ (postings : List ℕ) (i next start : ℕ) (t : Turn n ws l p from posting position postings₀ postings i next start) where
-    own-here : (k : ℕ) → start ≤ k → k < i + 1 → (tokenAt ws k).leaf ≡ l
+    own-here : (k : ℕ) → start ≤ k → k < i + 1 → (token_at ws k).leaf ≡ l
     own-here k x y = t.own k (omega (arith, x, t.first)) y
 
-    now-more : length (runTo p n ws l (i + 1)) ≡ length (runTo p n ws l start) + 1
+    now-more : length (run_to p n ws l (i + 1)) ≡ length (run_to p n ws l start) + 1
     now-more = length_more start (i + 1) t.first (omega (arith, t.order)) (omega (arith, t.within)) own-here t.same t.lower t.places
 
     -- there is room for it
     pub room : 3 * (next - 1) + 3 ≤ a
-    room = omega (arith, t.nextIs, now-more, run-grows p n ws l (i + 1) (tokenCount ws) (omega (arith, t.within)), ap length (run-whole p n ws l), pre.postingsFit)
+    room = omega (arith, t.next_is, now-more, run-grows p n ws l (i + 1) (token_count ws) (omega (arith, t.within)), ap length (run-whole p n ws l), pre.postings_fit)
 
     pub upto_next : (w : Token) (index : ℕ) (postings' : List ℕ)
-        → w ≡ tokenOf ws i
+        → w ≡ token_of ws i
         → index ≡ cond p (position + (start - from)) 0
         → postings' ≡ sets postings (3 * (next - 1)) (w.document ∷ (i - start + 1) ∷ index ∷ [])
         → Upto n ws l p from posting position postings₀ postings' (i + 1) next start w.document
@@ -274,35 +274,35 @@ module _ (n m : ℕ) (ws : List ℕ) (l : ℕ) (p : Bool) (from posting position
           within = omega (arith, t.within);
           some = λ _. omega (arith, t.order);
           none = λ e. absurd (omega (arith, e, t.first, t.order));
-          last = λ _. let back : i ≡ i + 1 - 1 = omega arith in ap (λ (v : Token). v.document) x ∙ ap (λ (k : ℕ). (tokenAt ws k).document) back;
+          last = λ _. let back : i ≡ i + 1 - 1 = omega arith in ap (λ (v : Token). v.document) x ∙ ap (λ (k : ℕ). (token_at ws k).document) back;
           own = t.own;
           same = t.same;
           lower = t.lower;
           places = t.places;
-          nextIs = omega (arith, t.nextIs, now-more);
-          fewNext = t.fewNext;
+          next_is = omega (arith, t.next_is, now-more);
+          few_next = t.few_next;
           written = z
               ∙ t.stored w.document (i - start + 1) index
-              ∙ ap (λ (d : ℕ). sets postings₀ (3 * posting) (packRun p position (runTo p n ws l start) ++ (d ∷ (i - start + 1) ∷ index ∷ []))) document
-              ∙ ap₂ (λ (f v : ℕ). sets postings₀ (3 * posting) (packRun p position (runTo p n ws l start) ++ ((tokenAt ws start).document ∷ f ∷ v ∷ []))) frequency y
+              ∙ ap (λ (d : ℕ). sets postings₀ (3 * posting) (pack_run p position (run_to p n ws l start) ++ (d ∷ (i - start + 1) ∷ index ∷ []))) document
+              ∙ ap₂ (λ (f v : ℕ). sets postings₀ (3 * posting) (pack_run p position (run_to p n ws l start) ++ ((token_at ws start).document ∷ f ∷ v ∷ []))) frequency y
               ∙ ap (sets postings₀ (3 * posting)) (sym words);
         }
 
   -- no token from i on is of the leaf
-  module _ (postings : List ℕ) (i next start before : ℕ) (done : Upto n ws l p from posting position postings₀ postings i next start before) (stop : i < tokenCount ws → (tokenAt ws i).leaf ≡ l → ⊥) where
-    later : (k : ℕ) → i ≤ k → k < tokenCount ws → l + 1 ≤ (tokenAt ws k).leaf
+  module _ (postings : List ℕ) (i next start before : ℕ) (done : Upto n ws l p from posting position postings₀ postings i next start before) (stop : i < token_count ws → (token_at ws i).leaf ≡ l → ⊥) where
+    later : (k : ℕ) → i ≤ k → k < token_count ws → l + 1 ≤ (token_at ws k).leaf
     later k x y =
-        let h : i < tokenCount ws = omega (arith, x, y) in
+        let h : i < token_count ws = omega (arith, x, y) in
         let low = pre.begins.higher i (omega (arith, done.first, done.order)) h in
         let other = stop h in
         let up = pre.tokens.leaves i k x y in
         omega (arith, low, other, up)
 
-    all-written : runTo p n ws l i ≡ runFor p n (tokensOf ws) l
-    all-written = sym (run-whole p n ws l ∙ run-other p n ws l i (tokenCount ws) done.within (λ k x y e. absurd (omega (arith, later k x y, e))))
+    all-written : run_to p n ws l i ≡ run_for p n (tokens_of ws) l
+    all-written = sym (run-whole p n ws l ∙ run-other p n ws l i (token_count ws) done.within (λ k x y e. absurd (omega (arith, later k x y, e))))
 
-    all-places : positionsIn (runFor p n (tokensOf ws) l) ≡ listTo (cond p (i - from) 0) place
-    all-places = ap positionsIn (sym all-written) ∙ places-now postings i next start before done
+    all-places : positions_in (run_for p n (tokens_of ws) l) ≡ list_to (cond p (i - from) 0) place
+    all-places = ap positions_in (sym all-written) ∙ places-now postings i next start before done
 
     pub upto-end : (r : RunEnd) (number : ℕ) → number ≡ cond p (i - from) 0 → r.token ≡ i → r.posting ≡ next → r.position ≡ position + number → PostingsPost n ws l p from posting position postings₀ postings r
     upto-end r number e x y z =
@@ -312,22 +312,22 @@ module _ (n m : ℕ) (ws : List ℕ) (l : ℕ) (p : Bool) (from posting position
         let number_is : r.position - position ≡ cond p (i - from) 0 = omega (arith, z, e) in
         record {
           begins = subst (Begins ws (l + 1)) (sym x) (record { within = done.within; lower = λ k g. ⊎_elim (λ (h : k < from). omega (arith, pre.begins.lower k h)) (λ (h : from ≤ k). omega (arith, done.own k h g)) (cmp k from); higher = later });
-          fewPostings = omega (arith, x, y, done.fewNext);
-          fewPositions = omega (arith, x, z, e, few, behind, order, pre.fewPositions);
-          postingEnd = y ∙ done.nextIs ∙ ap (λ (s : List Posting). posting + length s) all-written;
-          positionEnd = z ∙ ap (λ (k : ℕ). position + k) (e ∙ sym (ap length all-places ∙ length-listTo (cond p (i - from) 0) place));
-          written = done.written ∙ ap (λ (s : List Posting). sets postings₀ (3 * posting) (packRun p position s)) all-written;
+          few_postings = omega (arith, x, y, done.few_next);
+          few_positions = omega (arith, x, z, e, few, behind, order, pre.few_positions);
+          posting_end = y ∙ done.next_is ∙ ap (λ (s : List Posting). posting + length s) all-written;
+          position_end = z ∙ ap (λ (k : ℕ). position + k) (e ∙ sym (ap length all-places ∙ length-list_to (cond p (i - from) 0) place));
+          written = done.written ∙ ap (λ (s : List Posting). sets postings₀ (3 * posting) (pack_run p position s)) all-written;
           within = omega (arith, number_is, few, behind, order, done.within);
-          places = all-places ∙ ap (λ (k : ℕ). listTo k place) (sym number_is);
+          places = all-places ∙ ap (λ (k : ℕ). list_to k place) (sym number_is);
         }
 
 -- ---- the postings and then the positions
 pub run-postings : (n m : ℕ) (ws : List ℕ) (l : ℕ) (p : Bool) (from posting position a b : ℕ) → RunPre n m ws l p from posting position a b → PostingsPre n m ws l p from posting position a
-run-postings n m ws l p from posting position a b h = record { fewDocuments = h.fewDocuments; tokens = h.tokens; begins = h.begins; fewPostings = h.fewPostings; fewPositions = h.fewPositions; postingsFit = h.postingsFit }
+run-postings n m ws l p from posting position a b h = record { few_documents = h.few_documents; tokens = h.tokens; begins = h.begins; few_postings = h.few_postings; few_positions = h.few_positions; postings_fit = h.postings_fit }
 
 pub run-placed : (n : ℕ) (ws : List ℕ) (l : ℕ) (p : Bool) (from posting position : ℕ) (postings positions postings' positions' : List ℕ) (r : RunEnd)
     → PostingsPost n ws l p from posting position postings postings' r
-    → positions' ≡ sets positions position (listTo (r.position - position) (λ j. (tokenAt ws (from + j)).position))
+    → positions' ≡ sets positions position (list_to (r.position - position) (λ j. (token_at ws (from + j)).position))
     → RunPost n ws l p posting position postings positions postings' positions' r
 run-placed n ws l p from posting position postings positions postings' positions' r h e =
-    record { begins = h.begins; fewPostings = h.fewPostings; fewPositions = h.fewPositions; postingEnd = h.postingEnd; positionEnd = h.positionEnd; written = h.written; placed = e ∙ ap (sets positions position) (sym h.places) }
+    record { begins = h.begins; few_postings = h.few_postings; few_positions = h.few_positions; posting_end = h.posting_end; position_end = h.position_end; written = h.written; placed = e ∙ ap (sets positions position) (sym h.places) }

@@ -6,46 +6,46 @@ use Prim.Native.Nat.{ℕ, ◌*◌, ◌/◌, ◌≤◌}
 use native.Mathlib.Omega.{arith}
 use lib.Dec.{ltb}
 use lib.ListN.{length}
-use Rattle.meaning.specs.Below.{countBelow}
-use Rattle.meaning.specs.Lent.{hasNorms}
+use Rattle.meaning.specs.Below.{count_below}
+use Rattle.meaning.specs.Lent.{has_norms}
 use Rattle.meaning.specs.Refusals.{lowest}
-use Rattle.meaning.specs.IndexRefusals.{wrong1, wrong2, wrongField}
-use Rattle.meaning.specs.Tokens.{fieldsLent, tokenCount}
-use Rattle.meaning.specs.TokenRefusals.{Outputs, wrong15, wrong16, postingNumber, positionNumber, writeRefusal, writeAnswer}
+use Rattle.meaning.specs.IndexRefusals.{wrong1, wrong2, wrong_field}
+use Rattle.meaning.specs.Tokens.{fields_lent, token_count}
+use Rattle.meaning.specs.TokenRefusals.{Outputs, wrong15, wrong16, posting_number, position_number, write_refusal, write_answer}
 use Rattle.meaning.proofs.Below.{count-le}
 use Rattle.meaning.proofs.Lowest.{lowest-here, lowest-past, answered-refused}
-use Rattle.index.specs.Slices.{lent, fieldsOnly}
+use Rattle.index.specs.Slices.{lent, fields_only}
 use Rattle.tokens.specs.declared.Counted.{Counted}
-use Rattle.tokens.specs.Counts.{beginsPosting, Counts}
+use Rattle.tokens.specs.Counts.{begins_posting, Counts}
 use Rattle.token_writer.specs.declared.Written.{Written}
-use Rattle.token_writer.specs.Answers.{writtenNumbers, outputs}
+use Rattle.token_writer.specs.Answers.{written_numbers, outputs}
 use Rattle.token_writer.proofs.Counts.{postings-counted, positions-counted}
 
 -- 1 and 2 are asked of N and the fields alone
-pub one-is : (n : ℕ) (fields : List ℕ) → wrong1 (lent n [] [] [] [] [] [] [] []) ≡ wrong1 (fieldsLent n fields)
+pub one-is : (n : ℕ) (fields : List ℕ) → wrong1 (lent n [] [] [] [] [] [] [] []) ≡ wrong1 (fields_lent n fields)
 unfolding wrong1
 one-is n fields = refl
 
-pub two_is : (n : ℕ) (fields : List ℕ) → wrong2 (fieldsOnly fields) ≡ wrong2 (fieldsLent n fields)
-unfolding wrong2 wrongField
+pub two_is : (n : ℕ) (fields : List ℕ) → wrong2 (fields_only fields) ≡ wrong2 (fields_lent n fields)
+unfolding wrong2 wrong_field
 two_is n fields = refl
 
-module _ (n : ℕ) (fields leafFields ws : List ℕ) where
+module _ (n : ℕ) (fields leaf_fields ws : List ℕ) where
   -- ---- the numbers that were counted, where the tokens are right
-  module _ (counted : Counted) (counts : Counts fields leafFields ws counted) (right : counted.wrong ≡ false) where
-    pub few-postings : counted.postings ≤ tokenCount ws
-    few-postings = omega (arith, counts.postings right, count-le (tokenCount ws) (beginsPosting ws))
+  module _ (counted : Counted) (counts : Counts fields leaf_fields ws counted) (right : counted.wrong ≡ false) where
+    pub few-postings : counted.postings ≤ token_count ws
+    few-postings = omega (arith, counts.postings right, count-le (token_count ws) (begins_posting ws))
 
-    module _ (right-tokens : wrong15 n fields leafFields ws ≡ false) where
-      pub postings-are : counted.postings ≡ postingNumber n fields leafFields ws
-      postings-are = counts.postings right ∙ postings-counted n fields leafFields ws right-tokens
+    module _ (right-tokens : wrong15 n fields leaf_fields ws ≡ false) where
+      pub postings-are : counted.postings ≡ posting_number n fields leaf_fields ws
+      postings-are = counts.postings right ∙ postings-counted n fields leaf_fields ws right-tokens
 
-      pub positions-are : counted.positions ≡ positionNumber n fields leafFields ws
-      positions-are = counts.positions right ∙ positions-counted n fields leafFields ws right-tokens
+      pub positions-are : counted.positions ≡ position_number n fields leaf_fields ws
+      positions-are = counts.positions right ∙ positions-counted n fields leaf_fields ws right-tokens
 
       -- 16
-      pub short-is : (norms postings positions runs bytes : ℕ) → bytes ≡ countBelow (length fields / 3) (hasNorms (fieldsOnly fields)) * n
-          → (ltb norms bytes || ltb postings (3 * counted.postings) || ltb positions counted.positions || ltb runs (2 * length leafFields)) ≡ wrong16 n fields leafFields ws (outputs norms postings positions runs)
+      pub short-is : (norms postings positions runs bytes : ℕ) → bytes ≡ count_below (length fields / 3) (has_norms (fields_only fields)) * n
+          → (ltb norms bytes || ltb postings (3 * counted.postings) || ltb positions counted.positions || ltb runs (2 * length leaf_fields)) ≡ wrong16 n fields leaf_fields ws (outputs norms postings positions runs)
       unfolding wrong16
       short-is norms postings positions runs bytes e = rw (e, postings-are, positions-are)
 
@@ -54,37 +54,37 @@ module _ (n : ℕ) (fields leafFields ws : List ℕ) where
     o = outputs norms postings positions runs
 
     abbrev Answer : Written → Type 0
-    Answer r = writtenNumbers r ≡ writeAnswer n fields leafFields ws o
+    Answer r = written_numbers r ≡ write_answer n fields leaf_fields ws o
 
-    refused : (k : ℕ) → (k ≡ 0 → ⊥) → k ≡ writeRefusal n fields leafFields ws o → Answer (Written.Refused k)
-    unfolding writtenNumbers writeAnswer
+    refused : (k : ℕ) → (k ≡ 0 → ⊥) → k ≡ write_refusal n fields leaf_fields ws o → Answer (Written.Refused k)
+    unfolding written_numbers write_answer
     refused k h is = rw (← is) (answered-refused _ _ k h)
 
     -- ---- each way out
-    pub refused-1 : wrong1 (fieldsLent n fields) ≡ true → Answer (Written.Refused 1)
-    unfolding writeRefusal
+    pub refused-1 : wrong1 (fields_lent n fields) ≡ true → Answer (Written.Refused 1)
+    unfolding write_refusal
     refused-1 h = refused 1 (λ z. omega (arith, z)) (lowest-here 1 _ _ h)
 
-    module _ (few : wrong1 (fieldsLent n fields) ≡ false) where
-      pub refused-2 : wrong2 (fieldsLent n fields) ≡ true → Answer (Written.Refused 2)
-      unfolding writeRefusal
+    module _ (few : wrong1 (fields_lent n fields) ≡ false) where
+      pub refused-2 : wrong2 (fields_lent n fields) ≡ true → Answer (Written.Refused 2)
+      unfolding write_refusal
       refused-2 h = refused 2 (λ z. omega (arith, z)) (lowest-past 1 _ _ 2 few (lowest-here 2 _ _ h))
 
-      module _ (right-fields : wrong2 (fieldsLent n fields) ≡ false) where
-        pub refused-15 : (b : Bool) → b ≡ wrong15 n fields leafFields ws → b ≡ true → Answer (Written.Refused 15)
-        unfolding writeRefusal
+      module _ (right-fields : wrong2 (fields_lent n fields) ≡ false) where
+        pub refused-15 : (b : Bool) → b ≡ wrong15 n fields leaf_fields ws → b ≡ true → Answer (Written.Refused 15)
+        unfolding write_refusal
         refused-15 b is h =
             refused 15 (λ z. omega (arith, z)) (lowest-past 1 _ _ 15 few (lowest-past 2 _ _ 15 right-fields (lowest-here 15 _ _ (sym is ∙ h))))
 
-        module _ (right-tokens : wrong15 n fields leafFields ws ≡ false) where
-          pub refused-16 : (b : Bool) → b ≡ wrong16 n fields leafFields ws o → b ≡ true → Answer (Written.Refused 16)
-          unfolding writeRefusal
+        module _ (right-tokens : wrong15 n fields leaf_fields ws ≡ false) where
+          pub refused-16 : (b : Bool) → b ≡ wrong16 n fields leaf_fields ws o → b ≡ true → Answer (Written.Refused 16)
+          unfolding write_refusal
           refused-16 b is h =
               refused 16 (λ z. omega (arith, z))
               (lowest-past 1 _ _ 16 few (lowest-past 2 _ _ 16 right-fields (lowest-past 15 _ _ 16 right-tokens (lowest-here 16 _ _ (sym is ∙ h)))))
 
-          pub accepted : (b : Bool) → b ≡ wrong16 n fields leafFields ws o → b ≡ false → (counted : Counted) → Counts fields leafFields ws counted → counted.wrong ≡ false
+          pub accepted : (b : Bool) → b ≡ wrong16 n fields leaf_fields ws o → b ≡ false → (counted : Counted) → Counts fields leaf_fields ws counted → counted.wrong ≡ false
               → Answer (Written.Done (record { postings = counted.postings; positions = counted.positions }))
-          unfolding writtenNumbers writeAnswer writeRefusal lowest
+          unfolding written_numbers write_answer write_refusal lowest
           accepted b is h counted counts right =
               rw (few, right-fields, right-tokens, sym is ∙ h, postings-are counted counts right right-tokens, positions-are counted counts right right-tokens)

@@ -5,10 +5,10 @@ pub mod postings;
 
 ghost use Rattle.std.specs.Prelude.{◌≡◌, false};
 ghost use Rattle.meaning.specs.IndexRefusals.{wrong1, wrong2};
-ghost use Rattle.meaning.specs.Tokens.{fieldsLent};
-ghost use Rattle.meaning.specs.TokenRefusals.{wrong15, wrong16, writeAnswer};
+ghost use Rattle.meaning.specs.Tokens.{fields_lent};
+ghost use Rattle.meaning.specs.TokenRefusals.{wrong15, wrong16, write_answer};
 ghost use Rattle.tokens.specs.Counts.{Counts};
-ghost use Rattle.token_writer.specs.Answers.{writtenNumbers, outputs, WritesIndex};
+ghost use Rattle.token_writer.specs.Answers.{written_numbers, outputs, WritesIndex};
 
 use index::{fields, norms};
 use postings::{POSTING_WORDS, RUN_WORDS};
@@ -38,7 +38,7 @@ fn outputs_short(
     positions: usize,
     runs: usize,
 ) -> bool
-    requires fields_value { (wrong1 (fieldsLent max_doc fields.now) ≡ false) × (wrong2 (fieldsLent max_doc fields.now) ≡ false) × (wrong15 max_doc fields.now leaf_fields.now tokens.now ≡ false) }
+    requires fields_value { (wrong1 (fields_lent max_doc fields.now) ≡ false) × (wrong2 (fields_lent max_doc fields.now) ≡ false) × (wrong15 max_doc fields.now leaf_fields.now tokens.now ≡ false) }
     requires counts { Counts fields.now leaf_fields.now tokens.now counted × (counted.wrong ≡ false) }
     ensures { result ≡ wrong16 max_doc fields.now leaf_fields.now tokens.now (outputs norms postings positions runs) }
 {
@@ -59,7 +59,7 @@ pub fn accept(
     positions: usize,
     runs: usize,
 ) -> Written
-    ensures { writtenNumbers result ≡ writeAnswer max_doc fields.now leaf_fields.now tokens.now (outputs norms postings positions runs) }
+    ensures { written_numbers result ≡ write_answer max_doc fields.now leaf_fields.now tokens.now (outputs norms postings positions runs) }
 {
     if index::wrong_max_doc(max_doc) {
         return Written::Refused(1);

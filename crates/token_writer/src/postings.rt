@@ -1,8 +1,8 @@
 // The postings and positions of the tokens, leaf by leaf, posting by posting, and the run of each leaf.
 ghost use Rattle.std.specs.Prelude.{◌≡◌, cond, [], ◌∷◌, ℕ, ◌+◌, ◌*◌, ◌<◌, ◌≤◌, length};
 ghost use Rattle.std.proofs.lemmas.List.Edits.{sets};
-ghost use Rattle.meaning.specs.Below.{listTo};
-ghost use Rattle.meaning.specs.Tokens.{tokenCount, tokenAt};
+ghost use Rattle.meaning.specs.Below.{list_to};
+ghost use Rattle.meaning.specs.Tokens.{token_count, token_at};
 ghost use Rattle.token_writer.specs.Writing.{PostingsPre, PostingsPost, RunPre, RunPost, RunsPre, RunsPost};
 
 use index::postings::NO_MORE_DOCS;
@@ -15,8 +15,8 @@ pub const RUN_WORDS: usize = 2;
 
 // The positions of some tokens, from a place on.
 fn copy_positions(tokens: &[u32], from: usize, number: usize, positions: &mut [u32], at: usize)
-    requires { (from + number ≤ tokenCount tokens.now) × (at + number ≤ length positions.old) }
-    ensures { positions.new ≡ sets positions.old at (listTo number (λ j. (tokenAt tokens.now (from + j)).position)) }
+    requires { (from + number ≤ token_count tokens.now) × (at + number ≤ length positions.old) }
+    ensures { positions.new ≡ sets positions.old at (list_to number (λ j. (token_at tokens.now (from + j)).position)) }
 {
     let mut j = 0;
     while j < number {

@@ -8,16 +8,16 @@ use native.Mathlib.Omega.{arith}
 use lib.Dec.{eqb, leb, ltb}
 use lib.ListN.{length, get_or}
 use borrow.Author.Tests.{leb-false, lt-ltb, le-ltb, eqb-true, eqb-false, eq-eqb, ne_eqb}
-use Rattle.meaning.specs.Below.{anyBelow}
-use Rattle.meaning.specs.Limits.{noMoreDocs}
+use Rattle.meaning.specs.Below.{any_below}
+use Rattle.meaning.specs.Limits.{no_more_docs}
 use Rattle.meaning.specs.Lent.{joined}
-use Rattle.meaning.specs.Tokens.{tokenAt, notAfter}
-use Rattle.meaning.specs.TokenRefusals.{wrongToken, wrongLeafField}
+use Rattle.meaning.specs.Tokens.{token_at, not_after}
+use Rattle.meaning.specs.TokenRefusals.{wrong_token, wrong_leaf_field}
 use Rattle.meaning.proofs.Tests.{decided, or-4, ltb-as-ltb}
 use Rattle.meaning.proofs.Below.{any-more, none_below}
 use Rattle.tokens.specs.declared.Token.{Token}
-use Rattle.tokens.specs.Records.{tokenOf}
-use Rattle.tokens.specs.Counts.{beginsPosting}
+use Rattle.tokens.specs.Records.{token_of}
+use Rattle.tokens.specs.Counts.{begins_posting}
 
 -- a further test in front of three
 or-before : (a b c d : Bool) → (a || (b || c || d)) ≡ (a || b || c || d)
@@ -49,8 +49,8 @@ module _ (l d m e : ℕ) (h : d < 2 ^ 32) (g : e < 2 ^ 32) where
   in-turn false true c x y = refl
   in-turn false false c x y = refl
 
-  pub key-order : (p q : ℕ) → (ltb (joined d l) (joined e m) || (eqb (joined d l) (joined e m) && leb p q)) ≡ notAfter (record { leaf = l; document = d; position = p }) (record { leaf = m; document = e; position = q })
-  unfolding notAfter
+  pub key-order : (p q : ℕ) → (ltb (joined d l) (joined e m) || (eqb (joined d l) (joined e m) && leb p q)) ≡ not_after (record { leaf = l; document = d; position = p }) (record { leaf = m; document = e; position = q })
+  unfolding not_after
   key-order p q = rw (key-less, key-equal) (in-turn (ltb l m) (eqb l m) (ltb d e) (eqb d e) (leb p q))
 
   either : (a b : Bool) → not (a && b) ≡ (not a || not b)
@@ -61,49 +61,49 @@ module _ (l d m e : ℕ) (h : d < 2 ^ 32) (g : e < 2 ^ 32) where
   key-other = rw key-equal (either (eqb l m) (eqb d e))
 
 module _ (ws : List ℕ) (i : ℕ) where
-  pub key-is : (t : Token) → t ≡ tokenOf ws i → t.document < 2 ^ 32 → (t.document + t.leaf * 4294967296 ≡ joined (tokenAt ws i).document (tokenAt ws i).leaf) × ((tokenAt ws i).document < 2 ^ 32)
+  pub key-is : (t : Token) → t ≡ token_of ws i → t.document < 2 ^ 32 → (t.document + t.leaf * 4294967296 ≡ joined (token_at ws i).document (token_at ws i).leaf) × ((token_at ws i).document < 2 ^ 32)
   key-is t e h = (rw e, rw e at h)
 
   -- over the structs, so that a refused edit names the word that is compared wrongly
-  pub in_order : (k b : ℕ) (t u : Token) → b ≡ joined (tokenAt ws (i - 1)).document (tokenAt ws (i - 1)).leaf → (tokenAt ws (i - 1)).document < 2 ^ 32 → k ≡ joined (tokenAt ws i).document (tokenAt ws i).leaf → (tokenAt ws i).document < 2 ^ 32 → t ≡ tokenOf ws (i - 1) → u ≡ tokenOf ws i → (ltb b k || (eqb b k && leb t.position u.position)) ≡ notAfter (tokenAt ws (i - 1)) (tokenAt ws i)
-  in_order k b t u e x f y g h = rw (e, f, g, h) (key-order (tokenAt ws (i - 1)).leaf (tokenAt ws (i - 1)).document (tokenAt ws i).leaf (tokenAt ws i).document x y (tokenAt ws (i - 1)).position (tokenAt ws i).position)
+  pub in_order : (k b : ℕ) (t u : Token) → b ≡ joined (token_at ws (i - 1)).document (token_at ws (i - 1)).leaf → (token_at ws (i - 1)).document < 2 ^ 32 → k ≡ joined (token_at ws i).document (token_at ws i).leaf → (token_at ws i).document < 2 ^ 32 → t ≡ token_of ws (i - 1) → u ≡ token_of ws i → (ltb b k || (eqb b k && leb t.position u.position)) ≡ not_after (token_at ws (i - 1)) (token_at ws i)
+  in_order k b t u e x f y g h = rw (e, f, g, h) (key-order (token_at ws (i - 1)).leaf (token_at ws (i - 1)).document (token_at ws i).leaf (token_at ws i).document x y (token_at ws (i - 1)).position (token_at ws i).position)
 
-  pub begins-first : i ≡ 0 → true ≡ beginsPosting ws i
-  unfolding beginsPosting
+  pub begins-first : i ≡ 0 → true ≡ begins_posting ws i
+  unfolding begins_posting
   begins-first e = rw e
 
-  pub begins-later : (k b : ℕ) → (i ≡ 0 → ⊥) → k ≡ joined (tokenAt ws i).document (tokenAt ws i).leaf → (tokenAt ws i).document < 2 ^ 32 → b ≡ joined (tokenAt ws (i - 1)).document (tokenAt ws (i - 1)).leaf → (tokenAt ws (i - 1)).document < 2 ^ 32 → not (eqb k b) ≡ beginsPosting ws i
-  unfolding beginsPosting
-  begins-later k b h e x f y = rw (e, f, ne_eqb i 0 h) (key-other (tokenAt ws i).leaf (tokenAt ws i).document (tokenAt ws (i - 1)).leaf (tokenAt ws (i - 1)).document x y)
+  pub begins-later : (k b : ℕ) → (i ≡ 0 → ⊥) → k ≡ joined (token_at ws i).document (token_at ws i).leaf → (token_at ws i).document < 2 ^ 32 → b ≡ joined (token_at ws (i - 1)).document (token_at ws (i - 1)).leaf → (token_at ws (i - 1)).document < 2 ^ 32 → not (eqb k b) ≡ begins_posting ws i
+  unfolding begins_posting
+  begins-later k b h e x f y = rw (e, f, ne_eqb i 0 h) (key-other (token_at ws i).leaf (token_at ws i).document (token_at ws (i - 1)).leaf (token_at ws (i - 1)).document x y)
 
-  module _ (n : ℕ) (leafFields : List ℕ) where
+  module _ (n : ℕ) (leaf_fields : List ℕ) where
     -- its leaf or document absent, or its position too large
     abbrev pub absent : Bool
-    absent = leb (length leafFields) (tokenAt ws i).leaf || leb n (tokenAt ws i).document || ltb noMoreDocs (tokenAt ws i).position
+    absent = leb (length leaf_fields) (token_at ws i).leaf || leb n (token_at ws i).document || ltb no_more_docs (token_at ws i).position
 
-    pub wrong_first : i ≡ 0 → absent ≡ wrongToken n leafFields ws i
-    unfolding wrongToken
+    pub wrong_first : i ≡ 0 → absent ≡ wrong_token n leaf_fields ws i
+    unfolding wrong_token
     wrong_first e = rw e
 
-    pub wrong-later : (i ≡ 0 → ⊥) → (not (notAfter (tokenAt ws (i - 1)) (tokenAt ws i)) || absent) ≡ wrongToken n leafFields ws i
-    unfolding wrongToken
+    pub wrong-later : (i ≡ 0 → ⊥) → (not (not_after (token_at ws (i - 1)) (token_at ws i)) || absent) ≡ wrong_token n leaf_fields ws i
+    unfolding wrong_token
     wrong-later h =
         let l : 0 < i = omega (arith, h) in
-        rw (lt-ltb 0 i l) (or-before (not (notAfter (tokenAt ws (i - 1)) (tokenAt ws i))) (leb (length leafFields) (tokenAt ws i).leaf) (leb n (tokenAt ws i).document) (ltb noMoreDocs (tokenAt ws i).position))
+        rw (lt-ltb 0 i l) (or-before (not (not_after (token_at ws (i - 1)) (token_at ws i))) (leb (length leaf_fields) (token_at ws i).leaf) (leb n (token_at ws i).document) (ltb no_more_docs (token_at ws i).position))
 
     -- a token that is not wrong names a leaf, and where no leaf's field is absent, its is not
-    pub named-leaf : (fields : List ℕ) (b : Bool) → anyBelow (length leafFields) (wrongLeafField fields leafFields) ≡ false → b ≡ wrongToken n leafFields ws i → b ≡ false → ((tokenAt ws i).leaf < length leafFields) × (wrongLeafField fields leafFields (tokenAt ws i).leaf ≡ false)
-    unfolding wrongToken
+    pub named-leaf : (fields : List ℕ) (b : Bool) → any_below (length leaf_fields) (wrong_leaf_field fields leaf_fields) ≡ false → b ≡ wrong_token n leaf_fields ws i → b ≡ false → ((token_at ws i).leaf < length leaf_fields) × (wrong_leaf_field fields leaf_fields (token_at ws i).leaf ≡ false)
+    unfolding wrong_token
     named-leaf fields b h e z =
-        let parts = or-4 (ltb 0 i && not (notAfter (tokenAt ws (i - 1)) (tokenAt ws i))) (leb (length leafFields) (tokenAt ws i).leaf) (leb n (tokenAt ws i).document) (ltb noMoreDocs (tokenAt ws i).position) (sym e ∙ z) in
+        let parts = or-4 (ltb 0 i && not (not_after (token_at ws (i - 1)) (token_at ws i))) (leb (length leaf_fields) (token_at ws i).leaf) (leb n (token_at ws i).document) (ltb no_more_docs (token_at ws i).position) (sym e ∙ z) in
         let l = leb-false _ _ parts.1 in
         (l, none_below _ _ h _ l)
 
     -- where none before it is wrong, and it is not, none is so far
-    pub one_more : (b : Bool) → false ≡ anyBelow i (wrongToken n leafFields ws) → b ≡ wrongToken n leafFields ws i → b ≡ false → false ≡ anyBelow (i + 1) (wrongToken n leafFields ws)
-    one_more b h e z = any-more i (wrongToken n leafFields ws) false false h (sym z ∙ e)
+    pub one_more : (b : Bool) → false ≡ any_below i (wrong_token n leaf_fields ws) → b ≡ wrong_token n leaf_fields ws i → b ≡ false → false ≡ any_below (i + 1) (wrong_token n leaf_fields ws)
+    one_more b h e z = any-more i (wrong_token n leaf_fields ws) false false h (sym z ∙ e)
 
 -- the field of leaf l is absent
-pub leaf-field : (fields leafFields : List ℕ) (l f : ℕ) → f ≡ get_or leafFields l 0 → leb (length fields / 3) f ≡ wrongLeafField fields leafFields l
-unfolding wrongLeafField
-leaf-field fields leafFields l f e = rw e
+pub leaf-field : (fields leaf_fields : List ℕ) (l f : ℕ) → f ≡ get_or leaf_fields l 0 → leb (length fields / 3) f ≡ wrong_leaf_field fields leaf_fields l
+unfolding wrong_leaf_field
+leaf-field fields leaf_fields l f e = rw e

@@ -1,8 +1,8 @@
 -- A token as the struct that the code reads it into. Assumes nothing: these are definitions.
 use Rattle.std.specs.Prelude.{List, ℕ}
-use Rattle.meaning.specs.Tokens.{tokenAt}
+use Rattle.meaning.specs.Tokens.{token_at}
 use Rattle.tokens.specs.declared.Token.{Token}
 
 -- the words of token i
-abbrev pub tokenOf : List ℕ → ℕ → Token
-tokenOf ws i = record { leaf = (tokenAt ws i).leaf; document = (tokenAt ws i).document; position = (tokenAt ws i).position }
+abbrev pub token_of : List ℕ → ℕ → Token
+token_of ws i = record { leaf = (token_at ws i).leaf; document = (token_at ws i).document; position = (token_at ws i).position }

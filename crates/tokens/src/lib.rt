@@ -2,12 +2,12 @@
 #![tactic(auto)]
 
 ghost use Rattle.std.specs.Prelude.{◌≡◌, false, ◌<◌, ◌-◌, ◌^◌, length};
-ghost use Rattle.meaning.specs.Below.{anyBelow};
+ghost use Rattle.meaning.specs.Below.{any_below};
 ghost use Rattle.meaning.specs.Lent.{joined};
-ghost use Rattle.meaning.specs.Tokens.{tokenCount, tokenAt, notAfter, positional};
-ghost use Rattle.meaning.specs.TokenRefusals.{wrongToken, wrongLeafField, wrong15};
-ghost use Rattle.tokens.specs.Records.{tokenOf};
-ghost use Rattle.tokens.specs.Counts.{beginsPosting, Counts};
+ghost use Rattle.meaning.specs.Tokens.{token_count, token_at, not_after, positional};
+ghost use Rattle.meaning.specs.TokenRefusals.{wrong_token, wrong_leaf_field, wrong15};
+ghost use Rattle.tokens.specs.Records.{token_of};
+ghost use Rattle.tokens.specs.Counts.{begins_posting, Counts};
 
 use index::{fields, postings, wide};
 
@@ -26,8 +26,8 @@ pub struct Token {
 
 // Token number i.
 pub fn token_at(tokens: &[u32], i: usize) -> Token
-    requires { i < tokenCount tokens.now }
-    ensures { result ≡ tokenOf tokens.now i }
+    requires { i < token_count tokens.now }
+    ensures { result ≡ token_of tokens.now i }
 {
     Token {
         leaf: tokens[3 * i],
@@ -38,9 +38,9 @@ pub fn token_at(tokens: &[u32], i: usize) -> Token
 
 // Leaf and document of token i as one number, in their order.
 fn posting_key(tokens: &[u32], i: usize) -> u64
-    requires { i < tokenCount tokens.now }
-    ensures value { result ≡ joined (tokenAt tokens.now i).document (tokenAt tokens.now i).leaf }
-    ensures i_bound { (tokenAt tokens.now i).document < 2 ^ 32 }
+    requires { i < token_count tokens.now }
+    ensures value { result ≡ joined (token_at tokens.now i).document (token_at tokens.now i).leaf }
+    ensures i_bound { (token_at tokens.now i).document < 2 ^ 32 }
 {
     let token = token_at(tokens, i);
     token.document as u64 + token.leaf as u64 * 0x1_0000_0000
@@ -48,8 +48,8 @@ fn posting_key(tokens: &[u32], i: usize) -> u64
 
 // Whether token i begins a posting: it is the first, or another leaf's or document's than the one before.
 fn begins_posting(tokens: &[u32], i: usize) -> bool
-    requires { i < tokenCount tokens.now }
-    ensures { result ≡ beginsPosting tokens.now i }
+    requires { i < token_count tokens.now }
+    ensures { result ≡ begins_posting tokens.now i }
 {
     if i == 0 {
         return true;
@@ -59,8 +59,8 @@ fn begins_posting(tokens: &[u32], i: usize) -> bool
 
 // Whether token i, which is not the first, stands after the one before it or is equal to it.
 fn in_order(tokens: &[u32], i: usize) -> bool
-    requires { (0 < i) × (i < tokenCount tokens.now) }
-    ensures { result ≡ notAfter (tokenAt tokens.now (i - 1)) (tokenAt tokens.now i) }
+    requires { (0 < i) × (i < token_count tokens.now) }
+    ensures { result ≡ not_after (token_at tokens.now (i - 1)) (token_at tokens.now i) }
 {
     let before = posting_key(tokens, i - 1);
     let here = posting_key(tokens, i);
@@ -71,8 +71,8 @@ fn in_order(tokens: &[u32], i: usize) -> bool
 
 // Token i: out of order, its leaf or document absent, or its position too large.
 fn wrong_token(max_doc: u32, tokens: &[u32], leaf_fields: &[u32], i: usize) -> bool
-    requires { i < tokenCount tokens.now }
-    ensures { result ≡ wrongToken max_doc leaf_fields.now tokens.now i }
+    requires { i < token_count tokens.now }
+    ensures { result ≡ wrong_token max_doc leaf_fields.now tokens.now i }
 {
     let here = token_at(tokens, i);
     let absent = (wide(here.leaf) >= leaf_fields.len())
@@ -86,7 +86,7 @@ fn wrong_token(max_doc: u32, tokens: &[u32], leaf_fields: &[u32], i: usize) -> b
 
 // Whether a leaf's field has positions.
 pub fn is_positional(fields: &[u32], leaf_fields: &[u32], leaf: usize) -> bool
-    requires { (leaf < length leaf_fields.now) × (wrongLeafField fields.now leaf_fields.now leaf ≡ false) }
+    requires { (leaf < length leaf_fields.now) × (wrong_leaf_field fields.now leaf_fields.now leaf ≡ false) }
     ensures { result ≡ positional fields.now leaf_fields.now leaf }
 {
     fields::field_at(fields, wide(leaf_fields[leaf])).positions == 1
@@ -102,8 +102,8 @@ pub struct Counted {
 
 // The tokens one after the other, up to the first that is wrong.
 fn count_tokens(max_doc: u32, fields: &[u32], tokens: &[u32], leaf_fields: &[u32]) -> Counted
-    requires { anyBelow (length leaf_fields.now) (wrongLeafField fields.now leaf_fields.now) ≡ false }
-    ensures wrong_value { result.wrong ≡ anyBelow (tokenCount tokens.now) (wrongToken max_doc leaf_fields.now tokens.now) }
+    requires { any_below (length leaf_fields.now) (wrong_leaf_field fields.now leaf_fields.now) ≡ false }
+    ensures wrong_value { result.wrong ≡ any_below (token_count tokens.now) (wrong_token max_doc leaf_fields.now tokens.now) }
     ensures counts { Counts fields.now leaf_fields.now tokens.now result }
 {
     let mut postings: usize = 0;
@@ -134,7 +134,7 @@ fn count_tokens(max_doc: u32, fields: &[u32], tokens: &[u32], leaf_fields: &[u32
 
 // Whether some leaf's field is absent.
 fn wrong_leaf_fields(fields: &[u32], leaf_fields: &[u32]) -> bool
-    ensures { result ≡ anyBelow (length leaf_fields.now) (wrongLeafField fields.now leaf_fields.now) }
+    ensures { result ≡ any_below (length leaf_fields.now) (wrong_leaf_field fields.now leaf_fields.now) }
 {
     let mut bad = false;
     let mut l = 0;

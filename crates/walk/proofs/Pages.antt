@@ -10,22 +10,22 @@ use lib.Dec.{leb, ltb}
 use lib.ListN.{length, take, drop, set, get_or, length-append, length-map}
 use lib.Seq.{take_at, drop_at, drop-cons, set_at, append_snoc, length_front}
 use borrow.Author.Tests.{le-leb, lt-leb, lt-ltb, ltb-true}
-use Rattle.meaning.specs.Below.{listBelow}
-use Rattle.meaning.specs.Limits.{noMoreDocs}
+use Rattle.meaning.specs.Below.{list_below}
+use Rattle.meaning.specs.Limits.{no_more_docs}
 use Rattle.meaning.specs.Lent.{Index}
-use Rattle.meaning.specs.Live.{isLive}
+use Rattle.meaning.specs.Live.{is_live}
 use Rattle.meaning.specs.First.{First}
 use Rattle.meaning.specs.FullList.{ScoreDoc}
-use Rattle.meaning.specs.Pages.{page, fromTarget, firstDoc}
+use Rattle.meaning.specs.Pages.{page, from_target, first_doc}
 use Rattle.meaning.specs.Entries.{written}
 use Rattle.weight.specs.ScorerTree.{Scorer, matches}
-use Rattle.walk.specs.Walks.{liveMatch, scored, liveScored}
+use Rattle.walk.specs.Walks.{live_match, scored, live_scored}
 use Rattle.meaning.proofs.Tests.{cmp}
 
-from-append : (t : ℕ) (xs ys : List ScoreDoc) → fromTarget t (xs ++ ys) ≡ fromTarget t xs ++ fromTarget t ys
-unfolding fromTarget
+from-append : (t : ℕ) (xs ys : List ScoreDoc) → from_target t (xs ++ ys) ≡ from_target t xs ++ from_target t ys
+unfolding from_target
 from-append t [] ys = refl
-from-append t (x ∷ xs) ys = ap (λ (l : List ScoreDoc). cond (leb t x.doc) (x ∷ []) [] ++ l) (from-append t xs ys) ∙ sym (append_assoc (cond (leb t x.doc) (x ∷ []) []) (fromTarget t xs) (fromTarget t ys))
+from-append t (x ∷ xs) ys = ap (λ (l : List ScoreDoc). cond (leb t x.doc) (x ∷ []) [] ++ l) (from-append t xs ys) ∙ sym (append_assoc (cond (leb t x.doc) (x ∷ []) []) (from_target t xs) (from_target t ys))
 
 map-append : (f : ℕ → ScoreDoc) (xs ys : List ℕ) → map f (xs ++ ys) ≡ map f xs ++ map f ys
 map-append f [] ys = refl
@@ -34,38 +34,38 @@ map-append f (x ∷ xs) ys = ap (λ (l : List ScoreDoc). f x ∷ l) (map-append 
 module _ (f : ℕ → ScoreDoc) (doc-is : (d : ℕ) → (f d).doc ≡ d) (p : ℕ → Bool) where
   -- those below n, from t on
   Left : ℕ → ℕ → List ScoreDoc
-  Left t n = fromTarget t (map f (listBelow n p))
+  Left t n = from_target t (map f (list_below n p))
 
   -- one document
   one_left : ℕ → ℕ → List ScoreDoc
-  one_left t d = fromTarget t (map f (cond (p d) (d ∷ []) []))
+  one_left t d = from_target t (map f (cond (p d) (d ∷ []) []))
 
   one_more : (t n : ℕ) → Left t (suc n) ≡ Left t n ++ one_left t n
-  unfolding listBelow Left one_left
-  one_more t n = ap (fromTarget t) (map-append f (listBelow n p) (cond (p n) (n ∷ []) [])) ∙ from-append t (map f (listBelow n p)) (map f (cond (p n) (n ∷ []) []))
+  unfolding list_below Left one_left
+  one_more t n = ap (from_target t) (map-append f (list_below n p) (cond (p n) (n ∷ []) [])) ∙ from-append t (map f (list_below n p)) (map f (cond (p n) (n ∷ []) []))
 
   none-one : (t d : ℕ) → (t ≤ d → p d ≡ false) → one_left t d ≡ []
-  unfolding one_left fromTarget
+  unfolding one_left from_target
   none-one t d h = ⊎_elim (λ l. before (p d) (lt-leb t d l)) (λ l. rw (h l)) (cmp d t)
     where
-      before : (b : Bool) → leb t d ≡ false → fromTarget t (map f (cond b (d ∷ []) [])) ≡ []
+      before : (b : Bool) → leb t d ≡ false → from_target t (map f (cond b (d ∷ []) [])) ≡ []
       before true e = let q : leb t (f d).doc ≡ false = ap (leb t) (doc-is d) ∙ e in rw q
       before false e = refl
 
   here-one : (t d : ℕ) → t ≤ d → p d ≡ true → one_left t d ≡ f d ∷ []
-  unfolding one_left fromTarget
+  unfolding one_left from_target
   here-one t d l e = let q : leb t (f d).doc ≡ true = ap (leb t) (doc-is d) ∙ le-leb t d l in rw (e, q)
 
   same-one : (t r d : ℕ) → t ≤ d → r ≤ d → one_left t d ≡ one_left r d
-  unfolding one_left fromTarget
+  unfolding one_left from_target
   same-one t r d l m = go (p d)
     where
-      go : (b : Bool) → fromTarget t (map f (cond b (d ∷ []) [])) ≡ fromTarget r (map f (cond b (d ∷ []) []))
+      go : (b : Bool) → from_target t (map f (cond b (d ∷ []) [])) ≡ from_target r (map f (cond b (d ∷ []) []))
       go true = let q : leb t (f d).doc ≡ true = ap (leb t) (doc-is d) ∙ le-leb t d l in let s : leb r (f d).doc ≡ true = ap (leb r) (doc-is d) ∙ le-leb r d m in rw (q, s)
       go false = refl
 
   start_left : (t : ℕ) → Left t zero ≡ []
-  unfolding Left listBelow fromTarget
+  unfolding Left list_below from_target
   start_left t = refl
 
   none_left : (n t : ℕ) → ((d : ℕ) → t ≤ d → d < n → p d ≡ false) → Left t n ≡ []
@@ -88,31 +88,31 @@ module _ (ix : Index) (s : Scorer) where
   both true b e = (refl, e)
   both false b e = absurd (false≢true e)
 
-  match-below : (d : ℕ) → d < ix.maxDoc → liveMatch ix s d ≡ false → isLive ix d && matches ix s d ≡ false
-  unfolding liveMatch
-  match-below d l e = sym (ap (λ (b : Bool). b && (isLive ix d && matches ix s d)) (lt-ltb d ix.maxDoc l)) ∙ e
+  match-below : (d : ℕ) → d < ix.max_doc → live_match ix s d ≡ false → is_live ix d && matches ix s d ≡ false
+  unfolding live_match
+  match-below d l e = sym (ap (λ (b : Bool). b && (is_live ix d && matches ix s d)) (lt-ltb d ix.max_doc l)) ∙ e
 
-  pub match_is : (d : ℕ) → liveMatch ix s d ≡ true → (d < ix.maxDoc) × (isLive ix d && matches ix s d ≡ true) × (matches ix s d ≡ true)
-  unfolding liveMatch
-  match_is d e = let a = both (ltb d ix.maxDoc) (isLive ix d && matches ix s d) e in (ltb-true d ix.maxDoc a.0, a.1, (both (isLive ix d) (matches ix s d) a.1).1)
+  pub match_is : (d : ℕ) → live_match ix s d ≡ true → (d < ix.max_doc) × (is_live ix d && matches ix s d ≡ true) × (matches ix s d ≡ true)
+  unfolding live_match
+  match_is d e = let a = both (ltb d ix.max_doc) (is_live ix d && matches ix s d) e in (ltb-true d ix.max_doc a.0, a.1, (both (is_live ix d) (matches ix s d) a.1).1)
 
-  pub walk_end : ix.maxDoc ≤ noMoreDocs → (t r : ℕ) → First (liveMatch ix s) t r → (r < noMoreDocs → ⊥) → fromTarget t (liveScored ix s) ≡ []
-  unfolding liveScored Left
-  walk_end few t r f m = none_left (scored ix s) (λ d. refl) (λ d. isLive ix d && matches ix s d) ix.maxDoc t (λ d a b. match-below d b (f.before d a (omega arith)))
+  pub walk_end : ix.max_doc ≤ no_more_docs → (t r : ℕ) → First (live_match ix s) t r → (r < no_more_docs → ⊥) → from_target t (live_scored ix s) ≡ []
+  unfolding live_scored Left
+  walk_end few t r f m = none_left (scored ix s) (λ d. refl) (λ d. is_live ix d && matches ix s d) ix.max_doc t (λ d a b. match-below d b (f.before d a (omega arith)))
 
-  pub walk-next : (t r : ℕ) → First (liveMatch ix s) t r → r < noMoreDocs → fromTarget t (liveScored ix s) ≡ scored ix s r ∷ fromTarget (suc r) (liveScored ix s)
-  unfolding liveScored Left
+  pub walk-next : (t r : ℕ) → First (live_match ix s) t r → r < no_more_docs → from_target t (live_scored ix s) ≡ scored ix s r ∷ from_target (suc r) (live_scored ix s)
+  unfolding live_scored Left
   walk-next t r f m =
       let h = match_is r (f.hit m) in
-      first-left (scored ix s) (λ d. refl) (λ d. isLive ix d && matches ix s d) ix.maxDoc t r f.from h.0 h.1 (λ d a b. match-below d (omega (arith, h.0)) (f.before d a b))
+      first-left (scored ix s) (λ d. refl) (λ d. is_live ix d && matches ix s d) ix.max_doc t r f.from h.0 h.1 (λ d a b. match-below d (omega (arith, h.0)) (f.before d a b))
 
 -- ---- the page, from what is given and what is left
-pub page-given : (t m : ℕ) (list xs ys : List ScoreDoc) → fromTarget t list ≡ xs ++ ys → length xs ≡ m → page t m list ≡ record { given = xs; next = firstDoc ys }
+pub page-given : (t m : ℕ) (list xs ys : List ScoreDoc) → from_target t list ≡ xs ++ ys → length xs ≡ m → page t m list ≡ record { given = xs; next = first_doc ys }
 unfolding page
 page-given t m list xs ys e l = rw (e, take_at xs ys m l, drop_at xs ys m l)
 
-pub page-all : (t m : ℕ) (list xs : List ScoreDoc) → fromTarget t list ≡ xs → length xs ≤ m → page t m list ≡ record { given = xs; next = noMoreDocs }
-unfolding page firstDoc
+pub page-all : (t m : ℕ) (list xs : List ScoreDoc) → from_target t list ≡ xs → length xs ≤ m → page t m list ≡ record { given = xs; next = no_more_docs }
+unfolding page first_doc
 page-all t m list xs e l = rw (e, lib.Seq.take_all m xs l, lib.ListN.drop_of_length-le xs l)
 
 -- one more written behind what is written

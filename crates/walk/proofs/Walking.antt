@@ -10,61 +10,61 @@ use lib.Dec.{T, ltb}
 use lib.ListN.{length, set, length-append, length-map}
 use lib.Ieee.{Float, binary32, is_nan, to_bits}
 use borrow.Author.Tests.{lt-ltb, le-ltb}
-use Rattle.meaning.specs.Limits.{noMoreDocs}
+use Rattle.meaning.specs.Limits.{no_more_docs}
 use Rattle.meaning.specs.Lent.{Index}
-use Rattle.meaning.specs.Live.{isLive}
+use Rattle.meaning.specs.Live.{is_live}
 use Rattle.meaning.specs.First.{First}
 use Rattle.meaning.specs.FullList.{ScoreDoc}
-use Rattle.meaning.specs.Pages.{PageOf, page, fromTarget, firstDoc}
+use Rattle.meaning.specs.Pages.{PageOf, page, from_target, first_doc}
 use Rattle.meaning.specs.Entries.{written}
 use Rattle.ieee754.proofs.Bounds.{atmost-number}
-use Rattle.index.specs.Slices.{liveOnly}
-use Rattle.weight.specs.ScorerTree.{Scorer, matches, scorerScore}
+use Rattle.index.specs.Slices.{live_only}
+use Rattle.weight.specs.ScorerTree.{Scorer, matches, scorer_score}
 use Rattle.weight.specs.Held.{Ok}
 use Rattle.scorer.specs.Calls.{Lent, lent, NodeHeld, AdvancePre, AdvancePost}
 use Rattle.leaf_score.specs.Asked.{LentAt, ScoreIs, ScorePre, ScorePost}
-use Rattle.walk.specs.Walks.{liveMatch, scored, liveScored, NextPre, NextPost, PageHeld, ListPre, PageIs, ListPost}
+use Rattle.walk.specs.Walks.{live_match, scored, live_scored, NextPre, NextPost, PageHeld, ListPre, PageIs, ListPost}
 use Rattle.meaning.proofs.Tests.{cmp}
 use Rattle.score.proofs.Loops.{scorable-at}
 use Rattle.leaf_scorer.proofs.Bounds.{ok-mono}
 use Rattle.walk.proofs.Pages.{match_is, walk_end, walk-next, page-given, page-all, write-next}
 
 -- ---- what is a live match
-live_of : (ix : Index) (live : List ℕ) (d : ℕ) → ix.live ≡ live → isLive (liveOnly live) d ≡ isLive ix d
-unfolding isLive
+live_of : (ix : Index) (live : List ℕ) (d : ℕ) → ix.live ≡ live → is_live (live_only live) d ≡ is_live ix d
+unfolding is_live
 live_of ix live d e = rw (← e)
 
 and-false : (b : Bool) → b && false ≡ false
 and-false true = refl
 and-false false = refl
 
-not-match : (ix : Index) (s : Scorer) (d : ℕ) → matches ix s d ≡ false → liveMatch ix s d ≡ false
-unfolding liveMatch
-not-match ix s d e = rw (e, and-false (isLive ix d)) (and-false (ltb d ix.maxDoc))
+not-match : (ix : Index) (s : Scorer) (d : ℕ) → matches ix s d ≡ false → live_match ix s d ≡ false
+unfolding live_match
+not-match ix s d e = rw (e, and-false (is_live ix d)) (and-false (ltb d ix.max_doc))
 
-not_live : (ix : Index) (s : Scorer) (d : ℕ) → isLive ix d ≡ false → liveMatch ix s d ≡ false
-unfolding liveMatch
-not_live ix s d e = rw e (and-false (ltb d ix.maxDoc))
+not_live : (ix : Index) (s : Scorer) (d : ℕ) → is_live ix d ≡ false → live_match ix s d ≡ false
+unfolding live_match
+not_live ix s d e = rw e (and-false (ltb d ix.max_doc))
 
-not-below : (ix : Index) (s : Scorer) (d : ℕ) → ix.maxDoc ≤ d → liveMatch ix s d ≡ false
-unfolding liveMatch
-not-below ix s d l = rw (le-ltb d ix.maxDoc l)
+not-below : (ix : Index) (s : Scorer) (d : ℕ) → ix.max_doc ≤ d → live_match ix s d ≡ false
+unfolding live_match
+not-below ix s d l = rw (le-ltb d ix.max_doc l)
 
-is-match : (ix : Index) (s : Scorer) (d : ℕ) → d < ix.maxDoc → isLive ix d ≡ true → matches ix s d ≡ true → liveMatch ix s d ≡ true
-unfolding liveMatch
-is-match ix s d l e m = rw (lt-ltb d ix.maxDoc l, e, m)
+is-match : (ix : Index) (s : Scorer) (d : ℕ) → d < ix.max_doc → is_live ix d ≡ true → matches ix s d ≡ true → live_match ix s d ≡ true
+unfolding live_match
+is-match ix s d l e m = rw (lt-ltb d ix.max_doc l, e, m)
 
 module _ (E : Lent) (live st₀ : List ℕ) (from depth : ℕ) where
   -- nothing from the start up to the target is a live match
   abbrev pub WalkAt : List ℕ → ℕ → Type 0
   WalkAt st target =
-      (ix : Index) (places : ℕ) (s : Scorer) (scores : ℕ) → ix.live ≡ live → NodeHeld E ix places s depth scores st₀ from → ((d : ℕ) → from ≤ d → d < target → liveMatch ix s d ≡ false) × Ok ix E.ranges s depth scores st target
+      (ix : Index) (places : ℕ) (s : Scorer) (scores : ℕ) → ix.live ≡ live → NodeHeld E ix places s depth scores st₀ from → ((d : ℕ) → from ≤ d → d < target → live_match ix s d ≡ false) × Ok ix E.ranges s depth scores st target
 
   pub walk_start : WalkAt st₀ from
   walk_start ix places s scores e H = ((λ d a b. absurd (omega arith)), H.ok)
 
   module _ (st : List ℕ) (target : ℕ) (I : WalkAt st target) where
-    pub walk-asks : (a b a' b' : ℕ) → a' ≡ a → b' ≡ b → target ≤ noMoreDocs → NextPre E live a b st₀ from depth → AdvancePre E a' b' st target depth
+    pub walk-asks : (a b a' b' : ℕ) → a' ≡ a → b' ≡ b → target ≤ no_more_docs → NextPre E live a b st₀ from depth → AdvancePre E a' b' st target depth
     walk-asks a b a' b' p q m P =
         let W = P.1 in
         let H = W.6 in
@@ -74,11 +74,11 @@ module _ (E : Lent) (live st₀ : List ℕ) (from depth : ℕ) where
       after : (ix : Index) (places : ℕ) (s : Scorer) (scores : ℕ) → ix.live ≡ live → NodeHeld E ix places s depth scores st₀ from → First (matches ix s) target d × Ok ix E.ranges s depth scores st' target
       after ix places s scores e H = post ix places s scores (record { lends = H.lends; sound = H.sound; ok = (I ix places s scores e H).1 })
 
-      before : (ix : Index) (places : ℕ) (s : Scorer) (scores : ℕ) → ix.live ≡ live → NodeHeld E ix places s depth scores st₀ from → (x : ℕ) → from ≤ x → x < d → liveMatch ix s x ≡ false
+      before : (ix : Index) (places : ℕ) (s : Scorer) (scores : ℕ) → ix.live ≡ live → NodeHeld E ix places s depth scores st₀ from → (x : ℕ) → from ≤ x → x < d → live_match ix s x ≡ false
       before ix places s scores e H x a b = ⊎_elim (λ h. (I ix places s scores e H).0 x a h) (λ h. not-match ix s x ((after ix places s scores e H).0.before x h b)) (cmp x target)
 
       -- the node's answer is within reach
-      pub walk_top : (a b : ℕ) → NextPre E live a b st₀ from depth → d ≤ noMoreDocs
+      pub walk_top : (a b : ℕ) → NextPre E live a b st₀ from depth → d ≤ no_more_docs
       walk_top a b P = let W = P.1 in (after W.0 W.1 W.2 W.3 W.5 W.6).0.top
 
       pub walk_from : (a b : ℕ) → NextPre E live a b st₀ from depth → target ≤ d
@@ -87,9 +87,9 @@ module _ (E : Lent) (live st₀ : List ℕ) (from depth : ℕ) where
       pub walk-live : (a b : ℕ) → NextPre E live a b st₀ from depth → d < E.documents → 0 < length live → d < 64 * length live
       walk-live a b P l h =
           let W = P.1 in
-          subst (λ (w : List ℕ). d < 64 * length w) W.5 (W.6.lends.accepted.liveBit (subst (λ (w : List ℕ). 0 < length w) (sym W.5) h) d (subst (λ (i : ℕ). d < i) (sym W.6.lends.documents) l))
+          subst (λ (w : List ℕ). d < 64 * length w) W.5 (W.6.lends.accepted.live_bit (subst (λ (w : List ℕ). 0 < length w) (sym W.5) h) d (subst (λ (i : ℕ). d < i) (sym W.6.lends.documents) l))
 
-      pub walk-stop : from ≤ noMoreDocs → target ≤ noMoreDocs → E.documents ≤ d → NextPost E live st₀ from depth noMoreDocs st'
+      pub walk-stop : from ≤ no_more_docs → target ≤ no_more_docs → E.documents ≤ d → NextPost E live st₀ from depth no_more_docs st'
       walk-stop m top l ix places s scores e H = (
         record {
           from = m;
@@ -97,22 +97,22 @@ module _ (E : Lent) (live st₀ : List ℕ) (from depth : ℕ) where
           before = λ x a b. ⊎_elim (λ h. before ix places s scores e H x a h) (λ h. not-below ix s x (omega (arith, H.lends.documents))) (cmp x d);
           hit = λ h. absurd (omega arith);
         },
-        ok-mono ix E.ranges s depth scores st' target noMoreDocs top (after ix places s scores e H).1,
+        ok-mono ix E.ranges s depth scores st' target no_more_docs top (after ix places s scores e H).1,
       )
 
-      pub walk-found : from ≤ target → d < E.documents → isLive (liveOnly live) d ≡ true → NextPost E live st₀ from depth d st'
+      pub walk-found : from ≤ target → d < E.documents → is_live (live_only live) d ≡ true → NextPost E live st₀ from depth d st'
       walk-found m l y ix places s scores e H =
           let q = after ix places s scores e H in
-          let n : d < ix.maxDoc = omega (arith, H.lends.documents) in
-          let few : d < noMoreDocs = omega (arith, n, H.lends.accepted.documents) in (
+          let n : d < ix.max_doc = omega (arith, H.lends.documents) in
+          let few : d < no_more_docs = omega (arith, n, H.lends.accepted.documents) in (
             record { from = le_trans m q.0.from; top = q.0.top; before = before ix places s scores e H; hit = λ h. is-match ix s d n (sym (live_of ix live d e) ∙ y) (q.0.hit few) },
             ok-mono ix E.ranges s depth scores st' target d q.0.from q.1,
           )
 
-      pub walk_more : isLive (liveOnly live) d ≡ false → WalkAt st' (d + 1)
+      pub walk_more : is_live (live_only live) d ≡ false → WalkAt st' (d + 1)
       walk_more y ix places s scores e H =
           let q = after ix places s scores e H in (
-            (λ x a b. ⊎_elim (λ h. before ix places s scores e H x a h) (λ h. let z : x ≡ d = omega arith in subst (λ (i : ℕ). liveMatch ix s i ≡ false) (sym z) (not_live ix s d (sym (live_of ix live d e) ∙ y))) (cmp x d)),
+            (λ x a b. ⊎_elim (λ h. before ix places s scores e H x a h) (λ h. let z : x ≡ d = omega arith in subst (λ (i : ℕ). live_match ix s i ≡ false) (sym z) (not_live ix s d (sym (live_of ix live d e) ∙ y))) (cmp x d)),
             ok-mono ix E.ranges s depth scores st' target (d + 1) (omega (arith, q.0.from)) q.1,
           )
 
@@ -134,18 +134,18 @@ module _ (n : ℕ) (postings positions norms ranges : List ℕ) (live : List ℕ
   pub record Given (ix : Index) (s : Scorer) (scores : ℕ) (st docs bits : List ℕ) (given next : ℕ) : Type 0 where
     pub xs : List ScoreDoc
     pub ys : List ScoreDoc
-    pub all : fromTarget from (liveScored ix s) ≡ xs ++ ys
+    pub all : from_target from (live_scored ix s) ≡ xs ++ ys
     pub number : length xs ≡ given
     pub docs-are : docs ≡ written (docs-of xs) docs₀
     pub bits_are : bits ≡ written (bits_of xs) bits₀
     pub t : ℕ
-    pub left : ys ≡ fromTarget t (liveScored ix s)
-    pub first : First (liveMatch ix s) t next
+    pub left : ys ≡ from_target t (live_scored ix s)
+    pub first : First (live_match ix s) t next
     pub ok : Ok ix ranges s depth scores st next
 
   -- where the loop begins: the first match is known
   abbrev pub Begun : Index → Scorer → ℕ → Type 0
-  Begun ix s scores = PageHeld E norms live table ix places s depth scores st₁ next₁ × First (liveMatch ix s) from next₁
+  Begun ix s scores = PageHeld E norms live table ix places s depth scores st₁ next₁ × First (live_match ix s) from next₁
 
   abbrev Pre : Type 0
   Pre = (ix : Index) × (s : Scorer) × (scores : ℕ) × Begun ix s scores
@@ -153,7 +153,7 @@ module _ (n : ℕ) (postings positions norms ranges : List ℕ) (live : List ℕ
   -- the page, and the words behind it
   abbrev pub Done : ℕ → ℕ → List ℕ → List ℕ → List ℕ → Type 0
   Done given next st docs bits =
-      (ix : Index) (s : Scorer) (scores : ℕ) → Begun ix s scores → PageIs (page from (length docs₀) (liveScored ix s)) docs₀ bits₀ (record { given = given; next = next }) docs bits × Ok ix ranges s depth scores st next
+      (ix : Index) (s : Scorer) (scores : ℕ) → Begun ix s scores → PageIs (page from (length docs₀) (live_scored ix s)) docs₀ bits₀ (record { given = given; next = next }) docs bits × Ok ix ranges s depth scores st next
 
   abbrev pub GivenAt : List ℕ → List ℕ → List ℕ → ℕ → ℕ → Type 0
   GivenAt st docs bits given next = (ix : Index) (s : Scorer) (scores : ℕ) → Begun ix s scores → Given ix s scores st docs bits given next
@@ -163,23 +163,23 @@ module _ (n : ℕ) (postings positions norms ranges : List ℕ) (live : List ℕ
 
   pub page-start : GivenAt st₁ docs₀ bits₀ 0 next₁
   page-start ix s scores H =
-      record { xs = []; ys = fromTarget from (liveScored ix s); all = refl; number = refl; docs-are = refl; bits_are = refl; t = from; left = refl; first = H.1; ok = H.0.ok }
+      record { xs = []; ys = from_target from (live_scored ix s); all = refl; number = refl; docs-are = refl; bits_are = refl; t = from; left = refl; first = H.1; ok = H.0.ok }
 
   module _ (st docs bits : List ℕ) (given next : ℕ) (I : GivenAt st docs bits given next) where
     -- what the next document is
-    pub page-top : Pre → next ≤ noMoreDocs
+    pub page-top : Pre → next ≤ no_more_docs
     page-top P = let W = P in (I W.0 W.1 W.2 W.3).first.top
 
-    less : next ≤ noMoreDocs → (next ≡ noMoreDocs → ⊥) → next < noMoreDocs
+    less : next ≤ no_more_docs → (next ≡ no_more_docs → ⊥) → next < no_more_docs
     less a m = ⊎_elim (λ e. absurd (m e)) (λ l. l) (eq-or-lt_of_le a)
 
-    lent_at : (ix : Index) (s : Scorer) (scores : ℕ) → Begun ix s scores → (next ≡ noMoreDocs → ⊥) → LentAt ix n postings positions norms next × (matches ix s next ≡ true)
+    lent_at : (ix : Index) (s : Scorer) (scores : ℕ) → Begun ix s scores → (next ≡ no_more_docs → ⊥) → LentAt ix n postings positions norms next × (matches ix s next ≡ true)
     lent_at ix s scores H m =
         let g = I ix s scores H in
         let h = match_is ix s next (g.first.hit (less g.first.top m)) in
         (record { lends = H.0.lends; norms-are = H.0.norms-are; document = subst (λ (i : ℕ). next < i) H.0.lends.documents h.0 }, h.2)
 
-    module _ (m : next ≡ noMoreDocs → ⊥) (places' : ℕ) (same : places' ≡ places) where
+    module _ (m : next ≡ no_more_docs → ⊥) (places' : ℕ) (same : places' ≡ places) where
       pub page-score-asks : Pre → ScorePre st n postings positions norms ranges table places' next depth
       page-score-asks P =
           let W = P in
@@ -199,7 +199,7 @@ module _ (n : ℕ) (postings positions norms ranges : List ℕ) (live : List ℕ
         pub page-next-asks : (a b : ℕ) → min a b ≡ places → Pre → NextPre E live a b st' (next + 1) depth
         page-next-asks a b e P =
             let W = P in
-            let l : next < noMoreDocs = less (page-top P) m in
+            let l : next < no_more_docs = less (page-top P) m in
             (omega arith, (W.0, places, W.1, W.2, record { in-a = omega arith; in_b = omega arith }, W.3.0.live-are, node-held W.0 W.1 W.2 W.3 st' (next + 1) (ok-next W.0 W.1 W.2 W.3)))
 
         pub page-more : (next' : ℕ) (st'' : List ℕ) → NextPost E live st' (next + 1) depth next' st'' → given < length docs₀ → given < length bits₀ → GivenAt st'' (set docs given next) (set bits given (to_bits binary32 r)) (given + 1) next'
@@ -207,49 +207,49 @@ module _ (n : ℕ) (postings positions norms ranges : List ℕ) (live : List ℕ
             let g = I ix s scores H in
             let q = post' ix places s scores H.0.live-are (node-held ix s scores H st' (next + 1) (ok-next ix s scores H)) in
             let z = scored ix s next in
-            let w : g.ys ≡ z ∷ fromTarget (suc next) (liveScored ix s) = g.left ∙ walk-next ix s g.t next g.first (less g.first.top m) in
+            let w : g.ys ≡ z ∷ from_target (suc next) (live_scored ix s) = g.left ∙ walk-next ix s g.t next g.first (less g.first.top m) in
             let e : next + 1 ≡ suc next = omega arith in
-            let sc : r ≡ scorerScore ix s next = (scored-at ix s scores H).0.is in
+            let sc : r ≡ scorer_score ix s next = (scored-at ix s scores H).0.is in
             let ld : length (docs-of g.xs) ≡ given = length-map g.xs _ ∙ g.number in
             let lb : length (bits_of g.xs) ≡ given = length-map g.xs _ ∙ g.number in
             record {
               xs = g.xs ++ (z ∷ []);
-              ys = fromTarget (suc next) (liveScored ix s);
-              all = g.all ∙ ap (λ (l : List ScoreDoc). g.xs ++ l) w ∙ sym (append_assoc g.xs (z ∷ []) (fromTarget (suc next) (liveScored ix s)));
+              ys = from_target (suc next) (live_scored ix s);
+              all = g.all ∙ ap (λ (l : List ScoreDoc). g.xs ++ l) w ∙ sym (append_assoc g.xs (z ∷ []) (from_target (suc next) (live_scored ix s)));
               number = omega (arith, length-append g.xs (z ∷ []), g.number);
               docs-are = ap (λ (l : List ℕ). set l given next) g.docs-are ∙ write-next (docs-of g.xs) docs₀ next given ld a ∙ ap (λ (l : List ℕ). written l docs₀) (sym (map_snoc (λ h. h.doc) g.xs z));
               bits_are = ap (λ (l : List ℕ). set l given (to_bits binary32 r)) g.bits_are ∙ write-next (bits_of g.xs) bits₀ (to_bits binary32 r) given lb b ∙ ap (λ (x : Float). written (bits_of g.xs ++ (to_bits binary32 x ∷ [])) bits₀) sc ∙ ap (λ (l : List ℕ). written l bits₀) (sym (map_snoc (λ h. to_bits binary32 h.score) g.xs z));
               t = suc next;
               left = refl;
-              first = subst (λ (i : ℕ). First (liveMatch ix s) i next') e q.0;
+              first = subst (λ (i : ℕ). First (live_match ix s) i next') e q.0;
               ok = q.1;
             }
 
-    few-documents : (ix : Index) (s : Scorer) (scores : ℕ) → Begun ix s scores → ix.maxDoc ≤ noMoreDocs
+    few-documents : (ix : Index) (s : Scorer) (scores : ℕ) → Begun ix s scores → ix.max_doc ≤ no_more_docs
     few-documents ix s scores H = omega (arith, H.0.lends.accepted.documents)
 
     -- no more matches
-    pub page-none : next ≡ noMoreDocs → given ≤ length docs₀ → Done given next st docs bits
+    pub page-none : next ≡ no_more_docs → given ≤ length docs₀ → Done given next st docs bits
     page-none m l ix s scores H =
         let g = I ix s scores H in
         let none : g.ys ≡ [] = g.left ∙ walk_end ix s (few-documents ix s scores H) g.t next g.first (λ h. omega arith) in
-        let p : page from (length docs₀) (liveScored ix s) ≡ record { given = g.xs; next = noMoreDocs } = page-all from (length docs₀) (liveScored ix s) g.xs (g.all ∙ ap (λ (y : List ScoreDoc). g.xs ++ y) none ∙ append-nil g.xs) (omega (arith, g.number)) in
+        let p : page from (length docs₀) (live_scored ix s) ≡ record { given = g.xs; next = no_more_docs } = page-all from (length docs₀) (live_scored ix s) g.xs (g.all ∙ ap (λ (y : List ScoreDoc). g.xs ++ y) none ∙ append-nil g.xs) (omega (arith, g.number)) in
         (subst (λ (o : PageOf). PageIs o docs₀ bits₀ (record { given = given; next = next }) docs bits) (sym p) (record { given_is = sym g.number; next-is = m; documents-are = g.docs-are; scores-are = g.bits_are }), g.ok)
 
-    first_of : (ix : Index) (s : Scorer) (scores : ℕ) (H : Begun ix s scores) → next ≡ firstDoc (I ix s scores H).ys
-    unfolding firstDoc
+    first_of : (ix : Index) (s : Scorer) (scores : ℕ) (H : Begun ix s scores) → next ≡ first_doc (I ix s scores H).ys
+    unfolding first_doc
     first_of ix s scores H =
         let g = I ix s scores H in
         ⊎_elim
-        (λ h. h ∙ ap firstDoc (sym (g.left ∙ walk_end ix s (few-documents ix s scores H) g.t next g.first (λ i. omega arith))))
-        (λ h. ap firstDoc (sym (g.left ∙ walk-next ix s g.t next g.first h)))
+        (λ h. h ∙ ap first_doc (sym (g.left ∙ walk_end ix s (few-documents ix s scores H) g.t next g.first (λ i. omega arith))))
+        (λ h. ap first_doc (sym (g.left ∙ walk-next ix s g.t next g.first h)))
         (eq-or-lt_of_le g.first.top)
 
     -- the outputs are full
     pub page-full : given ≡ length docs₀ → Done given next st docs bits
     page-full l ix s scores H =
         let g = I ix s scores H in
-        let p : page from (length docs₀) (liveScored ix s) ≡ record { given = g.xs; next = firstDoc g.ys } = page-given from (length docs₀) (liveScored ix s) g.xs g.ys g.all (g.number ∙ l) in
+        let p : page from (length docs₀) (live_scored ix s) ≡ record { given = g.xs; next = first_doc g.ys } = page-given from (length docs₀) (live_scored ix s) g.xs g.ys g.all (g.number ∙ l) in
         (subst (λ (o : PageOf). PageIs o docs₀ bits₀ (record { given = given; next = next }) docs bits) (sym p) (record { given_is = sym g.number; next-is = first_of ix s scores H; documents-are = g.docs-are; scores-are = g.bits_are }), g.ok)
 
 -- ---- into the loop, and out of it

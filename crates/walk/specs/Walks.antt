@@ -2,15 +2,15 @@
 use Rattle.std.specs.Prelude.{◌≡◌, Bool, ◌&&◌, List, map, ℕ, ◌≤◌, ltb, length, Float}
 use Rattle.std.specs.Float.{binary32}
 use Rattle.std.specs.Float.Ieee.{to_bits}
-use Rattle.meaning.specs.Below.{listBelow}
-use Rattle.meaning.specs.Limits.{noMoreDocs}
+use Rattle.meaning.specs.Below.{list_below}
+use Rattle.meaning.specs.Limits.{no_more_docs}
 use Rattle.meaning.specs.Lent.{Index}
-use Rattle.meaning.specs.Live.{isLive}
+use Rattle.meaning.specs.Live.{is_live}
 use Rattle.meaning.specs.First.{First}
 use Rattle.meaning.specs.FullList.{ScoreDoc}
 use Rattle.meaning.specs.Pages.{PageOf, page}
 use Rattle.meaning.specs.Entries.{written}
-use Rattle.weight.specs.ScorerTree.{Scorer, matches, scorerScore}
+use Rattle.weight.specs.ScorerTree.{Scorer, matches, scorer_score}
 use Rattle.weight.specs.Held.{Ok}
 use Rattle.weight.specs.Sound.{Lends}
 use Rattle.scorer.specs.Calls.{Lent, RoomIn, NodeHeld}
@@ -18,26 +18,26 @@ use Rattle.leaf_score.specs.Asked.{Scorable}
 use Rattle.walk.specs.declared.Listed.{Listed}
 
 -- a live document of the index that the scorer matches
-unfoldable pub liveMatch : Index → Scorer → ℕ → Bool
-liveMatch ix s d = ltb d ix.maxDoc && (isLive ix d && matches ix s d)
+unfoldable pub live_match : Index → Scorer → ℕ → Bool
+live_match ix s d = ltb d ix.max_doc && (is_live ix d && matches ix s d)
 
 -- a document with its score
 abbrev pub scored : Index → Scorer → ℕ → ScoreDoc
-scored ix s d = record { doc = d; score = scorerScore ix s d }
+scored ix s d = record { doc = d; score = scorer_score ix s d }
 
 -- the live documents that the scorer matches, ascending, each with its score
-unfoldable pub liveScored : Index → Scorer → List ScoreDoc
-liveScored ix s = map (scored ix s) (listBelow ix.maxDoc (λ d. isLive ix d && matches ix s d))
+unfoldable pub live_scored : Index → Scorer → List ScoreDoc
+live_scored ix s = map (scored ix s) (list_below ix.max_doc (λ d. is_live ix d && matches ix s d))
 
 -- some index and tree that the words hold, with these live words
 abbrev pub NextPre : Lent → List ℕ → ℕ → ℕ → List ℕ → ℕ → ℕ → Type 0
 NextPre E live a b st from depth =
-    (from ≤ noMoreDocs) × ((ix : Index) × (places : ℕ) × (s : Scorer) × (scores : ℕ) × RoomIn places a b × (ix.live ≡ live) × NodeHeld E ix places s depth scores st from)
+    (from ≤ no_more_docs) × ((ix : Index) × (places : ℕ) × (s : Scorer) × (scores : ℕ) × RoomIn places a b × (ix.live ≡ live) × NodeHeld E ix places s depth scores st from)
 
 -- for each of them, the first live match; the words can be asked from there on
 abbrev pub NextPost : Lent → List ℕ → List ℕ → ℕ → ℕ → ℕ → List ℕ → Type 0
 NextPost E live st from depth r st' =
-    (ix : Index) (places : ℕ) (s : Scorer) (scores : ℕ) → ix.live ≡ live → NodeHeld E ix places s depth scores st from → First (liveMatch ix s) from r × Ok ix E.ranges s depth scores st' r
+    (ix : Index) (places : ℕ) (s : Scorer) (scores : ℕ) → ix.live ≡ live → NodeHeld E ix places s depth scores st from → First (live_match ix s) from r × Ok ix E.ranges s depth scores st' r
 
 -- what a page asks: a tree whose scores can be worked out, with these norms and live words
 pub record PageHeld (E : Lent) (norms live : List ℕ) (table : List Float) (ix : Index) (places : ℕ) (s : Scorer) (depth scores : ℕ) (st : List ℕ) (from : ℕ) : Type 0 where
@@ -50,7 +50,7 @@ pub record PageHeld (E : Lent) (norms live : List ℕ) (table : List Float) (ix 
 -- outputs of equal length, as Page has them; phrase buffers of so many places
 abbrev pub ListPre : Lent → List ℕ → List ℕ → List Float → ℕ → List ℕ → ℕ → ℕ → List ℕ → List ℕ → Type 0
 ListPre E norms live table places st from depth docs bits =
-    (from ≤ noMoreDocs) × (length docs ≡ length bits) × ((ix : Index) × (s : Scorer) × (scores : ℕ) × PageHeld E norms live table ix places s depth scores st from)
+    (from ≤ no_more_docs) × (length docs ≡ length bits) × ((ix : Index) × (s : Scorer) × (scores : ℕ) × PageHeld E norms live table ix places s depth scores st from)
 
 -- the outputs afterwards, and the answer, are those of the page
 pub record PageIs (p : PageOf) (docs bits : List ℕ) (r : Listed) (docs' bits' : List ℕ) : Type 0 where
@@ -61,4 +61,4 @@ pub record PageIs (p : PageOf) (docs bits : List ℕ) (r : Listed) (docs' bits' 
 
 abbrev pub ListPost : Lent → List ℕ → List ℕ → List Float → ℕ → List ℕ → ℕ → ℕ → List ℕ → List ℕ → Listed → List ℕ → List ℕ → List ℕ → Type 0
 ListPost E norms live table places st from depth docs bits r st' docs' bits' =
-    (ix : Index) (s : Scorer) (scores : ℕ) → PageHeld E norms live table ix places s depth scores st from → PageIs (page from (length docs) (liveScored ix s)) docs bits r docs' bits' × Ok ix E.ranges s depth scores st' r.next
+    (ix : Index) (s : Scorer) (scores : ℕ) → PageHeld E norms live table ix places s depth scores st from → PageIs (page from (length docs) (live_scored ix s)) docs bits r docs' bits' × Ok ix E.ranges s depth scores st' r.next

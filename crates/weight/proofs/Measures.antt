@@ -10,26 +10,26 @@ use lib.Dec.{ltb}
 use lib.ListN.{length, get_or, set}
 use lib.Seq.{get_or-set_same, get_or-set_other}
 use borrow.Author.Tests.{lt-ltb, le-ltb, eqb-true}
-use Rattle.meaning.specs.Below.{listTo}
-use Rattle.meaning.specs.Lent.{Index, leafNumber, leafCount}
+use Rattle.meaning.specs.Below.{list_to}
+use Rattle.meaning.specs.Lent.{Index, leaf_number, leaf_count}
 use Rattle.meaning.specs.Phrase.{PhraseTerm}
-use Rattle.meaning.specs.Range.{rangeDocuments}
-use Rattle.meaning.specs.Query.{recordCount, recordKind, recordChildren, recordValue, phraseTermsOf, isPhraseTerm, range_of, Tree, term, range, matchAll, matchNone, Decoded, decode}
-use Rattle.meaning.specs.Scorer.{hasScorer, allHavePostings}
+use Rattle.meaning.specs.Range.{range_documents}
+use Rattle.meaning.specs.Query.{record_count, record_kind, record_children, record_value, phrase_terms_of, is_phrase_term, range_of, Tree, term, range, match_all, match_none, Decoded, decode}
+use Rattle.meaning.specs.Scorer.{has_scorer, all_have_postings}
 use Rattle.meaning.specs.Cost.{cost, least}
 use Rattle.meaning.specs.QueryRefusals.{wrong7, wrong8}
 use Rattle.query.proofs.Inverse.{term-at, phrase-at, range_at, all-at, none-at, constant-at, boost-at, kind-is, KindIs, is-term, is-phrase, is-boolean, is-range, is_all, is-constant, is-boost, is_none, both_true}
 use Rattle.query.proofs.Above.{decoded-here}
 use Rattle.query.proofs.Accepted.{term-leaf, phrase-term-right}
-use Rattle.query.proofs.Right.{length-listTo}
-use Rattle.weight.specs.Measured.{MeasureIs, Measured, termNumbers}
+use Rattle.query.proofs.Right.{length-list_to}
+use Rattle.weight.specs.Measured.{MeasureIs, Measured, term_numbers}
 use Rattle.weight.proofs.Standing.{deep, tree-at}
 
 -- ---- a phrase's numbers of postings
-map-listTo : (n : ℕ) (f : ℕ → PhraseTerm) (g : PhraseTerm → ℕ) → map g (listTo n f) ≡ listTo n (λ j. g (f j))
-unfolding listTo
-map-listTo zero f g = refl
-map-listTo (suc n) f g = map_last (listTo n f) (f n) ∙ ap (λ (xs : List ℕ). xs ++ (g (f n) ∷ [])) (map-listTo n f g)
+map-list_to : (n : ℕ) (f : ℕ → PhraseTerm) (g : PhraseTerm → ℕ) → map g (list_to n f) ≡ list_to n (λ j. g (f j))
+unfolding list_to
+map-list_to zero f g = refl
+map-list_to (suc n) f g = map_last (list_to n f) (f n) ∙ ap (λ (xs : List ℕ). xs ++ (g (f n) ∷ [])) (map-list_to n f g)
   where
     map_last : (xs : List PhraseTerm) (x : PhraseTerm) → map g (xs ++ (x ∷ [])) ≡ map g xs ++ (g x ∷ [])
     map_last [] x = refl
@@ -48,63 +48,63 @@ and-true : (b : Bool) → (b && true) ≡ b
 and-true true = refl
 and-true false = refl
 
-all-positive : (ix : Index) (t : PhraseTerm) (ts : List PhraseTerm) → allHavePostings ix (t ∷ ts) ≡ ltb 0 (least (map (λ t. leafNumber ix t.leaf) (t ∷ ts)))
-unfolding allHavePostings least
-all-positive ix t [] = and-true (ltb 0 (leafNumber ix t.leaf))
+all-positive : (ix : Index) (t : PhraseTerm) (ts : List PhraseTerm) → all_have_postings ix (t ∷ ts) ≡ ltb 0 (least (map (λ t. leaf_number ix t.leaf) (t ∷ ts)))
+unfolding all_have_postings least
+all-positive ix t [] = and-true (ltb 0 (leaf_number ix t.leaf))
 all-positive ix t (u ∷ us) =
-    ap (λ (b : Bool). ltb 0 (leafNumber ix t.leaf) && b) (all-positive ix u us)
-    ∙ both_positive (leafNumber ix t.leaf) (least (map (λ t. leafNumber ix t.leaf) (u ∷ us)))
+    ap (λ (b : Bool). ltb 0 (leaf_number ix t.leaf) && b) (all-positive ix u us)
+    ∙ both_positive (leaf_number ix t.leaf) (least (map (λ t. leaf_number ix t.leaf) (u ∷ us)))
 
-some-positive : (ix : Index) (ts : List PhraseTerm) → 1 ≤ length ts → allHavePostings ix ts ≡ ltb 0 (least (map (λ t. leafNumber ix t.leaf) ts))
+some-positive : (ix : Index) (ts : List PhraseTerm) → 1 ≤ length ts → all_have_postings ix ts ≡ ltb 0 (least (map (λ t. leaf_number ix t.leaf) ts))
 some-positive ix [] h = absurd (omega (arith, h))
 some-positive ix (t ∷ ts) h = all-positive ix t ts
 
 module _ (ix : Index) (q : List ℕ) (k at : ℕ) (D : Decoded) (e : decode q k at ≡ some D) where
   -- a leaf that has a scorer, or not
-  leaf-measured : (t : Tree) (present n : ℕ) → D.tree ≡ t → D.next ≡ at + 1 → present ≡ cond (hasScorer ix t) 1 0 → n ≡ cost ix t → n < 4294967296 → MeasureIs ix at D (at + 1) present n
+  leaf-measured : (t : Tree) (present n : ℕ) → D.tree ≡ t → D.next ≡ at + 1 → present ≡ cond (has_scorer ix t) 1 0 → n ≡ cost ix t → n < 4294967296 → MeasureIs ix at D (at + 1) present n
   leaf-measured t present n f g h i small =
-      record { next-is = sym g; present-is = h ∙ ap (λ (x : Tree). cond (hasScorer ix x) 1 0) (sym f); cost-is = i ∙ ap (cost ix) (sym f); small = omega (arith, small) }
+      record { next-is = sym g; present-is = h ∙ ap (λ (x : Tree). cond (has_scorer ix x) 1 0) (sym f); cost-is = i ∙ ap (cost ix) (sym f); small = omega (arith, small) }
 
-  pub term-measured : (leaves : List ℕ) (l n present : ℕ) → recordKind q at ≡ 1 → ix.leaves ≡ leaves → l ≡ recordValue q at 0 → n ≡ get_or leaves (4 * l + 2) 0 → n < 4294967296 → present ≡ cond (ltb 0 n) 1 0 → MeasureIs ix at D (at + 1) present n
-  unfolding hasScorer cost
+  pub term-measured : (leaves : List ℕ) (l n present : ℕ) → record_kind q at ≡ 1 → ix.leaves ≡ leaves → l ≡ record_value q at 0 → n ≡ get_or leaves (4 * l + 2) 0 → n < 4294967296 → present ≡ cond (ltb 0 n) 1 0 → MeasureIs ix at D (at + 1) present n
+  unfolding has_scorer cost
   term-measured leaves l n present kind are is number small p =
       let t = term-at q (k - 1) at D (deep q k at D e) kind in
-      let same : n ≡ leafNumber ix (recordValue q at 0) = number ∙ ap (λ (z : List ℕ). get_or z (4 * l + 2) 0) (sym are) ∙ ap (leafNumber ix) is in
-      leaf-measured (term (recordValue q at 0)) present n t.tree_is t.next-is (p ∙ ap (λ (z : ℕ). cond (ltb 0 z) 1 0) same) same small
+      let same : n ≡ leaf_number ix (record_value q at 0) = number ∙ ap (λ (z : List ℕ). get_or z (4 * l + 2) 0) (sym are) ∙ ap (leaf_number ix) is in
+      leaf-measured (term (record_value q at 0)) present n t.tree_is t.next-is (p ∙ ap (λ (z : ℕ). cond (ltb 0 z) 1 0) same) same small
 
-  pub phrase-measured : (leaves : List ℕ) (next n present : ℕ) → recordKind q at ≡ 2 → ix.leaves ≡ leaves → next ≡ at + 1 + recordChildren q at → n ≡ least (termNumbers q leaves at (recordChildren q at)) → n < 4294967296 → present ≡ cond (ltb 0 n) 1 0 → MeasureIs ix at D next present n
-  unfolding hasScorer cost
+  pub phrase-measured : (leaves : List ℕ) (next n present : ℕ) → record_kind q at ≡ 2 → ix.leaves ≡ leaves → next ≡ at + 1 + record_children q at → n ≡ least (term_numbers q leaves at (record_children q at)) → n < 4294967296 → present ≡ cond (ltb 0 n) 1 0 → MeasureIs ix at D next present n
+  unfolding has_scorer cost
   phrase-measured leaves next n present kind are is number small p =
       let t = phrase-at q (k - 1) at D (deep q k at D e) kind in
-      let ts = phraseTermsOf q at in
-      let m = recordChildren q at in
-      let same : n ≡ least (map (λ t. leafNumber ix t.leaf) ts) =
+      let ts = phrase_terms_of q at in
+      let m = record_children q at in
+      let same : n ≡ least (map (λ t. leaf_number ix t.leaf) ts) =
       number
-      ∙ ap (λ (z : List ℕ). least (termNumbers q z at m)) (sym are)
-      ∙ ap least (sym (map-listTo m (λ j. record { leaf = recordValue q (at + 1 + j) 0; offset = recordValue q (at + 1 + j) 1 }) (λ t. leafNumber ix t.leaf))) in
-      let long = length-listTo m (λ j. termAt j) in
+      ∙ ap (λ (z : List ℕ). least (term_numbers q z at m)) (sym are)
+      ∙ ap least (sym (map-list_to m (λ j. record { leaf = record_value q (at + 1 + j) 0; offset = record_value q (at + 1 + j) 1 }) (λ t. leaf_number ix t.leaf))) in
+      let long = length-list_to m (λ j. term_at j) in
       let some-terms = t.some-terms in
       record {
         next-is = is ∙ sym t.next-is;
-        present-is = p ∙ ap (λ (z : ℕ). cond (ltb 0 z) 1 0) same ∙ ap (λ (b : Bool). cond b 1 0) (sym (some-positive ix ts (omega (arith, long, some-terms)))) ∙ ap (λ (x : Tree). cond (hasScorer ix x) 1 0) (sym t.tree_is);
+        present-is = p ∙ ap (λ (z : ℕ). cond (ltb 0 z) 1 0) same ∙ ap (λ (b : Bool). cond b 1 0) (sym (some-positive ix ts (omega (arith, long, some-terms)))) ∙ ap (λ (x : Tree). cond (has_scorer ix x) 1 0) (sym t.tree_is);
         cost-is = same ∙ ap (cost ix) (sym t.tree_is);
         small = omega (arith, small, is);
       }
     where
-      termAt : ℕ → PhraseTerm
-      termAt j = record { leaf = recordValue q (at + 1 + j) 0; offset = recordValue q (at + 1 + j) 1 }
+      term_at : ℕ → PhraseTerm
+      term_at j = record { leaf = record_value q (at + 1 + j) 0; offset = record_value q (at + 1 + j) 1 }
 
-  pub range-measured : (n : ℕ) → recordKind q at ≡ 4 → n ≡ length (rangeDocuments ix (range_of q at)) → n < 4294967296 → MeasureIs ix at D (at + 1) 1 n
-  unfolding hasScorer cost
+  pub range-measured : (n : ℕ) → record_kind q at ≡ 4 → n ≡ length (range_documents ix (range_of q at)) → n < 4294967296 → MeasureIs ix at D (at + 1) 1 n
+  unfolding has_scorer cost
   range-measured n kind is small =
       let t = range_at q (k - 1) at D (deep q k at D e) kind in leaf-measured (range (range_of q at)) 1 n t.tree_is t.next-is refl is small
 
-  pub all-measured : (n : ℕ) → recordKind q at ≡ 5 → ix.maxDoc ≡ n → n < 4294967296 → MeasureIs ix at D (at + 1) 1 n
-  unfolding hasScorer cost
+  pub all-measured : (n : ℕ) → record_kind q at ≡ 5 → ix.max_doc ≡ n → n < 4294967296 → MeasureIs ix at D (at + 1) 1 n
+  unfolding has_scorer cost
   all-measured n kind is small =
-      let t = all-at q (k - 1) at D (deep q k at D e) kind in leaf-measured matchAll 1 n t.tree_is t.next-is refl (sym is) small
+      let t = all-at q (k - 1) at D (deep q k at D e) kind in leaf-measured match_all 1 n t.tree_is t.next-is refl (sym is) small
 
-  child-measured : (C : Decoded) (next present n : ℕ) → hasScorer ix C.tree ≡ hasScorer ix D.tree → cost ix C.tree ≡ cost ix D.tree → D.next ≡ C.next → MeasureIs ix (at + 1) C next present n → MeasureIs ix at D next present n
+  child-measured : (C : Decoded) (next present n : ℕ) → has_scorer ix C.tree ≡ has_scorer ix D.tree → cost ix C.tree ≡ cost ix D.tree → D.next ≡ C.next → MeasureIs ix (at + 1) C next present n → MeasureIs ix at D next present n
   child-measured C next present n f g h m =
       let small = m.small in
       record { next-is = m.next-is ∙ sym h; present-is = m.present-is ∙ ap (λ (b : Bool). cond b 1 0) f; cost-is = m.cost-is ∙ g; small = omega (arith, small) }
@@ -113,23 +113,23 @@ module _ (ix : Index) (q : List ℕ) (k at : ℕ) (D : Decoded) (e : decode q k 
     below : (C : Decoded) → decode q (k - 1) (at + 1) ≡ some C → MeasureIs ix (at + 1) C next present n
     below C d = rw (a, b, c) (m (k - 1) (at + 1) C (omega arith) d)
 
-    pub constant-measured : recordKind q at ≡ 6 → MeasureIs ix at D next present n
-    unfolding hasScorer cost
+    pub constant-measured : record_kind q at ≡ 6 → MeasureIs ix at D next present n
+    unfolding has_scorer cost
     constant-measured kind =
         let t = constant-at q (k - 1) at D (deep q k at D e) kind in
-        child-measured t.child next present n (ap (hasScorer ix) (sym t.tree_is)) (ap (cost ix) (sym t.tree_is)) t.next-is (below t.child t.decoded)
+        child-measured t.child next present n (ap (has_scorer ix) (sym t.tree_is)) (ap (cost ix) (sym t.tree_is)) t.next-is (below t.child t.decoded)
 
-    pub boost-measured : recordKind q at ≡ 7 → MeasureIs ix at D next present n
-    unfolding hasScorer cost
+    pub boost-measured : record_kind q at ≡ 7 → MeasureIs ix at D next present n
+    unfolding has_scorer cost
     boost-measured kind =
         let t = boost-at q (k - 1) at D (deep q k at D e) kind in
-        child-measured t.child next present n (ap (hasScorer ix) (sym t.tree_is)) (ap (cost ix) (sym t.tree_is)) t.next-is (below t.child t.decoded)
+        child-measured t.child next present n (ap (has_scorer ix) (sym t.tree_is)) (ap (cost ix) (sym t.tree_is)) t.next-is (below t.child t.decoded)
 
-  pub none-measured : (recordKind q at ≡ 1 → ⊥) → (recordKind q at ≡ 2 → ⊥) → (recordKind q at ≡ 3 → ⊥) → (recordKind q at ≡ 4 → ⊥) → (recordKind q at ≡ 5 → ⊥) → (recordKind q at ≡ 6 → ⊥) → (recordKind q at ≡ 7 → ⊥) → MeasureIs ix at D (at + 1) 0 0
-  unfolding hasScorer cost
+  pub none-measured : (record_kind q at ≡ 1 → ⊥) → (record_kind q at ≡ 2 → ⊥) → (record_kind q at ≡ 3 → ⊥) → (record_kind q at ≡ 4 → ⊥) → (record_kind q at ≡ 5 → ⊥) → (record_kind q at ≡ 6 → ⊥) → (record_kind q at ≡ 7 → ⊥) → MeasureIs ix at D (at + 1) 0 0
+  unfolding has_scorer cost
   none-measured n1 n2 n3 n4 n5 n6 n7 = go (kind-is q (k - 1) at D (deep q k at D e))
     where
-      go : KindIs (recordKind q at) → MeasureIs ix at D (at + 1) 0 0
+      go : KindIs (record_kind q at) → MeasureIs ix at D (at + 1) 0 0
       go (is-term h) = absurd (n1 h)
       go (is-phrase h) = absurd (n2 h)
       go (is-boolean h) = absurd (n3 h)
@@ -137,47 +137,47 @@ module _ (ix : Index) (q : List ℕ) (k at : ℕ) (D : Decoded) (e : decode q k 
       go (is_all h) = absurd (n5 h)
       go (is-constant h) = absurd (n6 h)
       go (is-boost h) = absurd (n7 h)
-      go (is_none h) = let t = none-at q (k - 1) at D (deep q k at D e) h in leaf-measured matchNone 0 0 t.tree_is t.next-is refl refl (omega arith)
+      go (is_none h) = let t = none-at q (k - 1) at D (deep q k at D e) h in leaf-measured match_none 0 0 t.tree_is t.next-is refl refl (omega arith)
 
 -- ---- what the code asks
-pub term-here : (ix : Index) (q leaves : List ℕ) (at l : ℕ) → wrong8 ix q ≡ false → at < recordCount q → recordKind q at ≡ 1 → ix.leaves ≡ leaves → l ≡ recordValue q at 0 → l < length leaves / 4
+pub term-here : (ix : Index) (q leaves : List ℕ) (at l : ℕ) → wrong8 ix q ≡ false → at < record_count q → record_kind q at ≡ 1 → ix.leaves ≡ leaves → l ≡ record_value q at 0 → l < length leaves / 4
 term-here ix q leaves at l w h kind are is =
-    subst (λ (z : List ℕ). l < length z / 4) are (subst (λ (z : ℕ). z < leafCount ix) (sym is) (term-leaf ix q w at h kind))
+    subst (λ (z : List ℕ). l < length z / 4) are (subst (λ (z : ℕ). z < leaf_count ix) (sym is) (term-leaf ix q w at h kind))
 
 pub record TermsHere (q leaves : List ℕ) (at : ℕ) : Type 0 where
-  pub room : at + 1 + recordChildren q at ≤ recordCount q
-  pub some-terms : 1 ≤ recordChildren q at
-  pub few-terms : recordChildren q at ≤ 32
-  pub leaves-there : (j : ℕ) → j < recordChildren q at → recordValue q (at + 1 + j) 0 < length leaves / 4
+  pub room : at + 1 + record_children q at ≤ record_count q
+  pub some-terms : 1 ≤ record_children q at
+  pub few-terms : record_children q at ≤ 32
+  pub leaves-there : (j : ℕ) → j < record_children q at → record_value q (at + 1 + j) 0 < length leaves / 4
 
-pub terms-here : (ix : Index) (q leaves : List ℕ) (at : ℕ) → wrong7 q ≡ false → wrong8 ix q ≡ false → at < recordCount q → recordKind q at ≡ 2 → ix.leaves ≡ leaves → TermsHere q leaves at
+pub terms-here : (ix : Index) (q leaves : List ℕ) (at : ℕ) → wrong7 q ≡ false → wrong8 ix q ≡ false → at < record_count q → record_kind q at ≡ 2 → ix.leaves ≡ leaves → TermsHere q leaves at
 terms-here ix q leaves at w v h kind are =
-    let t = tree-at q at w h (λ nine. not-nine (recordKind q at) kind nine) in
+    let t = tree-at q at w h (λ nine. not-nine (record_kind q at) kind nine) in
     let p = phrase-at q t.level at t.tree t.decoded kind in
     let room = p.terms-here in
     record {
       room = p.terms-here;
       some-terms = p.some-terms;
       few-terms = p.few-terms;
-      leaves-there = λ j g. subst (λ (z : List ℕ). recordValue q (at + 1 + j) 0 < length z / 4) are (phrase-term-right ix q v (at + 1 + j) (omega (arith, room, g)) (nine-at (at + 1 + j) (p.terms-are j g))).leaf-present;
+      leaves-there = λ j g. subst (λ (z : List ℕ). record_value q (at + 1 + j) 0 < length z / 4) are (phrase-term-right ix q v (at + 1 + j) (omega (arith, room, g)) (nine-at (at + 1 + j) (p.terms-are j g))).leaf-present;
     }
   where
     not-nine : (n : ℕ) → n ≡ 2 → n ≡ 9 → ⊥
     not-nine n e f = omega (arith, e, f)
 
-    nine-at : (r : ℕ) → isPhraseTerm q r ≡ true → recordKind q r ≡ 9
-    nine-at r e = eqb-true (recordKind q r) 9 (both_true _ _ (both_true _ _ e).0).0
+    nine-at : (r : ℕ) → is_phrase_term q r ≡ true → record_kind q r ≡ 9
+    nine-at r e = eqb-true (record_kind q r) 9 (both_true _ _ (both_true _ _ e).0).0
 
 -- a child's record is there
-pub child-here : (q : List ℕ) (at : ℕ) → wrong7 q ≡ false → at < recordCount q → (recordKind q at ≡ 6) ⊎ (recordKind q at ≡ 7) → at + 1 < recordCount q
+pub child-here : (q : List ℕ) (at : ℕ) → wrong7 q ≡ false → at < record_count q → (record_kind q at ≡ 6) ⊎ (record_kind q at ≡ 7) → at + 1 < record_count q
 child-here q at w h (inl kind) =
-    let t = tree-at q at w h (λ nine. not-nine (recordKind q at) kind nine) in
+    let t = tree-at q at w h (λ nine. not-nine (record_kind q at) kind nine) in
     decoded-here q t.level (at + 1) (constant-at q t.level at t.tree t.decoded kind).child (constant-at q t.level at t.tree t.decoded kind).decoded
   where
     not-nine : (n : ℕ) → n ≡ 6 → n ≡ 9 → ⊥
     not-nine n e f = omega (arith, e, f)
 child-here q at w h (inr kind) =
-    let t = tree-at q at w h (λ nine. not-nine (recordKind q at) kind nine) in
+    let t = tree-at q at w h (λ nine. not-nine (record_kind q at) kind nine) in
     decoded-here q t.level (at + 1) (boost-at q t.level at t.tree t.decoded kind).child (boost-at q t.level at t.tree t.decoded kind).decoded
   where
     not-nine : (n : ℕ) → n ≡ 7 → n ≡ 9 → ⊥
@@ -204,7 +204,7 @@ measured-more ix q nexts presents costs at next present n h1 h2 h3 m f k r D h e
     go (inr later) = rw (get_or-set_other nexts at r next 0 (other at r later), get_or-set_other presents at r present 0 (other at r later), get_or-set_other costs at r n 0 (other at r later)) (m k r D later e)
 
 -- no tree stands past the last record
-pub none_after : (ix : Index) (q nexts presents costs : List ℕ) (at : ℕ) → recordCount q ≤ at → Measured ix q nexts presents costs at
+pub none_after : (ix : Index) (q nexts presents costs : List ℕ) (at : ℕ) → record_count q ≤ at → Measured ix q nexts presents costs at
 none_after ix q nexts presents costs at h k r D g e = let here = decoded-here q k r D e in absurd (omega (arith, here, g, h))
 
 pub measured-down : (ix : Index) (q nexts presents costs : List ℕ) (at : ℕ) → 0 < at → Measured ix q nexts presents costs at → Measured ix q nexts presents costs (at - 1 + 1)

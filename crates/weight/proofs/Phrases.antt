@@ -5,10 +5,10 @@ use mathlib.Core.List.{List, [], ◌∷◌, ◌++◌}
 use Prim.Native.Nat.{ℕ, zero, suc, ◌+◌, ◌*◌, ◌/◌, ◌≤◌, ◌<◌, min}
 use native.Mathlib.Omega.{arith}
 use lib.ListN.{length, get_or}
-use Rattle.meaning.specs.Below.{listTo}
-use Rattle.meaning.specs.Query.{recordValue, recordChildren}
+use Rattle.meaning.specs.Below.{list_to}
+use Rattle.meaning.specs.Query.{record_value, record_children}
 use Rattle.meaning.specs.Cost.{least}
-use Rattle.weight.specs.Measured.{termNumbers}
+use Rattle.weight.specs.Measured.{term_numbers}
 
 -- one more at the end
 least-last : (x : ℕ) (xs : List ℕ) (y : ℕ) → least ((x ∷ xs) ++ (y ∷ [])) ≡ min (least (x ∷ xs)) y
@@ -16,38 +16,38 @@ unfolding least
 least-last x [] y = refl
 least-last x (z ∷ zs) y = let e = least-last z zs y in omega (arith, e)
 
-some-list : (n : ℕ) (f : ℕ → ℕ) → (x : ℕ) × (xs : List ℕ) × (listTo (suc n) f ≡ x ∷ xs)
-unfolding listTo
+some-list : (n : ℕ) (f : ℕ → ℕ) → (x : ℕ) × (xs : List ℕ) × (list_to (suc n) f ≡ x ∷ xs)
+unfolding list_to
 some-list zero f = (f 0, [], refl)
 some-list (suc n) f = let h = some-list n f in (h.0, h.1 ++ (f (suc n) ∷ []), rw h.2)
 
-pub least-one : (f : ℕ → ℕ) → f 0 ≡ least (listTo 1 f)
-unfolding listTo least
+pub least-one : (f : ℕ → ℕ) → f 0 ≡ least (list_to 1 f)
+unfolding list_to least
 least-one f = refl
 
-pub least_more : (n : ℕ) (f : ℕ → ℕ) (m y : ℕ) → 1 ≤ n → m ≡ least (listTo n f) → y ≡ f n → min m y ≡ least (listTo (suc n) f)
-unfolding listTo
+pub least_more : (n : ℕ) (f : ℕ → ℕ) (m y : ℕ) → 1 ≤ n → m ≡ least (list_to n f) → y ≡ f n → min m y ≡ least (list_to (suc n) f)
+unfolding list_to
 least_more zero f m y h e g = absurd (omega (arith, h))
 least_more (suc n) f m y h e g = go (some-list n f)
   where
-    go : (x : ℕ) × (xs : List ℕ) × (listTo (suc n) f ≡ x ∷ xs) → min m y ≡ least (listTo (suc (suc n)) f)
+    go : (x : ℕ) × (xs : List ℕ) × (list_to (suc n) f ≡ x ∷ xs) → min m y ≡ least (list_to (suc (suc n)) f)
     go s = rw (e, g, s.2) (sym (least-last s.0 s.1 (f (suc n))))
 
 -- ---- as the code goes over the terms of the phrase at record r
 module _ (q leaves : List ℕ) (r : ℕ) where
-  pub first-term : 1 ≤ recordChildren q r → ((j : ℕ) → j < recordChildren q r → recordValue q (r + 1 + j) 0 < length leaves / 4) → recordValue q (r + 1) 0 < length leaves / 4
-  first-term h f = subst (λ (z : ℕ). recordValue q z 0 < length leaves / 4) (none_more (r + 1)) (f 0 h)
+  pub first-term : 1 ≤ record_children q r → ((j : ℕ) → j < record_children q r → record_value q (r + 1 + j) 0 < length leaves / 4) → record_value q (r + 1) 0 < length leaves / 4
+  first-term h f = subst (λ (z : ℕ). record_value q z 0 < length leaves / 4) (none_more (r + 1)) (f 0 h)
     where
       none_more : (n : ℕ) → n + 0 ≡ n
       none_more n = omega arith
 
-  pub first-number : (l n : ℕ) → l ≡ recordValue q (r + 1) 0 → n ≡ get_or leaves (4 * l + 2) 0 → n ≡ least (termNumbers q leaves r 1)
+  pub first-number : (l n : ℕ) → l ≡ record_value q (r + 1) 0 → n ≡ get_or leaves (4 * l + 2) 0 → n ≡ least (term_numbers q leaves r 1)
   first-number l n e f =
-      f ∙ ap (λ (z : ℕ). get_or leaves (4 * z + 2) 0) (e ∙ ap (λ (z : ℕ). recordValue q z 0) (sym (none_more (r + 1)))) ∙ least-one (λ j. get_or leaves (4 * recordValue q (r + 1 + j) 0 + 2) 0)
+      f ∙ ap (λ (z : ℕ). get_or leaves (4 * z + 2) 0) (e ∙ ap (λ (z : ℕ). record_value q z 0) (sym (none_more (r + 1)))) ∙ least-one (λ j. get_or leaves (4 * record_value q (r + 1 + j) 0 + 2) 0)
     where
       none_more : (n : ℕ) → n + 0 ≡ n
       none_more n = omega arith
 
-  pub next-number : (j m l n x : ℕ) → 1 ≤ j → m ≡ least (termNumbers q leaves r j) → l ≡ recordValue q (r + 1 + j) 0 → n ≡ get_or leaves (4 * l + 2) 0 → x ≡ min m n → x ≡ least (termNumbers q leaves r (j + 1))
+  pub next-number : (j m l n x : ℕ) → 1 ≤ j → m ≡ least (term_numbers q leaves r j) → l ≡ record_value q (r + 1 + j) 0 → n ≡ get_or leaves (4 * l + 2) 0 → x ≡ min m n → x ≡ least (term_numbers q leaves r (j + 1))
   next-number j m l n x h a b d e =
-      e ∙ least_more j (λ j. get_or leaves (4 * recordValue q (r + 1 + j) 0 + 2) 0) m n h a (d ∙ ap (λ (z : ℕ). get_or leaves (4 * z + 2) 0) b) ∙ ap (λ (z : ℕ). least (termNumbers q leaves r z)) (sym (add-one j))
+      e ∙ least_more j (λ j. get_or leaves (4 * record_value q (r + 1 + j) 0 + 2) 0) m n h a (d ∙ ap (λ (z : ℕ). get_or leaves (4 * z + 2) 0) b) ∙ ap (λ (z : ℕ). least (term_numbers q leaves r z)) (sym (add-one j))

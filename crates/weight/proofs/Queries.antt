@@ -10,14 +10,14 @@ use lib.Dec.{eqb}
 use lib.ListN.{length, get_or}
 use lib.Ieee.{Float}
 use borrow.Author.Tests.{eqb-true, eq-eqb}
-use Rattle.meaning.specs.Lent.{Index, hasPositions}
+use Rattle.meaning.specs.Lent.{Index, has_positions}
 use Rattle.meaning.specs.Bm25.{one}
 use Rattle.meaning.specs.Phrase.{PhraseTerm}
-use Rattle.meaning.specs.Query.{recordCount, recordKind, recordChildren, recordValue, phraseTermsOf, isPhraseTerm, Tree, empty, Decoded, DecodedClauses, decode, decodeClauses, queryTree}
+use Rattle.meaning.specs.Query.{record_count, record_kind, record_children, record_value, phrase_terms_of, is_phrase_term, Tree, empty, Decoded, DecodedClauses, decode, decode_clauses, query_tree}
 use Rattle.meaning.specs.QueryRefusals.{wrong7, wrong8, wrong9, wrong10}
-use Rattle.meaning.specs.CallRefusals.{statesNeeded, largestIn, startsNeeded}
+use Rattle.meaning.specs.CallRefusals.{states_needed, largest_in, starts_needed}
 use Rattle.index.specs.Accepted.{Accepted}
-use Rattle.meaning.proofs.Below.{none_below, largest-at, length-listTo, getD-listTo}
+use Rattle.meaning.proofs.Below.{none_below, largest-at, length-list_to, get_or-list_to}
 use Rattle.query.proofs.Inverse.{both_true, one-clause, some_same, record-here, term-at, phrase-at, boolean-at, range_at, all-at, constant-at, boost-at, none-at, kind-is, KindIs, is-term, is-phrase, is-boolean, is-range, is_all, is-constant, is-boost, is_none}
 use Rattle.query.proofs.Spans.{nothing, no-depth}
 use Rattle.query.proofs.Whole.{whole}
@@ -27,8 +27,8 @@ use Rattle.weight.specs.ScorerTree.{phrase}
 use Rattle.weight.specs.Weigh.{weigh}
 use Rattle.weight.specs.State.{size_of}
 use Rattle.weight.specs.Sound.{PhraseTermIs, EachTerm, LeafSound, Sound, nodes}
-use Rattle.weight.proofs.Sizes.{records, recordsOf, weigh-size, weigh-nodes}
-use Rattle.weight.proofs.Heights.{height, levels, levelsOf, weigh-height}
+use Rattle.weight.proofs.Sizes.{records, records_of, weigh-size, weigh-nodes}
+use Rattle.weight.proofs.Heights.{height, levels, levels_of, weigh-height}
 use Rattle.weight.proofs.Sounds.{TreeSound, TreeSounds, weigh-sound}
 use Rattle.weight.proofs.Weights.{Weighted, carried-one, weigh-weighted}
 
@@ -38,10 +38,10 @@ pub record Shape (k r : ℕ) (t : Tree) (next : ℕ) : Type 0 where
   pub span : r + records t ≡ next
   pub low : levels t ≤ k
 
-clauses-shape : (q : List ℕ) (at : ℕ → Option Decoded) (k : ℕ) → ((r : ℕ) (D : Decoded) → at r ≡ some D → Shape k r D.tree D.next) → (n r : ℕ) (C : DecodedClauses) → decodeClauses q at n r ≡ some C → (r + recordsOf C.clauses ≡ C.next) × (levelsOf C.clauses ≤ k)
-unfolding decodeClauses records levels
+clauses-shape : (q : List ℕ) (at : ℕ → Option Decoded) (k : ℕ) → ((r : ℕ) (D : Decoded) → at r ≡ some D → Shape k r D.tree D.next) → (n r : ℕ) (C : DecodedClauses) → decode_clauses q at n r ≡ some C → (r + records_of C.clauses ≡ C.next) × (levels_of C.clauses ≤ k)
+unfolding decode_clauses records levels
 clauses-shape q at k f zero r C e =
-    subst (λ (c : DecodedClauses). (r + recordsOf c.clauses ≡ c.next) × (levelsOf c.clauses ≤ k)) (some_same (record { clauses = empty; next = r }) C e) (omega arith, omega arith)
+    subst (λ (c : DecodedClauses). (r + records_of c.clauses ≡ c.next) × (levels_of c.clauses ≤ k)) (some_same (record { clauses = empty; next = r }) C e) (omega arith, omega arith)
 clauses-shape q at k f (suc n) r C e =
     let o = one-clause q at n r C e in
     let s = f r o.first o.first-is in
@@ -56,18 +56,18 @@ unfolding records levels
 tree_shape q zero r D e = nothing D (no-depth q r D e)
 tree_shape q (suc k) r D e = go (tree_shape q k) (kind-is q k r D e)
   where
-    go : ((r : ℕ) (D : Decoded) → decode q k r ≡ some D → Shape k r D.tree D.next) → KindIs (recordKind q r) → Shape (suc k) r D.tree D.next
+    go : ((r : ℕ) (D : Decoded) → decode q k r ≡ some D → Shape k r D.tree D.next) → KindIs (record_kind q r) → Shape (suc k) r D.tree D.next
     go f (is-term h) = let a = term-at q k r D e h in let n = a.next-is in rw a.tree_is (record { span = omega (arith, n); low = omega arith })
     go f (is-phrase h) =
         let a = phrase-at q k r D e h in
         let n = a.next-is in
         let d = a.deep in
-        let l = length-listTo {A = PhraseTerm} (recordChildren q r) (λ j. record { leaf = recordValue q (r + 1 + j) 0; offset = recordValue q (r + 1 + j) 1 }) in
+        let l = length-list_to {A = PhraseTerm} (record_children q r) (λ j. record { leaf = record_value q (r + 1 + j) 0; offset = record_value q (r + 1 + j) 1 }) in
         rw a.tree_is (record { span = omega (arith, n, l); low = omega (arith, d) })
     go f (is-boolean h) =
         let a = boolean-at q k r D e h in
         let n = a.next-is in
-        let i = clauses-shape q (decode q k) k f (recordChildren q r) (r + 1) a.inside a.decoded in
+        let i = clauses-shape q (decode q k) k f (record_children q r) (r + 1) a.inside a.decoded in
         rw a.tree_is (record { span = omega (arith, n, i.0); low = omega (arith, i.1) })
     go f (is-range h) = let a = range_at q k r D e h in let n = a.next-is in rw a.tree_is (record { span = omega (arith, n); low = omega arith })
     go f (is_all h) = let a = all-at q k r D e h in let n = a.next-is in rw a.tree_is (record { span = omega (arith, n); low = omega arith })
@@ -88,41 +88,41 @@ tree_shape q (suc k) r D e = go (tree_shape q k) (kind-is q k r D e)
     go f (is_none h) = let a = none-at q k r D e h in let n = a.next-is in rw a.tree_is (record { span = omega (arith, n); low = omega arith })
 
 module _ (q : List ℕ) (whole7 : wrong7 q ≡ false) where
-  query-shape : Shape 16 0 (queryTree q) (recordCount q)
+  query-shape : Shape 16 0 (query_tree q) (record_count q)
   query-shape = let w = whole q whole7 in rw (w.tree_is, ← w.none_left) (tree_shape q 16 0 w.root w.root_is)
 
-  pub query-records : records (queryTree q) ≡ recordCount q
+  pub query-records : records (query_tree q) ≡ record_count q
   query-records = let s = query-shape.span in omega (arith, s)
 
-  pub query-levels : levels (queryTree q) ≤ 16
+  pub query-levels : levels (query_tree q) ≤ 16
   query-levels = query-shape.low
 
   -- the node states that 12 asks for are enough
-  pub query-size : (ix : Index) (b : Float) (c : Option Float) → size_of (weigh ix (queryTree q) b c) ≤ statesNeeded q
-  unfolding statesNeeded
-  query-size ix b c = let n = query-records in let h = weigh-size ix (queryTree q) b c in omega (arith, n, h)
+  pub query-size : (ix : Index) (b : Float) (c : Option Float) → size_of (weigh ix (query_tree q) b c) ≤ states_needed q
+  unfolding states_needed
+  query-size ix b c = let n = query-records in let h = weigh-size ix (query_tree q) b c in omega (arith, n, h)
 
-  pub query-nodes : (ix : Index) (b : Float) (c : Option Float) → nodes (weigh ix (queryTree q) b c) ≤ 256
-  query-nodes ix b c = let n = query-records in let h = weigh-nodes ix (queryTree q) b c in let m = (whole q whole7).few-records in omega (arith, n, h, m)
+  pub query-nodes : (ix : Index) (b : Float) (c : Option Float) → nodes (weigh ix (query_tree q) b c) ≤ 256
+  query-nodes ix b c = let n = query-records in let h = weigh-nodes ix (query_tree q) b c in let m = (whole q whole7).few-records in omega (arith, n, h, m)
 
-  pub query-height : (ix : Index) (b : Float) (c : Option Float) → height (weigh ix (queryTree q) b c) ≤ 16
-  query-height ix b c = le_trans (weigh-height ix (queryTree q) b c) query-levels
+  pub query-height : (ix : Index) (b : Float) (c : Option Float) → height (weigh ix (query_tree q) b c) ≤ 16
+  query-height ix b c = le_trans (weigh-height ix (query_tree q) b c) query-levels
 
 -- ---- soundness
-abbrev noTerm : PhraseTerm
-noTerm = record { leaf = 0; offset = 0 }
+abbrev no_term : PhraseTerm
+no_term = record { leaf = 0; offset = 0 }
 
-each-term : (ix : Index) (f places : ℕ) (ts : List PhraseTerm) → ((j : ℕ) → j < length ts → PhraseTermIs ix f places (get_or ts j noTerm)) → EachTerm ix f places ts
+each-term : (ix : Index) (f places : ℕ) (ts : List PhraseTerm) → ((j : ℕ) → j < length ts → PhraseTermIs ix f places (get_or ts j no_term)) → EachTerm ix f places ts
 unfolding EachTerm
 each-term ix f places [] h = tt
 each-term ix f places (t ∷ ts) h = (h 0 (suc-le-suc zero-le), each-term ix f places ts (λ j g. h (suc j) (suc-le-suc g)))
 
-module _ (ix : Index) (q : List ℕ) (places : ℕ) (values-right : wrong8 ix q ≡ false) (positions-right : wrong10 ix q ≡ false) (room : startsNeeded ix q ≤ places) where
-  field-positions : (r : ℕ) → r < recordCount q → recordKind q r ≡ 2 → hasPositions ix (recordValue q r 0) ≡ true
+module _ (ix : Index) (q : List ℕ) (places : ℕ) (values-right : wrong8 ix q ≡ false) (positions-right : wrong10 ix q ≡ false) (room : starts_needed ix q ≤ places) where
+  field-positions : (r : ℕ) → r < record_count q → record_kind q r ≡ 2 → has_positions ix (record_value q r 0) ≡ true
   unfolding wrong10
   field-positions r h k =
-      step (eqb (recordKind q r) 2) (hasPositions ix (recordValue q r 0)) (eq-eqb (recordKind q r) 2 k)
-      (none_below (recordCount q) (λ r. eqb (recordKind q r) 2 && not (hasPositions ix (recordValue q r 0))) positions-right r h)
+      step (eqb (record_kind q r) 2) (has_positions ix (record_value q r 0)) (eq-eqb (record_kind q r) 2 k)
+      (none_below (record_count q) (λ r. eqb (record_kind q r) 2 && not (has_positions ix (record_value q r 0))) positions-right r h)
     where
       step : (a b : Bool) → a ≡ true → (a && not b) ≡ false → b ≡ true
       step true true e f = refl
@@ -131,46 +131,46 @@ module _ (ix : Index) (q : List ℕ) (places : ℕ) (values-right : wrong8 ix q 
 
   -- the places that a record needs
   abbrev starts : ℕ → ℕ
-  starts r = cond (eqb (recordKind q r) 9) (largestIn ix (recordValue q r 0)) 0
+  starts r = cond (eqb (record_kind q r) 9) (largest_in ix (record_value q r 0)) 0
 
-  term-room : (r : ℕ) → r < recordCount q → recordKind q r ≡ 9 → largestIn ix (recordValue q r 0) ≤ places
-  unfolding startsNeeded
+  term-room : (r : ℕ) → r < record_count q → record_kind q r ≡ 9 → largest_in ix (record_value q r 0) ≤ places
+  unfolding starts_needed
   term-room r h k =
-      let a = largest-at (recordCount q) starts r h in
-      let e : starts r ≡ largestIn ix (recordValue q r 0) = ap (λ (z : Bool). cond z (largestIn ix (recordValue q r 0)) 0) (eq-eqb (recordKind q r) 9 k) in
+      let a = largest-at (record_count q) starts r h in
+      let e : starts r ≡ largest_in ix (record_value q r 0) = ap (λ (z : Bool). cond z (largest_in ix (record_value q r 0)) 0) (eq-eqb (record_kind q r) 9 k) in
       omega (arith, a, e, room)
 
-  phrase-sound : (k r : ℕ) (D : Decoded) → decode q (suc k) r ≡ some D → recordKind q r ≡ 2 → LeafSound ix places (phrase (recordValue q r 0) (phraseTermsOf q r))
+  phrase-sound : (k r : ℕ) (D : Decoded) → decode q (suc k) r ≡ some D → record_kind q r ≡ 2 → LeafSound ix places (phrase (record_value q r 0) (phrase_terms_of q r))
   unfolding LeafSound Right
   phrase-sound k r D e h =
       let p = phrase-at q k r D e h in
-      let right : RightPhrase ix (recordValue q r 0) (phraseTermsOf q r) = rw p.tree_is at (tree-right ix q values-right (suc k) r D e) in
-      let l = length-listTo {A = PhraseTerm} (recordChildren q r) term-at-j in
+      let right : RightPhrase ix (record_value q r 0) (phrase_terms_of q r) = rw p.tree_is at (tree-right ix q values-right (suc k) r D e) in
+      let l = length-list_to {A = PhraseTerm} (record_children q r) term-at-j in
       let some-terms = right.some-terms in (
         right.field-present,
         field-positions r (record-here q k r D e) h,
         some-terms,
         right.few-terms,
-        each-term ix (recordValue q r 0) places (phraseTermsOf q r)
+        each-term ix (record_value q r 0) places (phrase_terms_of q r)
             (λ j g. one right p.terms-are p.terms-here j g (omega (arith, l, g))),
       )
     where
       term-at-j : ℕ → PhraseTerm
-      term-at-j j = record { leaf = recordValue q (r + 1 + j) 0; offset = recordValue q (r + 1 + j) 1 }
+      term-at-j j = record { leaf = record_value q (r + 1 + j) 0; offset = record_value q (r + 1 + j) 1 }
 
-      one : RightPhrase ix (recordValue q r 0) (phraseTermsOf q r) → ((j : ℕ) → j < recordChildren q r → isPhraseTerm q (r + 1 + j) ≡ true) → r + 1 + recordChildren q r ≤ recordCount q → (j : ℕ) → j < length (phraseTermsOf q r) → j < recordChildren q r → PhraseTermIs ix (recordValue q r 0) places (get_or (phraseTermsOf q r) j noTerm)
+      one : RightPhrase ix (record_value q r 0) (phrase_terms_of q r) → ((j : ℕ) → j < record_children q r → is_phrase_term q (r + 1 + j) ≡ true) → r + 1 + record_children q r ≤ record_count q → (j : ℕ) → j < length (phrase_terms_of q r) → j < record_children q r → PhraseTermIs ix (record_value q r 0) places (get_or (phrase_terms_of q r) j no_term)
       one right are here j g m =
           let t = right.terms-right j g in
-          let nine = eqb-true (recordKind q (r + 1 + j)) 9 (both_true _ _ (both_true _ _ (are j m)).0).0 in
+          let nine = eqb-true (record_kind q (r + 1 + j)) 9 (both_true _ _ (both_true _ _ (are j m)).0).0 in
           record {
             leaf-there = t.leaf-present;
             field_is = t.same-field;
             offset-small = t.offset-within;
-            room = subst (λ (z : PhraseTerm). largestIn ix z.leaf ≤ places) (sym (getD-listTo (recordChildren q r) term-at-j noTerm j m)) (term-room (r + 1 + j) (omega (arith, here, m)) nine);
+            room = subst (λ (z : PhraseTerm). largest_in ix z.leaf ≤ places) (sym (get_or-list_to (record_children q r) term-at-j no_term j m)) (term-room (r + 1 + j) (omega (arith, here, m)) nine);
           }
 
-  clauses-sound : (at : ℕ → Option Decoded) → ((r : ℕ) (D : Decoded) → at r ≡ some D → TreeSound ix places D.tree) → (n r : ℕ) (C : DecodedClauses) → decodeClauses q at n r ≡ some C → TreeSounds ix places C.clauses
-  unfolding decodeClauses TreeSound
+  clauses-sound : (at : ℕ → Option Decoded) → ((r : ℕ) (D : Decoded) → at r ≡ some D → TreeSound ix places D.tree) → (n r : ℕ) (C : DecodedClauses) → decode_clauses q at n r ≡ some C → TreeSounds ix places C.clauses
+  unfolding decode_clauses TreeSound
   clauses-sound at f zero r C e = subst (λ (c : DecodedClauses). TreeSounds ix places c.clauses) (some_same (record { clauses = empty; next = r }) C e) tt
   clauses-sound at f (suc n) r C e =
       let o = one-clause q at n r C e in
@@ -181,13 +181,13 @@ module _ (ix : Index) (q : List ℕ) (places : ℕ) (values-right : wrong8 ix q 
   tree-sound zero r D e = nothing D (no-depth q r D e)
   tree-sound (suc k) r D e = go (tree-sound k) (kind-is q k r D e)
     where
-      here : r < recordCount q
+      here : r < record_count q
       here = record-here q k r D e
 
-      go : ((r : ℕ) (D : Decoded) → decode q k r ≡ some D → TreeSound ix places D.tree) → KindIs (recordKind q r) → TreeSound ix places D.tree
+      go : ((r : ℕ) (D : Decoded) → decode q k r ≡ some D → TreeSound ix places D.tree) → KindIs (record_kind q r) → TreeSound ix places D.tree
       go f (is-term h) = rw (term-at q k r D e h).tree_is (term-leaf ix q values-right r here h)
       go f (is-phrase h) = rw (phrase-at q k r D e h).tree_is (phrase-sound k r D e h)
-      go f (is-boolean h) = let a = boolean-at q k r D e h in rw a.tree_is (clauses-sound (decode q k) f (recordChildren q r) (r + 1) a.inside a.decoded)
+      go f (is-boolean h) = let a = boolean-at q k r D e h in rw a.tree_is (clauses-sound (decode q k) f (record_children q r) (r + 1) a.inside a.decoded)
       go f (is-range h) = rw (range_at q k r D e h).tree_is tt
       go f (is_all h) = rw (all-at q k r D e h).tree_is tt
       go f (is-constant h) = let a = constant-at q k r D e h in rw a.tree_is (f (r + 1) a.child a.decoded)
@@ -195,13 +195,13 @@ module _ (ix : Index) (q : List ℕ) (places : ℕ) (values-right : wrong8 ix q 
       go f (is_none h) = rw (none-at q k r D e h).tree_is tt
 
   module _ (whole7 : wrong7 q ≡ false) where
-    query-tree-sound : TreeSound ix places (queryTree q)
+    query-tree-sound : TreeSound ix places (query_tree q)
     query-tree-sound = let w = whole q whole7 in rw w.tree_is (tree-sound 16 0 w.root w.root_is)
 
     -- THE theorems, of a query that 7 to 10 let through, with phrase buffers as 12 asks for
-    pub query-sound : (b : Float) (c : Option Float) → Sound ix places (weigh ix (queryTree q) b c)
-    query-sound b c = weigh-sound ix places (queryTree q) b c query-tree-sound
+    pub query-sound : (b : Float) (c : Option Float) → Sound ix places (weigh ix (query_tree q) b c)
+    query-sound b c = weigh-sound ix places (query_tree q) b c query-tree-sound
 
-    pub query-weighted : Accepted ix → wrong9 q ≡ false → Weighted (weigh ix (queryTree q) one none)
+    pub query-weighted : Accepted ix → wrong9 q ≡ false → Weighted (weigh ix (query_tree q) one none)
     unfolding wrong9
-    query-weighted accepted e = weigh-weighted ix places accepted (queryTree q) one none query-tree-sound e carried-one tt
+    query-weighted accepted e = weigh-weighted ix places accepted (query_tree q) one none query-tree-sound e carried-one tt

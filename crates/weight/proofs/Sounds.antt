@@ -4,15 +4,15 @@ use mathlib.Core.List.{List, [], ◌∷◌}
 use mathlib.Core.Option.{Option, none}
 use Prim.Native.Nat.{ℕ, ◌≤◌}
 use lib.Ieee.{Float, binary32, of_bits}
-use Rattle.meaning.specs.Limits.{largestBoost}
-use Rattle.meaning.specs.Lent.{Index, leafIdf}
+use Rattle.meaning.specs.Limits.{largest_boost}
+use Rattle.meaning.specs.Lent.{Index, leaf_idf}
 use Rattle.meaning.specs.Bm25.{weight}
 use Rattle.meaning.specs.Query
-use Rattle.meaning.specs.Query.{isRequired, isShould, isMustNot, Tree, Clauses, empty, clause}
-use Rattle.meaning.specs.Scorer.{hasScorer}
-use Rattle.meaning.specs.Score.{phraseIdf, passed}
+use Rattle.meaning.specs.Query.{is_required, is_should, is_must_not, Tree, Clauses, empty, clause}
+use Rattle.meaning.specs.Scorer.{has_scorer}
+use Rattle.meaning.specs.Score.{phrase_idf, passed}
 use Rattle.weight.specs.ScorerTree.{term, phrase, Scorer, leaf}
-use Rattle.weight.specs.Weigh.{Ready, cheapestFirst, chosen, scorersOf, booleanOf, scoringAt, noScorer, weigh, readied}
+use Rattle.weight.specs.Weigh.{Ready, cheapest_first, chosen, scorers_of, boolean_of, scoring_at, no_scorer, weigh, readied}
 use Rattle.weight.specs.Sound.{LeafSound, Sound, Sounds}
 use Rattle.weight.proofs.Ready.{Every, every-sorted, every-chosen}
 
@@ -23,10 +23,10 @@ unfoldable mutual
   TreeSound ix places (Query.phrase f ts) = LeafSound ix places (phrase f ts)
   TreeSound ix places (Query.boolean msm cs) = TreeSounds ix places cs
   TreeSound ix places (Query.range r) = Unit
-  TreeSound ix places Query.matchAll = Unit
-  TreeSound ix places (Query.constantScore t) = TreeSound ix places t
-  TreeSound ix places (Query.boost v t) = (v ≤ largestBoost) × TreeSound ix places t
-  TreeSound ix places Query.matchNone = Unit
+  TreeSound ix places Query.match_all = Unit
+  TreeSound ix places (Query.constant_score t) = TreeSound ix places t
+  TreeSound ix places (Query.boost v t) = (v ≤ largest_boost) × TreeSound ix places t
+  TreeSound ix places Query.match_none = Unit
 
   pub TreeSounds : Index → ℕ → Clauses → Type 0
   TreeSounds ix places empty = Unit
@@ -36,18 +36,18 @@ module _ (ix : Index) (places : ℕ) where
   abbrev pub ReadySound : Ready → Type 0
   ReadySound r = Sound ix places r.scorer
 
-  sounds : (rs : List Ready) → Every ReadySound rs → Sounds ix places (scorersOf rs)
-  unfolding Sounds scorersOf Every
+  sounds : (rs : List Ready) → Every ReadySound rs → Sounds ix places (scorers_of rs)
+  unfolding Sounds scorers_of Every
   sounds [] e = tt
   sounds (r ∷ rs) e = (e.0, sounds rs e.1)
 
-  boolean-sound : (msm : ℕ) (cs : Clauses) (c : Option Float) (rs : List Ready) → Every ReadySound rs → Sound ix places (booleanOf ix msm cs c rs)
-  unfolding Sound booleanOf
+  boolean-sound : (msm : ℕ) (cs : Clauses) (c : Option Float) (rs : List Ready) → Every ReadySound rs → Sound ix places (boolean_of ix msm cs c rs)
+  unfolding Sound boolean_of
   boolean-sound msm cs c rs e =
-      (sounds (cheapestFirst (chosen isRequired rs)) (every-sorted ReadySound (chosen isRequired rs) (every-chosen ReadySound isRequired rs e)), sounds (chosen isShould rs) (every-chosen ReadySound isShould rs e), sounds (chosen isMustNot rs) (every-chosen ReadySound isMustNot rs e))
+      (sounds (cheapest_first (chosen is_required rs)) (every-sorted ReadySound (chosen is_required rs) (every-chosen ReadySound is_required rs e)), sounds (chosen is_should rs) (every-chosen ReadySound is_should rs e), sounds (chosen is_must_not rs) (every-chosen ReadySound is_must_not rs e))
 
   -- a scorer, or none
-  either : (h : Bool) (s : Scorer) → Sound ix places s → Sound ix places (cond h s noScorer)
+  either : (h : Bool) (s : Scorer) → Sound ix places s → Sound ix places (cond h s no_scorer)
   unfolding Sound LeafSound
   either true s a = a
   either false s a = tt
@@ -57,14 +57,14 @@ module _ (ix : Index) (places : ℕ) where
 
     -- THE theorem
     pub weigh-sound : (t : Tree) (b : Float) (c : Option Float) → TreeSound ix places t → Sound ix places (weigh ix t b c)
-    weigh-sound (Query.term l) b c h = either (hasScorer ix (Query.term l)) (leaf (term l) (scoringAt c (weight b (of_bits binary32 (leafIdf ix l))))) h
-    weigh-sound (Query.phrase f ts) b c h = either (hasScorer ix (Query.phrase f ts)) (leaf (phrase f ts) (scoringAt c (weight b (phraseIdf ix ts)))) h
-    weigh-sound (Query.boolean msm cs) b c h = either (hasScorer ix (Query.boolean msm cs)) (booleanOf ix msm cs c (readied ix cs b)) (boolean-sound msm cs c (readied ix cs b) (readied-sound cs b h))
+    weigh-sound (Query.term l) b c h = either (has_scorer ix (Query.term l)) (leaf (term l) (scoring_at c (weight b (of_bits binary32 (leaf_idf ix l))))) h
+    weigh-sound (Query.phrase f ts) b c h = either (has_scorer ix (Query.phrase f ts)) (leaf (phrase f ts) (scoring_at c (weight b (phrase_idf ix ts)))) h
+    weigh-sound (Query.boolean msm cs) b c h = either (has_scorer ix (Query.boolean msm cs)) (boolean_of ix msm cs c (readied ix cs b)) (boolean-sound msm cs c (readied ix cs b) (readied-sound cs b h))
     weigh-sound (Query.range r) b c h = tt
-    weigh-sound Query.matchAll b c h = tt
-    weigh-sound (Query.constantScore t) b c h = weigh-sound t _ _ h
+    weigh-sound Query.match_all b c h = tt
+    weigh-sound (Query.constant_score t) b c h = weigh-sound t _ _ h
     weigh-sound (Query.boost v t) b c h = weigh-sound t _ _ h.1
-    weigh-sound Query.matchNone b c h = tt
+    weigh-sound Query.match_none b c h = tt
 
     pub readied-sound : (cs : Clauses) (b : Float) → TreeSounds ix places cs → Every ReadySound (readied ix cs b)
     readied-sound empty b h = tt

@@ -6,7 +6,7 @@ use mathlib.Core.Option.{some}
 use Prim.Native.Nat.{ℕ, suc, ◌+◌, ◌-◌, ◌≤◌, ◌<◌}
 use native.Mathlib.Omega.{arith}
 use borrow.Author.Tests.{eqb-true}
-use Rattle.meaning.specs.Query.{recordCount, recordKind, recordChildren, Decoded, DecodedClauses, decode, decodeClauses}
+use Rattle.meaning.specs.Query.{record_count, record_kind, record_children, Decoded, DecodedClauses, decode, decode_clauses}
 use Rattle.meaning.specs.QueryRefusals.{wrong7}
 use Rattle.query.proofs.Inverse.{both_true, some_same, boolean-at}
 use Rattle.query.proofs.Above.{level}
@@ -31,24 +31,24 @@ pub record TreeAt (q : List ℕ) (r : ℕ) : Type 0 where
   pub tree : Decoded
   pub decoded : decode q (suc level) r ≡ some tree
 
-pub tree-at : (q : List ℕ) (r : ℕ) → wrong7 q ≡ false → r < recordCount q → (recordKind q r ≡ 9 → ⊥) → TreeAt q r
+pub tree-at : (q : List ℕ) (r : ℕ) → wrong7 q ≡ false → r < record_count q → (record_kind q r ≡ 9 → ⊥) → TreeAt q r
 tree-at q r w h n = go (record-stands q w r h)
   where
     go : Stands q r → TreeAt q r
     go (a-tree k D e) = record { level = k; tree = D; decoded = e }
-    go (a-phrase-term e) = absurd (n (eqb-true (recordKind q r) 9 (both_true _ _ (both_true _ _ e).0).0))
+    go (a-phrase-term e) = absurd (n (eqb-true (record_kind q r) 9 (both_true _ _ (both_true _ _ e).0).0))
 
 -- the clauses of a Boolean's record
 pub record ClausesAt (q : List ℕ) (r : ℕ) : Type 0 where
   pub level : ℕ
   pub inside : DecodedClauses
-  pub decoded : decodeClauses q (decode q level) (recordChildren q r) (r + 1) ≡ some inside
-  pub few-clauses : recordChildren q r ≤ 64
-  pub few-records : recordCount q ≤ 256
+  pub decoded : decode_clauses q (decode q level) (record_children q r) (r + 1) ≡ some inside
+  pub few-clauses : record_children q r ≤ 64
+  pub few-records : record_count q ≤ 256
 
-pub clauses-at : (q : List ℕ) (r : ℕ) → wrong7 q ≡ false → r < recordCount q → recordKind q r ≡ 3 → ClausesAt q r
+pub clauses-at : (q : List ℕ) (r : ℕ) → wrong7 q ≡ false → r < record_count q → record_kind q r ≡ 3 → ClausesAt q r
 clauses-at q r w h three =
-    let t = tree-at q r w h (λ nine. not-nine (recordKind q r) three nine) in
+    let t = tree-at q r w h (λ nine. not-nine (record_kind q r) three nine) in
     let b = boolean-at q t.level r t.tree t.decoded three in
     record { level = t.level; inside = b.inside; decoded = b.decoded; few-clauses = b.few-clauses; few-records = (whole q w).few-records }
   where

@@ -2,17 +2,17 @@
 use Prim.Native.Nat.{ℕ, ◌<◌}
 use lib.Ieee.{Float}
 use mathlib.Core.List.{List}
-use Rattle.meaning.specs.Lent.{Index, fieldCount, leafField}
+use Rattle.meaning.specs.Lent.{Index, field_count, leaf_field}
 use Rattle.index.specs.Accepted.{Accepted}
 use Rattle.weight.specs.ScorerTree.{Leaf, nothing, term, phrase, range, everything, Scoring, constant, weighted, Scorer, leaf, boolean, Scorers, end, more}
 use Rattle.weight.specs.Sound.{FieldTable, LeafTable, LeafSound, Sound, Sounds, Tables, TablesOf}
 
-module _ (ix : Index) (places : ℕ) (table : List Float) (accepted : Accepted ix) (all : (f : ℕ) → f < fieldCount ix → FieldTable ix table f) where
+module _ (ix : Index) (places : ℕ) (table : List Float) (accepted : Accepted ix) (all : (f : ℕ) → f < field_count ix → FieldTable ix table f) where
   leaf-table : (l : Leaf) (s : Scoring) → LeafSound ix places l → LeafTable ix table l s
   unfolding LeafSound LeafTable
   leaf-table l (constant c) h = tt
   leaf-table nothing (weighted w) h = tt
-  leaf-table (term l) (weighted w) h = all (leafField ix l) (accepted.leaf l h).field
+  leaf-table (term l) (weighted w) h = all (leaf_field ix l) (accepted.leaf l h).field
   leaf-table (phrase f ts) (weighted w) h = all f h.0
   leaf-table (range r) (weighted w) h = tt
   leaf-table everything (weighted w) h = tt

@@ -3,16 +3,16 @@ use Rattle.std.specs.Prelude.{◌≡◌, Bool, cond, List, [], ◌∷◌, ◌++�
 use Rattle.std.proofs.Math.Option.{Option, none, some}
 use Rattle.std.specs.Float.{binary32}
 use Rattle.std.specs.Float.Ieee.{fits, to_bits}
-use Rattle.meaning.specs.Below.{countBelow}
-use Rattle.meaning.specs.Limits.{noMoreDocs, nodeStateWords}
-use Rattle.meaning.specs.Lent.{Index, hasNorms, leafFirst, leafNumber, leafField, leafDocument}
+use Rattle.meaning.specs.Below.{count_below}
+use Rattle.meaning.specs.Limits.{no_more_docs, node_state_words}
+use Rattle.meaning.specs.Lent.{Index, has_norms, leaf_first, leaf_number, leaf_field, leaf_document}
 use Rattle.meaning.specs.Range.{NumericRange}
-use Rattle.meaning.specs.Phrase.{PhraseTerm, phraseFrequency}
+use Rattle.meaning.specs.Phrase.{PhraseTerm, phrase_frequency}
 use Rattle.meaning.specs.First.{First}
 use Rattle.ieee754.specs.Nonneg.{AtMost}
-use Rattle.bits.specs.Bit.{bitmapWords, Bitmap}
-use Rattle.weight.specs.ScorerTree.{Leaf, nothing, term, phrase, range, everything, Scoring, constant, weighted, Joining, oneMore, afterwards, Scorer, leaf, boolean, Scorers, end, more, leafMatches, matches}
-use Rattle.weight.specs.State.{State, words_of, leafSize, size_of, sizesOf, sizesOfFirst}
+use Rattle.bits.specs.Bit.{bitmap_words, Bitmap}
+use Rattle.weight.specs.ScorerTree.{Leaf, nothing, term, phrase, range, everything, Scoring, constant, weighted, Joining, one_more, afterwards, Scorer, leaf, boolean, Scorers, end, more, leaf_matches, matches}
+use Rattle.weight.specs.State.{State, words_of, leaf_size, size_of, sizes_of, sizes_of_first}
 
 -- from the bound up to the document where a node stands, that document is the next one that it matches
 abbrev pub Cache : (ℕ → Bool) → ℕ → ℕ → Type 0
@@ -24,26 +24,26 @@ pub record RunAt (document : ℕ → ℕ) (number cursor b : ℕ) : Type 0 where
   pub passed : (i : ℕ) → i < cursor → document i < b
 
 -- where a field's norm bytes begin, + 1; 0 without norms
-unfoldable pub normsWord : Index → ℕ → ℕ
-normsWord ix f = cond (hasNorms ix f) (suc (countBelow f (hasNorms ix) * ix.maxDoc)) 0
+unfoldable pub norms_word : Index → ℕ → ℕ
+norms_word ix f = cond (has_norms ix f) (suc (count_below f (has_norms ix) * ix.max_doc)) 0
 
 -- the words of a term, and of a phrase's term, which stands one bound with its phrase
 pub record TermIs (ix : Index) (kind l : ℕ) (s : State) (b : ℕ) : Type 0 where
   pub kind-is : s.kind ≡ kind
-  pub size_is : s.size ≡ nodeStateWords
-  pub first-is : s.first ≡ leafFirst ix l
-  pub number_is : s.number ≡ leafNumber ix l
-  pub field_is : s.field ≡ leafField ix l
-  pub norms-is : s.norms ≡ normsWord ix (leafField ix l)
-  pub run : RunAt (leafDocument ix l) (leafNumber ix l) s.cursor b
+  pub size_is : s.size ≡ node_state_words
+  pub first-is : s.first ≡ leaf_first ix l
+  pub number_is : s.number ≡ leaf_number ix l
+  pub field_is : s.field ≡ leaf_field ix l
+  pub norms-is : s.norms ≡ norms_word ix (leaf_field ix l)
+  pub run : RunAt (leaf_document ix l) (leaf_number ix l) s.cursor b
 
 -- the words of a range, whose documents stand in the range buffer as a bitmap
 pub record RangeIs (ix : Index) (ranges : List ℕ) (r : NumericRange) (s : State) : Type 0 where
   pub kind-is : s.kind ≡ 4
-  pub size_is : s.size ≡ nodeStateWords
-  pub number_is : s.number ≡ bitmapWords ix.maxDoc
+  pub size_is : s.size ≡ node_state_words
+  pub number_is : s.number ≡ bitmap_words ix.max_doc
   pub there : s.first + s.number ≤ length ranges
-  pub bits : Bitmap (leafMatches ix (range r)) ranges s.first s.number
+  pub bits : Bitmap (leaf_matches ix (range r)) ranges s.first s.number
 
 -- the records of a phrase's terms
 unfoldable pub TermsAre : Index → List PhraseTerm → List ℕ → ℕ → Type 0
@@ -53,20 +53,20 @@ TermsAre ix (t ∷ ts) w b = (s : State) × (w' : List ℕ) × (w ≡ words_of s
 -- the words of a phrase, w those of its terms
 pub record PhraseIs (ix : Index) (f : ℕ) (ts : List PhraseTerm) (s : State) (w : List ℕ) (b : ℕ) : Type 0 where
   pub kind-is : s.kind ≡ 2
-  pub size_is : s.size ≡ leafSize (phrase f ts)
+  pub size_is : s.size ≡ leaf_size (phrase f ts)
   pub field_is : s.field ≡ f
-  pub norms-is : s.norms ≡ normsWord ix f
+  pub norms-is : s.norms ≡ norms_word ix f
   pub terms : TermsAre ix ts w b
   -- the frequency that was last worked out
-  pub worked-out : (d : ℕ) → s.frequencyOf ≡ suc d → s.frequency ≡ phraseFrequency ix ts d
+  pub worked-out : (d : ℕ) → s.frequency_of ≡ suc d → s.frequency ≡ phrase_frequency ix ts d
 
 -- the words of a leaf, w those after its record, but for its cache and its scoring
 unfoldable pub LeafIs : Index → List ℕ → Leaf → State → List ℕ → ℕ → Type 0
-LeafIs ix ranges nothing s w b = (s.kind ≡ 0) × (s.size ≡ nodeStateWords) × (s.cached ≡ suc noMoreDocs) × (w ≡ [])
+LeafIs ix ranges nothing s w b = (s.kind ≡ 0) × (s.size ≡ node_state_words) × (s.cached ≡ suc no_more_docs) × (w ≡ [])
 LeafIs ix ranges (term l) s w b = TermIs ix 1 l s b × (w ≡ [])
 LeafIs ix ranges (phrase f ts) s w b = PhraseIs ix f ts s w b
 LeafIs ix ranges (range r) s w b = RangeIs ix ranges r s × (w ≡ [])
-LeafIs ix ranges everything s w b = (s.kind ≡ 5) × (s.size ≡ nodeStateWords) × (w ≡ [])
+LeafIs ix ranges everything s w b = (s.kind ≡ 5) × (s.size ≡ node_state_words) × (w ≡ [])
 
 -- a score in words: a binary32 value from 0 to 2^29
 pub record FloatIs (x : Float) (bits : ℕ) : Type 0 where
@@ -84,7 +84,7 @@ KeptIs none s = s.constant ≡ 0
 KeptIs (some c) s = (s.constant ≡ 1) × FloatIs c s.weight
 
 unfoldable pub JoiningIs : Joining → Scorers → State → Type 0
-JoiningIs (oneMore n) rs s = (s.afterwards ≡ 0) × (s.groupAt ≡ sizesOfFirst n rs)
+JoiningIs (one_more n) rs s = (s.afterwards ≡ 0) × (s.group_at ≡ sizes_of_first n rs)
 JoiningIs afterwards rs s = s.afterwards ≡ 1
 
 -- the record of a Boolean, but for its cache
@@ -92,8 +92,8 @@ pub record BooleanIs (c : Option Float) (j : Joining) (need : ℕ) (rs os ps : S
   pub kind-is : s.kind ≡ 3
   pub size_is : s.size ≡ size_of (boolean c j need rs os ps)
   pub need-is : s.need ≡ need
-  pub required-end : s.requiredEnd ≡ sizesOf rs
-  pub optional-end : s.optionalEnd ≡ sizesOf rs + sizesOf os
+  pub required-end : s.required_end ≡ sizes_of rs
+  pub optional-end : s.optional_end ≡ sizes_of rs + sizes_of os
   pub kept : KeptIs c s
   pub joining : JoiningIs j rs s
 

@@ -1,16 +1,16 @@
 -- What the first pass over a query's records finds of each tree. Assumes nothing: these are definitions.
 use Rattle.std.specs.Prelude.{◌≡◌, false, cond, List, ℕ, ◌+◌, ◌*◌, ◌≤◌, ◌<◌, length, get_or}
 use Rattle.std.proofs.Math.Option.{some}
-use Rattle.meaning.specs.Below.{listTo}
+use Rattle.meaning.specs.Below.{list_to}
 use Rattle.meaning.specs.Lent.{Index}
-use Rattle.meaning.specs.Range.{rangeDocuments}
-use Rattle.meaning.specs.Query.{recordCount, recordKind, recordValue, range_of, Decoded, decode}
-use Rattle.meaning.specs.Scorer.{hasScorer}
+use Rattle.meaning.specs.Range.{range_documents}
+use Rattle.meaning.specs.Query.{record_count, record_kind, record_value, range_of, Decoded, decode}
+use Rattle.meaning.specs.Scorer.{has_scorer}
 use Rattle.meaning.specs.Cost.{cost}
 use Rattle.meaning.specs.QueryRefusals.{wrong7, wrong8, wrong9, wrong10}
 use Rattle.index.specs.Accepted.{Accepted}
-use Rattle.bits.specs.Bit.{bitmapWords, Bitmap}
-use Rattle.weight.specs.ScorerTree.{range, leafMatches}
+use Rattle.bits.specs.Bit.{bitmap_words, Bitmap}
+use Rattle.weight.specs.ScorerTree.{range, leaf_matches}
 
 -- an accepted index and a query that none of 7 to 10 refuses
 pub record Asks (ix : Index) (q : List ℕ) : Type 0 where
@@ -23,14 +23,14 @@ pub record Asks (ix : Index) (q : List ℕ) : Type 0 where
 -- its N and leaves are those lent, and `counts` says how many documents each Range record has
 pub record Known (ix : Index) (q : List ℕ) (n : ℕ) (leaves counts : List ℕ) : Type 0 where
   pub asks : Asks ix q
-  pub documents : ix.maxDoc ≡ n
+  pub documents : ix.max_doc ≡ n
   pub leaves-are : ix.leaves ≡ leaves
-  pub counts-are : (r : ℕ) → r < recordCount q → recordKind q r ≡ 4 → get_or counts r 0 ≡ length (rangeDocuments ix (range_of q r))
+  pub counts-are : (r : ℕ) → r < record_count q → record_kind q r ≡ 4 → get_or counts r 0 ≡ length (range_documents ix (range_of q r))
 
 -- of a tree that is decoded at a record: the record after it, 1 where it has a scorer, its cost, which is below 2^32 for each of its records
 pub record MeasureIs (ix : Index) (r : ℕ) (D : Decoded) (next present size : ℕ) : Type 0 where
   pub next-is : next ≡ D.next
-  pub present-is : present ≡ cond (hasScorer ix D.tree) 1 0
+  pub present-is : present ≡ cond (has_scorer ix D.tree) 1 0
   pub cost-is : size ≡ cost ix D.tree
   pub small : size + 4294967296 * r ≤ 4294967296 * next
 
@@ -40,29 +40,29 @@ Measured ix q nexts presents costs from =
     (k r : ℕ) (D : Decoded) → from ≤ r → decode q k r ≡ some D → MeasureIs ix r D (get_or nexts r 0) (get_or presents r 0) (get_or costs r 0)
 
 -- the numbers of postings of the first n terms of the phrase at record r
-abbrev pub termNumbers : List ℕ → List ℕ → ℕ → ℕ → List ℕ
-termNumbers q leaves r n = listTo n (λ j. get_or leaves (4 * recordValue q (r + 1 + j) 0 + 2) 0)
+abbrev pub term_numbers : List ℕ → List ℕ → ℕ → ℕ → List ℕ
+term_numbers q leaves r n = list_to n (λ j. get_or leaves (4 * record_value q (r + 1 + j) 0 + 2) 0)
 
 -- a record, and room for the measures of each
 pub record Held (q nexts presents costs : List ℕ) (r : ℕ) : Type 0 where
-  pub here : r < recordCount q
-  pub nexts-long : recordCount q ≤ length nexts
-  pub presents-long : recordCount q ≤ length presents
-  pub costs-long : recordCount q ≤ length costs
+  pub here : r < record_count q
+  pub nexts-long : record_count q ≤ length nexts
+  pub presents-long : record_count q ≤ length presents
+  pub costs-long : record_count q ≤ length costs
 
 -- its N, columns and values are those lent
 pub record Columns (ix : Index) (n : ℕ) (columns values : List ℕ) : Type 0 where
-  pub documents : ix.maxDoc ≡ n
+  pub documents : ix.max_doc ≡ n
   pub columns-are : ix.columns ≡ columns
   pub values-are : ix.values ≡ values
 
 -- the documents of the Range record r are so many, and stand in the range buffer as a bitmap
 pub record RangeListed (ix : Index) (q ranges : List ℕ) (r place count : ℕ) : Type 0 where
-  pub count-is : count ≡ length (rangeDocuments ix (range_of q r))
-  pub there : place + bitmapWords ix.maxDoc ≤ length ranges
-  pub bits : Bitmap (leafMatches ix (range (range_of q r))) ranges place (bitmapWords ix.maxDoc)
+  pub count-is : count ≡ length (range_documents ix (range_of q r))
+  pub there : place + bitmap_words ix.max_doc ≤ length ranges
+  pub bits : Bitmap (leaf_matches ix (range (range_of q r))) ranges place (bitmap_words ix.max_doc)
 
 -- those of each Range record below n
 abbrev pub RangesListed : Index → List ℕ → List ℕ → List ℕ → List ℕ → ℕ → Type 0
 RangesListed ix q places counts ranges n =
-    (r : ℕ) → r < n → recordKind q r ≡ 4 → RangeListed ix q ranges r (get_or places r 0) (get_or counts r 0)
+    (r : ℕ) → r < n → record_kind q r ≡ 4 → RangeListed ix q ranges r (get_or places r 0) (get_or counts r 0)

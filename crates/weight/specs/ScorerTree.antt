@@ -4,12 +4,12 @@ use Rattle.std.specs.Prelude.{Bool, true, false, not, cond, ◌&&◌, ◌||◌, 
 use Rattle.std.proofs.Math.Option.{Option, none, some}
 use Rattle.std.specs.Float.{binary64}
 use Rattle.std.specs.Float.Ieee.{add}
-use Rattle.meaning.specs.Lent.{Index, leafField}
-use Rattle.meaning.specs.Ieee754.{zeroFloat, narrow, narrowedSum}
-use Rattle.meaning.specs.Postings.{postingAt, found, frequencyOf}
+use Rattle.meaning.specs.Lent.{Index, leaf_field}
+use Rattle.meaning.specs.Ieee754.{zero_float, narrow, narrowed_sum}
+use Rattle.meaning.specs.Postings.{posting_at, found, frequency_of}
 use Rattle.meaning.specs.Range.{NumericRange, in_range}
-use Rattle.meaning.specs.Phrase.{PhraseTerm, phraseFrequency}
-use Rattle.meaning.specs.Score.{fieldScore}
+use Rattle.meaning.specs.Phrase.{PhraseTerm, phrase_frequency}
+use Rattle.meaning.specs.Score.{field_score}
 
 -- what a scorer without children matches
 pub data Leaf : Type 0 where
@@ -26,7 +26,7 @@ pub data Scoring : Type 0 where
 
 -- where a Boolean's Should group joins the sum: as one more, after so many of the required, or after the required sum is narrowed
 pub data Joining : Type 0 where
-  oneMore : ℕ → Joining
+  one_more : ℕ → Joining
   afterwards : Joining
 
 -- a Boolean's score where it is constant, where its group joins, how many of the optional must match; the required, cheapest first, the optional in clause order, the prohibited
@@ -41,25 +41,25 @@ mutual
     more : Bool → Scorer → Scorers → Scorers
 
 -- ---- which documents match
-unfoldable pub leafMatches : Index → Leaf → ℕ → Bool
-leafMatches ix nothing d = false
-leafMatches ix (term l) d = found (postingAt ix l d)
-leafMatches ix (phrase f ts) d = ltb 0 (phraseFrequency ix ts d)
-leafMatches ix (range r) d = ltb d ix.maxDoc && in_range ix r d
-leafMatches ix everything d = ltb d ix.maxDoc
+unfoldable pub leaf_matches : Index → Leaf → ℕ → Bool
+leaf_matches ix nothing d = false
+leaf_matches ix (term l) d = found (posting_at ix l d)
+leaf_matches ix (phrase f ts) d = ltb 0 (phrase_frequency ix ts d)
+leaf_matches ix (range r) d = ltb d ix.max_doc && in_range ix r d
+leaf_matches ix everything d = ltb d ix.max_doc
 
 unfoldable mutual
   pub matches : Index → Scorer → ℕ → Bool
-  matches ix (leaf l s) d = leafMatches ix l d
-  matches ix (boolean c j need rs os ps) d = allMatch ix rs d && not (anyMatches ix ps d) && leb need (matching ix os d)
+  matches ix (leaf l s) d = leaf_matches ix l d
+  matches ix (boolean c j need rs os ps) d = all_match ix rs d && not (any_matches ix ps d) && leb need (matching ix os d)
 
-  pub allMatch : Index → Scorers → ℕ → Bool
-  allMatch ix end d = true
-  allMatch ix (more b s ss) d = matches ix s d && allMatch ix ss d
+  pub all_match : Index → Scorers → ℕ → Bool
+  all_match ix end d = true
+  all_match ix (more b s ss) d = matches ix s d && all_match ix ss d
 
-  pub anyMatches : Index → Scorers → ℕ → Bool
-  anyMatches ix end d = false
-  anyMatches ix (more b s ss) d = matches ix s d || anyMatches ix ss d
+  pub any_matches : Index → Scorers → ℕ → Bool
+  any_matches ix end d = false
+  any_matches ix (more b s ss) d = matches ix s d || any_matches ix ss d
 
   -- how many match
   pub matching : Index → Scorers → ℕ → ℕ
@@ -67,13 +67,13 @@ unfoldable mutual
   matching ix (more b s ss) d = cond (matches ix s d) 1 0 + matching ix ss d
 
 -- ---- the score of a document that matches
-unfoldable pub leafScore : Index → Leaf → Scoring → ℕ → Float
-leafScore ix l (constant c) d = c
-leafScore ix nothing (weighted w) d = zeroFloat
-leafScore ix (term l) (weighted w) d = fieldScore ix (leafField ix l) w (frequencyOf ix l (postingAt ix l d)) d
-leafScore ix (phrase f ts) (weighted w) d = fieldScore ix f w (phraseFrequency ix ts d) d
-leafScore ix (range r) (weighted w) d = zeroFloat
-leafScore ix everything (weighted w) d = zeroFloat
+unfoldable pub leaf_score : Index → Leaf → Scoring → ℕ → Float
+leaf_score ix l (constant c) d = c
+leaf_score ix nothing (weighted w) d = zero_float
+leaf_score ix (term l) (weighted w) d = field_score ix (leaf_field ix l) w (frequency_of ix l (posting_at ix l d)) d
+leaf_score ix (phrase f ts) (weighted w) d = field_score ix f w (phrase_frequency ix ts d) d
+leaf_score ix (range r) (weighted w) d = zero_float
+leaf_score ix everything (weighted w) d = zero_float
 
 -- of a required child: whether it scores, and its score
 pub record Scored : Type 0 where
@@ -86,27 +86,27 @@ scoring [] = []
 scoring (x ∷ xs) = cond x.scores (x.score ∷ []) [] ++ scoring xs
 
 -- the same with the group's score after the first n children
-unfoldable pub withGroup : ℕ → Float → List Scored → List Float
-withGroup zero g xs = g ∷ scoring xs
-withGroup (suc n) g [] = g ∷ []
-withGroup (suc n) g (x ∷ xs) = cond x.scores (x.score ∷ []) [] ++ withGroup n g xs
+unfoldable pub with_group : ℕ → Float → List Scored → List Float
+with_group zero g xs = g ∷ scoring xs
+with_group (suc n) g [] = g ∷ []
+with_group (suc n) g (x ∷ xs) = cond x.scores (x.score ∷ []) [] ++ with_group n g xs
 
 -- a Boolean's score from its required children's and its group's
-unfoldable pub joinedScore : Joining → List Scored → Float → Float
-joinedScore (oneMore n) xs g = narrowedSum (withGroup n g xs)
-joinedScore afterwards xs g = narrow (add binary64 (narrowedSum (scoring xs)) g)
+unfoldable pub joined_score : Joining → List Scored → Float → Float
+joined_score (one_more n) xs g = narrowed_sum (with_group n g xs)
+joined_score afterwards xs g = narrow (add binary64 (narrowed_sum (scoring xs)) g)
 
 unfoldable mutual
-  pub scorerScore : Index → Scorer → ℕ → Float
-  scorerScore ix (leaf l s) d = leafScore ix l s d
-  scorerScore ix (boolean (some c) j need rs os ps) d = c
-  scorerScore ix (boolean none j need rs os ps) d = joinedScore j (requiredScores ix rs d) (narrowedSum (optionalScores ix os d))
+  pub scorer_score : Index → Scorer → ℕ → Float
+  scorer_score ix (leaf l s) d = leaf_score ix l s d
+  scorer_score ix (boolean (some c) j need rs os ps) d = c
+  scorer_score ix (boolean none j need rs os ps) d = joined_score j (required_scores ix rs d) (narrowed_sum (optional_scores ix os d))
 
-  pub requiredScores : Index → Scorers → ℕ → List Scored
-  requiredScores ix end d = []
-  requiredScores ix (more b s ss) d = record { scores = b; score = scorerScore ix s d } ∷ requiredScores ix ss d
+  pub required_scores : Index → Scorers → ℕ → List Scored
+  required_scores ix end d = []
+  required_scores ix (more b s ss) d = record { scores = b; score = scorer_score ix s d } ∷ required_scores ix ss d
 
   -- of the optional that match
-  pub optionalScores : Index → Scorers → ℕ → List Float
-  optionalScores ix end d = []
-  optionalScores ix (more b s ss) d = cond (matches ix s d) (scorerScore ix s d ∷ []) [] ++ optionalScores ix ss d
+  pub optional_scores : Index → Scorers → ℕ → List Float
+  optional_scores ix end d = []
+  optional_scores ix (more b s ss) d = cond (matches ix s d) (scorer_score ix s d ∷ []) [] ++ optional_scores ix ss d

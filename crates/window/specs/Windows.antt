@@ -1,18 +1,18 @@
 -- The documents of a run in a window of 64, as bits. Assumes nothing: these are definitions.
 use Rattle.std.specs.Prelude.{◌≡◌, Bool, List, ℕ, ◌+◌, ◌≤◌, ◌<◌, eqb}
-use Rattle.meaning.specs.Below.{anyBelow}
-use Rattle.run.specs.Run.{documentAt, Run}
+use Rattle.meaning.specs.Below.{any_below}
+use Rattle.run.specs.Run.{document_at, Run}
 use Rattle.bits.specs.Bit.{bit}
 
 -- a document is in the run
-abbrev pub inRun : List ℕ → ℕ → ℕ → ℕ → ℕ → Bool
-inRun words stride first count d = anyBelow count (λ i. eqb (documentAt words stride first i) d)
+abbrev pub in_run : List ℕ → ℕ → ℕ → ℕ → ℕ → Bool
+in_run words stride first count d = any_below count (λ i. eqb (document_at words stride first i) d)
 
 -- a cursor stands at the first document of a run that is not below d
 pub record Cursor (words : List ℕ) (stride first count d at : ℕ) : Type 0 where
   pub within : at ≤ count
-  pub passed : (i : ℕ) → i < at → documentAt words stride first i < d
-  pub ahead : (i : ℕ) → at ≤ i → i < count → d ≤ documentAt words stride first i
+  pub passed : (i : ℕ) → i < at → document_at words stride first i < d
+  pub ahead : (i : ℕ) → at ≤ i → i < count → d ≤ document_at words stride first i
 
 -- what a gathering asks: the cursor stands at the window's first document
 pub record Ready (words : List ℕ) (stride first count base from : ℕ) : Type 0 where
@@ -21,6 +21,6 @@ pub record Ready (words : List ℕ) (stride first count base from : ℕ) : Type 
 
 -- and what it gives: the window's documents, and the cursor behind them
 pub record Gathers (words : List ℕ) (stride first count base from w at : ℕ) : Type 0 where
-  pub bits : (p : ℕ) → p < 64 → bit p w ≡ inRun words stride first count (base + p)
+  pub bits : (p : ℕ) → p < 64 → bit p w ≡ in_run words stride first count (base + p)
   pub from-within : from ≤ at
   pub cursor : Cursor words stride first count (base + 64) at

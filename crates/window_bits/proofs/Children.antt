@@ -1,14 +1,14 @@
 -- A child of a node that is asked by windows: what a question of its part needs, and what the answer says of it. Assumes nothing.
 use Rattle.std.proofs.Common.{get_or-take, get_or-drop, ◌≡◌, refl, sym, ap, ◌∙◌, subst, Bool, true, cond, ◌&&◌, List, ◌++◌, ℕ, ◌+◌, ◌-◌, ◌≤◌, ◌<◌, length, get_or, take, drop, length-take, length-drop, arith, get_or-append-add}
 use lib.ListN.{get_or-append}
-use Rattle.meaning.specs.Limits.{nodeStateWords, noMoreDocs}
+use Rattle.meaning.specs.Limits.{node_state_words, no_more_docs}
 use Rattle.meaning.specs.Lent.{Index}
 use Rattle.bits.specs.Bit.{bit}
 use Rattle.weight.specs.ScorerTree.{Scorer, Scorers, end, more}
-use Rattle.weight.specs.Sound.{Lends, Sound, Sounds, nodes, nodesOf}
+use Rattle.weight.specs.Sound.{Lends, Sound, Sounds, nodes, nodes_of}
 use Rattle.leaf_scorer.specs.Calls.{lent}
-use Rattle.window_words.specs.Windowed.{nowhere, placesOf, Windowed}
-use Rattle.window_words.proofs.Laws.{windowed-less, windowed-long, windowed-size, windowed-kind, kindOf}
+use Rattle.window_words.specs.Windowed.{nowhere, places_of, Windowed}
+use Rattle.window_words.proofs.Laws.{windowed-less, windowed-long, windowed-size, windowed-kind, kind_of}
 use Rattle.window_words.proofs.Parts.{Part, Each, Zip, View, zip-none, view, word-at, word-first, part}
 use Rattle.window_leaf.specs.Asks.{everywhere, NodeWindowed, NodeAnswers, BitsPre, TermPre, TermPost}
 use Rattle.window_bits.specs.Parts.{Called, ChildAt}
@@ -21,8 +21,8 @@ pub record Known (ix : Index) (places : ℕ) (s : Scorer) : Type 0 where
 abbrev pub AndKnown : Index → ℕ → Part → Part
 AndKnown ix places P f s y = Known ix places s × P f s y
 
-pub each-known : (P : Part) (ix : Index) (places : ℕ) (ss : Scorers) (w : List ℕ) → Sounds ix places ss → nodesOf ss ≤ 255 → Each P ss w → Each (AndKnown ix places P) ss w
-unfolding Each Sounds nodesOf
+pub each-known : (P : Part) (ix : Index) (places : ℕ) (ss : Scorers) (w : List ℕ) → Sounds ix places ss → nodes_of ss ≤ 255 → Each P ss w → Each (AndKnown ix places P) ss w
+unfolding Each Sounds nodes_of
 each-known P ix places end w h n p = p
 each-known P ix places (more f s ss) w h n p = (p.0, p.1, p.2, (record { sound = h.0; few = omega (arith, n) }, p.3), each-known P ix places ss p.1 h.1 (omega (arith, n)) p.4)
 
@@ -32,20 +32,20 @@ pub record Low (ix : Index) (R : List ℕ) (k base : ℕ) (P : Part) : Type 0 wh
 
 -- a child whose first word is so is not asked yet
 pub record Fresh (ix : Index) (R : List ℕ) (k base kind : ℕ) (P : Part) : Type 0 where
-  pub fresh : (f : Bool) (s : Scorer) (y : List ℕ) → kindOf s ≡ kind → P f s y → Windowed ix R s k (cond f 1 0) y base base nowhere
+  pub fresh : (f : Bool) (s : Scorer) (y : List ℕ) → kind_of s ≡ kind → P f s y → Windowed ix R s k (cond f 1 0) y base base nowhere
 
 module _ {ix : Index} {R : List ℕ} {k base places : ℕ} {P Q : Part} (low : Low ix R k base P) {ss : Scorers} {kids : List ℕ} {at : ℕ} where
   module _ {f : Bool} {s : Scorer} {g : Scorers} (v : View (AndKnown ix places P) Q ss f s g kids at) where
     held : Windowed ix R s k (cond f 1 0) v.y (base + 64) base nowhere
     held = low.low f s v.y v.part-is.1
 
-    long : nodeStateWords ≤ length v.y
+    long : node_state_words ≤ length v.y
     long = windowed-long ix R s k (cond f 1 0) v.y (base + 64) base nowhere held
 
     pub size-read : get_or kids (at + 1) 0 ≡ length v.y
     size-read = word-at v 1 (omega (arith, long)) ∙ windowed-size ix R s k (cond f 1 0) v.y (base + 64) base nowhere held
 
-    pub kind-read : kindOf s ≡ get_or kids at 0
+    pub kind-read : kind_of s ≡ get_or kids at 0
     kind-read = sym (word-first v (omega (arith, long)) ∙ windowed-kind ix R s k (cond f 1 0) v.y (base + 64) base nowhere held)
 
     pub stop-is : (e : ℕ) → e ≡ at + get_or kids (at + 1) 0 → e ≡ at + length v.y
@@ -75,7 +75,7 @@ pub bits-pre : {n places a b base want : ℕ} (postings positions ranges : List 
 bits-pre {n} {places} {a} {b} {base} {want} postings positions ranges c a' b' w e f within ix q depth h =
     (c.small, (n, ix, places, h.0, h.1, λ p l t. c.wanted p l (within p l t), record { in-a = omega (arith, c.room.in-a, e); in_b = omega (arith, c.room.in_b, f) }, h.2))
 
-pub term-pre : (n : ℕ) (postings positions ranges : List ℕ) (base : ℕ) → base + 64 ≤ noMoreDocs → (ix : Index) (places : ℕ) (q : List ℕ) (depth : ℕ) → get_or q 0 0 ≡ 1 → (s : Scorer) × (scores : ℕ) × NodeWindowed (lent n postings positions ranges) ix places s depth scores q base → TermPre postings q base
+pub term-pre : (n : ℕ) (postings positions ranges : List ℕ) (base : ℕ) → base + 64 ≤ no_more_docs → (ix : Index) (places : ℕ) (q : List ℕ) (depth : ℕ) → get_or q 0 0 ≡ 1 → (s : Scorer) × (scores : ℕ) × NodeWindowed (lent n postings positions ranges) ix places s depth scores q base → TermPre postings q base
 term-pre n postings positions ranges base small ix places q depth kind h = (small, kind, (lent n postings positions ranges, refl, ix, places, h.0, depth, h.1, h.2))
 
 module _ {ix : Index} {R : List ℕ} {k base places : ℕ} {P Q : Part} (low : Low ix R k base P) {ss : Scorers} {kids : List ℕ} {at : ℕ} (postings positions : List ℕ) (n : ℕ) {a b want : ℕ} (called : Called (lent n postings positions R) places a b base want) (lends : Lends ix n postings positions) (kind : ℕ) (fresh : Fresh ix R k base kind P) (g : Scorers) (zip : Zip (AndKnown ix places P) Q ss g kids at) (l : at < length kids) (e : ℕ) (i : e ≡ at + get_or kids (at + 1) 0) (j : kind ≡ get_or kids at 0) where
@@ -86,11 +86,11 @@ module _ {ix : Index} {R : List ℕ} {k base places : ℕ} {P Q : Part} (low : L
   ask-term h = term-pre n postings positions R base called.small ix places (take (e - at) (drop at kids)) k (child-kind kids at e (child-there low g zip l) i ∙ sym j ∙ h) (child-node low postings positions n lends kind fresh g zip l e i j)
 
 -- ---- what a call answers: a term's answer, cut to what is wanted
-pub term-answers : (n : ℕ) (postings positions ranges q : List ℕ) (base depth w t r : ℕ) (ys : List ℕ) → ((p : ℕ) → bit p r ≡ bit p w && bit p t) → TermPost postings q base t ys → NodeAnswers (lent n postings positions ranges) q base (placesOf w) depth r ys
+pub term-answers : (n : ℕ) (postings positions ranges q : List ℕ) (base depth w t r : ℕ) (ys : List ℕ) → ((p : ℕ) → bit p r ≡ bit p w && bit p t) → TermPost postings q base t ys → NodeAnswers (lent n postings positions ranges) q base (places_of w) depth r ys
 term-answers n postings positions ranges q base depth w t r ys e post ix places s scores h =
     let a = post (lent n postings positions ranges) depth refl ix places s scores h in (
       record { bits = λ p l. e p ∙ ap (λ (x : Bool). bit p w && x) (a.0.bits p l); gap = a.0.gap; top = a.0.top },
-      windowed-less ix ranges s depth scores ys (base + 64) base everywhere (placesOf w) (λ p l x. refl) a.1,
+      windowed-less ix ranges s depth scores ys (base + 64) base everywhere (places_of w) (λ p l x. refl) a.1,
     )
 
 -- ---- words of a part that was put back
@@ -99,5 +99,5 @@ word-back kids ys at e i h l =
     let n : length (take at kids) ≡ at = length-take at kids ∙ omega (arith, h) in
     ap (λ (j : ℕ). get_or (take at kids ++ (ys ++ drop (e - at) (drop at kids))) (j + i) 0) (sym n) ∙ get_or-append-add (take at kids) (ys ++ drop (e - at) (drop at kids)) i 0 ∙ get_or-append ys (drop (e - at) (drop at kids)) 0 i l
 
-pub part-length : (kids : List ℕ) (at e : ℕ) → ChildAt kids at → e ≡ at + get_or kids (at + 1) 0 → nodeStateWords ≤ length (take (e - at) (drop at kids))
+pub part-length : (kids : List ℕ) (at e : ℕ) → ChildAt kids at → e ≡ at + get_or kids (at + 1) 0 → node_state_words ≤ length (take (e - at) (drop at kids))
 part-length kids at e c h = omega (arith, length-take (e - at) (drop at kids), length-drop at kids, c.long, c.fits, h)

@@ -2,17 +2,17 @@
 use Rattle.std.proofs.Common.{◌≡◌, refl, sym, ap, ap₂, ◌∙◌, subst, Bool, ◌&&◌, Float, List, [], ◌++◌, ℕ, ◌+◌, ◌-◌, ◌≤◌, ◌<◌, ltb, length, get_or, take, drop, take_at, drop_at, append-nil, arith}
 use Rattle.std.proofs.Math.Option.{Option, none, some}
 use Rattle.std.proofs.lemmas.Bool.{and_parts, and_from}
-use Rattle.meaning.specs.Limits.{nodeStateWords}
+use Rattle.meaning.specs.Limits.{node_state_words}
 use Rattle.meaning.specs.Lent.{Index}
 use Rattle.bits.specs.Bit.{bit}
 use Rattle.bits.proofs.Laws.{halves-joined}
-use Rattle.weight.specs.ScorerTree.{Leaf, nothing, term, phrase, range, everything, Scoring, Joining, oneMore, afterwards, Scorer, leaf, boolean, Scorers, matches}
+use Rattle.weight.specs.ScorerTree.{Leaf, nothing, term, phrase, range, everything, Scoring, Joining, one_more, afterwards, Scorer, leaf, boolean, Scorers, matches}
 use Rattle.weight.specs.State.{State, words_of}
 use Rattle.weight.specs.Held.{KeptIs, JoiningIs, BooleanIs}
 use Rattle.weight.specs.Sound.{Sound, nodes}
 use Rattle.leaf_scorer.specs.Calls.{lent}
-use Rattle.window_words.specs.Windowed.{Places, nowhere, placesOf, optionalBound, Stored, requiredPlaces, optionalPlaces, Windowed, AllWindowed}
-use Rattle.window_words.proofs.Laws.{all-less, windowed-long, windowed-kind, kindOf}
+use Rattle.window_words.specs.Windowed.{Places, nowhere, places_of, optional_bound, Stored, required_places, optional_places, Windowed, AllWindowed}
+use Rattle.window_words.proofs.Laws.{all-less, windowed-long, windowed-kind, kind_of}
 use Rattle.window_leaf.specs.Asks.{Answers, Wanted, NodeWindowed}
 use Rattle.window_leaf.specs.Runs.{answered, PutPre, PutPost}
 use Rattle.window_bits.specs.Parts.{Called, BooleanKnown, BooleanWindowed, BooleanRead, BooleanPre, BooleanPost, takes}
@@ -43,11 +43,11 @@ kept-answered (some x) S bits next h = h
 
 joining-answered : (j : Joining) (rs : Scorers) (S : State) (bits next : ℕ) → JoiningIs j rs S → JoiningIs j rs (answered S bits next)
 unfolding JoiningIs
-joining-answered (oneMore n) rs S bits next h = h
+joining-answered (one_more n) rs S bits next h = h
 joining-answered afterwards rs S bits next h = h
 
-no-leaf : (l : Leaf) (sc : Scoring) → kindOf (leaf l sc) ≡ 3 → ⊥
-unfolding kindOf
+no-leaf : (l : Leaf) (sc : Scoring) → kind_of (leaf l sc) ≡ 3 → ⊥
+unfolding kind_of
 no-leaf nothing sc e = omega (arith, e)
 no-leaf (term l) sc e = omega (arith, e)
 no-leaf (phrase f ts) sc e = omega (arith, e)
@@ -70,8 +70,8 @@ record Held (ix : Index) (R : List ℕ) (c : Option Float) (j : Joining) (need :
   boolean-is : BooleanIs c j need rs os ps S
   cached-is : S.cached ≡ 0
   stored : Stored (matches ix (boolean c j need rs os ps)) S base D
-  required : AllWindowed ix R rs (depth - 1) x b base (requiredPlaces ix (boolean c j need rs os ps) base D)
-  optional : AllWindowed ix R os (depth - 1) v (optionalBound need b base) base (optionalPlaces ix (boolean c j need rs os ps) need base D)
+  required : AllWindowed ix R rs (depth - 1) x b base (required_places ix (boolean c j need rs os ps) base D)
+  optional : AllWindowed ix R os (depth - 1) v (optional_bound need b base) base (optional_places ix (boolean c j need rs os ps) need base D)
   prohibited : AllWindowed ix R ps (depth - 1) z b base nowhere
 
 module _ (ix : Index) (R : List ℕ) (c : Option Float) (j : Joining) (need : ℕ) (rs os ps : Scorers) (depth scores : ℕ) (y : List ℕ) (b base : ℕ) (D : Places) where
@@ -98,7 +98,7 @@ known-of c j need rs os ps m =
 
 -- ---- the node
 module _ {n : ℕ} {postings positions R : List ℕ} {ix : Index} {places depth scores : ℕ} {st : List ℕ} {base : ℕ} where
-  pub node-long : (s : Scorer) → NodeWindowed (lent n postings positions R) ix places s depth scores st base → nodeStateWords ≤ length st
+  pub node-long : (s : Scorer) → NodeWindowed (lent n postings positions R) ix places s depth scores st base → node_state_words ≤ length st
   node-long s m = windowed-long ix R s depth scores st base base nowhere m.held
 
   leaf-not : (l : Leaf) (sc : Scoring) → NodeWindowed (lent n postings positions R) ix places (leaf l sc) depth scores st base → get_or st 0 0 ≡ 3 → ⊥
@@ -141,8 +141,8 @@ module _ {n : ℕ} {postings positions R : List ℕ} {ix : Index} {places depth 
 
     module _ (a b want : ℕ) (wanted : Wanted n base want) where
       module _ (bits next : ℕ) (w st' : List ℕ) (post : BooleanPost postings positions R a b (take (length st - 32) (drop 32 st)) r o need' base want (depth - 1) bits next w) (put : PutPost (take 32 st ++ (w ++ drop (length st - 32) (drop 32 st))) bits next st') where
-        done : Answers (takes ix rs os ps need) base (placesOf want) bits next × BooleanWindowed ix R rs os ps (depth - 1) r o need w (base + 64) base (placesOf bits)
-        done = subst (λ (q : ℕ). Answers (takes ix rs os ps q) base (placesOf want) bits next × BooleanWindowed ix R rs os ps (depth - 1) r o q w (base + 64) base (placesOf bits)) need-same (post n ix places rs os ps wanted (known-of c j need rs os ps m) parts)
+        done : Answers (takes ix rs os ps need) base (places_of want) bits next × BooleanWindowed ix R rs os ps (depth - 1) r o need w (base + 64) base (places_of bits)
+        done = subst (λ (q : ℕ). Answers (takes ix rs os ps q) base (places_of want) bits next × BooleanWindowed ix R rs os ps (depth - 1) r o q w (base + 64) base (places_of bits)) need-same (post n ix places rs os ps wanted (known-of c j need rs os ps m) parts)
 
         written : st' ≡ words_of (answered h.S bits next) ++ w
         written = put h.S w (put-behind h.S (h.x ++ (h.v ++ h.z)) st h.is w)
@@ -156,10 +156,10 @@ module _ {n : ℕ} {postings positions R : List ℕ} {ix : Index} {places depth 
         next-is : get_or st' 22 0 ≡ next
         next-is = ap (λ (q : List ℕ). get_or q 22 0) written
 
-        answers : Answers (matches ix B) base (placesOf want) bits (get_or st' 22 0)
+        answers : Answers (matches ix B) base (places_of want) bits (get_or st' 22 0)
         answers = record { bits = bits-are; gap = λ d u t. sym (takes-is ix c j need rs os ps d) ∙ done.0.gap d u (omega (arith, next-is, t)); top = omega (arith, next-is, done.0.top) }
 
-        held-after : Held ix R c j need rs os ps depth scores st' (base + 64) base (placesOf want)
+        held-after : Held ix R c j need rs os ps depth scores st' (base + 64) base (places_of want)
         held-after =
             let q = done.1 in
             record {
@@ -173,19 +173,19 @@ module _ {n : ℕ} {postings positions R : List ℕ} {ix : Index} {places depth 
               boolean-is = boolean-answered c j need rs os ps h.S bits next h.boolean-is;
               cached-is = h.cached-is;
               stored = λ p l t. ap (bit p) (halves-joined bits) ∙ bits-are p l ∙ ap (λ (u : Bool). u && matches ix B (base + p)) t;
-              required = all-less ix R rs (depth - 1) q.x (base + 64) base (placesOf bits) (requiredPlaces ix B base (placesOf want)) (λ p l t. bits-are p l ∙ t) q.required;
-              optional = all-less ix R os (depth - 1) q.v (optionalBound need (base + 64) base) base (λ p. ltb 0 need && bit p bits) (optionalPlaces ix B need base (placesOf want)) (λ p l t. let u = and_parts (ltb 0 need) (requiredPlaces ix B base (placesOf want) p) t in and_from (ltb 0 need) (bit p bits) u.0 (bits-are p l ∙ u.1)) q.optional;
+              required = all-less ix R rs (depth - 1) q.x (base + 64) base (places_of bits) (required_places ix B base (places_of want)) (λ p l t. bits-are p l ∙ t) q.required;
+              optional = all-less ix R os (depth - 1) q.v (optional_bound need (base + 64) base) base (λ p. ltb 0 need && bit p bits) (optional_places ix B need base (places_of want)) (λ p l t. let u = and_parts (ltb 0 need) (required_places ix B base (places_of want) p) t in and_from (ltb 0 need) (bit p bits) u.0 (bits-are p l ∙ u.1)) q.optional;
               prohibited = q.prohibited;
             }
 
-        boolean-after : Answers (matches ix B) base (placesOf want) bits (get_or st' 22 0) × Windowed ix R B depth scores st' (base + 64) base (placesOf want)
-        boolean-after = (answers, of-held ix R c j need rs os ps depth scores st' (base + 64) base (placesOf want) held-after)
+        boolean-after : Answers (matches ix B) base (places_of want) bits (get_or st' 22 0) × Windowed ix R B depth scores st' (base + 64) base (places_of want)
+        boolean-after = (answers, of-held ix R c j need rs os ps depth scores st' (base + 64) base (places_of want) held-after)
 
   module _ (a b want : ℕ) (need' r o : ℕ) (read : BooleanRead st need' r o) where
     pub node-pre : Called (lent n postings positions R) places a b base want → (s : Scorer) → NodeWindowed (lent n postings positions R) ix places s depth scores st base → get_or st 0 0 ≡ 3 → BooleanPre postings positions R a b (take (length st - 32) (drop 32 st)) r o need' base want (depth - 1)
     node-pre called (leaf l sc) m e = absurd (leaf-not l sc m e)
     node-pre called (boolean c j need rs os ps) m e = (n, ix, places, rs, os, ps, called, known-of c j need rs os ps m, parts need' r o read c j need rs os ps m)
 
-    pub node-after : Wanted n base want → (s : Scorer) → NodeWindowed (lent n postings positions R) ix places s depth scores st base → get_or st 0 0 ≡ 3 → (bits next : ℕ) (w st' : List ℕ) → BooleanPost postings positions R a b (take (length st - 32) (drop 32 st)) r o need' base want (depth - 1) bits next w → PutPost (take 32 st ++ (w ++ drop (length st - 32) (drop 32 st))) bits next st' → Answers (matches ix s) base (placesOf want) bits (get_or st' 22 0) × Windowed ix R s depth scores st' (base + 64) base (placesOf want)
+    pub node-after : Wanted n base want → (s : Scorer) → NodeWindowed (lent n postings positions R) ix places s depth scores st base → get_or st 0 0 ≡ 3 → (bits next : ℕ) (w st' : List ℕ) → BooleanPost postings positions R a b (take (length st - 32) (drop 32 st)) r o need' base want (depth - 1) bits next w → PutPost (take 32 st ++ (w ++ drop (length st - 32) (drop 32 st))) bits next st' → Answers (matches ix s) base (places_of want) bits (get_or st' 22 0) × Windowed ix R s depth scores st' (base + 64) base (places_of want)
     node-after wanted (leaf l sc) m e bits next w st' post put = absurd (leaf-not l sc m e)
     node-after wanted (boolean c j need rs os ps) m e bits next w st' post put = boolean-after need' r o read c j need rs os ps m a b want wanted bits next w st' post put

@@ -2,18 +2,18 @@
 use Rattle.std.proofs.Common.{◌≡◌, refl, sym, ap, ◌∙◌, subst₂, inl, inr, ⊎_elim, Bool, true, false, not, cond, ◌&&◌, ◌||◌, List, ◌++◌, ℕ, ◌+◌, ◌-◌, ◌≤◌, ◌<◌, max, eqb, length, get_or, take, drop, arith, le_refl}
 use Rattle.std.proofs.lemmas.Bool.{false≢true, true≢false, not-true, and_parts, and_from, and_left, and_right, cases_lt}
 use mathlib.Core.Bool.{beq, and-true, and_assoc}
-use Rattle.meaning.specs.Limits.{noMoreDocs}
+use Rattle.meaning.specs.Limits.{no_more_docs}
 use Rattle.meaning.specs.Lent.{Index}
 use Rattle.bits.specs.Bit.{bit}
 use Rattle.bits.proofs.Laws.{bit-zero}
 use Rattle.weight.specs.ScorerTree.{Scorer, Scorers, end, more, matches}
-use Rattle.weight.specs.Sound.{Lends, Sounds, nodesOf}
+use Rattle.weight.specs.Sound.{Lends, Sounds, nodes_of}
 use Rattle.leaf_scorer.specs.Calls.{lent}
-use Rattle.window_words.specs.Windowed.{Places, nowhere, placesOf, Windowed, AllWindowed}
-use Rattle.window_words.proofs.Laws.{windowed-less, windowed-mono, kindOf}
+use Rattle.window_words.specs.Windowed.{Places, nowhere, places_of, Windowed, AllWindowed}
+use Rattle.window_words.proofs.Laws.{windowed-less, windowed-mono, kind_of}
 use Rattle.window_words.proofs.Parts.{Part, Each, all-each, each-all, each-map, Zip, zip-start, zip-none, zip-end, zip-stop, zip-front-map, view, zip-next, zip-skip}
 use Rattle.window_leaf.specs.Asks.{Answers, NodeAnswers, BitsPre, TermPre}
-use Rattle.window_bits.specs.Parts.{isPhrase, askedBefore, askedBy, askedAfter, allOf, asksAll, Through, SomeWindowed, ChildAt, Called}
+use Rattle.window_bits.specs.Parts.{is_phrase, asked_before, asked_by, asked_after, all_of, asks_all, Through, SomeWindowed, ChildAt, Called}
 use Rattle.window_bits.proofs.Matching.{phrase-kind}
 use Rattle.window_bits.proofs.Children.{AndKnown, each-known, Low, Fresh, child-there, ask-node, ask-term, stop-is, kind-read, child-facts, child-held, part-length, word-back}
 
@@ -68,15 +68,15 @@ module _ (ix : Index) (R : List ℕ) (k base : ℕ) where
       }
 
   -- before the first pass, between the two, and after the second
-  pub before-first : (ss : Scorers) (w : List ℕ) (D : Places) → AllWindowed ix R ss k w base base nowhere → SomeWindowed (askedBefore false) ix R ss k w base D
-  before-first ss w D q = each-some (askedBefore false) ix R ss k w base D (all-each ix R ss k w base base nowhere q)
+  pub before-first : (ss : Scorers) (w : List ℕ) (D : Places) → AllWindowed ix R ss k w base base nowhere → SomeWindowed (asked_before false) ix R ss k w base D
+  before-first ss w D q = each-some (asked_before false) ix R ss k w base D (all-each ix R ss k w base base nowhere q)
 
-  pub between : (ss : Scorers) (w : List ℕ) (D D' : Places) → ((p : ℕ) → p < 64 → D' p ≡ true → D p ≡ true) → SomeWindowed (askedAfter false) ix R ss k w base D → SomeWindowed (askedBefore true) ix R ss k w base D'
+  pub between : (ss : Scorers) (w : List ℕ) (D D' : Places) → ((p : ℕ) → p < 64 → D' p ≡ true → D p ≡ true) → SomeWindowed (asked_after false) ix R ss k w base D → SomeWindowed (asked_before true) ix R ss k w base D'
   between ss w D D' h q =
-      each-some (askedBefore true) ix R ss k w base D' (each-map (λ f s y. some-some (askedAfter false) (askedBefore true) D D' f s y (λ e. e) (λ p l e. let t = and_parts (not (isPhrase s)) (D' p) e in and_from (not (isPhrase s)) (D p) t.0 (h p l t.1))) ss w (some-each (askedAfter false) ix R ss k w base D q))
+      each-some (asked_before true) ix R ss k w base D' (each-map (λ f s y. some-some (asked_after false) (asked_before true) D D' f s y (λ e. e) (λ p l e. let t = and_parts (not (is_phrase s)) (D' p) e in and_from (not (is_phrase s)) (D p) t.0 (h p l t.1))) ss w (some-each (asked_after false) ix R ss k w base D q))
 
-  pub after-last : (ss : Scorers) (w : List ℕ) (D : Places) → SomeWindowed (askedAfter true) ix R ss k w base D → AllWindowed ix R ss k w (base + 64) base D
-  after-last ss w D q = each-all ix R ss k w (base + 64) base D (some-each (askedAfter true) ix R ss k w base D q)
+  pub after-last : (ss : Scorers) (w : List ℕ) (D : Places) → SomeWindowed (asked_after true) ix R ss k w base D → AllWindowed ix R ss k w (base + 64) base D
+  after-last ss w D q = each-all ix R ss k w (base + 64) base D (some-each (asked_after true) ix R ss k w base D q)
 
 before-after : (last q : Bool) → (last && q) ≡ true → (last || q) ≡ true
 before-after true q e = refl
@@ -85,24 +85,24 @@ before-after false q e = absurd (false≢true e)
 -- ---- the second pass where it has nothing to ask
 module _ (ix : Index) (R : List ℕ) (k base want : ℕ) where
   -- no child is a phrase
-  no-phrase : (ss : Scorers) → asksAll false ss ≡ true → (d : ℕ) → allOf (askedBy true) ix ss d ≡ true
-  unfolding asksAll allOf
+  no-phrase : (ss : Scorers) → asks_all false ss ≡ true → (d : ℕ) → all_of (asked_by true) ix ss d ≡ true
+  unfolding asks_all all_of
   no-phrase end h d = refl
   no-phrase (more f s ss) h d =
-      let u = and_parts (not (isPhrase s)) (asksAll false ss) h in
-      ap (λ (t : Bool). cond t (matches ix s d) true && allOf (askedBy true) ix ss d) (not-true (isPhrase s) u.0) ∙ no-phrase ss u.1 d
+      let u = and_parts (not (is_phrase s)) (asks_all false ss) h in
+      ap (λ (t : Bool). cond t (matches ix s d) true && all_of (asked_by true) ix ss d) (not-true (is_phrase s) u.0) ∙ no-phrase ss u.1 d
 
-  all-asked : (ss : Scorers) (w : List ℕ) → asksAll false ss ≡ true → SomeWindowed (askedBefore true) ix R ss k w base (placesOf want) → SomeWindowed (askedAfter true) ix R ss k w base (placesOf want)
-  unfolding asksAll SomeWindowed
+  all-asked : (ss : Scorers) (w : List ℕ) → asks_all false ss ≡ true → SomeWindowed (asked_before true) ix R ss k w base (places_of want) → SomeWindowed (asked_after true) ix R ss k w base (places_of want)
+  unfolding asks_all SomeWindowed
   all-asked end w h q = q
   all-asked (more f s ss) w h q =
-      let u = and_parts (not (isPhrase s)) (asksAll false ss) h in
-      (q.0, q.1, q.2, some-some ix R k base (askedBefore true) (askedAfter true) (placesOf want) (placesOf want) f s q.0 (λ e. refl) (λ p l e. and_from (not (isPhrase s)) (bit p want) u.0 e) q.3, all-asked ss q.1 u.1 q.4)
+      let u = and_parts (not (is_phrase s)) (asks_all false ss) h in
+      (q.0, q.1, q.2, some-some ix R k base (asked_before true) (asked_after true) (places_of want) (places_of want) f s q.0 (λ e. refl) (λ p l e. and_from (not (is_phrase s)) (bit p want) u.0 e) q.3, all-asked ss q.1 u.1 q.4)
 
-  pub pass-through : (ss : Scorers) (kids : List ℕ) → base + 64 ≤ noMoreDocs → Through false ss want → SomeWindowed (askedBefore true) ix R ss k kids base (placesOf want) → Answers (allOf (askedBy true) ix ss) base (placesOf want) want (base + 64) × SomeWindowed (askedAfter true) ix R ss k kids base (placesOf want)
+  pub pass-through : (ss : Scorers) (kids : List ℕ) → base + 64 ≤ no_more_docs → Through false ss want → SomeWindowed (asked_before true) ix R ss k kids base (places_of want) → Answers (all_of (asked_by true) ix ss) base (places_of want) want (base + 64) × SomeWindowed (asked_after true) ix R ss k kids base (places_of want)
   pass-through ss kids small (inl none) q = (
-    record { bits = λ p l. none p l ∙ sym (and_left (bit p want) (allOf (askedBy true) ix ss (base + p)) (none p l)); gap = λ d a b. absurd (omega (arith, a, b)); top = small },
-    each-some (askedAfter true) ix R ss k kids base (placesOf want) (each-map (λ f s y. some-some ix R k base (askedBefore true) (askedAfter true) (placesOf want) (placesOf want) f s y (before-after true (not (isPhrase s))) (λ p l t. absurd (false≢true (sym (none p l) ∙ t)))) ss kids (some-each (askedBefore true) ix R ss k kids base (placesOf want) q)),
+    record { bits = λ p l. none p l ∙ sym (and_left (bit p want) (all_of (asked_by true) ix ss (base + p)) (none p l)); gap = λ d a b. absurd (omega (arith, a, b)); top = small },
+    each-some (asked_after true) ix R ss k kids base (places_of want) (each-map (λ f s y. some-some ix R k base (asked_before true) (asked_after true) (places_of want) (places_of want) f s y (before-after true (not (is_phrase s))) (λ p l t. absurd (false≢true (sym (none p l) ∙ t)))) ss kids (some-each (asked_before true) ix R ss k kids base (places_of want) q)),
   )
   pass-through ss kids small (inr h) q = (
     record { bits = λ p l. sym (and-true (bit p want)) ∙ ap (λ (t : Bool). bit p want && t) (sym (no-phrase ss h (base + p))); gap = λ d a b. absurd (omega (arith, a, b)); top = small },
@@ -110,7 +110,7 @@ module _ (ix : Index) (R : List ℕ) (k base want : ℕ) where
   )
 
 -- ---- whether a child is asked, by its kind
-by-kind : (s : Scorer) (kind : ℕ) (t : Bool) → kindOf s ≡ kind → eqb kind 2 ≡ t → isPhrase s ≡ t
+by-kind : (s : Scorer) (kind : ℕ) (t : Bool) → kind_of s ≡ kind → eqb kind 2 ≡ t → is_phrase s ≡ t
 by-kind s kind t e h = phrase-kind s ∙ ap (λ (n : ℕ). eqb n 2) e ∙ h
 
 pub same-test : (x y : Bool) → beq x y ≡ true → x ≡ y
@@ -129,9 +129,9 @@ asked-not-before : (last : Bool) → (last && not last) ≡ false
 asked-not-before true = refl
 asked-not-before false = refl
 
-asked_by : (last : Bool) → cond last last (not last) ≡ true
-asked_by true = refl
-asked_by false = refl
+asked_by_lem : (last : Bool) → cond last last (not last) ≡ true
+asked_by_lem true = refl
+asked_by_lem false = refl
 
 asked-after : (last : Bool) → (last || not last) ≡ true
 asked-after true = refl
@@ -147,24 +147,24 @@ same-sides false = refl
 
 -- ---- the loop
 pub record PassLeft (ix : Index) (R : List ℕ) (k places : ℕ) (last : Bool) (base want : ℕ) (ss : Scorers) (kids : List ℕ) (w next at : ℕ) (skip : Bool) (g : Scorers) : Type 0 where
-  pub zip : Zip (AndKnown ix places (SomeAsked (askedBefore last) ix R k base (placesOf want))) (SomeAsked (askedAfter last) ix R k base (placesOf w)) ss g kids at
+  pub zip : Zip (AndKnown ix places (SomeAsked (asked_before last) ix R k base (places_of want))) (SomeAsked (asked_after last) ix R k base (places_of w)) ss g kids at
   pub within : (p : ℕ) → p < 64 → bit p w ≡ true → bit p want ≡ true
-  pub bits : (p : ℕ) → p < 64 → (bit p w && allOf (askedBy last) ix g (base + p)) ≡ (bit p want && allOf (askedBy last) ix ss (base + p))
-  pub under : (d : ℕ) → allOf (askedBy last) ix g d ≡ false → allOf (askedBy last) ix ss d ≡ false
-  pub gap : (d : ℕ) → base + 64 ≤ d → d < next → allOf (askedBy last) ix ss d ≡ false
-  pub top : next ≤ noMoreDocs
-  pub none-skipped : skip ≡ false → asksAll last g ≡ true → asksAll last ss ≡ true
+  pub bits : (p : ℕ) → p < 64 → (bit p w && all_of (asked_by last) ix g (base + p)) ≡ (bit p want && all_of (asked_by last) ix ss (base + p))
+  pub under : (d : ℕ) → all_of (asked_by last) ix g d ≡ false → all_of (asked_by last) ix ss d ≡ false
+  pub gap : (d : ℕ) → base + 64 ≤ d → d < next → all_of (asked_by last) ix ss d ≡ false
+  pub top : next ≤ no_more_docs
+  pub none-skipped : skip ≡ false → asks_all last g ≡ true → asks_all last ss ≡ true
 
 pub record PassAt (ix : Index) (R : List ℕ) (k places : ℕ) (last : Bool) (base want : ℕ) (ss : Scorers) (kids : List ℕ) (w next at : ℕ) (skip : Bool) : Type 0 where
   pub g : Scorers
   pub left : PassLeft ix R k places last base want ss kids w next at skip g
 
-pub pass-start : (ix : Index) (R : List ℕ) (k places : ℕ) (last : Bool) (base want : ℕ) (ss : Scorers) (kids : List ℕ) → base + 64 ≤ noMoreDocs → Sounds ix places ss → nodesOf ss ≤ 255 → SomeWindowed (askedBefore last) ix R ss k kids base (placesOf want) → PassAt ix R k places last base want ss kids want (base + 64) 0 false
+pub pass-start : (ix : Index) (R : List ℕ) (k places : ℕ) (last : Bool) (base want : ℕ) (ss : Scorers) (kids : List ℕ) → base + 64 ≤ no_more_docs → Sounds ix places ss → nodes_of ss ≤ 255 → SomeWindowed (asked_before last) ix R ss k kids base (places_of want) → PassAt ix R k places last base want ss kids want (base + 64) 0 false
 pass-start ix R k places last base want ss kids small h n q =
     record {
       g = ss;
       left = record {
-        zip = zip-start (each-known (SomeAsked (askedBefore last) ix R k base (placesOf want)) ix places ss kids h n (some-each (askedBefore last) ix R ss k kids base (placesOf want) q));
+        zip = zip-start (each-known (SomeAsked (asked_before last) ix R k base (places_of want)) ix places ss kids h n (some-each (asked_before last) ix R ss k kids base (places_of want) q));
         within = λ p l e. e;
         bits = λ p l. refl;
         under = λ d e. e;
@@ -176,55 +176,55 @@ pass-start ix R k places last base want ss kids small h n q =
 
 module _ (ix : Index) (R : List ℕ) (k places : ℕ) (last : Bool) (base want : ℕ) (ss : Scorers) (kids : List ℕ) (w next at : ℕ) (skip : Bool) where
   -- nothing is wanted any more: the others are not asked
-  pub pass-stop : PassAt ix R k places last base want ss kids w next at skip → w ≡ 0 → Answers (allOf (askedBy last) ix ss) base (placesOf want) w next × SomeWindowed (askedAfter last) ix R ss k kids base (placesOf w) × Through last ss w
+  pub pass-stop : PassAt ix R k places last base want ss kids w next at skip → w ≡ 0 → Answers (all_of (asked_by last) ix ss) base (places_of want) w next × SomeWindowed (asked_after last) ix R ss k kids base (places_of w) × Through last ss w
   pass-stop q e =
       let none : (p : ℕ) → bit p w ≡ false = λ p. ap (bit p) e ∙ bit-zero p in
       let s = q.left in (
-        record { bits = λ p l. none p ∙ sym (sym (s.bits p l) ∙ and_left (bit p w) (allOf (askedBy last) ix q.g (base + p)) (none p)); gap = s.gap; top = s.top },
-        each-some (askedAfter last) ix R ss k kids base (placesOf w) (zip-stop (λ f x y h. some-some ix R k base (askedBefore last) (askedAfter last) (placesOf want) (placesOf w) f x y (before-after last (not (isPhrase x))) (λ p l t. absurd (false≢true (sym (and_right (askedAfter last x) (bit p w) (none p)) ∙ t))) h.1) s.zip),
+        record { bits = λ p l. none p ∙ sym (sym (s.bits p l) ∙ and_left (bit p w) (all_of (asked_by last) ix q.g (base + p)) (none p)); gap = s.gap; top = s.top },
+        each-some (asked_after last) ix R ss k kids base (places_of w) (zip-stop (λ f x y h. some-some ix R k base (asked_before last) (asked_after last) (places_of want) (places_of w) f x y (before-after last (not (is_phrase x))) (λ p l t. absurd (false≢true (sym (and_right (asked_after last x) (bit p w) (none p)) ∙ t))) h.1) s.zip),
         inl (λ p l. none p),
       )
 
-  ended : (g : Scorers) → PassLeft ix R k places last base want ss kids w next at skip g → length kids ≤ at → Answers (allOf (askedBy last) ix ss) base (placesOf want) w next × SomeWindowed (askedAfter last) ix R ss k kids base (placesOf w) × (skip ≡ false → Through last ss w)
-  unfolding allOf asksAll
-  ended end s l = (record { bits = λ p h. sym (and-true (bit p w)) ∙ s.bits p h; gap = s.gap; top = s.top }, each-some (askedAfter last) ix R ss k kids base (placesOf w) (zip-end s.zip), λ z. inr (s.none-skipped z refl))
+  ended : (g : Scorers) → PassLeft ix R k places last base want ss kids w next at skip g → length kids ≤ at → Answers (all_of (asked_by last) ix ss) base (places_of want) w next × SomeWindowed (asked_after last) ix R ss k kids base (places_of w) × (skip ≡ false → Through last ss w)
+  unfolding all_of asks_all
+  ended end s l = (record { bits = λ p h. sym (and-true (bit p w)) ∙ s.bits p h; gap = s.gap; top = s.top }, each-some (asked_after last) ix R ss k kids base (places_of w) (zip-end s.zip), λ z. inr (s.none-skipped z refl))
   ended (more f x g) s l =
       let v = view s.zip in
-      let c = child-facts (some-low ix R k base (askedBefore last) (placesOf want)) v in
+      let c = child-facts (some-low ix R k base (asked_before last) (places_of want)) v in
       absurd (omega (arith, c.long, c.fits, l))
 
-  pub pass-end : PassAt ix R k places last base want ss kids w next at skip → length kids ≤ at → Answers (allOf (askedBy last) ix ss) base (placesOf want) w next × SomeWindowed (askedAfter last) ix R ss k kids base (placesOf w) × (skip ≡ false → Through last ss w)
+  pub pass-end : PassAt ix R k places last base want ss kids w next at skip → length kids ≤ at → Answers (all_of (asked_by last) ix ss) base (places_of want) w next × SomeWindowed (asked_after last) ix R ss k kids base (places_of w) × (skip ≡ false → Through last ss w)
   pass-end q l = ended q.g q.left l
 
-  pub pass-fresh : (kind : ℕ) → eqb kind 2 ≡ last → Fresh ix R k base kind (SomeAsked (askedBefore last) ix R k base (placesOf want))
-  pass-fresh kind h = record { fresh = λ f s y e q. some-fresh ix R k base (askedBefore last) (placesOf want) f s y (ap (λ (t : Bool). last && not t) (by-kind s kind last e h) ∙ asked-not-before last) q }
+  pub pass-fresh : (kind : ℕ) → eqb kind 2 ≡ last → Fresh ix R k base kind (SomeAsked (asked_before last) ix R k base (places_of want))
+  pass-fresh kind h = record { fresh = λ f s y e q. some-fresh ix R k base (asked_before last) (places_of want) f s y (ap (λ (t : Bool). last && not t) (by-kind s kind last e h) ∙ asked-not-before last) q }
 
   pub pass-there : PassAt ix R k places last base want ss kids w next at skip → at < length kids → ChildAt kids at
-  pass-there q l = child-there (some-low ix R k base (askedBefore last) (placesOf want)) q.g q.left.zip l
+  pass-there q l = child-there (some-low ix R k base (asked_before last) (places_of want)) q.g q.left.zip l
 
   module _ (e : ℕ) (i : e ≡ at + get_or kids (at + 1) 0) where
     -- what a call of this pass asks
     module _ (postings positions : List ℕ) (n : ℕ) {a b : ℕ} (called : Called (lent n postings positions R) places a b base want) (lends : Lends ix n postings positions) (q : PassAt ix R k places last base want ss kids w next at skip) (l : at < length kids) (kind : ℕ) (j : kind ≡ get_or kids at 0) (h : eqb kind 2 ≡ last) where
       pub pass-node : (a' b' : ℕ) → a' ≡ a → b' ≡ b → BitsPre postings positions R a' b' (take (e - at) (drop at kids)) base w k
-      pass-node a' b' f f' = ask-node (some-low ix R k base (askedBefore last) (placesOf want)) postings positions n called lends kind (pass-fresh kind h) q.g q.left.zip l e i j a' b' w f f' q.left.within
+      pass-node a' b' f f' = ask-node (some-low ix R k base (asked_before last) (places_of want)) postings positions n called lends kind (pass-fresh kind h) q.g q.left.zip l e i j a' b' w f f' q.left.within
 
       pub pass-term : kind ≡ 1 → TermPre postings (take (e - at) (drop at kids)) base
-      pass-term f = ask-term (some-low ix R k base (askedBefore last) (placesOf want)) postings positions n called lends kind (pass-fresh kind h) q.g q.left.zip l e i j f
+      pass-term f = ask-term (some-low ix R k base (asked_before last) (places_of want)) postings positions n called lends kind (pass-fresh kind h) q.g q.left.zip l e i j f
 
     skipped : (g : Scorers) → PassLeft ix R k places last base want ss kids w next at skip g → at < length kids → eqb (get_or kids at 0) 2 ≡ not last → PassAt ix R k places last base want ss kids w next e true
-    unfolding allOf
+    unfolding all_of
     skipped end s l h = absurd (omega (arith, zip-none s.zip, l))
     skipped (more f x g) s l h =
         let v = view s.zip in
-        let low = some-low ix R k base (askedBefore last) (placesOf want) in
-        let ph : isPhrase x ≡ not last = by-kind x (get_or kids at 0) (not last) (kind-read low v) h in
-        let no : askedBy last x ≡ false = ap (λ (t : Bool). cond last t (not t)) ph ∙ passed_by last in
-        let same : askedAfter last x ≡ askedBefore last x = ap (λ (t : Bool). last || not t) ph ∙ same-sides last ∙ sym (ap (λ (t : Bool). last && not t) ph) in
-        let one : (d : ℕ) → allOf (askedBy last) ix (more f x g) d ≡ allOf (askedBy last) ix g d = λ d. ap (λ (t : Bool). cond t (matches ix x d) true && allOf (askedBy last) ix g d) no in
+        let low = some-low ix R k base (asked_before last) (places_of want) in
+        let ph : is_phrase x ≡ not last = by-kind x (get_or kids at 0) (not last) (kind-read low v) h in
+        let no : asked_by last x ≡ false = ap (λ (t : Bool). cond last t (not t)) ph ∙ passed_by last in
+        let same : asked_after last x ≡ asked_before last x = ap (λ (t : Bool). last || not t) ph ∙ same-sides last ∙ sym (ap (λ (t : Bool). last && not t) ph) in
+        let one : (d : ℕ) → all_of (asked_by last) ix (more f x g) d ≡ all_of (asked_by last) ix g d = λ d. ap (λ (t : Bool). cond t (matches ix x d) true && all_of (asked_by last) ix g d) no in
         record {
           g = g;
           left = record {
-            zip = zip-skip v e (stop-is low v e i) (some-some ix R k base (askedBefore last) (askedAfter last) (placesOf want) (placesOf w) f x v.y (before-after last (not (isPhrase x))) (λ p b t. let u = and_parts (askedAfter last x) (bit p w) t in and_from (askedBefore last x) (bit p want) (sym same ∙ u.0) (s.within p b u.1)) v.part-is.1);
+            zip = zip-skip v e (stop-is low v e i) (some-some ix R k base (asked_before last) (asked_after last) (places_of want) (places_of w) f x v.y (before-after last (not (is_phrase x))) (λ p b t. let u = and_parts (asked_after last x) (bit p w) t in and_from (asked_before last x) (bit p want) (sym same ∙ u.0) (s.within p b u.1)) v.part-is.1);
             within = s.within;
             bits = λ p b. ap (λ (t : Bool). bit p w && t) (sym (one (base + p))) ∙ s.bits p b;
             under = λ d t. s.under d (one d ∙ t);
@@ -237,32 +237,32 @@ module _ (ix : Index) (R : List ℕ) (k places : ℕ) (last : Bool) (base want :
     pub pass-skip : PassAt ix R k places last base want ss kids w next at skip → at < length kids → eqb (get_or kids at 0) 2 ≡ not last → PassAt ix R k places last base want ss kids w next e true
     pass-skip q l h = skipped q.g q.left l h
 
-    module _ (postings positions : List ℕ) (n : ℕ) (lends : Lends ix n postings positions) (r : ℕ) (ys : List ℕ) (next' : ℕ) (m : length ys ≡ length (take (e - at) (drop at kids))) (kids' : List ℕ) (is : kids' ≡ take at kids ++ (ys ++ drop (e - at) (drop at kids))) (j : next' ≡ max next (get_or kids' (at + 22) 0)) (ans : NodeAnswers (lent n postings positions R) (take (e - at) (drop at kids)) base (placesOf w) k r ys) where
+    module _ (postings positions : List ℕ) (n : ℕ) (lends : Lends ix n postings positions) (r : ℕ) (ys : List ℕ) (next' : ℕ) (m : length ys ≡ length (take (e - at) (drop at kids))) (kids' : List ℕ) (is : kids' ≡ take at kids ++ (ys ++ drop (e - at) (drop at kids))) (j : next' ≡ max next (get_or kids' (at + 22) 0)) (ans : NodeAnswers (lent n postings positions R) (take (e - at) (drop at kids)) base (places_of w) k r ys) where
       took : (g : Scorers) → PassLeft ix R k places last base want ss kids w next at skip g → at < length kids → eqb (get_or kids at 0) 2 ≡ last → PassAt ix R k places last base want ss (take at kids ++ (ys ++ drop (e - at) (drop at kids))) r next' e skip
-      unfolding allOf asksAll
+      unfolding all_of asks_all
       took end s l h = absurd (omega (arith, zip-none s.zip, l))
       took (more f x g) s l h =
           let v = view s.zip in
-          let low = some-low ix R k base (askedBefore last) (placesOf want) in
+          let low = some-low ix R k base (asked_before last) (places_of want) in
           let c : ChildAt kids at = child-facts low v in
-          let ph : isPhrase x ≡ last = by-kind x (get_or kids at 0) last (kind-read low v) h in
-          let yes : askedBy last x ≡ true = ap (λ (t : Bool). cond last t (not t)) ph ∙ asked_by last in
-          let after : askedAfter last x ≡ true = ap (λ (t : Bool). last || not t) ph ∙ asked-after last in
+          let ph : is_phrase x ≡ last = by-kind x (get_or kids at 0) last (kind-read low v) h in
+          let yes : asked_by last x ≡ true = ap (λ (t : Bool). cond last t (not t)) ph ∙ asked_by_lem last in
+          let after : asked_after last x ≡ true = ap (λ (t : Bool). last || not t) ph ∙ asked-after last in
           let held = child-held low v postings positions n lends (get_or kids at 0) (pass-fresh (get_or kids at 0) h) e i refl in
           let a = ans ix places x (cond f 1 0) held in
           let among : (p : ℕ) → p < 64 → bit p r ≡ true → bit p w ≡ true = λ p b t. (and_parts (bit p w) (matches ix x (base + p)) (sym (a.0.bits p b) ∙ t)).0 in
           let next-is : next' ≡ max next (get_or ys 22 0) = j ∙ ap (λ (q : List ℕ). max next (get_or q (at + 22) 0)) is ∙ ap (max next) (word-back kids ys at e 22 (omega (arith, l)) (omega (arith, m, part-length kids at e c i))) in
-          let one : (d : ℕ) → allOf (askedBy last) ix (more f x g) d ≡ (matches ix x d && allOf (askedBy last) ix g d) = λ d. ap (λ (t : Bool). cond t (matches ix x d) true && allOf (askedBy last) ix g d) yes in
+          let one : (d : ℕ) → all_of (asked_by last) ix (more f x g) d ≡ (matches ix x d && all_of (asked_by last) ix g d) = λ d. ap (λ (t : Bool). cond t (matches ix x d) true && all_of (asked_by last) ix g d) yes in
           record {
             g = g;
             left = record {
-              zip = zip-front-map (λ f' s' y'. some-some ix R k base (askedAfter last) (askedAfter last) (placesOf w) (placesOf r) f' s' y' (λ t. t) (λ p b t. let u = and_parts (askedAfter last s') (bit p r) t in and_from (askedAfter last s') (bit p w) u.0 (among p b u.1))) (zip-next v e (stop-is low v e i) ys m (asked-some ix R k base (askedAfter last) (placesOf w) (placesOf w) f x ys after (λ p b t. t) a.1));
+              zip = zip-front-map (λ f' s' y'. some-some ix R k base (asked_after last) (asked_after last) (places_of w) (places_of r) f' s' y' (λ t. t) (λ p b t. let u = and_parts (asked_after last s') (bit p r) t in and_from (asked_after last s') (bit p w) u.0 (among p b u.1))) (zip-next v e (stop-is low v e i) ys m (asked-some ix R k base (asked_after last) (places_of w) (places_of w) f x ys after (λ p b t. t) a.1));
               within = λ p b t. s.within p b (among p b t);
-              bits = λ p b. ap (λ (t : Bool). t && allOf (askedBy last) ix g (base + p)) (a.0.bits p b) ∙ and_assoc (bit p w) (matches ix x (base + p)) (allOf (askedBy last) ix g (base + p)) ∙ ap (λ (t : Bool). bit p w && t) (sym (one (base + p))) ∙ s.bits p b;
-              under = λ d t. s.under d (one d ∙ and_right (matches ix x d) (allOf (askedBy last) ix g d) t);
-              gap = λ d b t. ⊎_elim (λ o. s.gap d b o) (λ o. s.under d (one d ∙ and_left (matches ix x d) (allOf (askedBy last) ix g d) (a.0.gap d b (omega (arith, next-is, t, o))))) (cases_lt d next);
+              bits = λ p b. ap (λ (t : Bool). t && all_of (asked_by last) ix g (base + p)) (a.0.bits p b) ∙ and_assoc (bit p w) (matches ix x (base + p)) (all_of (asked_by last) ix g (base + p)) ∙ ap (λ (t : Bool). bit p w && t) (sym (one (base + p))) ∙ s.bits p b;
+              under = λ d t. s.under d (one d ∙ and_right (matches ix x d) (all_of (asked_by last) ix g d) t);
+              gap = λ d b t. ⊎_elim (λ o. s.gap d b o) (λ o. s.under d (one d ∙ and_left (matches ix x d) (all_of (asked_by last) ix g d) (a.0.gap d b (omega (arith, next-is, t, o))))) (cases_lt d next);
               top = omega (arith, next-is, s.top, a.0.top);
-              none-skipped = λ z t. s.none-skipped z (and_from (askedBy last x) (asksAll last g) yes t);
+              none-skipped = λ z t. s.none-skipped z (and_from (asked_by last x) (asks_all last g) yes t);
             };
           }
 

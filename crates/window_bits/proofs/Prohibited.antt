@@ -5,8 +5,8 @@ use mathlib.Core.Bool.{and-true}
 use Rattle.meaning.specs.Lent.{Index}
 use Rattle.bits.specs.Bit.{bit}
 use Rattle.bits.proofs.Laws.{bit-zero}
-use Rattle.weight.specs.ScorerTree.{Scorers, end, more, matches, anyMatches}
-use Rattle.weight.specs.Sound.{Lends, Sounds, nodesOf}
+use Rattle.weight.specs.ScorerTree.{Scorers, end, more, matches, any_matches}
+use Rattle.weight.specs.Sound.{Lends, Sounds, nodes_of}
 use Rattle.leaf_scorer.specs.Calls.{lent}
 use Rattle.window_words.specs.Windowed.{Places, nowhere, AllWindowed}
 use Rattle.window_words.proofs.Laws.{windowed-less, windowed-mono}
@@ -18,13 +18,13 @@ use Rattle.window_bits.proofs.Optionals.{unasked-low, unasked-fresh, Walk, walk_
 pub record ExcludedLeft (ix : Index) (R : List ℕ) (k places base want : ℕ) (ss : Scorers) (kids : List ℕ) (w at : ℕ) (g : Scorers) : Type 0 where
   pub zip : Walk ix R k places base nowhere ss g kids at
   pub within : (p : ℕ) → p < 64 → bit p w ≡ true → bit p want ≡ true
-  pub bits : (p : ℕ) → p < 64 → (bit p w && not (anyMatches ix g (base + p))) ≡ (bit p want && not (anyMatches ix ss (base + p)))
+  pub bits : (p : ℕ) → p < 64 → (bit p w && not (any_matches ix g (base + p))) ≡ (bit p want && not (any_matches ix ss (base + p)))
 
 pub record ExcludedAt (ix : Index) (R : List ℕ) (k places base want : ℕ) (ss : Scorers) (kids : List ℕ) (w at : ℕ) : Type 0 where
   pub g : Scorers
   pub left : ExcludedLeft ix R k places base want ss kids w at g
 
-pub excluded-start : (ix : Index) (R : List ℕ) (k places base want : ℕ) (ss : Scorers) (kids : List ℕ) → Sounds ix places ss → nodesOf ss ≤ 255 → AllWindowed ix R ss k kids base base nowhere → ExcludedAt ix R k places base want ss kids want 0
+pub excluded-start : (ix : Index) (R : List ℕ) (k places base want : ℕ) (ss : Scorers) (kids : List ℕ) → Sounds ix places ss → nodes_of ss ≤ 255 → AllWindowed ix R ss k kids base base nowhere → ExcludedAt ix R k places base want ss kids want 0
 excluded-start ix R k places base want ss kids h n q = record { g = ss; left = record { zip = walk_start ix R k places base nowhere ss kids h n q; within = λ p l e. e; bits = λ p l. refl } }
 
 -- one more is taken away: r has its documents where some are wanted
@@ -35,24 +35,24 @@ less-one true r d false z e h = ap (λ (t : Bool). not t && not z) (e ∙ ap (λ
 
 module _ (ix : Index) (R : List ℕ) (k places base want : ℕ) (ss : Scorers) (kids : List ℕ) (w at : ℕ) where
   -- nothing is left: the others are not asked
-  pub excluded-stop : ExcludedAt ix R k places base want ss kids w at → w ≡ 0 → ((p : ℕ) → p < 64 → bit p w ≡ (bit p want && not (anyMatches ix ss (base + p)))) × AllWindowed ix R ss k kids (base + 64) base nowhere
+  pub excluded-stop : ExcludedAt ix R k places base want ss kids w at → w ≡ 0 → ((p : ℕ) → p < 64 → bit p w ≡ (bit p want && not (any_matches ix ss (base + p)))) × AllWindowed ix R ss k kids (base + 64) base nowhere
   excluded-stop q e =
       let none : (p : ℕ) → bit p w ≡ false = λ p. ap (bit p) e ∙ bit-zero p in (
-        λ p l. none p ∙ sym (sym (q.left.bits p l) ∙ and_left (bit p w) (not (anyMatches ix q.g (base + p))) (none p)),
+        λ p l. none p ∙ sym (sym (q.left.bits p l) ∙ and_left (bit p w) (not (any_matches ix q.g (base + p))) (none p)),
         each-all ix R ss k kids (base + 64) base nowhere (zip-stop (λ f s y h. windowed-mono ix R s k (cond f 1 0) y base base nowhere (base + 64) (omega arith) h.1) q.left.zip),
       )
 
-  ended : (g : Scorers) → ExcludedLeft ix R k places base want ss kids w at g → length kids ≤ at → ((p : ℕ) → p < 64 → bit p w ≡ (bit p want && not (anyMatches ix ss (base + p)))) × AllWindowed ix R ss k kids (base + 64) base nowhere
-  unfolding anyMatches
+  ended : (g : Scorers) → ExcludedLeft ix R k places base want ss kids w at g → length kids ≤ at → ((p : ℕ) → p < 64 → bit p w ≡ (bit p want && not (any_matches ix ss (base + p)))) × AllWindowed ix R ss k kids (base + 64) base nowhere
+  unfolding any_matches
   ended end s l = (λ p h. sym (and-true (bit p w)) ∙ s.bits p h, each-all ix R ss k kids (base + 64) base nowhere (zip-end s.zip))
   ended (more f x g) s l = let c = child-facts (unasked-low ix R k base) (view s.zip) in absurd (omega (arith, c.long, c.fits, l))
 
-  pub excluded-end : ExcludedAt ix R k places base want ss kids w at → length kids ≤ at → ((p : ℕ) → p < 64 → bit p w ≡ (bit p want && not (anyMatches ix ss (base + p)))) × AllWindowed ix R ss k kids (base + 64) base nowhere
+  pub excluded-end : ExcludedAt ix R k places base want ss kids w at → length kids ≤ at → ((p : ℕ) → p < 64 → bit p w ≡ (bit p want && not (any_matches ix ss (base + p)))) × AllWindowed ix R ss k kids (base + 64) base nowhere
   excluded-end q l = ended q.g q.left l
 
   module _ (e : ℕ) (i : e ≡ at + get_or kids (at + 1) 0) (postings positions : List ℕ) (n : ℕ) (lends : Lends ix n postings positions) (D : Places) (among : (p : ℕ) → p < 64 → bit p w ≡ true → D p ≡ true) (r : ℕ) (ys : List ℕ) (w' : ℕ) (m : length ys ≡ length (take (e - at) (drop at kids))) (kids' : List ℕ) (is : kids' ≡ take at kids ++ (ys ++ drop (e - at) (drop at kids))) (o : (p : ℕ) → p < 64 → bit p w' ≡ (bit p w && not (bit p r))) (ans : NodeAnswers (lent n postings positions R) (take (e - at) (drop at kids)) base D k r ys) where
     took : (g : Scorers) → ExcludedLeft ix R k places base want ss kids w at g → at < length kids → ExcludedAt ix R k places base want ss (take at kids ++ (ys ++ drop (e - at) (drop at kids))) w' e
-    unfolding anyMatches
+    unfolding any_matches
     took end s l = absurd (omega (arith, zip-none s.zip, l))
     took (more f x g) s l =
         let v = view s.zip in
@@ -63,7 +63,7 @@ module _ (ix : Index) (R : List ℕ) (k places base want : ℕ) (ss : Scorers) (
           left = record {
             zip = zip-next v e (stop-is low v e i) ys m (windowed-less ix R x k (cond f 1 0) ys (base + 64) base D nowhere (λ p b t. absurd (false≢true t)) a.1);
             within = λ p b t. s.within p b (and_parts (bit p w) (not (bit p r)) (sym (o p b) ∙ t)).0;
-            bits = λ p b. ap (λ (t : Bool). t && not (anyMatches ix g (base + p))) (o p b) ∙ less-one (bit p w) (bit p r) (D p) (matches ix x (base + p)) (anyMatches ix g (base + p)) (a.0.bits p b) (among p b) ∙ s.bits p b;
+            bits = λ p b. ap (λ (t : Bool). t && not (any_matches ix g (base + p))) (o p b) ∙ less-one (bit p w) (bit p r) (D p) (matches ix x (base + p)) (any_matches ix g (base + p)) (a.0.bits p b) (among p b) ∙ s.bits p b;
           };
         }
 

@@ -1,47 +1,47 @@
 -- The parts of some children, asked of a window, and those of a Boolean. Assumes nothing: these are definitions.
 use Rattle.std.specs.Prelude.{◌≡◌, ◌⊎◌, Bool, true, false, not, cond, ◌&&◌, ◌||◌, List, [], ◌++◌, ℕ, ◌+◌, ◌≤◌, ◌<◌, leb, ltb, length, get_or}
-use Rattle.meaning.specs.Limits.{noMoreDocs, nodeStateWords}
+use Rattle.meaning.specs.Limits.{no_more_docs, node_state_words}
 use Rattle.meaning.specs.Lent.{Index}
 use Rattle.bits.specs.Bit.{bit}
-use Rattle.weight.specs.ScorerTree.{nothing, term, phrase, range, everything, Scorer, leaf, boolean, Scorers, end, more, matches, allMatch, anyMatches, matching}
-use Rattle.weight.specs.State.{sizesOf}
-use Rattle.weight.specs.Sound.{Lends, Sounds, nodesOf}
+use Rattle.weight.specs.ScorerTree.{nothing, term, phrase, range, everything, Scorer, leaf, boolean, Scorers, end, more, matches, all_match, any_matches, matching}
+use Rattle.weight.specs.State.{sizes_of}
+use Rattle.weight.specs.Sound.{Lends, Sounds, nodes_of}
 use Rattle.leaf_scorer.specs.Calls.{Lent, lent, RoomIn}
-use Rattle.window_words.specs.Windowed.{Places, nowhere, placesOf, optionalBound, Windowed, AllWindowed}
+use Rattle.window_words.specs.Windowed.{Places, nowhere, places_of, optional_bound, Windowed, AllWindowed}
 use Rattle.window_leaf.specs.Asks.{Answers, Wanted}
 
 -- ---- the required children, which are asked in two passes: first those that are no phrases, then the phrases
-unfoldable pub isPhrase : Scorer → Bool
-isPhrase (leaf nothing sc) = false
-isPhrase (leaf (term l) sc) = false
-isPhrase (leaf (phrase f ts) sc) = true
-isPhrase (leaf (range r) sc) = false
-isPhrase (leaf everything sc) = false
-isPhrase (boolean c j need rs os ps) = false
+unfoldable pub is_phrase : Scorer → Bool
+is_phrase (leaf nothing sc) = false
+is_phrase (leaf (term l) sc) = false
+is_phrase (leaf (phrase f ts) sc) = true
+is_phrase (leaf (range r) sc) = false
+is_phrase (leaf everything sc) = false
+is_phrase (boolean c j need rs os ps) = false
 
 -- asked before a pass, by it, and after it
-abbrev pub askedBefore : Bool → Scorer → Bool
-askedBefore last s = last && not (isPhrase s)
+abbrev pub asked_before : Bool → Scorer → Bool
+asked_before last s = last && not (is_phrase s)
 
-abbrev pub askedBy : Bool → Scorer → Bool
-askedBy last s = cond last (isPhrase s) (not (isPhrase s))
+abbrev pub asked_by : Bool → Scorer → Bool
+asked_by last s = cond last (is_phrase s) (not (is_phrase s))
 
-abbrev pub askedAfter : Bool → Scorer → Bool
-askedAfter last s = last || not (isPhrase s)
+abbrev pub asked_after : Bool → Scorer → Bool
+asked_after last s = last || not (is_phrase s)
 
 -- the children of a kind all match
-unfoldable pub allOf : (Scorer → Bool) → Index → Scorers → ℕ → Bool
-allOf A ix end d = true
-allOf A ix (more f s ss) d = cond (A s) (matches ix s d) true && allOf A ix ss d
+unfoldable pub all_of : (Scorer → Bool) → Index → Scorers → ℕ → Bool
+all_of A ix end d = true
+all_of A ix (more f s ss) d = cond (A s) (matches ix s d) true && all_of A ix ss d
 
 -- a pass asks all of them
-unfoldable pub asksAll : Bool → Scorers → Bool
-asksAll last end = true
-asksAll last (more f s ss) = askedBy last s && asksAll last ss
+unfoldable pub asks_all : Bool → Scorers → Bool
+asks_all last end = true
+asks_all last (more f s ss) = asked_by last s && asks_all last ss
 
 -- after a pass that left w, the other has nothing to ask
 abbrev pub Through : Bool → Scorers → ℕ → Type 0
-Through last ss w = ((p : ℕ) → p < 64 → bit p w ≡ false) ⊎ (asksAll last ss ≡ true)
+Through last ss w = ((p : ℕ) → p < 64 → bit p w ≡ false) ⊎ (asks_all last ss ≡ true)
 
 -- the parts, of which those of a kind were asked at the places D of the window at base
 unfoldable pub SomeWindowed : (Scorer → Bool) → Index → List ℕ → Scorers → ℕ → List ℕ → ℕ → Places → Type 0
@@ -53,26 +53,26 @@ SomeWindowed A ix ranges (more f s ss) depth w base D =
 pub record PartsKnown (E : Lent) (ix : Index) (places : ℕ) (ss : Scorers) : Type 0 where
   pub lends : Lends ix E.documents E.postings E.positions
   pub sounds : Sounds ix places ss
-  pub few : nodesOf ss ≤ 255
+  pub few : nodes_of ss ≤ 255
 
 -- what all calls of the cycle ask beside their parts
 pub record Called (E : Lent) (places a b base want : ℕ) : Type 0 where
-  pub small : base + 64 ≤ noMoreDocs
+  pub small : base + 64 ≤ no_more_docs
   pub wanted : Wanted E.documents base want
   pub room : RoomIn places a b
 
 abbrev pub PassPre : List ℕ → List ℕ → List ℕ → ℕ → ℕ → List ℕ → Bool → ℕ → ℕ → ℕ → Type 0
 PassPre postings positions ranges a b kids last base want depth =
-    (n : ℕ) × (ix : Index) × (places : ℕ) × (ss : Scorers) × Called (lent n postings positions ranges) places a b base want × PartsKnown (lent n postings positions ranges) ix places ss × SomeWindowed (askedBefore last) ix ranges ss depth kids base (placesOf want)
+    (n : ℕ) × (ix : Index) × (places : ℕ) × (ss : Scorers) × Called (lent n postings positions ranges) places a b base want × PartsKnown (lent n postings positions ranges) ix places ss × SomeWindowed (asked_before last) ix ranges ss depth kids base (places_of want)
 
 abbrev pub PassPost : List ℕ → List ℕ → List ℕ → ℕ → ℕ → List ℕ → Bool → ℕ → ℕ → ℕ → ℕ → ℕ → Bool → List ℕ → Type 0
 PassPost postings positions ranges a b kids last base want depth r next skipped kids' =
-    (n : ℕ) (ix : Index) (places : ℕ) (ss : Scorers) → Wanted n base want → PartsKnown (lent n postings positions ranges) ix places ss → SomeWindowed (askedBefore last) ix ranges ss depth kids base (placesOf want) → Answers (allOf (askedBy last) ix ss) base (placesOf want) r next × SomeWindowed (askedAfter last) ix ranges ss depth kids' base (placesOf r) × (skipped ≡ false → Through last ss r)
+    (n : ℕ) (ix : Index) (places : ℕ) (ss : Scorers) → Wanted n base want → PartsKnown (lent n postings positions ranges) ix places ss → SomeWindowed (asked_before last) ix ranges ss depth kids base (places_of want) → Answers (all_of (asked_by last) ix ss) base (places_of want) r next × SomeWindowed (asked_after last) ix ranges ss depth kids' base (places_of r) × (skipped ≡ false → Through last ss r)
 
 -- the second pass, which is not made where the first skipped none
 abbrev pub PhrasesPost : List ℕ → List ℕ → List ℕ → ℕ → ℕ → List ℕ → Bool → ℕ → ℕ → ℕ → ℕ → ℕ → List ℕ → Type 0
 PhrasesPost postings positions ranges a b kids skipped base want depth r next kids' =
-    (n : ℕ) (ix : Index) (places : ℕ) (ss : Scorers) → Wanted n base want → PartsKnown (lent n postings positions ranges) ix places ss → SomeWindowed (askedBefore true) ix ranges ss depth kids base (placesOf want) → (skipped ≡ false → Through false ss want) → Answers (allOf (askedBy true) ix ss) base (placesOf want) r next × SomeWindowed (askedAfter true) ix ranges ss depth kids' base (placesOf r)
+    (n : ℕ) (ix : Index) (places : ℕ) (ss : Scorers) → Wanted n base want → PartsKnown (lent n postings positions ranges) ix places ss → SomeWindowed (asked_before true) ix ranges ss depth kids base (places_of want) → (skipped ≡ false → Through false ss want) → Answers (all_of (asked_by true) ix ss) base (places_of want) r next × SomeWindowed (asked_after true) ix ranges ss depth kids' base (places_of r)
 
 -- ---- the optional children, of which `need` must match, and the prohibited
 abbrev pub PartsPre : List ℕ → List ℕ → List ℕ → ℕ → ℕ → List ℕ → ℕ → ℕ → ℕ → Type 0
@@ -86,44 +86,44 @@ enough ix ss need d = leb need (matching ix ss d)
 -- where none is needed nothing is asked
 abbrev pub OptionalPost : List ℕ → List ℕ → List ℕ → ℕ → ℕ → List ℕ → ℕ → ℕ → ℕ → ℕ → ℕ → ℕ → List ℕ → Type 0
 OptionalPost postings positions ranges a b kids need base want depth r next kids' =
-    (n : ℕ) (ix : Index) (places : ℕ) (ss : Scorers) → Wanted n base want → PartsKnown (lent n postings positions ranges) ix places ss → AllWindowed ix ranges ss depth kids base base nowhere → Answers (enough ix ss need) base (placesOf want) r next × AllWindowed ix ranges ss depth kids' (optionalBound need (base + 64) base) base (λ p. ltb 0 need && bit p r)
+    (n : ℕ) (ix : Index) (places : ℕ) (ss : Scorers) → Wanted n base want → PartsKnown (lent n postings positions ranges) ix places ss → AllWindowed ix ranges ss depth kids base base nowhere → Answers (enough ix ss need) base (places_of want) r next × AllWindowed ix ranges ss depth kids' (optional_bound need (base + 64) base) base (λ p. ltb 0 need && bit p r)
 
 -- the planes' count of those that match, and a document before which none matches after the window
 pub record CountsAre (ix : Index) (ss : Scorers) (base want : ℕ) (count : ℕ → ℕ) (next : ℕ) : Type 0 where
   pub counts : (p : ℕ) → p < 64 → bit p want ≡ true → count p ≡ matching ix ss (base + p)
   pub gap : (d : ℕ) → base + 64 ≤ d → d < next → matching ix ss d ≡ 0
-  pub top : next ≤ noMoreDocs
+  pub top : next ≤ no_more_docs
 
 abbrev pub CountPost : List ℕ → List ℕ → List ℕ → ℕ → ℕ → List ℕ → ℕ → ℕ → ℕ → (ℕ → ℕ) → ℕ → List ℕ → Type 0
 CountPost postings positions ranges a b kids base want depth count next kids' =
-    (n : ℕ) (ix : Index) (places : ℕ) (ss : Scorers) → Wanted n base want → PartsKnown (lent n postings positions ranges) ix places ss → AllWindowed ix ranges ss depth kids base base nowhere → CountsAre ix ss base want count next × AllWindowed ix ranges ss depth kids' (base + 64) base (placesOf want)
+    (n : ℕ) (ix : Index) (places : ℕ) (ss : Scorers) → Wanted n base want → PartsKnown (lent n postings positions ranges) ix places ss → AllWindowed ix ranges ss depth kids base base nowhere → CountsAre ix ss base want count next × AllWindowed ix ranges ss depth kids' (base + 64) base (places_of want)
 
 -- any of them
 abbrev pub AnyPost : List ℕ → List ℕ → List ℕ → ℕ → ℕ → List ℕ → ℕ → ℕ → ℕ → ℕ → ℕ → List ℕ → Type 0
 AnyPost postings positions ranges a b kids base want depth r next kids' =
-    (n : ℕ) (ix : Index) (places : ℕ) (ss : Scorers) → Wanted n base want → PartsKnown (lent n postings positions ranges) ix places ss → AllWindowed ix ranges ss depth kids base base nowhere → Answers (anyMatches ix ss) base (placesOf want) r next × AllWindowed ix ranges ss depth kids' (base + 64) base (placesOf want)
+    (n : ℕ) (ix : Index) (places : ℕ) (ss : Scorers) → Wanted n base want → PartsKnown (lent n postings positions ranges) ix places ss → AllWindowed ix ranges ss depth kids base base nowhere → Answers (any_matches ix ss) base (places_of want) r next × AllWindowed ix ranges ss depth kids' (base + 64) base (places_of want)
 
 -- the wanted documents that none of the prohibited matches
 abbrev pub ExcludedPost : List ℕ → List ℕ → List ℕ → ℕ → ℕ → List ℕ → ℕ → ℕ → ℕ → ℕ → List ℕ → Type 0
 ExcludedPost postings positions ranges a b kids base want depth r kids' =
-    (n : ℕ) (ix : Index) (places : ℕ) (ss : Scorers) → Wanted n base want → PartsKnown (lent n postings positions ranges) ix places ss → AllWindowed ix ranges ss depth kids base base nowhere → ((p : ℕ) → p < 64 → bit p r ≡ (bit p want && not (anyMatches ix ss (base + p)))) × AllWindowed ix ranges ss depth kids' (base + 64) base nowhere
+    (n : ℕ) (ix : Index) (places : ℕ) (ss : Scorers) → Wanted n base want → PartsKnown (lent n postings positions ranges) ix places ss → AllWindowed ix ranges ss depth kids base base nowhere → ((p : ℕ) → p < 64 → bit p r ≡ (bit p want && not (any_matches ix ss (base + p)))) × AllWindowed ix ranges ss depth kids' (base + 64) base nowhere
 
 -- ---- a Boolean
 -- the parts of its children, with where the required and the optional end, and the places that were asked
-pub record BooleanWindowed (ix : Index) (ranges : List ℕ) (rs os ps : Scorers) (depth requiredEnd optionalEnd need : ℕ) (kids : List ℕ) (b base : ℕ) (D : Places) : Type 0 where
+pub record BooleanWindowed (ix : Index) (ranges : List ℕ) (rs os ps : Scorers) (depth required_end optional_end need : ℕ) (kids : List ℕ) (b base : ℕ) (D : Places) : Type 0 where
   pub x : List ℕ
   pub v : List ℕ
   pub z : List ℕ
   pub is : kids ≡ x ++ (v ++ z)
-  pub required-end : requiredEnd ≡ sizesOf rs
-  pub optional-end : optionalEnd ≡ sizesOf rs + sizesOf os
+  pub required-end : required_end ≡ sizes_of rs
+  pub optional-end : optional_end ≡ sizes_of rs + sizes_of os
   pub required : AllWindowed ix ranges rs depth x b base D
-  pub optional : AllWindowed ix ranges os depth v (optionalBound need b base) base (λ p. ltb 0 need && D p)
+  pub optional : AllWindowed ix ranges os depth v (optional_bound need b base) base (λ p. ltb 0 need && D p)
   pub prohibited : AllWindowed ix ranges ps depth z b base nowhere
 
 -- which documents it takes
 abbrev pub takes : Index → Scorers → Scorers → Scorers → ℕ → ℕ → Bool
-takes ix rs os ps need d = allMatch ix rs d && not (anyMatches ix ps d) && leb need (matching ix os d)
+takes ix rs os ps need d = all_match ix rs d && not (any_matches ix ps d) && leb need (matching ix os d)
 
 pub record BooleanKnown (E : Lent) (ix : Index) (places : ℕ) (rs os ps : Scorers) : Type 0 where
   pub required : PartsKnown E ix places rs
@@ -131,13 +131,13 @@ pub record BooleanKnown (E : Lent) (ix : Index) (places : ℕ) (rs os ps : Score
   pub prohibited : PartsKnown E ix places ps
 
 abbrev pub BooleanPre : List ℕ → List ℕ → List ℕ → ℕ → ℕ → List ℕ → ℕ → ℕ → ℕ → ℕ → ℕ → ℕ → Type 0
-BooleanPre postings positions ranges a b kids requiredEnd optionalEnd need base want depth =
-    (n : ℕ) × (ix : Index) × (places : ℕ) × (rs : Scorers) × (os : Scorers) × (ps : Scorers) × Called (lent n postings positions ranges) places a b base want × BooleanKnown (lent n postings positions ranges) ix places rs os ps × BooleanWindowed ix ranges rs os ps depth requiredEnd optionalEnd need kids base base nowhere
+BooleanPre postings positions ranges a b kids required_end optional_end need base want depth =
+    (n : ℕ) × (ix : Index) × (places : ℕ) × (rs : Scorers) × (os : Scorers) × (ps : Scorers) × Called (lent n postings positions ranges) places a b base want × BooleanKnown (lent n postings positions ranges) ix places rs os ps × BooleanWindowed ix ranges rs os ps depth required_end optional_end need kids base base nowhere
 
 -- its answer; what its score needs of the children stands at the documents that it takes
 abbrev pub BooleanPost : List ℕ → List ℕ → List ℕ → ℕ → ℕ → List ℕ → ℕ → ℕ → ℕ → ℕ → ℕ → ℕ → ℕ → ℕ → List ℕ → Type 0
-BooleanPost postings positions ranges a b kids requiredEnd optionalEnd need base want depth r next kids' =
-    (n : ℕ) (ix : Index) (places : ℕ) (rs os ps : Scorers) → Wanted n base want → BooleanKnown (lent n postings positions ranges) ix places rs os ps → BooleanWindowed ix ranges rs os ps depth requiredEnd optionalEnd need kids base base nowhere → Answers (takes ix rs os ps need) base (placesOf want) r next × BooleanWindowed ix ranges rs os ps depth requiredEnd optionalEnd need kids' (base + 64) base (placesOf r)
+BooleanPost postings positions ranges a b kids required_end optional_end need base want depth r next kids' =
+    (n : ℕ) (ix : Index) (places : ℕ) (rs os ps : Scorers) → Wanted n base want → BooleanKnown (lent n postings positions ranges) ix places rs os ps → BooleanWindowed ix ranges rs os ps depth required_end optional_end need kids base base nowhere → Answers (takes ix rs os ps need) base (places_of want) r next × BooleanWindowed ix ranges rs os ps depth required_end optional_end need kids' (base + 64) base (places_of r)
 
 -- ---- what is read of a record
 pub record BooleanRead (st : List ℕ) (n r o : ℕ) : Type 0 where
@@ -146,7 +146,7 @@ pub record BooleanRead (st : List ℕ) (n r o : ℕ) : Type 0 where
   pub optional-end : o ≡ get_or st 5 0
 
 pub record ChildAt (kids : List ℕ) (at : ℕ) : Type 0 where
-  pub long : nodeStateWords ≤ get_or kids (at + 1) 0
+  pub long : node_state_words ≤ get_or kids (at + 1) 0
   pub fits : at + get_or kids (at + 1) 0 ≤ length kids
 
 pub record ChildRead (kids : List ℕ) (at k e : ℕ) : Type 0 where

@@ -2,7 +2,7 @@
 #![tactic(auto)]
 
 ghost use Rattle.std.specs.Prelude.{◌≡◌, ◌≤◌, true, ℕ, length};
-ghost use Rattle.meaning.specs.Limits.{nodeStateWords};
+ghost use Rattle.meaning.specs.Limits.{node_state_words};
 ghost use Rattle.planes.specs.Counts.{count};
 ghost use Rattle.window_leaf.specs.Asks.{BitsPre, BitsPost};
 ghost use Rattle.window_bits.specs.Parts.{PassPre, PassPost, PhrasesPost, PartsPre, OptionalPost, CountPost, AnyPost, ExcludedPost, BooleanPre, BooleanPost, BooleanRead, ChildAt, ChildRead};
@@ -31,7 +31,7 @@ pub struct Boolean {
 }
 
 fn boolean_at(st: &[u32]) -> Boolean
-    requires { nodeStateWords ≤ length st.now }
+    requires { node_state_words ≤ length st.now }
     ensures { BooleanRead st.now result.need result.required result.optional }
 {
     Boolean {

@@ -2,21 +2,21 @@
 use Rattle.std.proofs.Common.{◌≡◌, refl, sym, ap, ap₂, subst, ◌∙◌, Bool, true, false, cond, ◌&&◌, ◌||◌, ⊎_elim, List, ◌++◌, append-nil, ℕ, ◌+◌, ◌-◌, ◌*◌, ◌/◌, ◌%◌, ◌≤◌, ◌<◌, min, ltb, length, get_or, set, take, drop, length-set, arith, lt-ltb, le-ltb, ltb-false}
 use Rattle.std.proofs.lemmas.Bool.{eqb-false, false≢true}
 use lib.Seq.{drop-length}
-use Rattle.meaning.specs.Limits.{nodeStateWords}
+use Rattle.meaning.specs.Limits.{node_state_words}
 use Rattle.meaning.specs.Lent.{Index}
-use Rattle.meaning.specs.Phrase.{PhraseTerm, phraseFrequency}
+use Rattle.meaning.specs.Phrase.{PhraseTerm, phrase_frequency}
 use Rattle.meaning.proofs.Tests.{decided}
-use Rattle.weight.specs.ScorerTree.{nothing, term, phrase, range, everything, Scoring, constant, weighted, Scorer, leaf, boolean, leafMatches, matches}
+use Rattle.weight.specs.ScorerTree.{nothing, term, phrase, range, everything, Scoring, constant, weighted, Scorer, leaf, boolean, leaf_matches, matches}
 use Rattle.weight.specs.State.{State, words_of}
 use Rattle.weight.specs.Held.{ScoringIs}
 use Rattle.weight.specs.Sound.{LeafSound, Sound}
 use Rattle.bits.specs.Bit.{bit}
 use Rattle.bits.proofs.Laws.{halves-joined}
 use Rattle.leaf_scorer.specs.Calls.{Lent, RoomIn}
-use Rattle.leaf_scorer.specs.Phrases.{allFound}
+use Rattle.leaf_scorer.specs.Phrases.{all_found}
 use Rattle.leaf_scorer.proofs.PhraseLaws.{behind-part, leaves-there, lacking}
-use Rattle.window_words.specs.Windowed.{nowhere, placesOf, joined, phrasePlaces, TermsWindowed, PhraseWindowed, LeafWindowed, Windowed}
-use Rattle.window_words.proofs.Laws.{kindOf, windowed-kind}
+use Rattle.window_words.specs.Windowed.{nowhere, places_of, joined, phrase_places, TermsWindowed, PhraseWindowed, LeafWindowed, Windowed}
+use Rattle.window_words.proofs.Laws.{kind_of, windowed-kind}
 use Rattle.window_leaf.specs.Asks.{Answers, NodeWindowed, PhrasePre, PhrasePost}
 use Rattle.window_leaf.specs.Runs.{answered, PutPre, PutPost}
 use Rattle.window_leaf.specs.Phrases.{TermsHeld, TermsPre, TermsPost, PhraseAsked, PlanesAre, PlanesPre, PlanesPost}
@@ -45,14 +45,14 @@ and-first false b e = e
 
 -- a record with other planes
 abbrev pub planed : State → ℕ → ℕ → ℕ → ℕ → State
-planed s onesLow onesHigh twosLow twosHigh =
+planed s ones_low ones_high twos_low twos_high =
     record {
       kind = s.kind;
       size = s.size;
       cached = s.cached;
       need = s.need;
-      requiredEnd = s.requiredEnd;
-      optionalEnd = s.optionalEnd;
+      required_end = s.required_end;
+      optional_end = s.optional_end;
       first = s.first;
       number = s.number;
       cursor = s.cursor;
@@ -61,19 +61,19 @@ planed s onesLow onesHigh twosLow twosHigh =
       constant = s.constant;
       weight = s.weight;
       afterwards = s.afterwards;
-      groupAt = s.groupAt;
+      group_at = s.group_at;
       scores = s.scores;
-      frequencyOf = s.frequencyOf;
+      frequency_of = s.frequency_of;
       frequency = s.frequency;
       norms = s.norms;
-      windowFirst = s.windowFirst;
-      windowLow = s.windowLow;
-      windowHigh = s.windowHigh;
-      windowNext = s.windowNext;
-      onesLow = onesLow;
-      onesHigh = onesHigh;
-      twosLow = twosLow;
-      twosHigh = twosHigh;
+      window_first = s.window_first;
+      window_low = s.window_low;
+      window_high = s.window_high;
+      window_next = s.window_next;
+      ones_low = ones_low;
+      ones_high = ones_high;
+      twos_low = twos_low;
+      twos_high = twos_high;
       spare1 = s.spare1;
       spare2 = s.spare2;
       spare3 = s.spare3;
@@ -88,8 +88,8 @@ scoring-planed (weighted x) s a b c d h = h
 
 -- ---- the words of a phrase
 -- those of its terms are put back
-terms-back : (s : State) (w st ys : List ℕ) → st ≡ words_of s ++ w → take nodeStateWords st ++ (ys ++ drop (length st - nodeStateWords) (drop nodeStateWords st)) ≡ words_of s ++ ys
-terms-back s w st ys e = let size : length st - nodeStateWords ≡ length w = omega (arith, ap length e) in rw (size, e, drop-length, append-nil)
+terms-back : (s : State) (w st ys : List ℕ) → st ≡ words_of s ++ w → take node_state_words st ++ (ys ++ drop (length st - node_state_words) (drop node_state_words st)) ≡ words_of s ++ ys
+terms-back s w st ys e = let size : length st - node_state_words ≡ length w = omega (arith, ap length e) in rw (size, e, drop-length, append-nil)
 
 -- the planes are stored
 planes-back : (s : State) (ys y : List ℕ) (a b c d : ℕ) → y ≡ words_of s ++ ys → set (set (set (set y 23 a) 24 b) 25 c) 26 d ≡ words_of (planed s a b c d) ++ ys
@@ -99,10 +99,10 @@ planes-back s ys y a b c d e = rw e
 module _ (E : Lent) (ix : Index) (places k o : ℕ) (st : List ℕ) (base : ℕ) where
   -- .. is a phrase
   pub phrase-of : get_or st 0 0 ≡ 2 → (s : Scorer) → NodeWindowed E ix places s k o st base → (f : ℕ) × (ts : List PhraseTerm) × (sc : Scoring) × (s ≡ leaf (phrase f ts) sc)
-  unfolding kindOf
+  unfolding kind_of
   phrase-of e s h = go s (sym (windowed-kind ix E.ranges s k o st base base nowhere h.held) ∙ e)
     where
-      go : (s : Scorer) → kindOf s ≡ 2 → (f : ℕ) × (ts : List PhraseTerm) × (sc : Scoring) × (s ≡ leaf (phrase f ts) sc)
+      go : (s : Scorer) → kind_of s ≡ 2 → (f : ℕ) × (ts : List PhraseTerm) × (sc : Scoring) × (s ≡ leaf (phrase f ts) sc)
       go (leaf nothing sc) n = absurd (eqb-false 0 2 refl n)
       go (leaf (term l) sc) n = absurd (eqb-false 1 2 refl n)
       go (leaf (phrase f ts) sc) n = (f, ts, sc, refl)
@@ -116,14 +116,14 @@ module _ (E : Lent) (ix : Index) (places k o : ℕ) (st : List ℕ) (base : ℕ)
     unfolding Windowed LeafWindowed
     phrase-front = let p = h.held in (p.0, p.1, p.2, p.3, p.4.0, p.4.1, p.5)
 
-    pub phrase-long : nodeStateWords ≤ length st
+    pub phrase-long : node_state_words ≤ length st
     phrase-long = omega (arith, ap length phrase-front.2)
 
     phrase-sound : LeafSound ix places (phrase f ts)
     unfolding Sound
     phrase-sound = h.sound
 
-    pub phrase-terms : {postings : List ℕ} → E.postings ≡ postings → TermsHeld postings ix ts (take (length st - nodeStateWords) (drop nodeStateWords st)) base
+    pub phrase-terms : {postings : List ℕ} → E.postings ≡ postings → TermsHeld postings ix ts (take (length st - node_state_words) (drop node_state_words st)) base
     unfolding LeafSound
     phrase-terms e =
         let p = phrase-front in
@@ -131,25 +131,25 @@ module _ (E : Lent) (ix : Index) (places k o : ℕ) (st : List ℕ) (base : ℕ)
           accepted = h.lends.accepted;
           postings-are = h.lends.postings-are ∙ e;
           there = leaves-there ix f places ts phrase-sound.4;
-          held = rw (behind-part p.0 st p.1 p.2) (terms-less ix ts p.1 base base base (phrasePlaces ix ts base nowhere) nowhere (omega arith) (λ q l i. absurd (false≢true i)) p.4.terms);
+          held = rw (behind-part p.0 st p.1 p.2) (terms-less ix ts p.1 base base base (phrase_places ix ts base nowhere) nowhere (omega arith) (λ q l i. absurd (false≢true i)) p.4.terms);
         }
 
     -- ---- the terms were asked: r are the wanted documents of all
-    module _ {postings positions : List ℕ} (ep : E.postings ≡ postings) (eq : E.positions ≡ positions) (want r next : ℕ) (ys : List ℕ) (asked : TermsPost postings (take (length st - nodeStateWords) (drop nodeStateWords st)) base want r next ys) where
-      terms-answer : Answers (allFound ix ts) base (placesOf want) r next × TermsWindowed ix ts ys (base + 64) base (placesOf r)
+    module _ {postings positions : List ℕ} (ep : E.postings ≡ postings) (eq : E.positions ≡ positions) (want r next : ℕ) (ys : List ℕ) (asked : TermsPost postings (take (length st - node_state_words) (drop node_state_words st)) base want r next ys) where
+      terms-answer : Answers (all_found ix ts) base (places_of want) r next × TermsWindowed ix ts ys (base + 64) base (places_of r)
       terms-answer = asked ix ts (phrase-terms ep)
 
       -- the node's words then
       abbrev pub st₁ : List ℕ
-      st₁ = take nodeStateWords st ++ (ys ++ drop (length st - nodeStateWords) (drop nodeStateWords st))
+      st₁ = take node_state_words st ++ (ys ++ drop (length st - node_state_words) (drop node_state_words st))
 
       words₁ : st₁ ≡ words_of phrase-front.0 ++ ys
       words₁ = let p = phrase-front in terms-back p.0 p.1 st ys p.2
 
-      pub asked-long : nodeStateWords ≤ length st₁
+      pub asked-long : node_state_words ≤ length st₁
       asked-long = omega (arith, ap length words₁)
 
-      pub phrase-asked : PhraseAsked postings positions ix places f ts base (placesOf r) (take (length st₁ - nodeStateWords) (drop nodeStateWords st₁))
+      pub phrase-asked : PhraseAsked postings positions ix places f ts base (places_of r) (take (length st₁ - node_state_words) (drop node_state_words st₁))
       unfolding LeafSound
       phrase-asked =
           record {
@@ -159,7 +159,7 @@ module _ (E : Lent) (ix : Index) (places k o : ℕ) (st : List ℕ) (base : ℕ)
               there = leaves-there ix f places ts phrase-sound.4;
               bound = base + 64;
               held = rw (behind-part phrase-front.0 st₁ ys words₁) terms-answer.1;
-              all = λ q l i. and-second (bit q want) (allFound ix ts (base + q)) (sym (terms-answer.0.bits q l) ∙ i);
+              all = λ q l i. and-second (bit q want) (all_found ix ts (base + q)) (sym (terms-answer.0.bits q l) ∙ i);
             };
             positions-are = h.lends.positions-are ∙ eq;
             sound = phrase-sound;
@@ -168,35 +168,35 @@ module _ (E : Lent) (ix : Index) (places k o : ℕ) (st : List ℕ) (base : ℕ)
       -- ---- the planes, and the places where some digit is set
       module _ (ones twos w : ℕ) (planes : PlanesAre ix ts base r ones twos) (some : (q : ℕ) → bit q w ≡ (bit q ones || bit q twos)) where
         abbrev Stands : ℕ → Bool
-        Stands q = ltb 0 (phraseFrequency ix ts (base + q))
+        Stands q = ltb 0 (phrase_frequency ix ts (base + q))
 
         -- a wanted place that is no candidate
         absent : (q : ℕ) → q < 64 → bit q want ≡ true → bit q r ≡ false → Stands q ≡ false
-        absent q l i n = lacking ix ts (base + q) (sym (ap (λ (b : Bool). b && allFound ix ts (base + q)) i) ∙ sym (terms-answer.0.bits q l) ∙ n)
+        absent q l i n = lacking ix ts (base + q) (sym (ap (λ (b : Bool). b && all_found ix ts (base + q)) i) ∙ sym (terms-answer.0.bits q l) ∙ n)
 
         phrase-bit : (q : ℕ) → q < 64 → bit q w ≡ (bit q want && Stands q)
         phrase-bit q l = ⊎_elim yes no (decided (bit q r))
           where
             yes : bit q r ≡ true → bit q w ≡ (bit q want && Stands q)
             yes e =
-                let wanted : bit q want ≡ true = and-first (bit q want) (allFound ix ts (base + q)) (sym (terms-answer.0.bits q l) ∙ e) in
-                some q ∙ digits-some (bit q ones) (bit q twos) (phraseFrequency ix ts (base + q)) (planes.there q l e) ∙ sym (ap (λ (b : Bool). b && Stands q) wanted)
+                let wanted : bit q want ≡ true = and-first (bit q want) (all_found ix ts (base + q)) (sym (terms-answer.0.bits q l) ∙ e) in
+                some q ∙ digits-some (bit q ones) (bit q twos) (phrase_frequency ix ts (base + q)) (planes.there q l e) ∙ sym (ap (λ (b : Bool). b && Stands q) wanted)
 
             no : bit q r ≡ false → bit q w ≡ (bit q want && Stands q)
             no e =
                 some q ∙ ap₂ (λ (a b : Bool). a || b) (planes.no-ones q l e) (planes.no-twos q l e)
-                ∙ sym (and-lost (bit q want) (allFound ix ts (base + q)) (Stands q) (sym (terms-answer.0.bits q l) ∙ e) (lacking ix ts (base + q)))
+                ∙ sym (and-lost (bit q want) (all_found ix ts (base + q)) (Stands q) (sym (terms-answer.0.bits q l) ∙ e) (lacking ix ts (base + q)))
 
         -- a place where the phrase stands is a candidate
         candidate : (q : ℕ) → q < 64 → (bit q want && Stands q) ≡ true → bit q r ≡ true
         candidate q l e = ⊎_elim (λ i. i) (λ n. absurd (false≢true (sym (absent q l (and-first (bit q want) (Stands q) e) n) ∙ and-second (bit q want) (Stands q) e))) (decided (bit q r))
 
-        phrase-digits : (q : ℕ) → q < 64 → bit q want ≡ true → cond (bit q ones) 1 0 + 2 * cond (bit q twos) 1 0 ≡ min 3 (phraseFrequency ix ts (base + q))
+        phrase-digits : (q : ℕ) → q < 64 → bit q want ≡ true → cond (bit q ones) 1 0 + 2 * cond (bit q twos) 1 0 ≡ min 3 (phrase_frequency ix ts (base + q))
         phrase-digits q l i = ⊎_elim (planes.there q l) none (decided (bit q r))
           where
-            none : bit q r ≡ false → cond (bit q ones) 1 0 + 2 * cond (bit q twos) 1 0 ≡ min 3 (phraseFrequency ix ts (base + q))
+            none : bit q r ≡ false → cond (bit q ones) 1 0 + 2 * cond (bit q twos) 1 0 ≡ min 3 (phrase_frequency ix ts (base + q))
             none n =
-                let zero-there : phraseFrequency ix ts (base + q) ≤ 0 = ltb-false 0 (phraseFrequency ix ts (base + q)) (absent q l i n) in
+                let zero-there : phrase_frequency ix ts (base + q) ≤ 0 = ltb-false 0 (phrase_frequency ix ts (base + q)) (absent q l i n) in
                 ap₂ (λ (a b : Bool). cond a 1 0 + 2 * cond b 1 0) (planes.no-ones q l n) (planes.no-twos q l n) ∙ omega (arith, zero-there)
 
         -- ---- the planes are stored in two halves each, and then the answer
@@ -220,11 +220,11 @@ module _ (E : Lent) (ix : Index) (places k o : ℕ) (st : List ℕ) (base : ℕ)
             next-read : get_or st' 22 0 ≡ next
             next-read = ap (λ (l : List ℕ). get_or l 22 0) words'
 
-            phrase-answers : Answers (λ x. ltb 0 (phraseFrequency ix ts x)) base (placesOf want) w (get_or st' 22 0)
+            phrase-answers : Answers (λ x. ltb 0 (phrase_frequency ix ts x)) base (places_of want) w (get_or st' 22 0)
             phrase-answers = record { bits = phrase-bit; gap = λ x i j. lacking ix ts x (terms-answer.0.gap x i (omega (arith, next-read, j))); top = omega (arith, next-read, terms-answer.0.top) }
 
-            pub phrase-leaf : Answers (matches ix (leaf (phrase f ts) sc)) base (placesOf want) w (get_or st' 22 0) × Windowed ix E.ranges (leaf (phrase f ts) sc) k o st' (base + 64) base (placesOf want)
-            unfolding matches leafMatches Windowed LeafWindowed
+            pub phrase-leaf : Answers (matches ix (leaf (phrase f ts) sc)) base (places_of want) w (get_or st' 22 0) × Windowed ix E.ranges (leaf (phrase f ts) sc) k o st' (base + 64) base (places_of want)
+            unfolding matches leaf_matches Windowed LeafWindowed
             phrase-leaf =
                 let p = phrase-front in (
                   phrase-answers,
@@ -239,14 +239,14 @@ module _ (E : Lent) (ix : Index) (places k o : ℕ) (st : List ℕ) (base : ℕ)
                         size_is = p.4.size_is;
                         field_is = p.4.field_is;
                         norms-is = p.4.norms-is;
-                        terms = terms-less ix ts ys (base + 64) (base + 64) base (placesOf r) (phrasePlaces ix ts base (placesOf want)) (omega arith) candidate terms-answer.1;
+                        terms = terms-less ix ts ys (base + 64) (base + 64) base (places_of r) (phrase_places ix ts base (places_of want)) (omega arith) candidate terms-answer.1;
                         frequencies = λ q l i. ap₂ (λ (x y : ℕ). cond (bit q x) 1 0 + 2 * cond (bit q y) 1 0) ones-joined twos-joined ∙ phrase-digits q l i;
                         worked-out = p.4.worked-out;
                       },
                       p.5,
                     ),
-                    scoring-kept sc (planed p.0 a b c d) p.0.cursor p.0.windowFirst w next (scoring-planed sc p.0 a b c d p.6),
-                    λ q l i. stored-bits (planed p.0 a b c d) p.0.cursor p.0.windowFirst w next q ∙ phrase-bit q l ∙ ap (λ (x : Bool). x && Stands q) i,
+                    scoring-kept sc (planed p.0 a b c d) p.0.cursor p.0.window_first w next (scoring-planed sc p.0 a b c d p.6),
+                    λ q l i. stored-bits (planed p.0 a b c d) p.0.cursor p.0.window_first w next q ∙ phrase-bit q l ∙ ap (λ (x : Bool). x && Stands q) i,
                   ),
                 )
 
@@ -289,24 +289,24 @@ module _ {postings positions : List ℕ} {a b : ℕ} {st : List ℕ} {base : ℕ
     g : Given postings positions a b st base
     g = phrase-given R
 
-    pub given-long : nodeStateWords ≤ length st
+    pub given-long : node_state_words ≤ length st
     given-long = phrase-long g.lent-with g.index g.places g.depth g.scores st base g.field g.terms g.scoring g.node
 
-    pub given-terms : TermsPre postings (take (length st - nodeStateWords) (drop nodeStateWords st)) base
+    pub given-terms : TermsPre postings (take (length st - node_state_words) (drop node_state_words st)) base
     given-terms = (R.0, (g.index, g.terms, phrase-terms g.lent-with g.index g.places g.depth g.scores st base g.field g.terms g.scoring g.node g.postings-are))
 
-    module _ (want r next : ℕ) (ys : List ℕ) (asked : TermsPost postings (take (length st - nodeStateWords) (drop nodeStateWords st)) base want r next ys) where
+    module _ (want r next : ℕ) (ys : List ℕ) (asked : TermsPost postings (take (length st - node_state_words) (drop node_state_words st)) base want r next ys) where
       -- the words after the terms were asked
       abbrev pub given-words : List ℕ
-      given-words = take nodeStateWords st ++ (ys ++ drop (length st - nodeStateWords) (drop nodeStateWords st))
+      given-words = take node_state_words st ++ (ys ++ drop (length st - node_state_words) (drop node_state_words st))
 
-      pub given-asked-long : nodeStateWords ≤ length given-words
+      pub given-asked-long : node_state_words ≤ length given-words
       given-asked-long = asked-long g.lent-with g.index g.places g.depth g.scores st base g.field g.terms g.scoring g.node g.postings-are g.positions-are want r next ys asked
 
-      pub given-planes : PlanesPre postings positions (take (length given-words - nodeStateWords) (drop nodeStateWords given-words)) a b base r
+      pub given-planes : PlanesPre postings positions (take (length given-words - node_state_words) (drop node_state_words given-words)) a b base r
       given-planes = (g.index, g.places, g.field, g.terms, g.room.in-a, g.room.in_b, phrase-asked g.lent-with g.index g.places g.depth g.scores st base g.field g.terms g.scoring g.node g.postings-are g.positions-are want r next ys asked)
 
-      module _ (ones twos w : ℕ) (planes : PlanesPost postings positions (take (length given-words - nodeStateWords) (drop nodeStateWords given-words)) base r ones twos) (some : (q : ℕ) → bit q w ≡ (bit q ones || bit q twos))
+      module _ (ones twos w : ℕ) (planes : PlanesPost postings positions (take (length given-words - node_state_words) (drop node_state_words given-words)) base r ones twos) (some : (q : ℕ) → bit q w ≡ (bit q ones || bit q twos))
           (x y u v : ℕ) (ex : x ≡ ones % 4294967296) (ey : y ≡ ones / 4294967296) (eu : u ≡ twos % 4294967296) (ev : v ≡ twos / 4294967296) where
         pub given-put : PutPre (set (set (set (set given-words 23 x) 24 y) 25 u) 26 v)
         given-put =
@@ -319,11 +319,11 @@ module _ {postings positions : List ℕ} {a b : ℕ} {st : List ℕ} {base : ℕ
             let q = phrase-of E ix places k o st base R.1 s h in
             let own : NodeWindowed E ix places (leaf (phrase q.0 q.1) q.2) k o st base = subst (λ (t : Scorer). NodeWindowed E ix places t k o st base) q.3 h in
             let asked-terms = phrase-asked E ix places k o st base q.0 q.1 q.2 own ep eq want r next ys asked in
-            subst (λ (t : Scorer). Answers (matches ix t) base (placesOf want) w (get_or st' 22 0) × Windowed ix E.ranges t k o st' (base + 64) base (placesOf want)) (sym q.3)
+            subst (λ (t : Scorer). Answers (matches ix t) base (places_of want) w (get_or st' 22 0) × Windowed ix E.ranges t k o st' (base + 64) base (places_of want)) (sym q.3)
             (phrase-leaf E ix places k o st base q.0 q.1 q.2 own ep eq want r next ys asked ones twos w (planes ix places q.0 q.1 asked-terms) some x y u v ex ey eu ev st' post)
 
 -- a word of the record is there after the ones before it are written
-pub written-long : (y : List ℕ) (a b c : ℕ) → nodeStateWords ≤ length y → (24 < length (set y 23 a)) × (25 < length (set (set y 23 a) 24 b)) × (26 < length (set (set (set y 23 a) 24 b) 25 c))
+pub written-long : (y : List ℕ) (a b c : ℕ) → node_state_words ≤ length y → (24 < length (set y 23 a)) × (25 < length (set (set y 23 a) 24 b)) × (26 < length (set (set (set y 23 a) 24 b) 25 c))
 written-long y a b c h = (
   omega (arith, h, length-set y 23 a),
   omega (arith, h, length-set y 23 a, length-set (set y 23 a) 24 b),

@@ -3,10 +3,10 @@ use Rattle.std.proofs.Common.{◌≡◌, refl, sym, ap, ap₂, subst, ◌∙◌,
 use mathlib.Core.Bool.{and-true, and-false, or-false, false≢true}
 use lib.Seq.{length-take-le}
 use Rattle.meaning.proofs.Tests.{decided}
-use Rattle.meaning.specs.Limits.{nodeStateWords}
+use Rattle.meaning.specs.Limits.{node_state_words}
 use Rattle.meaning.specs.Lent.{Index}
-use Rattle.meaning.specs.Phrase.{PhraseTerm, commonSize, phraseFrequency}
-use Rattle.phrase.specs.Terms.{startLists, Good, Room}
+use Rattle.meaning.specs.Phrase.{PhraseTerm, common_size, phrase_frequency}
+use Rattle.phrase.specs.Terms.{start_lists, Good, Room}
 use Rattle.weight.specs.Sound.{LeafSound}
 use Rattle.leaf_scorer.specs.Phrases.{GatheredTo}
 use Rattle.leaf_scorer.proofs.PhraseLaws.{gathered-good, gathered-places, gathered-frequency}
@@ -22,7 +22,7 @@ module _ {postings positions : List ℕ} {ix : Index} {places f : ℕ} {ts : Lis
   unfolding LeafSound
   frequency-few = omega (arith, h.sound.3)
 
-  pub frequency-four : length terms ≤ 4 * nodeStateWords → 3 * length ts ≤ 12
+  pub frequency-four : length terms ≤ 4 * node_state_words → 3 * length ts ≤ 12
   frequency-four l = omega (arith, terms-windowed-length ix ts terms h.asked.bound base D h.asked.held)
 
   pub frequency-gather : (place : ℕ) → place < 64 → D place ≡ true → (room : ℕ) → 3 * length ts ≤ room → GatherPre postings terms base place room
@@ -44,8 +44,8 @@ module _ {postings positions : List ℕ} {ix : Index} {places f : ℕ} {ts : Lis
     pub frequency-room : (n : ℕ) → places ≤ n → Room (take r out) n
     frequency-room = gathered-places ix h.asked.accepted f places ts h.sound (base + place) (take r out) gathered.gathered
 
-    pub frequency-is : commonSize (startLists positions (take r out)) ≡ phraseFrequency ix ts (base + place)
-    frequency-is = subst (λ (y : List ℕ). commonSize (startLists y (take r out)) ≡ phraseFrequency ix ts (base + place)) h.positions-are (gathered-frequency ix h.asked.accepted f places ts h.sound (base + place) (take r out) gathered.gathered)
+    pub frequency-is : common_size (start_lists positions (take r out)) ≡ phrase_frequency ix ts (base + place)
+    frequency-is = subst (λ (y : List ℕ). common_size (start_lists y (take r out)) ≡ phrase_frequency ix ts (base + place)) h.positions-are (gathered-frequency ix h.asked.accepted f places ts h.sound (base + place) (take r out) gathered.gathered)
 
 -- ---- one more frequency
 -- the two digits of a number up to 3
@@ -108,7 +108,7 @@ module _ (ones twos place frequency n : ℕ) (least : min 3 frequency ≡ n) whe
 
 -- ---- the candidates, one after the other: those that are left are not noted yet
 pub record Noting (ix : Index) (ts : List PhraseTerm) (base candidates left ones twos : ℕ) : Type 0 where
-  pub done : (p : ℕ) → p < 64 → bit p candidates ≡ true → bit p left ≡ false → cond (bit p ones) 1 0 + 2 * cond (bit p twos) 1 0 ≡ min 3 (phraseFrequency ix ts (base + p))
+  pub done : (p : ℕ) → p < 64 → bit p candidates ≡ true → bit p left ≡ false → cond (bit p ones) 1 0 + 2 * cond (bit p twos) 1 0 ≡ min 3 (phrase_frequency ix ts (base + p))
   pub no-ones : (p : ℕ) → p < 64 → (bit p candidates && not (bit p left)) ≡ false → bit p ones ≡ false
   pub no-twos : (p : ℕ) → p < 64 → (bit p candidates && not (bit p left)) ≡ false → bit p twos ≡ false
 
@@ -128,7 +128,7 @@ module _ {ix : Index} {ts : List PhraseTerm} {base candidates : ℕ} where
       off p = ap (bit p) z ∙ bit-zero p
 
   -- the lowest of those left is noted
-  module _ {left ones twos : ℕ} (q : Noting ix ts base candidates left ones twos) (t : ℕ) (low : LowestBit left t) (f : ℕ) (is : f ≡ phraseFrequency ix ts (base + t)) (one : bit t candidates ≡ true)
+  module _ {left ones twos : ℕ} (q : Noting ix ts base candidates left ones twos) (t : ℕ) (low : LowestBit left t) (f : ℕ) (is : f ≡ phrase_frequency ix ts (base + t)) (one : bit t candidates ≡ true)
       (left' ones' twos' : ℕ) (others : (p : ℕ) → bit p left' ≡ (bit p left && not (eqb p t))) (noted : Noted ones twos t f ones' twos') where
     -- the place itself was not noted
     fresh : (bit t candidates && not (bit t left)) ≡ false
@@ -151,7 +151,7 @@ module _ {ix : Index} {ts : List PhraseTerm} {base candidates : ℕ} where
     here-twos : bit t twos' ≡ bit 1 (min 3 f)
     here-twos = noted.twos-are t ∙ ap₂ (λ (a b : Bool). a || b && bit 1 (min 3 f)) (q.no-twos t low.within fresh) (eq-eqb t t refl)
 
-    here : cond (bit t ones') 1 0 + 2 * cond (bit t twos') 1 0 ≡ min 3 (phraseFrequency ix ts (base + t))
+    here : cond (bit t ones') 1 0 + 2 * cond (bit t twos') 1 0 ≡ min 3 (phrase_frequency ix ts (base + t))
     here = rw (here-ones, here-twos) (digits (min 3 f) (omega arith) ∙ ap (min 3) is)
 
     -- and it is not left
@@ -163,7 +163,7 @@ module _ {ix : Index} {ts : List PhraseTerm} {base candidates : ℕ} where
         record {
           done = λ p l c n.
               ⊎_elim
-              (λ (e : eqb p t ≡ true). let z : t ≡ p = sym (eqb-true p t e) in subst (λ (x : ℕ). cond (bit x ones') 1 0 + 2 * cond (bit x twos') 1 0 ≡ min 3 (phraseFrequency ix ts (base + x))) z here)
+              (λ (e : eqb p t ≡ true). let z : t ≡ p = sym (eqb-true p t e) in subst (λ (x : ℕ). cond (bit x ones') 1 0 + 2 * cond (bit x twos') 1 0 ≡ min 3 (phrase_frequency ix ts (base + x))) z here)
               (λ (e : eqb p t ≡ false). ap₂ (λ (a b : Bool). cond a 1 0 + 2 * cond b 1 0) (same-ones p e) (same-twos p e) ∙ q.done p l c (sym (same-left p e) ∙ n))
               (decided (eqb p t));
           no-ones = λ p l n.

@@ -1,9 +1,9 @@
 -- A record whose run was moved over a window: what it stores, and that it is again the record of its term, with the window's documents. Assumes nothing.
 use Rattle.std.proofs.Common.{◌≡◌, refl, sym, ap, ◌∙◌, Bool, true, false, ⊎_elim, List, ◌++◌, ℕ, ◌+◌, ◌/◌, ◌%◌, ◌≤◌, ◌<◌, eqb, get_or, set, arith, ne_eqb}
 use Rattle.std.proofs.lemmas.Bool.{eqb-false, false≢true}
-use Rattle.meaning.specs.Limits.{noMoreDocs}
-use Rattle.meaning.specs.Lent.{Index, leafFirst, leafNumber, leafDocument, leafCount}
-use Rattle.meaning.specs.Postings.{postingAt, found}
+use Rattle.meaning.specs.Limits.{no_more_docs}
+use Rattle.meaning.specs.Lent.{Index, leaf_first, leaf_number, leaf_document, leaf_count}
+use Rattle.meaning.specs.Postings.{posting_at, found}
 use Rattle.meaning.proofs.Below.{any_none, none_below}
 use Rattle.meaning.proofs.Tests.{decided, cmp}
 use Rattle.index.specs.Accepted.{Accepted}
@@ -11,21 +11,21 @@ use Rattle.index.proofs.PostingAt.{posting-at, posting-none}
 use Rattle.weight.specs.ScorerTree.{Scoring, constant, weighted}
 use Rattle.weight.specs.State.{State, words_of}
 use Rattle.weight.specs.Held.{TermIs, ScoringIs}
-use Rattle.run.specs.Run.{documentAt, Lower}
+use Rattle.run.specs.Run.{document_at, Lower}
 use Rattle.bits.specs.Bit.{bit}
 use Rattle.bits.proofs.Laws.{halves-joined}
 use Rattle.leaf_scorer.specs.Search.{SearchHeld}
-use Rattle.window.specs.Windows.{inRun, Cursor, Gathers}
-use Rattle.window_words.specs.Windowed.{windowBits, TermWindow}
-use Rattle.window_leaf.specs.Runs.{windowAt, PutPost, DocumentPost, RunMoved, RunPost}
+use Rattle.window.specs.Windows.{in_run, Cursor, Gathers}
+use Rattle.window_words.specs.Windowed.{window_bits, TermWindow}
+use Rattle.window_leaf.specs.Runs.{window_at, PutPost, DocumentPost, RunMoved, RunPost}
 
 -- ---- what a record stores
 -- the bits are joined again
-pub stored-bits : (s : State) (cursor first r next p : ℕ) → bit p (windowBits (windowAt s cursor first r next)) ≡ bit p r
+pub stored-bits : (s : State) (cursor first r next p : ℕ) → bit p (window_bits (window_at s cursor first r next)) ≡ bit p r
 stored-bits s cursor first r next p = ap (bit p) (halves-joined r)
 
 -- the words of a scoring stay
-pub scoring-kept : (sc : Scoring) (s : State) (cursor first r next : ℕ) → ScoringIs sc s → ScoringIs sc (windowAt s cursor first r next)
+pub scoring-kept : (sc : Scoring) (s : State) (cursor first r next : ℕ) → ScoringIs sc s → ScoringIs sc (window_at s cursor first r next)
 unfolding ScoringIs
 scoring-kept (constant c) s cursor first r next h = h
 scoring-kept (weighted w) s cursor first r next h = h
@@ -41,25 +41,25 @@ module _ (words : List ℕ) (stride base : ℕ) (s : State) (w : List ℕ) (st :
         ahead = ahead;
       }
     where
-      ahead : (i : ℕ) → from ≤ i → i < s.number → base ≤ documentAt words stride s.first i
-      ahead i a b = ⊎_elim (λ (g : i < from). absurd (omega arith)) (λ _. ⊎_elim (λ (g : from < i). omega (arith, l.stops (omega arith), h.run.ascending from i g b)) (λ (g : i ≤ from). let z : from ≡ i = omega arith in omega (arith, ap (λ (k : ℕ). documentAt words stride s.first k) z, l.stops (omega arith))) (cmp from i)) (cmp i from)
+      ahead : (i : ℕ) → from ≤ i → i < s.number → base ≤ document_at words stride s.first i
+      ahead i a b = ⊎_elim (λ (g : i < from). absurd (omega arith)) (λ _. ⊎_elim (λ (g : from < i). omega (arith, l.stops (omega arith), h.run.ascending from i g b)) (λ (g : i ≤ from). let z : from ≡ i = omega arith in omega (arith, ap (λ (k : ℕ). document_at words stride s.first k) z, l.stops (omega arith))) (cmp from i)) (cmp i from)
 
   module _ (from at r next : ℕ) (c : Cursor words stride s.first s.number base from) (g : Gathers words stride s.first s.number base from r at) (d : DocumentPost words stride s.first s.number at next) where
     -- up to the document at the cursor nothing follows the window
-    next-gap : (x : ℕ) → base + 64 ≤ x → x < next → inRun words stride s.first s.number x ≡ false
-    next-gap x a b = any_none s.number (λ i. eqb (documentAt words stride s.first i) x) (λ i m. ne_eqb _ _ (λ (e : documentAt words stride s.first i ≡ x). off i m e))
+    next-gap : (x : ℕ) → base + 64 ≤ x → x < next → in_run words stride s.first s.number x ≡ false
+    next-gap x a b = any_none s.number (λ i. eqb (document_at words stride s.first i) x) (λ i m. ne_eqb _ _ (λ (e : document_at words stride s.first i ≡ x). off i m e))
       where
-        off : (i : ℕ) → i < s.number → documentAt words stride s.first i ≡ x → ⊥
+        off : (i : ℕ) → i < s.number → document_at words stride s.first i ≡ x → ⊥
         off i m e =
             ⊎_elim
             (λ (l : i < at). omega (arith, g.cursor.passed i l))
-            (λ (l : at ≤ i). ⊎_elim (λ (k : at < i). omega (arith, d.there (omega arith), h.run.ascending at i k m)) (λ (k : i ≤ at). let z : at ≡ i = omega arith in omega (arith, d.there (omega arith), ap (λ (j : ℕ). documentAt words stride s.first j) z)) (cmp at i))
+            (λ (l : at ≤ i). ⊎_elim (λ (k : at < i). omega (arith, d.there (omega arith), h.run.ascending at i k m)) (λ (k : i ≤ at). let z : at ≡ i = omega arith in omega (arith, d.there (omega arith), ap (λ (j : ℕ). document_at words stride s.first j) z)) (cmp at i))
             (cmp i at)
 
-    next-top : next ≤ noMoreDocs
+    next-top : next ≤ no_more_docs
     next-top = ⊎_elim (λ (l : at < s.number). omega (arith, d.there l, h.small at l)) (λ l. omega (arith, d.ended l)) (cmp at s.number)
 
-    pub run-moved : (st' : List ℕ) → st' ≡ words_of (windowAt s at from r next) ++ w → RunMoved words stride s w base r st'
+    pub run-moved : (st' : List ℕ) → st' ≡ words_of (window_at s at from r next) ++ w → RunMoved words stride s w base r st'
     run-moved st' e =
         record {
           first = from;
@@ -86,8 +86,8 @@ placed s cursor first =
       size = s.size;
       cached = s.cached;
       need = s.need;
-      requiredEnd = s.requiredEnd;
-      optionalEnd = s.optionalEnd;
+      required_end = s.required_end;
+      optional_end = s.optional_end;
       first = s.first;
       number = s.number;
       cursor = cursor;
@@ -96,19 +96,19 @@ placed s cursor first =
       constant = s.constant;
       weight = s.weight;
       afterwards = s.afterwards;
-      groupAt = s.groupAt;
+      group_at = s.group_at;
       scores = s.scores;
-      frequencyOf = s.frequencyOf;
+      frequency_of = s.frequency_of;
       frequency = s.frequency;
       norms = s.norms;
-      windowFirst = first;
-      windowLow = s.windowLow;
-      windowHigh = s.windowHigh;
-      windowNext = s.windowNext;
-      onesLow = s.onesLow;
-      onesHigh = s.onesHigh;
-      twosLow = s.twosLow;
-      twosHigh = s.twosHigh;
+      window_first = first;
+      window_low = s.window_low;
+      window_high = s.window_high;
+      window_next = s.window_next;
+      ones_low = s.ones_low;
+      ones_high = s.ones_high;
+      twos_low = s.twos_low;
+      twos_high = s.twos_high;
       spare1 = s.spare1;
       spare2 = s.spare2;
       spare3 = s.spare3;
@@ -135,31 +135,31 @@ module _ (words : List ℕ) (stride base : ℕ) (st : List ℕ) (from at : ℕ) 
         (post (placed s at from) w (placed-words s w h.words_are))
 
 -- a run that is the documents of P
-pub run-like : (words : List ℕ) (stride first n : ℕ) (P : ℕ → Bool) → ((i : ℕ) → i < n → P (documentAt words stride first i) ≡ true) → ((d : ℕ) → ((i : ℕ) → i < n → documentAt words stride first i ≡ d → ⊥) → P d ≡ false) → (d : ℕ) → inRun words stride first n d ≡ P d
+pub run-like : (words : List ℕ) (stride first n : ℕ) (P : ℕ → Bool) → ((i : ℕ) → i < n → P (document_at words stride first i) ≡ true) → ((d : ℕ) → ((i : ℕ) → i < n → document_at words stride first i ≡ d → ⊥) → P d ≡ false) → (d : ℕ) → in_run words stride first n d ≡ P d
 run-like words stride first n P hits misses d = ⊎_elim yes no (decided (P d))
   where
     At : ℕ → Bool
-    At i = eqb (documentAt words stride first i) d
+    At i = eqb (document_at words stride first i) d
 
-    yes : P d ≡ true → inRun words stride first n d ≡ P d
-    yes e = ⊎_elim (λ g. g ∙ sym e) (λ g. absurd (false≢true (sym (misses d (λ i m q. eqb-false (documentAt words stride first i) d (none_below n At g i m) q)) ∙ e))) (decided (inRun words stride first n d))
+    yes : P d ≡ true → in_run words stride first n d ≡ P d
+    yes e = ⊎_elim (λ g. g ∙ sym e) (λ g. absurd (false≢true (sym (misses d (λ i m q. eqb-false (document_at words stride first i) d (none_below n At g i m) q)) ∙ e))) (decided (in_run words stride first n d))
 
-    no : P d ≡ false → inRun words stride first n d ≡ P d
-    no e = any_none n At (λ i m. ne_eqb _ _ (λ (q : documentAt words stride first i ≡ d). false≢true (sym e ∙ ap P (sym q) ∙ hits i m))) ∙ sym e
+    no : P d ≡ false → in_run words stride first n d ≡ P d
+    no e = any_none n At (λ i m. ne_eqb _ _ (λ (q : document_at words stride first i ≡ d). false≢true (sym e ∙ ap P (sym q) ∙ hits i m))) ∙ sym e
 
 -- ---- a term, or a phrase's term
-module _ (ix : Index) (acc : Accepted ix) (k l : ℕ) (there : l < leafCount ix) (s : State) (base : ℕ) (is : TermIs ix k l s base) where
-  pub term-run-like : (d : ℕ) → inRun ix.postings 3 s.first s.number d ≡ found (postingAt ix l d)
+module _ (ix : Index) (acc : Accepted ix) (k l : ℕ) (there : l < leaf_count ix) (s : State) (base : ℕ) (is : TermIs ix k l s base) where
+  pub term-run-like : (d : ℕ) → in_run ix.postings 3 s.first s.number d ≡ found (posting_at ix l d)
   term-run-like d =
-      ap (λ (f : ℕ). inRun ix.postings 3 f s.number d) is.first-is
-      ∙ ap (λ (n : ℕ). inRun ix.postings 3 (leafFirst ix l) n d) is.number_is
-      ∙ run-like ix.postings 3 (leafFirst ix l) (leafNumber ix l) (λ x. found (postingAt ix l x))
-      (λ i g. ap found (posting-at ix l (leafDocument ix l i) (acc.ascending l there) i g refl))
+      ap (λ (f : ℕ). in_run ix.postings 3 f s.number d) is.first-is
+      ∙ ap (λ (n : ℕ). in_run ix.postings 3 (leaf_first ix l) n d) is.number_is
+      ∙ run-like ix.postings 3 (leaf_first ix l) (leaf_number ix l) (λ x. found (posting_at ix l x))
+      (λ i g. ap found (posting-at ix l (leaf_document ix l i) (acc.ascending l there) i g refl))
       (λ x g. ap found (posting-none ix l x g))
       d
 
   module _ (w : List ℕ) (r : ℕ) (st' : List ℕ) (m : RunMoved ix.postings 3 s w base r st') where
-    pub term-passed : TermIs ix k l (windowAt s m.cursor m.first r m.next) (base + 64)
+    pub term-passed : TermIs ix k l (window_at s m.cursor m.first r m.next) (base + 64)
     term-passed =
         record {
           kind-is = is.kind-is;
@@ -171,7 +171,7 @@ module _ (ix : Index) (acc : Accepted ix) (k l : ℕ) (there : l < leafCount ix)
           run = record { within = rw is.number_is at m.behind.within; passed = rw is.first-is at m.behind.passed };
         }
 
-    pub term-window : TermWindow ix l (windowAt s m.cursor m.first r m.next) base
+    pub term-window : TermWindow ix l (window_at s m.cursor m.first r m.next) base
     term-window =
         record {
           first-within = m.first-within;

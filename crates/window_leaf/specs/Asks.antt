@@ -1,19 +1,19 @@
 -- What a node is asked of a window, and what it answers. Assumes nothing: these are definitions.
 -- The tree and the index stand in no argument: some must fit the words at entry, and for all that fit them the answer is right.
 use Rattle.std.specs.Prelude.{◌≡◌, Bool, true, ◌&&◌, false, List, ℕ, ◌+◌, ◌≤◌, ◌<◌, get_or}
-use Rattle.meaning.specs.Limits.{noMoreDocs}
+use Rattle.meaning.specs.Limits.{no_more_docs}
 use Rattle.meaning.specs.Lent.{Index}
 use Rattle.bits.specs.Bit.{bit}
 use Rattle.weight.specs.ScorerTree.{Scorer, matches}
 use Rattle.weight.specs.Sound.{Lends, Sound, nodes}
 use Rattle.leaf_scorer.specs.Calls.{Lent, lent, RoomIn}
-use Rattle.window_words.specs.Windowed.{Places, nowhere, placesOf, Windowed}
+use Rattle.window_words.specs.Windowed.{Places, nowhere, places_of, Windowed}
 
 -- of the asked places of a window, those whose document P takes, and a document before which P takes nothing after the window
 pub record Answers (P : ℕ → Bool) (base : ℕ) (D : Places) (r next : ℕ) : Type 0 where
   pub bits : (p : ℕ) → p < 64 → bit p r ≡ (D p && P (base + p))
   pub gap : (d : ℕ) → base + 64 ≤ d → d < next → P d ≡ false
-  pub top : next ≤ noMoreDocs
+  pub top : next ≤ no_more_docs
 
 abbrev pub everywhere : Places
 everywhere p = true
@@ -36,16 +36,16 @@ NodeAnswers E st base D depth r st' =
 
 abbrev pub BitsPre : List ℕ → List ℕ → List ℕ → ℕ → ℕ → List ℕ → ℕ → ℕ → ℕ → Type 0
 BitsPre postings positions ranges a b st base want depth =
-    (base + 64 ≤ noMoreDocs) × ((n : ℕ) × (ix : Index) × (places : ℕ) × (s : Scorer) × (scores : ℕ) × Wanted n base want × RoomIn places a b × NodeWindowed (lent n postings positions ranges) ix places s depth scores st base)
+    (base + 64 ≤ no_more_docs) × ((n : ℕ) × (ix : Index) × (places : ℕ) × (s : Scorer) × (scores : ℕ) × Wanted n base want × RoomIn places a b × NodeWindowed (lent n postings positions ranges) ix places s depth scores st base)
 
 abbrev pub BitsPost : List ℕ → List ℕ → List ℕ → ℕ → ℕ → List ℕ → ℕ → ℕ → ℕ → ℕ → List ℕ → Type 0
 BitsPost postings positions ranges a b st base want depth r st' =
-    (n : ℕ) → Wanted n base want → NodeAnswers (lent n postings positions ranges) st base (placesOf want) depth r st'
+    (n : ℕ) → Wanted n base want → NodeAnswers (lent n postings positions ranges) st base (places_of want) depth r st'
 
 -- a node that is a term: it asks nothing of what is lent but the postings
 abbrev pub TermPre : List ℕ → List ℕ → ℕ → Type 0
 TermPre postings st base =
-    (base + 64 ≤ noMoreDocs) × (get_or st 0 0 ≡ 1) × ((E : Lent) × (E.postings ≡ postings) × (ix : Index) × (places : ℕ) × (s : Scorer) × (depth : ℕ) × (scores : ℕ) × NodeWindowed E ix places s depth scores st base)
+    (base + 64 ≤ no_more_docs) × (get_or st 0 0 ≡ 1) × ((E : Lent) × (E.postings ≡ postings) × (ix : Index) × (places : ℕ) × (s : Scorer) × (depth : ℕ) × (scores : ℕ) × NodeWindowed E ix places s depth scores st base)
 
 abbrev pub TermPost : List ℕ → List ℕ → ℕ → ℕ → List ℕ → Type 0
 TermPost postings st base r st' = (E : Lent) (depth : ℕ) → E.postings ≡ postings → NodeAnswers E st base everywhere depth r st'
@@ -53,7 +53,7 @@ TermPost postings st base r st' = (E : Lent) (depth : ℕ) → E.postings ≡ po
 -- a node that is a range: it asks nothing of what is lent but the range buffer
 abbrev pub RangePre : List ℕ → List ℕ → ℕ → Type 0
 RangePre ranges st base =
-    (base + 64 ≤ noMoreDocs) × (get_or st 0 0 ≡ 4) × ((E : Lent) × (E.ranges ≡ ranges) × (ix : Index) × (places : ℕ) × (s : Scorer) × (depth : ℕ) × (scores : ℕ) × NodeWindowed E ix places s depth scores st base)
+    (base + 64 ≤ no_more_docs) × (get_or st 0 0 ≡ 4) × ((E : Lent) × (E.ranges ≡ ranges) × (ix : Index) × (places : ℕ) × (s : Scorer) × (depth : ℕ) × (scores : ℕ) × NodeWindowed E ix places s depth scores st base)
 
 abbrev pub RangePost : List ℕ → List ℕ → ℕ → ℕ → List ℕ → Type 0
 RangePost ranges st base r st' = (E : Lent) (depth : ℕ) → E.ranges ≡ ranges → NodeAnswers E st base everywhere depth r st'
@@ -61,8 +61,8 @@ RangePost ranges st base r st' = (E : Lent) (depth : ℕ) → E.ranges ≡ range
 -- a node that is a phrase: it asks nothing of what is lent but the postings and the positions
 abbrev pub PhrasePre : List ℕ → List ℕ → ℕ → ℕ → List ℕ → ℕ → Type 0
 PhrasePre postings positions a b st base =
-    (base + 64 ≤ noMoreDocs) × (get_or st 0 0 ≡ 2) × ((E : Lent) × (E.postings ≡ postings) × (E.positions ≡ positions) × (ix : Index) × (places : ℕ) × (s : Scorer) × (depth : ℕ) × (scores : ℕ) × RoomIn places a b × NodeWindowed E ix places s depth scores st base)
+    (base + 64 ≤ no_more_docs) × (get_or st 0 0 ≡ 2) × ((E : Lent) × (E.postings ≡ postings) × (E.positions ≡ positions) × (ix : Index) × (places : ℕ) × (s : Scorer) × (depth : ℕ) × (scores : ℕ) × RoomIn places a b × NodeWindowed E ix places s depth scores st base)
 
 abbrev pub PhrasePost : List ℕ → List ℕ → List ℕ → ℕ → ℕ → ℕ → List ℕ → Type 0
 PhrasePost postings positions st base want r st' =
-    (E : Lent) (depth : ℕ) → E.postings ≡ postings → E.positions ≡ positions → NodeAnswers E st base (placesOf want) depth r st'
+    (E : Lent) (depth : ℕ) → E.postings ≡ postings → E.positions ≡ positions → NodeAnswers E st base (places_of want) depth r st'

@@ -1,15 +1,15 @@
 -- A phrase, asked for a window: its terms, its frequency at a place, its planes. Assumes nothing: these are definitions.
 use Rattle.std.specs.Prelude.{◌≡◌, true, false, cond, ◌&&◌, ◌||◌, List, ℕ, ◌+◌, ◌*◌, ◌≤◌, ◌<◌, eqb, min, length, get_or}
-use Rattle.meaning.specs.Below.{countBelow}
-use Rattle.meaning.specs.Limits.{noMoreDocs, nodeStateWords}
+use Rattle.meaning.specs.Below.{count_below}
+use Rattle.meaning.specs.Limits.{no_more_docs, node_state_words}
 use Rattle.meaning.specs.Lent.{Index}
-use Rattle.meaning.specs.Phrase.{PhraseTerm, phraseFrequency}
+use Rattle.meaning.specs.Phrase.{PhraseTerm, phrase_frequency}
 use Rattle.index.specs.Accepted.{Accepted}
 use Rattle.weight.specs.ScorerTree.{phrase}
 use Rattle.weight.specs.Sound.{LeafSound}
-use Rattle.leaf_scorer.specs.Phrases.{allFound, LeavesThere, GatheredTo}
+use Rattle.leaf_scorer.specs.Phrases.{all_found, LeavesThere, GatheredTo}
 use Rattle.bits.specs.Bit.{bit}
-use Rattle.window_words.specs.Windowed.{Places, nowhere, placesOf, joined, TermsWindowed}
+use Rattle.window_words.specs.Windowed.{Places, nowhere, places_of, joined, TermsWindowed}
 use Rattle.window_leaf.specs.Asks.{Answers}
 
 -- an accepted index with these postings, and the words of a phrase's terms, not asked yet of the window at base
@@ -20,12 +20,12 @@ pub record TermsHeld (postings : List ℕ) (ix : Index) (ts : List PhraseTerm) (
   pub held : TermsWindowed ix ts terms base base nowhere
 
 abbrev pub TermsPre : List ℕ → List ℕ → ℕ → Type 0
-TermsPre postings terms base = (base + 64 ≤ noMoreDocs) × ((ix : Index) × (ts : List PhraseTerm) × TermsHeld postings ix ts terms base)
+TermsPre postings terms base = (base + 64 ≤ no_more_docs) × ((ix : Index) × (ts : List PhraseTerm) × TermsHeld postings ix ts terms base)
 
 -- the wanted documents that all terms have; where some are left, each term was asked
 abbrev pub TermsPost : List ℕ → List ℕ → ℕ → ℕ → ℕ → ℕ → List ℕ → Type 0
 TermsPost postings terms base want r next terms' =
-    (ix : Index) (ts : List PhraseTerm) → TermsHeld postings ix ts terms base → Answers (allFound ix ts) base (placesOf want) r next × TermsWindowed ix ts terms' (base + 64) base (placesOf r)
+    (ix : Index) (ts : List PhraseTerm) → TermsHeld postings ix ts terms base → Answers (all_found ix ts) base (places_of want) r next × TermsWindowed ix ts terms' (base + 64) base (places_of r)
 
 -- the terms were asked of the window at base, and all have its documents at the places D
 pub record TermsAsked (postings : List ℕ) (ix : Index) (ts : List PhraseTerm) (base : ℕ) (D : Places) (terms : List ℕ) : Type 0 where
@@ -34,17 +34,17 @@ pub record TermsAsked (postings : List ℕ) (ix : Index) (ts : List PhraseTerm) 
   pub there : LeavesThere ix ts
   pub bound : ℕ
   pub held : TermsWindowed ix ts terms bound base D
-  pub all : (p : ℕ) → p < 64 → D p ≡ true → allFound ix ts (base + p) ≡ true
+  pub all : (p : ℕ) → p < 64 → D p ≡ true → all_found ix ts (base + p) ≡ true
 
 -- how many documents of a term's window stand before a place: its record begins at a place of the words
-abbrev pub rankAt : List ℕ → ℕ → ℕ → ℕ
-rankAt terms at place = countBelow place (λ q. bit q (joined (get_or terms (at + 20) 0) (get_or terms (at + 21) 0)))
+abbrev pub rank_at : List ℕ → ℕ → ℕ → ℕ
+rank_at terms at place = count_below place (λ q. bit q (joined (get_or terms (at + 20) 0) (get_or terms (at + 21) 0)))
 
 -- .. and that record is there, its run small
 pub record PostingPre (terms : List ℕ) (at place : ℕ) : Type 0 where
   pub below : place < 64
-  pub fits : at + nodeStateWords ≤ length terms
-  pub small : get_or terms (at + 6) 0 + get_or terms (at + 19) 0 + rankAt terms at place < 3074457345618258602
+  pub fits : at + node_state_words ≤ length terms
+  pub small : get_or terms (at + 6) 0 + get_or terms (at + 19) 0 + rank_at terms at place < 3074457345618258602
 
 abbrev pub GatherPre : List ℕ → List ℕ → ℕ → ℕ → ℕ → Type 0
 GatherPre postings terms base place places =
@@ -66,7 +66,7 @@ FrequencyPre postings positions terms a b base place =
 
 abbrev pub FrequencyPost : List ℕ → List ℕ → List ℕ → ℕ → ℕ → ℕ → Type 0
 FrequencyPost postings positions terms base place r =
-    (ix : Index) (places f : ℕ) (ts : List PhraseTerm) (D : Places) → D place ≡ true → PhraseAsked postings positions ix places f ts base D terms → r ≡ phraseFrequency ix ts (base + place)
+    (ix : Index) (places f : ℕ) (ts : List PhraseTerm) (D : Places) → D place ≡ true → PhraseAsked postings positions ix places f ts base D terms → r ≡ phrase_frequency ix ts (base + place)
 
 -- one more frequency in the planes: the two digits of it, up to 3, at the place
 pub record Noted (ones twos place frequency ones' twos' : ℕ) : Type 0 where
@@ -75,14 +75,14 @@ pub record Noted (ones twos place frequency ones' twos' : ℕ) : Type 0 where
 
 -- the planes of a window: the lower digits of the frequencies at the candidates, up to 3, and nothing elsewhere
 pub record PlanesAre (ix : Index) (ts : List PhraseTerm) (base candidates ones twos : ℕ) : Type 0 where
-  pub there : (p : ℕ) → p < 64 → bit p candidates ≡ true → cond (bit p ones) 1 0 + 2 * cond (bit p twos) 1 0 ≡ min 3 (phraseFrequency ix ts (base + p))
+  pub there : (p : ℕ) → p < 64 → bit p candidates ≡ true → cond (bit p ones) 1 0 + 2 * cond (bit p twos) 1 0 ≡ min 3 (phrase_frequency ix ts (base + p))
   pub no-ones : (p : ℕ) → p < 64 → bit p candidates ≡ false → bit p ones ≡ false
   pub no-twos : (p : ℕ) → p < 64 → bit p candidates ≡ false → bit p twos ≡ false
 
 abbrev pub PlanesPre : List ℕ → List ℕ → List ℕ → ℕ → ℕ → ℕ → ℕ → Type 0
 PlanesPre postings positions terms a b base candidates =
-    (ix : Index) × (places : ℕ) × (f : ℕ) × (ts : List PhraseTerm) × (places ≤ a) × (places ≤ b) × PhraseAsked postings positions ix places f ts base (placesOf candidates) terms
+    (ix : Index) × (places : ℕ) × (f : ℕ) × (ts : List PhraseTerm) × (places ≤ a) × (places ≤ b) × PhraseAsked postings positions ix places f ts base (places_of candidates) terms
 
 abbrev pub PlanesPost : List ℕ → List ℕ → List ℕ → ℕ → ℕ → ℕ → ℕ → Type 0
 PlanesPost postings positions terms base candidates ones twos =
-    (ix : Index) (places f : ℕ) (ts : List PhraseTerm) → PhraseAsked postings positions ix places f ts base (placesOf candidates) terms → PlanesAre ix ts base candidates ones twos
+    (ix : Index) (places f : ℕ) (ts : List PhraseTerm) → PhraseAsked postings positions ix places f ts base (places_of candidates) terms → PlanesAre ix ts base candidates ones twos

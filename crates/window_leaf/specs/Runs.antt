@@ -1,22 +1,22 @@
 -- A record's run or bitmap, asked for a window. Assumes nothing: these are definitions.
 use Rattle.std.specs.Prelude.{◌≡◌, Bool, false, List, ◌++◌, ℕ, ◌+◌, ◌*◌, ◌%◌, ◌/◌, ◌≤◌, ◌<◌, length}
-use Rattle.meaning.specs.Limits.{noMoreDocs}
+use Rattle.meaning.specs.Limits.{no_more_docs}
 use Rattle.weight.specs.State.{State, words_of}
 use Rattle.leaf_scorer.specs.Search.{SearchHeld}
 use Rattle.bits.specs.Bit.{bit, Bitmap}
-use Rattle.window.specs.Windows.{inRun, Cursor}
-use Rattle.run.specs.Run.{documentAt}
+use Rattle.window.specs.Windows.{in_run, Cursor}
+use Rattle.run.specs.Run.{document_at}
 
 -- a record with what an answer stores: the cursor behind the window, the run's first place in it, its bits, and the document up to which nothing follows
-abbrev pub windowAt : State → ℕ → ℕ → ℕ → ℕ → State
-windowAt s cursor first bits next =
+abbrev pub window_at : State → ℕ → ℕ → ℕ → ℕ → State
+window_at s cursor first bits next =
     record {
       kind = s.kind;
       size = s.size;
       cached = s.cached;
       need = s.need;
-      requiredEnd = s.requiredEnd;
-      optionalEnd = s.optionalEnd;
+      required_end = s.required_end;
+      optional_end = s.optional_end;
       first = s.first;
       number = s.number;
       cursor = cursor;
@@ -25,19 +25,19 @@ windowAt s cursor first bits next =
       constant = s.constant;
       weight = s.weight;
       afterwards = s.afterwards;
-      groupAt = s.groupAt;
+      group_at = s.group_at;
       scores = s.scores;
-      frequencyOf = s.frequencyOf;
+      frequency_of = s.frequency_of;
       frequency = s.frequency;
       norms = s.norms;
-      windowFirst = first;
-      windowLow = bits % 4294967296;
-      windowHigh = bits / 4294967296;
-      windowNext = next;
-      onesLow = s.onesLow;
-      onesHigh = s.onesHigh;
-      twosLow = s.twosLow;
-      twosHigh = s.twosHigh;
+      window_first = first;
+      window_low = bits % 4294967296;
+      window_high = bits / 4294967296;
+      window_next = next;
+      ones_low = s.ones_low;
+      ones_high = s.ones_high;
+      twos_low = s.twos_low;
+      twos_high = s.twos_high;
       spare1 = s.spare1;
       spare2 = s.spare2;
       spare3 = s.spare3;
@@ -47,7 +47,7 @@ windowAt s cursor first bits next =
 
 -- an answer that moves no cursor
 abbrev pub answered : State → ℕ → ℕ → State
-answered s bits next = windowAt s s.cursor s.windowFirst bits next
+answered s bits next = window_at s s.cursor s.window_first bits next
 
 abbrev pub PutPre : List ℕ → Type 0
 PutPre st = (s : State) × (w : List ℕ) × (st ≡ words_of s ++ w)
@@ -60,16 +60,16 @@ pub record RunMoved (words : List ℕ) (stride : ℕ) (s : State) (w : List ℕ)
   pub first : ℕ
   pub cursor : ℕ
   pub next : ℕ
-  pub words_are : st' ≡ words_of (windowAt s cursor first r next) ++ w
+  pub words_are : st' ≡ words_of (window_at s cursor first r next) ++ w
   pub at-first : Cursor words stride s.first s.number base first
   pub first-within : first ≤ cursor
   pub behind : Cursor words stride s.first s.number (base + 64) cursor
-  pub bits : (p : ℕ) → p < 64 → bit p r ≡ inRun words stride s.first s.number (base + p)
-  pub gap : (d : ℕ) → base + 64 ≤ d → d < next → inRun words stride s.first s.number d ≡ false
-  pub top : next ≤ noMoreDocs
+  pub bits : (p : ℕ) → p < 64 → bit p r ≡ in_run words stride s.first s.number (base + p)
+  pub gap : (d : ℕ) → base + 64 ≤ d → d < next → in_run words stride s.first s.number d ≡ false
+  pub top : next ≤ no_more_docs
 
 abbrev pub RunPre : List ℕ → ℕ → List ℕ → ℕ → Type 0
-RunPre words stride st base = (base + 64 ≤ noMoreDocs) × ((s : State) × (w : List ℕ) × SearchHeld words stride s w st base)
+RunPre words stride st base = (base + 64 ≤ no_more_docs) × ((s : State) × (w : List ℕ) × SearchHeld words stride s w st base)
 
 abbrev pub RunPost : List ℕ → ℕ → List ℕ → ℕ → ℕ → List ℕ → Type 0
 RunPost words stride st base r st' = (s : State) (w : List ℕ) → SearchHeld words stride s w st base → RunMoved words stride s w base r st'
@@ -84,5 +84,5 @@ abbrev pub DocumentPre : List ℕ → ℕ → ℕ → ℕ → ℕ → Type 0
 DocumentPre words stride first number at = (0 < stride) × (at < number → stride * (first + at) < length words)
 
 pub record DocumentPost (words : List ℕ) (stride first number at r : ℕ) : Type 0 where
-  pub there : at < number → r ≡ documentAt words stride first at
-  pub ended : number ≤ at → r ≡ noMoreDocs
+  pub there : at < number → r ≡ document_at words stride first at
+  pub ended : number ≤ at → r ≡ no_more_docs

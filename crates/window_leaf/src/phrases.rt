@@ -1,7 +1,7 @@
 // A phrase in a window: the documents that all its terms have, and then its positions in those alone.
 ghost use Rattle.std.specs.Prelude.{◌≡◌, ◌+◌, ◌*◌, ◌<◌, length, get_or};
 ghost use Rattle.window_leaf.specs.Asks.{PhrasePre, PhrasePost};
-ghost use Rattle.window_leaf.specs.Phrases.{TermsPre, TermsPost, rankAt, PostingPre, GatherPre, GatherPost, FrequencyPre, FrequencyPost, Noted, PlanesPre, PlanesPost};
+ghost use Rattle.window_leaf.specs.Phrases.{TermsPre, TermsPost, rank_at, PostingPre, GatherPre, GatherPost, FrequencyPre, FrequencyPost, Noted, PlanesPre, PlanesPost};
 
 use crate::{Found, POSTING, later, put, run_bits};
 use index::wide;
@@ -33,7 +33,7 @@ pub fn terms_bits(terms: &mut [u32], postings: &[u32], base: u32, want: u64) -> 
 // The word of a term's posting at a place of the window: as many postings of the window stand before it as bits below it.
 fn posting_at(terms: &[u32], at: usize, place: u32) -> usize
     requires { PostingPre terms.now at place }
-    ensures { result ≡ 3 * (get_or terms.now (at + 6) 0 + get_or terms.now (at + 19) 0 + rankAt terms.now at place) }
+    ensures { result ≡ 3 * (get_or terms.now (at + 6) 0 + get_or terms.now (at + 19) 0 + rank_at terms.now at place) }
 {
     let bits = bits::joined(terms[at + 20], terms[at + 21]);
     let before = bits::rank(bits, place);

@@ -5,20 +5,20 @@ use Rattle.std.specs.Float.{binary64}
 use Rattle.std.specs.Float.Ieee.{add}
 use lib.Ieee.Fits.{fits_widens}
 use Rattle.meaning.specs.Lent.{Index}
-use Rattle.meaning.specs.Ieee754.{zeroFloat, narrow}
+use Rattle.meaning.specs.Ieee754.{zero_float, narrow}
 use Rattle.ieee754.specs.Nonneg.{AtMost}
 use Rattle.ieee754.proofs.Narrowing.{narrow_exact}
 use Rattle.index.specs.Accepted.{Accepted}
-use Rattle.weight.specs.ScorerTree.{Scorer, scorerScore}
+use Rattle.weight.specs.ScorerTree.{Scorer, scorer_score}
 use Rattle.weight.specs.Sound.{Sound, nodes}
 use Rattle.weight.proofs.Weights.{Weighted}
 use Rattle.score.proofs.Alone.{zero-plus}
 use Rattle.score.proofs.Small.{score-small, score-fits}
 
 module _ (ix : Index) (A : Accepted ix) (places : ℕ) (s : Scorer) (w : Weighted s) (h : Sound ix places s) (few : nodes s ≤ 256) (d : ℕ) where
-  pub small : AtMost (nodes s * 2 ^ 29) (scorerScore ix s d)
+  pub small : AtMost (nodes s * 2 ^ 29) (scorer_score ix s d)
   small = score-small ix A places d s w h few
 
-  pub sum-narrowed : (zero : Float) → zero ≡ zeroFloat → (x : Float) → x ≡ add binary64 zero (scorerScore ix s d) → narrow x ≡ scorerScore ix s d
+  pub sum-narrowed : (zero : Float) → zero ≡ zero_float → (x : Float) → x ≡ add binary64 zero (scorer_score ix s d) → narrow x ≡ scorer_score ix s d
   sum-narrowed zero e x f =
-      ap narrow (f ∙ ap (λ (z : Float). add binary64 z (scorerScore ix s d)) e ∙ zero-plus (scorerScore ix s d) (fits_widens (scorerScore ix s d) (score-fits ix s d w)) small.sign) ∙ narrow_exact (scorerScore ix s d) (score-fits ix s d w)
+      ap narrow (f ∙ ap (λ (z : Float). add binary64 z (scorer_score ix s d)) e ∙ zero-plus (scorer_score ix s d) (fits_widens (scorer_score ix s d) (score-fits ix s d w)) small.sign) ∙ narrow_exact (scorer_score ix s d) (score-fits ix s d w)

@@ -2,14 +2,14 @@
 use Rattle.std.proofs.Common.{◌≡◌, refl, sym, ap, subst, ◌∙◌, Bool, true, false, cond, ◌&&◌, List, ◌++◌, ℕ, ◌+◌, ◌-◌, ◌≤◌, ltb, length, get_or, take, drop, length-append, take_at, drop_at, le_refl, arith, ◌<◌}
 use Rattle.std.specs.Prelude.{Float}
 use Rattle.std.specs.Float.{nan}
-use Rattle.meaning.specs.Ieee754.{narrow, narrowedSum}
+use Rattle.meaning.specs.Ieee754.{narrow, narrowed_sum}
 use Rattle.bits.specs.Bit.{bit}
-use Rattle.weight.specs.ScorerTree.{Scorers, end, scoring, requiredScores, optionalScores, joinedScore}
-use Rattle.weight.specs.Sound.{nodesOf}
+use Rattle.weight.specs.ScorerTree.{Scorers, end, scoring, required_scores, optional_scores, joined_score}
+use Rattle.weight.specs.Sound.{nodes_of}
 use Rattle.score.proofs.Alone.{none_left, joined-alone, joined-only}
 use Rattle.score.proofs.Join.{group-is}
 use Rattle.score.proofs.Small.{first_small, oks-weighted}
-use Rattle.window_words.specs.Windowed.{nowhere, placesOf, optionalBound, AllWindowed}
+use Rattle.window_words.specs.Windowed.{nowhere, places_of, optional_bound, AllWindowed}
 use Rattle.window_words.proofs.Laws.{all-length, all-forget, all-ok}
 use Rattle.window_score.specs.declared.Joined.{Joined}
 use Rattle.window_score.specs.Sums.{Sums, Zeros, NarrowedIs, AddedAll, NarrowedPre, NarrowedPost}
@@ -47,14 +47,14 @@ module _ (kids : List ℕ) (node : Joined) (postings positions norms ranges : Li
   oe = node.optional
 
   abbrev goal-score : Asks → ℕ → Float
-  goal-score w p = joinedScore w.3 (requiredScores w.1 w.4 (base + p)) (narrowedSum (optionalScores w.1 w.5 (base + p)))
+  goal-score w p = joined_score w.3 (required_scores w.1 w.4 (base + p)) (narrowed_sum (optional_scores w.1 w.5 (base + p)))
 
   required-long : (w : Asks) → length w.9.x ≡ re
-  required-long w = all-length w.1 ranges w.4 depth w.9.x (base + 64) base (placesOf want) w.9.required ∙ sym w.9.required-end
+  required-long w = all-length w.1 ranges w.4 depth w.9.x (base + 64) base (places_of want) w.9.required ∙ sym w.9.required-end
 
   optional-long : (w : Asks) → re + length w.9.v ≡ oe
   optional-long w =
-      omega (arith, all-length w.1 ranges w.5 depth w.9.v (optionalBound node.need (base + 64) base) base (λ p. ltb 0 node.need && bit p want) w.9.optional, w.9.required-end, w.9.optional-end)
+      omega (arith, all-length w.1 ranges w.5 depth w.9.v (optional_bound node.need (base + 64) base) base (λ p. ltb 0 node.need && bit p want) w.9.optional, w.9.required-end, w.9.optional-end)
 
   pub parts-lie : Asks → oe ≤ length kids
   parts-lie w =
@@ -68,27 +68,27 @@ module _ (kids : List ℕ) (node : Joined) (postings positions norms ranges : Li
 
   -- what was asked is forgotten
   required-left : (w : Asks) → AllWindowed w.1 ranges w.4 depth w.9.x (base + 64) (base + 64) nowhere
-  required-left w = all-forget w.1 ranges w.4 depth w.9.x (base + 64) base (placesOf want) (base + 64) (le_refl _) (omega arith) w.9.required
+  required-left w = all-forget w.1 ranges w.4 depth w.9.x (base + 64) base (places_of want) (base + 64) (le_refl _) (omega arith) w.9.required
 
   optional-left : (w : Asks) → AllWindowed w.1 ranges w.5 depth w.9.v (base + 64) (base + 64) nowhere
   optional-left w =
-      all-forget w.1 ranges w.5 depth w.9.v (optionalBound node.need (base + 64) base) base (λ p. ltb 0 node.need && bit p want) (base + 64)
+      all-forget w.1 ranges w.5 depth w.9.v (optional_bound node.need (base + 64) base) base (λ p. ltb 0 node.need && bit p want) (base + 64)
       (bound-below (ltb 0 node.need) (base + 64) base (omega arith)) (omega arith) w.9.optional
 
   module _ (own : List Float) (own-zero : Zeros own) where
     -- ---- no optional children
     alone-asked : (w : Asks) → RequiredAsked w.1 ranges table w.2 w.4 depth (take re kids) base want 0
     alone-asked w =
-        record { scorables = w.9.required-scorables; match = w.9.match; held = subst (λ (v : List ℕ). AllWindowed w.1 ranges w.4 depth v (base + 64) base (placesOf want)) (sym (front-is w)) w.9.required }
+        record { scorables = w.9.required-scorables; match = w.9.match; held = subst (λ (v : List ℕ). AllWindowed w.1 ranges w.4 depth v (base + 64) base (places_of want)) (sym (front-is w)) w.9.required }
 
     pub alone-ask : Asks → RequiredPre (take re kids) postings positions norms ranges table a b base want own depth
     alone-ask w = (w.0, w.1, w.2, w.4, 0, w.8, alone-asked w, zero-sums own own-zero)
 
     module _ (xs : List ℕ) (own' : List Float) (post : RequiredPost (take re kids) postings positions norms ranges table a b base want own depth xs own') where
-      alone-own : (w : Asks) → AddedAll (λ p. scoring (requiredScores w.1 w.4 (base + p))) want own own' × Sums (0 + nodesOf w.4) own' × AllWindowed w.1 ranges w.4 depth xs (base + 64) (base + 64) nowhere
+      alone-own : (w : Asks) → AddedAll (λ p. scoring (required_scores w.1 w.4 (base + p))) want own own' × Sums (0 + nodes_of w.4) own' × AllWindowed w.1 ranges w.4 depth xs (base + 64) (base + 64) nowhere
       alone-own w = post w.0 w.1 w.2 w.4 0 w.8 (alone-asked w) (zero-sums own own-zero)
 
-      alone-few : (w : Asks) → nodesOf w.4 ≤ 256
+      alone-few : (w : Asks) → nodes_of w.4 ≤ 256
       alone-few w = let f = w.9.few in omega (arith, f)
 
       pub alone-score : re ≡ oe → (w : Asks) (p : ℕ) → p < 64 → bit p want ≡ true → narrow (get_or own' p nan) ≡ goal-score w p
@@ -97,10 +97,10 @@ module _ (kids : List ℕ) (node : Joined) (postings positions norms ranges : Li
           let ix = w.1 in
           let rs = w.4 in
           let os-none : w.5 ≡ end = none_left w.5 (omega (arith, none, w.9.required-end, w.9.optional-end)) in
-          let W = oks-weighted ix ranges rs depth w.9.x (base + 64) (all-ok ix ranges rs depth w.9.x (base + 64) base (placesOf want) (omega arith) w.9.required) in
+          let W = oks-weighted ix ranges rs depth w.9.x (base + 64) (all-ok ix ranges rs depth w.9.x (base + 64) base (places_of want) (omega arith) w.9.required) in
           (joined-alone ix (base + p) rs w.3 (alone-few w) (λ m. (first_small ix w.8.lends.accepted w.2 (base + p) m rs W w.9.required-scorables.sound (alone-few w)).sign) (get_or own' p nan) (narrow (get_or own' p nan))
-          (summed own own' own-zero want (λ i. scoring (requiredScores ix rs (base + i))) r.0 (nodesOf rs) r.1 p l e) refl).is
-          ∙ ap (λ (o : Scorers). joinedScore w.3 (requiredScores ix rs (base + p)) (narrowedSum (optionalScores ix o (base + p)))) (sym os-none)
+          (summed own own' own-zero want (λ i. scoring (required_scores ix rs (base + i))) r.0 (nodes_of rs) r.1 p l e) refl).is
+          ∙ ap (λ (o : Scorers). joined_score w.3 (required_scores ix rs (base + p)) (narrowed_sum (optional_scores ix o (base + p)))) (sym os-none)
 
       alone-left : (w : Asks) → BooleanLeft w.1 ranges w.4 w.5 depth w.6 (xs ++ drop re kids) base
       alone-left w = record { x = xs; v = w.9.v; is = front-back w.9.x (w.9.v ++ w.6) kids re w.9.is (required-long w) xs; required = (alone-own w).2; optional = optional-left w }
@@ -110,8 +110,8 @@ module _ (kids : List ℕ) (node : Joined) (postings positions norms ranges : Li
 
       pub alone-add : Asks → NarrowedPre own' sums
       alone-add w =
-          let r = nodesOf w.4 + nodesOf w.5 in
-          (w.7, r, (w.9.few, w.10), sums-more (0 + nodesOf w.4) r own' (omega arith) (alone-own w).1)
+          let r = nodes_of w.4 + nodes_of w.5 in
+          (w.7, r, (w.9.few, w.10), sums-more (0 + nodes_of w.4) r own' (omega arith) (alone-own w).1)
 
       pub alone-done : re ≡ oe → (sums' : List Float) → NarrowedPost own' want sums sums' → BooleanPost kids node postings positions norms ranges table a b base want sums depth (xs ++ drop re kids) sums'
       unfolding alone-add
@@ -129,14 +129,14 @@ module _ (kids : List ℕ) (node : Joined) (postings positions norms ranges : Li
     group-asked w =
         record {
           scorables = w.9.optional-scorables;
-          held = subst (λ (v : List ℕ). AllWindowed w.1 ranges w.5 depth v (optionalBound node.need (base + 64) base) base (λ p. ltb 0 node.need && bit p want)) (sym (mid-part w.9.x w.9.v w.6 kids re oe w.9.is (required-long w) (optional-long w))) w.9.optional;
+          held = subst (λ (v : List ℕ). AllWindowed w.1 ranges w.5 depth v (optional_bound node.need (base + 64) base) base (λ p. ltb 0 node.need && bit p want)) (sym (mid-part w.9.x w.9.v w.6 kids re oe w.9.is (required-long w) (optional-long w))) w.9.optional;
         }
 
     pub group-ask : Asks → OptionalPre group-parts node.need postings positions norms ranges table a b base want own depth
     group-ask w = (w.0, w.1, w.2, w.5, 0, w.8, group-asked w, zero-sums own own-zero)
 
     module _ (vs : List ℕ) (group : List Float) (post : OptionalPost group-parts node.need postings positions norms ranges table a b base want own depth vs group) where
-      group-own : (w : Asks) → AddedAll (λ p. optionalScores w.1 w.5 (base + p)) want own group × Sums (0 + nodesOf w.5) group × AllWindowed w.1 ranges w.5 depth vs (base + 64) (base + 64) nowhere
+      group-own : (w : Asks) → AddedAll (λ p. optional_scores w.1 w.5 (base + p)) want own group × Sums (0 + nodes_of w.5) group × AllWindowed w.1 ranges w.5 depth vs (base + 64) (base + 64) nowhere
       group-own w = post w.0 w.1 w.2 w.5 0 w.8 (group-asked w) (zero-sums own own-zero)
 
       abbrev pub kids₁ : List ℕ
@@ -146,7 +146,7 @@ module _ (kids : List ℕ) (node : Joined) (postings positions norms ranges : Li
       back w = mid_back w.9.x w.9.v w.6 kids re oe w.9.is (required-long w) (optional-long w) vs
 
       -- no required children: the group is the score
-      only-few : (w : Asks) → nodesOf w.5 ≤ 256
+      only-few : (w : Asks) → nodes_of w.5 ≤ 256
       only-few w = let f = w.9.few in omega (arith, f)
 
       pub only-score : re ≡ 0 → (w : Asks) (p : ℕ) → p < 64 → bit p want ≡ true → narrow (get_or group p nan) ≡ goal-score w p
@@ -155,9 +155,9 @@ module _ (kids : List ℕ) (node : Joined) (postings positions norms ranges : Li
           let ix = w.1 in
           let os = w.5 in
           let rs-none : w.4 ≡ end = none_left w.4 (sym w.9.required-end ∙ none) in
-          let g = group-is (optionalScores ix os (base + p)) (nodesOf os) (get_or group p nan) (narrow (get_or group p nan)) (only-few w) (summed own group own-zero want (λ i. optionalScores ix os (base + i)) r.0 (nodesOf os) r.1 p l e) refl in
+          let g = group-is (optional_scores ix os (base + p)) (nodes_of os) (get_or group p nan) (narrow (get_or group p nan)) (only-few w) (summed own group own-zero want (λ i. optional_scores ix os (base + i)) r.0 (nodes_of os) r.1 p l e) refl in
           (joined-only ix (base + p) os w.3 (narrow (get_or group p nan)) g.0 g.1).is
-          ∙ ap (λ (o : Scorers). joinedScore w.3 (requiredScores ix o (base + p)) (narrowedSum (optionalScores ix os (base + p)))) (sym rs-none)
+          ∙ ap (λ (o : Scorers). joined_score w.3 (required_scores ix o (base + p)) (narrowed_sum (optional_scores ix os (base + p)))) (sym rs-none)
 
       only-left : (w : Asks) → BooleanLeft w.1 ranges w.4 w.5 depth w.6 kids₁ base
       only-left w = record { x = w.9.x; v = vs; is = back w; required = required-left w; optional = (group-own w).2 }
@@ -167,8 +167,8 @@ module _ (kids : List ℕ) (node : Joined) (postings positions norms ranges : Li
 
       pub only-add : Asks → NarrowedPre group sums
       only-add w =
-          let r = nodesOf w.4 + nodesOf w.5 in
-          (w.7, r, (w.9.few, w.10), sums-more (0 + nodesOf w.5) r group (omega arith) (group-own w).1)
+          let r = nodes_of w.4 + nodes_of w.5 in
+          (w.7, r, (w.9.few, w.10), sums-more (0 + nodes_of w.5) r group (omega arith) (group-own w).1)
 
       pub only-done : re ≡ 0 → (sums' : List Float) → NarrowedPost group want sums sums' → BooleanPost kids node postings positions norms ranges table a b base want sums depth kids₁ sums'
       unfolding only-add
@@ -190,12 +190,12 @@ module _ (kids : List ℕ) (node : Joined) (postings positions norms ranges : Li
               required = record {
                 scorables = w.9.required-scorables;
                 match = w.9.match;
-                held = subst (λ (v : List ℕ). AllWindowed w.1 ranges w.4 depth v (base + 64) base (placesOf want)) (sym (front-part w.9.x (vs ++ w.6) kids₁ re (back w) (required-long w))) w.9.required;
+                held = subst (λ (v : List ℕ). AllWindowed w.1 ranges w.4 depth v (base + 64) base (places_of want)) (sym (front-part w.9.x (vs ++ w.6) kids₁ re (back w) (required-long w))) w.9.required;
               };
               few = w.9.few;
               joins = w.9.joins;
-              group-is = λ p l e. (summed own group own-zero want (λ i. optionalScores w.1 w.5 (base + i)) r.0 (nodesOf w.5) r.1 p l e).is;
-              group-sums = sums-more (0 + nodesOf w.5) (nodesOf w.5) group (omega arith) r.1;
+              group-is = λ p l e. (summed own group own-zero want (λ i. optional_scores w.1 w.5 (base + i)) r.0 (nodes_of w.5) r.1 p l e).is;
+              group-sums = sums-more (0 + nodes_of w.5) (nodes_of w.5) group (omega arith) r.1;
             }
 
         pub both-ask : Asks → GroupPre (take re kids₁) node group postings positions norms ranges table a' b' base want sums depth

@@ -4,15 +4,15 @@ use Rattle.std.proofs.Math.Seq.{take-length, drop-length}
 use Rattle.std.specs.Prelude.{Float}
 use Rattle.std.specs.Float.{nan, binary64}
 use Rattle.std.specs.Float.Ieee.{add}
-use Rattle.meaning.specs.Ieee754.{zeroFloat, narrow, sumFrom, narrowedSum}
+use Rattle.meaning.specs.Ieee754.{zero_float, narrow, sum_from, narrowed_sum}
 use Rattle.ieee754.specs.Nonneg.{AtMost}
 use Rattle.bits.specs.Bit.{bit}
-use Rattle.weight.specs.ScorerTree.{Scorers, Joining, oneMore, afterwards, scoring, requiredScores, optionalScores, joinedScore}
-use Rattle.weight.specs.State.{sizesOfFirst}
-use Rattle.weight.specs.Sound.{nodesOf}
+use Rattle.weight.specs.ScorerTree.{Scorers, Joining, one_more, afterwards, scoring, required_scores, optional_scores, joined_score}
+use Rattle.weight.specs.State.{sizes_of_first}
+use Rattle.weight.specs.Sound.{nodes_of}
 use Rattle.score.specs.Asked.{JoinsAt, SumIs}
 use Rattle.score.proofs.Join.{first_of, rest_of, first-sounds, first-tables, first-nodes, first_matches, group-is, joined-more, joined-after}
-use Rattle.window_words.specs.Windowed.{nowhere, placesOf, AllWindowed}
+use Rattle.window_words.specs.Windowed.{nowhere, places_of, AllWindowed}
 use Rattle.window_score.specs.declared.Joined.{Joined}
 use Rattle.window_score.specs.Sums.{Sums, Zeros, Added, AddedAll, NarrowedPre, NarrowedPost, JoinedPre, JoinedPost, AfterPre, AfterPost, NarrowedIs}
 use Rattle.window_score.specs.Asked.{RequiredAsked, RequiredPre, RequiredPost, GroupPre, GroupPost, RootGroupPre}
@@ -21,14 +21,14 @@ use Rattle.window_score.proofs.Required.{lent-at}
 use Rattle.window_score.proofs.Splits.{Split, all-split, all-join, zero-sums}
 
 -- which way the group joins
-no-after : (j : Joining) (rs : Scorers) (a b : ℕ) → JoinsAt j rs a b → (a ≡ 1 → ⊥) → (m : ℕ) × (j ≡ oneMore m) × (b ≡ sizesOfFirst m rs)
+no-after : (j : Joining) (rs : Scorers) (a b : ℕ) → JoinsAt j rs a b → (a ≡ 1 → ⊥) → (m : ℕ) × (j ≡ one_more m) × (b ≡ sizes_of_first m rs)
 unfolding JoinsAt
-no-after (oneMore m) rs a b p h = (m, refl, p.1)
+no-after (one_more m) rs a b p h = (m, refl, p.1)
 no-after afterwards rs a b p h = absurd (h p)
 
 is-after : (j : Joining) (rs : Scorers) (a b : ℕ) → JoinsAt j rs a b → a ≡ 1 → j ≡ afterwards
 unfolding JoinsAt
-is-after (oneMore m) rs a b p h = absurd (omega (arith, p.0, h))
+is-after (one_more m) rs a b p h = absurd (omega (arith, p.0, h))
 is-after afterwards rs a b p h = refl
 
 -- another score, the same at the wanted places
@@ -36,9 +36,9 @@ pub added-as : (f g : ℕ → Float) (want : ℕ) (sums sums' : List Float) → 
 added-as f g want sums sums' h a = record { wanted = λ p l e. a.wanted p l e ∙ ap (add binary64 (get_or sums p nan)) (h p l e); others = a.others }
 
 -- a sum that began at 0
-pub summed : (own own' : List Float) (z : Zeros own) (want : ℕ) (scores : ℕ → List Float) → AddedAll scores want own own' → (q : ℕ) → Sums (0 + q) own' → (p : ℕ) → p < 64 → bit p want ≡ true → SumIs zeroFloat (scores p) q (get_or own' p nan)
+pub summed : (own own' : List Float) (z : Zeros own) (want : ℕ) (scores : ℕ → List Float) → AddedAll scores want own own' → (q : ℕ) → Sums (0 + q) own' → (p : ℕ) → p < 64 → bit p want ≡ true → SumIs zero_float (scores p) q (get_or own' p nan)
 summed own own' z want scores a q s p l e =
-    record { is = a.wanted p l e ∙ ap (λ (x : Float). sumFrom x (scores p)) (z.zero p l); small = (sums-more (0 + q) q own' (omega arith) s).small p l }
+    record { is = a.wanted p l e ∙ ap (λ (x : Float). sum_from x (scores p)) (z.zero p l); small = (sums-more (0 + q) q own' (omega arith) s).small p l }
 
 -- ---- the parts behind a place, after those before it were put back
 rest-part : (xs kids : List ℕ) (at : ℕ) → at ≤ length kids → length xs ≡ length (take at kids) → take (length (xs ++ drop at kids) - at) (drop at (xs ++ drop at kids)) ≡ drop at kids
@@ -61,18 +61,18 @@ module _ (kids : List ℕ) (node : Joined) (group : List Float) (postings positi
   Asks = GroupPre kids node group postings positions norms ranges table a b base want sums depth
 
   abbrev goal-score : Asks → ℕ → Float
-  goal-score w p = joinedScore w.3 (requiredScores w.1 w.4 (base + p)) (narrowedSum (optionalScores w.1 w.5 (base + p)))
+  goal-score w p = joined_score w.3 (required_scores w.1 w.4 (base + p)) (narrowed_sum (optional_scores w.1 w.5 (base + p)))
 
   -- the group's score at a wanted place
   module _ (w : Asks) (p : ℕ) (l : p < 64) (e : bit p want ≡ true) where
-    os-few : nodesOf w.5 ≤ 256
+    os-few : nodes_of w.5 ≤ 256
     os-few = let f = w.8.few in omega (arith, f)
 
-    all-few : nodesOf w.4 + nodesOf w.5 ≤ 256
+    all-few : nodes_of w.4 + nodes_of w.5 ≤ 256
     all-few = let f = w.8.few in omega (arith, f)
 
-    group-at : (narrow (get_or group p nan) ≡ narrowedSum (optionalScores w.1 w.5 (base + p))) × AtMost (nodesOf w.5 * 2 ^ 29) (narrow (get_or group p nan))
-    group-at = group-is (optionalScores w.1 w.5 (base + p)) (nodesOf w.5) (get_or group p nan) (narrow (get_or group p nan)) os-few (record { is = w.8.group-is p l e; small = w.8.group-sums.small p l }) refl
+    group-at : (narrow (get_or group p nan) ≡ narrowed_sum (optional_scores w.1 w.5 (base + p))) × AtMost (nodes_of w.5 * 2 ^ 29) (narrow (get_or group p nan))
+    group-at = group-is (optional_scores w.1 w.5 (base + p)) (nodes_of w.5) (get_or group p nan) (narrow (get_or group p nan)) os-few (record { is = w.8.group-is p l e; small = w.8.group-sums.small p l }) refl
 
   module _ (own : List Float) (own-zero : Zeros own) where
     -- ---- the group joins after the required sum is narrowed
@@ -80,19 +80,19 @@ module _ (kids : List ℕ) (node : Joined) (group : List Float) (postings positi
     after-ask w = (w.0, w.1, w.2, w.4, 0, w.7, w.8.required, zero-sums own own-zero)
 
     module _ (kids' : List ℕ) (own' : List Float) (post : RequiredPost kids postings positions norms ranges table a b base want own depth kids' own') where
-      after-own : (w : Asks) → AddedAll (λ p. scoring (requiredScores w.1 w.4 (base + p))) want own own' × Sums (0 + nodesOf w.4) own' × AllWindowed w.1 ranges w.4 depth kids' (base + 64) (base + 64) nowhere
+      after-own : (w : Asks) → AddedAll (λ p. scoring (required_scores w.1 w.4 (base + p))) want own own' × Sums (0 + nodes_of w.4) own' × AllWindowed w.1 ranges w.4 depth kids' (base + 64) (base + 64) nowhere
       after-own w = post w.0 w.1 w.2 w.4 0 w.7 w.8.required (zero-sums own own-zero)
 
       pub after-join : Asks → JoinedPre own' group sums
-      after-join w = (w.6, nodesOf w.4, nodesOf w.5, (w.8.few, w.9), sums-more (0 + nodesOf w.4) (nodesOf w.4) own' (omega arith) (after-own w).1, w.8.group-sums)
+      after-join w = (w.6, nodes_of w.4, nodes_of w.5, (w.8.few, w.9), sums-more (0 + nodes_of w.4) (nodes_of w.4) own' (omega arith) (after-own w).1, w.8.group-sums)
 
       after-score : node.afterwards ≡ 1 → (w : Asks) (p : ℕ) → p < 64 → bit p want ≡ true → narrow (add binary64 (narrow (get_or own' p nan)) (narrow (get_or group p nan))) ≡ goal-score w p
       after-score after w p l e =
           let r = after-own w in
           let g = group-at w p l e in
           let two = add binary64 (narrow (get_or own' p nan)) (narrow (get_or group p nan)) in
-          (joined-after w.1 (base + p) w.4 w.5 (all-few w p l e) (narrow (get_or group p nan)) g.0 g.1 (get_or own' p nan) (narrow (get_or own' p nan)) two (narrow two) (summed own own' own-zero want (λ i. scoring (requiredScores w.1 w.4 (base + i))) r.0 (nodesOf w.4) r.1 p l e) refl refl refl).is
-          ∙ ap (λ (i : Joining). joinedScore i (requiredScores w.1 w.4 (base + p)) (narrowedSum (optionalScores w.1 w.5 (base + p)))) (sym (is-after w.3 w.4 node.afterwards node.group_at w.8.joins after))
+          (joined-after w.1 (base + p) w.4 w.5 (all-few w p l e) (narrow (get_or group p nan)) g.0 g.1 (get_or own' p nan) (narrow (get_or own' p nan)) two (narrow two) (summed own own' own-zero want (λ i. scoring (required_scores w.1 w.4 (base + i))) r.0 (nodes_of w.4) r.1 p l e) refl refl refl).is
+          ∙ ap (λ (i : Joining). joined_score i (required_scores w.1 w.4 (base + p)) (narrowed_sum (optional_scores w.1 w.5 (base + p)))) (sym (is-after w.3 w.4 node.afterwards node.group_at w.8.joins after))
 
       pub after-done : node.afterwards ≡ 1 → (sums' : List Float) → JoinedPost own' group want sums sums' → GroupPost kids node group postings positions norms ranges table a b base want sums depth kids' sums'
       unfolding after-join
@@ -104,7 +104,7 @@ module _ (kids : List ℕ) (node : Joined) (group : List Float) (postings positi
 
       -- at a root
       pub after-root-join : Asks → AfterPre group own'
-      after-root-join w = let f = w.8.few in (nodesOf w.4, nodesOf w.5, (omega (arith, f), sums-more (0 + nodesOf w.4) (nodesOf w.4) own' (omega arith) (after-own w).1), w.8.group-sums)
+      after-root-join w = let f = w.8.few in (nodes_of w.4, nodes_of w.5, (omega (arith, f), sums-more (0 + nodes_of w.4) (nodes_of w.4) own' (omega arith) (after-own w).1), w.8.group-sums)
 
       pub after-root : node.afterwards ≡ 1 → (own'' : List Float) → AfterPost group want own' own'' → (w : Asks) → NarrowedIs (goal-score w) want own own'' × AllWindowed w.1 ranges w.4 depth kids' (base + 64) (base + 64) nowhere
       after-root after own'' join w =
@@ -115,11 +115,11 @@ module _ (kids : List ℕ) (node : Joined) (group : List Float) (postings positi
       abbrev ga : ℕ
       ga = node.group_at
 
-      m-of : (w : Asks) → (m : ℕ) × (w.3 ≡ oneMore m) × (ga ≡ sizesOfFirst m w.4)
+      m-of : (w : Asks) → (m : ℕ) × (w.3 ≡ one_more m) × (ga ≡ sizes_of_first m w.4)
       m-of w = no-after w.3 w.4 node.afterwards ga w.8.joins other
 
-      abbrev cut : (w : Asks) → Split w.1 ranges depth (m-of w).0 w.4 kids (base + 64) base (placesOf want)
-      cut w = all-split w.1 ranges depth (m-of w).0 w.4 kids (base + 64) base (placesOf want) w.8.required.held
+      abbrev cut : (w : Asks) → Split w.1 ranges depth (m-of w).0 w.4 kids (base + 64) base (places_of want)
+      cut w = all-split w.1 ranges depth (m-of w).0 w.4 kids (base + 64) base (places_of want) w.8.required.held
 
       at-cut : (w : Asks) → length (cut w).x ≡ ga
       at-cut w = (cut w).place ∙ sym (m-of w).2
@@ -140,28 +140,28 @@ module _ (kids : List ℕ) (node : Joined) (group : List Float) (postings positi
           record {
             scorables = record { sound = (first-sounds w.1 w.2 m w.4 s.sound).0; tables = (first-tables w.1 table m w.4 s.tables).0; few = omega (arith, s.few, first-nodes m w.4) };
             match = λ p l e. (first_matches w.1 (base + p) m w.4 (w.8.required.match p l e)).0;
-            held = subst (λ (v : List ℕ). AllWindowed w.1 ranges (first_of m w.4) depth v (base + 64) base (placesOf want)) (sym (front-is w)) (cut w).first;
+            held = subst (λ (v : List ℕ). AllWindowed w.1 ranges (first_of m w.4) depth v (base + 64) base (places_of want)) (sym (front-is w)) (cut w).first;
           }
 
       pub front-ask : Asks → RequiredPre (take ga kids) postings positions norms ranges table a b base want own depth
       front-ask w = (w.0, w.1, w.2, first_of (m-of w).0 w.4, 0, w.7, front-asked w, zero-sums own own-zero)
 
       module _ (xs : List ℕ) (own₁ : List Float) (long : length xs ≡ length (take ga kids)) (post₁ : RequiredPost (take ga kids) postings positions norms ranges table a b base want own depth xs own₁) where
-        front-own : (w : Asks) → AddedAll (λ p. scoring (requiredScores w.1 (first_of (m-of w).0 w.4) (base + p))) want own own₁ × Sums (0 + nodesOf (first_of (m-of w).0 w.4)) own₁ × AllWindowed w.1 ranges (first_of (m-of w).0 w.4) depth xs (base + 64) (base + 64) nowhere
+        front-own : (w : Asks) → AddedAll (λ p. scoring (required_scores w.1 (first_of (m-of w).0 w.4) (base + p))) want own own₁ × Sums (0 + nodes_of (first_of (m-of w).0 w.4)) own₁ × AllWindowed w.1 ranges (first_of (m-of w).0 w.4) depth xs (base + 64) (base + 64) nowhere
         front-own w = post₁ w.0 w.1 w.2 (first_of (m-of w).0 w.4) 0 w.7 (front-asked w) (zero-sums own own-zero)
 
         pub group-add : Asks → NarrowedPre group own₁
         group-add w =
-            let F = nodesOf (first_of (m-of w).0 w.4) in
+            let F = nodes_of (first_of (m-of w).0 w.4) in
             let f = w.8.few in
-            (F, nodesOf w.5, (omega (arith, f, first-nodes (m-of w).0 w.4), sums-more (0 + F) F own₁ (omega arith) (front-own w).1), w.8.group-sums)
+            (F, nodes_of w.5, (omega (arith, f, first-nodes (m-of w).0 w.4), sums-more (0 + F) F own₁ (omega arith) (front-own w).1), w.8.group-sums)
 
         module _ (own₂ : List Float) (post₂ : NarrowedPost group want own₁ own₂) where
-          group-own : (w : Asks) → Added (λ p. narrow (get_or group p nan)) want own₁ own₂ × Sums (nodesOf (first_of (m-of w).0 w.4) + nodesOf w.5) own₂
+          group-own : (w : Asks) → Added (λ p. narrow (get_or group p nan)) want own₁ own₂ × Sums (nodes_of (first_of (m-of w).0 w.4) + nodes_of w.5) own₂
           unfolding group-add
           group-own w = let G = group-add w in post₂ G.0 G.1 G.2 G.3
 
-          rest-asked : (w : Asks) → RequiredAsked w.1 ranges table w.2 (rest_of (m-of w).0 w.4) depth (take (length (xs ++ drop ga kids) - ga) (drop ga (xs ++ drop ga kids))) base want (nodesOf (first_of (m-of w).0 w.4) + nodesOf w.5)
+          rest-asked : (w : Asks) → RequiredAsked w.1 ranges table w.2 (rest_of (m-of w).0 w.4) depth (take (length (xs ++ drop ga kids) - ga) (drop ga (xs ++ drop ga kids))) base want (nodes_of (first_of (m-of w).0 w.4) + nodes_of w.5)
           rest-asked w =
               let m = (m-of w).0 in
               let s = w.8.required.scorables in
@@ -169,7 +169,7 @@ module _ (kids : List ℕ) (node : Joined) (group : List Float) (postings positi
               record {
                 scorables = record { sound = (first-sounds w.1 w.2 m w.4 s.sound).1; tables = (first-tables w.1 table m w.4 s.tables).1; few = omega (arith, f, first-nodes m w.4) };
                 match = λ p l e. (first_matches w.1 (base + p) m w.4 (w.8.required.match p l e)).1;
-                held = subst (λ (v : List ℕ). AllWindowed w.1 ranges (rest_of m w.4) depth v (base + 64) base (placesOf want)) (sym (rest-part xs kids ga (cut-fits w) long ∙ back-is w)) (cut w).rest;
+                held = subst (λ (v : List ℕ). AllWindowed w.1 ranges (rest_of m w.4) depth v (base + 64) base (places_of want)) (sym (rest-part xs kids ga (cut-fits w) long ∙ back-is w)) (cut w).rest;
               }
 
           abbrev y : List ℕ
@@ -177,18 +177,18 @@ module _ (kids : List ℕ) (node : Joined) (group : List Float) (postings positi
 
           module _ (a' b' : ℕ) (same-a : a' ≡ a) (same-b : b' ≡ b) where
             pub rest-ask : Asks → RequiredPre y postings positions norms ranges table a' b' base want own₂ depth
-            rest-ask w = (w.0, w.1, w.2, rest_of (m-of w).0 w.4, nodesOf (first_of (m-of w).0 w.4) + nodesOf w.5, lent-at a' b' want same-a same-b (λ p l e. e) w.7, rest-asked w, (group-own w).1)
+            rest-ask w = (w.0, w.1, w.2, rest_of (m-of w).0 w.4, nodes_of (first_of (m-of w).0 w.4) + nodes_of w.5, lent-at a' b' want same-a same-b (λ p l e. e) w.7, rest-asked w, (group-own w).1)
 
             module _ (ys : List ℕ) (own₃ : List Float) (post₃ : RequiredPost y postings positions norms ranges table a' b' base want own₂ depth ys own₃) where
-              rest-own : (w : Asks) → AddedAll (λ p. scoring (requiredScores w.1 (rest_of (m-of w).0 w.4) (base + p))) want own₂ own₃ × Sums (nodesOf (first_of (m-of w).0 w.4) + nodesOf w.5 + nodesOf (rest_of (m-of w).0 w.4)) own₃ × AllWindowed w.1 ranges (rest_of (m-of w).0 w.4) depth ys (base + 64) (base + 64) nowhere
+              rest-own : (w : Asks) → AddedAll (λ p. scoring (required_scores w.1 (rest_of (m-of w).0 w.4) (base + p))) want own₂ own₃ × Sums (nodes_of (first_of (m-of w).0 w.4) + nodes_of w.5 + nodes_of (rest_of (m-of w).0 w.4)) own₃ × AllWindowed w.1 ranges (rest_of (m-of w).0 w.4) depth ys (base + 64) (base + 64) nowhere
               unfolding rest-ask
               rest-own w = let R = rest-ask w in post₃ R.0 R.1 R.2 R.3 R.4 R.5 R.6 R.7
 
               pub own-add : Asks → NarrowedPre own₃ sums
               own-add w =
                   let m = (m-of w).0 in
-                  let all = nodesOf (first_of m w.4) + nodesOf w.5 + nodesOf (rest_of m w.4) in
-                  let r = nodesOf w.4 + nodesOf w.5 in
+                  let all = nodes_of (first_of m w.4) + nodes_of w.5 + nodes_of (rest_of m w.4) in
+                  let r = nodes_of w.4 + nodes_of w.5 in
                   (w.6, r, (w.8.few, w.9), sums-more all r own₃ (omega (arith, first-nodes m w.4)) (rest-own w).1)
 
               more-score : (w : Asks) (p : ℕ) → p < 64 → bit p want ≡ true → narrow (get_or own₃ p nan) ≡ goal-score w p
@@ -200,11 +200,11 @@ module _ (kids : List ℕ) (node : Joined) (group : List Float) (postings positi
                   let R = rest-own w in
                   let g = group-at w p l e in
                   (joined-more ix (base + p) rs w.5 (all-few w p l e) (narrow (get_or group p nan)) g.0 g.1 m.0 (get_or own₁ p nan) (get_or own₂ p nan) (get_or own₃ p nan) (narrow (get_or own₃ p nan))
-                  (summed own own₁ own-zero want (λ i. scoring (requiredScores ix (first_of m.0 rs) (base + i))) F.0 (nodesOf (first_of m.0 rs)) F.1 p l e)
+                  (summed own own₁ own-zero want (λ i. scoring (required_scores ix (first_of m.0 rs) (base + i))) F.0 (nodes_of (first_of m.0 rs)) F.1 p l e)
                   ((group-own w).0.wanted p l e)
                   (record { is = R.0.wanted p l e; small = R.1.small p l })
                   refl).is
-                  ∙ ap (λ (i : Joining). joinedScore i (requiredScores ix rs (base + p)) (narrowedSum (optionalScores ix w.5 (base + p)))) (sym m.1)
+                  ∙ ap (λ (i : Joining). joined_score i (required_scores ix rs (base + p)) (narrowed_sum (optional_scores ix w.5 (base + p)))) (sym m.1)
 
               more-left : (w : Asks) → AllWindowed w.1 ranges w.4 depth (put (xs ++ drop ga kids) ga (length (xs ++ drop ga kids)) ys) (base + 64) (base + 64) nowhere
               more-left w = subst (λ (l : List ℕ). AllWindowed w.1 ranges w.4 depth l (base + 64) (base + 64) nowhere) (sym (rest-back xs ys kids ga (cut-fits w) long)) (all-join w.1 ranges depth (m-of w).0 w.4 xs ys (base + 64) (base + 64) nowhere (front-own w).2 (rest-own w).2)

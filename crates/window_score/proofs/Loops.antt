@@ -4,18 +4,18 @@ use Rattle.std.proofs.Common.{◌≡◌, refl, sym, ap, ◌∙◌, Bool, true, f
 use Rattle.std.specs.Prelude.{Float}
 use Rattle.std.specs.Float.{nan, binary64}
 use Rattle.std.specs.Float.Ieee.{add}
-use Rattle.meaning.specs.Limits.{nodeStateWords}
+use Rattle.meaning.specs.Limits.{node_state_words}
 use Rattle.meaning.specs.Lent.{Index}
-use Rattle.meaning.specs.Ieee754.{sumFrom}
+use Rattle.meaning.specs.Ieee754.{sum_from}
 use Rattle.bits.specs.Bit.{bit}
 use Rattle.bits.proofs.Laws.{bit-zero}
-use Rattle.weight.specs.ScorerTree.{Scorer, Scorers, end, more, matches, scorerScore}
-use Rattle.weight.specs.Sound.{Sounds, TablesOf, nodes, nodesOf}
+use Rattle.weight.specs.ScorerTree.{Scorer, Scorers, end, more, matches, scorer_score}
+use Rattle.weight.specs.Sound.{Sounds, TablesOf, nodes, nodes_of}
 use Rattle.leaf_score.specs.Asked.{Scorable}
 use Rattle.leaf_score.proofs.Bounds.{scores-more}
 use Rattle.score.proofs.Sums.{counted, Matched}
 use Rattle.window_words.specs.Windowed.{Places, nowhere, joined, Windowed, AllWindowed}
-use Rattle.window_words.proofs.Laws.{kindOf, windowed-long, windowed-size, windowed-kind, windowed-scores, windowed-bits}
+use Rattle.window_words.proofs.Laws.{kind_of, windowed-long, windowed-size, windowed-kind, windowed-scores, windowed-bits}
 use Rattle.window_words.proofs.Parts.{Part, Asked, all-each, each-all, Zip, zip-start, zip-none, zip-end, view, word-at, word-first, part-held, zip-next}
 use Rattle.window_score.specs.Words.{ChildThere}
 use Rattle.window_score.specs.Sums.{Sums, At, Added}
@@ -29,10 +29,10 @@ pub added-none : (score : ℕ → Float) (want : ℕ) (sums : List Float) → wa
 added-none score want sums none = record { wanted = λ p l e. absurd (false≢true (sym (bit-zero p) ∙ ap (λ (w : ℕ). bit p w) (sym none) ∙ e)); others = λ p l e. refl }
 
 -- a child's score, where it counts, is no longer left
-left-step : (c : Bool) (s s' y : Float) (xs : List Float) (total : Float) → (c ≡ true → s' ≡ add binary64 s y) → (c ≡ false → s' ≡ s) → sumFrom s (cond c (y ∷ []) [] ++ xs) ≡ total → sumFrom s' xs ≡ total
-unfolding sumFrom
-left-step true s s' y xs total h k e = ap (λ (z : Float). sumFrom z xs) (h refl) ∙ e
-left-step false s s' y xs total h k e = ap (λ (z : Float). sumFrom z xs) (k refl) ∙ e
+left-step : (c : Bool) (s s' y : Float) (xs : List Float) (total : Float) → (c ≡ true → s' ≡ add binary64 s y) → (c ≡ false → s' ≡ s) → sum_from s (cond c (y ∷ []) [] ++ xs) ≡ total → sum_from s' xs ≡ total
+unfolding sum_from
+left-step true s s' y xs total h k e = ap (λ (z : Float). sum_from z xs) (h refl) ∙ e
+left-step false s s' y xs total h k e = ap (λ (z : Float). sum_from z xs) (k refl) ∙ e
 
 -- another part in the place of the one at at
 abbrev pub put : List ℕ → ℕ → ℕ → List ℕ → List ℕ
@@ -64,16 +64,16 @@ Passed F = Asked F.ix F.ranges F.depth (F.base + 64) (F.base + 64) nowhere
 -- its state: g are the children that are left, and the scores of those passed stand in the sums
 pub record Walk (F : Frame) (g : Scorers) (kids : List ℕ) (at : ℕ) (sums : List Float) : Type 0 where
   pub zip : Zip (Left F) (Passed F) F.all g kids at
-  pub left : (p : ℕ) → p < 64 → bit p F.want ≡ true → sumFrom (get_or sums p nan) (counted (F.counts p) F.ix g (F.base + p)) ≡ sumFrom (get_or F.start p nan) (counted (F.counts p) F.ix F.all (F.base + p))
+  pub left : (p : ℕ) → p < 64 → bit p F.want ≡ true → sum_from (get_or sums p nan) (counted (F.counts p) F.ix g (F.base + p)) ≡ sum_from (get_or F.start p nan) (counted (F.counts p) F.ix F.all (F.base + p))
   pub others : (p : ℕ) → p < 64 → bit p F.want ≡ false → get_or sums p nan ≡ get_or F.start p nan
   pub q : ℕ
   pub small : Sums q sums
-  pub few : q + nodesOf g ≤ F.most
+  pub few : q + nodes_of g ≤ F.most
   pub sound : Sounds F.ix F.places g
   pub tables : TablesOf F.ix F.table g
   pub matched : (p : ℕ) → p < 64 → bit p F.want ≡ true → Matched (F.counts p) F.ix g (F.base + p)
 
-pub walk-start : (F : Frame) (kids : List ℕ) (q : ℕ) → q + nodesOf F.all ≤ F.most → AllWindowed F.ix F.ranges F.all F.depth kids F.bound F.base F.asked → Sums q F.start → Sounds F.ix F.places F.all → TablesOf F.ix F.table F.all → ((p : ℕ) → p < 64 → bit p F.want ≡ true → Matched (F.counts p) F.ix F.all (F.base + p)) → Walk F F.all kids 0 F.start
+pub walk-start : (F : Frame) (kids : List ℕ) (q : ℕ) → q + nodes_of F.all ≤ F.most → AllWindowed F.ix F.ranges F.all F.depth kids F.bound F.base F.asked → Sums q F.start → Sounds F.ix F.places F.all → TablesOf F.ix F.table F.all → ((p : ℕ) → p < 64 → bit p F.want ≡ true → Matched (F.counts p) F.ix F.all (F.base + p)) → Walk F F.all kids 0 F.start
 walk-start F kids q few o s h t m =
     record {
       zip = zip-start (all-each F.ix F.ranges F.all F.depth kids F.bound F.base F.asked o);
@@ -89,7 +89,7 @@ walk-start F kids q few o s h t m =
 
 -- the end of it
 pub record Ended (F : Frame) (kids : List ℕ) (sums : List Float) : Type 0 where
-  pub added : At (λ p x. sumFrom x (counted (F.counts p) F.ix F.all (F.base + p))) F.want F.start sums
+  pub added : At (λ p x. sum_from x (counted (F.counts p) F.ix F.all (F.base + p))) F.want F.start sums
   pub small : Sums F.most sums
   pub parts : AllWindowed F.ix F.ranges F.all F.depth kids (F.base + 64) (F.base + 64) nowhere
 
@@ -100,7 +100,7 @@ module _ {F : Frame} {kids : List ℕ} {at : ℕ} {sums : List Float} where
   walk-open (more f T g) w l = (f, T, g, w)
 
   pub walk-end : (g : Scorers) → Walk F g kids at sums → length kids ≤ at → Ended F kids sums
-  unfolding counted sumFrom nodesOf
+  unfolding counted sum_from nodes_of
   walk-end end w l =
       record {
         added = record { wanted = w.left; others = w.others };
@@ -112,7 +112,7 @@ module _ {F : Frame} {kids : List ℕ} {at : ℕ} {sums : List Float} where
       absurd (omega (arith, l, v.fits, windowed-long F.ix F.ranges T F.depth (cond f 1 0) v.y F.bound F.base F.asked v.part-is))
 
   module _ {f : Bool} {T : Scorer} {g : Scorers} (w : Walk F (more f T g) kids at sums) where
-    long : nodeStateWords ≤ length (view w.zip).y
+    long : node_state_words ≤ length (view w.zip).y
     long = let v = view w.zip in windowed-long F.ix F.ranges T F.depth (cond f 1 0) v.y F.bound F.base F.asked v.part-is
 
     size : get_or kids (at + 1) 0 ≡ length (view w.zip).y
@@ -123,7 +123,7 @@ module _ {F : Frame} {kids : List ℕ} {at : ℕ} {sums : List Float} where
     pub walk-there : ChildThere kids at
     walk-there = record { long = omega (arith, size, long); fits = omega (arith, size, (view w.zip).fits) }
 
-    pub walk-kind : get_or kids at 0 ≡ kindOf T
+    pub walk-kind : get_or kids at 0 ≡ kind_of T
     walk-kind =
         let v = view w.zip in
         word-first v (omega (arith, long)) ∙ windowed-kind F.ix F.ranges T F.depth (cond f 1 0) v.y F.bound F.base F.asked v.part-is
@@ -139,11 +139,11 @@ module _ {F : Frame} {kids : List ℕ} {at : ℕ} {sums : List Float} where
         rw (word-at v 20 (omega (arith, long)), word-at v 21 (omega (arith, long))) (windowed-bits F.ix F.ranges T F.depth (cond f 1 0) v.y F.bound F.base F.asked v.part-is p l e)
 
     pub walk-scorable : F.most ≤ 256 → Scorable F.ix F.table F.places T
-    unfolding Sounds TablesOf nodesOf
+    unfolding Sounds TablesOf nodes_of
     walk-scorable h = record { sound = w.sound.0; tables = w.tables.0; few = omega (arith, w.few, h) }
 
     pub walk-few : F.most ≤ 256 → w.q + nodes T ≤ 256
-    unfolding nodesOf
+    unfolding nodes_of
     walk-few h = omega (arith, w.few, h)
 
     pub walk-matched : (p : ℕ) → p < 64 → bit p F.want ≡ true → F.counts p f T ≡ true → matches F.ix T (F.base + p) ≡ true
@@ -155,12 +155,12 @@ module _ {F : Frame} {kids : List ℕ} {at : ℕ} {sums : List Float} where
       walk-part = part-held (view w.zip) e (stop ∙ ap (λ (n : ℕ). at + n) size)
 
       -- on to the next child, after the scores of this one were added where it counts
-      pub walk-took : (x : ℕ) (sums' : List Float) → ((p : ℕ) → p < 64 → bit p F.want ≡ true → bit p x ≡ F.counts p f T) → ((p : ℕ) → p < 64 → bit p F.want ≡ false → bit p x ≡ false) → Added (λ p. scorerScore F.ix T (F.base + p)) x sums sums' → Sums (w.q + nodes T) sums' → (ys : List ℕ) → length ys ≡ length (take (e - at) (drop at kids)) → Windowed F.ix F.ranges T F.depth (cond f 1 0) ys (F.base + 64) (F.base + 64) nowhere → Walk F g (put kids at e ys) e sums'
-      unfolding Sounds TablesOf nodesOf Matched counted
+      pub walk-took : (x : ℕ) (sums' : List Float) → ((p : ℕ) → p < 64 → bit p F.want ≡ true → bit p x ≡ F.counts p f T) → ((p : ℕ) → p < 64 → bit p F.want ≡ false → bit p x ≡ false) → Added (λ p. scorer_score F.ix T (F.base + p)) x sums sums' → Sums (w.q + nodes T) sums' → (ys : List ℕ) → length ys ≡ length (take (e - at) (drop at kids)) → Windowed F.ix F.ranges T F.depth (cond f 1 0) ys (F.base + 64) (F.base + 64) nowhere → Walk F g (put kids at e ys) e sums'
+      unfolding Sounds TablesOf nodes_of Matched counted
       walk-took x sums' counts out added small ys len q =
           record {
             zip = zip-next (view w.zip) e (stop ∙ ap (λ (n : ℕ). at + n) size) ys len q;
-            left = λ p l i. left-step (F.counts p f T) (get_or sums p nan) (get_or sums' p nan) (scorerScore F.ix T (F.base + p)) (counted (F.counts p) F.ix g (F.base + p)) (sumFrom (get_or F.start p nan) (counted (F.counts p) F.ix F.all (F.base + p))) (λ c. added.wanted p l (counts p l i ∙ c)) (λ c. added.others p l (counts p l i ∙ c)) (w.left p l i);
+            left = λ p l i. left-step (F.counts p f T) (get_or sums p nan) (get_or sums' p nan) (scorer_score F.ix T (F.base + p)) (counted (F.counts p) F.ix g (F.base + p)) (sum_from (get_or F.start p nan) (counted (F.counts p) F.ix F.all (F.base + p))) (λ c. added.wanted p l (counts p l i ∙ c)) (λ c. added.others p l (counts p l i ∙ c)) (w.left p l i);
             others = λ p l i. added.others p l (out p l i) ∙ w.others p l i;
             q = w.q + nodes T;
             small = small;

@@ -7,21 +7,21 @@ use Rattle.std.proofs.lemmas.Bool.{false≢true, and_parts}
 use Rattle.std.specs.Prelude.{Float}
 use Rattle.std.specs.Float.{nan, binary32}
 use Rattle.std.specs.Float.Ieee.{of_bits, nan_bits}
-use Rattle.meaning.specs.Limits.{nodeStateWords}
+use Rattle.meaning.specs.Limits.{node_state_words}
 use Rattle.meaning.specs.Lent.{Index}
-use Rattle.meaning.specs.Ieee754.{zeroFloat, narrowedSum}
+use Rattle.meaning.specs.Ieee754.{zero_float, narrowed_sum}
 use Rattle.ieee754.specs.Nonneg.{AtMost}
 use Rattle.ieee754.proofs.Bounds.{zero-atmost}
 use Rattle.bits.specs.Bit.{bit}
-use Rattle.weight.specs.ScorerTree.{nothing, term, phrase, range, everything, constant, weighted, Joining, oneMore, afterwards, Scorer, leaf, boolean, Scorers, matches, allMatch, anyMatches, matching, leafScore, scorerScore, requiredScores, optionalScores, joinedScore}
+use Rattle.weight.specs.ScorerTree.{nothing, term, phrase, range, everything, constant, weighted, Joining, one_more, afterwards, Scorer, leaf, boolean, Scorers, matches, all_match, any_matches, matching, leaf_score, scorer_score, required_scores, optional_scores, joined_score}
 use Rattle.weight.specs.State.{State, words_of}
 use Rattle.weight.specs.Held.{FloatIs, ScoringIs, KeptIs, JoiningIs}
-use Rattle.weight.specs.Sound.{Sound, Tables, nodes, nodesOf}
+use Rattle.weight.specs.Sound.{Sound, Tables, nodes, nodes_of}
 use Rattle.leaf_score.proofs.Bounds.{scores-more, zero-32}
 use Rattle.leaf_score.proofs.Weights.{float_back, float-number}
 use Rattle.score.specs.Asked.{JoinsAt}
-use Rattle.window_words.specs.Windowed.{Places, nowhere, placesOf, requiredPlaces, optionalPlaces, optionalBound, Windowed, AllWindowed}
-use Rattle.window_words.proofs.Laws.{kindOf, windowed-ok, windowed-long, windowed-kind, windowed-forget, all-less, all-forget}
+use Rattle.window_words.specs.Windowed.{Places, nowhere, places_of, required_places, optional_places, optional_bound, Windowed, AllWindowed}
+use Rattle.window_words.proofs.Laws.{kind_of, windowed-ok, windowed-long, windowed-kind, windowed-forget, all-less, all-forget}
 use Rattle.window_score.specs.declared.Joined.{Joined}
 use Rattle.window_score.specs.Words.{JoinedIs}
 use Rattle.window_score.specs.Sums.{ConstantPre, ConstantPost}
@@ -36,10 +36,10 @@ use Rattle.score.proofs.Small.{ok-weighted}
 -- a score that is the same for each document
 record Same (ix : Index) (S : Scorer) (bits : ℕ) : Type 0 where
   number : T (not (nan_bits binary32 bits))
-  is : (d : ℕ) → of_bits binary32 bits ≡ scorerScore ix S d
+  is : (d : ℕ) → of_bits binary32 bits ≡ scorer_score ix S d
   small : AtMost (nodes S * 2 ^ 29) (of_bits binary32 bits)
 
-float-same : (ix : Index) (S : Scorer) (c : Float) (bits : ℕ) → FloatIs c bits → 1 ≤ nodes S → ((d : ℕ) → scorerScore ix S d ≡ c) → Same ix S bits
+float-same : (ix : Index) (S : Scorer) (c : Float) (bits : ℕ) → FloatIs c bits → 1 ≤ nodes S → ((d : ℕ) → scorer_score ix S d ≡ c) → Same ix S bits
 float-same ix S c bits f n e =
     record {
       number = float-number c bits f;
@@ -48,7 +48,7 @@ float-same ix S c bits f n e =
     }
 
 same-at : (ix : Index) (R : List ℕ) (S : Scorer) (k o : ℕ) (y : List ℕ) (b base : ℕ) (D : Places) → Windowed ix R S k o y b base D → get_or y 11 0 ≡ 1 → Same ix S (get_or y 12 0)
-unfolding Windowed ScoringIs KeptIs scorerScore leafScore nodes
+unfolding Windowed ScoringIs KeptIs scorer_score leaf_score nodes
 same-at ix R (leaf l (constant c)) k o y b base D p e =
     let f : FloatIs c (get_or y 12 0) = subst (λ (w : List ℕ). FloatIs c (get_or w 12 0)) (sym p.2) p.5.1 in
     float-same ix (leaf l (constant c)) c (get_or y 12 0) f (omega arith) (λ d. refl)
@@ -59,8 +59,8 @@ same-at ix R (boolean (some c) j need rs os ps) k o y b base D p e =
     float-same ix (boolean (some c) j need rs os ps) c (get_or y 12 0) f (omega arith) (λ d. refl)
 
 -- a leaf that is neither a term nor a phrase gives 0
-zero-at : (ix : Index) (R : List ℕ) (S : Scorer) (k o : ℕ) (y : List ℕ) (b base : ℕ) (D : Places) → Windowed ix R S k o y b base D → (get_or y 11 0 ≡ 1 → ⊥) → (kindOf S ≡ 1 → ⊥) → (kindOf S ≡ 2 → ⊥) → (kindOf S ≡ 3 → ⊥) → ((d : ℕ) → zeroFloat ≡ scorerScore ix S d) × (1 ≤ nodes S)
-unfolding Windowed ScoringIs scorerScore leafScore nodes kindOf
+zero-at : (ix : Index) (R : List ℕ) (S : Scorer) (k o : ℕ) (y : List ℕ) (b base : ℕ) (D : Places) → Windowed ix R S k o y b base D → (get_or y 11 0 ≡ 1 → ⊥) → (kind_of S ≡ 1 → ⊥) → (kind_of S ≡ 2 → ⊥) → (kind_of S ≡ 3 → ⊥) → ((d : ℕ) → zero_float ≡ scorer_score ix S d) × (1 ≤ nodes S)
+unfolding Windowed ScoringIs scorer_score leaf_score nodes kind_of
 zero-at ix R (leaf l (constant c)) k o y b base D p h t f g = absurd (h (ap (λ (w : List ℕ). get_or w 11 0) p.2 ∙ p.5.0))
 zero-at ix R (leaf nothing (weighted w)) k o y b base D p h t f g = ((λ d. refl), omega arith)
 zero-at ix R (leaf (term l) (weighted w)) k o y b base D p h t f g = absurd (t refl)
@@ -78,9 +78,9 @@ weighted-at ix R (boolean none j need rs os ps) k o y b base D p h = ap (λ (w :
 weighted-at ix R (boolean (some c) j need rs os ps) k o y b base D p h = absurd (h (ap (λ (w : List ℕ). get_or w 11 0) p.4 ∙ p.7.kept.0))
 
 -- ---- a Boolean
-joins_at : (j : Joining) (rs : Scorers) (s : State) (a b : ℕ) → a ≡ s.afterwards → b ≡ s.groupAt → JoiningIs j rs s → JoinsAt j rs a b
+joins_at : (j : Joining) (rs : Scorers) (s : State) (a b : ℕ) → a ≡ s.afterwards → b ≡ s.group_at → JoiningIs j rs s → JoinsAt j rs a b
 unfolding JoiningIs JoinsAt
-joins_at (oneMore n) rs s a b e f p = (e ∙ p.0, f ∙ p.1)
+joins_at (one_more n) rs s a b e f p = (e ∙ p.0, f ∙ p.1)
 joins_at afterwards rs s a b e f p = e ∙ p
 
 both-true : (a b : Bool) → a ≡ true → b ≡ true → a && b ≡ true
@@ -92,7 +92,7 @@ bound-same false b = refl
 
 module _ (ix : Index) (ranges : List ℕ) (table : List Float) (places k o : ℕ) (st : List ℕ) (base want q : ℕ) (n : Joined) (N : JoinedIs st n) where
   abbrev kids : List ℕ
-  kids = take (length st - nodeStateWords) (drop nodeStateWords st)
+  kids = take (length st - node_state_words) (drop node_state_words st)
 
   record BooleanAt (S : Scorer) : Type 0 where
     j : Joining
@@ -101,12 +101,12 @@ module _ (ix : Index) (ranges : List ℕ) (table : List Float) (places k o : ℕ
     rest : List ℕ
     deep : 0 < k
     asked : BooleanAsked ix ranges table places j rs os n (k - 1) rest kids base want q
-    score : (d : ℕ) → joinedScore j (requiredScores ix rs d) (narrowedSum (optionalScores ix os d)) ≡ scorerScore ix S d
-    fewer : nodesOf rs + nodesOf os ≤ nodes S
-    done : (kids' : List ℕ) → BooleanLeft ix ranges rs os (k - 1) rest kids' base → Windowed ix ranges S k o (put st nodeStateWords (length st) kids') (base + 64) (base + 64) nowhere
+    score : (d : ℕ) → joined_score j (required_scores ix rs d) (narrowed_sum (optional_scores ix os d)) ≡ scorer_score ix S d
+    fewer : nodes_of rs + nodes_of os ≤ nodes S
+    done : (kids' : List ℕ) → BooleanLeft ix ranges rs os (k - 1) rest kids' base → Windowed ix ranges S k o (put st node_state_words (length st) kids') (base + 64) (base + 64) nowhere
 
-  boolean-at : (S : Scorer) → NodeAsked ix ranges table places S k o st base want q → kindOf S ≡ 3 → (get_or st 11 0 ≡ 1 → ⊥) → BooleanAt S
-  unfolding Windowed KeptIs scorerScore nodes matches Sound Tables kindOf
+  boolean-at : (S : Scorer) → NodeAsked ix ranges table places S k o st base want q → kind_of S ≡ 3 → (get_or st 11 0 ≡ 1 → ⊥) → BooleanAt S
+  unfolding Windowed KeptIs scorer_score nodes matches Sound Tables kind_of
   boolean-at (leaf nothing c) A e h = absurd (omega (arith, e))
   boolean-at (leaf (term l) c) A e h = absurd (omega (arith, e))
   boolean-at (leaf (phrase f ts) c) A e h = absurd (omega (arith, e))
@@ -117,10 +117,10 @@ module _ (ix : Index) (ranges : List ℕ) (table : List Float) (places k o : ℕ
       let S : Scorer = boolean none j need rs os ps in
       let p = A.held in
       let w : List ℕ = p.1 ++ (p.2 ++ p.3) in
-      let len : length st - nodeStateWords ≡ length w = omega (arith, ap length p.4) in
+      let len : length st - node_state_words ≡ length w = omega (arith, ap length p.4) in
       let same : kids ≡ w = rw (len, p.4, take-length) in
       let need-is : need ≡ n.need = sym (N.need-is ∙ ap (λ (l : List ℕ). get_or l 3 0) p.4 ∙ p.7.need-is) in
-      let os-at : AllWindowed ix ranges os (k - 1) p.2 (optionalBound need (base + 64) base) base (λ i. ltb 0 need && bit i want) = all-less ix ranges os (k - 1) p.2 (optionalBound need (base + 64) base) base (optionalPlaces ix S need base (placesOf want)) (λ i. ltb 0 need && bit i want)
+      let os-at : AllWindowed ix ranges os (k - 1) p.2 (optional_bound need (base + 64) base) base (λ i. ltb 0 need && bit i want) = all-less ix ranges os (k - 1) p.2 (optional_bound need (base + 64) base) base (optional_places ix S need base (places_of want)) (λ i. ltb 0 need && bit i want)
       (λ i m t. let a = and_parts (ltb 0 need) (bit i want) t in both-true (ltb 0 need) (bit i want && matches ix S (base + i)) a.0 (both-true (bit i want) (matches ix S (base + i)) a.1 (A.match i m a.1))) p.11 in
       record {
         j = j;
@@ -132,15 +132,15 @@ module _ (ix : Index) (ranges : List ℕ) (table : List Float) (places k o : ℕ
           required-scorables = record { sound = A.scorable.sound.0; tables = A.scorable.tables.0; few = omega (arith, A.few) };
           optional-scorables = record { sound = A.scorable.sound.1; tables = A.scorable.tables.1; few = omega (arith, A.few) };
           few = omega (arith, A.few);
-          match = λ i m t. (and_parts (allMatch ix rs (base + i)) (not (anyMatches ix ps (base + i))) (and_parts (allMatch ix rs (base + i) && not (anyMatches ix ps (base + i))) (leb need (matching ix os (base + i))) (A.match i m t)).0).0;
+          match = λ i m t. (and_parts (all_match ix rs (base + i)) (not (any_matches ix ps (base + i))) (and_parts (all_match ix rs (base + i) && not (any_matches ix ps (base + i))) (leb need (matching ix os (base + i))) (A.match i m t)).0).0;
           required-end = N.required-is ∙ ap (λ (l : List ℕ). get_or l 4 0) p.4 ∙ p.7.required-end;
           optional-end = N.optional-is ∙ ap (λ (l : List ℕ). get_or l 5 0) p.4 ∙ p.7.optional-end;
           joins = joins_at j rs p.0 n.afterwards n.group_at (N.afterwards-is ∙ ap (λ (l : List ℕ). get_or l 13 0) p.4) (N.group-at-is ∙ ap (λ (l : List ℕ). get_or l 14 0) p.4) p.7.joining;
           x = p.1;
           v = p.2;
           is = same;
-          required = all-less ix ranges rs (k - 1) p.1 (base + 64) base (requiredPlaces ix S base (placesOf want)) (placesOf want) (λ i m t. both-true (bit i want) (matches ix S (base + i)) t (A.match i m t)) p.10;
-          optional = subst (λ (i : ℕ). AllWindowed ix ranges os (k - 1) p.2 (optionalBound i (base + 64) base) base (λ (r : ℕ). ltb 0 i && bit r want)) need-is os-at;
+          required = all-less ix ranges rs (k - 1) p.1 (base + 64) base (required_places ix S base (places_of want)) (places_of want) (λ i m t. both-true (bit i want) (matches ix S (base + i)) t (A.match i m t)) p.10;
+          optional = subst (λ (i : ℕ). AllWindowed ix ranges os (k - 1) p.2 (optional_bound i (base + 64) base) base (λ (r : ℕ). ltb 0 i && bit r want)) need-is os-at;
         };
         score = λ d. refl;
         fewer = omega arith;
@@ -155,8 +155,8 @@ module _ (ix : Index) (ranges : List ℕ) (table : List Float) (places k o : ℕ
           p.7,
           p.8,
           λ i m t. absurd (false≢true t),
-          all-less ix ranges rs (k - 1) B.x (base + 64) (base + 64) nowhere (requiredPlaces ix S (base + 64) nowhere) (λ i m t. absurd (false≢true t)) B.required,
-          all-less ix ranges os (k - 1) B.v (optionalBound need (base + 64) (base + 64)) (base + 64) nowhere (optionalPlaces ix S need (base + 64) nowhere) (λ i m t. absurd (false≢true (and_parts (ltb 0 need) false t).1))
+          all-less ix ranges rs (k - 1) B.x (base + 64) (base + 64) nowhere (required_places ix S (base + 64) nowhere) (λ i m t. absurd (false≢true t)) B.required,
+          all-less ix ranges os (k - 1) B.v (optional_bound need (base + 64) (base + 64)) (base + 64) nowhere (optional_places ix S need (base + 64) nowhere) (λ i m t. absurd (false≢true (and_parts (ltb 0 need) false t).1))
               (subst (λ (b : ℕ). AllWindowed ix ranges os (k - 1) B.v b (base + 64) nowhere) (bound-same (ltb 0 need) (base + 64)) B.optional),
           all-forget ix ranges ps (k - 1) p.3 (base + 64) base nowhere (base + 64) (le_refl _) (omega arith) p.12,
         );
@@ -170,14 +170,14 @@ module _ (st postings positions norms ranges : List ℕ) (table : List Float) (a
   abbrev Gives : List ℕ → List Float → Type 0
   Gives st' sums' = ScoresPost st postings positions norms ranges table a b base want sums depth st' sums'
 
-  pub node-long : Asks → nodeStateWords ≤ length st
-  node-long w = windowed-long w.1 ranges w.3 depth w.4 st (base + 64) base (placesOf want) w.7.held
+  pub node-long : Asks → node_state_words ≤ length st
+  node-long w = windowed-long w.1 ranges w.3 depth w.4 st (base + 64) base (places_of want) w.7.held
 
-  kind : (w : Asks) → get_or st 0 0 ≡ kindOf w.3
-  kind w = windowed-kind w.1 ranges w.3 depth w.4 st (base + 64) base (placesOf want) w.7.held
+  kind : (w : Asks) → get_or st 0 0 ≡ kind_of w.3
+  kind w = windowed-kind w.1 ranges w.3 depth w.4 st (base + 64) base (places_of want) w.7.held
 
   -- the same score for each document, and the words as they were
-  module _ (score : Float) (each : (w : Asks) → ((d : ℕ) → score ≡ scorerScore w.1 w.3 d) × AtMost (nodes w.3 * 2 ^ 29) score) where
+  module _ (score : Float) (each : (w : Asks) → ((d : ℕ) → score ≡ scorer_score w.1 w.3 d) × AtMost (nodes w.3 * 2 ^ 29) score) where
     each-ask : Asks → ConstantPre score sums
     each-ask w = (w.5, nodes w.3, (w.7.few, w.8), (each w).1)
 
@@ -185,11 +185,11 @@ module _ (st postings positions norms ranges : List ℕ) (table : List Float) (a
     each-done sums' add n ix places S sc q L A s =
         let w : Asks = (n, ix, places, S, sc, q, L, A, s) in
         let z = add q (nodes S) (A.few, s) (each w).1 in
-        (added-as (λ p. score) (λ p. scorerScore ix S (base + p)) want sums sums' (λ p l e. (each w).0 (base + p)) z.0, z.1, windowed-forget ix ranges S depth sc st (base + 64) base (placesOf want) (base + 64) (le_refl _) (omega arith) A.held)
+        (added-as (λ p. score) (λ p. scorer_score ix S (base + p)) want sums sums' (λ p l e. (each w).0 (base + p)) z.0, z.1, windowed-forget ix ranges S depth sc st (base + 64) base (places_of want) (base + 64) (le_refl _) (omega arith) A.held)
 
   module _ (is : get_or st 11 0 ≡ 1) where
     same : (w : Asks) → Same w.1 w.3 (get_or st 12 0)
-    same w = same-at w.1 ranges w.3 depth w.4 st (base + 64) base (placesOf want) w.7.held is
+    same w = same-at w.1 ranges w.3 depth w.4 st (base + 64) base (places_of want) w.7.held is
 
     pub constant-number : Asks → T (not (nan_bits binary32 (get_or st 12 0)))
     constant-number w = (same w).number
@@ -202,13 +202,13 @@ module _ (st postings positions norms ranges : List ℕ) (table : List Float) (a
 
   module _ (other : get_or st 11 0 ≡ 1 → ⊥) where
     pub phrase-weighted : Asks → get_or st 11 0 ≡ 0
-    phrase-weighted w = weighted-at w.1 ranges w.3 depth w.4 st (base + 64) base (placesOf want) w.7.held other
+    phrase-weighted w = weighted-at w.1 ranges w.3 depth w.4 st (base + 64) base (places_of want) w.7.held other
 
     -- neither a term, a phrase nor a Boolean
     module _ (no-term : get_or st 0 0 ≡ 1 → ⊥) (no-phrase : get_or st 0 0 ≡ 2 → ⊥) (no-boolean : get_or st 0 0 ≡ 3 → ⊥) where
-      zeroed : (w : Asks) → ((d : ℕ) → of_bits binary32 0 ≡ scorerScore w.1 w.3 d) × AtMost (nodes w.3 * 2 ^ 29) (of_bits binary32 0)
+      zeroed : (w : Asks) → ((d : ℕ) → of_bits binary32 0 ≡ scorer_score w.1 w.3 d) × AtMost (nodes w.3 * 2 ^ 29) (of_bits binary32 0)
       zeroed w =
-          let z = zero-at w.1 ranges w.3 depth w.4 st (base + 64) base (placesOf want) w.7.held other (λ e. no-term (kind w ∙ e)) (λ e. no-phrase (kind w ∙ e)) (λ e. no-boolean (kind w ∙ e)) in
+          let z = zero-at w.1 ranges w.3 depth w.4 st (base + 64) base (places_of want) w.7.held other (λ e. no-term (kind w ∙ e)) (λ e. no-phrase (kind w ∙ e)) (λ e. no-boolean (kind w ∙ e)) in
           ((λ d. zero-32 ∙ z.0 d), subst (λ (x : Float). AtMost (nodes w.3 * 2 ^ 29) x) (sym zero-32) (zero-atmost _))
 
       pub zero-ask : Asks → ConstantPre (of_bits binary32 0) sums
@@ -226,18 +226,18 @@ module _ (st postings positions norms ranges : List ℕ) (table : List Float) (a
       boolean-deep w = (here w).deep
 
       abbrev parts : List ℕ
-      parts = take (length st - nodeStateWords) (drop nodeStateWords st)
+      parts = take (length st - node_state_words) (drop node_state_words st)
 
       pub boolean-ask : Asks → BooleanPre parts n postings positions norms ranges table a b base want sums (depth - 1)
       boolean-ask w = let B = here w in (w.0, w.1, w.2, B.j, B.rs, B.os, B.rest, w.5, w.6, B.asked, w.8)
 
-      pub boolean-done : (kids' : List ℕ) (sums' : List Float) → BooleanPost parts n postings positions norms ranges table a b base want sums (depth - 1) kids' sums' → Gives (put st nodeStateWords (length st) kids') sums'
+      pub boolean-done : (kids' : List ℕ) (sums' : List Float) → BooleanPost parts n postings positions norms ranges table a b base want sums (depth - 1) kids' sums' → Gives (put st node_state_words (length st) kids') sums'
       boolean-done kids' sums' post m ix places S sc q L A s =
           let w : Asks = (m, ix, places, S, sc, q, L, A, s) in
           let B = here w in
           let z = post m ix places B.j B.rs B.os B.rest q L B.asked s in (
-            added-as (λ p. joinedScore B.j (requiredScores ix B.rs (base + p)) (narrowedSum (optionalScores ix B.os (base + p)))) (λ p. scorerScore ix S (base + p)) want sums sums' (λ p l e. B.score (base + p)) z.0,
-            sums-more (q + (nodesOf B.rs + nodesOf B.os)) (q + nodes S) sums' (omega (arith, B.fewer)) z.1,
+            added-as (λ p. joined_score B.j (required_scores ix B.rs (base + p)) (narrowed_sum (optional_scores ix B.os (base + p)))) (λ p. scorer_score ix S (base + p)) want sums sums' (λ p l e. B.score (base + p)) z.0,
+            sums-more (q + (nodes_of B.rs + nodes_of B.os)) (q + nodes S) sums' (omega (arith, B.fewer)) z.1,
             B.done kids' z.2,
           )
 
@@ -255,16 +255,16 @@ module _ (st postings positions norms ranges : List ℕ) (table : List Float) (a
   pub root-done : RootAsks → (st' : List ℕ) (sums' : List Float) → ScoresPost st postings positions norms ranges table a b base want sums depth st' sums' → RootGives st' sums'
   root-done w st' sums' post n ix places S sc L A =
       let z = post n ix places S sc 0 L A (zero-sums sums w.0) in
-      let W = ok-weighted ix ranges S depth sc st (base + 64) (windowed-ok ix ranges S depth sc st (base + 64) base (placesOf want) (omega arith) A.held) in
+      let W = ok-weighted ix ranges S depth sc st (base + 64) (windowed-ok ix ranges S depth sc st (base + 64) base (places_of want) (omega arith) A.held) in
       (record { long = z.1.long; wanted = λ p l e. sum-narrowed ix L.lends.accepted places S W A.scorable.sound A.scorable.few (base + p) (get_or sums p nan) (w.0.zero p l) (get_or sums' p nan) (z.0.wanted p l e); others = z.0.others }, z.2)
 
   module _ (other : get_or st 11 0 ≡ 1 → ⊥) (is-boolean : get_or st 0 0 ≡ 3) (n : Joined) (N : JoinedIs st n) where
     abbrev root-parts : List ℕ
-    root-parts = take (length st - nodeStateWords) (drop nodeStateWords st)
+    root-parts = take (length st - node_state_words) (drop node_state_words st)
 
     root-here : (m : ℕ) (ix : Index) (places : ℕ) (S : Scorer) (sc : ℕ) → WindowLent ix m postings positions norms places a b base want → NodeAsked ix ranges table places S depth sc st base want 0 → BooleanAt ix ranges table places depth sc st base want 0 n N S
     root-here m ix places S sc L A =
-        boolean-at ix ranges table places depth sc st base want 0 n N S A (sym (windowed-kind ix ranges S depth sc st (base + 64) base (placesOf want) A.held) ∙ is-boolean) other
+        boolean-at ix ranges table places depth sc st base want 0 n N S A (sym (windowed-kind ix ranges S depth sc st (base + 64) base (places_of want) A.held) ∙ is-boolean) other
 
     pub root-deep : RootAsks → 0 < depth
     root-deep w = let r = w.1 in (root-here r.0 r.1 r.2 r.3 r.4 r.5 r.6).deep
@@ -272,7 +272,7 @@ module _ (st postings positions norms ranges : List ℕ) (table : List Float) (a
     pub root-ask : RootAsks → RootPartsPre root-parts n postings positions norms ranges table a b base want sums (depth - 1)
     root-ask w = let r = w.1 in let B = root-here r.0 r.1 r.2 r.3 r.4 r.5 r.6 in (w.0, (r.0, r.1, r.2, B.j, B.rs, B.os, B.rest, r.5, B.asked))
 
-    pub root-part : (kids' : List ℕ) (sums' : List Float) → RootPartsPost root-parts n postings positions norms ranges table a b base want sums (depth - 1) kids' sums' → RootGives (put st nodeStateWords (length st) kids') sums'
+    pub root-part : (kids' : List ℕ) (sums' : List Float) → RootPartsPost root-parts n postings positions norms ranges table a b base want sums (depth - 1) kids' sums' → RootGives (put st node_state_words (length st) kids') sums'
     root-part kids' sums' post m ix places S sc L A =
         let B = root-here m ix places S sc L A in
         let z = post m ix places B.j B.rs B.os B.rest L B.asked in

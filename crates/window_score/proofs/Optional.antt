@@ -3,14 +3,14 @@ use Rattle.std.proofs.Common.{◌≡◌, refl, sym, ap, subst, ◌∙◌, Bool, 
 use Rattle.std.proofs.lemmas.Bool.{false≢true, and_parts, lt-ltb}
 use Rattle.std.specs.Prelude.{Float}
 use Rattle.std.specs.Float.{nan}
-use Rattle.meaning.specs.Ieee754.{sumFrom}
+use Rattle.meaning.specs.Ieee754.{sum_from}
 use Rattle.bits.specs.Bit.{bit}
-use Rattle.weight.specs.ScorerTree.{Scorer, Scorers, more, matches, scorerScore}
-use Rattle.weight.specs.Sound.{nodes, nodesOf}
+use Rattle.weight.specs.ScorerTree.{Scorer, Scorers, more, matches, scorer_score}
+use Rattle.weight.specs.Sound.{nodes, nodes_of}
 use Rattle.leaf_scorer.specs.Calls.{lent}
 use Rattle.score.proofs.Parts.{part_same}
 use Rattle.score.proofs.Sums.{matches-at, optional-counted, optional-matched}
-use Rattle.window_words.specs.Windowed.{nowhere, placesOf, joined, optionalBound, Windowed}
+use Rattle.window_words.specs.Windowed.{nowhere, places_of, joined, optional_bound, Windowed}
 use Rattle.window_words.proofs.Laws.{windowed-less, windowed-kind, windowed-forget}
 use Rattle.window_leaf.specs.Asks.{NodeWindowed, BitsPre, BitsPost}
 use Rattle.window_score.specs.Words.{ChildThere}
@@ -64,13 +64,13 @@ module _ (kids₀ : List ℕ) (need : ℕ) (postings positions norms ranges : Li
         table = table;
         places = w.2;
         depth = depth;
-        bound = optionalBound need (base + 64) base;
+        bound = optional_bound need (base + 64) base;
         base = base;
         asked = λ p. ltb 0 need && bit p want;
         want = want;
         all = w.3;
         start = sums₀;
-        most = w.4 + nodesOf w.3;
+        most = w.4 + nodes_of w.3;
       }
 
   abbrev pub OptionalAt : List ℕ → ℕ → List Float → Type 0
@@ -83,7 +83,7 @@ module _ (kids₀ : List ℕ) (need : ℕ) (postings positions norms ranges : Li
     pub g : Scorers
     pub walk : Walk (frame w) (more f T g) kids at sums
     pub stop : e ≡ at + get_or kids (at + 1) 0
-    pub held : Windowed w.1 ranges T depth (cond f 1 0) (take (e - at) (drop at kids')) (base + 64) base (placesOf x)
+    pub held : Windowed w.1 ranges T depth (cond f 1 0) (take (e - at) (drop at kids')) (base + 64) base (places_of x)
     pub bits : (p : ℕ) → p < 64 → bit p x ≡ (bit p want && matches w.1 T (base + p))
     pub long : length (take (e - at) (drop at kids')) ≡ length (take (e - at) (drop at kids))
     pub back : (ys : List ℕ) → put kids' at e ys ≡ put kids at e ys
@@ -102,7 +102,7 @@ module _ (kids₀ : List ℕ) (need : ℕ) (postings positions norms ranges : Li
     optional-end l n ix places ss q L A S =
         let w : Asks = (n, ix, places, ss, q, L, A, S) in
         let E = walk-end (I w).0 (I w).1 l in
-        (record { wanted = λ p m i. E.added.wanted p m i ∙ ap (λ (xs : List Float). sumFrom (get_or sums₀ p nan) xs) (optional-counted ix ss (base + p)); others = E.added.others }, E.small, E.parts)
+        (record { wanted = λ p m i. E.added.wanted p m i ∙ ap (λ (xs : List Float). sum_from (get_or sums₀ p nan) xs) (optional-counted ix ss (base + p)); others = E.added.others }, E.small, E.parts)
 
     module _ (l : at < length kids) where
       -- the child at the place
@@ -126,7 +126,7 @@ module _ (kids₀ : List ℕ) (need : ℕ) (postings positions norms ranges : Li
                 lends = w.5.lends;
                 sound = s.sound;
                 few = s.few;
-                held = subst (λ (i : ℕ). Windowed w.1 ranges c.1 depth (cond c.0 1 0) y (optionalBound i (base + 64) base) base (λ p. ltb 0 i && bit p want)) none (walk-part c.3 e stop);
+                held = subst (λ (i : ℕ). Windowed w.1 ranges c.1 depth (cond c.0 1 0) y (optional_bound i (base + 64) base) base (λ p. ltb 0 i && bit p want)) none (walk-part c.3 e stop);
               }
 
           pub optional-ask : Asks → BitsPre postings positions ranges a' b' y base want depth
@@ -148,7 +148,7 @@ module _ (kids₀ : List ℕ) (need : ℕ) (postings positions norms ranges : Li
                 g = c.2;
                 walk = c.3;
                 stop = stop;
-                held = subst (λ (v : List ℕ). Windowed w.1 ranges c.1 depth (cond c.0 1 0) v (base + 64) base (placesOf r)) (sym same) (windowed-less w.1 ranges c.1 depth (cond c.0 1 0) ys (base + 64) base (placesOf want) (placesOf r) (λ p m i. (and_parts (bit p want) (matches w.1 c.1 (base + p)) (sym (q.0.bits p m) ∙ i)).0) q.1);
+                held = subst (λ (v : List ℕ). Windowed w.1 ranges c.1 depth (cond c.0 1 0) v (base + 64) base (places_of r)) (sym same) (windowed-less w.1 ranges c.1 depth (cond c.0 1 0) ys (base + 64) base (places_of want) (places_of r) (λ p m i. (and_parts (bit p want) (matches w.1 c.1 (base + p)) (sym (q.0.bits p m) ∙ i)).0) q.1);
                 bits = q.0.bits;
                 long = ap length same ∙ len;
                 back = λ zs. put-again kids ys zs at e (omega (arith, l)) len fits;
@@ -159,14 +159,14 @@ module _ (kids₀ : List ℕ) (need : ℕ) (postings positions norms ranges : Li
         optional-stored some x u both u-is w =
             let c = child w in
             let on : ltb 0 need ≡ true = positive need some in
-            let held : Windowed w.1 ranges c.1 depth (cond c.0 1 0) y (base + 64) base (placesOf want) = subst (λ (t : Bool). Windowed w.1 ranges c.1 depth (cond c.0 1 0) y (cond t (base + 64) base) base (λ p. t && bit p want)) on (walk-part c.3 e stop) in
+            let held : Windowed w.1 ranges c.1 depth (cond c.0 1 0) y (base + 64) base (places_of want) = subst (λ (t : Bool). Windowed w.1 ranges c.1 depth (cond c.0 1 0) y (cond t (base + 64) base) base (λ p. t && bit p want)) on (walk-part c.3 e stop) in
             record {
               f = c.0;
               T = c.1;
               g = c.2;
               walk = c.3;
               stop = stop;
-              held = windowed-less w.1 ranges c.1 depth (cond c.0 1 0) y (base + 64) base (placesOf want) (placesOf x) (λ p m i. (and_parts (bit p want) (bit p u) (sym (both p) ∙ i)).0) held;
+              held = windowed-less w.1 ranges c.1 depth (cond c.0 1 0) y (base + 64) base (places_of want) (places_of x) (λ p m i. (and_parts (bit p want) (bit p u) (sym (both p) ∙ i)).0) held;
               bits = λ p m. both p ∙ and-where (bit p want) (bit p u) (matches w.1 c.1 (base + p)) (λ i. ap (bit p) u-is ∙ walk-bits c.3 p m (ap (λ (t : Bool). t && bit p want) on ∙ i));
               long = refl;
               back = λ zs. refl;
@@ -178,7 +178,7 @@ module _ (kids₀ : List ℕ) (need : ℕ) (postings positions norms ranges : Li
     y' = take (e - at) (drop at kids')
 
     pub record Scored (w : Asks) (ys : List ℕ) (sums' : List Float) : Type 0 where
-      pub added : Added (λ p. scorerScore w.1 (I w).T (base + p)) x sums sums'
+      pub added : Added (λ p. scorer_score w.1 (I w).T (base + p)) x sums sums'
       pub small : Sums ((I w).walk.q + nodes (I w).T) sums'
       pub parts : Windowed w.1 ranges (I w).T depth (cond (I w).f 1 0) ys (base + 64) (base + 64) nowhere
 
@@ -201,9 +201,9 @@ module _ (kids₀ : List ℕ) (need : ℕ) (postings positions norms ranges : Li
         λ w.
         let m = I w in
         record {
-          added = added-none (λ p. scorerScore w.1 m.T (base + p)) x sums none;
+          added = added-none (λ p. scorer_score w.1 m.T (base + p)) x sums none;
           small = sums-more m.walk.q (m.walk.q + nodes m.T) sums (omega arith) m.walk.small;
-          parts = windowed-forget w.1 ranges m.T depth (cond m.f 1 0) y' (base + 64) base (placesOf x) (base + 64) (le_refl _) (omega arith) m.held;
+          parts = windowed-forget w.1 ranges m.T depth (cond m.f 1 0) y' (base + 64) base (places_of x) (base + 64) (le_refl _) (omega arith) m.held;
         }
         )
         )
@@ -223,7 +223,7 @@ module _ (kids₀ : List ℕ) (need : ℕ) (postings positions norms ranges : Li
       pub optional-term : get_or kids at 0 ≡ 1 → Asks → TermPre y' postings norms table base x sums
       optional-term k w =
           let m = I w in
-          (windowed-kind w.1 ranges m.T depth (cond m.f 1 0) y' (base + 64) base (placesOf x) m.held ∙ sym (walk-kind m.walk) ∙ k, (positions, ranges, a', b', depth, optional-child w))
+          (windowed-kind w.1 ranges m.T depth (cond m.f 1 0) y' (base + 64) base (places_of x) m.held ∙ sym (walk-kind m.walk) ∙ k, (positions, ranges, a', b', depth, optional-child w))
 
       pub optional-took : (ys : List ℕ) (sums' : List Float) → length ys ≡ length y' → ScoresPost y' postings positions norms ranges table a' b' base x sums depth ys sums' → OptionalAt (put kids' at e ys) e sums'
       optional-took ys sums' len post =

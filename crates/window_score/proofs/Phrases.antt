@@ -9,27 +9,27 @@ use lib.Dec.{T, ltb}
 use lib.ListN.{length, get_or, set, take, drop, length-set}
 use lib.Seq.{take-length}
 use lib.Ieee.{Float, nan, binary64, is_nan, add}
-use Rattle.meaning.specs.Limits.{nodeStateWords}
+use Rattle.meaning.specs.Limits.{node_state_words}
 use Rattle.meaning.specs.Lent.{Index}
-use Rattle.meaning.specs.Phrase.{PhraseTerm, phraseFrequency}
-use Rattle.meaning.specs.Score.{fieldScore}
+use Rattle.meaning.specs.Phrase.{PhraseTerm, phrase_frequency}
+use Rattle.meaning.specs.Score.{field_score}
 use Rattle.meaning.proofs.Tests.{decided, cmp}
 use Rattle.std.proofs.lemmas.Bool.{cases_eq}
 use Rattle.ieee754.specs.Nonneg.{AtMost}
 use Rattle.ieee754.proofs.Bounds.{atmost-number}
-use Rattle.weight.specs.ScorerTree.{nothing, term, phrase, range, everything, constant, weighted, Scorer, leaf, boolean, matches, leafMatches, leafScore, scorerScore}
+use Rattle.weight.specs.ScorerTree.{nothing, term, phrase, range, everything, constant, weighted, Scorer, leaf, boolean, matches, leaf_matches, leaf_score, scorer_score}
 use Rattle.weight.specs.State.{State, words_of}
 use Rattle.weight.specs.Held.{FloatIs, ScoringIs}
 use Rattle.weight.specs.Sound.{LeafSound, Sound, FieldTable, LeafTable, Tables, nodes}
-use Rattle.leaf_scorer.specs.Phrases.{allFound}
+use Rattle.leaf_scorer.specs.Phrases.{all_found}
 use Rattle.leaf_scorer.proofs.PhraseLaws.{leaves-there, lacking}
 use Rattle.leaf_score.specs.declared.Node.{Node}
 use Rattle.leaf_score.specs.Words.{NodeIs}
 use Rattle.leaf_score.proofs.Frequencies.{phrase-frequency-few}
 use Rattle.leaf_score.proofs.Leaves.{Read, read, Weighs, answer}
 use Rattle.bits.specs.Bit.{bit, LowestBit}
-use Rattle.window_words.specs.Windowed.{placesOf, joined, phrasePlaces, planedFrequency, PhraseWindowed, LeafWindowed, Windowed}
-use Rattle.window_words.proofs.Laws.{windowed-kind, windowed-long, kindOf}
+use Rattle.window_words.specs.Windowed.{places_of, joined, phrase_places, planed_frequency, PhraseWindowed, LeafWindowed, Windowed}
+use Rattle.window_words.proofs.Laws.{windowed-kind, windowed-long, kind_of}
 use Rattle.window_leaf.specs.declared.phrases.Planes.{Planes}
 use Rattle.window_leaf.specs.Phrases.{PhraseAsked, FrequencyPre, FrequencyPost}
 use Rattle.window_score.specs.Words.{PlanesRead, PlanedIs}
@@ -39,10 +39,10 @@ use Rattle.window_score.proofs.Terms.{field-place, leaf-added}
 
 -- the words behind a record
 abbrev pub behind : List ℕ → List ℕ
-behind st = take (length st - nodeStateWords) (drop nodeStateWords st)
+behind st = take (length st - node_state_words) (drop node_state_words st)
 
 behind-is : (s : State) (st w : List ℕ) → st ≡ words_of s ++ w → behind st ≡ w
-behind-is s st w e = let size : length st - nodeStateWords ≡ length w = omega (arith, ap length e) in rw (size, e, take-length)
+behind-is s st w e = let size : length st - node_state_words ≡ length w = omega (arith, ap length e) in rw (size, e, take-length)
 
 -- a phrase that scores by BM25 at the places of a window
 pub record PhraseIn (ix : Index) (table : List Float) (places : ℕ) (st : List ℕ) (base want : ℕ) (S : Scorer) : Type 0 where
@@ -56,8 +56,8 @@ pub record PhraseIn (ix : Index) (table : List Float) (places : ℕ) (st : List 
   pub sound : LeafSound ix places (phrase f ts)
   pub tables : FieldTable ix table f
   pub weight : FloatIs w s.weight
-  pub held : PhraseWindowed ix f ts s v (base + 64) base (placesOf want)
-  pub stands : (p : ℕ) → p < 64 → bit p want ≡ true → ltb 0 (phraseFrequency ix ts (base + p)) ≡ true
+  pub held : PhraseWindowed ix f ts s v (base + 64) base (places_of want)
+  pub stands : (p : ℕ) → p < 64 → bit p want ≡ true → ltb 0 (phrase_frequency ix ts (base + p)) ≡ true
 
 phrase-one : {ix : Index} {table : List Float} {places : ℕ} {st : List ℕ} {base want : ℕ} {S : Scorer} → PhraseIn ix table places st base want S → nodes S ≡ 1
 unfolding nodes
@@ -67,11 +67,11 @@ module _ (ix : Index) (ranges : List ℕ) (table : List Float) (places depth sco
   abbrev Asked : Scorer → Type 0
   Asked S = NodeAsked ix ranges table places S depth scores st base want q
 
-  kind-of : (S : Scorer) → Asked S → get_or st 0 0 ≡ kindOf S
-  kind-of S H = windowed-kind ix ranges S depth scores st (base + 64) base (placesOf want) H.held
+  kind-of : (S : Scorer) → Asked S → get_or st 0 0 ≡ kind_of S
+  kind-of S H = windowed-kind ix ranges S depth scores st (base + 64) base (places_of want) H.held
 
   pub phrase-in : (S : Scorer) → Asked S → get_or st 0 0 ≡ 2 → get_or st 11 0 ≡ 0 → PhraseIn ix table places st base want S
-  unfolding kindOf Windowed LeafWindowed Sound Tables LeafTable ScoringIs matches leafMatches
+  unfolding kind_of Windowed LeafWindowed Sound Tables LeafTable ScoringIs matches leaf_matches
   phrase-in (leaf nothing sc) H k m = absurd (omega (arith, kind-of (leaf nothing sc) H, k))
   phrase-in (leaf (term l) sc) H k m = absurd (omega (arith, kind-of (leaf (term l) sc) H, k))
   phrase-in (leaf (phrase f ts) (constant c)) H k m = absurd (omega (arith, H.held.5.0, ap (λ (y : List ℕ). get_or y 11 0) H.held.2, m))
@@ -115,10 +115,10 @@ module _ (ix : Index) (max : ℕ) (postings positions norms : List ℕ) (places 
   R = read st t.v t.s n t.words N
 
   abbrev D : ℕ → Bool
-  D = phrasePlaces ix t.ts base (placesOf want)
+  D = phrase_places ix t.ts base (places_of want)
 
-  each-found : (d : ℕ) → ltb 0 (phraseFrequency ix t.ts d) ≡ true → allFound ix t.ts d ≡ true
-  each-found d e = ⊎_elim (λ y. y) (λ y. absurd (false≢true (sym (lacking ix t.ts d y) ∙ e))) (decided (allFound ix t.ts d))
+  each-found : (d : ℕ) → ltb 0 (phrase_frequency ix t.ts d) ≡ true → all_found ix t.ts d ≡ true
+  each-found d e = ⊎_elim (λ y. y) (λ y. absurd (false≢true (sym (lacking ix t.ts d y) ∙ e))) (decided (all_found ix t.ts d))
 
   second : (x y : Bool) → x && y ≡ true → y ≡ true
   second true y e = e
@@ -134,7 +134,7 @@ module _ (ix : Index) (max : ℕ) (postings positions norms : List ℕ) (places 
           there = leaves-there ix t.f places t.ts t.sound.4;
           bound = base + 64;
           held = subst (λ (y : List ℕ). Rattle.window_words.specs.Windowed.TermsWindowed ix t.ts y (base + 64) base D) (sym (behind-is t.s st t.v t.words)) t.held.terms;
-          all = λ p l e. each-found (base + p) (second (bit p want) (ltb 0 (phraseFrequency ix t.ts (base + p))) e);
+          all = λ p l e. each-found (base + p) (second (bit p want) (ltb 0 (phrase_frequency ix t.ts (base + p))) e);
         };
         positions-are = L.lends.positions-are;
         sound = t.sound;
@@ -145,49 +145,49 @@ module _ (ix : Index) (max : ℕ) (postings positions norms : List ℕ) (places 
     phrase-there = rw (e, t.stands p l e)
 
     module _ (planes : Planes) (planes-are : PlanesRead st planes) (planed : ℕ) (planed-is : PlanedIs planes p planed) where
-      planed-min : planed ≡ min 3 (phraseFrequency ix t.ts (base + p))
-      planed-min = planed-is ∙ ap (λ (y : ℕ). cond (bit p y) 1 0 + 2 * cond (bit p planes.twos) 1 0) ones ∙ ap (λ (y : ℕ). cond (bit p (joined t.s.onesLow t.s.onesHigh)) 1 0 + 2 * cond (bit p y) 1 0) twos ∙ t.held.frequencies p l e
+      planed-min : planed ≡ min 3 (phrase_frequency ix t.ts (base + p))
+      planed-min = planed-is ∙ ap (λ (y : ℕ). cond (bit p y) 1 0 + 2 * cond (bit p planes.twos) 1 0) ones ∙ ap (λ (y : ℕ). cond (bit p (joined t.s.ones_low t.s.ones_high)) 1 0 + 2 * cond (bit p y) 1 0) twos ∙ t.held.frequencies p l e
         where
-          ones : planes.ones ≡ joined t.s.onesLow t.s.onesHigh
+          ones : planes.ones ≡ joined t.s.ones_low t.s.ones_high
           ones = planes-are.ones-are ∙ ap (λ (y : List ℕ). joined (get_or y 23 0) (get_or y 24 0)) t.words
 
-          twos : planes.twos ≡ joined t.s.twosLow t.s.twosHigh
+          twos : planes.twos ≡ joined t.s.twos_low t.s.twos_high
           twos = planes-are.twos-are ∙ ap (λ (y : List ℕ). joined (get_or y 25 0) (get_or y 26 0)) t.words
 
       module _ (r : ℕ) (F : Frequency postings positions st base p planed r) where
-        pub frequency-is : r ≡ phraseFrequency ix t.ts (base + p)
+        pub frequency-is : r ≡ phrase_frequency ix t.ts (base + p)
         frequency-is =
             ⊎_elim
             (λ (g : planed ≡ 3). F.high g ix places t.f t.ts D phrase-there phrase-asked)
-            (λ (g : planed ≡ 3 → ⊥). F.low g ∙ few-is (phraseFrequency ix t.ts (base + p)) planed planed-min g)
+            (λ (g : planed ≡ 3 → ⊥). F.low g ∙ few-is (phrase_frequency ix t.ts (base + p)) planed planed-min g)
             (cases_eq planed 3)
 
-        pub phrase-place : Weighs n norms table (base + p) r × (answer n norms table (base + p) r ≡ scorerScore ix S (base + p)) × AtMost (2 ^ 29) (answer n norms table (base + p) r)
-        unfolding LeafSound scorerScore leafScore
+        pub phrase-place : Weighs n norms table (base + p) r × (answer n norms table (base + p) r ≡ scorer_score ix S (base + p)) × AtMost (2 ^ 29) (answer n norms table (base + p) r)
+        unfolding LeafSound scorer_score leaf_score
         phrase-place =
             let x : FloatIs t.w n.weight = subst (λ (i : ℕ). FloatIs t.w i) (sym R.weight_is) t.weight in
             let k = field-place ix max postings positions norms places a b base want L bytes table st n N p l e t.f t.sound.0 t.tables t.w x (R.field_is ∙ t.held.field_is) (R.norms-is ∙ t.held.norms-is) r (omega (arith, frequency-is, phrase-frequency-few ix L.lends.accepted t.f places t.ts (base + p) t.sound.4)) in
-            (k.0, k.1 ∙ ap (λ (i : ℕ). fieldScore ix t.f t.w i (base + p)) frequency-is ∙ ap (λ (y : Scorer). scorerScore ix y (base + p)) (sym t.is), k.2)
+            (k.0, k.1 ∙ ap (λ (i : ℕ). field_score ix t.f t.w i (base + p)) frequency-is ∙ ap (λ (y : Scorer). scorer_score ix y (base + p)) (sym t.is), k.2)
 
     -- the score is small
-    pub phrase-small : AtMost (2 ^ 29) (scorerScore ix S (base + p))
-    unfolding LeafSound scorerScore leafScore
+    pub phrase-small : AtMost (2 ^ 29) (scorer_score ix S (base + p))
+    unfolding LeafSound scorer_score leaf_score
     phrase-small =
         let x : FloatIs t.w n.weight = subst (λ (i : ℕ). FloatIs t.w i) (sym R.weight_is) t.weight in
-        let k = field-place ix max postings positions norms places a b base want L bytes table st n N p l e t.f t.sound.0 t.tables t.w x (R.field_is ∙ t.held.field_is) (R.norms-is ∙ t.held.norms-is) (phraseFrequency ix t.ts (base + p)) (phrase-frequency-few ix L.lends.accepted t.f places t.ts (base + p) t.sound.4) in
-        subst (λ (y : Float). AtMost (2 ^ 29) y) (k.1 ∙ ap (λ (y : Scorer). scorerScore ix y (base + p)) (sym t.is)) k.2
+        let k = field-place ix max postings positions norms places a b base want L bytes table st n N p l e t.f t.sound.0 t.tables t.w x (R.field_is ∙ t.held.field_is) (R.norms-is ∙ t.held.norms-is) (phrase_frequency ix t.ts (base + p)) (phrase-frequency-few ix L.lends.accepted t.f places t.ts (base + p) t.sound.4) in
+        subst (λ (y : Float). AtMost (2 ^ 29) y) (k.1 ∙ ap (λ (y : Scorer). scorer_score ix y (base + p)) (sym t.is)) k.2
 
 -- ---- the loop of `phrase_scores`
 -- the score of any phrase that the words hold is added at each place that is done
 pub record PhraseAdding (st postings positions norms : List ℕ) (table : List Float) (a b base want left : ℕ) (sums sums' : List Float) : Type 0 where
   pub long : length sums' ≡ 64
   pub wants : (p : ℕ) → bit p left ≡ true → bit p want ≡ true
-  pub each : (ranges : List ℕ) (depth max : ℕ) (ix : Index) (places : ℕ) (S : Scorer) (scores q : ℕ) → WindowLent ix max postings positions norms places a b base want → NodeAsked ix ranges table places S depth scores st base want q → Adding (λ p x. add binary64 x (scorerScore ix S (base + p))) want left sums sums'
+  pub each : (ranges : List ℕ) (depth max : ℕ) (ix : Index) (places : ℕ) (S : Scorer) (scores q : ℕ) → WindowLent ix max postings positions norms places a b base want → NodeAsked ix ranges table places S depth scores st base want q → Adding (λ p x. add binary64 x (scorer_score ix S (base + p))) want left sums sums'
 
 module _ (st postings positions norms : List ℕ) (table : List Float) (a b base want : ℕ) (sums : List Float) where
   module _ (P : PhrasePre st postings positions norms table a b base want sums) where
-    pub pre-long : nodeStateWords ≤ length st
-    pre-long = windowed-long P.2.2.1 P.2.0 P.2.2.3 P.2.1 P.2.2.4 st (base + 64) base (placesOf want) P.2.2.7.held
+    pub pre-long : node_state_words ≤ length st
+    pre-long = windowed-long P.2.2.1 P.2.0 P.2.2.3 P.2.1 P.2.2.4 st (base + 64) base (places_of want) P.2.2.7.held
 
     pre-in : PhraseIn P.2.2.1 table P.2.2.2 st base want P.2.2.3
     pre-in = phrase-in P.2.2.1 P.2.0 table P.2.2.2 P.2.1 P.2.2.4 st base want P.2.2.5 P.2.2.3 P.2.2.7 P.0 P.1
@@ -202,7 +202,7 @@ module _ (st postings positions norms : List ℕ) (table : List Float) (a b base
               P.2.2.2,
               i.f,
               i.ts,
-              phrasePlaces P.2.2.1 i.ts base (placesOf want),
+              phrase_places P.2.2.1 i.ts base (places_of want),
               omega (arith, P.2.2.6.room.in-a, f),
               omega (arith, P.2.2.6.room.in_b, g),
               phrase-there P.2.2.1 P.2.2.0 postings positions norms P.2.2.2 a b base want P.2.2.6 bytes table st n N P.2.2.3 i p l e,
@@ -211,7 +211,7 @@ module _ (st postings positions norms : List ℕ) (table : List Float) (a b base
           )
 
       module _ (bytes : (i : ℕ) → get_or norms i 0 < 256) (n : Node) (N : NodeIs st n) (planes : Planes) (K : PlanesRead st planes) (planed : ℕ) (planed-is : PlanedIs planes p planed) (r : ℕ) (F : Frequency postings positions st base p planed r) where
-        place : Weighs n norms table (base + p) r × (answer n norms table (base + p) r ≡ scorerScore P.2.2.1 P.2.2.3 (base + p)) × AtMost (2 ^ 29) (answer n norms table (base + p) r)
+        place : Weighs n norms table (base + p) r × (answer n norms table (base + p) r ≡ scorer_score P.2.2.1 P.2.2.3 (base + p)) × AtMost (2 ^ 29) (answer n norms table (base + p) r)
         place = phrase-place P.2.2.1 P.2.2.0 postings positions norms P.2.2.2 a b base want P.2.2.6 bytes table st n N P.2.2.3 pre-in p l e planes K planed planed-is r F
 
         pub pre-weighs : Weighs n norms table (base + p) r
@@ -229,7 +229,7 @@ module _ (st postings positions norms : List ℕ) (table : List Float) (a b base
           wants = λ q e. A.wants q (first (bit q left) (not (lib.Dec.eqb q p)) (sym (rest q) ∙ e));
           each = λ ranges depth max ix places S scores q L H. let t = phrase-in ix ranges table places depth scores st base want q S H kind scored in
               let k = phrase-place ix max postings positions norms places a b base want L bytes table st n N S t p B.within (A.wants p B.set) planes K planed d r F in
-              adding-step (λ (i : ℕ) (v : Float). add binary64 v (scorerScore ix S (base + i))) want sums left sums' (A.each ranges depth max ix places S scores q L H) p B left' rest at x f (z ∙ ap (add binary64 (get_or sums' at nan)) (u ∙ k.1));
+              adding-step (λ (i : ℕ) (v : Float). add binary64 v (scorer_score ix S (base + i))) want sums left sums' (A.each ranges depth max ix places S scores q L H) p B left' rest at x f (z ∙ ap (add binary64 (get_or sums' at nan)) (u ∙ k.1));
         }
       where
         first : (c d : Bool) → c && d ≡ true → c ≡ true
@@ -240,6 +240,6 @@ module _ (st postings positions norms : List ℕ) (table : List Float) (a b base
     pub phrase-done : left ≡ 0 → PhrasePost st postings positions norms table a b base want sums sums'
     phrase-done z ranges depth max ix places S scores q L H Q =
         let t = phrase-in ix ranges table places depth scores st base want q S H kind scored in
-        let B = adding-done (λ (i : ℕ) (v : Float). add binary64 v (scorerScore ix S (base + i))) want sums left sums' (A.each ranges depth max ix places S scores q L H) z in
-        leaf-added ix ranges table places S depth scores st base want q sums sums' (phrase-one t) H Q A.long (λ p. scorerScore ix S (base + p)) B
+        let B = adding-done (λ (i : ℕ) (v : Float). add binary64 v (scorer_score ix S (base + i))) want sums left sums' (A.each ranges depth max ix places S scores q L H) z in
+        leaf-added ix ranges table places S depth scores st base want q sums sums' (phrase-one t) H Q A.long (λ p. scorer_score ix S (base + p)) B
         (λ p l e. (refl, phrase-small ix max postings positions norms places a b base want L bytes table st n N S t p l e))

@@ -3,14 +3,14 @@ use Rattle.std.proofs.Common.{◌≡◌, refl, sym, ap, subst, ◌∙◌, Bool, 
 use Rattle.std.specs.Prelude.{Float}
 use Rattle.std.specs.Float.{nan}
 use Rattle.meaning.specs.Lent.{Index}
-use Rattle.meaning.specs.Ieee754.{sumFrom}
+use Rattle.meaning.specs.Ieee754.{sum_from}
 use Rattle.bits.specs.Bit.{bit}
 use Rattle.bits.proofs.Laws.{bit-zero}
-use Rattle.weight.specs.ScorerTree.{Scorer, Scorers, more, scorerScore}
-use Rattle.weight.specs.Sound.{nodes, nodesOf}
+use Rattle.weight.specs.ScorerTree.{Scorer, Scorers, more, scorer_score}
+use Rattle.weight.specs.Sound.{nodes, nodes_of}
 use Rattle.score.proofs.Parts.{part_same}
 use Rattle.score.proofs.Sums.{scores-word, required-counted, required-matched}
-use Rattle.window_words.specs.Windowed.{placesOf}
+use Rattle.window_words.specs.Windowed.{places_of}
 use Rattle.window_words.proofs.Laws.{windowed-kind, windowed-forget}
 use Rattle.window_score.specs.Words.{ChildThere}
 use Rattle.window_score.specs.Asked.{WindowLent, NodeAsked, ScoresPre, ScoresPost, TermPre, TermPost, RequiredPre, RequiredPost}
@@ -50,11 +50,11 @@ module _ (kids₀ postings positions norms ranges : List ℕ) (table : List Floa
         depth = depth;
         bound = base + 64;
         base = base;
-        asked = placesOf want;
+        asked = places_of want;
         want = want;
         all = w.3;
         start = sums₀;
-        most = w.4 + nodesOf w.3;
+        most = w.4 + nodes_of w.3;
       }
 
   abbrev pub RequiredAt : List ℕ → ℕ → List Float → Type 0
@@ -68,7 +68,7 @@ module _ (kids₀ postings positions norms ranges : List ℕ) (table : List Floa
     required-end l n ix places ss q L A S =
         let w : Asks = (n, ix, places, ss, q, L, A, S) in
         let E = walk-end (I w).0 (I w).1 l in
-        (record { wanted = λ p m i. E.added.wanted p m i ∙ ap (λ (xs : List Float). sumFrom (get_or sums₀ p nan) xs) (required-counted ix ss (base + p)); others = E.added.others }, E.small, E.parts)
+        (record { wanted = λ p m i. E.added.wanted p m i ∙ ap (λ (xs : List Float). sum_from (get_or sums₀ p nan) xs) (required-counted ix ss (base + p)); others = E.added.others }, E.small, E.parts)
 
     module _ (l : at < length kids) where
       -- the child at the place
@@ -92,8 +92,8 @@ module _ (kids₀ postings positions norms ranges : List ℕ) (table : List Floa
             let c = child w in
             let none : c.0 ≡ false = no-score c.0 (get_or kids (at + 15) 0) (walk-scores c.3) filter in (
               c.2,
-              walk-took c.3 e stop 0 sums (λ p m i. bit-zero p ∙ sym none) (λ p m i. bit-zero p) (added-none (λ p. scorerScore w.1 c.1 (base + p)) 0 sums refl) (sums-more c.3.q (c.3.q + nodes c.1) sums (omega arith) c.3.small) y refl
-                  (windowed-forget w.1 ranges c.1 depth (cond c.0 1 0) y (base + 64) base (placesOf want) (base + 64) (le_refl _) (omega arith) (walk-part c.3 e stop)),
+              walk-took c.3 e stop 0 sums (λ p m i. bit-zero p ∙ sym none) (λ p m i. bit-zero p) (added-none (λ p. scorer_score w.1 c.1 (base + p)) 0 sums refl) (sums-more c.3.q (c.3.q + nodes c.1) sums (omega arith) c.3.small) y refl
+                  (windowed-forget w.1 ranges c.1 depth (cond c.0 1 0) y (base + 64) base (places_of want) (base + 64) (le_refl _) (omega arith) (walk-part c.3 e stop)),
             )
             )
 
@@ -114,7 +114,7 @@ module _ (kids₀ postings positions norms ranges : List ℕ) (table : List Floa
           pub required-term : get_or kids at 0 ≡ 1 → Asks → TermPre y postings norms table base want sums
           required-term k w =
               let c = child w in
-              (windowed-kind w.1 ranges c.1 depth (cond c.0 1 0) y (base + 64) base (placesOf want) (walk-part c.3 e stop) ∙ sym (walk-kind c.3) ∙ k, (positions, ranges, a', b', depth, required-child w))
+              (windowed-kind w.1 ranges c.1 depth (cond c.0 1 0) y (base + 64) base (places_of want) (walk-part c.3 e stop) ∙ sym (walk-kind c.3) ∙ k, (positions, ranges, a', b', depth, required-child w))
 
           pub required-took : (ys : List ℕ) (sums' : List Float) → length ys ≡ length y → ScoresPost y postings positions norms ranges table a' b' base want sums depth ys sums' → RequiredAt (put kids at e ys) e sums'
           required-took ys sums' len post w =

@@ -4,11 +4,11 @@ use Rattle.std.proofs.lemmas.List.{length-replicate, get_or-replicate}
 use Rattle.std.specs.Prelude.{Float, replicate}
 use Rattle.std.specs.Float.{nan}
 use Rattle.meaning.specs.Lent.{Index}
-use Rattle.meaning.specs.Ieee754.{zeroFloat}
+use Rattle.meaning.specs.Ieee754.{zero_float}
 use Rattle.ieee754.specs.Nonneg.{AtMost}
 use Rattle.ieee754.proofs.Bounds.{zero-atmost}
 use Rattle.weight.specs.ScorerTree.{Scorers, end, more}
-use Rattle.weight.specs.State.{sizesOfFirst}
+use Rattle.weight.specs.State.{sizes_of_first}
 use Rattle.score.proofs.Join.{first_of, rest_of}
 use Rattle.window_words.specs.Windowed.{Places, AllWindowed}
 use Rattle.window_words.proofs.Laws.{windowed-length}
@@ -19,12 +19,12 @@ pub record Split (ix : Index) (ranges : List ℕ) (k n : ℕ) (ss : Scorers) (w 
   pub x : List ℕ
   pub y : List ℕ
   pub is : w ≡ x ++ y
-  pub place : length x ≡ sizesOfFirst n ss
+  pub place : length x ≡ sizes_of_first n ss
   pub first : AllWindowed ix ranges (first_of n ss) k x b base D
   pub rest : AllWindowed ix ranges (rest_of n ss) k y b base D
 
 pub all-split : (ix : Index) (ranges : List ℕ) (k n : ℕ) (ss : Scorers) (w : List ℕ) (b base : ℕ) (D : Places) → AllWindowed ix ranges ss k w b base D → Split ix ranges k n ss w b base D
-unfolding AllWindowed first_of rest_of sizesOfFirst
+unfolding AllWindowed first_of rest_of sizes_of_first
 all-split ix ranges k zero ss w b base D p = record { x = []; y = w; is = refl; place = refl; first = refl; rest = p }
 all-split ix ranges k (suc n) end w b base D p = record { x = []; y = w; is = refl; place = refl; first = refl; rest = p }
 all-split ix ranges k (suc n) (more f T g) w b base D p =
@@ -46,7 +46,7 @@ all-join ix ranges k (suc n) (more f T g) x y b base D p q =
     (p.0, p.1 ++ y, ap (λ (l : List ℕ). l ++ y) p.2 ∙ append_assoc p.0 p.1 y, p.3, all-join ix ranges k n g p.1 y b base D p.4 q)
 
 -- ---- sums that are all 0
-pub zeros : (z : Float) → z ≡ zeroFloat → Zeros (replicate 64 z)
+pub zeros : (z : Float) → z ≡ zero_float → Zeros (replicate 64 z)
 zeros z e = record { long = length-replicate 64 z; zero = λ p l. get_or-replicate 64 p z nan l ∙ e }
 
 pub zero-sums : (sums : List Float) → Zeros sums → Sums 0 sums

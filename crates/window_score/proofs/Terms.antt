@@ -8,18 +8,18 @@ use native.Mathlib.Omega.{arith}
 use lib.Dec.{T}
 use lib.ListN.{length, get_or}
 use lib.Ieee.{Float, binary32, is_nan, nan_bits, of_bits}
-use Rattle.meaning.specs.Below.{anyBelow, countBelow, lastBelow}
-use Rattle.meaning.specs.Limits.{nodeStateWords, largestFrequency}
-use Rattle.meaning.specs.Lent.{Index, leafCount, leafField, leafFirst, leafNumber, leafDocument, leafFrequency}
-use Rattle.meaning.specs.Postings.{postingAt, found, frequencyOf}
-use Rattle.meaning.specs.Score.{fieldScore}
+use Rattle.meaning.specs.Below.{any_below, count_below, last_below}
+use Rattle.meaning.specs.Limits.{node_state_words, largest_frequency}
+use Rattle.meaning.specs.Lent.{Index, leaf_count, leaf_field, leaf_first, leaf_number, leaf_document, leaf_frequency}
+use Rattle.meaning.specs.Postings.{posting_at, found, frequency_of}
+use Rattle.meaning.specs.Score.{field_score}
 use Rattle.ieee754.specs.Nonneg.{AtMost}
 use Rattle.ieee754.proofs.Bounds.{atmost-number}
 use Rattle.index.specs.Accepted.{Accepted}
-use Rattle.index.specs.Runs.{postingFrequency}
+use Rattle.index.specs.Runs.{posting_frequency}
 use Rattle.index.proofs.PostingAt.{posting-at}
 use Rattle.run.specs.Run.{Run}
-use Rattle.weight.specs.ScorerTree.{nothing, term, phrase, range, everything, Scoring, constant, weighted, Scorer, leaf, boolean, matches, leafMatches, leafScore, scorerScore}
+use Rattle.weight.specs.ScorerTree.{nothing, term, phrase, range, everything, Scoring, constant, weighted, Scorer, leaf, boolean, matches, leaf_matches, leaf_score, scorer_score}
 use Rattle.weight.specs.State.{State, words_of}
 use Rattle.weight.specs.Held.{TermIs, FloatIs, ScoringIs}
 use Rattle.weight.specs.Sound.{LeafSound, Sound, LeafTable, Tables, nodes}
@@ -31,39 +31,39 @@ use Rattle.leaf_score.proofs.Weights.{float_back, float-number}
 use Rattle.bits.specs.Bit.{bit}
 use Rattle.window.specs.Windows.{Cursor}
 use Rattle.window.proofs.Rank.{posting-of-bit}
-use Rattle.window_words.specs.Windowed.{nowhere, placesOf, joined, windowBits, TermWindow, TermAsked, LeafWindowed, Windowed}
-use Rattle.window_words.proofs.Laws.{windowed-forget, windowed-kind, windowed-long, kindOf}
+use Rattle.window_words.specs.Windowed.{nowhere, places_of, joined, window_bits, TermWindow, TermAsked, LeafWindowed, Windowed}
+use Rattle.window_words.proofs.Laws.{windowed-forget, windowed-kind, windowed-long, kind_of}
 use Rattle.window_score.specs.Sums.{Sums, Added, ConstantPre, ConstantPost}
 use Rattle.window_score.specs.Asked.{WindowLent, NodeAsked, TermPre, TermPost}
 use Rattle.window_score.proofs.Adding.{added-same, added-small}
 
 -- ---- the posting of a wanted place
-any-found : (n : ℕ) (p : ℕ → Bool) → found (lastBelow n p) ≡ anyBelow n p
-unfolding anyBelow lastBelow
+any-found : (n : ℕ) (p : ℕ → Bool) → found (last_below n p) ≡ any_below n p
+unfolding any_below last_below
 any-found zero p = refl
-any-found (suc n) p = step (p n) (lastBelow n p) ∙ ap (λ (b : Bool). b || p n) (any-found n p)
+any-found (suc n) p = step (p n) (last_below n p) ∙ ap (λ (b : Bool). b || p n) (any-found n p)
   where
     step : (b : Bool) (o : Option ℕ) → found (cond b (some n) o) ≡ (found o || b)
     step true o = sym (or-true (found o))
     step false o = sym (or-false (found o))
 
 -- how many places below one have their bit
-abbrev pub rankOf : ℕ → ℕ → ℕ
-rankOf w p = countBelow p (λ q. bit q w)
+abbrev pub rank_of : ℕ → ℕ → ℕ
+rank_of w p = count_below p (λ q. bit q w)
 
-module _ (ix : Index) (A : Accepted ix) (l : ℕ) (there : l < leafCount ix) (few : leafNumber ix l < 9223372036854775808) (s : State) (base : ℕ) (W : TermWindow ix l s base) where
-  run : Run ix.postings 3 (leafFirst ix l) (leafNumber ix l)
+module _ (ix : Index) (A : Accepted ix) (l : ℕ) (there : l < leaf_count ix) (few : leaf_number ix l < 9223372036854775808) (s : State) (base : ℕ) (W : TermWindow ix l s base) where
+  run : Run ix.postings 3 (leaf_first ix l) (leaf_number ix l)
   run = record { step = omega arith; few = few; within = λ i h. omega (arith, (A.leaf l there).words); ascending = A.ascending l there }
 
-  start : Cursor ix.postings 3 (leafFirst ix l) (leafNumber ix l) base s.windowFirst
+  start : Cursor ix.postings 3 (leaf_first ix l) (leaf_number ix l) base s.window_first
   start = record { within = omega (arith, W.first-within, W.within); passed = W.before; ahead = W.from }
 
-  behind : Cursor ix.postings 3 (leafFirst ix l) (leafNumber ix l) (base + 64) s.cursor
+  behind : Cursor ix.postings 3 (leaf_first ix l) (leaf_number ix l) (base + 64) s.cursor
   behind = record { within = W.within; passed = W.inside; ahead = W.ahead }
 
-  pub posting-there : (p : ℕ) → p < 64 → found (postingAt ix l (base + p)) ≡ true → (s.windowFirst + rankOf (windowBits s) p < leafNumber ix l) × (leafDocument ix l (s.windowFirst + rankOf (windowBits s) p) ≡ base + p)
+  pub posting-there : (p : ℕ) → p < 64 → found (posting_at ix l (base + p)) ≡ true → (s.window_first + rank_of (window_bits s) p < leaf_number ix l) × (leaf_document ix l (s.window_first + rank_of (window_bits s) p) ≡ base + p)
   posting-there p h e =
-      let g = posting-of-bit ix.postings 3 (leafFirst ix l) (leafNumber ix l) base s.windowFirst (windowBits s) run start (λ q i. W.bits q i ∙ any-found (leafNumber ix l) _) s.cursor behind p h (W.bits p h ∙ e) in
+      let g = posting-of-bit ix.postings 3 (leaf_first ix l) (leaf_number ix l) base s.window_first (window_bits s) run start (λ q i. W.bits q i ∙ any-found (leaf_number ix l) _) s.cursor behind p h (W.bits p h ∙ e) in
       (omega (arith, g.0, W.within), g.1)
 
 -- ---- the node
@@ -74,12 +74,12 @@ pub record TermIn (ix : Index) (table : List Float) (st : List ℕ) (base want :
   pub s : State
   pub is : S ≡ leaf (term l) sc
   pub words : st ≡ words_of s ++ []
-  pub there : l < leafCount ix
+  pub there : l < leaf_count ix
   pub tables : LeafTable ix table (term l) sc
   pub term-is : TermIs ix 1 l s (base + 64)
-  pub asked : TermAsked ix l s base (placesOf want)
+  pub asked : TermAsked ix l s base (places_of want)
   pub scoring : ScoringIs sc s
-  pub match : (p : ℕ) → p < 64 → bit p want ≡ true → found (postingAt ix l (base + p)) ≡ true
+  pub match : (p : ℕ) → p < 64 → bit p want ≡ true → found (posting_at ix l (base + p)) ≡ true
 
 term-one : {ix : Index} {table : List Float} {st : List ℕ} {base want : ℕ} {S : Scorer} → TermIn ix table st base want S → nodes S ≡ 1
 unfolding nodes
@@ -89,11 +89,11 @@ module _ (ix : Index) (ranges : List ℕ) (table : List Float) (places depth sco
   abbrev Asked : Scorer → Type 0
   Asked S = NodeAsked ix ranges table places S depth scores st base want q
 
-  kind-of : (S : Scorer) → Asked S → get_or st 0 0 ≡ kindOf S
-  kind-of S H = windowed-kind ix ranges S depth scores st (base + 64) base (placesOf want) H.held
+  kind-of : (S : Scorer) → Asked S → get_or st 0 0 ≡ kind_of S
+  kind-of S H = windowed-kind ix ranges S depth scores st (base + 64) base (places_of want) H.held
 
   pub term-in : (S : Scorer) → Asked S → get_or st 0 0 ≡ 1 → TermIn ix table st base want S
-  unfolding kindOf Windowed LeafWindowed Sound LeafSound Tables matches leafMatches
+  unfolding kind_of Windowed LeafWindowed Sound LeafSound Tables matches leaf_matches
   term-in (leaf nothing sc) H k = absurd (omega (arith, kind-of (leaf nothing sc) H, k))
   term-in (leaf (term l) sc) H k =
       let h = H.held in
@@ -116,12 +116,12 @@ module _ (ix : Index) (ranges : List ℕ) (table : List Float) (places depth sco
   term-in (boolean c j need rs os ps) H k = absurd (omega (arith, kind-of (boolean c j need rs os ps) H, k))
 
 -- the score at a place, as the loop works it out
-abbrev pub termScore : Node → List ℕ → List Float → List ℕ → ℕ → ℕ → ℕ → ℕ → Float
-termScore n norms table postings first bits base p = answer n norms table (base + p) (postingFrequency postings first (rankOf bits p))
+abbrev pub term_score : Node → List ℕ → List Float → List ℕ → ℕ → ℕ → ℕ → ℕ → Float
+term_score n norms table postings first bits base p = answer n norms table (base + p) (posting_frequency postings first (rank_of bits p))
 
 -- a constant score
-constant-score : (ix : Index) (l : ℕ) (sc : Scoring) (s : State) (n : Node) (R : Read n s) → ScoringIs sc s → n.constant ≡ 1 → T (not (nan_bits binary32 n.weight)) × AtMost (2 ^ 29) (of_bits binary32 n.weight) × ((d : ℕ) → of_bits binary32 n.weight ≡ leafScore ix (term l) sc d)
-unfolding ScoringIs leafScore
+constant-score : (ix : Index) (l : ℕ) (sc : Scoring) (s : State) (n : Node) (R : Read n s) → ScoringIs sc s → n.constant ≡ 1 → T (not (nan_bits binary32 n.weight)) × AtMost (2 ^ 29) (of_bits binary32 n.weight) × ((d : ℕ) → of_bits binary32 n.weight ≡ leaf_score ix (term l) sc d)
+unfolding ScoringIs leaf_score
 constant-score ix l (constant c) s n R p e =
     let f : FloatIs c n.weight = subst (λ (i : ℕ). FloatIs c i) (sym R.weight_is) p.1 in
     (float-number c n.weight f, subst (λ (z : Float). AtMost (2 ^ 29) z) (sym (float_back c n.weight f)) f.small, λ d. float_back c n.weight f)
@@ -129,21 +129,21 @@ constant-score ix l (weighted w) s n R p e = absurd (omega (arith, R.constant-is
 
 -- what `weighted` is asked at a place, and what it answers
 pub record TermPlace (ix : Index) (S : Scorer) (postings norms : List ℕ) (table : List Float) (n : Node) (first bits base p : ℕ) : Type 0 where
-  pub there : first + rankOf bits p < length postings / 3
-  pub weighs : Weighs n norms table (base + p) (postingFrequency postings first (rankOf bits p))
-  pub is : termScore n norms table postings first bits base p ≡ scorerScore ix S (base + p)
-  pub small : AtMost (2 ^ 29) (termScore n norms table postings first bits base p)
+  pub there : first + rank_of bits p < length postings / 3
+  pub weighs : Weighs n norms table (base + p) (posting_frequency postings first (rank_of bits p))
+  pub is : term_score n norms table postings first bits base p ≡ scorer_score ix S (base + p)
+  pub small : AtMost (2 ^ 29) (term_score n norms table postings first bits base p)
 
 -- the frequency and the score as they are read
-module _ {ix : Index} {S : Scorer} {postings norms : List ℕ} {table : List Float} {n : Node} {first bits base p : ℕ} (t : TermPlace ix S postings norms table n first bits base p) (i r : ℕ) (at : i ≡ rankOf bits p) (read-is : r ≡ postingFrequency postings first i) where
-  frequency-at : r ≡ postingFrequency postings first (rankOf bits p)
-  frequency-at = read-is ∙ ap (postingFrequency postings first) at
+module _ {ix : Index} {S : Scorer} {postings norms : List ℕ} {table : List Float} {n : Node} {first bits base p : ℕ} (t : TermPlace ix S postings norms table n first bits base p) (i r : ℕ) (at : i ≡ rank_of bits p) (read-is : r ≡ posting_frequency postings first i) where
+  frequency-at : r ≡ posting_frequency postings first (rank_of bits p)
+  frequency-at = read-is ∙ ap (posting_frequency postings first) at
 
   pub place-weighs : Weighs n norms table (base + p) r
   place-weighs = subst (Weighs n norms table (base + p)) (sym frequency-at) t.weighs
 
   module _ (x : Float) (score-is : x ≡ answer n norms table (base + p) r) where
-    pub place-score : x ≡ termScore n norms table postings first bits base p
+    pub place-score : x ≡ term_score n norms table postings first bits base p
     place-score = score-is ∙ ap (answer n norms table (base + p)) frequency-at
 
     pub place-number : T (not (is_nan x))
@@ -154,7 +154,7 @@ module _ (ix : Index) (max : ℕ) (postings positions norms : List ℕ) (places 
   lent-at p l e = record { lends = L.lends; norms-are = L.norms-are; document = L.wanted p l e }
 
   -- a leaf that scores by BM25 at a frequency
-  pub field-place : (p : ℕ) → p < 64 → bit p want ≡ true → (f : ℕ) → f < Rattle.meaning.specs.Lent.fieldCount ix → Rattle.weight.specs.Sound.FieldTable ix table f → (w : Float) → FloatIs w n.weight → n.field ≡ f → n.norms ≡ Rattle.weight.specs.Held.normsWord ix f → (frequency : ℕ) → frequency ≤ largestFrequency → Weighs n norms table (base + p) frequency × (answer n norms table (base + p) frequency ≡ fieldScore ix f w frequency (base + p)) × AtMost (2 ^ 29) (answer n norms table (base + p) frequency)
+  pub field-place : (p : ℕ) → p < 64 → bit p want ≡ true → (f : ℕ) → f < Rattle.meaning.specs.Lent.field_count ix → Rattle.weight.specs.Sound.FieldTable ix table f → (w : Float) → FloatIs w n.weight → n.field ≡ f → n.norms ≡ Rattle.weight.specs.Held.norms_word ix f → (frequency : ℕ) → frequency ≤ largest_frequency → Weighs n norms table (base + p) frequency × (answer n norms table (base + p) frequency ≡ field_score ix f w frequency (base + p)) × AtMost (2 ^ 29) (answer n norms table (base + p) frequency)
   field-place p l e f o F w x g h frequency few =
       let K = lent-at p l e in
       let r = field-answer ix max postings positions norms (base + p) K bytes table n f o F w x g h frequency few (answer n norms table (base + p) frequency) refl in
@@ -164,72 +164,72 @@ module _ (ix : Index) (max : ℕ) (postings positions norms : List ℕ) (places 
     R : Read n t.s
     R = read st [] t.s n t.words N
 
-    pub term-constant : n.constant ≡ 1 → T (not (nan_bits binary32 n.weight)) × AtMost (2 ^ 29) (of_bits binary32 n.weight) × ((d : ℕ) → of_bits binary32 n.weight ≡ scorerScore ix S d)
-    unfolding scorerScore
-    term-constant e = let r = constant-score ix t.l t.sc t.s n R t.scoring e in (r.0, r.1, λ d. r.2 d ∙ ap (λ (x : Scorer). scorerScore ix x d) (sym t.is))
+    pub term-constant : n.constant ≡ 1 → T (not (nan_bits binary32 n.weight)) × AtMost (2 ^ 29) (of_bits binary32 n.weight) × ((d : ℕ) → of_bits binary32 n.weight ≡ scorer_score ix S d)
+    unfolding scorer_score
+    term-constant e = let r = constant-score ix t.l t.sc t.s n R t.scoring e in (r.0, r.1, λ d. r.2 d ∙ ap (λ (x : Scorer). scorer_score ix x d) (sym t.is))
 
     module _ (first bits : ℕ) (first-is : first ≡ n.first + get_or st 19 0) (bits-are : bits ≡ joined (get_or st 20 0) (get_or st 21 0)) where
-      first-at : first ≡ leafFirst ix t.l + t.s.windowFirst
+      first-at : first ≡ leaf_first ix t.l + t.s.window_first
       first-at = omega (arith, first-is, R.first-is, t.term-is.first-is, ap (λ (y : List ℕ). get_or y 19 0) t.words)
 
-      bits-at : bits ≡ windowBits t.s
+      bits-at : bits ≡ window_bits t.s
       bits-at = bits-are ∙ ap (λ (y : List ℕ). joined (get_or y 20 0) (get_or y 21 0)) t.words
 
-      number-few : leafNumber ix t.l < 9223372036854775808
+      number-few : leaf_number ix t.l < 9223372036854775808
       number-few = omega (arith, t.term-is.number_is, ap (λ (y : List ℕ). get_or y 7 0) t.words, words 7)
 
       module _ (p : ℕ) (l : p < 64) (e : bit p want ≡ true) where
         abbrev at : ℕ
-        at = t.s.windowFirst + rankOf (windowBits t.s) p
+        at = t.s.window_first + rank_of (window_bits t.s) p
 
-        here : (at < leafNumber ix t.l) × (leafDocument ix t.l at ≡ base + p)
+        here : (at < leaf_number ix t.l) × (leaf_document ix t.l at ≡ base + p)
         here = posting-there ix L.lends.accepted t.l t.there number-few t.s base (t.asked p l e) p l (t.match p l e)
 
-        rank-at : rankOf bits p ≡ rankOf (windowBits t.s) p
-        rank-at = ap (λ (w : ℕ). rankOf w p) bits-at
+        rank-at : rank_of bits p ≡ rank_of (window_bits t.s) p
+        rank-at = ap (λ (w : ℕ). rank_of w p) bits-at
 
         abbrev frequency : ℕ
-        frequency = postingFrequency postings first (rankOf bits p)
+        frequency = posting_frequency postings first (rank_of bits p)
 
-        frequency-read : frequency ≡ leafFrequency ix t.l at
+        frequency-read : frequency ≡ leaf_frequency ix t.l at
         frequency-read =
-            let i : first + rankOf bits p ≡ leafFirst ix t.l + at = omega (arith, first-at, rank-at) in
-            ap (λ (y : List ℕ). get_or y (3 * (first + rankOf bits p) + 1) 0) (sym L.lends.postings-are) ∙ ap (λ (j : ℕ). get_or ix.postings (3 * j + 1) 0) i
+            let i : first + rank_of bits p ≡ leaf_first ix t.l + at = omega (arith, first-at, rank-at) in
+            ap (λ (y : List ℕ). get_or y (3 * (first + rank_of bits p) + 1) 0) (sym L.lends.postings-are) ∙ ap (λ (j : ℕ). get_or ix.postings (3 * j + 1) 0) i
 
-        frequency-is : frequency ≡ frequencyOf ix t.l (postingAt ix t.l (base + p))
-        frequency-is = frequency-read ∙ sym (ap (frequencyOf ix t.l) (posting-at ix t.l (base + p) (L.lends.accepted.ascending t.l t.there) at here.0 here.1))
+        frequency-is : frequency ≡ frequency_of ix t.l (posting_at ix t.l (base + p))
+        frequency-is = frequency-read ∙ sym (ap (frequency_of ix t.l) (posting-at ix t.l (base + p) (L.lends.accepted.ascending t.l t.there) at here.0 here.1))
 
-        frequency-few : frequency ≤ largestFrequency
+        frequency-few : frequency ≤ largest_frequency
         frequency-few = omega (arith, frequency-read, (L.lends.accepted.posting t.l at t.there here.0).most)
 
-        place-there : first + rankOf bits p < length postings / 3
+        place-there : first + rank_of bits p < length postings / 3
         place-there = omega (arith, first-at, rank-at, here.0, (L.lends.accepted.leaf t.l t.there).run, ap length L.lends.postings-are)
 
-        place-by : (sc : Scoring) → ScoringIs sc t.s → LeafTable ix table (term t.l) sc → (n.constant ≡ 1 → ⊥) → Weighs n norms table (base + p) frequency × (termScore n norms table postings first bits base p ≡ leafScore ix (term t.l) sc (base + p)) × AtMost (2 ^ 29) (termScore n norms table postings first bits base p)
-        unfolding ScoringIs LeafTable leafScore
+        place-by : (sc : Scoring) → ScoringIs sc t.s → LeafTable ix table (term t.l) sc → (n.constant ≡ 1 → ⊥) → Weighs n norms table (base + p) frequency × (term_score n norms table postings first bits base p ≡ leaf_score ix (term t.l) sc (base + p)) × AtMost (2 ^ 29) (term_score n norms table postings first bits base p)
+        unfolding ScoringIs LeafTable leaf_score
         place-by (constant c) k F m = absurd (m (R.constant-is ∙ k.0))
         place-by (weighted w) k F m =
             let x : FloatIs w n.weight = subst (λ (i : ℕ). FloatIs w i) (sym R.weight_is) k.1 in
-            let r = field-place p l e (leafField ix t.l) (L.lends.accepted.leaf t.l t.there).field F w x (R.field_is ∙ t.term-is.field_is) (R.norms-is ∙ t.term-is.norms-is) frequency frequency-few in
-            (r.0, r.1 ∙ ap (λ (i : ℕ). fieldScore ix (leafField ix t.l) w i (base + p)) frequency-is, r.2)
+            let r = field-place p l e (leaf_field ix t.l) (L.lends.accepted.leaf t.l t.there).field F w x (R.field_is ∙ t.term-is.field_is) (R.norms-is ∙ t.term-is.norms-is) frequency frequency-few in
+            (r.0, r.1 ∙ ap (λ (i : ℕ). field_score ix (leaf_field ix t.l) w i (base + p)) frequency-is, r.2)
 
         pub term-place : (n.constant ≡ 1 → ⊥) → TermPlace ix S postings norms table n first bits base p
-        unfolding scorerScore
+        unfolding scorer_score
         term-place m =
             let r = place-by t.sc t.scoring t.tables m in
-            record { there = place-there; weighs = r.0; is = r.1 ∙ ap (λ (x : Scorer). scorerScore ix x (base + p)) (sym t.is); small = r.2 }
+            record { there = place-there; weighs = r.0; is = r.1 ∙ ap (λ (x : Scorer). scorer_score ix x (base + p)) (sym t.is); small = r.2 }
 
 -- ---- the end of a loop
 abbrev pub Scores : Index → List ℕ → Scorer → ℕ → ℕ → List ℕ → ℕ → ℕ → ℕ → List Float → List Float → Type 0
 Scores ix ranges S depth scores st base want q sums sums' =
-    Added (λ p. scorerScore ix S (base + p)) want sums sums' × Sums (q + nodes S) sums' × Windowed ix ranges S depth scores st (base + 64) (base + 64) nowhere
+    Added (λ p. scorer_score ix S (base + p)) want sums sums' × Sums (q + nodes S) sums' × Windowed ix ranges S depth scores st (base + 64) (base + 64) nowhere
 
 -- a leaf's scores were added, and its words stay
-pub leaf-added : (ix : Index) (ranges : List ℕ) (table : List Float) (places : ℕ) (S : Scorer) (depth scores : ℕ) (st : List ℕ) (base want q : ℕ) (sums sums' : List Float) → nodes S ≡ 1 → NodeAsked ix ranges table places S depth scores st base want q → Sums q sums → length sums' ≡ 64 → (score : ℕ → Float) → Added score want sums sums' → ((p : ℕ) → p < 64 → bit p want ≡ true → (score p ≡ scorerScore ix S (base + p)) × AtMost (2 ^ 29) (score p)) → Scores ix ranges S depth scores st base want q sums sums'
+pub leaf-added : (ix : Index) (ranges : List ℕ) (table : List Float) (places : ℕ) (S : Scorer) (depth scores : ℕ) (st : List ℕ) (base want q : ℕ) (sums sums' : List Float) → nodes S ≡ 1 → NodeAsked ix ranges table places S depth scores st base want q → Sums q sums → length sums' ≡ 64 → (score : ℕ → Float) → Added score want sums sums' → ((p : ℕ) → p < 64 → bit p want ≡ true → (score p ≡ scorer_score ix S (base + p)) × AtMost (2 ^ 29) (score p)) → Scores ix ranges S depth scores st base want q sums sums'
 leaf-added ix ranges table places S depth scores st base want q sums sums' one H K long score A h = (
-  added-same score want sums sums' A (λ p. scorerScore ix S (base + p)) (λ p l e. (h p l e).0),
+  added-same score want sums sums' A (λ p. scorer_score ix S (base + p)) (λ p l e. (h p l e).0),
   subst (λ (r : ℕ). Sums (q + r) sums') (sym one) (added-small score want sums sums' A q 1 (omega (arith, one, H.few)) K long (λ p l e. small (score p) (h p l e).1)),
-  windowed-forget ix ranges S depth scores st (base + 64) base (placesOf want) (base + 64) (omega arith) (omega arith) H.held,
+  windowed-forget ix ranges S depth scores st (base + 64) base (places_of want) (base + 64) (omega arith) (omega arith) H.held,
 )
   where
     small : (x : Float) → AtMost (2 ^ 29) x → AtMost (1 * 2 ^ 29) x
@@ -238,8 +238,8 @@ leaf-added ix ranges table places S depth scores st base want q sums sums' one H
 -- ---- what `term_scores` asks and gives
 module _ (st postings norms : List ℕ) (table : List Float) (base want : ℕ) (sums : List Float) (bytes : (i : ℕ) → get_or norms i 0 < 256) (words : (i : ℕ) → get_or st i 0 < 4294967296) where
   module _ (P : TermPre st postings norms table base want sums) where
-    pub pre-long : nodeStateWords ≤ length st
-    pre-long = windowed-long P.1.5.1 P.1.1 P.1.5.3 P.1.4 P.1.5.4 st (base + 64) base (placesOf want) P.1.5.7.held
+    pub pre-long : node_state_words ≤ length st
+    pre-long = windowed-long P.1.5.1 P.1.1 P.1.5.3 P.1.4 P.1.5.4 st (base + 64) base (places_of want) P.1.5.7.held
 
     pre-in : TermIn P.1.5.1 table st base want P.1.5.3
     pre-in = term-in P.1.5.1 P.1.1 table P.1.5.2 P.1.4 P.1.5.4 st base want P.1.5.5 P.1.5.3 P.1.5.7 P.0
@@ -261,8 +261,8 @@ module _ (st postings norms : List ℕ) (table : List Float) (base want : ℕ) (
         let z = h q 1 (omega (arith, term-one i, H.few), K) r.1 in
         leaf-added ix ranges table places S depth scores st base want q sums sums' (term-one i) H K z.1.long (λ p. of_bits binary32 n.weight) z.0 (λ p l e. (r.2 (base + p), r.1))
 
-    pub post-weighted : (n.constant ≡ 1 → ⊥) → (first bits : ℕ) → first ≡ n.first + get_or st 19 0 → bits ≡ joined (get_or st 20 0) (get_or st 21 0) → length sums' ≡ 64 → Added (termScore n norms table postings first bits base) want sums sums' → TermPost st postings norms table base want sums sums'
+    pub post-weighted : (n.constant ≡ 1 → ⊥) → (first bits : ℕ) → first ≡ n.first + get_or st 19 0 → bits ≡ joined (get_or st 20 0) (get_or st 21 0) → length sums' ≡ 64 → Added (term_score n norms table postings first bits base) want sums sums' → TermPost st postings norms table base want sums sums'
     post-weighted m first bits f g long A positions ranges a b depth max ix places S scores q L H K =
         let i = term-in ix ranges table places depth scores st base want q S H k in
-        leaf-added ix ranges table places S depth scores st base want q sums sums' (term-one i) H K long (termScore n norms table postings first bits base) A
+        leaf-added ix ranges table places S depth scores st base want q sums sums' (term-one i) H K long (term_score n norms table postings first bits base) A
         (λ p l e. let t = term-place ix max postings positions norms places a b base want L bytes table st n N words S i first bits f g p l e m in (t.is, t.small))

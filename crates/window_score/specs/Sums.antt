@@ -2,7 +2,7 @@
 use Rattle.std.specs.Prelude.{◌≡◌, true, false, List, ℕ, ◌+◌, ◌*◌, ◌^◌, ◌≤◌, ◌<◌, length, get_or, Float}
 use Rattle.std.specs.Float.{nan, binary64}
 use Rattle.std.specs.Float.Ieee.{add}
-use Rattle.meaning.specs.Ieee754.{zeroFloat, sumFrom, narrow}
+use Rattle.meaning.specs.Ieee754.{zero_float, sum_from, narrow}
 use Rattle.ieee754.specs.Nonneg.{AtMost}
 use Rattle.bits.specs.Bit.{bit}
 
@@ -14,7 +14,7 @@ pub record Sums (q : ℕ) (sums : List Float) : Type 0 where
 -- sums that are all 0
 pub record Zeros (sums : List Float) : Type 0 where
   pub long : length sums ≡ 64
-  pub zero : (p : ℕ) → p < 64 → get_or sums p nan ≡ zeroFloat
+  pub zero : (p : ℕ) → p < 64 → get_or sums p nan ≡ zero_float
 
 -- the sum at each wanted place, narrowed, is the score, and the others stay
 pub record NarrowedIs (score : ℕ → Float) (want : ℕ) (sums sums' : List Float) : Type 0 where
@@ -33,7 +33,7 @@ Added score want sums sums' = At (λ p x. add binary64 x (score p)) want sums su
 
 -- some more
 abbrev pub AddedAll : (ℕ → List Float) → ℕ → List Float → List Float → Type 0
-AddedAll scores want sums sums' = At (λ p x. sumFrom x (scores p)) want sums sums'
+AddedAll scores want sums sums' = At (λ p x. sum_from x (scores p)) want sums sums'
 
 -- there is room for r leaves more
 abbrev pub RoomFor : ℕ → ℕ → List Float → Type 0

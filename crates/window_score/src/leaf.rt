@@ -2,7 +2,7 @@
 ghost use Rattle.std.specs.Prelude.{◌≤◌, ◌<◌, length};
 ghost use Rattle.window_score.specs.Asked.{TermPre, TermPost, PhrasePre, PhrasePost};
 ghost use Rattle.window_score.specs.Words.{PlanesRead, PlanedIs};
-ghost use Rattle.meaning.specs.Limits.{nodeStateWords};
+ghost use Rattle.meaning.specs.Limits.{node_state_words};
 
 use crate::sums::add_constant;
 use ieee754::add_score;
@@ -44,7 +44,7 @@ pub fn term_scores(
 }
 
 fn planes_at(st: &[u32]) -> Planes
-    requires { nodeStateWords ≤ length st.now }
+    requires { node_state_words ≤ length st.now }
     ensures { PlanesRead st.now result }
 {
     Planes {

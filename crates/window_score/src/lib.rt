@@ -2,7 +2,7 @@
 #![tactic(auto)]
 
 ghost use Rattle.std.specs.Prelude.{◌≡◌, ◌≤◌, length, get_or};
-ghost use Rattle.meaning.specs.Limits.{nodeStateWords};
+ghost use Rattle.meaning.specs.Limits.{node_state_words};
 ghost use Rattle.window_leaf.specs.Asks.{BitsPre, BitsPost};
 ghost use Rattle.window_score.specs.Words.{JoinedIs, ChildIs, ChildThere};
 ghost use Rattle.window_score.specs.Asked.{ScoresPre, ScoresPost, RequiredPre, RequiredPost, OptionalPre, OptionalPost, BooleanPre, BooleanPost, GroupPre, GroupPost};
@@ -37,7 +37,7 @@ pub struct Joined {
 }
 
 fn joined_at(st: &[u32]) -> Joined
-    requires { nodeStateWords ≤ length st.now }
+    requires { node_state_words ≤ length st.now }
     ensures { JoinedIs st.now result }
 {
     Joined {

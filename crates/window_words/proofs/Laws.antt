@@ -1,14 +1,14 @@
 -- The words of a tree that is asked by windows: what is known still holds at a larger bound and of fewer places, may be forgotten before the next window, and gives the words' number, the record's words and what the other questions go by. Assumes nothing.
 use Rattle.std.proofs.Common.{◌≡◌, refl, sym, ap, ◌∙◌, Bool, true, false, cond, ◌&&◌, List, [], ◌∷◌, ◌++◌, ℕ, ◌+◌, ◌-◌, ◌*◌, ◌≤◌, ◌<◌, min, max, ltb, length, get_or, le_refl, le_trans, lt_of_lt_of_le, length-append, arith}
 use Rattle.std.proofs.lemmas.Bool.{false≢true, and_parts}
-use Rattle.meaning.specs.Limits.{nodeStateWords}
+use Rattle.meaning.specs.Limits.{node_state_words}
 use Rattle.meaning.specs.Lent.{Index}
-use Rattle.meaning.specs.Phrase.{PhraseTerm, phraseFrequency}
+use Rattle.meaning.specs.Phrase.{PhraseTerm, phrase_frequency}
 use Rattle.bits.specs.Bit.{bit}
-use Rattle.weight.specs.ScorerTree.{Leaf, nothing, term, phrase, range, everything, Scoring, Scorer, leaf, boolean, Scorers, end, more, leafMatches, matches}
-use Rattle.weight.specs.State.{State, words_of, leafSize, size_of, sizesOf}
+use Rattle.weight.specs.ScorerTree.{Leaf, nothing, term, phrase, range, everything, Scoring, Scorer, leaf, boolean, Scorers, end, more, leaf_matches, matches}
+use Rattle.weight.specs.State.{State, words_of, leaf_size, size_of, sizes_of}
 use Rattle.weight.specs.Held.{Cache, RunAt, TermIs, TermsAre, LeafIs, Ok, Oks}
-use Rattle.window_words.specs.Windowed.{Places, nowhere, joined, Stored, TermAsked, TermsWindowed, phrasePlaces, LeafWindowed, requiredPlaces, optionalPlaces, optionalBound, Windowed, AllWindowed}
+use Rattle.window_words.specs.Windowed.{Places, nowhere, joined, Stored, TermAsked, TermsWindowed, phrase_places, LeafWindowed, required_places, optional_places, optional_bound, Windowed, AllWindowed}
 
 -- the places of D' are all among those of D
 abbrev pub Among : Places → Places → Type 0
@@ -81,8 +81,8 @@ leaf-weaker ix R (phrase g ts) s w b base D e f D' h k p = (
     size_is = p.0.size_is;
     field_is = p.0.field_is;
     norms-is = p.0.norms-is;
-    terms = terms-weaker ix ts w b base (phrasePlaces ix ts base D) e f (phrasePlaces ix ts f D') h (kept-where k (λ d. ltb 0 (phraseFrequency ix ts d))) p.0.terms;
-    frequencies = λ q g e. let u = k q g e in p.0.frequencies q g u.1 ∙ ap (λ (n : ℕ). min 3 (phraseFrequency ix ts (n + q))) (sym u.0);
+    terms = terms-weaker ix ts w b base (phrase_places ix ts base D) e f (phrase_places ix ts f D') h (kept-where k (λ d. ltb 0 (phrase_frequency ix ts d))) p.0.terms;
+    frequencies = λ q g e. let u = k q g e in p.0.frequencies q g u.1 ∙ ap (λ (n : ℕ). min 3 (phrase_frequency ix ts (n + q))) (sym u.0);
     worked-out = p.0.worked-out;
   },
   p.1,
@@ -99,10 +99,10 @@ mutual
 
   windowed-weaker : (ix : Index) (R : List ℕ) (s : Scorer) (k o : ℕ) (y : List ℕ) (b base : ℕ) (D : Places) (e f : ℕ) (D' : Places) → b ≤ e → base ≤ f → Kept base D f D' → Windowed ix R s k o y b base D → Windowed ix R s k o y e f D'
   windowed-weaker ix R (leaf l sc) k o y b base D e f D' h g u p =
-      (p.0, p.1, p.2, p.3, leaf-weaker ix R l p.0 p.1 b base D e f D' h u p.4, p.5, stored-kept u (leafMatches ix l) p.0 p.6)
+      (p.0, p.1, p.2, p.3, leaf-weaker ix R l p.0 p.1 b base D e f D' h u p.4, p.5, stored-kept u (leaf_matches ix l) p.0 p.6)
   windowed-weaker ix R (boolean c j need rs os ps) k o y b base D e f D' h g u p =
       let S : Scorer = boolean c j need rs os ps in
-      let r : Kept base (requiredPlaces ix S base D) f (requiredPlaces ix S f D') = kept-where u (matches ix S) in (
+      let r : Kept base (required_places ix S base D) f (required_places ix S f D') = kept-where u (matches ix S) in (
         p.0,
         p.1,
         p.2,
@@ -113,8 +113,8 @@ mutual
         p.7,
         p.8,
         stored-kept u (matches ix S) p.0 p.9,
-        all-weaker ix R rs (k - 1) p.1 b base (requiredPlaces ix S base D) e f (requiredPlaces ix S f D') h g r p.10,
-        all-weaker ix R os (k - 1) p.2 (optionalBound need b base) base (optionalPlaces ix S need base D) (optionalBound need e f) f (optionalPlaces ix S need f D') (bound-more (ltb 0 need) b base e f h g) g (kept-if r (ltb 0 need)) p.11,
+        all-weaker ix R rs (k - 1) p.1 b base (required_places ix S base D) e f (required_places ix S f D') h g r p.10,
+        all-weaker ix R os (k - 1) p.2 (optional_bound need b base) base (optional_places ix S need base D) (optional_bound need e f) f (optional_places ix S need f D') (bound-more (ltb 0 need) b base e f h g) g (kept-if r (ltb 0 need)) p.11,
         all-weaker ix R ps (k - 1) p.3 b base nowhere e f nowhere h g (kept-none base nowhere f) p.12,
       )
 
@@ -145,20 +145,20 @@ pub all-forget : (ix : Index) (R : List ℕ) (ss : Scorers) (k : ℕ) (w : List 
 all-forget ix R ss k w b base D e h g = all-weaker ix R ss k w b base D e e nowhere h g (kept-none base D e)
 
 -- ---- how many words
-terms-length : (ix : Index) (ts : List PhraseTerm) (w : List ℕ) (b base : ℕ) (D : Places) → TermsWindowed ix ts w b base D → length w ≡ nodeStateWords * length ts
+terms-length : (ix : Index) (ts : List PhraseTerm) (w : List ℕ) (b base : ℕ) (D : Places) → TermsWindowed ix ts w b base D → length w ≡ node_state_words * length ts
 unfolding TermsWindowed
 terms-length ix [] w b base D p = ap length p
 terms-length ix (t ∷ ts) w b base D p = omega (arith, ap length p.2, terms-length ix ts p.1 b base D p.6)
 
 record Sizes (l : Leaf) (s : State) (w : List ℕ) : Type 0 where
-  size : s.size ≡ leafSize l
-  words : nodeStateWords + length w ≡ leafSize l
+  size : s.size ≡ leaf_size l
+  words : node_state_words + length w ≡ leaf_size l
 
 leaf-sizes : (ix : Index) (R : List ℕ) (l : Leaf) (s : State) (w : List ℕ) (b base : ℕ) (D : Places) → LeafWindowed ix R l s w b base D → Sizes l s w
-unfolding LeafWindowed leafSize
+unfolding LeafWindowed leaf_size
 leaf-sizes ix R nothing s w b base D p = record { size = p.1; words = omega (arith, ap length p.3) }
 leaf-sizes ix R (term l) s w b base D p = record { size = p.0.size_is; words = omega (arith, ap length p.2) }
-leaf-sizes ix R (phrase f ts) s w b base D p = record { size = p.0.size_is; words = omega (arith, terms-length ix ts w b base (phrasePlaces ix ts base D) p.0.terms) }
+leaf-sizes ix R (phrase f ts) s w b base D p = record { size = p.0.size_is; words = omega (arith, terms-length ix ts w b base (phrase_places ix ts base D) p.0.terms) }
 leaf-sizes ix R (range r) s w b base D p = record { size = p.0.size_is; words = omega (arith, ap length p.2) }
 leaf-sizes ix R everything s w b base D p = record { size = p.1; words = omega (arith, ap length p.3) }
 
@@ -170,22 +170,22 @@ mutual
       omega (arith, ap length p.2, (leaf-sizes ix R l p.0 p.1 b base D p.4).words)
   windowed-length ix R (boolean c j need rs os ps) k o y b base D p =
       let S : Scorer = boolean c j need rs os ps in
-      omega (arith, ap length p.4, length-append p.1 (p.2 ++ p.3), length-append p.2 p.3, all-length ix R rs (k - 1) p.1 b base (requiredPlaces ix S base D) p.10, all-length ix R os (k - 1) p.2 (optionalBound need b base) base (optionalPlaces ix S need base D) p.11, all-length ix R ps (k - 1) p.3 b base nowhere p.12)
+      omega (arith, ap length p.4, length-append p.1 (p.2 ++ p.3), length-append p.2 p.3, all-length ix R rs (k - 1) p.1 b base (required_places ix S base D) p.10, all-length ix R os (k - 1) p.2 (optional_bound need b base) base (optional_places ix S need base D) p.11, all-length ix R ps (k - 1) p.3 b base nowhere p.12)
 
-  pub all-length : (ix : Index) (R : List ℕ) (ss : Scorers) (k : ℕ) (w : List ℕ) (b base : ℕ) (D : Places) → AllWindowed ix R ss k w b base D → length w ≡ sizesOf ss
+  pub all-length : (ix : Index) (R : List ℕ) (ss : Scorers) (k : ℕ) (w : List ℕ) (b base : ℕ) (D : Places) → AllWindowed ix R ss k w b base D → length w ≡ sizes_of ss
   all-length ix R end k w b base D p = ap length p
   all-length ix R (more m s ss) k w b base D p =
       omega (arith, ap length p.2, length-append p.0 p.1, windowed-length ix R s k (cond m 1 0) p.0 b base D p.3, all-length ix R ss k p.1 b base D p.4)
 
 -- ---- the record at the front
 -- a scorer's kind, as the first word has it
-unfoldable pub kindOf : Scorer → ℕ
-kindOf (leaf nothing sc) = 0
-kindOf (leaf (term l) sc) = 1
-kindOf (leaf (phrase f ts) sc) = 2
-kindOf (leaf (range r) sc) = 4
-kindOf (leaf everything sc) = 5
-kindOf (boolean c j need rs os ps) = 3
+unfoldable pub kind_of : Scorer → ℕ
+kind_of (leaf nothing sc) = 0
+kind_of (leaf (term l) sc) = 1
+kind_of (leaf (phrase f ts) sc) = 2
+kind_of (leaf (range r) sc) = 4
+kind_of (leaf everything sc) = 5
+kind_of (boolean c j need rs os ps) = 3
 
 record Front (P : ℕ → Bool) (kind size o base : ℕ) (D : Places) (y : List ℕ) : Type 0 where
   state : State
@@ -196,30 +196,30 @@ record Front (P : ℕ → Bool) (kind size o base : ℕ) (D : Places) (y : List 
   scores-is : state.scores ≡ o
   stored : Stored P state base D
 
-leaf-kind : (ix : Index) (R : List ℕ) (l : Leaf) (sc : Scoring) (s : State) (w : List ℕ) (b base : ℕ) (D : Places) → LeafWindowed ix R l s w b base D → s.kind ≡ kindOf (leaf l sc)
-unfolding LeafWindowed kindOf
+leaf-kind : (ix : Index) (R : List ℕ) (l : Leaf) (sc : Scoring) (s : State) (w : List ℕ) (b base : ℕ) (D : Places) → LeafWindowed ix R l s w b base D → s.kind ≡ kind_of (leaf l sc)
+unfolding LeafWindowed kind_of
 leaf-kind ix R nothing sc s w b base D p = p.0
 leaf-kind ix R (term l) sc s w b base D p = p.0.kind-is
 leaf-kind ix R (phrase f ts) sc s w b base D p = p.0.kind-is
 leaf-kind ix R (range r) sc s w b base D p = p.0.kind-is
 leaf-kind ix R everything sc s w b base D p = p.0
 
-front : (ix : Index) (R : List ℕ) (s : Scorer) (k o : ℕ) (y : List ℕ) (b base : ℕ) (D : Places) → Windowed ix R s k o y b base D → Front (matches ix s) (kindOf s) (size_of s) o base D y
-unfolding Windowed size_of kindOf matches
+front : (ix : Index) (R : List ℕ) (s : Scorer) (k o : ℕ) (y : List ℕ) (b base : ℕ) (D : Places) → Windowed ix R s k o y b base D → Front (matches ix s) (kind_of s) (size_of s) o base D y
+unfolding Windowed size_of kind_of matches
 front ix R (leaf l sc) k o y b base D p = record { state = p.0; behind = p.1; is = p.2; kind-is = leaf-kind ix R l sc p.0 p.1 b base D p.4; size_is = (leaf-sizes ix R l p.0 p.1 b base D p.4).size; scores-is = p.3; stored = p.6 }
 front ix R (boolean c j need rs os ps) k o y b base D p = record { state = p.0; behind = p.1 ++ (p.2 ++ p.3); is = p.4; kind-is = p.7.kind-is; size_is = p.7.size_is; scores-is = p.5; stored = p.9 }
 
 module _ (ix : Index) (R : List ℕ) (s : Scorer) (k o : ℕ) (y : List ℕ) (b base : ℕ) (D : Places) (p : Windowed ix R s k o y b base D) where
-  head : Front (matches ix s) (kindOf s) (size_of s) o base D y
+  head : Front (matches ix s) (kind_of s) (size_of s) o base D y
   head = front ix R s k o y b base D p
 
-  pub windowed-long : nodeStateWords ≤ length y
+  pub windowed-long : node_state_words ≤ length y
   windowed-long = omega (arith, ap length head.is)
 
   pub windowed-size : get_or y 1 0 ≡ length y
   windowed-size = ap (λ (l : List ℕ). get_or l 1 0) head.is ∙ head.size_is ∙ sym (windowed-length ix R s k o y b base D p)
 
-  pub windowed-kind : get_or y 0 0 ≡ kindOf s
+  pub windowed-kind : get_or y 0 0 ≡ kind_of s
   windowed-kind = ap (λ (l : List ℕ). get_or l 0 0) head.is ∙ head.kind-is
 
   pub windowed-scores : get_or y 15 0 ≡ o
@@ -229,8 +229,8 @@ module _ (ix : Index) (R : List ℕ) (s : Scorer) (k o : ℕ) (y : List ℕ) (b 
   windowed-bits q g e = ap (λ (l : List ℕ). bit q (joined (get_or l 20 0) (get_or l 21 0))) head.is ∙ head.stored q g e
 
 -- a node that is neither a phrase nor a Boolean: its part is one record
-kind-single : (s : Scorer) → (kindOf s ≡ 2 → ⊥) → (kindOf s ≡ 3 → ⊥) → size_of s ≡ nodeStateWords
-unfolding kindOf size_of leafSize
+kind-single : (s : Scorer) → (kind_of s ≡ 2 → ⊥) → (kind_of s ≡ 3 → ⊥) → size_of s ≡ node_state_words
+unfolding kind_of size_of leaf_size
 kind-single (leaf nothing sc) n m = refl
 kind-single (leaf (term l) sc) n m = refl
 kind-single (leaf (phrase f ts) sc) n m = absurd (n refl)
@@ -238,7 +238,7 @@ kind-single (leaf (range r) sc) n m = refl
 kind-single (leaf everything sc) n m = refl
 kind-single (boolean c j need rs os ps) n m = absurd (m refl)
 
-pub windowed-single : (ix : Index) (R : List ℕ) (s : Scorer) (k o : ℕ) (y : List ℕ) (b base : ℕ) (D : Places) → Windowed ix R s k o y b base D → (get_or y 0 0 ≡ 2 → ⊥) → (get_or y 0 0 ≡ 3 → ⊥) → length y ≡ nodeStateWords
+pub windowed-single : (ix : Index) (R : List ℕ) (s : Scorer) (k o : ℕ) (y : List ℕ) (b base : ℕ) (D : Places) → Windowed ix R s k o y b base D → (get_or y 0 0 ≡ 2 → ⊥) → (get_or y 0 0 ≡ 3 → ⊥) → length y ≡ node_state_words
 windowed-single ix R s k o y b base D p n m =
     let e = windowed-kind ix R s k o y b base D p in
     windowed-length ix R s k o y b base D p ∙ kind-single s (λ h. n (e ∙ h)) (λ h. m (e ∙ h))
@@ -259,7 +259,7 @@ leaf-is ix R (phrase f ts) s w b base D e h p =
       size_is = p.0.size_is;
       field_is = p.0.field_is;
       norms-is = p.0.norms-is;
-      terms = terms-are ix ts w b base (phrasePlaces ix ts base D) e h p.0.terms;
+      terms = terms-are ix ts w b base (phrase_places ix ts base D) e h p.0.terms;
       worked-out = p.0.worked-out;
     }
 leaf-is ix R (range r) s w b base D e h p = (p.0, p.2)
@@ -269,7 +269,7 @@ no-cache : (P : ℕ → Bool) (b c : ℕ) → c ≡ 0 → Cache P b c
 no-cache P b c e t h g = absurd (omega (arith, e, g))
 
 leaf-cache : (ix : Index) (R : List ℕ) (l : Leaf) (sc : Scoring) (s : State) (w : List ℕ) (b base : ℕ) (D : Places) → LeafWindowed ix R l s w b base D → Cache (matches ix (leaf l sc)) b s.cached
-unfolding LeafWindowed matches leafMatches
+unfolding LeafWindowed matches leaf_matches
 leaf-cache ix R nothing sc s w b base D p = λ t h g. record { from = omega (arith, g, p.2); top = omega (arith, p.2); before = λ i a c. refl; hit = λ c. absurd (omega (arith, p.2, c)) }
 leaf-cache ix R (term l) sc s w b base D p = no-cache (λ d. matches ix (leaf (term l) sc) d) b s.cached p.1
 leaf-cache ix R (phrase f ts) sc s w b base D p = no-cache (λ d. matches ix (leaf (phrase f ts) sc) d) b s.cached p.1
@@ -301,8 +301,8 @@ mutual
         p.6,
         p.7,
         no-cache (matches ix S) e p.0.cached p.8,
-        oks-at ix R rs (k - 1) p.1 b base (requiredPlaces ix S base D) n up from p.10,
-        oks-at ix R os (k - 1) p.2 (optionalBound need b base) base (optionalPlaces ix S need base D) n (bound-below (ltb 0 need) b base n up from) from p.11,
+        oks-at ix R rs (k - 1) p.1 b base (required_places ix S base D) n up from p.10,
+        oks-at ix R os (k - 1) p.2 (optional_bound need b base) base (optional_places ix S need base D) n (bound-below (ltb 0 need) b base n up from) from p.11,
         oks-at ix R ps (k - 1) p.3 b base nowhere n up from p.12,
       )
 

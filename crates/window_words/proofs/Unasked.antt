@@ -6,7 +6,7 @@ use Rattle.meaning.specs.Phrase.{PhraseTerm}
 use Rattle.weight.specs.ScorerTree.{Scorer, leaf, boolean, Scorers, end, more}
 use Rattle.weight.specs.State.{State}
 use Rattle.weight.specs.Held.{TermsAre}
-use Rattle.window_words.specs.Windowed.{Places, nowhere, Stored, TermAsked, TermsWindowed, requiredPlaces, optionalPlaces, optionalBound, Windowed, AllWindowed}
+use Rattle.window_words.specs.Windowed.{Places, nowhere, Stored, TermAsked, TermsWindowed, required_places, optional_places, optional_bound, Windowed, AllWindowed}
 use Rattle.window_words.proofs.Laws.{all-less}
 
 -- ---- nothing is known of places that were not asked
@@ -26,16 +26,16 @@ one_bound : (t : Bool) (b : ℕ) → b ≡ cond t b b
 one_bound true b = refl
 one_bound false b = refl
 
-pub unasked-optional : (ix : Index) (R : List ℕ) (s : Scorer) (need : ℕ) (os : Scorers) (k : ℕ) (v : List ℕ) (b : ℕ) → AllWindowed ix R os k v b b nowhere → AllWindowed ix R os k v (optionalBound need b b) b (optionalPlaces ix s need b nowhere)
+pub unasked-optional : (ix : Index) (R : List ℕ) (s : Scorer) (need : ℕ) (os : Scorers) (k : ℕ) (v : List ℕ) (b : ℕ) → AllWindowed ix R os k v b b nowhere → AllWindowed ix R os k v (optional_bound need b b) b (optional_places ix s need b nowhere)
 unasked-optional ix R s need os k v b p =
-    let D = optionalPlaces ix s need b nowhere in
+    let D = optional_places ix s need b nowhere in
     subst (λ (c : ℕ). AllWindowed ix R os k v c b D) (one_bound (ltb 0 need) b) (all-less ix R os k v b b nowhere D (λ q g e. (and_parts (ltb 0 need) false e).1) p)
 
 -- and from there back
-pub optional-unasked : (ix : Index) (R : List ℕ) (s : Scorer) (need : ℕ) (os : Scorers) (k : ℕ) (v : List ℕ) (b : ℕ) → AllWindowed ix R os k v (optionalBound need b b) b (optionalPlaces ix s need b nowhere) → AllWindowed ix R os k v b b nowhere
+pub optional-unasked : (ix : Index) (R : List ℕ) (s : Scorer) (need : ℕ) (os : Scorers) (k : ℕ) (v : List ℕ) (b : ℕ) → AllWindowed ix R os k v (optional_bound need b b) b (optional_places ix s need b nowhere) → AllWindowed ix R os k v b b nowhere
 optional-unasked ix R s need os k v b p =
-    let D = optionalPlaces ix s need b nowhere in
-    subst (λ (c : ℕ). AllWindowed ix R os k v c b nowhere) (sym (one_bound (ltb 0 need) b)) (all-less ix R os k v (optionalBound need b b) b D nowhere (λ q g e. absurd (false≢true e)) p)
+    let D = optional_places ix s need b nowhere in
+    subst (λ (c : ℕ). AllWindowed ix R os k v c b nowhere) (sym (one_bound (ltb 0 need) b)) (all-less ix R os k v (optional_bound need b b) b D nowhere (λ q g e. absurd (false≢true e)) p)
 
 -- ---- words that hold a tree with some levels left hold it with more, as below a Boost or a ConstantScore, which have no record
 module _ (ix : Index) (R : List ℕ) where
@@ -57,8 +57,8 @@ module _ (ix : Index) (R : List ℕ) where
           p.7,
           p.8,
           p.9,
-          all-deeper rs (k - 1) (m - 1) p.1 b base (requiredPlaces ix S base D) (omega (arith, h)) p.10,
-          all-deeper os (k - 1) (m - 1) p.2 (optionalBound need b base) base (optionalPlaces ix S need base D) (omega (arith, h)) p.11,
+          all-deeper rs (k - 1) (m - 1) p.1 b base (required_places ix S base D) (omega (arith, h)) p.10,
+          all-deeper os (k - 1) (m - 1) p.2 (optional_bound need b base) base (optional_places ix S need base D) (omega (arith, h)) p.11,
           all-deeper ps (k - 1) (m - 1) p.3 b base nowhere (omega (arith, h)) p.12,
         )
 

@@ -4,7 +4,7 @@ use Prim.Native.Nat.{ℕ, zero, suc, ◌+◌, ◌-◌, ◌*◌, ◌/◌, ◌%◌
 use native.Mathlib.Nat.{not-suc-le-zero, le_of_suc-le-suc, le_trans, mul_comm, mul_assoc, mul-le-mul_right, mod-le, div-mul-le_self, div-div-eq-div-mul, pow-suc, zero-div}
 use native.Mathlib.Omega.{arith}
 use lib.Pow.{pow_pos}
-use Rattle.withdrawals.specs.Withdrawal.{clearBit}
+use Rattle.withdrawals.specs.Withdrawal.{clear_bit}
 
 -- bit j of a word
 abbrev pub bit : ℕ → ℕ → ℕ
@@ -14,13 +14,13 @@ bit w j = w / 2 ^ j % 2
 half : (w j : ℕ) → w / 2 ^ suc j ≡ w / 2 / 2 ^ j
 half w j = ap (λ (n : ℕ). w / n) (pow-suc 2 j ∙ mul_comm (2 ^ j) 2) ∙ sym (div-div-eq-div-mul w 2 (2 ^ j))
 
--- ---- clearBit by its bit, from the lowest on
-clear_first : (w : ℕ) → clearBit 0 w ≡ w / 2 * 2
-unfolding clearBit
+-- ---- clear_bit by its bit, from the lowest on
+clear_first : (w : ℕ) → clear_bit 0 w ≡ w / 2 * 2
+unfolding clear_bit
 clear_first w = omega arith
 
-clear_later : (j w : ℕ) → clearBit (suc j) w ≡ clearBit j (w / 2) * 2 + w % 2
-unfolding clearBit
+clear_later : (j w : ℕ) → clear_bit (suc j) w ≡ clear_bit j (w / 2) * 2 + w % 2
+unfolding clear_bit
 clear_later j w =
     go w (w / 2 / 2 ^ j % 2 * 2 ^ j) (w / 2 ^ suc j % 2 * 2 ^ suc j)
     (ap (λ (n : ℕ). n % 2 * 2 ^ suc j) (half w j) ∙ ap (λ (n : ℕ). w / 2 / 2 ^ j % 2 * n) (pow-suc 2 j) ∙ sym (mul_assoc (w / 2 / 2 ^ j % 2) (2 ^ j) 2))
@@ -30,30 +30,30 @@ clear_later j w =
     go w x y e l = omega arith
 
 -- ---- the bits afterwards
-pub cleared-bit : (j w : ℕ) → bit (clearBit j w) j ≡ 0
+pub cleared-bit : (j w : ℕ) → bit (clear_bit j w) j ≡ 0
 cleared-bit zero w = omega (arith, clear_first w)
 cleared-bit (suc j) w =
-    let low : clearBit (suc j) w / 2 ≡ clearBit j (w / 2) = omega (arith, clear_later j w) in
-    ap (λ (n : ℕ). n % 2) (half (clearBit (suc j) w) j ∙ ap (λ (n : ℕ). n / 2 ^ j) low) ∙ cleared-bit j (w / 2)
+    let low : clear_bit (suc j) w / 2 ≡ clear_bit j (w / 2) = omega (arith, clear_later j w) in
+    ap (λ (n : ℕ). n % 2) (half (clear_bit (suc j) w) j ∙ ap (λ (n : ℕ). n / 2 ^ j) low) ∙ cleared-bit j (w / 2)
 
-pub other-bit : (i j w : ℕ) → (i ≡ j → ⊥) → bit (clearBit j w) i ≡ bit w i
+pub other-bit : (i j w : ℕ) → (i ≡ j → ⊥) → bit (clear_bit j w) i ≡ bit w i
 other-bit zero zero w n = absurd (n refl)
 other-bit zero (suc j) w n = omega (arith, clear_later j w)
 other-bit (suc i) zero w n =
-    let low : clearBit 0 w / 2 ≡ w / 2 = omega (arith, clear_first w) in
-    ap (λ (n : ℕ). n % 2) (half (clearBit 0 w) i ∙ ap (λ (n : ℕ). n / 2 ^ i) low ∙ sym (half w i))
+    let low : clear_bit 0 w / 2 ≡ w / 2 = omega (arith, clear_first w) in
+    ap (λ (n : ℕ). n % 2) (half (clear_bit 0 w) i ∙ ap (λ (n : ℕ). n / 2 ^ i) low ∙ sym (half w i))
 other-bit (suc i) (suc j) w n =
-    let low : clearBit (suc j) w / 2 ≡ clearBit j (w / 2) = omega (arith, clear_later j w) in
-    ap (λ (n : ℕ). n % 2) (half (clearBit (suc j) w) i ∙ ap (λ (n : ℕ). n / 2 ^ i) low)
+    let low : clear_bit (suc j) w / 2 ≡ clear_bit j (w / 2) = omega (arith, clear_later j w) in
+    ap (λ (n : ℕ). n % 2) (half (clear_bit (suc j) w) i ∙ ap (λ (n : ℕ). n / 2 ^ i) low)
     ∙ other-bit i j (w / 2) (λ e. n (ap suc e)) ∙ ap (λ (n : ℕ). n % 2) (sym (half w i))
 
 -- clearing it again changes nothing
-clear-again : (j w : ℕ) → bit w j ≡ 0 → clearBit j w ≡ w
-unfolding clearBit
+clear-again : (j w : ℕ) → bit w j ≡ 0 → clear_bit j w ≡ w
+unfolding clear_bit
 clear-again j w e = rw e (omega arith)
 
-pub clear-twice : (j w : ℕ) → clearBit j (clearBit j w) ≡ clearBit j w
-clear-twice j w = clear-again j (clearBit j w) (cleared-bit j w)
+pub clear-twice : (j w : ℕ) → clear_bit j (clear_bit j w) ≡ clear_bit j w
+clear-twice j w = clear-again j (clear_bit j w) (cleared-bit j w)
 
 -- ---- a word in which every bit is set, and one in which none is
 pub set-bit : (n j : ℕ) → j < n → bit (2 ^ n - 1) j ≡ 1

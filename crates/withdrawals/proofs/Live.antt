@@ -10,9 +10,9 @@ use lib.Dec.{eqb}
 use lib.ListN.{length, get_or, set, replicate, length-set, length-replicate, get_or-replicate, get_or-eq_default}
 use lib.Seq.{set_out, set-set, get_or-set_same, get_or-set_other}
 use Rattle.meaning.specs.Lent.{Index}
-use Rattle.meaning.specs.Live.{isLive}
+use Rattle.meaning.specs.Live.{is_live}
 use Rattle.meaning.proofs.Tests.{decided, cmp}
-use Rattle.withdrawals.specs.Withdrawal.{liveWords, clearBit, cleared, withdrawn}
+use Rattle.withdrawals.specs.Withdrawal.{live_words, clear_bit, cleared, withdrawn}
 use Rattle.withdrawals.proofs.Bits.{bit, cleared-bit, other-bit, clear-twice, set-bit, zero_bit}
 
 -- ---- words in which a bit is cleared
@@ -25,21 +25,21 @@ unfolding cleared
 length-cleared d words = simp length-set
 
 -- bit j of word i, also where there is no such word
-cleared-here : (words : List ℕ) (i j : ℕ) → bit (get_or (set words i (clearBit j (get_or words i 0))) i 0) j ≡ 0
+cleared-here : (words : List ℕ) (i j : ℕ) → bit (get_or (set words i (clear_bit j (get_or words i 0))) i 0) j ≡ 0
 cleared-here words i j = elim (cmp i (length words)) [
-  | inl l ↦ ap (λ (w : ℕ). bit w j) (get_or-set_same words i (clearBit j (get_or words i 0)) 0 l) ∙ cleared-bit j (get_or words i 0)
-  | inr l ↦ ap (λ (w : ℕ). bit w j) (ap (λ (ws : List ℕ). get_or ws i 0) (set_out words i (clearBit j (get_or words i 0)) l) ∙ get_or-eq_default words 0 l) ∙ zero_bit j
+  | inl l ↦ ap (λ (w : ℕ). bit w j) (get_or-set_same words i (clear_bit j (get_or words i 0)) 0 l) ∙ cleared-bit j (get_or words i 0)
+  | inr l ↦ ap (λ (w : ℕ). bit w j) (ap (λ (ws : List ℕ). get_or ws i 0) (set_out words i (clear_bit j (get_or words i 0)) l) ∙ get_or-eq_default words 0 l) ∙ zero_bit j
 ]
 
 -- another bit of that word, and a bit of another word
-same_word : (words : List ℕ) (i j j' : ℕ) → (j' ≡ j → ⊥) → bit (get_or (set words i (clearBit j (get_or words i 0))) i 0) j' ≡ bit (get_or words i 0) j'
+same_word : (words : List ℕ) (i j j' : ℕ) → (j' ≡ j → ⊥) → bit (get_or (set words i (clear_bit j (get_or words i 0))) i 0) j' ≡ bit (get_or words i 0) j'
 same_word words i j j' n = elim (cmp i (length words)) [
-  | inl l ↦ ap (λ (w : ℕ). bit w j') (get_or-set_same words i (clearBit j (get_or words i 0)) 0 l) ∙ other-bit j' j (get_or words i 0) n
-  | inr l ↦ ap (λ (ws : List ℕ). bit (get_or ws i 0) j') (set_out words i (clearBit j (get_or words i 0)) l)
+  | inl l ↦ ap (λ (w : ℕ). bit w j') (get_or-set_same words i (clear_bit j (get_or words i 0)) 0 l) ∙ other-bit j' j (get_or words i 0) n
+  | inr l ↦ ap (λ (ws : List ℕ). bit (get_or ws i 0) j') (set_out words i (clear_bit j (get_or words i 0)) l)
 ]
 
-other_word : (words : List ℕ) (i i' j j' : ℕ) → (i' ≡ i → ⊥) → bit (get_or (set words i (clearBit j (get_or words i 0))) i' 0) j' ≡ bit (get_or words i' 0) j'
-other_word words i i' j j' n = ap (λ (w : ℕ). bit w j') (get_or-set_other words i i' (clearBit j (get_or words i 0)) 0 n)
+other_word : (words : List ℕ) (i i' j j' : ℕ) → (i' ≡ i → ⊥) → bit (get_or (set words i (clear_bit j (get_or words i 0))) i' 0) j' ≡ bit (get_or words i' 0) j'
+other_word words i i' j j' n = ap (λ (w : ℕ). bit w j') (get_or-set_other words i i' (clear_bit j (get_or words i 0)) 0 n)
 
 -- the document's bit is 0
 same-document : (d : ℕ) (words : List ℕ) → bit_of (cleared d words) d ≡ 0
@@ -67,20 +67,20 @@ bit-set n i j l m = ap (λ (w : ℕ). bit w j) (get_or-replicate n i (2 ^ 64 - 1
 
 -- ---- the words of an index: those that are lent, or, where none are, words in which every bit is set
 module _ (ix : Index) where
-  pub words-lent : (length ix.live ≡ 0 → ⊥) → liveWords ix ≡ ix.live
-  unfolding liveWords
+  pub words-lent : (length ix.live ≡ 0 → ⊥) → live_words ix ≡ ix.live
+  unfolding live_words
   words-lent n = rw (ne_eqb (length ix.live) 0 n)
 
-  pub words-written : length ix.live ≡ 0 → length (liveWords ix) ≡ (ix.maxDoc + 63) / 64
-  unfolding liveWords
+  pub words-written : length ix.live ≡ 0 → length (live_words ix) ≡ (ix.max_doc + 63) / 64
+  unfolding live_words
   words-written z = rw (eq-eqb (length ix.live) 0 z) (length-replicate _ _)
 
-  bit-written : (x : ℕ) → x < ix.maxDoc → length ix.live ≡ 0 → bit_of (liveWords ix) x ≡ 1
-  unfolding liveWords
-  bit-written x l z = rw (eq-eqb (length ix.live) 0 z) (bit-set ((ix.maxDoc + 63) / 64) (x / 64) (x % 64) (omega (arith, l)) (omega arith))
+  bit-written : (x : ℕ) → x < ix.max_doc → length ix.live ≡ 0 → bit_of (live_words ix) x ≡ 1
+  unfolding live_words
+  bit-written x l z = rw (eq-eqb (length ix.live) 0 z) (bit-set ((ix.max_doc + 63) / 64) (x / 64) (x % 64) (omega (arith, l)) (omega arith))
 
   -- there are none only where there are no documents
-  no_words : length (liveWords ix) ≡ 0 → (ix.maxDoc + 63) / 64 ≡ 0
+  no_words : length (live_words ix) ≡ 0 → (ix.max_doc + 63) / 64 ≡ 0
   no_words z = elim (decided (eqb (length ix.live) 0)) [
     | inl e ↦ sym (words-written (eqb-true (length ix.live) 0 e)) ∙ z
     | inr e ↦ let n = eqb-false (length ix.live) 0 e in absurd (n (sym (ap length (words-lent n)) ∙ z))
@@ -90,16 +90,16 @@ module _ (ix : Index) where
 abbrev live_in : List ℕ → ℕ → Bool
 live_in words x = eqb (bit_of words x) 1
 
-live_lent : (ix : Index) (x : ℕ) → (length ix.live ≡ 0 → ⊥) → isLive ix x ≡ live_in ix.live x
-unfolding isLive
+live_lent : (ix : Index) (x : ℕ) → (length ix.live ≡ 0 → ⊥) → is_live ix x ≡ live_in ix.live x
+unfolding is_live
 live_lent ix x n = rw (ne_eqb (length ix.live) 0 n)
 
-live_written : (ix : Index) (x : ℕ) → length ix.live ≡ 0 → isLive ix x ≡ true
-unfolding isLive
+live_written : (ix : Index) (x : ℕ) → length ix.live ≡ 0 → is_live ix x ≡ true
+unfolding is_live
 live_written ix x z = rw (eq-eqb (length ix.live) 0 z)
 
 -- a document below N is live exactly where its bit in the words is 1
-live-words : (ix : Index) (x : ℕ) → x < ix.maxDoc → isLive ix x ≡ live_in (liveWords ix) x
+live-words : (ix : Index) (x : ℕ) → x < ix.max_doc → is_live ix x ≡ live_in (live_words ix) x
 live-words ix x l = elim (decided (eqb (length ix.live) 0)) [
   | inl e ↦ let z = eqb-true (length ix.live) 0 e in live_written ix x z ∙ sym (ap (λ (b : ℕ). eqb b 1) (bit-written ix x l z))
   | inr e ↦ let n = eqb-false (length ix.live) 0 e in live_lent ix x n ∙ ap (λ (words : List ℕ). live_in words x) (sym (words-lent ix n))
@@ -112,20 +112,20 @@ live-cleared d x words = elim (decided (eqb x d)) [
 ]
 
 -- "clearing one live bit": the document is live no more, and every other one is as it was
-pub live-exactly : (ix : Index) (d x : ℕ) → x < ix.maxDoc → isLive (withdrawn ix d) x ≡ (isLive ix x && not (eqb x d))
+pub live-exactly : (ix : Index) (d x : ℕ) → x < ix.max_doc → is_live (withdrawn ix d) x ≡ (is_live ix x && not (eqb x d))
 unfolding withdrawn
 live-exactly ix d x l =
-    live_lent (withdrawn ix d) x (λ z. omega (arith, l, no_words ix (sym (length-cleared d (liveWords ix)) ∙ z)))
-    ∙ live-cleared d x (liveWords ix) ∙ ap (λ (b : Bool). b && not (eqb x d)) (sym (live-words ix x l))
+    live_lent (withdrawn ix d) x (λ z. omega (arith, l, no_words ix (sym (length-cleared d (live_words ix)) ∙ z)))
+    ∙ live-cleared d x (live_words ix) ∙ ap (λ (b : Bool). b && not (eqb x d)) (sym (live-words ix x l))
 
 -- ---- a lot that is withdrawn twice
-set_twice : (words : List ℕ) (i j : ℕ) → let once = set words i (clearBit j (get_or words i 0)) in set once i (clearBit j (get_or once i 0)) ≡ once
+set_twice : (words : List ℕ) (i j : ℕ) → let once = set words i (clear_bit j (get_or words i 0)) in set once i (clear_bit j (get_or once i 0)) ≡ once
 set_twice words i j =
-    let v = clearBit j (get_or words i 0) in
-    set-set words i v (clearBit j (get_or (set words i v) i 0))
-    ∙ elim (cmp i (length words)) as (λ _. set words i (clearBit j (get_or (set words i v) i 0)) ≡ set words i v) [
-      | inl l ↦ ap (set words i) (ap (clearBit j) (get_or-set_same words i v 0 l) ∙ clear-twice j (get_or words i 0))
-      | inr l ↦ set_out words i (clearBit j (get_or (set words i v) i 0)) l ∙ sym (set_out words i v l)
+    let v = clear_bit j (get_or words i 0) in
+    set-set words i v (clear_bit j (get_or (set words i v) i 0))
+    ∙ elim (cmp i (length words)) as (λ _. set words i (clear_bit j (get_or (set words i v) i 0)) ≡ set words i v) [
+      | inl l ↦ ap (set words i) (ap (clear_bit j) (get_or-set_same words i v 0 l) ∙ clear-twice j (get_or words i 0))
+      | inr l ↦ set_out words i (clear_bit j (get_or (set words i v) i 0)) l ∙ sym (set_out words i v l)
     ]
 
 cleared-twice : (d : ℕ) (words : List ℕ) → cleared d (cleared d words) ≡ cleared d words
@@ -133,13 +133,13 @@ unfolding cleared
 cleared-twice d words = set_twice words _ _
 
 -- the words that were written are those that are lent from then on
-words-kept : (ix : Index) (d : ℕ) → liveWords (withdrawn ix d) ≡ cleared d (liveWords ix)
+words-kept : (ix : Index) (d : ℕ) → live_words (withdrawn ix d) ≡ cleared d (live_words ix)
 unfolding withdrawn
 words-kept ix d = elim (decided (eqb (length (withdrawn ix d).live) 0)) [
   | inl e ↦
       let z = eqb-true (length (withdrawn ix d).live) 0 e in
-      let none = no_words ix (sym (length-cleared d (liveWords ix)) ∙ z) in
-      empty (liveWords (withdrawn ix d)) (words-written (withdrawn ix d) z ∙ none) ∙ sym (empty (cleared d (liveWords ix)) z)
+      let none = no_words ix (sym (length-cleared d (live_words ix)) ∙ z) in
+      empty (live_words (withdrawn ix d)) (words-written (withdrawn ix d) z ∙ none) ∙ sym (empty (cleared d (live_words ix)) z)
   | inr e ↦ words-lent (withdrawn ix d) (eqb-false (length (withdrawn ix d).live) 0 e)
 ]
   where
@@ -149,4 +149,4 @@ words-kept ix d = elim (decided (eqb (length (withdrawn ix d).live) 0)) [
 
 pub withdrawn-twice : (ix : Index) (d : ℕ) → withdrawn (withdrawn ix d) d ≡ withdrawn ix d
 unfolding withdrawn
-withdrawn-twice ix d = ap (λ (words : List ℕ). record { maxDoc = ix.maxDoc; fields = ix.fields; leaves = ix.leaves; postings = ix.postings; positions = ix.positions; norms = ix.norms; live = words; columns = ix.columns; values = ix.values }) (ap (cleared d) (words-kept ix d) ∙ cleared-twice d (liveWords ix))
+withdrawn-twice ix d = ap (λ (words : List ℕ). record { max_doc = ix.max_doc; fields = ix.fields; leaves = ix.leaves; postings = ix.postings; positions = ix.positions; norms = ix.norms; live = words; columns = ix.columns; values = ix.values }) (ap (cleared d) (words-kept ix d) ∙ cleared-twice d (live_words ix))

@@ -54,7 +54,7 @@ pub fn list(case: &Case) -> Row {
     let bits = list.iter().map(|hit| u64::from(hit.bits));
     let both: Vec<_> = documents.chain(bits).collect();
     let cost = oracle.cost().map_or(vec![0], |cost| vec![1, cost]);
-    let listed = "pairs (fullList IX (queryTree QUERY))".to_string();
+    let listed = "pairs (full_list IX (query_tree QUERY))".to_string();
     let equations = vec![
         (listed, words(&both)),
         ("costed IX QUERY".into(), words(&cost)),
@@ -75,11 +75,11 @@ pub fn search(case: &Case, lent: &Lengths) -> Row {
     let before = format!("(replicate {places} (pos {BEFORE}))");
     let equations = vec![
         (
-            format!("searchAnswer IX QUERY {k} {t} {work} {places}"),
+            format!("search_answer IX QUERY {k} {t} {work} {places}"),
             words(&answer),
         ),
         (
-            format!("searchHits IX QUERY {k} {work} {before}"),
+            format!("search_hits IX QUERY {k} {work} {before}"),
             integers(&filled(hits, places, BEFORE)),
         ),
     ];
@@ -100,11 +100,11 @@ pub fn page(case: &Case, target: u32, lent: &Lengths) -> Row {
     let both = [filled(documents, m, 7), filled(bits, scores, 9)].concat();
     let work = work(lent);
     let outputs = format!("{work} (replicate {m} 7) (replicate {scores} 9)");
-    let documents = format!("pageDocuments IX QUERY {target} {outputs}");
-    let scored = format!("pageScores IX QUERY {target} {outputs}");
+    let documents = format!("page_documents IX QUERY {target} {outputs}");
+    let scored = format!("page_scores IX QUERY {target} {outputs}");
     let equations = vec![
         (
-            format!("pageAnswer IX QUERY {target} {work} {m} {scores}"),
+            format!("page_answer IX QUERY {target} {work} {m} {scores}"),
             words(&answer),
         ),
         (format!("{documents} ++ {scored}"), words(&both)),
@@ -128,10 +128,10 @@ fn place_number(case: &Case, record: usize, document: u32, lent: &Lengths) -> u3
 /// Place leaves open which start is given: the definition is asked about some, and about none.
 pub fn place(case: &Case, record: usize, document: u32, lent: &Lengths) -> Row {
     let number = place_number(case, record, document, lent);
-    let refusal = format!("placeRefusal IX QUERY {record} {document} {}", work(lent));
+    let refusal = format!("place_refusal IX QUERY {record} {document} {}", work(lent));
     let mut equations = vec![(refusal, number.to_string())];
     if number == 0 {
-        let right = format!("placeRight IX QUERY {record} {document}");
+        let right = format!("place_right IX QUERY {record} {document}");
         let starts = starts(case, record, document);
         equations.push((format!("{right} none"), starts.is_empty().to_string()));
         let first = starts.first().copied().unwrap_or(0);
@@ -162,15 +162,15 @@ pub fn range(case: &Case, room: usize, output: usize) -> Row {
     let [lower, upper] = [[ends[0], ends[1]], [ends[2], ends[3]]]
         .map(|[low, high]| u64::from(low) | u64::from(high) << 32);
     let lists = [&case.columns, &case.values].map(|list| words(list));
-    let lent = format!("(columnsOnly {} ({}) ({}))", case.n, lists[0], lists[1]);
+    let lent = format!("(columns_only {} ({}) ({}))", case.n, lists[0], lists[1]);
     let range = format!("(range {column} {kinds} {lower} {upper})");
     let equations = vec![
         (
-            format!("rangeAnswer {lent} {range} {room} {output}"),
+            format!("range_answer {lent} {range} {room} {output}"),
             words(&answer),
         ),
         (
-            format!("rangeOutput {lent} {range} {room} (replicate {output} 7)"),
+            format!("range_output {lent} {range} {room} (replicate {output} 7)"),
             words(&filled(listed, output, 7)),
         ),
     ];
@@ -197,11 +197,11 @@ pub fn pick(lists: &Lists, places: usize) -> Row {
     let before = format!("(replicate {places} (pos {BEFORE}))");
     let equations = vec![
         (
-            format!("pickAnswer {lists} {k} {t} {places}"),
+            format!("pick_answer {lists} {k} {t} {places}"),
             words(&answer),
         ),
         (
-            format!("pickHits {lists} {k} {before}"),
+            format!("pick_hits {lists} {k} {before}"),
             integers(&filled(hits, places, BEFORE)),
         ),
     ];
@@ -212,7 +212,7 @@ pub fn pick(lists: &Lists, places: usize) -> Row {
 pub fn lengths() -> Row {
     let bytes: Vec<u8> = (0..=255).collect();
     let decoded: Vec<_> = bytes.iter().map(|byte| oracle::length(*byte)).collect();
-    let call = format!("map lengthAnswer ({})", words(&bytes));
+    let call = format!("map length_answer ({})", words(&bytes));
     of_lists(Entry::Length, 0, vec![(call, words(&decoded))])
 }
 
@@ -228,7 +228,7 @@ pub fn text(case: &Case, spoiled: Option<usize>) -> Row {
         (None, number) => (number, format!("refused {number}\n")),
     };
     let lists = files.iter().map(|bytes| format!(" ({})", words(bytes)));
-    let call = format!("hitsText (files{})", lists.collect::<String>());
+    let call = format!("hits_text (files{})", lists.collect::<String>());
     let equations = vec![(call, words(text.as_bytes()))];
     of_ranges(Entry::Text, number, case, equations)
 }
@@ -238,7 +238,7 @@ pub fn text(case: &Case, spoiled: Option<usize>) -> Row {
 pub fn text_of_read(case: &Case) -> Row {
     let number = refusal(case);
     assert_ne!(number, 0);
-    let call = format!("searchText IX QUERY {} {}", case.k, case.t);
+    let call = format!("search_text IX QUERY {} {}", case.k, case.t);
     let text = format!("refused {number}\n");
     of_case(
         Entry::Text,

@@ -126,7 +126,7 @@ fn narrow(bits: u64) -> Row {
         false => format!("of_bits binary32 {}", narrowed.to_bits()),
     };
     let value = format!("(of_bits binary64 {bits})");
-    let names = ["narrowInSteps", "narrow"];
+    let names = ["narrow_in_steps", "narrow"];
     let equations = names.map(|name| (format!("{name} {value}"), expected.clone()));
     of_lists(Entry::Narrow(step(bits)), 0, equations.to_vec())
 }

@@ -12,10 +12,10 @@ const BEFORE: u8 = 7;
 
 /// What each output holds afterwards.
 const OUTPUTS: [&str; 4] = [
-    "writtenNorms",
-    "writtenPostings",
-    "writtenPositions",
-    "writtenRuns",
+    "written_norms",
+    "written_postings",
+    "written_positions",
+    "written_runs",
 ];
 
 /// Every third call is a row; crates/token_vectors has them all.
@@ -55,8 +55,8 @@ fn write(call: &Call) -> Row {
     let answer = right.as_ref().map_or(vec![u64::from(number)], |written| {
         [&[0], &written.answer()[..]].concat()
     });
-    let mut equations = vec![(format!("writeAnswer {given} {outputs}"), words(&answer))];
-    let refusal = format!("(writeRefusal {given} {outputs})");
+    let mut equations = vec![(format!("write_answer {given} {outputs}"), words(&answer))];
+    let refusal = format!("(write_refusal {given} {outputs})");
     let held = held(right.as_ref().unwrap_or(&Written::default()), lengths);
     for ((name, length), held) in OUTPUTS.iter().zip(lengths).zip(held) {
         let before = format!("(replicate {length} {BEFORE})");

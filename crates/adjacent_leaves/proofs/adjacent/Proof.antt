@@ -7,11 +7,11 @@ use Prim.Native.Nat.{ℕ, ◌+◌, ◌-◌, ◌/◌, ◌≤◌, ◌<◌}
 use lib.Dec.{eqb}
 use lib.ListN.{length}
 use borrow.Author.Tests.{eqb-true, eqb-false, not-true, le-leb, lt-leb}
-use Rattle.meaning.specs.Lent.{Index, hasPositions, leafField, leafFirst, leafNumber}
+use Rattle.meaning.specs.Lent.{Index, has_positions, leaf_field, leaf_first, leaf_number}
 use Rattle.meaning.proofs.Below.{count-le, count-one, count_same}
-use Rattle.index.specs.Slices.{runsOnly}
+use Rattle.index.specs.Slices.{runs_only}
 use Rattle.index.specs.Accepted.{LeafOk}
-use Rattle.adjacent_leaves.specs.Together.{Together, borderFall}
+use Rattle.adjacent_leaves.specs.Together.{Together, border_fall}
 use Rattle.index.proofs.Known.{leaf-ok}
 use Rattle.index.proofs.Parts.{wrong4-of}
 use Rattle.posting_positions.proofs.Gaps.{and_left, and_right}
@@ -22,14 +22,14 @@ use Rattle.adjacent_leaves.proofs.adjacent.Statement.{statement}
 use Rattle.adjacent_leaves.proofs.adjacent.Tie as tie
 
 abbrev invariant-loop : tie.invariant-loop-end
-invariant-loop max-doc fields leaves postings l limit last₀ high₀ falls₀ end₀ last high falls end = (m : ℕ) × ((end ≡ l + m) × (0 < m) × (l + m ≤ limit) × (1 ≤ last) × (last ≤ length postings / 3) × Together (runsOnly max-doc fields leaves postings []) l m last falls high)
+invariant-loop max-doc fields leaves postings l limit last₀ high₀ falls₀ end₀ last high falls end = (m : ℕ) × ((end ≡ l + m) × (0 < m) × (l + m ≤ limit) × (1 ≤ last) × (last ≤ length postings / 3) × Together (runs_only max-doc fields leaves postings []) l m last falls high)
 
 abbrev decreases-loop : tie.decreases-loop-end
 decreases-loop max-doc fields leaves postings l limit last₀ high₀ falls₀ end₀ last high falls end = limit - end
 
 -- what is lent, and what is known of a leaf
 abbrev ix : tie.Start invariant-loop decreases-loop → Index
-ix s = runsOnly s.args.max_doc s.args.fields.now s.args.leaves.now s.args.postings.now []
+ix s = runs_only s.args.max_doc s.args.fields.now s.args.leaves.now s.args.postings.now []
 
 ok : (s : tie.Start invariant-loop decreases-loop) (k : ℕ) → k < length s.args.leaves.now / 4 → LeafOk (ix s) k
 ok s k h = leaf-ok (ix s) (wrong4-of (ix s) ∙ s.requires.0) k h
@@ -57,21 +57,21 @@ module _ (c : tie.Else-not-follows invariant-loop decreases-loop) where
   here : end < length (start at).args.leaves.now / 4
   here = omega (arith, c.loop-end-test.true, (start at).requires.1)
 
-  yes-follows : ((eqb (leafFirst (ix (start at)) end) at.loop-end.last && not (eqb (leafNumber (ix (start at)) end) 0)) && hasPositions (ix (start at)) (leafField (ix (start at)) end)) ≡ true
+  yes-follows : ((eqb (leaf_first (ix (start at)) end) at.loop-end.last && not (eqb (leaf_number (ix (start at)) end) 0)) && has_positions (ix (start at)) (leaf_field (ix (start at)) end)) ≡ true
   yes-follows = sym c.follows.ensures ∙ c.if-not-follows.false
 
-  first-here : leafFirst (ix (start at)) end ≡ at.loop-end.last
-  first-here = eqb-true _ _ (and_left (eqb (leafFirst (ix (start at)) end) at.loop-end.last) (not (eqb (leafNumber (ix (start at)) end) 0)) (and_left (eqb (leafFirst (ix (start at)) end) at.loop-end.last && not (eqb (leafNumber (ix (start at)) end) 0)) (hasPositions (ix (start at)) (leafField (ix (start at)) end)) yes-follows))
+  first-here : leaf_first (ix (start at)) end ≡ at.loop-end.last
+  first-here = eqb-true _ _ (and_left (eqb (leaf_first (ix (start at)) end) at.loop-end.last) (not (eqb (leaf_number (ix (start at)) end) 0)) (and_left (eqb (leaf_first (ix (start at)) end) at.loop-end.last && not (eqb (leaf_number (ix (start at)) end) 0)) (has_positions (ix (start at)) (leaf_field (ix (start at)) end)) yes-follows))
 
-  some-here : 0 < leafNumber (ix (start at)) end
+  some-here : 0 < leaf_number (ix (start at)) end
   some-here =
-      let z : leafNumber (ix (start at)) end ≡ 0 → ⊥ = eqb-false _ _ (not-true _ (and_right (eqb (leafFirst (ix (start at)) end) at.loop-end.last) (not (eqb (leafNumber (ix (start at)) end) 0)) (and_left (eqb (leafFirst (ix (start at)) end) at.loop-end.last && not (eqb (leafNumber (ix (start at)) end) 0)) (hasPositions (ix (start at)) (leafField (ix (start at)) end)) yes-follows))) in
+      let z : leaf_number (ix (start at)) end ≡ 0 → ⊥ = eqb-false _ _ (not-true _ (and_right (eqb (leaf_first (ix (start at)) end) at.loop-end.last) (not (eqb (leaf_number (ix (start at)) end) 0)) (and_left (eqb (leaf_first (ix (start at)) end) at.loop-end.last && not (eqb (leaf_number (ix (start at)) end) 0)) (has_positions (ix (start at)) (leaf_field (ix (start at)) end)) yes-follows))) in
       omega (arith, z)
 
-  with-here : hasPositions (ix (start at)) (leafField (ix (start at)) end) ≡ true
-  with-here = and_right (eqb (leafFirst (ix (start at)) end) at.loop-end.last && not (eqb (leafNumber (ix (start at)) end) 0)) (hasPositions (ix (start at)) (leafField (ix (start at)) end)) yes-follows
+  with-here : has_positions (ix (start at)) (leaf_field (ix (start at)) end) ≡ true
+  with-here = and_right (eqb (leaf_first (ix (start at)) end) at.loop-end.last && not (eqb (leaf_number (ix (start at)) end) 0)) (has_positions (ix (start at)) (leaf_field (ix (start at)) end)) yes-follows
 
-  fits-here : leafFirst (ix (start at)) end + leafNumber (ix (start at)) end ≤ length (start at).args.postings.now / 3
+  fits-here : leaf_first (ix (start at)) end + leaf_number (ix (start at)) end ≤ length (start at).args.postings.now / 3
   fits-here = (ok (start at) end here).run
 
 -- where its run ends
@@ -147,7 +147,7 @@ shared-slice-read-if2-2 c = search rules
 
 -- src/adjacent.rt:72:13
 add-falls : tie.Need-overflow_add-falls invariant-loop decreases-loop
-add-falls c = let a = c.before.before.before.before.before.before in let v = a.loop-end.invariant in let s = start a in omega (arith, v.1.5.fallen, count-le v.0 (borderFall (ix s) s.args.l), v.1.2, s.requires.1, s.well_formed)
+add-falls c = let a = c.before.before.before.before.before.before in let v = a.loop-end.invariant in let s = start a in omega (arith, v.1.5.fallen, count-le v.0 (border_fall (ix s) s.args.l), v.1.2, s.requires.1, s.well_formed)
 
 -- src/adjacent.rt:74:9
 leaf-end-requires-2 : tie.Need-leaf_end-last-requires-in-loop-end invariant-loop decreases-loop

@@ -1,7 +1,7 @@
 -- `adjacent_leaves::follows` meets its contract. Assumes nothing.
 use native.Mathlib.Omega.{arith}
 use mathlib.Core.List.{[]}
-use Rattle.index.specs.Slices.{leavesOnly}
+use Rattle.index.specs.Slices.{leaves_only}
 use Rattle.index.proofs.Words.{leaf-field}
 use borrow.Author.Rules.{rules}
 use Rattle.adjacent_leaves.proofs.follows.Statement.{statement}
@@ -17,7 +17,7 @@ wide-requires c κs = search rules
 
 -- src/adjacent.rt:41:9
 field-at-requires : tie.Need-field_at-field-requires
-field-at-requires c κs = let s = c in omega (arith, c.wide.ensures, leaf-field (leavesOnly [] s.args.leaves.now []) _ _ c.leaf_at-leaf.ensures, s.requires)
+field-at-requires c κs = let s = c in omega (arith, c.wide.ensures, leaf-field (leaves_only [] s.args.leaves.now []) _ _ c.leaf_at-leaf.ensures, s.requires)
 
 -- src/adjacent.rt:42:6
 wide-requires-2 : tie.Need-wide-requires-2

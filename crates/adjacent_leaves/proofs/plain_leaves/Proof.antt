@@ -6,16 +6,16 @@ use native.Mathlib.Omega.{arith}
 use lib.Dec.{eqb}
 use lib.ListN.{length}
 use borrow.Author.Tests.{eqb-true, eqb-false, eq-eqb, not-false}
-use Rattle.meaning.specs.Below.{anyBelow}
-use Rattle.meaning.specs.Lent.{Index, hasPositions, leafField, leafFirst, leafNumber, fieldPositions}
-use Rattle.meaning.specs.IndexRefusals.{wrongPosting}
+use Rattle.meaning.specs.Below.{any_below}
+use Rattle.meaning.specs.Lent.{Index, has_positions, leaf_field, leaf_first, leaf_number, field_positions}
+use Rattle.meaning.specs.IndexRefusals.{wrong_posting}
 use Rattle.meaning.proofs.Tests.{or_left, or_right}
-use Rattle.index.specs.Slices.{runsOnly}
+use Rattle.index.specs.Slices.{runs_only}
 use Rattle.index.specs.Accepted.{LeafOk}
 use Rattle.adjacent_leaves.specs.Together.{Together}
 use Rattle.index.proofs.Known.{leaf-ok}
 use Rattle.index.proofs.Parts.{wrong4-of}
-use Rattle.index.proofs.Words.{leaf-field, leaf_first, leaf-number, field-positions}
+use Rattle.index.proofs.Words.{leaf-field, leaf_first_lem, leaf-number, field-positions}
 use Rattle.adjacent_leaves.proofs.Adjoined.{together-with}
 use Rattle.adjacent_leaves.proofs.Stretches.{last-is, leaves-right}
 use borrow.Author.Rules.{rules}
@@ -24,7 +24,7 @@ use Rattle.adjacent_leaves.proofs.plain_leaves.Tie as tie
 
 -- what is lent, and what is known of a leaf
 abbrev ix : tie.Start → Index
-ix s = runsOnly s.args.max_doc s.args.fields.now s.args.leaves.now s.args.postings.now s.args.positions.now
+ix s = runs_only s.args.max_doc s.args.fields.now s.args.leaves.now s.args.postings.now s.args.positions.now
 
 ok : (s : tie.Start) (k : ℕ) → k < length s.args.leaves.now / 4 → LeafOk (ix s) k
 ok s k h = leaf-ok (ix s) (wrong4-of (ix s) ∙ s.requires.0) k h
@@ -43,15 +43,15 @@ module _ (c : tie.Else-field-leaf) where
   abbrev l : ℕ
   l = begun.args.l
 
-  some : 0 < leafNumber (ix begun) l
+  some : 0 < leaf_number (ix begun) l
   some =
       let z : at.leaf_at-leaf.result.number ≡ 0 → ⊥ = eqb-false _ _ (or_right (not (eqb at.field_at-field.result.positions 1)) (eqb at.leaf_at-leaf.result.number 0) c.if-field-leaf.false) in
       omega (arith, z, leaf-number (ix begun) l _ at.leaf_at-leaf.ensures)
 
-  with_first : hasPositions (ix begun) (leafField (ix begun) l) ≡ true
+  with_first : has_positions (ix begun) (leaf_field (ix begun) l) ≡ true
   with_first =
       let z : at.field_at-field.result.positions ≡ 1 = eqb-true _ _ (not-false _ (or_left (not (eqb at.field_at-field.result.positions 1)) (eqb at.leaf_at-leaf.result.number 0) c.if-field-leaf.false)) in
-      eq-eqb _ _ (sym (field-positions (ix begun) _ _ at.field_at-field.ensures ∙ ap (λ (f : ℕ). fieldPositions (ix begun) f) (at.wide.ensures ∙ leaf-field (ix begun) l _ at.leaf_at-leaf.ensures)) ∙ z)
+      eq-eqb _ _ (sym (field-positions (ix begun) _ _ at.field_at-field.ensures ∙ ap (λ (f : ℕ). field_positions (ix begun) f) (at.wide.ensures ∙ leaf-field (ix begun) l _ at.leaf_at-leaf.ensures)) ∙ z)
 
 -- the leaves that follow one another
 module _ (c : tie.Else-s) where
@@ -75,8 +75,8 @@ module _ (c : tie.After-struct_known-3-1) where
   abbrev then : tie.Else-s
   then = c.before.before
 
-  first-is : c.wide-from.result ≡ leafFirst (ix (begun (first_leaf then))) (l (first_leaf then))
-  first-is = c.wide-from.ensures ∙ leaf_first (ix (begun (first_leaf then))) (l (first_leaf then)) _ (at (first_leaf then)).leaf_at-leaf.ensures
+  first-is : c.wide-from.result ≡ leaf_first (ix (begun (first_leaf then))) (l (first_leaf then))
+  first-is = c.wide-from.ensures ∙ leaf_first_lem (ix (begun (first_leaf then))) (l (first_leaf then)) _ (at (first_leaf then)).leaf_at-leaf.ensures
 
   rising : c.wide-from.result ≤ then.adjacent-s.result.last
   rising = omega (arith, last-is (ix (begun (first_leaf then))) (l (first_leaf then)) (m then) _ _ (joined then) (within then).0 c.wide-from.result first-is (fits then))
@@ -143,7 +143,7 @@ plain-run-requires c κs = search rules
 
 -- src/adjacent.rt:96:1
 returns-3 : tie.Need-returns
-returns-3 c = let k = c.before.before in let d = then k in let a = first_leaf d in let s = begun a in let e = d.adjacent-s.ensures in ((omega (arith, e.1.0, e.1.1), omega (arith, e.1.0, e.1.2)), λ f i g h. let z : s.args.l + (i - s.args.l) ≡ i = omega arith in subst (λ (x : ℕ). anyBelow (leafNumber (ix s) x) (wrongPosting (ix s) x) ≡ false) z (leaves-right (ix s) s.args.l (m d) _ _ (joined d) (within d).0 _ (first-is k) (fits d) (c.plain_run-fine.ensures f).0 (with_first a) (c.plain_run-fine.ensures f).1 (i - s.args.l) (omega (arith, e.1.0))))
+returns-3 c = let k = c.before.before in let d = then k in let a = first_leaf d in let s = begun a in let e = d.adjacent-s.ensures in ((omega (arith, e.1.0, e.1.1), omega (arith, e.1.0, e.1.2)), λ f i g h. let z : s.args.l + (i - s.args.l) ≡ i = omega arith in subst (λ (x : ℕ). any_below (leaf_number (ix s) x) (wrong_posting (ix s) x) ≡ false) z (leaves-right (ix s) s.args.l (m d) _ _ (joined d) (within d).0 _ (first-is k) (fits d) (c.plain_run-fine.ensures f).0 (with_first a) (c.plain_run-fine.ensures f).1 (i - s.args.l) (omega (arith, e.1.0))))
 
 pub plain_leaves_spec : {M : Type 1} → statement M
 plain_leaves_spec =

@@ -3,7 +3,7 @@ use Rattle.std.proofs.Common.{◌≡◌, refl, ap, subst, ◌∙◌, ◌+◌, �
 use Rattle.std.specs.Prelude.{Float}
 use Rattle.std.specs.Float.{nan, binary64}
 use Rattle.std.specs.Float.Ieee.{of_bits}
-use Rattle.meaning.specs.Ieee754.{zeroFloat, narrow}
+use Rattle.meaning.specs.Ieee754.{zero_float, narrow}
 use Rattle.collector.specs.Collected.{Extended}
 use Rattle.leaf_score.proofs.Bounds.{zero-64}
 use Rattle.window_score.proofs.Adding.{adding-start, adding-step, adding-done, sum-waits}
@@ -11,7 +11,7 @@ use Rattle.bulk_window.proofs.Places.{places-start, places-ready, places-take, p
 use Rattle.bulk_window.proofs.collect_places.Goals as goal
 
 pub loop-left-init : goal.loop-left-init
-loop-left-init c = record { long = refl; sums = adding-start (λ p x. zeroFloat) c.args.places c.args.sums.now c.requires.1; at = places-start c.args.first (λ p. narrow (get_or c.args.sums.now p nan)) c.args.places c.args.c c.args.heap.now }
+loop-left-init c = record { long = refl; sums = adding-start (λ p x. zero_float) c.args.places c.args.sums.now c.requires.1; at = places-start c.args.first (λ p. narrow (get_or c.args.sums.now p nan)) c.args.places c.args.c c.args.heap.now }
 
 pub stepped-c-requires-clause-ready : goal.stepped-c-requires-clause-ready
 stepped-c-requires-clause-ready c =
@@ -25,7 +25,7 @@ loop-left-preserved c =
     let l = c.loop-left in
     let p = c.lowest-place.result in
     let w = c.without_lowest-left in
-    let f : ℕ → Float → Float = λ p x. zeroFloat in
+    let f : ℕ → Float → Float = λ p x. zero_float in
     let score-is : c.narrow.result ≡ narrow (get_or a.sums.now p nan) = c.narrow.ensures ∙ ap (λ (i : ℕ). narrow (get_or l.sums i nan)) c.wide-at.ensures ∙ ap narrow (sum-waits f a.places a.sums.now l.left l.sums l.invariant.sums p c.lowest-place.ensures) in
     record {
       long = c.stepped-c.auto.heap ∙ l.invariant.long;
@@ -42,4 +42,4 @@ returns-clause-collected c =
 pub returns-clause-cleared : goal.returns-clause-cleared
 returns-clause-cleared c =
     let l = c.loop-left in
-    record { long = l.invariant.sums.long; at = adding-done (λ p x. zeroFloat) c.args.places c.args.sums.now l.left l.sums l.invariant.sums c.loop-left-test.false }
+    record { long = l.invariant.sums.long; at = adding-done (λ p x. zero_float) c.args.places c.args.sums.now l.left l.sums l.invariant.sums c.loop-left-test.false }

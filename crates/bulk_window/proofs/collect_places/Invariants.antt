@@ -1,7 +1,7 @@
 -- The places done are collected, the others are those of `left`; the sums of those done are 0.
 use Rattle.std.proofs.Common.{◌≡◌, length, get_or}
 use Rattle.std.specs.Float.{nan}
-use Rattle.meaning.specs.Ieee754.{zeroFloat, narrow}
+use Rattle.meaning.specs.Ieee754.{zero_float, narrow}
 use Rattle.window_score.proofs.Adding.{Adding}
 use Rattle.bulk_window.proofs.Places.{PlacesAt}
 use Rattle.bulk_window.proofs.collect_places.Given as goal
@@ -10,7 +10,7 @@ abbrev pub invariant-loop-left : goal.invariant-loop-left
 invariant-loop-left l =
     record {
       long : length l.heap ≡ length l.fn.heap;
-      sums : Adding (λ p x. zeroFloat) l.places l.left l.fn.sums l.sums;
+      sums : Adding (λ p x. zero_float) l.places l.left l.fn.sums l.sums;
       at : PlacesAt l.first (λ p. narrow (get_or l.fn.sums p nan)) l.places l.fn.c l.fn.heap l.left l.c l.heap;
     }
 

@@ -1,6 +1,6 @@
 -- The live matches before the window are collected, and the sums are 0.
 use Rattle.std.proofs.Common.{◌≡◌, ◌-◌, ◌%◌, ◌≤◌, length, min}
-use Rattle.meaning.specs.Limits.{noMoreDocs}
+use Rattle.meaning.specs.Limits.{no_more_docs}
 use Rattle.window_score.specs.Sums.{Zeros}
 use Rattle.bulk_window.proofs.Loop.{AllAt}
 use Rattle.bulk_window.proofs.collect_windows.Given as goal
@@ -10,7 +10,7 @@ invariant-loop-base l =
     record {
       whole : l.base % 64 ≡ 0;
       zeros : Zeros l.sums;
-      top : l.base ≤ noMoreDocs;
+      top : l.base ≤ no_more_docs;
       at : AllAt l.max_doc l.postings l.positions l.norms l.ranges l.live l.inverses (min (length l.fn.a) (length l.fn.b)) l.fn.st l.depth l.doc_base l.fn.c l.fn.heap l.st l.c l.heap l.base;
     }
 

@@ -3,8 +3,8 @@ use Rattle.std.proofs.Common.{◌^◌, ◌≤◌, not, T, ℤ, sym, ◌∙◌, s
 use lib.Signed.{shr_z}
 use lib.Ieee.{binary32, nan_bits}
 use mir.ValLaws.{to_z-of_z}
-use Rattle.meaning.specs.Limits.{noMoreDocs}
-use Rattle.meaning.specs.Ieee754.{sortableBits}
+use Rattle.meaning.specs.Limits.{no_more_docs}
+use Rattle.meaning.specs.Ieee754.{sortable_bits}
 use Rattle.meaning.specs.Hits.{low_word}
 use Rattle.collector.proofs.Ranked.{code-low, code-number}
 use Rattle.collector_vectors.proofs.print_coded.Goals as goal
@@ -12,11 +12,11 @@ use Rattle.collector_vectors.proofs.print_coded.Goals as goal
 pub to_doc-requires : goal.to_doc-requires
 to_doc-requires g c =
     let encoded = to_z-of_z w64 c.encode-code.result (record { sfits = c.encode-code.type_inv }) ∙ c.encode-code.ensures in
-    subst (λ (z : ℤ). low_word z ≤ noMoreDocs) (sym encoded) (code-low (record { doc = c.args.document; score = c.args.score }))
+    subst (λ (z : ℤ). low_word z ≤ no_more_docs) (sym encoded) (code-low (record { doc = c.args.document; score = c.args.score }))
 
 pub to_score-requires : goal.to_score-requires
 to_score-requires g c =
     let encoded = to_z-of_z w64 c.encode-code.result (record { sfits = c.encode-code.type_inv }) ∙ c.encode-code.ensures in
     let fits-score = subst T (sym c.well_formed.1.0.1) tt in
-    subst (λ (z : ℤ). T (not (nan_bits binary32 (sortableBits (shr_z z (2 ^ 32)))))) (sym encoded)
+    subst (λ (z : ℤ). T (not (nan_bits binary32 (sortable_bits (shr_z z (2 ^ 32)))))) (sym encoded)
     (code-number (record { doc = c.args.document; score = c.args.score }) fits-score c.requires.t)

@@ -3,7 +3,7 @@ use Rattle.std.proofs.Common.{◌≡◌, ℕ, Bool, not, T, sym, ap, ◌∙◌, 
 use mir.ValLaws.{to_z-of_z}
 use lib.Ieee.{binary32, is_nan, nan_bits, to_bits}
 use lib.Ieee.Bits.{nan_bits_is, of_bits-to_bits, to_bits-lt}
-use Rattle.meaning.specs.Ieee754.{sortableBits}
+use Rattle.meaning.specs.Ieee754.{sortable_bits}
 use Rattle.collector.proofs.Ranked.{sortable-back}
 use Rattle.collector_vectors.proofs.print_sortable.Goals as goal
 
@@ -14,6 +14,6 @@ sortable_int_to_float-requires g c =
     let bits = to_bits binary32 c.args.score in
     let number : T (not (nan_bits binary32 bits)) =
     subst (λ (b : Bool). T (not b)) (sym (nan_bits_is binary32 bits ∙ ap is_nan (of_bits-to_bits binary32 c.args.score fits-score))) c.requires in
-    let back : sortableBits (to_z w32 (of_z w32 int.result)) ≡ bits =
-    ap sortableBits (to_z-of_z w32 int.result (record { sfits = int.type_inv }) ∙ int.ensures) ∙ sortable-back bits (to_bits-lt binary32 c.args.score fits-score) in
+    let back : sortable_bits (to_z w32 (of_z w32 int.result)) ≡ bits =
+    ap sortable_bits (to_z-of_z w32 int.result (record { sfits = int.type_inv }) ∙ int.ensures) ∙ sortable-back bits (to_bits-lt binary32 c.args.score fits-score) in
     subst (λ (n : ℕ). T (not (nan_bits binary32 n))) (sym back) number

@@ -3,7 +3,7 @@ use Prim.Native.Nat.{ℕ, ◌/◌, ◌%◌}
 use mathlib.Core.Path.{ap, ap₂, ◌∙◌}
 use mathlib.Core.Bool.{◌&&◌}
 use borrow.Author.Rules.{rules}
-use Rattle.column_keys.specs.Keys.{keyAtLower, keyAtUpper}
+use Rattle.column_keys.specs.Keys.{key_at_lower, key_at_upper}
 use Rattle.column_keys.proofs.KeyOrder.{between-both}
 use Rattle.column_keys.proofs.end_keys.Statement.{statement}
 use Rattle.column_keys.proofs.end_keys.Tie as tie
@@ -34,8 +34,8 @@ returns c = λ k h.
     rw (c.larger.ensures, c.smaller.ensures)
     (between-both above.result.from above.result.to below.result.from below.result.to k
     ∙ ap₂ ◌&&◌
-    (above.ensures k h ∙ ap (λ (e : ℕ). keyAtLower (a.kinds % 3) e k) c.value_key.ensures)
-    (below.ensures k h ∙ ap (λ (e : ℕ). keyAtUpper (a.kinds / 3) e k) c.value_key-2.ensures))
+    (above.ensures k h ∙ ap (λ (e : ℕ). key_at_lower (a.kinds % 3) e k) c.value_key.ensures)
+    (below.ensures k h ∙ ap (λ (e : ℕ). key_at_upper (a.kinds / 3) e k) c.value_key-2.ensures))
 
 pub end_keys_spec : {M : Type 1} → statement M
 end_keys_spec =

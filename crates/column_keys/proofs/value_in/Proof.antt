@@ -1,7 +1,7 @@
 -- `value_in` meets its contract: its three tests are the definition's. Assumes nothing.
 use Prim.Native.Nat.{ℕ}
 use mathlib.Core.Path.{ap, ◌∙◌}
-use Rattle.column_keys.specs.Keys.{valueKey}
+use Rattle.column_keys.specs.Keys.{value_key}
 use native.Mathlib.Omega.{arith}
 use Rattle.column_keys.proofs.KeyOrder.{value-tested}
 use Rattle.column_keys.proofs.value_in.Statement.{statement}
@@ -41,7 +41,7 @@ returns : tie.Need-returns
 returns c =
     let a = c.args in
     value-tested a.values.now a.at a.column_type a.from a.to c.value_key-key.result
-    (c.value_key-key.ensures ∙ ap (λ (b : ℕ). valueKey a.column_type b) c.joined.ensures)
+    (c.value_key-key.ensures ∙ ap (λ (b : ℕ). value_key a.column_type b) c.joined.ensures)
 
 pub value_in_spec : {M : Type 1} → statement M
 value_in_spec =

@@ -8,13 +8,13 @@ use lib.Dec.{ltb}
 use lib.ListN.{length}
 use Rattle.meaning.specs.Lent.{Index}
 use Rattle.meaning.specs.Range.{NumericRange}
-use Rattle.meaning.specs.Entries.{columnsOnly}
+use Rattle.meaning.specs.Entries.{columns_only}
 use Rattle.doc_values.proofs.Ranges.{column-there, column_fits, value-as-range, scan-is-range}
 use Rattle.doc_values.proofs.range_bitmap.Statement.{statement}
 use Rattle.doc_values.proofs.range_bitmap.Tie as tie
 
 abbrev lent : tie.Start → Index
-lent s = columnsOnly s.args.max_doc s.args.columns.now s.args.values.now
+lent s = columns_only s.args.max_doc s.args.columns.now s.args.values.now
 
 abbrev asked : tie.Start → NumericRange
 asked s = record { column = s.args.column; kinds = s.args.kinds; lower = s.args.lower; upper = s.args.upper }

@@ -7,9 +7,9 @@ use mathlib.Core.List.{List}
 use mathlib.Core.Logic.{⊎_elim}
 use native.Mathlib.Omega.{arith}
 use lib.ListN.{length}
-use Rattle.meaning.specs.Below.{listBelow}
+use Rattle.meaning.specs.Below.{list_below}
 use Rattle.meaning.specs.Entries.{written}
-use Rattle.column_keys.specs.Keys.{valueIn}
+use Rattle.column_keys.specs.Keys.{value_in}
 use Rattle.meaning.proofs.Below.{list_length}
 use Rattle.doc_values.proofs.Lists.{written-length, turn-taken, turn-left}
 use Rattle.doc_values.proofs.scan.Statement.{statement}
@@ -17,11 +17,11 @@ use Rattle.doc_values.proofs.scan.Tie as tie
 
 -- the documents that the scan lists
 abbrev listed : List ℕ → ℕ → ℕ → ℕ → ℕ → ℕ → Bool
-listed values start column-type from to = λ d. valueIn values (start + 3 * d) column-type from to
+listed values start column-type from to = λ d. value_in values (start + 3 * d) column-type from to
 
 abbrev invariant-loop : tie.invariant-loop-d
 invariant-loop max-doc values start column-type from to output₀ n held₀ d₀ output held d =
-    (d ≤ max-doc) × ((held ≡ length (listBelow d (listed values start column-type from to))) × (output ≡ written (listBelow d (listed values start column-type from to)) output₀))
+    (d ≤ max-doc) × ((held ≡ length (list_below d (listed values start column-type from to))) × (output ≡ written (list_below d (listed values start column-type from to)) output₀))
 
 abbrev decreases-loop : tie.decreases-loop-d
 decreases-loop max-doc values start column-type from to output₀ n held₀ d₀ output held d = max-doc - d
@@ -36,11 +36,11 @@ room c =
 kept : (c : tie.At-loop-d invariant-loop decreases-loop) → length c.loop-d.output ≡ length c.args.output.now
 kept c =
     let a = c.args in
-    let l = listBelow c.loop-d.d (listed a.values.now a.start a.column_type a.from a.to) in
+    let l = list_below c.loop-d.d (listed a.values.now a.start a.column_type a.from a.to) in
     ap length c.loop-d.invariant.1.1 ∙ written-length l a.output.now (omega (arith, room c, c.loop-d.invariant.1.0))
 
 loop-holds : tie.Need-loop-d-init invariant-loop decreases-loop
-unfolding listBelow
+unfolding list_below
 loop-holds c = (omega arith, (refl, refl))
 
 mul-value-in : tie.Need-overflow_mul-d invariant-loop decreases-loop

@@ -1,7 +1,7 @@
 -- `inverses::field_at` meets its contract. Assumes nothing.
 use Rattle.inverses.proofs.Filling.{field-of-term, field-of-phrase}
 use Rattle.query.proofs.Accepted.{term-leaf}
-use Rattle.meaning.specs.Query.{recordValue}
+use Rattle.meaning.specs.Query.{record_value}
 use lib.ListN.{length, get_or}
 use Prim.Native.Nat.{ℕ, ◌*◌, ◌/◌, ◌<◌}
 use mathlib.Core.Path.{sym, ◌∙◌, ap, subst}
@@ -31,7 +31,7 @@ shared-slice-read-result c =
     let s = c in
     let a = s.requires in
     let term = sym c.kind.ensures ∙ c.if-kind-eq1.true in
-    let there = subst (λ (z : List ℕ). recordValue s.args.q.now s.args.at 0 < length z / 4) a.2 (term-leaf a.0 s.args.q.now a.1.values-right s.args.at a.3 term) in
+    let there = subst (λ (z : List ℕ). record_value s.args.q.now s.args.at 0 < length z / 4) a.2 (term-leaf a.0 s.args.q.now a.1.values-right s.args.at a.3 term) in
     omega (arith, there, c.value-v.ensures)
 
 returns : tie.Need-returns-then-kind-eq1

@@ -1,9 +1,9 @@
 -- `inverses::fill_field` meets its contract: the entries before `n` are the field's, the others as they were. Assumes nothing.
 use Rattle.inverses.proofs.Filling.{entry_more}
 use Rattle.ieee754.proofs.Patterns.{pattern_number}
-use Rattle.meaning.specs.Below.{listTo}
+use Rattle.meaning.specs.Below.{list_to}
 use Rattle.meaning.specs.Bm25.{length_of, inverse}
-use Rattle.meaning.proofs.Below.{listTo-zero, getD-listTo}
+use Rattle.meaning.proofs.Below.{list_to-zero, get_or-list_to}
 use lib.Ieee.{Float, nan, binary32, of_bits}
 use lib.ListN.{length, drop, get_or, length-set}
 use Prim.Native.Nat.{ℕ, ◌-◌, ◌≤◌}
@@ -19,7 +19,7 @@ abbrev entry : ℕ → ℕ → Float
 entry average n = inverse (of_bits binary32 average) (length_of n)
 
 abbrev invariant-loop : tie.invariant-loop-n
-invariant-loop average table₀ bm25 n₀ table n = (n ≤ 256) × (length table ≡ length table₀) × (table ≡ listTo n (entry average) ++ drop n table₀)
+invariant-loop average table₀ bm25 n₀ table n = (n ≤ 256) × (length table ≡ length table₀) × (table ≡ list_to n (entry average) ++ drop n table₀)
 
 abbrev decreases-loop : tie.decreases-loop-n
 decreases-loop average table₀ bm25 n₀ table n = 256 - n
@@ -31,7 +31,7 @@ new-requires : tie.Need-new-bm25-requires invariant-loop decreases-loop
 new-requires c κs = search rules
 
 loop-holds : tie.Need-loop-n-init invariant-loop decreases-loop
-loop-holds c = let s = c in (omega arith, refl, ap (λ (z : List Float). z ++ s.args.table.now) (sym (listTo-zero (entry s.args.average))))
+loop-holds c = let s = c in (omega arith, refl, ap (λ (z : List Float). z ++ s.args.table.now) (sym (list_to-zero (entry s.args.average))))
 
 mul-table : tie.Need-offset_bounds-bm25-n invariant-loop decreases-loop
 mul-table c = omega (arith, c.loop-n-test.true)
@@ -60,7 +60,7 @@ loop-again c =
     let e = entry s.args.average in
     let new = c.new-bm25 in
     let v = get_or new.result.cache l.n nan in
-    let is : v ≡ e l.n = ap (λ (z : List Float). get_or z l.n nan) new.ensures ∙ getD-listTo 256 e nan l.n low in (
+    let is : v ≡ e l.n = ap (λ (z : List Float). get_or z l.n nan) new.ensures ∙ get_or-list_to 256 e nan l.n low in (
       omega (arith, low),
       length-set l.table l.n v ∙ l.invariant.1,
       entry_more e s.args.table.now l.table l.n v (omega (arith, low, s.requires.0)) l.invariant.2 is,
@@ -74,7 +74,7 @@ returns c =
     let s = c in
     let l = c.loop-n in
     let end : l.n ≡ 256 = le_antisymm l.invariant.0 c.loop-n-test.false in
-    l.invariant.2 ∙ ap (λ (n : ℕ). listTo n (entry s.args.average) ++ drop n s.args.table.now) end
+    l.invariant.2 ∙ ap (λ (n : ℕ). list_to n (entry s.args.average) ++ drop n s.args.table.now) end
 
 pub fill_field_spec : {M : Type 1} → statement M
 fill_field_spec =

@@ -1,10 +1,10 @@
 -- `inverses::fill_inverses` meets its contract: the fields of the records before `at` have their inverses. Assumes nothing.
 use Rattle.inverses.proofs.Filling.{Filled, FieldRead, field-read, none_filled, filled-skip, filled-again, filled-new}
 use Rattle.node_words.specs.Placed.{LeafLent}
-use Rattle.inverses.specs.Inverses.{fieldAt}
+use Rattle.inverses.specs.Inverses.{field_at}
 use Rattle.weight.specs.Measured.{Asks}
 use Rattle.meaning.specs.Lent.{Index}
-use Rattle.meaning.specs.Query.{recordCount}
+use Rattle.meaning.specs.Query.{record_count}
 use lib.ListN.{length, length-take, length-drop, length-set}
 use Prim.Native.Nat.{ℕ, ◌-◌, ◌≤◌}
 use native.Mathlib.Omega.{arith}
@@ -17,7 +17,7 @@ use Rattle.inverses.proofs.fill_inverses.Tie as tie
 
 abbrev invariant-loop : tie.invariant-loop-at
 invariant-loop fields leaves q table₀ count filled₀ at₀ table filled at =
-    ((ix : Index) (n : ℕ) → Asks ix q → LeafLent ix n fields leaves → Filled ix q table filled at) × (at ≤ count) × (count ≡ recordCount q) × (length table ≡ 4096) × (length filled ≡ 16)
+    ((ix : Index) (n : ℕ) → Asks ix q → LeafLent ix n fields leaves → Filled ix q table filled at) × (at ≤ count) × (count ≡ record_count q) × (length table ≡ 4096) × (length filled ≡ 16)
 
 abbrev decreases-loop : tie.decreases-loop-at
 decreases-loop fields leaves q table₀ count filled₀ at₀ table filled at = count - at
@@ -132,7 +132,7 @@ returns c =
     let l = c.loop-at in
     let end = c.loop-at-test.false in
     let is = l.invariant.2 in
-    (λ ix n a lent at h has. let known = l.invariant.0 ix n a lent in known.tables (fieldAt ix s.args.q.now at) (known.met at (omega (arith, h, end, is)) has), l.invariant.3)
+    (λ ix n a lent at h has. let known = l.invariant.0 ix n a lent in known.tables (field_at ix s.args.q.now at) (known.met at (omega (arith, h, end, is)) has), l.invariant.3)
 
 pub fill_inverses_spec : {M : Type 1} → statement M
 fill_inverses_spec =

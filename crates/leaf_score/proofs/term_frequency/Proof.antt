@@ -5,13 +5,13 @@ use mathlib.Core.Logic.{⊎_elim}
 use native.Mathlib.Omega.{arith}
 use native.Mathlib.Nat.{eq-or-lt_of_le}
 use borrow.Author.Count.{below_more}
-use Rattle.index.specs.Runs.{postingDocument, postingFrequency}
+use Rattle.index.specs.Runs.{posting_document, posting_frequency}
 use Rattle.meaning.proofs.Tests.{cmp}
 use Rattle.leaf_score.proofs.term_frequency.Statement.{statement}
 use Rattle.leaf_score.proofs.term_frequency.Tie as tie
 
 abbrev invariant-loop : tie.invariant-loop-i
-invariant-loop postings first number cursor doc i₀ i = (k : ℕ) → k < i → cursor ≤ k → postingDocument postings first k ≡ doc → ⊥
+invariant-loop postings first number cursor doc i₀ i = (k : ℕ) → k < i → cursor ≤ k → posting_document postings first k ≡ doc → ⊥
 
 abbrev decreases-loop : tie.decreases-loop-i
 decreases-loop postings first number cursor doc i₀ i = number - i
@@ -32,7 +32,7 @@ returns c = λ i a b e h.
     let f : ℕ = c.args.first in
     ⊎_elim
     (λ l. absurd (h j l (sym c.posting_document.ensures ∙ c.if-posting_document-doc.true)))
-    (λ l. ⊎_elim (λ q. c.posting_frequency.ensures ∙ ap (λ (n : ℕ). postingFrequency p f n) (sym q)) (λ q. absurd (c.loop-i.invariant i q a e)) (eq-or-lt_of_le l))
+    (λ l. ⊎_elim (λ q. c.posting_frequency.ensures ∙ ap (λ (n : ℕ). posting_frequency p f n) (sym q)) (λ q. absurd (c.loop-i.invariant i q a e)) (eq-or-lt_of_le l))
     (cmp j i)
 
 add-i : tie.Need-overflow_add-i invariant-loop decreases-loop

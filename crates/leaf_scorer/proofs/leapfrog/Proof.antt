@@ -1,10 +1,10 @@
 -- `leaf_scorer::leapfrog` meets its contract: passes until the terms stand at one document. Assumes nothing.
 use Rattle.leaf_scorer.proofs.PhraseLaws.{leap-held, leap-more, leap-done}
 use Rattle.leaf_scorer.proofs.Loops.{Going, going_start}
-use Rattle.leaf_scorer.specs.Phrases.{TermsHeld, allFound}
+use Rattle.leaf_scorer.specs.Phrases.{TermsHeld, all_found}
 use Rattle.meaning.specs.Phrase.{PhraseTerm}
 use Rattle.meaning.specs.Lent.{Index}
-use Rattle.meaning.specs.Limits.{noMoreDocs}
+use Rattle.meaning.specs.Limits.{no_more_docs}
 use lib.ListN.{length}
 use native.Mathlib.Nat.{le_trans}
 use native.Mathlib.Omega.{arith}
@@ -15,10 +15,10 @@ use Rattle.leaf_scorer.proofs.leapfrog.Statement.{statement}
 use Rattle.leaf_scorer.proofs.leapfrog.Tie as tie
 
 abbrev invariant-loop : tie.invariant-loop-p
-invariant-loop terms₀ postings target d₀ terms d = (length terms ≡ length terms₀) × (d ≤ noMoreDocs) × ((ix : Index) (ts : List PhraseTerm) → TermsHeld postings ix ts terms₀ target → Going (allFound ix ts) target d (TermsHeld postings ix ts terms d))
+invariant-loop terms₀ postings target d₀ terms d = (length terms ≡ length terms₀) × (d ≤ no_more_docs) × ((ix : Index) (ts : List PhraseTerm) → TermsHeld postings ix ts terms₀ target → Going (all_found ix ts) target d (TermsHeld postings ix ts terms d))
 
 abbrev decreases-loop : tie.decreases-loop-p
-decreases-loop terms₀ postings target d₀ terms d = noMoreDocs - d
+decreases-loop terms₀ postings target d₀ terms d = no_more_docs - d
 
 loop-holds : tie.Need-loop-p-init invariant-loop decreases-loop
 loop-holds c = let s = c in (refl, s.requires.0, λ ix ts h. going_start h)

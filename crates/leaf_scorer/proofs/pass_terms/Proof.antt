@@ -4,7 +4,7 @@ use Rattle.leaf_scorer.proofs.Loops.{back-length}
 use Rattle.leaf_scorer.specs.Phrases.{TermsHeld}
 use Rattle.meaning.specs.Phrase.{PhraseTerm}
 use Rattle.meaning.specs.Lent.{Index}
-use Rattle.meaning.specs.Limits.{nodeStateWords}
+use Rattle.meaning.specs.Limits.{node_state_words}
 use lib.ListN.{length, take, drop}
 use native.Mathlib.Omega.{arith}
 use mathlib.Core.List.{List, ◌++◌}
@@ -25,34 +25,34 @@ loop-holds : tie.Need-loop-at-init invariant-loop decreases-loop
 loop-holds c = let s = c in (refl, λ ix ts h. terms-start s.requires.0 h)
 
 add-end : tie.Need-overflow_add-end invariant-loop decreases-loop
-add-end c = let s = c in let P = s.requires.1 in let a = c.loop-at in let i = a.invariant.1 P.0 P.1 P.2 in let z : length s.args.postings.now < 9223372036854775808 = omega (arith, s.well_formed) in let l = c.loop-at-test.true in let n = terms-next i l (a.at + nodeStateWords) refl z in omega (arith, n.0, a.invariant.0, s.well_formed)
+add-end c = let s = c in let P = s.requires.1 in let a = c.loop-at in let i = a.invariant.1 P.0 P.1 P.2 in let z : length s.args.postings.now < 9223372036854775808 = omega (arith, s.well_formed) in let l = c.loop-at-test.true in let n = terms-next i l (a.at + node_state_words) refl z in omega (arith, n.0, a.invariant.0, s.well_formed)
 
 mul-search : tie.Need-offset_bounds-terms-at invariant-loop decreases-loop
-mul-search c = let s = c in let P = s.requires.1 in let a = c.loop-at in let i = a.invariant.1 P.0 P.1 P.2 in let z : length s.args.postings.now < 9223372036854775808 = omega (arith, s.well_formed) in let l = c.loop-at-test.true in let n = terms-next i l (a.at + nodeStateWords) refl z in omega (arith, n.0, a.invariant.0, s.well_formed)
+mul-search c = let s = c in let P = s.requires.1 in let a = c.loop-at in let i = a.invariant.1 P.0 P.1 P.2 in let z : length s.args.postings.now < 9223372036854775808 = omega (arith, s.well_formed) in let l = c.loop-at-test.true in let n = terms-next i l (a.at + node_state_words) refl z in omega (arith, n.0, a.invariant.0, s.well_formed)
 
 sub-search : tie.Need-slice_bounds-search-count invariant-loop decreases-loop
 sub-search c = omega arith
 
 part-search-start : tie.Need-slice_bounds-search-start invariant-loop decreases-loop
-part-search-start c = let s = c in let P = s.requires.1 in let a = c.loop-at in let i = a.invariant.1 P.0 P.1 P.2 in let z : length s.args.postings.now < 9223372036854775808 = omega (arith, s.well_formed) in let l = c.loop-at-test.true in let n = terms-next i l (a.at + nodeStateWords) refl z in omega (arith, n.0, a.invariant.0, s.well_formed)
+part-search-start c = let s = c in let P = s.requires.1 in let a = c.loop-at in let i = a.invariant.1 P.0 P.1 P.2 in let z : length s.args.postings.now < 9223372036854775808 = omega (arith, s.well_formed) in let l = c.loop-at-test.true in let n = terms-next i l (a.at + node_state_words) refl z in omega (arith, n.0, a.invariant.0, s.well_formed)
 
 part-search-end : tie.Need-slice_bounds-search-end invariant-loop decreases-loop
-part-search-end c = let s = c in let P = s.requires.1 in let a = c.loop-at in let i = a.invariant.1 P.0 P.1 P.2 in let z : length s.args.postings.now < 9223372036854775808 = omega (arith, s.well_formed) in let l = c.loop-at-test.true in let n = terms-next i l (a.at + nodeStateWords) refl z in omega (arith, n.0, a.invariant.0, s.well_formed)
+part-search-end c = let s = c in let P = s.requires.1 in let a = c.loop-at in let i = a.invariant.1 P.0 P.1 P.2 in let z : length s.args.postings.now < 9223372036854775808 = omega (arith, s.well_formed) in let l = c.loop-at-test.true in let n = terms-next i l (a.at + node_state_words) refl z in omega (arith, n.0, a.invariant.0, s.well_formed)
 
 search-requires : tie.Need-search-e-requires invariant-loop decreases-loop
-search-requires c κs = let s = c in let P = s.requires.1 in let a = c.loop-at in let i = a.invariant.1 P.0 P.1 P.2 in let z : length s.args.postings.now < 9223372036854775808 = omega (arith, s.well_formed) in let l = c.loop-at-test.true in let n = terms-next i l (a.at + nodeStateWords) refl z in n.1
+search-requires c κs = let s = c in let P = s.requires.1 in let a = c.loop-at in let i = a.invariant.1 P.0 P.1 P.2 in let z : length s.args.postings.now < 9223372036854775808 = omega (arith, s.well_formed) in let l = c.loop-at-test.true in let n = terms-next i l (a.at + node_state_words) refl z in n.1
 
 loop-less : tie.Need-loop-at-smaller-then-e-d invariant-loop decreases-loop
-loop-less c = let s = c in let P = s.requires.1 in let a = c.loop-at in let i = a.invariant.1 P.0 P.1 P.2 in let z : length s.args.postings.now < 9223372036854775808 = omega (arith, s.well_formed) in let l = c.loop-at-test.true in let n = terms-next i l (a.at + nodeStateWords) refl z in let g = c.search-e in omega (arith, n.0, back-length a.terms g.new.st a.at (a.at + nodeStateWords) g.auto.st)
+loop-less c = let s = c in let P = s.requires.1 in let a = c.loop-at in let i = a.invariant.1 P.0 P.1 P.2 in let z : length s.args.postings.now < 9223372036854775808 = omega (arith, s.well_formed) in let l = c.loop-at-test.true in let n = terms-next i l (a.at + node_state_words) refl z in let g = c.search-e in omega (arith, n.0, back-length a.terms g.new.st a.at (a.at + node_state_words) g.auto.st)
 
 loop-again : tie.Need-loop-at-preserved-then-e-d invariant-loop decreases-loop
-loop-again c = let s = c in let z : length s.args.postings.now < 9223372036854775808 = omega (arith, s.well_formed) in let a = c.loop-at in let g = c.search-e in (back-length a.terms g.new.st a.at (a.at + nodeStateWords) g.auto.st ∙ a.invariant.0, λ ix ts h. subst (λ (y : ℕ). TermsZip s.args.postings.now ix ts s.args.target (take a.at a.terms ++ (g.new.st ++ drop (a.at + nodeStateWords - a.at) (drop a.at a.terms))) y a.last (a.at + nodeStateWords)) c.if-e-d.true (terms-took (a.invariant.1 ix ts h) c.loop-at-test.true (a.at + nodeStateWords) refl z g.result a.last (inl (refl, c.if-e-d.true)) g.new.st g.auto.st g.ensures))
+loop-again c = let s = c in let z : length s.args.postings.now < 9223372036854775808 = omega (arith, s.well_formed) in let a = c.loop-at in let g = c.search-e in (back-length a.terms g.new.st a.at (a.at + node_state_words) g.auto.st ∙ a.invariant.0, λ ix ts h. subst (λ (y : ℕ). TermsZip s.args.postings.now ix ts s.args.target (take a.at a.terms ++ (g.new.st ++ drop (a.at + node_state_words - a.at) (drop a.at a.terms))) y a.last (a.at + node_state_words)) c.if-e-d.true (terms-took (a.invariant.1 ix ts h) c.loop-at-test.true (a.at + node_state_words) refl z g.result a.last (inl (refl, c.if-e-d.true)) g.new.st g.auto.st g.ensures))
 
 loop-less-2 : tie.Need-loop-at-smaller invariant-loop decreases-loop
-loop-less-2 c = let s = c in let P = s.requires.1 in let a = c.loop-at in let i = a.invariant.1 P.0 P.1 P.2 in let z : length s.args.postings.now < 9223372036854775808 = omega (arith, s.well_formed) in let l = c.loop-at-test.true in let n = terms-next i l (a.at + nodeStateWords) refl z in let g = c.search-e in omega (arith, n.0, back-length a.terms g.new.st a.at (a.at + nodeStateWords) g.auto.st)
+loop-less-2 c = let s = c in let P = s.requires.1 in let a = c.loop-at in let i = a.invariant.1 P.0 P.1 P.2 in let z : length s.args.postings.now < 9223372036854775808 = omega (arith, s.well_formed) in let l = c.loop-at-test.true in let n = terms-next i l (a.at + node_state_words) refl z in let g = c.search-e in omega (arith, n.0, back-length a.terms g.new.st a.at (a.at + node_state_words) g.auto.st)
 
 loop-again-2 : tie.Need-loop-at-preserved invariant-loop decreases-loop
-loop-again-2 c = let s = c in let z : length s.args.postings.now < 9223372036854775808 = omega (arith, s.well_formed) in let a = c.loop-at in let g = c.search-e in (back-length a.terms g.new.st a.at (a.at + nodeStateWords) g.auto.st ∙ a.invariant.0, λ ix ts h. terms-took (a.invariant.1 ix ts h) c.loop-at-test.true (a.at + nodeStateWords) refl z g.result a.at (inr (refl, c.if-e-d.false)) g.new.st g.auto.st g.ensures)
+loop-again-2 c = let s = c in let z : length s.args.postings.now < 9223372036854775808 = omega (arith, s.well_formed) in let a = c.loop-at in let g = c.search-e in (back-length a.terms g.new.st a.at (a.at + node_state_words) g.auto.st ∙ a.invariant.0, λ ix ts h. terms-took (a.invariant.1 ix ts h) c.loop-at-test.true (a.at + node_state_words) refl z g.result a.at (inr (refl, c.if-e-d.false)) g.new.st g.auto.st g.ensures)
 
 same_length : tie.Need-shape_of-terms-then-last-eq0 invariant-loop decreases-loop
 same_length c = c.loop-at.invariant.0

@@ -4,7 +4,7 @@ use mathlib.Core.List.{◌++◌}
 use Prim.Native.Nat.{◌+◌, ◌-◌, ◌<◌}
 use native.Mathlib.Omega.{arith}
 use lib.ListN.{length, take, drop, length-set}
-use Rattle.meaning.specs.Limits.{noMoreDocs, nodeStateWords}
+use Rattle.meaning.specs.Limits.{no_more_docs, node_state_words}
 use Rattle.leaf_scorer.proofs.PhraseLaws.{moved-start, moved-long, moved-terms, moved-leapt, moved_later, moved-worked, leapt-behind, held-there, held-frequency}
 use Rattle.leaf_scorer.proofs.Asked.{asked-beyond, asked-leapt, asked-none, asked-stands}
 use borrow.Author.Rules.{rules}
@@ -45,7 +45,7 @@ part-frequency-end : tie.Need-slice_bounds-frequency-end
 part-frequency-end c = search rules
 
 frequency-requires : tie.Need-frequency-n-requires
-frequency-requires c κs = let s = c in let P = s.requires.1 in let m = moved-start P.8 in let g = c.pass_terms-p in let q = g.ensures P.0 P.3 (moved-terms m P.8.accepted P.8.postings-are (held-there P.8)) in let d : g.result.doc < noMoreDocs = omega (arith, q.top, c.if-d-eq-NO_MORE_DOCS.false) in (P.0, P.1, P.2, P.3, g.result.doc, P.6, P.7, held-frequency P.8 g.result.doc _ (rw (leapt-behind m g.new.terms _ refl) ((asked-leapt q c.if-d-target.false).stand d)))
+frequency-requires c κs = let s = c in let P = s.requires.1 in let m = moved-start P.8 in let g = c.pass_terms-p in let q = g.ensures P.0 P.3 (moved-terms m P.8.accepted P.8.postings-are (held-there P.8)) in let d : g.result.doc < no_more_docs = omega (arith, q.top, c.if-d-eq-NO_MORE_DOCS.false) in (P.0, P.1, P.2, P.3, g.result.doc, P.6, P.7, held-frequency P.8 g.result.doc _ (rw (leapt-behind m g.new.terms _ refl) ((asked-leapt q c.if-d-target.false).stand d)))
 
 add-result : tie.Need-overflow_add-result
 add-result c = search rules
@@ -60,7 +60,7 @@ same-length-5 : tie.Need-shape_of-b-then-n-eq0
 same-length-5 c = search rules
 
 returns-3 : tie.Need-returns-then-n-eq0
-returns-3 c = let g = c.pass_terms-p in λ ix p f ts v w h. let m = moved-start h in let q = g.ensures ix ts (moved-terms m h.accepted h.postings-are (held-there h)) in let m' = moved-leapt m g.result.doc g.new.terms q.are in let x = c.frequency-n in let d : g.result.doc < noMoreDocs = omega (arith, q.top, c.if-d-eq-NO_MORE_DOCS.false) in let e = x.ensures ix p f ts g.result.doc (held-frequency h g.result.doc _ (rw (leapt-behind m g.new.terms _ refl) ((asked-leapt q c.if-d-target.false).stand d))) in (asked-none q c.if-d-target.false d x.result e c.if-n-eq0.true, moved_later m' (g.result.doc + 1) (omega arith))
+returns-3 c = let g = c.pass_terms-p in λ ix p f ts v w h. let m = moved-start h in let q = g.ensures ix ts (moved-terms m h.accepted h.postings-are (held-there h)) in let m' = moved-leapt m g.result.doc g.new.terms q.are in let x = c.frequency-n in let d : g.result.doc < no_more_docs = omega (arith, q.top, c.if-d-eq-NO_MORE_DOCS.false) in let e = x.ensures ix p f ts g.result.doc (held-frequency h g.result.doc _ (rw (leapt-behind m g.new.terms _ refl) ((asked-leapt q c.if-d-target.false).stand d))) in (asked-none q c.if-d-target.false d x.result e c.if-n-eq0.true, moved_later m' (g.result.doc + 1) (omega arith))
 
 add-st : tie.Need-overflow_add-st
 add-st c = search rules
@@ -69,7 +69,7 @@ slice-write-st : tie.Need-bounds-st-16
 slice-write-st c = let s = c in let P = s.requires.1 in let m = moved-start P.8 in let g = c.pass_terms-p in let q = g.ensures P.0 P.3 (moved-terms m P.8.accepted P.8.postings-are (held-there P.8)) in omega (arith, moved-long (moved-leapt m g.result.doc g.new.terms q.are))
 
 slice-write-st-2 : tie.Need-bounds-st-17
-slice-write-st-2 c = let s = c in let P = s.requires.1 in let m = moved-start P.8 in let g = c.pass_terms-p in let q = g.ensures P.0 P.3 (moved-terms m P.8.accepted P.8.postings-are (held-there P.8)) in let y = take nodeStateWords s.args.st.now ++ (g.new.terms ++ drop (length s.args.st.now - nodeStateWords) (drop nodeStateWords s.args.st.now)) in omega (arith, moved-long (moved-leapt m g.result.doc g.new.terms q.are), length-set y 16 (g.result.doc + 1))
+slice-write-st-2 c = let s = c in let P = s.requires.1 in let m = moved-start P.8 in let g = c.pass_terms-p in let q = g.ensures P.0 P.3 (moved-terms m P.8.accepted P.8.postings-are (held-there P.8)) in let y = take node_state_words s.args.st.now ++ (g.new.terms ++ drop (length s.args.st.now - node_state_words) (drop node_state_words s.args.st.now)) in omega (arith, moved-long (moved-leapt m g.result.doc g.new.terms q.are), length-set y 16 (g.result.doc + 1))
 
 same-length-6 : tie.Need-shape_of-st
 same-length-6 c = search rules
@@ -81,7 +81,7 @@ same-length-8 : tie.Need-shape_of-b
 same-length-8 c = search rules
 
 returns-4 : tie.Need-returns
-returns-4 c = let g = c.pass_terms-p in λ ix p f ts v w h. let m = moved-start h in let q = g.ensures ix ts (moved-terms m h.accepted h.postings-are (held-there h)) in let m' = moved-leapt m g.result.doc g.new.terms q.are in let x = c.frequency-n in let d : g.result.doc < noMoreDocs = omega (arith, q.top, c.if-d-eq-NO_MORE_DOCS.false) in let e = x.ensures ix p f ts g.result.doc (held-frequency h g.result.doc _ (rw (leapt-behind m g.new.terms _ refl) ((asked-leapt q c.if-d-target.false).stand d))) in (asked-stands q c.if-d-target.false x.result e c.if-n-eq0.false, moved-worked m' x.result e)
+returns-4 c = let g = c.pass_terms-p in λ ix p f ts v w h. let m = moved-start h in let q = g.ensures ix ts (moved-terms m h.accepted h.postings-are (held-there h)) in let m' = moved-leapt m g.result.doc g.new.terms q.are in let x = c.frequency-n in let d : g.result.doc < no_more_docs = omega (arith, q.top, c.if-d-eq-NO_MORE_DOCS.false) in let e = x.ensures ix p f ts g.result.doc (held-frequency h g.result.doc _ (rw (leapt-behind m g.new.terms _ refl) ((asked-leapt q c.if-d-target.false).stand d))) in (asked-stands q c.if-d-target.false x.result e c.if-n-eq0.false, moved-worked m' x.result e)
 
 pub phrase_at_spec : {M : Type 1} → statement M
 phrase_at_spec =

@@ -1,5 +1,5 @@
 use Rattle.leaf_scorer.proofs.LeafLaws.{search-run, search-hit, search-end}
-use Rattle.meaning.specs.Limits.{noMoreDocs}
+use Rattle.meaning.specs.Limits.{no_more_docs}
 use lib.ListN.{length}
 use native.Mathlib.Omega.{arith}
 use mathlib.Core.Path.{refl, ap}
@@ -41,7 +41,7 @@ same-length-2 c = search rules
 
 -- src/leaves.rt:43:1
 returns-2 : tie.Need-returns-else-at-number
-returns-2 c = let s = c in let k = c.cursor_at-c in let w = c.lower-at in search-end s.args.words.now s.args.stride s.args.st.now s.args.target k.result.first k.result.number k.result.cursor k.ensures.first k.ensures.number k.ensures.cursor w.result noMoreDocs w.ensures c.if-at-number.false refl
+returns-2 c = let s = c in let k = c.cursor_at-c in let w = c.lower-at in search-end s.args.words.now s.args.stride s.args.st.now s.args.target k.result.first k.result.number k.result.cursor k.ensures.first k.ensures.number k.ensures.cursor w.result no_more_docs w.ensures c.if-at-number.false refl
 
 pub search_spec : {M : Type 1} → statement M
 search_spec =

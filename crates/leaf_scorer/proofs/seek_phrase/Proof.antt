@@ -4,9 +4,9 @@ use Rattle.leaf_scorer.proofs.Loops.{back-length}
 use Rattle.weight.specs.State.{State}
 use Rattle.leaf_scorer.specs.Phrases.{PhraseHeld, PhraseMoved}
 use lib.Dec.{ltb}
-use Rattle.meaning.specs.Phrase.{PhraseTerm, phraseFrequency}
+use Rattle.meaning.specs.Phrase.{PhraseTerm, phrase_frequency}
 use Rattle.meaning.specs.Lent.{Index}
-use Rattle.meaning.specs.Limits.{noMoreDocs, nodeStateWords}
+use Rattle.meaning.specs.Limits.{no_more_docs, node_state_words}
 use lib.ListN.{length, take, drop, length-set}
 use native.Mathlib.Omega.{arith}
 use mathlib.Core.List.{List, ◌++◌}
@@ -16,10 +16,10 @@ use Rattle.leaf_scorer.proofs.seek_phrase.Statement.{statement}
 use Rattle.leaf_scorer.proofs.seek_phrase.Tie as tie
 
 abbrev invariant-loop : tie.invariant-loop-target
-invariant-loop st₀ postings positions a₀ b₀ target t₀ st a b t = Lengths (length st) (length st₀) (length a) (length a₀) (length b) (length b₀) × (t ≤ noMoreDocs) × ((ix : Index) (p f : ℕ) (ts : List PhraseTerm) (s : State) (w : List ℕ) → PhraseHeld postings positions ix p f ts s w st₀ target → Going (λ d. ltb 0 (phraseFrequency ix ts d)) target t (PhraseMoved ix f ts s st t))
+invariant-loop st₀ postings positions a₀ b₀ target t₀ st a b t = Lengths (length st) (length st₀) (length a) (length a₀) (length b) (length b₀) × (t ≤ no_more_docs) × ((ix : Index) (p f : ℕ) (ts : List PhraseTerm) (s : State) (w : List ℕ) → PhraseHeld postings positions ix p f ts s w st₀ target → Going (λ d. ltb 0 (phrase_frequency ix ts d)) target t (PhraseMoved ix f ts s st t))
 
 abbrev decreases-loop : tie.decreases-loop-target
-decreases-loop st₀ postings positions a₀ b₀ target t₀ st a b t = noMoreDocs - t
+decreases-loop st₀ postings positions a₀ b₀ target t₀ st a b t = no_more_docs - t
 
 -- src/leaves.rt:153:5
 loop-holds : tie.Need-loop-target-init invariant-loop decreases-loop
@@ -43,7 +43,7 @@ leapfrog-requires c κs = let s = c in let P = s.requires.1 in let a = c.loop-ta
 
 -- src/leaves.rt:156:13
 same_length : tie.Need-shape_of-st-then-d-eq-NO_MORE_DOCS invariant-loop decreases-loop
-same_length c = let a = c.loop-target in let g = c.leapfrog-d in back-length a.st g.new.terms nodeStateWords (length a.st) g.auto.terms ∙ a.invariant.0.kids-same
+same_length c = let a = c.loop-target in let g = c.leapfrog-d in back-length a.st g.new.terms node_state_words (length a.st) g.auto.terms ∙ a.invariant.0.kids-same
 
 -- src/leaves.rt:156:13
 same-length-2 : tie.Need-shape_of-a-then-d-eq-NO_MORE_DOCS invariant-loop decreases-loop
@@ -71,7 +71,7 @@ part-frequency-end c = let s = c in let P = s.requires.1 in let a = c.loop-targe
 
 -- src/leaves.rt:158:13
 frequency-requires : tie.Need-frequency-n-requires invariant-loop decreases-loop
-frequency-requires c κs = let s = c in let P = s.requires.1 in let a = c.loop-target in let i = a.invariant.2 P.0 P.1 P.2 P.3 P.4 P.5 P.8 in let g = c.leapfrog-d in let q = g.ensures P.0 P.3 (moved-terms i.held P.8.accepted P.8.postings-are (held-there P.8)) in let m = moved-leapt i.held g.result g.new.terms q.are in let d : g.result < noMoreDocs = omega (arith, q.top, c.if-d-eq-NO_MORE_DOCS.false) in (P.0, P.1, P.2, P.3, g.result, omega (arith, P.6, a.invariant.0), omega (arith, P.7, a.invariant.0), held-frequency P.8 g.result _ (rw (leapt-behind i.held g.new.terms _ refl) (q.stand d)))
+frequency-requires c κs = let s = c in let P = s.requires.1 in let a = c.loop-target in let i = a.invariant.2 P.0 P.1 P.2 P.3 P.4 P.5 P.8 in let g = c.leapfrog-d in let q = g.ensures P.0 P.3 (moved-terms i.held P.8.accepted P.8.postings-are (held-there P.8)) in let m = moved-leapt i.held g.result g.new.terms q.are in let d : g.result < no_more_docs = omega (arith, q.top, c.if-d-eq-NO_MORE_DOCS.false) in (P.0, P.1, P.2, P.3, g.result, omega (arith, P.6, a.invariant.0), omega (arith, P.7, a.invariant.0), held-frequency P.8 g.result _ (rw (leapt-behind i.held g.new.terms _ refl) (q.stand d)))
 
 -- src/leaves.rt:160:17
 add-t : tie.Need-overflow_add-t invariant-loop decreases-loop
@@ -79,11 +79,11 @@ add-t c = let s = c in let P = s.requires.1 in let a = c.loop-target in let i = 
 
 -- src/leaves.rt:153:5
 loop-less : tie.Need-loop-target-smaller invariant-loop decreases-loop
-loop-less c = let s = c in let P = s.requires.1 in let a = c.loop-target in let i = a.invariant.2 P.0 P.1 P.2 P.3 P.4 P.5 P.8 in let g = c.leapfrog-d in let q = g.ensures P.0 P.3 (moved-terms i.held P.8.accepted P.8.postings-are (held-there P.8)) in let d : g.result < noMoreDocs = omega (arith, q.top, c.if-d-eq-NO_MORE_DOCS.false) in omega (arith, q.from)
+loop-less c = let s = c in let P = s.requires.1 in let a = c.loop-target in let i = a.invariant.2 P.0 P.1 P.2 P.3 P.4 P.5 P.8 in let g = c.leapfrog-d in let q = g.ensures P.0 P.3 (moved-terms i.held P.8.accepted P.8.postings-are (held-there P.8)) in let d : g.result < no_more_docs = omega (arith, q.top, c.if-d-eq-NO_MORE_DOCS.false) in omega (arith, q.from)
 
 -- src/leaves.rt:153:5
 loop-again : tie.Need-loop-target-preserved invariant-loop decreases-loop
-loop-again c = let s = c in let P = s.requires.1 in let a = c.loop-target in let i = a.invariant.2 P.0 P.1 P.2 P.3 P.4 P.5 P.8 in let g = c.leapfrog-d in let x = c.frequency-n in let q = g.ensures P.0 P.3 (moved-terms i.held P.8.accepted P.8.postings-are (held-there P.8)) in let d : g.result < noMoreDocs = omega (arith, q.top, c.if-d-eq-NO_MORE_DOCS.false) in (record { kids-same = back-length a.st g.new.terms nodeStateWords (length a.st) g.auto.terms ∙ a.invariant.0.kids-same; a-same = x.auto.a ∙ a.invariant.0.a-same; b-same = x.auto.b ∙ a.invariant.0.b-same }, omega arith, λ ix p f ts v w h. let i = a.invariant.2 ix p f ts v w h in let q = g.ensures ix ts (moved-terms i.held h.accepted h.postings-are (held-there h)) in let m = moved-leapt i.held g.result g.new.terms q.are in let e = x.ensures ix p f ts g.result (held-frequency h g.result _ (rw (leapt-behind i.held g.new.terms _ refl) (q.stand d))) in record { lo = omega (arith, i.lo, q.from); before = phrase-more i.lo i.before q x.result e c.if-n-eq0.true; held = moved_later m (g.result + 1) (omega arith) })
+loop-again c = let s = c in let P = s.requires.1 in let a = c.loop-target in let i = a.invariant.2 P.0 P.1 P.2 P.3 P.4 P.5 P.8 in let g = c.leapfrog-d in let x = c.frequency-n in let q = g.ensures P.0 P.3 (moved-terms i.held P.8.accepted P.8.postings-are (held-there P.8)) in let d : g.result < no_more_docs = omega (arith, q.top, c.if-d-eq-NO_MORE_DOCS.false) in (record { kids-same = back-length a.st g.new.terms node_state_words (length a.st) g.auto.terms ∙ a.invariant.0.kids-same; a-same = x.auto.a ∙ a.invariant.0.a-same; b-same = x.auto.b ∙ a.invariant.0.b-same }, omega arith, λ ix p f ts v w h. let i = a.invariant.2 ix p f ts v w h in let q = g.ensures ix ts (moved-terms i.held h.accepted h.postings-are (held-there h)) in let m = moved-leapt i.held g.result g.new.terms q.are in let e = x.ensures ix p f ts g.result (held-frequency h g.result _ (rw (leapt-behind i.held g.new.terms _ refl) (q.stand d))) in record { lo = omega (arith, i.lo, q.from); before = phrase-more i.lo i.before q x.result e c.if-n-eq0.true; held = moved_later m (g.result + 1) (omega arith) })
 
 -- src/leaves.rt:162:22
 add-st : tie.Need-overflow_add-st invariant-loop decreases-loop
@@ -95,11 +95,11 @@ slice-write-st c = let s = c in let P = s.requires.1 in let a = c.loop-target in
 
 -- src/leaves.rt:163:13
 slice-write-st-2 : tie.Need-bounds-st-17 invariant-loop decreases-loop
-slice-write-st-2 c = let s = c in let P = s.requires.1 in let a = c.loop-target in let i = a.invariant.2 P.0 P.1 P.2 P.3 P.4 P.5 P.8 in let g = c.leapfrog-d in let q = g.ensures P.0 P.3 (moved-terms i.held P.8.accepted P.8.postings-are (held-there P.8)) in let m = moved-leapt i.held g.result g.new.terms q.are in let y = take nodeStateWords a.st ++ (g.new.terms ++ drop (length a.st - nodeStateWords) (drop nodeStateWords a.st)) in omega (arith, moved-long m, length-set y 16 (g.result + 1))
+slice-write-st-2 c = let s = c in let P = s.requires.1 in let a = c.loop-target in let i = a.invariant.2 P.0 P.1 P.2 P.3 P.4 P.5 P.8 in let g = c.leapfrog-d in let q = g.ensures P.0 P.3 (moved-terms i.held P.8.accepted P.8.postings-are (held-there P.8)) in let m = moved-leapt i.held g.result g.new.terms q.are in let y = take node_state_words a.st ++ (g.new.terms ++ drop (length a.st - node_state_words) (drop node_state_words a.st)) in omega (arith, moved-long m, length-set y 16 (g.result + 1))
 
 -- src/leaves.rt:164:13
 same-length-4 : tie.Need-shape_of-st-else-n-eq0 invariant-loop decreases-loop
-same-length-4 c = let a = c.loop-target in let g = c.leapfrog-d in simp length-set (back-length a.st g.new.terms nodeStateWords (length a.st) g.auto.terms ∙ a.invariant.0.kids-same)
+same-length-4 c = let a = c.loop-target in let g = c.leapfrog-d in simp length-set (back-length a.st g.new.terms node_state_words (length a.st) g.auto.terms ∙ a.invariant.0.kids-same)
 
 -- src/leaves.rt:164:13
 same-length-5 : tie.Need-shape_of-a-else-n-eq0 invariant-loop decreases-loop
@@ -111,7 +111,7 @@ same-length-6 c = let a = c.loop-target in let x = c.frequency-n in x.auto.b ∙
 
 -- src/leaves.rt:164:13
 returns-2 : tie.Need-returns-else-n-eq0 invariant-loop decreases-loop
-returns-2 c = let s = c in let P = s.requires.1 in let a = c.loop-target in let i = a.invariant.2 P.0 P.1 P.2 P.3 P.4 P.5 P.8 in let g = c.leapfrog-d in let x = c.frequency-n in let q = g.ensures P.0 P.3 (moved-terms i.held P.8.accepted P.8.postings-are (held-there P.8)) in let d : g.result < noMoreDocs = omega (arith, q.top, c.if-d-eq-NO_MORE_DOCS.false) in λ ix p f ts v w h. let i = a.invariant.2 ix p f ts v w h in let q = g.ensures ix ts (moved-terms i.held h.accepted h.postings-are (held-there h)) in let m = moved-leapt i.held g.result g.new.terms q.are in let e = x.ensures ix p f ts g.result (held-frequency h g.result _ (rw (leapt-behind i.held g.new.terms _ refl) (q.stand d))) in (phrase-hit i.lo i.before q x.result e c.if-n-eq0.false, moved-worked m x.result e, λ k. stored_at (take nodeStateWords a.st ++ (g.new.terms ++ drop (length a.st - nodeStateWords) (drop nodeStateWords a.st))) (g.result + 1) x.result (moved-long m))
+returns-2 c = let s = c in let P = s.requires.1 in let a = c.loop-target in let i = a.invariant.2 P.0 P.1 P.2 P.3 P.4 P.5 P.8 in let g = c.leapfrog-d in let x = c.frequency-n in let q = g.ensures P.0 P.3 (moved-terms i.held P.8.accepted P.8.postings-are (held-there P.8)) in let d : g.result < no_more_docs = omega (arith, q.top, c.if-d-eq-NO_MORE_DOCS.false) in λ ix p f ts v w h. let i = a.invariant.2 ix p f ts v w h in let q = g.ensures ix ts (moved-terms i.held h.accepted h.postings-are (held-there h)) in let m = moved-leapt i.held g.result g.new.terms q.are in let e = x.ensures ix p f ts g.result (held-frequency h g.result _ (rw (leapt-behind i.held g.new.terms _ refl) (q.stand d))) in (phrase-hit i.lo i.before q x.result e c.if-n-eq0.false, moved-worked m x.result e, λ k. stored_at (take node_state_words a.st ++ (g.new.terms ++ drop (length a.st - node_state_words) (drop node_state_words a.st))) (g.result + 1) x.result (moved-long m))
 
 pub seek_phrase_spec : {M : Type 1} → statement M
 seek_phrase_spec =

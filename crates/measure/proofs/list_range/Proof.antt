@@ -1,6 +1,6 @@
 -- `measure::list_range` meets its contract. Assumes nothing.
 use lib.ListN.{length}
-use Rattle.bits.specs.Bit.{bitmapWords}
+use Rattle.bits.specs.Bit.{bitmap_words}
 use Rattle.measure.proofs.Listing.{range-asks, range_gives, range-bitmap}
 use mathlib.Core.Path.{refl, sym, ◌∙◌, ap}
 use borrow.Author.Rules.{rules}
@@ -46,7 +46,7 @@ same_length c = search rules
 returns-2 : tie.Need-returns
 returns-2 c =
     let s = c in (
-      λ ix a cs kind. (c.range_bitmap.ensures.0 ∙ ap length (range_gives ix s.args.q.now s.args.columns.now s.args.values.now s.args.max_doc s.args.at a cs s.requires.0.0 kind c.value-5.result c.value-6.result c.value.result c.value-2.result c.value-3.result c.value-4.result c.joined-lower.result c.joined-upper.result c.value-5.ensures c.value-6.ensures c.value.ensures c.value-2.ensures c.value-3.ensures c.value-4.ensures c.joined-lower.ensures c.joined-upper.ensures), range-bitmap ix s.args.q.now s.args.columns.now s.args.values.now s.args.max_doc s.args.at a cs s.requires.0.0 kind c.value-5.result c.value-6.result c.value.result c.value-2.result c.value-3.result c.value-4.result c.joined-lower.result c.joined-upper.result c.value-5.ensures c.value-6.ensures c.value.ensures c.value-2.ensures c.value-3.ensures c.value-4.ensures c.joined-lower.ensures c.joined-upper.ensures c.range_bitmap.new.output (bitmapWords s.args.max_doc) c.range_bitmap.ensures.1.0),
+      λ ix a cs kind. (c.range_bitmap.ensures.0 ∙ ap length (range_gives ix s.args.q.now s.args.columns.now s.args.values.now s.args.max_doc s.args.at a cs s.requires.0.0 kind c.value-5.result c.value-6.result c.value.result c.value-2.result c.value-3.result c.value-4.result c.joined-lower.result c.joined-upper.result c.value-5.ensures c.value-6.ensures c.value.ensures c.value-2.ensures c.value-3.ensures c.value-4.ensures c.joined-lower.ensures c.joined-upper.ensures), range-bitmap ix s.args.q.now s.args.columns.now s.args.values.now s.args.max_doc s.args.at a cs s.requires.0.0 kind c.value-5.result c.value-6.result c.value.result c.value-2.result c.value-3.result c.value-4.result c.joined-lower.result c.joined-upper.result c.value-5.ensures c.value-6.ensures c.value.ensures c.value-2.ensures c.value-3.ensures c.value-4.ensures c.joined-lower.ensures c.joined-upper.ensures c.range_bitmap.new.output (bitmap_words s.args.max_doc) c.range_bitmap.ensures.1.0),
       c.range_bitmap.ensures.1.1,
     )
 

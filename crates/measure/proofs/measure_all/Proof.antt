@@ -6,14 +6,14 @@ use native.Mathlib.Omega.{arith}
 use Prim.Native.Nat.{◌-◌, ◌≤◌}
 use lib.ListN.{length, length-set}
 use Rattle.meaning.specs.Lent.{Index}
-use Rattle.meaning.specs.Query.{recordCount}
+use Rattle.meaning.specs.Query.{record_count}
 use Rattle.weight.specs.Measured.{Known, Measured}
 use Rattle.weight.proofs.Measures.{measured-more, none_after, measured-down}
 use Rattle.measure.proofs.measure_all.Statement.{statement}
 use Rattle.measure.proofs.measure_all.Tie as tie
 
 abbrev invariant-loop : tie.invariant-loop-at
-invariant-loop q max-doc leaves counts nexts₀ presents₀ costs₀ at₀ nexts presents costs at = ((ix : Index) → Known ix q max-doc leaves counts → Measured ix q nexts presents costs at) × (at ≤ recordCount q) × (length nexts ≡ length nexts₀) × (length presents ≡ length presents₀) × (length costs ≡ length costs₀)
+invariant-loop q max-doc leaves counts nexts₀ presents₀ costs₀ at₀ nexts presents costs at = ((ix : Index) → Known ix q max-doc leaves counts → Measured ix q nexts presents costs at) × (at ≤ record_count q) × (length nexts ≡ length nexts₀) × (length presents ≡ length presents₀) × (length costs ≡ length costs₀)
 
 abbrev decreases-loop : tie.decreases-loop-at
 decreases-loop q max-doc leaves counts nexts₀ presents₀ costs₀ at₀ nexts presents costs at = at

@@ -6,14 +6,14 @@ use mathlib.Core.Option.{some}
 use native.Mathlib.Omega.{arith}
 use Prim.Native.Nat.{ℕ, ◌+◌, ◌-◌}
 use Rattle.meaning.specs.Lent.{Index}
-use Rattle.meaning.specs.Query.{recordChildren, occurOf, DecodedClauses, decode, decodeClauses}
+use Rattle.meaning.specs.Query.{record_children, occur_of, DecodedClauses, decode, decode_clauses}
 use Rattle.weight.specs.Measured.{Measured}
 use Rattle.measure.proofs.Tallies.{Left, left-begins, left-on, one_left, boolean-measured, clauses-in}
 use Rattle.measure.proofs.measure_boolean.Statement.{statement}
 use Rattle.measure.proofs.measure_boolean.Tie as tie
 
 abbrev invariant-loop : tie.invariant-loop-left
-invariant-loop q nexts presents costs at msm t₀ left₀ next₀ t left next = (ix : Index) (k : ℕ) (C : DecodedClauses) → Measured ix q nexts presents costs (at + 1) → decodeClauses q (decode q k) (recordChildren q at) (at + 1) ≡ some C → Left ix q k at left next t C
+invariant-loop q nexts presents costs at msm t₀ left₀ next₀ t left next = (ix : Index) (k : ℕ) (C : DecodedClauses) → Measured ix q nexts presents costs (at + 1) → decode_clauses q (decode q k) (record_children q at) (at + 1) ≡ some C → Left ix q k at left next t C
 
 abbrev decreases-loop : tie.decreases-loop-left
 decreases-loop q nexts presents costs at msm t₀ left₀ next₀ t left next = left
@@ -61,7 +61,7 @@ loop-less : tie.Need-loop-left-smaller invariant-loop decreases-loop
 loop-less c = omega (arith, c.loop-left-test.true)
 
 loop-again : tie.Need-loop-left-preserved invariant-loop decreases-loop
-loop-again c = let s = c in let q = s.args.q.now in let at = s.args.at in let h = s.requires.0.0.here in let l = c.loop-left in λ ix k C m e. left-on ix q k at C s.args.nexts.now s.args.presents.now s.args.costs.now l.left l.next l.t c.tally_clause-t.result m (l.invariant ix k C m e) c.loop-left-test.true (λ o p f g. c.tally_clause-t.ensures o p (ap occurOf c.occurrence.ensures ∙ f) g)
+loop-again c = let s = c in let q = s.args.q.now in let at = s.args.at in let h = s.requires.0.0.here in let l = c.loop-left in λ ix k C m e. left-on ix q k at C s.args.nexts.now s.args.presents.now s.args.costs.now l.left l.next l.t c.tally_clause-t.result m (l.invariant ix k C m e) c.loop-left-test.true (λ o p f g. c.tally_clause-t.ensures o p (ap occur_of c.occurrence.ensures ∙ f) g)
 
 boolean-present-requires : tie.Need-boolean_present-requires invariant-loop decreases-loop
 boolean-present-requires c κs = search rules

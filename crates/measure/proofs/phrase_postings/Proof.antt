@@ -1,8 +1,8 @@
 -- `measure::phrase_postings` meets its contract. Assumes nothing.
 use Rattle.weight.proofs.Phrases.{first-term, first-number, next-number}
-use Rattle.weight.specs.Measured.{termNumbers}
+use Rattle.weight.specs.Measured.{term_numbers}
 use Rattle.meaning.specs.Cost.{least}
-use Rattle.meaning.specs.Query.{recordChildren}
+use Rattle.meaning.specs.Query.{record_children}
 use Prim.Native.Nat.{ℕ, ◌-◌, ◌≤◌, ◌<◌}
 use mathlib.Core.Path.{◌≡◌, ◌∙◌, ap}
 use native.Mathlib.Omega.{arith}
@@ -11,7 +11,7 @@ use Rattle.measure.proofs.phrase_postings.Statement.{statement}
 use Rattle.measure.proofs.phrase_postings.Tie as tie
 
 abbrev invariant-loop : tie.invariant-loop-j
-invariant-loop q leaves at terms fewest₀ j₀ fewest j = (1 ≤ j) × (j ≤ terms) × (terms ≡ recordChildren q at) × (fewest < 4294967296) × (fewest ≡ least (termNumbers q leaves at j))
+invariant-loop q leaves at terms fewest₀ j₀ fewest j = (1 ≤ j) × (j ≤ terms) × (terms ≡ record_children q at) × (fewest < 4294967296) × (fewest ≡ least (term_numbers q leaves at j))
 
 abbrev decreases-loop : tie.decreases-loop-j
 decreases-loop q leaves at terms fewest₀ j₀ fewest j = terms - j
@@ -59,7 +59,7 @@ loop-again : tie.Need-loop-j-preserved invariant-loop decreases-loop
 loop-again c = let s = c in let room = s.requires.0.0 in let some = s.requires.0.1 in let l = c.loop-j in (omega arith, omega (arith, c.loop-j-test.true), l.invariant.2, omega (arith, c.smaller-fewest.ensures, l.invariant.3), next-number s.args.q.now s.args.leaves.now s.args.at l.j l.fewest c.value-in-loop-j.result c.postings_of.result c.smaller-fewest.result l.invariant.0 l.invariant.4 c.value-in-loop-j.ensures c.postings_of.ensures.0 c.smaller-fewest.ensures)
 
 returns : tie.Need-returns invariant-loop decreases-loop
-returns c = let l = c.loop-j in let s = c in let q = s.args.q.now in let at = s.args.at in let e : l.j ≡ recordChildren q at = omega (arith, l.invariant.1, l.invariant.2, c.loop-j-test.false) in (l.invariant.4 ∙ ap (λ (z : ℕ). least (termNumbers q s.args.leaves.now at z)) e, l.invariant.3)
+returns c = let l = c.loop-j in let s = c in let q = s.args.q.now in let at = s.args.at in let e : l.j ≡ record_children q at = omega (arith, l.invariant.1, l.invariant.2, c.loop-j-test.false) in (l.invariant.4 ∙ ap (λ (z : ℕ). least (term_numbers q s.args.leaves.now at z)) e, l.invariant.3)
 
 pub phrase_postings_spec : {M : Type 1} → statement M
 phrase_postings_spec =

@@ -1,9 +1,9 @@
 -- After the loop the records hold the words.
 use Rattle.std.proofs.Common.{◌≡◌, ◌*◌, ℕ, List, take, drop, arith, subst, sym}
-use Rattle.meaning.specs.Limits.{nodeStateWords}
+use Rattle.meaning.specs.Limits.{node_state_words}
 use Rattle.node_state.specs.declared.NodeState.{NodeState}
-use Rattle.node_state.specs.Records.{recordWords}
-use Rattle.node_state.proofs.Turns.{takeAll, all-taken, rest-stays}
+use Rattle.node_state.specs.Records.{record_words}
+use Rattle.node_state.proofs.Turns.{take_all, all-taken, rest-stays}
 use Rattle.node_state.proofs.pack.Goals as goal
 
 pub returns : goal.returns
@@ -12,8 +12,8 @@ returns c =
     let n = c.args.n in
     let ns = c.args.nodes.now in
     let upto : c.loop-i.i ≡ n = omega arith in
-    let e : takeAll w n ns ≡ c.loop-i.nodes = subst (λ (i : ℕ). takeAll w i ns ≡ c.loop-i.nodes) upto (sym c.loop-i.invariant.taken) in
+    let e : take_all w n ns ≡ c.loop-i.nodes = subst (λ (i : ℕ). take_all w i ns ≡ c.loop-i.nodes) upto (sym c.loop-i.invariant.taken) in
     subst
-    (λ (l : List NodeState). (recordWords (take n l) ≡ take (nodeStateWords * n) w) × (drop n l ≡ drop n ns))
+    (λ (l : List NodeState). (record_words (take n l) ≡ take (node_state_words * n) w) × (drop n l ≡ drop n ns))
     e
     (all-taken w n ns c.requires.0 c.requires.1, rest-stays w n ns)

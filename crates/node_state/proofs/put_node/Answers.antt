@@ -1,6 +1,6 @@
 -- The words of the other records stay as they are.
 use Rattle.std.proofs.Common.{◌*◌, arith}
-use Rattle.meaning.specs.Limits.{nodeStateWords}
+use Rattle.meaning.specs.Limits.{node_state_words}
 use Rattle.weight.specs.State.{words_of}
 use Rattle.node_state.specs.Records.{state_of}
 use Rattle.node_state.proofs.Turns.{part-put}
@@ -8,4 +8,4 @@ use Rattle.node_state.proofs.put_node.Goals as goal
 
 pub returns : goal.returns
 returns c =
-    part-put c.args.words.now c.put.new.st (words_of (state_of c.args.s)) (nodeStateWords * c.args.i) (omega (arith, c.requires)) c.put.ensures
+    part-put c.args.words.now c.put.new.st (words_of (state_of c.args.s)) (node_state_words * c.args.i) (omega (arith, c.requires)) c.put.ensures

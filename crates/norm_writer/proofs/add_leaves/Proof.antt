@@ -6,9 +6,9 @@ use mathlib.Core.List.{List}
 use Prim.Native.Nat.{ℕ, ◌+◌, ◌-◌, ◌≤◌}
 use native.Mathlib.Omega.{arith}
 use lib.ListN.{length}
-use Rattle.meaning.specs.Below.{listTo}
-use Rattle.meaning.proofs.Below.{length-listTo}
-use Rattle.norm_writer.specs.Lengths.{lengthIn, cursorsAt}
+use Rattle.meaning.specs.Below.{list_to}
+use Rattle.meaning.proofs.Below.{length-list_to}
+use Rattle.norm_writer.specs.Lengths.{length_in, cursors_at}
 use Rattle.norm_writer.proofs.Leaves.{Added, added-start, cursors-long, counts-long, run_ok, cursor-here, room-here, added-leaf, added-other, cursors-done, counts-done}
 use Rattle.norm_writer.proofs.add_leaves.Statement.{statement}
 use Rattle.norm_writer.proofs.add_leaves.Tie as tie
@@ -24,12 +24,12 @@ abbrev AddedTo : tie.Start invariant-loop decreases-loop → ℕ → List ℕ �
 AddedTo s l cursors counts = Added s.args.leaf_fields.now s.args.postings.now s.args.runs.now s.args.field s.args.base (length s.args.counts.now) l cursors counts
 
 cursors-kept : (s : tie.Start invariant-loop decreases-loop) (l : ℕ) (cursors counts : List ℕ) → AddedTo s l cursors counts → length cursors ≡ length s.args.cursors.now
-cursors-kept s l cursors counts added = cursors-long s.args.leaf_fields.now s.args.postings.now s.args.runs.now s.requires.0.0 s.args.field s.args.base (length s.args.counts.now) l cursors counts added ∙ sym (ap length s.requires.1.0 ∙ length-listTo 512 _)
+cursors-kept s l cursors counts added = cursors-long s.args.leaf_fields.now s.args.postings.now s.args.runs.now s.requires.0.0 s.args.field s.args.base (length s.args.counts.now) l cursors counts added ∙ sym (ap length s.requires.1.0 ∙ length-list_to 512 _)
 
 counts-kept : (s : tie.Start invariant-loop decreases-loop) (l : ℕ) (cursors counts : List ℕ) → AddedTo s l cursors counts → length counts ≡ length s.args.counts.now
 counts-kept s l cursors counts added = counts-long s.args.leaf_fields.now s.args.postings.now s.args.runs.now s.requires.0.0 s.args.field s.args.base (length s.args.counts.now) l cursors counts added
 
-done : (s : tie.Start invariant-loop decreases-loop) (l : ℕ) (cursors counts : List ℕ) → AddedTo s l cursors counts → length s.args.leaf_fields.now ≤ l → (cursors ≡ listTo 512 (cursorsAt s.args.leaf_fields.now s.args.postings.now s.args.runs.now s.args.field (s.args.base + length s.args.counts.now))) × (counts ≡ listTo (length s.args.counts.now) (λ j. lengthIn s.args.leaf_fields.now s.args.postings.now s.args.runs.now s.args.field (s.args.base + j)))
+done : (s : tie.Start invariant-loop decreases-loop) (l : ℕ) (cursors counts : List ℕ) → AddedTo s l cursors counts → length s.args.leaf_fields.now ≤ l → (cursors ≡ list_to 512 (cursors_at s.args.leaf_fields.now s.args.postings.now s.args.runs.now s.args.field (s.args.base + length s.args.counts.now))) × (counts ≡ list_to (length s.args.counts.now) (λ j. length_in s.args.leaf_fields.now s.args.postings.now s.args.runs.now s.args.field (s.args.base + j)))
 done s l cursors counts added all = (cursors-done s.args.leaf_fields.now s.args.postings.now s.args.runs.now s.requires.0.0 s.args.field s.args.base (length s.args.counts.now) l cursors counts added all, counts-done s.args.leaf_fields.now s.args.postings.now s.args.runs.now s.requires.0.0 s.args.field s.args.base (length s.args.counts.now) l cursors counts added all)
 
 loop-holds : tie.Need-loop-l-init invariant-loop decreases-loop

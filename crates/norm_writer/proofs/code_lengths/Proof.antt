@@ -6,17 +6,17 @@ use Prim.Native.Nat.{ℕ, ◌-◌, ◌≤◌}
 use native.Mathlib.Omega.{arith}
 use lib.ListN.{length, get_or}
 use lib.Seq.{sets, length-sets}
-use Rattle.meaning.specs.Below.{listTo}
-use Rattle.meaning.specs.SmallFloat.{intToByte4}
+use Rattle.meaning.specs.Below.{list_to}
+use Rattle.meaning.specs.SmallFloat.{int_to_byte4}
 use Rattle.meaning.proofs.Stores.{sets-next, sets-none}
 use Rattle.norm_writer.proofs.code_lengths.Statement.{statement}
 use Rattle.norm_writer.proofs.code_lengths.Tie as tie
 
 abbrev byte : List ℕ → ℕ → ℕ
-byte lengths j = intToByte4 (get_or lengths j 0)
+byte lengths j = int_to_byte4 (get_or lengths j 0)
 
 abbrev invariant-loop : tie.invariant-loop-j
-invariant-loop lengths norms₀ at j₀ norms j = (j ≤ length lengths) × (norms ≡ sets norms₀ at (listTo j (byte lengths)))
+invariant-loop lengths norms₀ at j₀ norms j = (j ≤ length lengths) × (norms ≡ sets norms₀ at (list_to j (byte lengths)))
 
 abbrev decreases-loop : tie.decreases-loop-j
 decreases-loop lengths norms₀ at j₀ norms j = length lengths - j
@@ -40,7 +40,7 @@ slice-write-norms : tie.Need-bounds-norms-at invariant-loop decreases-loop
 slice-write-norms c =
     let s = c in
     let l = c.loop-j in
-    omega (arith, s.requires.0, c.loop-j-test.true, ap length l.invariant.1, length-sets s.args.norms.now s.args.at (listTo l.j (byte s.args.lengths.now)))
+    omega (arith, s.requires.0, c.loop-j-test.true, ap length l.invariant.1, length-sets s.args.norms.now s.args.at (list_to l.j (byte s.args.lengths.now)))
 
 add-j : tie.Need-overflow_add-j invariant-loop decreases-loop
 add-j c = search rules
@@ -55,14 +55,14 @@ loop-again c =
     (omega (arith, c.loop-j-test.true), sets-next (byte s.args.lengths.now) s.args.norms.now _ s.args.at l.j _ l.invariant.1 c.int_to_byte4.ensures)
 
 same_length : tie.Need-shape_of-norms invariant-loop decreases-loop
-same_length c = let s = c in ap length c.loop-j.invariant.1 ∙ length-sets s.args.norms.now s.args.at (listTo c.loop-j.j (byte s.args.lengths.now))
+same_length c = let s = c in ap length c.loop-j.invariant.1 ∙ length-sets s.args.norms.now s.args.at (list_to c.loop-j.j (byte s.args.lengths.now))
 
 returns : tie.Need-returns invariant-loop decreases-loop
 returns c =
     let s = c in
     let l = c.loop-j in
     let e : l.j ≡ length s.args.lengths.now = omega (arith, l.invariant.0, c.loop-j-test.false) in
-    l.invariant.1 ∙ ap (λ (n : ℕ). sets s.args.norms.now s.args.at (listTo n (byte s.args.lengths.now))) e
+    l.invariant.1 ∙ ap (λ (n : ℕ). sets s.args.norms.now s.args.at (list_to n (byte s.args.lengths.now))) e
 
 pub code_lengths_spec : {M : Type 1} → statement M
 code_lengths_spec =

@@ -6,12 +6,12 @@ use Prim.Native.Nat.{ℕ, ◌+◌, ◌-◌, ◌<◌}
 use native.Mathlib.Omega.{arith}
 use lib.Seq.{sets}
 use borrow.Author.Tests.{eq-eqb, ne_eqb}
-use Rattle.meaning.specs.Below.{listTo}
-use Rattle.meaning.specs.Lent.{fieldCount, fieldNorms, hasNorms}
-use Rattle.meaning.specs.SmallFloat.{intToByte4}
-use Rattle.index.specs.Slices.{fieldsOnly}
+use Rattle.meaning.specs.Below.{list_to}
+use Rattle.meaning.specs.Lent.{field_count, field_norms, has_norms}
+use Rattle.meaning.specs.SmallFloat.{int_to_byte4}
+use Rattle.index.specs.Slices.{fields_only}
 use Rattle.index.specs.declared.fields.Field.{Field}
-use Rattle.norm_writer.specs.Lengths.{lengthIn}
+use Rattle.norm_writer.specs.Lengths.{length_in}
 use Rattle.norm_writer.proofs.Norms.{Coded, coded-start, norms-long, room-here, coded-with, coded-without, coded-all}
 use Rattle.norm_writer.proofs.write_norms.Statement.{statement}
 use Rattle.norm_writer.proofs.write_norms.Tie as tie
@@ -20,7 +20,7 @@ abbrev invariant-loop : tie.invariant-loop-norms
 invariant-loop max-doc fields leaf_fields postings runs norms₀ at₀ f₀ norms at f = Coded max-doc fields leaf_fields postings runs norms₀ f at norms
 
 abbrev decreases-loop : tie.decreases-loop-norms
-decreases-loop max-doc fields leaf_fields postings runs norms₀ at₀ f₀ norms at f = fieldCount (fieldsOnly fields) - f
+decreases-loop max-doc fields leaf_fields postings runs norms₀ at₀ f₀ norms at f = field_count (fields_only fields) - f
 
 loop-holds : tie.Need-loop-norms-init invariant-loop decreases-loop
 loop-holds c = let s = c in coded-start s.args.max_doc s.args.fields.now s.args.leaf_fields.now s.args.postings.now s.args.runs.now s.args.norms.now
@@ -35,16 +35,16 @@ field-at-requires : tie.Need-field_at-requires invariant-loop decreases-loop
 field-at-requires c κs = omega (arith, c.wide-in-loop-norms.ensures, c.wide.ensures, c.loop-norms-test.true)
 
 -- the field whose turn it is
-f-below : (c : tie.After-struct_known-1 invariant-loop decreases-loop) → c.loop-norms.f < fieldCount (fieldsOnly c.args.fields.now)
+f-below : (c : tie.After-struct_known-1 invariant-loop decreases-loop) → c.loop-norms.f < field_count (fields_only c.args.fields.now)
 f-below c = omega (arith, c.wide.ensures, c.loop-norms-test.true)
 
-flag_is : (c : tie.After-struct_known-1 invariant-loop decreases-loop) → fieldNorms (fieldsOnly c.args.fields.now) c.loop-norms.f ≡ c.field_at.result.norms
-flag_is c = sym (ap (λ (r : Field). r.norms) c.field_at.ensures ∙ ap (λ (f : ℕ). fieldNorms (fieldsOnly c.args.fields.now) f) c.wide-in-loop-norms.ensures)
+flag_is : (c : tie.After-struct_known-1 invariant-loop decreases-loop) → field_norms (fields_only c.args.fields.now) c.loop-norms.f ≡ c.field_at.result.norms
+flag_is c = sym (ap (λ (r : Field). r.norms) c.field_at.ensures ∙ ap (λ (f : ℕ). field_norms (fields_only c.args.fields.now) f) c.wide-in-loop-norms.ensures)
 
-with-norms : (c : tie.Then-field_at-eq1 invariant-loop decreases-loop) → hasNorms (fieldsOnly c.args.fields.now) c.loop-norms.f ≡ true
+with-norms : (c : tie.Then-field_at-eq1 invariant-loop decreases-loop) → has_norms (fields_only c.args.fields.now) c.loop-norms.f ≡ true
 with-norms c = let e : c.field_at.result.norms ≡ 1 = omega (arith, c.if-field_at-eq1.true) in eq-eqb _ 1 (flag_is c.before ∙ e)
 
-without-norms : (c : tie.Else-field_at-eq1 invariant-loop decreases-loop) → hasNorms (fieldsOnly c.args.fields.now) c.loop-norms.f ≡ false
+without-norms : (c : tie.Else-field_at-eq1 invariant-loop decreases-loop) → has_norms (fields_only c.args.fields.now) c.loop-norms.f ≡ false
 without-norms c = ne_eqb _ 1 (λ e. let g : c.field_at.result.norms ≡ 1 = sym (flag_is c.before) ∙ e in omega (arith, c.if-field_at-eq1.false, g))
 
 wide-requires-3 : tie.Need-wide-requires-then-field_at-eq1 invariant-loop decreases-loop
@@ -77,7 +77,7 @@ loop-again c =
     let s = c in
     let l = c.loop-norms in
     ⊎_elim
-    (λ w. coded-with s.args.max_doc s.args.fields.now s.args.leaf_fields.now s.args.postings.now s.args.runs.now s.args.norms.now s.requires.1 l.f l.at l.norms l.invariant (f-below c.before) (with-norms (record { before = c.before; if-field_at-eq1 = w.if-field_at-eq1 })) c.if-field_at-eq1.at c.if-field_at-eq1.norms (w.at-is ∙ ap (λ (n : ℕ). l.at + n) w.wide-at.ensures) (w.norms-is ∙ w.write_field.ensures ∙ ap (λ (n : ℕ). sets l.norms l.at (listTo n (λ d. intToByte4 (lengthIn s.args.leaf_fields.now s.args.postings.now s.args.runs.now l.f d)))) w.wide-then-field_at-eq1.ensures))
+    (λ w. coded-with s.args.max_doc s.args.fields.now s.args.leaf_fields.now s.args.postings.now s.args.runs.now s.args.norms.now s.requires.1 l.f l.at l.norms l.invariant (f-below c.before) (with-norms (record { before = c.before; if-field_at-eq1 = w.if-field_at-eq1 })) c.if-field_at-eq1.at c.if-field_at-eq1.norms (w.at-is ∙ ap (λ (n : ℕ). l.at + n) w.wide-at.ensures) (w.norms-is ∙ w.write_field.ensures ∙ ap (λ (n : ℕ). sets l.norms l.at (list_to n (λ d. int_to_byte4 (length_in s.args.leaf_fields.now s.args.postings.now s.args.runs.now l.f d)))) w.wide-then-field_at-eq1.ensures))
     (λ w. coded-without s.args.max_doc s.args.fields.now s.args.leaf_fields.now s.args.postings.now s.args.runs.now s.args.norms.now s.requires.1 l.f l.at l.norms l.invariant (f-below c.before) (without-norms (record { before = c.before; if-field_at-eq1 = w.if-field_at-eq1 })) c.if-field_at-eq1.at c.if-field_at-eq1.norms w.at-is w.norms-is)
     c.if-field_at-eq1.branch-raw
 

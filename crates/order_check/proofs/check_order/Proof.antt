@@ -13,7 +13,7 @@ check-index-requires c κs =
 returns : tie.Need-returns-then-refusal-ne0
 returns c =
     let a = c.args in
-    let ix : Index = record { maxDoc = a.max_doc; fields = a.fields.now; leaves = a.leaves.now; postings = a.postings.now; positions = a.positions.now; norms = a.norms.now; live = a.live.now; columns = a.columns.now; values = a.values.now } in
+    let ix : Index = record { max_doc = a.max_doc; fields = a.fields.now; leaves = a.leaves.now; postings = a.postings.now; positions = a.positions.now; norms = a.norms.now; live = a.live.now; columns = a.columns.now; values = a.values.now } in
     let i = c.check_index-refusal in
     order-index ix a.q.now i.result i.ensures c.if-refusal-ne0.true
 
@@ -24,7 +24,7 @@ check-query-requires c κs =
 returns-2 : tie.Need-returns
 returns-2 c =
     let a = c.args in
-    let ix : Index = record { maxDoc = a.max_doc; fields = a.fields.now; leaves = a.leaves.now; postings = a.postings.now; positions = a.positions.now; norms = a.norms.now; live = a.live.now; columns = a.columns.now; values = a.values.now } in
+    let ix : Index = record { max_doc = a.max_doc; fields = a.fields.now; leaves = a.leaves.now; postings = a.postings.now; positions = a.positions.now; norms = a.norms.now; live = a.live.now; columns = a.columns.now; values = a.values.now } in
     let i = c.check_index-refusal in
     order-query ix a.q.now i.result i.ensures c.if-refusal-ne0.false c.check_query.result (c.check_query.ensures ix (record { fields-are = refl; leaves-are = refl; columns-are = refl }))
 

@@ -17,7 +17,7 @@ check-order-requires c κs =
 returns : tie.Need-returns-then-refusal-ne0
 returns c =
     let a = c.args in
-    let ix : Index = record { maxDoc = a.max_doc; fields = a.fields.now; leaves = a.leaves.now; postings = a.postings.now; positions = a.positions.now; norms = a.norms.now; live = a.live.now; columns = a.columns.now; values = a.values.now } in
+    let ix : Index = record { max_doc = a.max_doc; fields = a.fields.now; leaves = a.leaves.now; postings = a.postings.now; positions = a.positions.now; norms = a.norms.now; live = a.live.now; columns = a.columns.now; values = a.values.now } in
     let w : Work = work a.states a.starts a.other_starts a.ranges in
     let o = c.check_order-refusal in
     page-order ix a.q.now a.target w a.documents a.scores o.result o.ensures c.if-refusal-ne0.true
@@ -25,14 +25,14 @@ returns c =
 work-short-requires : tie.Need-work_short-requires
 work-short-requires c κs =
     let a = c.args in
-    let ix : Index = record { maxDoc = a.max_doc; fields = a.fields.now; leaves = a.leaves.now; postings = a.postings.now; positions = a.positions.now; norms = a.norms.now; live = a.live.now; columns = a.columns.now; values = a.values.now } in
+    let ix : Index = record { max_doc = a.max_doc; fields = a.fields.now; leaves = a.leaves.now; postings = a.postings.now; positions = a.positions.now; norms = a.norms.now; live = a.live.now; columns = a.columns.now; values = a.values.now } in
     let o = c.check_order-refusal in
     (ix, record { asks = order-checked ix a.q.now o.result o.ensures c.if-refusal-ne0.false; documents = refl; leaves-are = refl; postings-are = refl })
 
 returns-2 : tie.Need-returns-then-work_short
 returns-2 c =
     let a = c.args in
-    let ix : Index = record { maxDoc = a.max_doc; fields = a.fields.now; leaves = a.leaves.now; postings = a.postings.now; positions = a.positions.now; norms = a.norms.now; live = a.live.now; columns = a.columns.now; values = a.values.now } in
+    let ix : Index = record { max_doc = a.max_doc; fields = a.fields.now; leaves = a.leaves.now; postings = a.postings.now; positions = a.positions.now; norms = a.norms.now; live = a.live.now; columns = a.columns.now; values = a.values.now } in
     let w : Work = work a.states a.starts a.other_starts a.ranges in
     let o = c.check_order-refusal in
     let b = c.work_short in
@@ -41,7 +41,7 @@ returns-2 c =
 returns-3 : tie.Need-returns-then-documents-scores
 returns-3 c =
     let a = c.args in
-    let ix : Index = record { maxDoc = a.max_doc; fields = a.fields.now; leaves = a.leaves.now; postings = a.postings.now; positions = a.positions.now; norms = a.norms.now; live = a.live.now; columns = a.columns.now; values = a.values.now } in
+    let ix : Index = record { max_doc = a.max_doc; fields = a.fields.now; leaves = a.leaves.now; postings = a.postings.now; positions = a.positions.now; norms = a.norms.now; live = a.live.now; columns = a.columns.now; values = a.values.now } in
     let w : Work = work a.states a.starts a.other_starts a.ranges in
     let o = c.check_order-refusal in
     let b = c.work_short in
@@ -50,7 +50,7 @@ returns-3 c =
 returns-4 : tie.Need-returns-then-max_doc-target
 returns-4 c =
     let a = c.args in
-    let ix : Index = record { maxDoc = a.max_doc; fields = a.fields.now; leaves = a.leaves.now; postings = a.postings.now; positions = a.positions.now; norms = a.norms.now; live = a.live.now; columns = a.columns.now; values = a.values.now } in
+    let ix : Index = record { max_doc = a.max_doc; fields = a.fields.now; leaves = a.leaves.now; postings = a.postings.now; positions = a.positions.now; norms = a.norms.now; live = a.live.now; columns = a.columns.now; values = a.values.now } in
     let w : Work = work a.states a.starts a.other_starts a.ranges in
     let o = c.check_order-refusal in
     let b = c.work_short in
@@ -59,7 +59,7 @@ returns-4 c =
 returns-5 : tie.Need-returns
 returns-5 c =
     let a = c.args in
-    let ix : Index = record { maxDoc = a.max_doc; fields = a.fields.now; leaves = a.leaves.now; postings = a.postings.now; positions = a.positions.now; norms = a.norms.now; live = a.live.now; columns = a.columns.now; values = a.values.now } in
+    let ix : Index = record { max_doc = a.max_doc; fields = a.fields.now; leaves = a.leaves.now; postings = a.postings.now; positions = a.positions.now; norms = a.norms.now; live = a.live.now; columns = a.columns.now; values = a.values.now } in
     let w : Work = work a.states a.starts a.other_starts a.ranges in
     let o = c.check_order-refusal in
     let b = c.work_short in

@@ -16,7 +16,7 @@ check-order-requires c κs =
 returns : tie.Need-returns-then-refusal-ne0
 returns c =
     let a = c.args in
-    let ix : Index = record { maxDoc = a.max_doc; fields = a.fields.now; leaves = a.leaves.now; postings = a.postings.now; positions = a.positions.now; norms = a.norms.now; live = a.live.now; columns = a.columns.now; values = a.values.now } in
+    let ix : Index = record { max_doc = a.max_doc; fields = a.fields.now; leaves = a.leaves.now; postings = a.postings.now; positions = a.positions.now; norms = a.norms.now; live = a.live.now; columns = a.columns.now; values = a.values.now } in
     let w : Work = work a.states a.starts a.other_starts a.ranges in
     let o = c.check_order-refusal in
     search-order ix a.q.now a.k w a.places o.result o.ensures c.if-refusal-ne0.true
@@ -24,7 +24,7 @@ returns c =
 returns-2 : tie.Need-returns-then-k-lt1
 returns-2 c =
     let a = c.args in
-    let ix : Index = record { maxDoc = a.max_doc; fields = a.fields.now; leaves = a.leaves.now; postings = a.postings.now; positions = a.positions.now; norms = a.norms.now; live = a.live.now; columns = a.columns.now; values = a.values.now } in
+    let ix : Index = record { max_doc = a.max_doc; fields = a.fields.now; leaves = a.leaves.now; postings = a.postings.now; positions = a.positions.now; norms = a.norms.now; live = a.live.now; columns = a.columns.now; values = a.values.now } in
     let w : Work = work a.states a.starts a.other_starts a.ranges in
     let o = c.check_order-refusal in
     search-no-hits ix a.q.now a.k w a.places o.result o.ensures c.if-refusal-ne0.false c.if-k-lt1.true
@@ -32,7 +32,7 @@ returns-2 c =
 returns-3 : tie.Need-returns-then-k-gt1024
 returns-3 c =
     let a = c.args in
-    let ix : Index = record { maxDoc = a.max_doc; fields = a.fields.now; leaves = a.leaves.now; postings = a.postings.now; positions = a.positions.now; norms = a.norms.now; live = a.live.now; columns = a.columns.now; values = a.values.now } in
+    let ix : Index = record { max_doc = a.max_doc; fields = a.fields.now; leaves = a.leaves.now; postings = a.postings.now; positions = a.positions.now; norms = a.norms.now; live = a.live.now; columns = a.columns.now; values = a.values.now } in
     let w : Work = work a.states a.starts a.other_starts a.ranges in
     let o = c.check_order-refusal in
     search-many-hits ix a.q.now a.k w a.places o.result o.ensures c.if-refusal-ne0.false c.if-k-lt1.false c.if-k-gt1024.true
@@ -40,14 +40,14 @@ returns-3 c =
 work-short-requires : tie.Need-work_short-requires
 work-short-requires c κs =
     let a = c.args in
-    let ix : Index = record { maxDoc = a.max_doc; fields = a.fields.now; leaves = a.leaves.now; postings = a.postings.now; positions = a.positions.now; norms = a.norms.now; live = a.live.now; columns = a.columns.now; values = a.values.now } in
+    let ix : Index = record { max_doc = a.max_doc; fields = a.fields.now; leaves = a.leaves.now; postings = a.postings.now; positions = a.positions.now; norms = a.norms.now; live = a.live.now; columns = a.columns.now; values = a.values.now } in
     let o = c.check_order-refusal in
     (ix, record { asks = order-checked ix a.q.now o.result o.ensures c.if-refusal-ne0.false; documents = refl; leaves-are = refl; postings-are = refl })
 
 returns-4 : tie.Need-returns-then-work_short
 returns-4 c =
     let a = c.args in
-    let ix : Index = record { maxDoc = a.max_doc; fields = a.fields.now; leaves = a.leaves.now; postings = a.postings.now; positions = a.positions.now; norms = a.norms.now; live = a.live.now; columns = a.columns.now; values = a.values.now } in
+    let ix : Index = record { max_doc = a.max_doc; fields = a.fields.now; leaves = a.leaves.now; postings = a.postings.now; positions = a.positions.now; norms = a.norms.now; live = a.live.now; columns = a.columns.now; values = a.values.now } in
     let w : Work = work a.states a.starts a.other_starts a.ranges in
     let o = c.check_order-refusal in
     let b = c.work_short in
@@ -56,7 +56,7 @@ returns-4 c =
 returns-5 : tie.Need-returns-then-places-k
 returns-5 c =
     let a = c.args in
-    let ix : Index = record { maxDoc = a.max_doc; fields = a.fields.now; leaves = a.leaves.now; postings = a.postings.now; positions = a.positions.now; norms = a.norms.now; live = a.live.now; columns = a.columns.now; values = a.values.now } in
+    let ix : Index = record { max_doc = a.max_doc; fields = a.fields.now; leaves = a.leaves.now; postings = a.postings.now; positions = a.positions.now; norms = a.norms.now; live = a.live.now; columns = a.columns.now; values = a.values.now } in
     let w : Work = work a.states a.starts a.other_starts a.ranges in
     let o = c.check_order-refusal in
     let b = c.work_short in
@@ -65,7 +65,7 @@ returns-5 c =
 returns-6 : tie.Need-returns
 returns-6 c =
     let a = c.args in
-    let ix : Index = record { maxDoc = a.max_doc; fields = a.fields.now; leaves = a.leaves.now; postings = a.postings.now; positions = a.positions.now; norms = a.norms.now; live = a.live.now; columns = a.columns.now; values = a.values.now } in
+    let ix : Index = record { max_doc = a.max_doc; fields = a.fields.now; leaves = a.leaves.now; postings = a.postings.now; positions = a.positions.now; norms = a.norms.now; live = a.live.now; columns = a.columns.now; values = a.values.now } in
     let w : Work = work a.states a.starts a.other_starts a.ranges in
     let o = c.check_order-refusal in
     let b = c.work_short in

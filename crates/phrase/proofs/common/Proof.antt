@@ -9,9 +9,9 @@ use lib.ListN.{length, take, get_or}
 use lib.Seq.{length-take-le}
 use borrow.Author.Rules.{rules}
 use Rattle.meaning.specs.Phrase.{multiplicity}
-use Rattle.phrase_starts.specs.Terms.{termAt, startsOf, startLists, GoodTerm, Good, Room, Rarest}
+use Rattle.phrase_starts.specs.Terms.{term_at, starts_of, start_lists, GoodTerm, Good, Room, Rarest}
 use Rattle.phrase_starts.specs.Common.{Ascending, Common}
-use Rattle.phrase.specs.Step.{Held, unmetFrom, Candidates, Left}
+use Rattle.phrase.specs.Step.{Held, unmet_from, Candidates, Left}
 use Rattle.phrase_starts.proofs.Records.{starts-length, starts-ascending}
 use Rattle.phrase.proofs.Steps.{left_end, left-at-end, unmet-start, unmet-not-past, left-unmet, left-of-all}
 use Rattle.phrase.proofs.common.Statement.{statement}
@@ -21,9 +21,9 @@ use Rattle.phrase.proofs.common.Tie as tie
 enough-room : (ts : List ℕ) (r places : ℕ) → Rarest ts r → Room ts places → get_or ts (r + 1) 0 ≤ places
 enough-room ts r places h m = le_trans (h.least m.term m.record-start m.one-of-them) m.enough
 
-module _ (ps ts : List ℕ) (g : Good ps ts) (r : ℕ) (h : Rarest ts r) (cs : List ℤ) (e : cs ≡ startsOf ps (termAt ts r)) (at : ℕ) (u : at ≡ unmetFrom r 0) where
+module _ (ps ts : List ℕ) (g : Good ps ts) (r : ℕ) (h : Rarest ts r) (cs : List ℤ) (e : cs ≡ starts_of ps (term_at ts r)) (at : ℕ) (u : at ≡ unmet_from r 0) where
   long : length cs ≡ get_or ts (r + 1) 0
-  long = ap length e ∙ starts-length ps (termAt ts r)
+  long = ap length e ∙ starts-length ps (term_at ts r)
 
   held : Held ps ts r cs
   held =
@@ -32,7 +32,7 @@ module _ (ps ts : List ℕ) (g : Good ps ts) (r : ℕ) (h : Rarest ts r) (cs : L
         rarest-start = h.record-start;
         rarest-there = h.one-of-them;
         of-the-rarest = λ s. (let q = ap (multiplicity s) e in omega (arith, q));
-        rising = subst Ascending (sym e) (starts-ascending ps (termAt ts r) (g.each r h.record-start h.one-of-them));
+        rising = subst Ascending (sym e) (starts-ascending ps (term_at ts r) (g.each r h.record-start h.one-of-them));
       }
 
   begun : (places : ℕ) → Room ts places → (at ≡ length ts → ⊥) → Candidates ps ts r at cs places
@@ -45,7 +45,7 @@ module _ (ps ts : List ℕ) (g : Good ps ts) (r : ℕ) (h : Rarest ts r) (cs : L
       }
 
   -- what the other terms leave is the common part of all
-  ended : (zs : List ℤ) → Left ps ts at cs zs → Common (startLists ps ts) zs
+  ended : (zs : List ℤ) → Left ps ts at cs zs → Common (start_lists ps ts) zs
   ended zs l =
       left-of-all ps ts r zs g h.record-start h.one-of-them
       (subst (λ (k : List ℤ). Left ps ts 0 k zs) e (left-unmet ps ts r cs held 0 (omega arith) (omega arith) zs (subst (λ (n : ℕ). Left ps ts n cs zs) u l)))
@@ -88,8 +88,8 @@ returns c =
     let t = u.term_at-t in
     let w = u.write_starts in
     let k = u.shared_slice_known-2-1.given (h.result + 1) in
-    let l = left_end b.args.positions.now b.args.terms.now u.unmet-at.result (take t.result.freq w.new.out) c.if-at-terms.true (held b.args.positions.now b.args.terms.now b.requires.0 h.result h.ensures (take t.result.freq w.new.out) (w.ensures ∙ ap (startsOf b.args.positions.now) t.ensures) u.unmet-at.result u.unmet-at.ensures).rising in
-    (ended b.args.positions.now b.args.terms.now b.requires.0 h.result h.ensures (take t.result.freq w.new.out) (w.ensures ∙ ap (startsOf b.args.positions.now) t.ensures) u.unmet-at.result u.unmet-at.ensures (take t.result.freq w.new.out) l, omega (arith, long b.args.positions.now b.args.terms.now b.requires.0 h.result h.ensures (take t.result.freq w.new.out) (w.ensures ∙ ap (startsOf b.args.positions.now) t.ensures) u.unmet-at.result u.unmet-at.ensures, k))
+    let l = left_end b.args.positions.now b.args.terms.now u.unmet-at.result (take t.result.freq w.new.out) c.if-at-terms.true (held b.args.positions.now b.args.terms.now b.requires.0 h.result h.ensures (take t.result.freq w.new.out) (w.ensures ∙ ap (starts_of b.args.positions.now) t.ensures) u.unmet-at.result u.unmet-at.ensures).rising in
+    (ended b.args.positions.now b.args.terms.now b.requires.0 h.result h.ensures (take t.result.freq w.new.out) (w.ensures ∙ ap (starts_of b.args.positions.now) t.ensures) u.unmet-at.result u.unmet-at.ensures (take t.result.freq w.new.out) l, omega (arith, long b.args.positions.now b.args.terms.now b.requires.0 h.result h.ensures (take t.result.freq w.new.out) (w.ensures ∙ ap (starts_of b.args.positions.now) t.ensures) u.unmet-at.result u.unmet-at.ensures, k))
 
 slice-reshare-prefix-meet : tie.Need-slice_bounds-meet-end
 slice-reshare-prefix-meet c =
@@ -120,7 +120,7 @@ meet-requires c κs =
     let h = u.rarest-best in
     let t = u.term_at-t in
     let w = u.write_starts in
-    begun b.args.positions.now b.args.terms.now b.requires.0 h.result h.ensures (take t.result.freq w.new.out) (w.ensures ∙ ap (startsOf b.args.positions.now) t.ensures) u.unmet-at.result u.unmet-at.ensures (length b.args.b.now) b.requires.1.1 c.if-at-terms.false
+    begun b.args.positions.now b.args.terms.now b.requires.0 h.result h.ensures (take t.result.freq w.new.out) (w.ensures ∙ ap (starts_of b.args.positions.now) t.ensures) u.unmet-at.result u.unmet-at.ensures (length b.args.b.now) b.requires.1.1 c.if-at-terms.false
 
 slice-aggregate-result-2 : tie.Need-slice_bounds-result-end-then-next-terms
 slice-aggregate-result-2 c =
@@ -131,7 +131,7 @@ slice-aggregate-result-2 c =
     let w = u.write_starts in
     let m = c.meet-m in
     let v = enough-room b.args.terms.now h.result (length b.args.b.now) h.ensures b.requires.1.1 in
-    let q = long b.args.positions.now b.args.terms.now b.requires.0 h.result h.ensures (take t.result.freq w.new.out) (w.ensures ∙ ap (startsOf b.args.positions.now) t.ensures) u.unmet-at.result u.unmet-at.ensures in
+    let q = long b.args.positions.now b.args.terms.now b.requires.0 h.result h.ensures (take t.result.freq w.new.out) (w.ensures ∙ ap (starts_of b.args.positions.now) t.ensures) u.unmet-at.result u.unmet-at.ensures in
     sym (length-take-le m.result.n m.new.spare (omega (arith, m.ensures.0, m.auto.spare, v, q)))
 
 returns-2 : tie.Need-returns-then-next-terms
@@ -144,7 +144,7 @@ returns-2 c =
     let k = u.shared_slice_known-2-1.given (h.result + 1) in
     let m = c.meet-m in
     let l = left-at-end b.args.positions.now b.args.terms.now h.result u.unmet-at.result m.result.next (take t.result.freq w.new.out) (take m.result.n m.new.spare) m.ensures.1 c.if-next-terms.true in
-    (ended b.args.positions.now b.args.terms.now b.requires.0 h.result h.ensures (take t.result.freq w.new.out) (w.ensures ∙ ap (startsOf b.args.positions.now) t.ensures) u.unmet-at.result u.unmet-at.ensures (take m.result.n m.new.spare) l, omega (arith, l.no_more, long b.args.positions.now b.args.terms.now b.requires.0 h.result h.ensures (take t.result.freq w.new.out) (w.ensures ∙ ap (startsOf b.args.positions.now) t.ensures) u.unmet-at.result u.unmet-at.ensures, k))
+    (ended b.args.positions.now b.args.terms.now b.requires.0 h.result h.ensures (take t.result.freq w.new.out) (w.ensures ∙ ap (starts_of b.args.positions.now) t.ensures) u.unmet-at.result u.unmet-at.ensures (take m.result.n m.new.spare) l, omega (arith, l.no_more, long b.args.positions.now b.args.terms.now b.requires.0 h.result h.ensures (take t.result.freq w.new.out) (w.ensures ∙ ap (starts_of b.args.positions.now) t.ensures) u.unmet-at.result u.unmet-at.ensures, k))
 
 slice-aggregate-survivors : tie.Need-slice_bounds-survivors-end
 slice-aggregate-survivors c =
@@ -155,7 +155,7 @@ slice-aggregate-survivors c =
     let w = u.write_starts in
     let m = c.meet-m in
     let v = enough-room b.args.terms.now h.result (length b.args.b.now) h.ensures b.requires.1.1 in
-    let q = long b.args.positions.now b.args.terms.now b.requires.0 h.result h.ensures (take t.result.freq w.new.out) (w.ensures ∙ ap (startsOf b.args.positions.now) t.ensures) u.unmet-at.result u.unmet-at.ensures in
+    let q = long b.args.positions.now b.args.terms.now b.requires.0 h.result h.ensures (take t.result.freq w.new.out) (w.ensures ∙ ap (starts_of b.args.positions.now) t.ensures) u.unmet-at.result u.unmet-at.ensures in
     sym (length-take-le m.result.n m.new.spare (omega (arith, m.ensures.0, m.auto.spare, v, q)))
 
 slice-aggregate-survivors-2 : tie.Need-slice_bounds-survivors-end-2
@@ -184,7 +184,7 @@ returns-3 c =
     let k = u.shared_slice_known-2-1.given (h.result + 1) in
     let m = c.meet-m in
     let l = m.ensures.1.on c.survivors.result.now c.survivors.ensures in
-    (ended b.args.positions.now b.args.terms.now b.requires.0 h.result h.ensures (take t.result.freq w.new.out) (w.ensures ∙ ap (startsOf b.args.positions.now) t.ensures) u.unmet-at.result u.unmet-at.ensures c.survivors.result.now l, omega (arith, l.no_more, long b.args.positions.now b.args.terms.now b.requires.0 h.result h.ensures (take t.result.freq w.new.out) (w.ensures ∙ ap (startsOf b.args.positions.now) t.ensures) u.unmet-at.result u.unmet-at.ensures, k))
+    (ended b.args.positions.now b.args.terms.now b.requires.0 h.result h.ensures (take t.result.freq w.new.out) (w.ensures ∙ ap (starts_of b.args.positions.now) t.ensures) u.unmet-at.result u.unmet-at.ensures c.survivors.result.now l, omega (arith, l.no_more, long b.args.positions.now b.args.terms.now b.requires.0 h.result h.ensures (take t.result.freq w.new.out) (w.ensures ∙ ap (starts_of b.args.positions.now) t.ensures) u.unmet-at.result u.unmet-at.ensures, k))
 
 pub common_spec : {M : Type 1} → statement M
 common_spec =

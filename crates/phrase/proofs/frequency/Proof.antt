@@ -5,28 +5,28 @@ use Prim.Native.Nat.{ℕ, ◌≤◌}
 use native.Mathlib.Omega.{arith}
 use borrow.Author.Rules.{rules}
 use lib.ListN.{length, drop}
-use Rattle.meaning.specs.Phrase.{commonSize}
+use Rattle.meaning.specs.Phrase.{common_size}
 use Rattle.phrase_starts.specs.declared.Term.{Term}
-use Rattle.phrase_starts.specs.Terms.{termAt, startsOf, startLists, GoodTerm}
+use Rattle.phrase_starts.specs.Terms.{term_at, starts_of, start_lists, GoodTerm}
 use Rattle.phrase_starts.proofs.Records.{lists-some, lists_at, lists-end, starts-length}
 use Rattle.phrase_starts.proofs.Size.{common-length, common-size-le}
 use Rattle.phrase.proofs.frequency.Statement.{statement}
 use Rattle.phrase.proofs.frequency.Tie as tie
 
 -- ---- six words are two terms
-two-lists : (ps ts : List ℕ) → length ts ≡ 6 → startLists ps ts ≡ startsOf ps (termAt ts 0) ∷ startsOf ps (termAt ts 3) ∷ []
+two-lists : (ps ts : List ℕ) → length ts ≡ 6 → start_lists ps ts ≡ starts_of ps (term_at ts 0) ∷ starts_of ps (term_at ts 3) ∷ []
 two-lists ps ts h =
-    let e : startLists ps (drop 6 ts) ≡ [] = subst (λ (n : ℕ). startLists ps (drop n ts) ≡ []) h (lists-end ps ts) in
-    let b : startLists ps (drop 3 ts) ≡ startsOf ps (termAt ts 3) ∷ startLists ps (drop 6 ts) = lists_at ps ts 3 (omega (arith, h)) in
-    let a : startLists ps ts ≡ startsOf ps (termAt ts 0) ∷ startLists ps (drop 3 ts) = lists_at ps ts 0 (omega (arith, h)) in
-    a ∙ ap (λ l. startsOf ps (termAt ts 0) ∷ l) (b ∙ ap (λ l. startsOf ps (termAt ts 3) ∷ l) e)
+    let e : start_lists ps (drop 6 ts) ≡ [] = subst (λ (n : ℕ). start_lists ps (drop n ts) ≡ []) h (lists-end ps ts) in
+    let b : start_lists ps (drop 3 ts) ≡ starts_of ps (term_at ts 3) ∷ start_lists ps (drop 6 ts) = lists_at ps ts 3 (omega (arith, h)) in
+    let a : start_lists ps ts ≡ starts_of ps (term_at ts 0) ∷ start_lists ps (drop 3 ts) = lists_at ps ts 0 (omega (arith, h)) in
+    a ∙ ap (λ l. starts_of ps (term_at ts 0) ∷ l) (b ∙ ap (λ l. starts_of ps (term_at ts 3) ∷ l) e)
 
-pair_size : (ps ts : List ℕ) (s t : Term) → length ts ≡ 6 → s ≡ termAt ts 0 → t ≡ termAt ts 3 → commonSize (startsOf ps s ∷ startsOf ps t ∷ []) ≡ commonSize (startLists ps ts)
-pair_size ps ts s t h es et = rw (es, et) (ap commonSize (sym (two-lists ps ts h)))
+pair_size : (ps ts : List ℕ) (s t : Term) → length ts ≡ 6 → s ≡ term_at ts 0 → t ≡ term_at ts 3 → common_size (starts_of ps s ∷ starts_of ps t ∷ []) ≡ common_size (start_lists ps ts)
+pair_size ps ts s t h es et = rw (es, et) (ap common_size (sym (two-lists ps ts h)))
 
 -- no more starts than the first has positions
-pair_small : (ps : List ℕ) (s t : Term) → commonSize (startsOf ps s ∷ startsOf ps t ∷ []) ≤ s.freq
-pair_small ps s t = let a = common-size-le (startsOf ps s) (startsOf ps t ∷ []) in let b = starts-length ps s in omega (arith, a, b)
+pair_small : (ps : List ℕ) (s t : Term) → common_size (starts_of ps s ∷ starts_of ps t ∷ []) ≤ s.freq
+pair_small ps s t = let a = common-size-le (starts_of ps s) (starts_of ps t ∷ []) in let b = starts-length ps s in omega (arith, a, b)
 
 term-at-requires : tie.Need-term_at-requires
 term-at-requires c κs = search rules
@@ -76,7 +76,7 @@ returns-2 c =
     let b = c in
     let k = c.common-left in
     let g = b.requires.0 in
-    common-length (startLists b.args.positions.now b.args.terms.now) k.result.now (lists-some b.args.positions.now b.args.terms.now g.whole g.some) k.ensures.0.counts
+    common-length (start_lists b.args.positions.now b.args.terms.now) k.result.now (lists-some b.args.positions.now b.args.terms.now g.whole g.some) k.ensures.0.counts
 
 pub frequency_spec : {M : Type 1} → statement M
 frequency_spec = tie.close (tie.spec term-at-requires term-at-requires-2 pair-requires cast-result returns common-requires cast-result-2 same_length same-length-2 returns-2)

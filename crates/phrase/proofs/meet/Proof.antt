@@ -7,7 +7,7 @@ use lib.IntN.{ℤ}
 use lib.ListN.{length, take, length-take}
 use borrow.Author.Rules.{rules}
 use Rattle.phrase_starts.specs.declared.Term.{Term}
-use Rattle.phrase_starts.specs.Terms.{termAt, startsOf, GoodTerm}
+use Rattle.phrase_starts.specs.Terms.{term_at, starts_of, GoodTerm}
 use Rattle.phrase_starts.specs.Common.{Common}
 use Rattle.phrase.specs.Step.{Meets}
 use Rattle.phrase.proofs.Steps.{meets, meets-none}
@@ -15,8 +15,8 @@ use Rattle.phrase.proofs.meet.Statement.{statement}
 use Rattle.phrase.proofs.meet.Tie as tie
 
 -- of the term that was read
-met : (ps ts : List ℕ) (at : ℕ) (cs ms : List ℤ) (t : Term) → t ≡ termAt ts at → Common (cs ∷ startsOf ps t ∷ []) ms → Common (cs ∷ startsOf ps (termAt ts at) ∷ []) ms
-met ps ts at cs ms t e k = subst (λ x. Common (cs ∷ startsOf ps x ∷ []) ms) e k
+met : (ps ts : List ℕ) (at : ℕ) (cs ms : List ℤ) (t : Term) → t ≡ term_at ts at → Common (cs ∷ starts_of ps t ∷ []) ms → Common (cs ∷ starts_of ps (term_at ts at) ∷ []) ms
+met ps ts at cs ms t e k = subst (λ x. Common (cs ∷ starts_of ps x ∷ []) ms) e k
 
 few : (n : ℕ) (out cs : List ℤ) → n ≤ length cs → length (take n out) ≤ length cs
 few n out cs h = omega (arith, length-take n out, h)

@@ -8,7 +8,7 @@ use mir.ValLaws.{to_z-of_z}
 use borrow.Author.Rules.{rules}
 use Rattle.meaning.specs.Phrase.{smallest}
 use Rattle.phrase.specs.Place.{PlacedIn}
-use Rattle.phrase_starts.specs.Terms.{startLists}
+use Rattle.phrase_starts.specs.Terms.{start_lists}
 use Rattle.phrase_starts.proofs.Records.{lists-some}
 use Rattle.phrase.proofs.Size.{common-length}
 use Rattle.phrase.proofs.Places.{first-common}
@@ -33,7 +33,7 @@ returns c =
     let b = c in
     let k = c.common-left in
     let g = b.requires.0 in
-    sym (common-length (startLists b.args.positions.now b.args.terms.now) k.result.now (lists-some b.args.positions.now b.args.terms.now g.whole g.some) k.ensures.0.counts) ∙ c.if-left-eq0.true
+    sym (common-length (start_lists b.args.positions.now b.args.terms.now) k.result.now (lists-some b.args.positions.now b.args.terms.now g.whole g.some) k.ensures.0.counts) ∙ c.if-left-eq0.true
 
 same-length-3 : tie.Need-shape_of-a-else-left-eq0
 same-length-3 c = search rules
@@ -46,7 +46,7 @@ unfolding PlacedIn
 returns-2 c =
     let b = c in
     let k = c.common-left in
-    let xss = startLists b.args.positions.now b.args.terms.now in
+    let xss = start_lists b.args.positions.now b.args.terms.now in
     subst (λ (s : ℤ). 0 < smallest s xss) (sym (to_z-of_z w32 (get_or k.result.now 0 (pos 0)) (record { sfits = c.result-1.given }))) (first-common xss k.result.now k.ensures.0 c.if-left-eq0.false)
 
 pub place_spec : {M : Type 1} → statement M

@@ -14,7 +14,7 @@ use mir.Syntax.{w32}
 use mir.ValLaws.{to_z-of_z}
 use borrow.Author.Rules.{rules}
 use Rattle.phrase_starts.specs.declared.Term.{Term}
-use Rattle.phrase_starts.specs.Terms.{startsOf}
+use Rattle.phrase_starts.specs.Terms.{starts_of}
 use Rattle.phrase_starts.specs.Common.{Common}
 use Rattle.meaning.proofs.Signed.{lt_yes}
 use Rattle.phrase_starts.proofs.Order.{same, tested}
@@ -29,7 +29,7 @@ record Merged (ps : List ℕ) (t : Term) (cs : List ℤ) (places : ℕ) (out : L
   few : n ≤ c
   candidates : c ≤ length cs
   positions : i ≤ t.freq
-  merging : Merging cs (startsOf ps t) (take n out) (drop c cs) (drop i (startsOf ps t))
+  merging : Merging cs (starts_of ps t) (take n out) (drop c cs) (drop i (starts_of ps t))
 
 module _ (ps : List ℕ) (t : Term) (cs : List ℤ) (places : ℕ) (out : List ℤ) (i c n : ℕ) (m : Merged ps t cs places out i c n) (room : length cs ≤ places) (hi : i < t.freq) (hc : (c ≡ length cs) → ⊥) (s : ℤ) (e : s ≡ sub_ℕ (get_or ps (t.first + i) 0) t.offset) (fs : SFits w32 s) (fc : SFits w32 (get_or cs c (pos 0))) where
   left : c < length cs
@@ -38,13 +38,13 @@ module _ (ps : List ℕ) (t : Term) (cs : List ℤ) (places : ℕ) (out : List �
   next-candidate : drop c cs ≡ get_or cs c (pos 0) ∷ drop (c + 1) cs
   next-candidate = drop-cons cs c (pos 0) left ∙ rw (add-one c)
 
-  next_start : drop i (startsOf ps t) ≡ s ∷ drop (i + 1) (startsOf ps t)
+  next_start : drop i (starts_of ps t) ≡ s ∷ drop (i + 1) (starts_of ps t)
   next_start = starts-drop ps t i hi ∙ rw e
 
-  opened : Merging cs (startsOf ps t) (take n out) (get_or cs c (pos 0) ∷ drop (c + 1) cs) (s ∷ drop (i + 1) (startsOf ps t))
+  opened : Merging cs (starts_of ps t) (take n out) (get_or cs c (pos 0) ∷ drop (c + 1) cs) (s ∷ drop (i + 1) (starts_of ps t))
   opened =
-      subst (λ (xs : List ℤ). Merging cs (startsOf ps t) (take n out) (get_or cs c (pos 0) ∷ drop (c + 1) cs) xs) next_start
-      (subst (λ (l : List ℤ). Merging cs (startsOf ps t) (take n out) l (drop i (startsOf ps t))) next-candidate m.merging)
+      subst (λ (xs : List ℤ). Merging cs (starts_of ps t) (take n out) (get_or cs c (pos 0) ∷ drop (c + 1) cs) xs) next_start
+      (subst (λ (l : List ℤ). Merging cs (starts_of ps t) (take n out) l (drop i (starts_of ps t))) next-candidate m.merging)
 
   passed-candidate : lt_z (to_z w32 (of_z w32 (get_or cs c (pos 0)))) (to_z w32 (of_z w32 s)) ≡ true → Merged ps t cs places out i (c + 1) n
   passed-candidate h =
@@ -54,8 +54,8 @@ module _ (ps : List ℕ) (t : Term) (cs : List ℤ) (places : ℕ) (out : List �
         candidates = omega (arith, left);
         positions = m.positions;
         merging =
-            subst (λ (xs : List ℤ). Merging cs (startsOf ps t) (take n out) (drop (c + 1) cs) xs) (sym next_start)
-            (candidate-passed cs (startsOf ps t) (take n out) (get_or cs c (pos 0)) (drop (c + 1) cs) s (drop (i + 1) (startsOf ps t)) opened (lt_yes (get_or cs c (pos 0)) s (tested (get_or cs c (pos 0)) s true fc fs h)));
+            subst (λ (xs : List ℤ). Merging cs (starts_of ps t) (take n out) (drop (c + 1) cs) xs) (sym next_start)
+            (candidate-passed cs (starts_of ps t) (take n out) (get_or cs c (pos 0)) (drop (c + 1) cs) s (drop (i + 1) (starts_of ps t)) opened (lt_yes (get_or cs c (pos 0)) s (tested (get_or cs c (pos 0)) s true fc fs h)));
       }
 
   passed_start : lt_z (to_z w32 (of_z w32 s)) (to_z w32 (of_z w32 (get_or cs c (pos 0)))) ≡ true → Merged ps t cs places out (i + 1) c n
@@ -66,8 +66,8 @@ module _ (ps : List ℕ) (t : Term) (cs : List ℤ) (places : ℕ) (out : List �
         candidates = m.candidates;
         positions = omega (arith, hi);
         merging =
-            subst (λ (l : List ℤ). Merging cs (startsOf ps t) (take n out) l (drop (i + 1) (startsOf ps t))) (sym next-candidate)
-            (start-passed cs (startsOf ps t) (take n out) (get_or cs c (pos 0)) (drop (c + 1) cs) s (drop (i + 1) (startsOf ps t)) opened (lt_yes s (get_or cs c (pos 0)) (tested s (get_or cs c (pos 0)) true fs fc h)));
+            subst (λ (l : List ℤ). Merging cs (starts_of ps t) (take n out) l (drop (i + 1) (starts_of ps t))) (sym next-candidate)
+            (start-passed cs (starts_of ps t) (take n out) (get_or cs c (pos 0)) (drop (c + 1) cs) s (drop (i + 1) (starts_of ps t)) opened (lt_yes s (get_or cs c (pos 0)) (tested s (get_or cs c (pos 0)) true fs fc h)));
       }
 
   written : take (n + 1) (set out n (to_z w32 (of_z w32 s))) ≡ take n out ++ (s ∷ [])
@@ -81,20 +81,20 @@ module _ (ps : List ℕ) (t : Term) (cs : List ℤ) (places : ℕ) (out : List �
         candidates = omega (arith, left);
         positions = omega (arith, hi);
         merging =
-            subst (λ (zs : List ℤ). Merging cs (startsOf ps t) zs (drop (c + 1) cs) (drop (i + 1) (startsOf ps t))) (sym written)
-            (matched cs (startsOf ps t) (take n out) (get_or cs c (pos 0)) (drop (c + 1) cs) s (drop (i + 1) (startsOf ps t)) opened (same (get_or cs c (pos 0)) s (tested (get_or cs c (pos 0)) s false fc fs h) (tested s (get_or cs c (pos 0)) false fs fc k)));
+            subst (λ (zs : List ℤ). Merging cs (starts_of ps t) zs (drop (c + 1) cs) (drop (i + 1) (starts_of ps t))) (sym written)
+            (matched cs (starts_of ps t) (take n out) (get_or cs c (pos 0)) (drop (c + 1) cs) s (drop (i + 1) (starts_of ps t)) opened (same (get_or cs c (pos 0)) s (tested (get_or cs c (pos 0)) s false fc fs h) (tested s (get_or cs c (pos 0)) false fs fc k)));
       }
 
 -- the merge ends
-no-candidate : (ps : List ℕ) (t : Term) (cs : List ℤ) (places : ℕ) (out : List ℤ) (i c n : ℕ) → Merged ps t cs places out i c n → c ≡ length cs → Common (cs ∷ startsOf ps t ∷ []) (take n out)
+no-candidate : (ps : List ℕ) (t : Term) (cs : List ℤ) (places : ℕ) (out : List ℤ) (i c n : ℕ) → Merged ps t cs places out i c n → c ≡ length cs → Common (cs ∷ starts_of ps t ∷ []) (take n out)
 no-candidate ps t cs places out i c n m h =
-    candidates-end cs (startsOf ps t) (take n out) (drop i (startsOf ps t))
-    (subst (λ (l : List ℤ). Merging cs (startsOf ps t) (take n out) l (drop i (startsOf ps t))) (drop_of_length-le cs {i = c} (omega (arith, h))) m.merging)
+    candidates-end cs (starts_of ps t) (take n out) (drop i (starts_of ps t))
+    (subst (λ (l : List ℤ). Merging cs (starts_of ps t) (take n out) l (drop i (starts_of ps t))) (drop_of_length-le cs {i = c} (omega (arith, h))) m.merging)
 
-no_start : (ps : List ℕ) (t : Term) (cs : List ℤ) (places : ℕ) (out : List ℤ) (i c n : ℕ) → Merged ps t cs places out i c n → t.freq ≤ i → Common (cs ∷ startsOf ps t ∷ []) (take n out)
+no_start : (ps : List ℕ) (t : Term) (cs : List ℤ) (places : ℕ) (out : List ℤ) (i c n : ℕ) → Merged ps t cs places out i c n → t.freq ≤ i → Common (cs ∷ starts_of ps t ∷ []) (take n out)
 no_start ps t cs places out i c n m h =
-    starts-end cs (startsOf ps t) (take n out) (drop c cs)
-    (subst (λ (xs : List ℤ). Merging cs (startsOf ps t) (take n out) (drop c cs) xs) (drop_of_length-le (startsOf ps t) {i = i} (omega (arith, h, starts-length ps t))) m.merging)
+    starts-end cs (starts_of ps t) (take n out) (drop c cs)
+    (subst (λ (xs : List ℤ). Merging cs (starts_of ps t) (take n out) (drop c cs) xs) (drop_of_length-le (starts_of ps t) {i = i} (omega (arith, h, starts-length ps t))) m.merging)
 
 abbrev invariant-loop : tie.invariant-loop-i
 invariant-loop positions cands out₀ first freq offset i₀ c₀ n₀ out i c n = Merged positions (record { first = first; freq = freq; offset = offset }) cands (length out₀) out i c n
@@ -111,7 +111,7 @@ loop-holds c =
       few = omega arith;
       candidates = omega arith;
       positions = omega arith;
-      merging = merge-begins a.cands.now (startsOf a.positions.now a.t) p.1.1 (starts-ascending a.positions.now a.t p.0);
+      merging = merge-begins a.cands.now (starts_of a.positions.now a.t) p.1.1 (starts-ascending a.positions.now a.t p.0);
     }
 
 same_length : tie.Need-shape_of-out-then-c-cands invariant-loop decreases-loop

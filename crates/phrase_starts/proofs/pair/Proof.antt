@@ -10,10 +10,10 @@ use lib.Signed.{lt_z}
 use mir.Val.{SFits, to_z, of_z}
 use mir.Syntax.{w32}
 use borrow.Author.Rules.{rules}
-use Rattle.meaning.specs.Phrase.{commonSize}
+use Rattle.meaning.specs.Phrase.{common_size}
 use Rattle.meaning.proofs.Signed.{lt_yes}
 use Rattle.phrase_starts.specs.declared.Term.{Term}
-use Rattle.phrase_starts.specs.Terms.{startsOf}
+use Rattle.phrase_starts.specs.Terms.{starts_of}
 use Rattle.phrase_starts.specs.Common.{Common}
 use Rattle.phrase_starts.proofs.Order.{same, tested}
 use Rattle.phrase_starts.proofs.Merge.{Merging, merge-begins, candidate-passed, start-passed, matched, candidates-end, starts-end}
@@ -29,22 +29,22 @@ record Paired (ps : List ℕ) (s t : Term) (i j n : ℕ) : Type 0 where
   seconds : j ≤ t.freq
   matches : List ℤ
   long : length matches ≡ n
-  merging : Merging (startsOf ps s) (startsOf ps t) matches (drop i (startsOf ps s)) (drop j (startsOf ps t))
+  merging : Merging (starts_of ps s) (starts_of ps t) matches (drop i (starts_of ps s)) (drop j (starts_of ps t))
 
 module _ (ps : List ℕ) (s t : Term) (i j n : ℕ) (m : Paired ps s t i j n) (hi : i < s.freq) (hj : (j ≡ t.freq) → ⊥) (x y : ℤ) (ex : x ≡ sub_ℕ (get_or ps (s.first + i) 0) s.offset) (ey : y ≡ sub_ℕ (get_or ps (t.first + j) 0) t.offset) (fx : SFits w32 x) (fy : SFits w32 y) where
   left : j < t.freq
   left = omega (arith, m.seconds, hj)
 
-  next-first : drop i (startsOf ps s) ≡ x ∷ drop (i + 1) (startsOf ps s)
+  next-first : drop i (starts_of ps s) ≡ x ∷ drop (i + 1) (starts_of ps s)
   next-first = starts-drop ps s i hi ∙ rw ex
 
-  next-second : drop j (startsOf ps t) ≡ y ∷ drop (j + 1) (startsOf ps t)
+  next-second : drop j (starts_of ps t) ≡ y ∷ drop (j + 1) (starts_of ps t)
   next-second = starts-drop ps t j left ∙ rw ey
 
-  opened : Merging (startsOf ps s) (startsOf ps t) m.matches (x ∷ drop (i + 1) (startsOf ps s)) (y ∷ drop (j + 1) (startsOf ps t))
+  opened : Merging (starts_of ps s) (starts_of ps t) m.matches (x ∷ drop (i + 1) (starts_of ps s)) (y ∷ drop (j + 1) (starts_of ps t))
   opened =
-      subst (λ (l : List ℤ). Merging (startsOf ps s) (startsOf ps t) m.matches (x ∷ drop (i + 1) (startsOf ps s)) l) next-second
-      (subst (λ (l : List ℤ). Merging (startsOf ps s) (startsOf ps t) m.matches l (drop j (startsOf ps t))) next-first m.merging)
+      subst (λ (l : List ℤ). Merging (starts_of ps s) (starts_of ps t) m.matches (x ∷ drop (i + 1) (starts_of ps s)) l) next-second
+      (subst (λ (l : List ℤ). Merging (starts_of ps s) (starts_of ps t) m.matches l (drop j (starts_of ps t))) next-first m.merging)
 
   passed_first : lt_z (to_z w32 (of_z w32 x)) (to_z w32 (of_z w32 y)) ≡ true → Paired ps s t (i + 1) j n
   passed_first h =
@@ -55,8 +55,8 @@ module _ (ps : List ℕ) (s t : Term) (i j n : ℕ) (m : Paired ps s t i j n) (h
         matches = m.matches;
         long = m.long;
         merging =
-            subst (λ (l : List ℤ). Merging (startsOf ps s) (startsOf ps t) m.matches (drop (i + 1) (startsOf ps s)) l) (sym next-second)
-            (candidate-passed (startsOf ps s) (startsOf ps t) m.matches x (drop (i + 1) (startsOf ps s)) y (drop (j + 1) (startsOf ps t)) opened (lt_yes x y (tested x y true fx fy h)));
+            subst (λ (l : List ℤ). Merging (starts_of ps s) (starts_of ps t) m.matches (drop (i + 1) (starts_of ps s)) l) (sym next-second)
+            (candidate-passed (starts_of ps s) (starts_of ps t) m.matches x (drop (i + 1) (starts_of ps s)) y (drop (j + 1) (starts_of ps t)) opened (lt_yes x y (tested x y true fx fy h)));
       }
 
   passed-second : lt_z (to_z w32 (of_z w32 y)) (to_z w32 (of_z w32 x)) ≡ true → Paired ps s t i (j + 1) n
@@ -68,8 +68,8 @@ module _ (ps : List ℕ) (s t : Term) (i j n : ℕ) (m : Paired ps s t i j n) (h
         matches = m.matches;
         long = m.long;
         merging =
-            subst (λ (l : List ℤ). Merging (startsOf ps s) (startsOf ps t) m.matches l (drop (j + 1) (startsOf ps t))) (sym next-first)
-            (start-passed (startsOf ps s) (startsOf ps t) m.matches x (drop (i + 1) (startsOf ps s)) y (drop (j + 1) (startsOf ps t)) opened (lt_yes y x (tested y x true fy fx h)));
+            subst (λ (l : List ℤ). Merging (starts_of ps s) (starts_of ps t) m.matches l (drop (j + 1) (starts_of ps t))) (sym next-first)
+            (start-passed (starts_of ps s) (starts_of ps t) m.matches x (drop (i + 1) (starts_of ps s)) y (drop (j + 1) (starts_of ps t)) opened (lt_yes y x (tested y x true fy fx h)));
       }
 
   -- one of each is used up
@@ -82,30 +82,30 @@ module _ (ps : List ℕ) (s t : Term) (i j n : ℕ) (m : Paired ps s t i j n) (h
         seconds = omega (arith, left);
         matches = m.matches ++ (y ∷ []);
         long = (let e = length-append m.matches (y ∷ []) in omega (arith, e, m.long));
-        merging = matched (startsOf ps s) (startsOf ps t) m.matches x (drop (i + 1) (startsOf ps s)) y (drop (j + 1) (startsOf ps t)) opened (same x y (tested x y false fx fy h) (tested y x false fy fx k));
+        merging = matched (starts_of ps s) (starts_of ps t) m.matches x (drop (i + 1) (starts_of ps s)) y (drop (j + 1) (starts_of ps t)) opened (same x y (tested x y false fx fy h) (tested y x false fy fx k));
       })
 
 -- the merge ends with as many matches as the paper says
-counted : (xs ys zs : List ℤ) (n : ℕ) → length zs ≡ n → Common (xs ∷ ys ∷ []) zs → n ≡ commonSize (xs ∷ ys ∷ [])
+counted : (xs ys zs : List ℤ) (n : ℕ) → length zs ≡ n → Common (xs ∷ ys ∷ []) zs → n ≡ common_size (xs ∷ ys ∷ [])
 counted xs ys zs n e m = sym e ∙ common-length (xs ∷ ys ∷ []) zs (omega arith) m.counts
 
-no_second : (ps : List ℕ) (s t : Term) (i j n : ℕ) → Paired ps s t i j n → j ≡ t.freq → n ≡ commonSize (startsOf ps s ∷ startsOf ps t ∷ [])
+no_second : (ps : List ℕ) (s t : Term) (i j n : ℕ) → Paired ps s t i j n → j ≡ t.freq → n ≡ common_size (starts_of ps s ∷ starts_of ps t ∷ [])
 no_second ps s t i j n m h =
-    counted (startsOf ps s) (startsOf ps t) m.matches n m.long
-    (starts-end (startsOf ps s) (startsOf ps t) m.matches (drop i (startsOf ps s))
-    (subst (λ (l : List ℤ). Merging (startsOf ps s) (startsOf ps t) m.matches (drop i (startsOf ps s)) l) (drop_of_length-le (startsOf ps t) {i = j} (omega (arith, h, starts-length ps t))) m.merging))
+    counted (starts_of ps s) (starts_of ps t) m.matches n m.long
+    (starts-end (starts_of ps s) (starts_of ps t) m.matches (drop i (starts_of ps s))
+    (subst (λ (l : List ℤ). Merging (starts_of ps s) (starts_of ps t) m.matches (drop i (starts_of ps s)) l) (drop_of_length-le (starts_of ps t) {i = j} (omega (arith, h, starts-length ps t))) m.merging))
 
-no-first : (ps : List ℕ) (s t : Term) (i j n : ℕ) → Paired ps s t i j n → s.freq ≤ i → n ≡ commonSize (startsOf ps s ∷ startsOf ps t ∷ [])
+no-first : (ps : List ℕ) (s t : Term) (i j n : ℕ) → Paired ps s t i j n → s.freq ≤ i → n ≡ common_size (starts_of ps s ∷ starts_of ps t ∷ [])
 no-first ps s t i j n m h =
-    counted (startsOf ps s) (startsOf ps t) m.matches n m.long
-    (candidates-end (startsOf ps s) (startsOf ps t) m.matches (drop j (startsOf ps t))
-    (subst (λ (l : List ℤ). Merging (startsOf ps s) (startsOf ps t) m.matches l (drop j (startsOf ps t))) (drop_of_length-le (startsOf ps s) {i = i} (omega (arith, h, starts-length ps s))) m.merging))
+    counted (starts_of ps s) (starts_of ps t) m.matches n m.long
+    (candidates-end (starts_of ps s) (starts_of ps t) m.matches (drop j (starts_of ps t))
+    (subst (λ (l : List ℤ). Merging (starts_of ps s) (starts_of ps t) m.matches l (drop j (starts_of ps t))) (drop_of_length-le (starts_of ps s) {i = i} (omega (arith, h, starts-length ps s))) m.merging))
 
 abbrev invariant-loop : tie.invariant-loop-i
-invariant-loop positions first freq offset other-first other-freq other_Offset i₀ j₀ n₀ i j n = Paired positions (record { first = first; freq = freq; offset = offset }) (record { first = other-first; freq = other-freq; offset = other_Offset }) i j n
+invariant-loop positions first freq offset other-first other-freq other_offset i₀ j₀ n₀ i j n = Paired positions (record { first = first; freq = freq; offset = offset }) (record { first = other-first; freq = other-freq; offset = other_offset }) i j n
 
 abbrev decreases-loop : tie.decreases-loop-i
-decreases-loop positions first freq offset other-first other-freq other_Offset i₀ j₀ n₀ i j n = (freq - i) + (other-freq - j)
+decreases-loop positions first freq offset other-first other-freq other_offset i₀ j₀ n₀ i j n = (freq - i) + (other-freq - j)
 
 loop-holds : tie.Need-loop-i-init invariant-loop decreases-loop
 loop-holds c =
@@ -117,7 +117,7 @@ loop-holds c =
       seconds = omega arith;
       matches = [];
       long = refl;
-      merging = merge-begins (startsOf a.positions.now a.s) (startsOf a.positions.now a.t) (starts-ascending a.positions.now a.s p.0) (starts-ascending a.positions.now a.t p.1);
+      merging = merge-begins (starts_of a.positions.now a.s) (starts_of a.positions.now a.t) (starts-ascending a.positions.now a.s p.0) (starts-ascending a.positions.now a.t p.1);
     }
 
 returns : tie.Need-returns-then-j-other_freq invariant-loop decreases-loop

@@ -11,28 +11,28 @@ use mir.Syntax.{w32}
 use mir.ValLaws.{to_z-of_z}
 use borrow.Author.Rules.{rules}
 use Rattle.phrase_starts.specs.declared.Term.{Term}
-use Rattle.phrase_starts.specs.Terms.{startsOf}
+use Rattle.phrase_starts.specs.Terms.{starts_of}
 use Rattle.phrase_starts.proofs.Records.{starts-length, starts-take}
 use Rattle.phrase_starts.proofs.write_starts.Statement.{statement}
 use Rattle.phrase_starts.proofs.write_starts.Tie as tie
 
 abbrev invariant-loop : tie.invariant-loop-j
-invariant-loop positions out₀ first freq offset j₀ out j = (length out ≡ length out₀) × (j ≤ freq) × (take j out ≡ take j (startsOf positions (record { first = first; freq = freq; offset = offset })))
+invariant-loop positions out₀ first freq offset j₀ out j = (length out ≡ length out₀) × (j ≤ freq) × (take j out ≡ take j (starts_of positions (record { first = first; freq = freq; offset = offset })))
 
 abbrev decreases-loop : tie.decreases-loop-j
 decreases-loop positions out₀ first freq offset j₀ out j = freq - j
 
 -- one more start is written
-written : (ps : List ℕ) (t : Term) (out : List ℤ) (i : ℕ) (z : ℤ) → i < t.freq → i < length out → z ≡ sub_ℕ (get_or ps (t.first + i) 0) t.offset → take i out ≡ take i (startsOf ps t) → take (i + 1) (set out i z) ≡ take (i + 1) (startsOf ps t)
+written : (ps : List ℕ) (t : Term) (out : List ℤ) (i : ℕ) (z : ℤ) → i < t.freq → i < length out → z ≡ sub_ℕ (get_or ps (t.first + i) 0) t.offset → take i out ≡ take i (starts_of ps t) → take (i + 1) (set out i z) ≡ take (i + 1) (starts_of ps t)
 written ps t out i z h k e w =
     ap (λ (n : ℕ). take n (set out i z)) (add-one i)
     ∙ take-suc-set out i z k
     ∙ rw (w, e) (sym (starts-take ps t i h))
 
-all-written : (ps : List ℕ) (t : Term) (out : List ℤ) (i : ℕ) → i ≡ t.freq → take i out ≡ take i (startsOf ps t) → take t.freq out ≡ startsOf ps t
+all-written : (ps : List ℕ) (t : Term) (out : List ℤ) (i : ℕ) → i ≡ t.freq → take i out ≡ take i (starts_of ps t) → take t.freq out ≡ starts_of ps t
 all-written ps t out i e w =
-    subst (λ (n : ℕ). take n out ≡ take n (startsOf ps t)) e w
-    ∙ take_all t.freq (startsOf ps t) (omega (arith, starts-length ps t))
+    subst (λ (n : ℕ). take n out ≡ take n (starts_of ps t)) e w
+    ∙ take_all t.freq (starts_of ps t) (omega (arith, starts-length ps t))
 
 loop-holds : tie.Need-loop-j-init invariant-loop decreases-loop
 loop-holds c = search rules

@@ -4,8 +4,8 @@ use Prim.Native.Nat.{◌-◌, ◌≤◌}
 use native.Mathlib.Omega.{arith}
 use lib.ListN.{length}
 use borrow.Author.Rules.{rules}
-use Rattle.meaning.specs.Below.{anyBelow}
-use Rattle.meaning.specs.CallRefusals.{wrongPicked}
+use Rattle.meaning.specs.Below.{any_below}
+use Rattle.meaning.specs.CallRefusals.{wrong_picked}
 use Rattle.meaning.proofs.Below.{any-more, any-done}
 use Rattle.pick_entry.proofs.PickEntry.{picked_first, lists-unequal, lists-equal, lists-empty}
 use Rattle.pick_entry.proofs.wrong_lists.Statement.{statement}
@@ -13,7 +13,7 @@ use Rattle.pick_entry.proofs.wrong_lists.Tie as tie
 
 -- the flag says whether one of those passed is wrong, the first among them
 abbrev invariant-loop : tie.invariant-loop-i
-invariant-loop documents scores bad₀ i₀ bad i = (bad ≡ anyBelow i (wrongPicked documents scores)) × (1 ≤ i) × (i ≤ length documents)
+invariant-loop documents scores bad₀ i₀ bad i = (bad ≡ any_below i (wrong_picked documents scores)) × (1 ≤ i) × (i ≤ length documents)
 
 abbrev decreases-loop : tie.decreases-loop-i
 decreases-loop documents scores bad₀ i₀ bad i = length documents - i

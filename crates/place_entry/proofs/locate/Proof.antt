@@ -9,10 +9,10 @@ use borrow.Author.Rules.{rules}
 use mir.Facts.{to_z-of_z}
 use mir.Syntax.{w32}
 use Rattle.meaning.specs.Lent.{Index}
-use Rattle.meaning.specs.Query.{recordCount, recordKind, phraseTermsOf}
-use Rattle.phrase.specs.Words.{phraseWords}
+use Rattle.meaning.specs.Query.{record_count, record_kind, phrase_terms_of}
+use Rattle.phrase.specs.Words.{phrase_words}
 use Rattle.order_check.specs.Lends.{work, QueryLent}
-use Rattle.place_entry.specs.Answers.{placedNumbers}
+use Rattle.place_entry.specs.Answers.{placed_numbers}
 use Rattle.place_entry.specs.Runs.{PlaceLent}
 use Rattle.place_entry.proofs.TermWords.{phrase-here}
 use Rattle.place_entry.proofs.PlaceEntry.{place-within, starts-long, words-asked, found_nothing, found_at}
@@ -23,10 +23,10 @@ use Rattle.place_entry.proofs.locate.Tie as tie
 abbrev Lent : tie.Start → Index → Type 0
 Lent s ix = PlaceLent ix s.args.leaves.now s.args.postings.now s.args.positions.now s.args.q.now s.args.record_number s.args.document (length s.args.a.now) (length s.args.b.now)
 
-within : (s : tie.Start) (ix : Index) → Lent s ix → (s.args.document < ix.maxDoc) × (s.args.record_number < recordCount s.args.q.now) × (recordKind s.args.q.now s.args.record_number ≡ 2)
+within : (s : tie.Start) (ix : Index) → Lent s ix → (s.args.document < ix.max_doc) × (s.args.record_number < record_count s.args.q.now) × (record_kind s.args.q.now s.args.record_number ≡ 2)
 within s ix h = place-within ix s.args.q.now s.args.record_number s.args.document (work 0 (length s.args.a.now) (length s.args.b.now) 0) h.there
 
-lends : (s : tie.Start) (ix : Index) → Lent s ix → QueryLent ix ix.maxDoc s.args.leaves.now s.args.postings.now s.args.q.now
+lends : (s : tie.Start) (ix : Index) → Lent s ix → QueryLent ix ix.max_doc s.args.leaves.now s.args.postings.now s.args.q.now
 lends s ix h = record { asks = h.asks; documents = refl; leaves-are = h.leaves-are; postings-are = h.postings-are }
 
 abbrev start : tie.After-children-count → tie.Start
@@ -39,11 +39,11 @@ so-many : (n m : ℕ) → n ≡ m → (terms words : List ℕ) → take (3 * m) 
 so-many n m e terms words h = rw e h
 
 -- the words that `phrase::place` is lent
-words_are : (c : tie.After-terms-2-1) (ix : Index) → let s = start c.before.before.before in Lent s ix → take (3 * c.children-count.result) c.write_terms.new.terms ≡ phraseWords ix s.args.document (phraseTermsOf s.args.q.now s.args.record_number)
+words_are : (c : tie.After-terms-2-1) (ix : Index) → let s = start c.before.before.before in Lent s ix → take (3 * c.children-count.result) c.write_terms.new.terms ≡ phrase_words ix s.args.document (phrase_terms_of s.args.q.now s.args.record_number)
 words_are c ix h =
     let w = c in
     let s = start w.before.before.before in
-    so-many _ _ w.children-count.ensures w.write_terms.new.terms (phraseWords ix s.args.document (phraseTermsOf s.args.q.now s.args.record_number)) (w.write_terms.ensures.0 ix ix.maxDoc (lends s ix h))
+    so-many _ _ w.children-count.ensures w.write_terms.new.terms (phrase_words ix s.args.document (phrase_terms_of s.args.q.now s.args.record_number)) (w.write_terms.ensures.0 ix ix.max_doc (lends s ix h))
 
 children-requires : tie.Need-children-count-requires
 children-requires c κs = let s = c.before.before.before.before in (within s s.requires.0 s.requires.1).1
@@ -55,7 +55,7 @@ slice-aggregate-write-terms : tie.Need-slice_bounds-write_terms-end
 slice-aggregate-write-terms c = search rules
 
 write-terms-requires : tie.Need-write_terms-requires
-write-terms-requires c κs = let s = start c.before in let ix = s.requires.0 in let w = within s ix s.requires.1 in ((w.1, w.2, refl), (ix, ix.maxDoc, lends s ix s.requires.1))
+write-terms-requires c κs = let s = start c.before in let ix = s.requires.0 in let w = within s ix s.requires.1 in ((w.1, w.2, refl), (ix, ix.max_doc, lends s ix s.requires.1))
 
 mul-terms : tie.Need-overflow_mul-terms
 mul-terms c = search rules
@@ -89,7 +89,7 @@ same-length-2 : tie.Need-shape_of-b-in-Nothing
 same-length-2 c = search rules
 
 returns : tie.Need-returns-in-Nothing
-unfolding placedNumbers
+unfolding placed_numbers
 returns c =
     let p = c in
     let t = p.before.before.before.before.before.before.before in
@@ -103,7 +103,7 @@ same-length-4 : tie.Need-shape_of-b-in-At
 same-length-4 c = search rules
 
 returns-2 : tie.Need-returns-in-At
-unfolding placedNumbers
+unfolding placed_numbers
 returns-2 c =
     let p = c in
     let t = p.before.before.before.before.before.before.before in

@@ -4,10 +4,10 @@ use Prim.Native.Nat.{ℕ, ◌+◌, ◌-◌, ◌*◌, ◌≤◌, ◌<◌}
 use native.Mathlib.Omega.{arith}
 use lib.ListN.{length, take, length-set}
 use borrow.Author.Rules.{rules}
-use Rattle.meaning.specs.Below.{listTo}
+use Rattle.meaning.specs.Below.{list_to}
 use Rattle.meaning.specs.Lent.{Index}
-use Rattle.meaning.specs.Query.{recordCount, recordChildren, recordValue}
-use Rattle.phrase.specs.Words.{phraseWords}
+use Rattle.meaning.specs.Query.{record_count, record_children, record_value}
+use Rattle.phrase.specs.Words.{phrase_words}
 use Rattle.order_check.specs.Lends.{QueryLent}
 use Rattle.place_entry.proofs.TermWords.{term-here, term-run, terms-none, terms-more}
 use Rattle.place_entry.proofs.write_terms.Statement.{statement}
@@ -16,13 +16,13 @@ use Rattle.place_entry.proofs.write_terms.Tie as tie
 -- the words of the terms passed stand at the front
 abbrev invariant-loop : tie.invariant-loop-j
 invariant-loop leaves postings q at document terms₀ count j₀ terms j =
-    (j ≤ count) × (length terms ≡ 96) × ((ix : Index) (n : ℕ) → QueryLent ix n leaves postings q → take (3 * j) terms ≡ phraseWords ix document (listTo j (λ i. record { leaf = recordValue q (at + 1 + i) 0; offset = recordValue q (at + 1 + i) 1 })))
+    (j ≤ count) × (length terms ≡ 96) × ((ix : Index) (n : ℕ) → QueryLent ix n leaves postings q → take (3 * j) terms ≡ phrase_words ix document (list_to j (λ i. record { leaf = record_value q (at + 1 + i) 0; offset = record_value q (at + 1 + i) 1 })))
 
 abbrev decreases-loop : tie.decreases-loop-j
 decreases-loop leaves postings q at document terms₀ count j₀ terms j = count - j
 
 -- a turn's term
-turn : (c : tie.In-loop-j invariant-loop decreases-loop) → let s = c.before.before.before.before.before.before.before.before in let j = c.loop-j.j in (j < recordChildren s.args.q.now s.args.at) × (j < 32) × (s.args.at + 1 + j < recordCount s.args.q.now)
+turn : (c : tie.In-loop-j invariant-loop decreases-loop) → let s = c.before.before.before.before.before.before.before.before in let j = c.loop-j.j in (j < record_children s.args.q.now s.args.at) × (j < 32) × (s.args.at + 1 + j < record_count s.args.q.now)
 turn c =
     let w = c in
     let s = w in

@@ -1,11 +1,11 @@
 -- `posting_check::wrong_postings` meets its contract. Assumes nothing.
 use Rattle.std.proofs.Common.{◌≡◌, ℕ, ◌-◌, ◌≤◌, Bool, List, [], sym, ◌∙◌, arith}
 use borrow.Author.Tests.{not-false}
-use Rattle.meaning.specs.Below.{anyBelow}
-use Rattle.meaning.specs.Lent.{leafNumber}
-use Rattle.meaning.specs.IndexRefusals.{wrongPosting}
+use Rattle.meaning.specs.Below.{any_below}
+use Rattle.meaning.specs.Lent.{leaf_number}
+use Rattle.meaning.specs.IndexRefusals.{wrong_posting}
 use Rattle.meaning.proofs.Below.{any-zero, any-done}
-use Rattle.index.specs.Slices.{leavesOnly, runsOnly}
+use Rattle.index.specs.Slices.{leaves_only, runs_only}
 use Rattle.posting_check.proofs.From.{from-joined, from-right}
 use Rattle.index.proofs.Whole.{postings-not-whole, postings-some}
 use Rattle.posting_check.proofs.wrong_postings.Statement.{statement}
@@ -13,10 +13,10 @@ use Rattle.posting_check.proofs.wrong_postings.Tie as tie
 
 -- something wrong in a leaf's run
 abbrev wrong : ℕ → List ℕ → List ℕ → List ℕ → List ℕ → ℕ → Bool
-wrong n fs ls ps qs k = anyBelow (leafNumber (leavesOnly [] ls []) k) (wrongPosting (runsOnly n fs ls ps qs) k)
+wrong n fs ls ps qs k = any_below (leaf_number (leaves_only [] ls []) k) (wrong_posting (runs_only n fs ls ps qs) k)
 
 abbrev invariant-loop : tie.invariant-loop-l
-invariant-loop max-doc fields leaves postings positions count bad₀ l₀ bad l = (bad ≡ anyBelow l (wrong max-doc fields leaves postings positions)) × (l ≤ count)
+invariant-loop max-doc fields leaves postings positions count bad₀ l₀ bad l = (bad ≡ any_below l (wrong max-doc fields leaves postings positions)) × (l ≤ count)
 
 abbrev decreases-loop : tie.decreases-loop-l
 decreases-loop max-doc fields leaves postings positions count bad₀ l₀ bad l = count - l
@@ -25,8 +25,8 @@ decreases-loop max-doc fields leaves postings positions count bad₀ l₀ bad l 
 abbrev start : tie.At-loop-l invariant-loop decreases-loop → tie.Start invariant-loop decreases-loop
 start a = a.before.before.before.before.before.before
 
-abbrev wrongIn : tie.At-loop-l invariant-loop decreases-loop → ℕ → Bool
-wrongIn a k = wrong (start a).args.max_doc (start a).args.fields.now (start a).args.leaves.now (start a).args.postings.now (start a).args.positions.now k
+abbrev wrong_in : tie.At-loop-l invariant-loop decreases-loop → ℕ → Bool
+wrong_in a k = wrong (start a).args.max_doc (start a).args.fields.now (start a).args.leaves.now (start a).args.postings.now (start a).args.positions.now k
 
 -- src/postings.rt:141:9
 returns : tie.Need-returns-then-postings-ne0 invariant-loop decreases-loop
@@ -50,7 +50,7 @@ loop-less c = let p = c in omega (arith, p.plain_leaves-turn.ensures.0)
 
 -- src/postings.rt:146:5
 loop-again : tie.Need-loop-l-preserved-then-not-turn invariant-loop decreases-loop
-loop-again c = let p = c.before.before.before in let a = p.before.before in (from-joined (wrongIn a) a.loop-l.l _ _ _ (omega (arith, p.plain_leaves-turn.ensures.0)) a.loop-l.invariant.0 c.wrong_runs-bad.ensures, p.plain_leaves-turn.ensures.0.1)
+loop-again c = let p = c.before.before.before in let a = p.before.before in (from-joined (wrong_in a) a.loop-l.l _ _ _ (omega (arith, p.plain_leaves-turn.ensures.0)) a.loop-l.invariant.0 c.wrong_runs-bad.ensures, p.plain_leaves-turn.ensures.0.1)
 
 -- src/postings.rt:146:5
 loop-less-2 : tie.Need-loop-l-smaller invariant-loop decreases-loop
@@ -58,7 +58,7 @@ loop-less-2 c = let p = c in omega (arith, p.plain_leaves-turn.ensures.0)
 
 -- src/postings.rt:146:5
 loop-again-2 : tie.Need-loop-l-preserved invariant-loop decreases-loop
-loop-again-2 c = let p = c.before.before in let a = p.before.before in (from-right (wrongIn a) a.loop-l.l _ _ (omega (arith, p.plain_leaves-turn.ensures.0)) a.loop-l.invariant.0 (p.plain_leaves-turn.ensures.1 (not-false _ c.if-not-turn.false)), p.plain_leaves-turn.ensures.0.1)
+loop-again-2 c = let p = c.before.before in let a = p.before.before in (from-right (wrong_in a) a.loop-l.l _ _ (omega (arith, p.plain_leaves-turn.ensures.0)) a.loop-l.invariant.0 (p.plain_leaves-turn.ensures.1 (not-false _ c.if-not-turn.false)), p.plain_leaves-turn.ensures.0.1)
 
 -- src/postings.rt:129:1
 returns-2 : tie.Need-returns invariant-loop decreases-loop

@@ -1,18 +1,18 @@
 -- `posting_check::wrong_run` meets its contract. Assumes nothing.
 use Rattle.std.proofs.Common.{◌≡◌, ℕ, true, false, sym, refl, ap, ◌∙◌, arith, rules, eq-eqb, ne_eqb}
-use Rattle.index.specs.Slices.{runsOnly}
-use Rattle.meaning.specs.Lent.{Index, leafFirst, leafNumber, leafField, fieldPositions}
+use Rattle.index.specs.Slices.{runs_only}
+use Rattle.meaning.specs.Lent.{Index, leaf_first, leaf_number, leaf_field, field_positions}
 use Rattle.index.specs.Accepted.{LeafOk}
 use Rattle.index.proofs.Known.{leaf-ok}
 use Rattle.index.proofs.Parts.{wrong4-of}
-use Rattle.index.proofs.Words.{leaf-field, leaf_first, leaf-number, field-positions}
+use Rattle.index.proofs.Words.{leaf-field, leaf_first_lem, leaf-number, field-positions}
 use Rattle.posting_check.proofs.Runs.{run-flag-with, run-flag-without}
 use Rattle.posting_check.proofs.wrong_run.Statement.{statement}
 use Rattle.posting_check.proofs.wrong_run.Tie as tie
 
 -- what is lent, and what is known of the leaf
 abbrev ix : tie.Start → Index
-ix s = runsOnly s.args.max_doc s.args.fields.now s.args.leaves.now s.args.postings.now s.args.positions.now
+ix s = runs_only s.args.max_doc s.args.fields.now s.args.leaves.now s.args.postings.now s.args.positions.now
 
 ok : (s : tie.Start) → LeafOk (ix s) s.args.l
 ok s = leaf-ok (ix s) (wrong4-of (ix s) ∙ s.requires.1.0) s.args.l s.requires.1.1
@@ -21,17 +21,17 @@ ok s = leaf-ok (ix s) (wrong4-of (ix s) ∙ s.requires.1.0) s.args.l s.requires.
 abbrev start : tie.After-wide-2 → tie.Start
 start c = c.before.before.before.before.before.before.before.before.before
 
-first-is : (c : tie.After-wide-2) → c.wide-from.result ≡ leafFirst (ix (start c)) (start c).args.l
-first-is c = c.wide-from.ensures ∙ leaf_first (ix (start c)) (start c).args.l _ c.leaf_at-leaf.ensures
+first-is : (c : tie.After-wide-2) → c.wide-from.result ≡ leaf_first (ix (start c)) (start c).args.l
+first-is c = c.wide-from.ensures ∙ leaf_first_lem (ix (start c)) (start c).args.l _ c.leaf_at-leaf.ensures
 
-number_is : (c : tie.After-wide-2) → c.wide-2.result ≡ leafNumber (ix (start c)) (start c).args.l
+number_is : (c : tie.After-wide-2) → c.wide-2.result ≡ leaf_number (ix (start c)) (start c).args.l
 number_is c = c.wide-2.ensures ∙ leaf-number (ix (start c)) (start c).args.l _ c.leaf_at-leaf.ensures
 
-field_is : (c : tie.After-wide-2) → c.wide.result ≡ leafField (ix (start c)) (start c).args.l
+field_is : (c : tie.After-wide-2) → c.wide.result ≡ leaf_field (ix (start c)) (start c).args.l
 field_is c = c.wide.ensures ∙ leaf-field (ix (start c)) (start c).args.l _ c.leaf_at-leaf.ensures
 
-flag_is : (c : tie.After-wide-2) → c.field_at-field.result.positions ≡ fieldPositions (ix (start c)) (leafField (ix (start c)) (start c).args.l)
-flag_is c = field-positions (ix (start c)) _ _ c.field_at-field.ensures ∙ ap (λ (f : ℕ). fieldPositions (ix (start c)) f) (field_is c)
+flag_is : (c : tie.After-wide-2) → c.field_at-field.result.positions ≡ field_positions (ix (start c)) (leaf_field (ix (start c)) (start c).args.l)
+flag_is c = field-positions (ix (start c)) _ _ c.field_at-field.ensures ∙ ap (λ (f : ℕ). field_positions (ix (start c)) f) (field_is c)
 
 leaf-at-requires : tie.Need-leaf_at-leaf-requires
 leaf-at-requires c κs = search rules

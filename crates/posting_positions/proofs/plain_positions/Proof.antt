@@ -1,8 +1,8 @@
 -- `posting_positions::plain_positions` meets its contract. Assumes nothing.
 use Rattle.std.proofs.Common.{◌≡◌, ℕ, ◌+◌, ◌*◌, ◌/◌, ◌<◌, false, eqb, leb, List, length, get_or, ◌∙◌, arith, length-drop, length-take, rules, eqb-true, leb-true}
 use mathlib.Core.Bool.{false≢true}
-use Rattle.meaning.specs.Below.{anyBelow}
-use Rattle.posting_positions.specs.Places.{apartAt}
+use Rattle.meaning.specs.Below.{any_below}
+use Rattle.posting_positions.specs.Places.{apart_at}
 use Rattle.posting_positions.proofs.Gaps.{and_left, and_right}
 use Rattle.posting_positions.proofs.Joined.{ends-within, falls-right, ones-right, seam-within}
 use Rattle.posting_positions.proofs.plain_positions.Statement.{statement}
@@ -18,7 +18,7 @@ run a = (start a).args.run.now
 abbrev places : tie.After-sum-end → List ℕ
 places a = (start a).args.positions.now
 
-joined : (a : tie.After-sum-end) → anyBelow (length (run a) / 3) (apartAt (run a)) ≡ false
+joined : (a : tie.After-sum-end) → any_below (length (run a) / 3) (apart_at (run a)) ≡ false
 joined a = (start a).requires.1.0
 
 some : (a : tie.After-sum-end) → 0 < length (run a) / 3

@@ -1,14 +1,14 @@
 -- `posting_positions::seams` meets its contract. Assumes nothing.
 use Rattle.std.proofs.Common.{◌≡◌, ℕ, ◌-◌, ◌/◌, ◌<◌, ◌≤◌, length, sym, ap, ◌∙◌, ⊎_elim, arith, rules, le-ltb, lt-ltb}
-use Rattle.meaning.specs.Below.{countBelow}
-use Rattle.posting_positions.specs.Places.{seamAt}
+use Rattle.meaning.specs.Below.{count_below}
+use Rattle.posting_positions.specs.Places.{seam_at}
 use Rattle.meaning.proofs.Below.{count-one, count_same, count-le}
 use Rattle.posting_positions.proofs.Joined.{seam-first, seam-turn}
 use Rattle.posting_positions.proofs.seams.Statement.{statement}
 use Rattle.posting_positions.proofs.seams.Tie as tie
 
 abbrev invariant-loop : tie.invariant-loop-i
-invariant-loop run positions count falls₀ i₀ falls i = (falls ≡ countBelow i (seamAt run positions)) × (1 ≤ i) × (i ≤ count)
+invariant-loop run positions count falls₀ i₀ falls i = (falls ≡ count_below i (seam_at run positions)) × (1 ≤ i) × (i ≤ count)
 
 abbrev decreases-loop : tie.decreases-loop-i
 decreases-loop run positions count falls₀ i₀ falls i = count - i
@@ -47,7 +47,7 @@ shared-slice-read-if1-2 : tie.Need-bounds-positions-index-in-loop-i invariant-lo
 shared-slice-read-if1-2 c = let a = c in let t : a.loop-i.i < length a.args.run.now / 3 = omega arith in let f = a.requires.1 a.loop-i.i a.loop-i.invariant.1 t in omega (arith, f.1, c.wide-index.ensures)
 
 add-falls : tie.Need-overflow_add-falls invariant-loop decreases-loop
-add-falls c = let a = c in let s = a in omega (arith, a.loop-i.invariant.0, count-le a.loop-i.i (seamAt s.args.run.now s.args.positions.now))
+add-falls c = let a = c in let s = a in omega (arith, a.loop-i.invariant.0, count-le a.loop-i.i (seam_at s.args.run.now s.args.positions.now))
 
 add-i : tie.Need-overflow_add-i-in-loop-i invariant-loop decreases-loop
 add-i c = search rules
@@ -59,7 +59,7 @@ loop-again : tie.Need-loop-i-preserved invariant-loop decreases-loop
 loop-again c = let a = c in let s = a in let g = seam-turn s.args.run.now s.args.positions.now a.loop-i.i _ a.loop-i.invariant.1 c.wide-index.ensures in (⊎_elim (λ w. w.falls-is ∙ count-one _ _ _ a.loop-i.invariant.0 (sym g ∙ lt-ltb _ _ w.if-positions-index.true)) (λ w. w.falls-is ∙ count_same _ _ _ a.loop-i.invariant.0 (sym g ∙ le-ltb _ _ w.if-positions-index.false)) c.if-positions-index.branch-raw, omega arith, omega arith)
 
 returns : tie.Need-returns invariant-loop decreases-loop
-returns c = let s = c in let e : c.loop-i.i ≡ length s.args.run.now / 3 = omega arith in c.loop-i.invariant.0 ∙ ap (λ (n : ℕ). countBelow n (seamAt s.args.run.now s.args.positions.now)) e
+returns c = let s = c in let e : c.loop-i.i ≡ length s.args.run.now / 3 = omega arith in c.loop-i.invariant.0 ∙ ap (λ (n : ℕ). count_below n (seam_at s.args.run.now s.args.positions.now)) e
 
 pub seams_spec : {M : Type 1} → statement M
 seams_spec =

@@ -1,6 +1,6 @@
 -- `posting_positions::seen_in` meets its contract. Assumes nothing.
 use Rattle.std.proofs.Common.{◌≡◌, ℕ, ◌-◌, ◌<◌, ◌≤◌, length, get_or, refl, arith, rules}
-use Rattle.meaning.specs.Below.{countBelow}
+use Rattle.meaning.specs.Below.{count_below}
 use Rattle.meaning.proofs.Below.{count-le}
 use Rattle.posting_positions.specs.Places.{drop_at}
 use Rattle.posting_positions.proofs.Gaps.{bound-more, only, drop-first, drop_more, drop-end}
@@ -8,7 +8,7 @@ use Rattle.posting_positions.proofs.seen_in.Statement.{statement}
 use Rattle.posting_positions.proofs.seen_in.Tie as tie
 
 abbrev invariant-loop : tie.invariant-loop-k
-invariant-loop part all₀ falls₀ k₀ all falls k = ((i : ℕ) → i < k → get_or part i 0 ≤ all) × (falls ≡ countBelow k (drop_at part)) × (1 ≤ k) × (k ≤ length part)
+invariant-loop part all₀ falls₀ k₀ all falls k = ((i : ℕ) → i < k → get_or part i 0 ≤ all) × (falls ≡ count_below k (drop_at part)) × (1 ≤ k) × (k ≤ length part)
 
 abbrev decreases-loop : tie.decreases-loop-k
 decreases-loop part all₀ falls₀ k₀ all falls k = length part - k

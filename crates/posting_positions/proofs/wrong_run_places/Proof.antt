@@ -1,14 +1,14 @@
 -- `posting_positions::wrong_run_places` meets its contract. Assumes nothing.
-use Rattle.posting_positions.specs.Places.{wrongPlaces}
+use Rattle.posting_positions.specs.Places.{wrong_places}
 use Rattle.posting_positions.proofs.Parts.{places-flag, places-past}
-use Rattle.meaning.specs.Below.{anyBelow}
+use Rattle.meaning.specs.Below.{any_below}
 use Rattle.std.proofs.Common.{◌≡◌, ◌-◌, ◌≤◌, sym, arith, rules}
 use Rattle.meaning.proofs.Below.{any-zero, any-more, any-done, any_some}
 use Rattle.posting_positions.proofs.wrong_run_places.Statement.{statement}
 use Rattle.posting_positions.proofs.wrong_run_places.Tie as tie
 
 abbrev invariant-loop : tie.invariant-loop-i
-invariant-loop run positions count bad₀ i₀ bad i = (bad ≡ anyBelow i (wrongPlaces run positions)) × (i ≤ count)
+invariant-loop run positions count bad₀ i₀ bad i = (bad ≡ any_below i (wrong_places run positions)) × (i ≤ count)
 
 abbrev decreases-loop : tie.decreases-loop-i
 decreases-loop run positions count bad₀ i₀ bad i = count - i

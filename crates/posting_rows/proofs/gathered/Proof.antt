@@ -1,6 +1,6 @@
 -- `posting_rows::gathered` meets its contract. Assumes nothing.
 use Rattle.std.proofs.Common.{◌≡◌, ℕ, ◌+◌, ◌-◌, ◌*◌, ◌/◌, ◌≤◌, List, length, sym, refl, subst, arith, rules}
-use Rattle.posting_rows.specs.Rows.{Over, laneDocuments, laneIndexes, joinedOf}
+use Rattle.posting_rows.specs.Rows.{Over, lane_documents, lane_indexes, joined_of}
 use Rattle.posting_rows.specs.declared.Tally.{Tally}
 use Rattle.posting_rows.proofs.Over.{over-end}
 use Rattle.posting_rows.proofs.Joining.{over-rows, rows_few}
@@ -24,7 +24,7 @@ whole : (run : List ℕ) → 2 ≤ length run / 3 → first run + 4 * (lines run
 whole run l = omega arith
 
 -- the first half of the rows
-half_over : (c : tie.After-rows) → Over (run_of c.before.before.before) (first (run_of c.before.before.before) + 4 * (lines (run_of c.before.before.before) / 2)) (joinedOf c.head.result c.rows.result)
+half_over : (c : tie.After-rows) → Over (run_of c.before.before.before) (first (run_of c.before.before.before) + 4 * (lines (run_of c.before.before.before) / 2)) (joined_of c.head.result c.rows.result)
 half_over c =
     let run = run_of c.before.before.before in
     let l = c.requires.0 in
@@ -43,11 +43,11 @@ module _ (c : tie.After-rows-2) where
   enough : 2 ≤ first run + 4 * (lines run / 2)
   enough = omega (arith, two run limits.0)
 
-  all-over : Over run (first run + 4 * (lines run / 2) + 4 * (lines run - lines run / 2)) (joinedOf c.joined-t.result c.rows-2.result)
+  all-over : Over run (first run + 4 * (lines run / 2) + 4 * (lines run - lines run / 2)) (joined_of c.joined-t.result c.rows-2.result)
   all-over =
       over-rows run (first run + 4 * (lines run / 2)) (lines run - lines run / 2) (3 * (first run + 4 * (lines run / 2)) - 6) (3 * (length run / 3)) c.joined-t.result c.rows-2.result enough refl (omega (arith, limits)) (omega arith) done c.rows-2.ensures
 
-  all-few : (c.joined-t.result.ascents + laneDocuments c.rows-2.result ≤ 4294967295) × (c.joined-t.result.advances + laneIndexes c.rows-2.result ≤ 4294967295)
+  all-few : (c.joined-t.result.ascents + lane_documents c.rows-2.result ≤ 4294967295) × (c.joined-t.result.advances + lane_indexes c.rows-2.result ≤ 4294967295)
   all-few =
       let b = rows_few run (first run + 4 * (lines run / 2)) (lines run - lines run / 2) (3 * (first run + 4 * (lines run / 2)) - 6) (3 * (length run / 3)) c.joined-t.result c.rows-2.result enough refl (omega (arith, limits)) (omega arith) done c.rows-2.ensures in
       (omega (arith, b.0, limits), omega (arith, b.1, limits))

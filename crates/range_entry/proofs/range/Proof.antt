@@ -3,7 +3,7 @@ use mathlib.Core.Path.{◌≡◌}
 use borrow.Author.Rules.{rules}
 use Rattle.meaning.specs.Lent.{Index, joined}
 use Rattle.meaning.specs.Range.{NumericRange}
-use Rattle.meaning.specs.Entries.{columnsOnly}
+use Rattle.meaning.specs.Entries.{columns_only}
 use Rattle.range_entry.proofs.RangeEntry.{range-right, range-refused, range-done}
 use Rattle.range_entry.proofs.range.Statement.{statement}
 use Rattle.range_entry.proofs.range.Tie as tie
@@ -11,7 +11,7 @@ use Rattle.range_entry.proofs.range.Tie as tie
 -- the halves, joined
 module _ (c : tie.After-range_refusal-refusal) where
   abbrev index : Index
-  index = let s = c in columnsOnly s.args.max_doc s.args.columns.now s.args.values.now
+  index = let s = c in columns_only s.args.max_doc s.args.columns.now s.args.values.now
 
   abbrev asked : NumericRange
   asked =

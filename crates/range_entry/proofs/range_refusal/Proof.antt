@@ -5,14 +5,14 @@ use borrow.Author.Rules.{rules}
 use Rattle.meaning.specs.Lent.{Index}
 use Rattle.meaning.specs.Range.{NumericRange}
 use Rattle.meaning.specs.IndexRefusals.{wrong1, wrong6}
-use Rattle.meaning.specs.QueryRefusals.{wrongRange}
-use Rattle.meaning.specs.Entries.{columnsOnly}
+use Rattle.meaning.specs.QueryRefusals.{wrong_range}
+use Rattle.meaning.specs.Entries.{columns_only}
 use Rattle.range_entry.proofs.RangeEntry.{limit-alone, wrong-by-columns, range-1, range-6, range-8, range-work, range-output, range-0}
 use Rattle.range_entry.proofs.range_refusal.Statement.{statement}
 use Rattle.range_entry.proofs.range_refusal.Tie as tie
 
 abbrev index : tie.Start → Index
-index s = columnsOnly s.args.max_doc s.args.columns.now s.args.values.now
+index s = columns_only s.args.max_doc s.args.columns.now s.args.values.now
 
 abbrev asked : tie.Start → NumericRange
 asked s = record { column = s.args.column; kinds = s.args.kinds; lower = s.args.lower; upper = s.args.upper }
@@ -24,7 +24,7 @@ right-1 c = sym (c.wrong_max_doc.ensures ∙ limit-alone _ _ _) ∙ c.if-wrong_m
 right-6 : (c : tie.Else-wrong_columns) → wrong6 (index c.before.before.before.before.before.before) ≡ false
 right-6 c = sym c.wrong_columns.ensures ∙ c.if-wrong_columns.false
 
-right-8 : (c : tie.Else-wrong_range) → wrongRange (index c.before.before.before.before.before.before.before.before) (asked c.before.before.before.before.before.before.before.before) ≡ false
+right-8 : (c : tie.Else-wrong_range) → wrong_range (index c.before.before.before.before.before.before.before.before) (asked c.before.before.before.before.before.before.before.before) ≡ false
 right-8 c = sym (c.wrong_range.ensures ∙ wrong-by-columns _ _ _ _) ∙ c.if-wrong_range.false
 
 wrong-max-doc-requires : tie.Need-wrong_max_doc-requires

@@ -2,7 +2,7 @@
 use mathlib.Core.Path.{◌≡◌, sym, ◌∙◌}
 use mathlib.Core.Bool.{false}
 use borrow.Author.Rules.{rules}
-use Rattle.meaning.specs.Tokens.{fieldsLent}
+use Rattle.meaning.specs.Tokens.{fields_lent}
 use Rattle.meaning.specs.IndexRefusals.{wrong1, wrong2}
 use Rattle.meaning.specs.TokenRefusals.{wrong15}
 use Rattle.token_writer.proofs.Ways.{one-is, two_is, refused-1, refused-2, refused-15, refused-16, accepted}
@@ -10,10 +10,10 @@ use Rattle.token_writer.proofs.accept.Statement.{statement}
 use Rattle.token_writer.proofs.accept.Tie as tie
 
 -- what the code knows behind each test
-few : (c : tie.Else-wrong_max_doc) → let s = c in wrong1 (fieldsLent s.args.max_doc s.args.fields.now) ≡ false
+few : (c : tie.Else-wrong_max_doc) → let s = c in wrong1 (fields_lent s.args.max_doc s.args.fields.now) ≡ false
 few c = sym (c.wrong_max_doc.ensures ∙ one-is _ _) ∙ c.if-wrong_max_doc.false
 
-fields-right : (c : tie.Else-wrong_fields) → let s = c in wrong2 (fieldsLent s.args.max_doc s.args.fields.now) ≡ false
+fields-right : (c : tie.Else-wrong_fields) → let s = c in wrong2 (fields_lent s.args.max_doc s.args.fields.now) ≡ false
 fields-right c = sym (c.wrong_fields.ensures ∙ two_is _ _) ∙ c.if-wrong_fields.false
 
 tokens-right : (c : tie.Else-counted) → let s = c in wrong15 s.args.max_doc s.args.fields.now s.args.leaf_fields.now s.args.tokens.now ≡ false

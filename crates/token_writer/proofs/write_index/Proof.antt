@@ -3,7 +3,7 @@ use mathlib.Core.Path.{sym, ap, ◌∙◌}
 use native.Mathlib.Omega.{arith}
 use lib.Seq.{length-take-le}
 use borrow.Author.Rules.{rules}
-use Rattle.token_writer.specs.Answers.{writtenNumbers}
+use Rattle.token_writer.specs.Answers.{written_numbers}
 use Rattle.token_writer.specs.Writing.{RunsPost}
 use Rattle.token_writer.proofs.Entry.{Accepted, accepted-call, entry-refused, entry_done, postings-room, postings-inside, runs-inside, parts-ok}
 use Rattle.token_writer.proofs.write_index.Statement.{statement}
@@ -16,7 +16,7 @@ start c = c.before.before.before.before.before.before.before.before.before
 known : (c : tie.In-Done)
     → let a = (start c).args in
     Accepted a.max_doc a.fields.now a.leaf_fields.now a.tokens.now a.norms.now a.postings.now a.positions.now a.runs.now c.in-Done.numbers
-known c = accepted-call _ _ _ _ _ _ _ _ _ (ap writtenNumbers (sym c.in-Done.is) ∙ c.accept.ensures)
+known c = accepted-call _ _ _ _ _ _ _ _ _ (ap written_numbers (sym c.in-Done.is) ∙ c.accept.ensures)
 
 -- the runs are written
 abbrev called : tie.After-write_runs → tie.In-Done
@@ -26,7 +26,7 @@ post : (c : tie.After-write_runs)
     → let a = (start (called c)).args in
     RunsPost a.max_doc a.fields.now a.leaf_fields.now a.tokens.now a.postings.now a.positions.now a.runs.now
     c.write_runs.new.postings c.write_runs.new.positions c.write_runs.new.runs
-post c = c.write_runs.ensures _ (known (called c)).runsPre
+post c = c.write_runs.ensures _ (known (called c)).runs_pre
 
 accept-requires : tie.Need-accept-requires
 accept-requires c κs = search rules
@@ -38,7 +38,7 @@ enum-known-numbers : tie.Need-enum_known-numbers
 enum-known-numbers c = search rules
 
 write-runs-requires : tie.Need-write_runs-requires
-write-runs-requires c κs = let d = c.before.before.before in (_, (known d).runsPre)
+write-runs-requires c κs = let d = c.before.before.before in (_, (known d).runs_pre)
 
 mul-write-norms : tie.Need-overflow_mul-numbers
 mul-write-norms c =
@@ -58,7 +58,7 @@ slice-aggregate-write-norms c =
 mul-write-norms-2 : tie.Need-overflow_mul-leaf_fields
 mul-write-norms-2 c =
     let d = called c.before.before.before.before.before.before.before in
-    record { fits = omega (arith, (known d).runsPre.runsFit, (start d).well_formed) }
+    record { fits = omega (arith, (known d).runs_pre.runs_fit, (start d).well_formed) }
 
 slice-reshare-prefix-write-norms-2 : tie.Need-slice_bounds-write_norms-end-in-Done-2
 slice-reshare-prefix-write-norms-2 c =
@@ -74,10 +74,10 @@ write-norms-requires : tie.Need-write_norms-requires
 write-norms-requires c κs =
     let w = c.before.before.before.before.before.before.before.before in
     let k = known (called w) in
-    ((parts-ok _ _ _ _ _ _ _ _ _ k _ _ _ (post w), k.fewDocuments, k.fewFields), k.normsFit)
+    ((parts-ok _ _ _ _ _ _ _ _ _ k _ _ _ (post w), k.few_documents, k.few_fields), k.norms_fit)
 
 returns : tie.Need-returns-in-Refused
-returns c = entry-refused _ _ _ _ _ _ _ _ _ (ap writtenNumbers (sym c.in-Refused.is) ∙ c.accept.ensures)
+returns c = entry-refused _ _ _ _ _ _ _ _ _ (ap written_numbers (sym c.in-Refused.is) ∙ c.accept.ensures)
 
 same_length : tie.Need-shape_of-norms
 same_length c = search rules

@@ -5,11 +5,11 @@ use mathlib.Core.Bool.{false}
 use Prim.Native.Nat.{◌-◌, ◌≤◌}
 use native.Mathlib.Omega.{arith}
 use borrow.Author.Rules.{rules}
-use Rattle.meaning.specs.Below.{anyBelow, countBelow}
-use Rattle.meaning.specs.Tokens.{tokenCount}
-use Rattle.meaning.specs.TokenRefusals.{wrongToken}
+use Rattle.meaning.specs.Below.{any_below, count_below}
+use Rattle.meaning.specs.Tokens.{token_count}
+use Rattle.meaning.specs.TokenRefusals.{wrong_token}
 use Rattle.meaning.proofs.Below.{any-zero, count-zero, count-one, count_same, count-le}
-use Rattle.tokens.specs.Counts.{beginsPosting}
+use Rattle.tokens.specs.Counts.{begins_posting}
 use Rattle.tokens.proofs.OneToken.{named-leaf, one_more}
 use Rattle.tokens.proofs.Counting.{placed, placed-is, told-wrong, told-all}
 use Rattle.tokens.proofs.count_tokens.Statement.{statement}
@@ -18,10 +18,10 @@ use Rattle.tokens.proofs.count_tokens.Tie as tie
 -- none of the tokens passed is wrong, and the numbers are theirs
 abbrev invariant-loop : tie.invariant-loop-i
 invariant-loop max-doc fields tokens leaf_fields postings₀ positions₀ i₀ postings positions i =
-    (false ≡ anyBelow i (wrongToken max-doc leaf_fields tokens)) × (postings ≡ countBelow i (beginsPosting tokens)) × (positions ≡ countBelow i (placed fields leaf_fields tokens)) × (i ≤ tokenCount tokens)
+    (false ≡ any_below i (wrong_token max-doc leaf_fields tokens)) × (postings ≡ count_below i (begins_posting tokens)) × (positions ≡ count_below i (placed fields leaf_fields tokens)) × (i ≤ token_count tokens)
 
 abbrev decreases-loop : tie.decreases-loop-i
-decreases-loop max-doc fields tokens leaf_fields postings₀ positions₀ i₀ postings positions i = tokenCount tokens - i
+decreases-loop max-doc fields tokens leaf_fields postings₀ positions₀ i₀ postings positions i = token_count tokens - i
 
 loop-holds : tie.Need-loop-i-init invariant-loop decreases-loop
 loop-holds c = (sym (any-zero _), sym (count-zero _), sym (count-zero _), omega arith)
@@ -38,7 +38,7 @@ begins-posting-requires c κs = search rules
 add-postings : tie.Need-overflow_add-postings invariant-loop decreases-loop
 add-postings c =
     let a = c in
-    omega (arith, a.loop-i.invariant.1, count-le a.loop-i.i (beginsPosting a.args.tokens.now))
+    omega (arith, a.loop-i.invariant.1, count-le a.loop-i.i (begins_posting a.args.tokens.now))
 
 token-at-requires : tie.Need-token_at-requires invariant-loop decreases-loop
 token-at-requires c κs = search rules

@@ -1,7 +1,7 @@
 -- `tokens::is_positional` meets its contract. Assumes nothing.
 use borrow.Author.Rules.{rules}
 use borrow.Author.Tests.{leb-false}
-use Rattle.meaning.specs.TokenRefusals.{wrongLeafField}
+use Rattle.meaning.specs.TokenRefusals.{wrong_leaf_field}
 use Rattle.tokens.proofs.is_positional.Statement.{statement}
 use Rattle.tokens.proofs.is_positional.Tie as tie
 
@@ -15,7 +15,7 @@ wide-requires : tie.Need-wide-requires
 wide-requires c κs = search rules
 
 field-at-requires : tie.Need-field_at-requires
-unfolding wrongLeafField
+unfolding wrong_leaf_field
 field-at-requires c κs = rw c.wide.ensures (leb-false _ _ c.requires.1)
 
 returns : tie.Need-returns

@@ -4,15 +4,15 @@ use Prim.Native.Nat.{◌-◌, ◌≤◌}
 use native.Mathlib.Omega.{arith}
 use lib.ListN.{length}
 use borrow.Author.Rules.{rules}
-use Rattle.meaning.specs.Below.{anyBelow}
-use Rattle.meaning.specs.TokenRefusals.{wrongLeafField}
+use Rattle.meaning.specs.Below.{any_below}
+use Rattle.meaning.specs.TokenRefusals.{wrong_leaf_field}
 use Rattle.meaning.proofs.Below.{any-zero, any-more, any-done}
 use Rattle.tokens.proofs.OneToken.{leaf-field}
 use Rattle.tokens.proofs.wrong_leaf_fields.Statement.{statement}
 use Rattle.tokens.proofs.wrong_leaf_fields.Tie as tie
 
 abbrev invariant-loop : tie.invariant-loop-l
-invariant-loop fields leaf_fields bad₀ l₀ bad l = (bad ≡ anyBelow l (wrongLeafField fields leaf_fields)) × (l ≤ length leaf_fields)
+invariant-loop fields leaf_fields bad₀ l₀ bad l = (bad ≡ any_below l (wrong_leaf_field fields leaf_fields)) × (l ≤ length leaf_fields)
 
 abbrev decreases-loop : tie.decreases-loop-l
 decreases-loop fields leaf_fields bad₀ l₀ bad l = length leaf_fields - l

@@ -3,7 +3,7 @@ use Prim.Native.Nat.{◌-◌, ◌≤◌, ◌<◌}
 use mathlib.Core.Path.{◌≡◌, refl, sym, ◌∙◌}
 use native.Mathlib.Omega.{arith}
 use lib.ListN.{length}
-use Rattle.meaning.specs.Limits.{noMoreDocs}
+use Rattle.meaning.specs.Limits.{no_more_docs}
 use Rattle.scorer.specs.Calls.{lent}
 use Rattle.walk.proofs.Walking.{WalkAt, walk_start, walk-asks, walk_top, walk_from, walk-live, walk-stop, walk-found, walk_more}
 use Rattle.walk.proofs.next_match.Statement.{statement}
@@ -11,10 +11,10 @@ use Rattle.walk.proofs.next_match.Tie as tie
 
 abbrev invariant-loop : tie.invariant-loop-max_doc
 invariant-loop st₀ max-doc postings positions ranges live a₀ b₀ from depth target₀ st a b target =
-    (length st ≡ length st₀) × (length a ≡ length a₀) × (length b ≡ length b₀) × (from ≤ target) × (target ≤ noMoreDocs) × WalkAt (lent max-doc postings positions ranges) live st₀ from depth st target
+    (length st ≡ length st₀) × (length a ≡ length a₀) × (length b ≡ length b₀) × (from ≤ target) × (target ≤ no_more_docs) × WalkAt (lent max-doc postings positions ranges) live st₀ from depth st target
 
 abbrev decreases-loop : tie.decreases-loop-max_doc
-decreases-loop st₀ max-doc postings positions ranges live a₀ b₀ from depth target₀ st a b target = noMoreDocs - target
+decreases-loop st₀ max-doc postings positions ranges live a₀ b₀ from depth target₀ st a b target = no_more_docs - target
 
 loop-holds : tie.Need-loop-max_doc-init invariant-loop decreases-loop
 loop-holds c =
@@ -91,14 +91,14 @@ loop-less : tie.Need-loop-max_doc-smaller invariant-loop decreases-loop
 loop-less c =
     let s₀ = c in
     let l = c.loop-max_doc in
-    let h : c.advance-d.result < noMoreDocs = omega (arith, s₀.requires.1.6.lends.accepted.documents, s₀.requires.1.6.lends.documents) in
+    let h : c.advance-d.result < no_more_docs = omega (arith, s₀.requires.1.6.lends.accepted.documents, s₀.requires.1.6.lends.documents) in
     omega (arith, h, walk_from (lent s₀.args.max_doc s₀.args.postings.now s₀.args.positions.now s₀.args.ranges.now) s₀.args.live.now s₀.args.st.now s₀.args.from s₀.args.depth l.st l.target l.invariant.5 c.advance-d.result c.advance-d.new.st c.advance-d.ensures.0 (length s₀.args.a.now) (length s₀.args.b.now) s₀.requires)
 
 loop-again : tie.Need-loop-max_doc-preserved invariant-loop decreases-loop
 loop-again c =
     let s₀ = c in
     let l = c.loop-max_doc in
-    let h : c.advance-d.result < noMoreDocs = omega (arith, s₀.requires.1.6.lends.accepted.documents, s₀.requires.1.6.lends.documents) in
+    let h : c.advance-d.result < no_more_docs = omega (arith, s₀.requires.1.6.lends.accepted.documents, s₀.requires.1.6.lends.documents) in
     (c.advance-d.auto.st ∙ l.invariant.0, c.advance-d.auto.a ∙ l.invariant.1, c.advance-d.auto.b ∙ l.invariant.2, omega (arith, l.invariant.3, walk_from (lent s₀.args.max_doc s₀.args.postings.now s₀.args.positions.now s₀.args.ranges.now) s₀.args.live.now s₀.args.st.now s₀.args.from s₀.args.depth l.st l.target l.invariant.5 c.advance-d.result c.advance-d.new.st c.advance-d.ensures.0 (length s₀.args.a.now) (length s₀.args.b.now) s₀.requires), omega arith, walk_more (lent s₀.args.max_doc s₀.args.postings.now s₀.args.positions.now s₀.args.ranges.now) s₀.args.live.now s₀.args.st.now s₀.args.from s₀.args.depth l.st l.target l.invariant.5 c.advance-d.result c.advance-d.new.st c.advance-d.ensures.0 (sym c.is_live.ensures ∙ c.if-is_live.false))
 
 pub next_match_spec : {M : Type 1} → statement M

@@ -3,7 +3,7 @@ use Rattle.std.proofs.Common.{◌≡◌, refl, sym, ap, ◌∙◌, not, List, []
 use Rattle.bits.specs.Bit.{bit}
 use Rattle.planes.specs.Counts.{count}
 use Rattle.leaf_scorer.specs.Calls.{lent}
-use Rattle.window_words.specs.Windowed.{nowhere, placesOf}
+use Rattle.window_words.specs.Windowed.{nowhere, places_of}
 use Rattle.window_leaf.specs.Asks.{everywhere}
 use Rattle.window_bits.proofs.Children.{term-answers}
 use Rattle.window_bits.proofs.Passes.{same-test, other-test, pass-through, pass-start, pass-stop, pass-end, pass-there, pass-node, pass-term, pass-took, pass-skip}
@@ -23,46 +23,46 @@ pub any_bits-child_at-k-requires : goal.any_bits-child_at-k-requires
 any_bits-child_at-k-requires t c =
     let r = c.requires in
     let q = c.loop-at.invariant r.0 r.1 r.2 r.3 r.4.wanted r.5 r.6 in
-    walk_there r.1 c.args.ranges.now c.args.depth r.2 c.args.base (placesOf c.args.want) r.3 q.g c.loop-at.kids c.loop-at.at q.left.zip c.loop-at-test.true
+    walk_there r.1 c.args.ranges.now c.args.depth r.2 c.args.base (places_of c.args.want) r.3 q.g c.loop-at.kids c.loop-at.at q.left.zip c.loop-at-test.true
 
 pub any_bits-slice_bounds-term_bits-end : goal.any_bits-slice_bounds-term_bits-end
 any_bits-slice_bounds-term_bits-end t c =
     let r = c.requires in
     let q = c.loop-at.invariant r.0 r.1 r.2 r.3 r.4.wanted r.5 r.6 in
-    let h = walk_there r.1 c.args.ranges.now c.args.depth r.2 c.args.base (placesOf c.args.want) r.3 q.g c.loop-at.kids c.loop-at.at q.left.zip c.loop-at-test.true in
+    let h = walk_there r.1 c.args.ranges.now c.args.depth r.2 c.args.base (places_of c.args.want) r.3 q.g c.loop-at.kids c.loop-at.at q.left.zip c.loop-at-test.true in
     omega (arith, h.long, h.fits, c.child_at-k.ensures.end)
 
 pub any_bits-term_bits-requires : goal.any_bits-term_bits-requires
 any_bits-term_bits-requires t c =
     let r = c.requires in
     let q = c.loop-at.invariant r.0 r.1 r.2 r.3 r.4.wanted r.5 r.6 in
-    walk_term r.1 c.args.ranges.now c.args.depth r.2 c.args.base (placesOf c.args.want) r.3 q.g c.loop-at.kids c.loop-at.at q.left.zip c.loop-at-test.true c.args.postings.now c.args.positions.now r.0 r.4 r.5.lends c.child_at-k.result.end c.child_at-k.ensures.end (sym c.child_at-k.ensures.kind ∙ c.if-k-eq-TERM.true)
+    walk_term r.1 c.args.ranges.now c.args.depth r.2 c.args.base (places_of c.args.want) r.3 q.g c.loop-at.kids c.loop-at.at q.left.zip c.loop-at-test.true c.args.postings.now c.args.positions.now r.0 r.4 r.5.lends c.child_at-k.result.end c.child_at-k.ensures.end (sym c.child_at-k.ensures.kind ∙ c.if-k-eq-TERM.true)
 
 pub any_bits-slice_bounds-node_bits-end : goal.any_bits-slice_bounds-node_bits-end
 any_bits-slice_bounds-node_bits-end t c =
     let r = c.requires in
     let q = c.loop-at.invariant r.0 r.1 r.2 r.3 r.4.wanted r.5 r.6 in
-    let h = walk_there r.1 c.args.ranges.now c.args.depth r.2 c.args.base (placesOf c.args.want) r.3 q.g c.loop-at.kids c.loop-at.at q.left.zip c.loop-at-test.true in
+    let h = walk_there r.1 c.args.ranges.now c.args.depth r.2 c.args.base (places_of c.args.want) r.3 q.g c.loop-at.kids c.loop-at.at q.left.zip c.loop-at-test.true in
     omega (arith, h.long, h.fits, c.child_at-k.ensures.end)
 
 pub any_bits-node_bits-requires : goal.any_bits-node_bits-requires
 any_bits-node_bits-requires t c =
     let r = c.requires in
     let q = c.loop-at.invariant r.0 r.1 r.2 r.3 r.4.wanted r.5 r.6 in
-    (omega arith, walk_node r.1 c.args.ranges.now c.args.depth r.2 c.args.base (placesOf c.args.want) r.3 q.g c.loop-at.kids c.loop-at.at q.left.zip c.loop-at-test.true c.args.postings.now c.args.positions.now r.0 r.4 r.5.lends c.child_at-k.result.end c.child_at-k.ensures.end (length c.loop-at.a) (length c.loop-at.b) c.args.want c.loop-at.auto.a c.loop-at.auto.b (λ p b t. t))
+    (omega arith, walk_node r.1 c.args.ranges.now c.args.depth r.2 c.args.base (places_of c.args.want) r.3 q.g c.loop-at.kids c.loop-at.at q.left.zip c.loop-at-test.true c.args.postings.now c.args.positions.now r.0 r.4 r.5.lends c.child_at-k.result.end c.child_at-k.ensures.end (length c.loop-at.a) (length c.loop-at.b) c.args.want c.loop-at.auto.a c.loop-at.auto.b (λ p b t. t))
 
 pub any_bits-bounds-kids-at : goal.any_bits-bounds-kids-at
 any_bits-bounds-kids-at t c =
     let r = c.requires in
     let q = c.loop-at.invariant r.0 r.1 r.2 r.3 r.4.wanted r.5 r.6 in
-    let h = walk_there r.1 c.args.ranges.now c.args.depth r.2 c.args.base (placesOf c.args.want) r.3 q.g c.loop-at.kids c.loop-at.at q.left.zip c.loop-at-test.true in
+    let h = walk_there r.1 c.args.ranges.now c.args.depth r.2 c.args.base (places_of c.args.want) r.3 q.g c.loop-at.kids c.loop-at.at q.left.zip c.loop-at-test.true in
     omega (arith, h.long, h.fits, c.if-k-eq-TERM.auto.kids, c.loop-at.auto.kids)
 
 pub any_bits-loop-at-smaller : goal.any_bits-loop-at-smaller
 any_bits-loop-at-smaller t c =
     let r = c.requires in
     let q = c.loop-at.invariant r.0 r.1 r.2 r.3 r.4.wanted r.5 r.6 in
-    let h = walk_there r.1 c.args.ranges.now c.args.depth r.2 c.args.base (placesOf c.args.want) r.3 q.g c.loop-at.kids c.loop-at.at q.left.zip c.loop-at-test.true in
+    let h = walk_there r.1 c.args.ranges.now c.args.depth r.2 c.args.base (places_of c.args.want) r.3 q.g c.loop-at.kids c.loop-at.at q.left.zip c.loop-at-test.true in
     omega (arith, h.long, h.fits, c.child_at-k.ensures.end, c.loop-at-test.true, c.loop-at.auto.kids)
 
 pub any_bits-loop-at-preserved : goal.any_bits-loop-at-preserved
@@ -179,46 +179,46 @@ pub counted_bits-child_at-k-requires : goal.counted_bits-child_at-k-requires
 counted_bits-child_at-k-requires t c =
     let r = c.requires.parts_pre in
     let q = c.loop-at.invariant r.0 r.1 r.2 r.3 r.4.wanted r.5 r.6 in
-    walk_there r.1 c.args.ranges.now c.args.depth r.2 c.args.base (placesOf c.args.want) r.3 q.g c.loop-at.kids c.loop-at.at q.left.zip c.loop-at-test.true
+    walk_there r.1 c.args.ranges.now c.args.depth r.2 c.args.base (places_of c.args.want) r.3 q.g c.loop-at.kids c.loop-at.at q.left.zip c.loop-at-test.true
 
 pub counted_bits-slice_bounds-term_bits-end : goal.counted_bits-slice_bounds-term_bits-end
 counted_bits-slice_bounds-term_bits-end t c =
     let r = c.requires.parts_pre in
     let q = c.loop-at.invariant r.0 r.1 r.2 r.3 r.4.wanted r.5 r.6 in
-    let h = walk_there r.1 c.args.ranges.now c.args.depth r.2 c.args.base (placesOf c.args.want) r.3 q.g c.loop-at.kids c.loop-at.at q.left.zip c.loop-at-test.true in
+    let h = walk_there r.1 c.args.ranges.now c.args.depth r.2 c.args.base (places_of c.args.want) r.3 q.g c.loop-at.kids c.loop-at.at q.left.zip c.loop-at-test.true in
     omega (arith, h.long, h.fits, c.child_at-k.ensures.end)
 
 pub counted_bits-term_bits-requires : goal.counted_bits-term_bits-requires
 counted_bits-term_bits-requires t c =
     let r = c.requires.parts_pre in
     let q = c.loop-at.invariant r.0 r.1 r.2 r.3 r.4.wanted r.5 r.6 in
-    walk_term r.1 c.args.ranges.now c.args.depth r.2 c.args.base (placesOf c.args.want) r.3 q.g c.loop-at.kids c.loop-at.at q.left.zip c.loop-at-test.true c.args.postings.now c.args.positions.now r.0 r.4 r.5.lends c.child_at-k.result.end c.child_at-k.ensures.end (sym c.child_at-k.ensures.kind ∙ c.if-k-eq-TERM.true)
+    walk_term r.1 c.args.ranges.now c.args.depth r.2 c.args.base (places_of c.args.want) r.3 q.g c.loop-at.kids c.loop-at.at q.left.zip c.loop-at-test.true c.args.postings.now c.args.positions.now r.0 r.4 r.5.lends c.child_at-k.result.end c.child_at-k.ensures.end (sym c.child_at-k.ensures.kind ∙ c.if-k-eq-TERM.true)
 
 pub counted_bits-slice_bounds-node_bits-end : goal.counted_bits-slice_bounds-node_bits-end
 counted_bits-slice_bounds-node_bits-end t c =
     let r = c.requires.parts_pre in
     let q = c.loop-at.invariant r.0 r.1 r.2 r.3 r.4.wanted r.5 r.6 in
-    let h = walk_there r.1 c.args.ranges.now c.args.depth r.2 c.args.base (placesOf c.args.want) r.3 q.g c.loop-at.kids c.loop-at.at q.left.zip c.loop-at-test.true in
+    let h = walk_there r.1 c.args.ranges.now c.args.depth r.2 c.args.base (places_of c.args.want) r.3 q.g c.loop-at.kids c.loop-at.at q.left.zip c.loop-at-test.true in
     omega (arith, h.long, h.fits, c.child_at-k.ensures.end)
 
 pub counted_bits-node_bits-requires : goal.counted_bits-node_bits-requires
 counted_bits-node_bits-requires t c =
     let r = c.requires.parts_pre in
     let q = c.loop-at.invariant r.0 r.1 r.2 r.3 r.4.wanted r.5 r.6 in
-    (omega arith, walk_node r.1 c.args.ranges.now c.args.depth r.2 c.args.base (placesOf c.args.want) r.3 q.g c.loop-at.kids c.loop-at.at q.left.zip c.loop-at-test.true c.args.postings.now c.args.positions.now r.0 r.4 r.5.lends c.child_at-k.result.end c.child_at-k.ensures.end (length c.loop-at.a) (length c.loop-at.b) c.args.want c.loop-at.auto.a c.loop-at.auto.b (λ p b t. t))
+    (omega arith, walk_node r.1 c.args.ranges.now c.args.depth r.2 c.args.base (places_of c.args.want) r.3 q.g c.loop-at.kids c.loop-at.at q.left.zip c.loop-at-test.true c.args.postings.now c.args.positions.now r.0 r.4 r.5.lends c.child_at-k.result.end c.child_at-k.ensures.end (length c.loop-at.a) (length c.loop-at.b) c.args.want c.loop-at.auto.a c.loop-at.auto.b (λ p b t. t))
 
 pub counted_bits-bounds-kids-at : goal.counted_bits-bounds-kids-at
 counted_bits-bounds-kids-at t c =
     let r = c.requires.parts_pre in
     let q = c.loop-at.invariant r.0 r.1 r.2 r.3 r.4.wanted r.5 r.6 in
-    let h = walk_there r.1 c.args.ranges.now c.args.depth r.2 c.args.base (placesOf c.args.want) r.3 q.g c.loop-at.kids c.loop-at.at q.left.zip c.loop-at-test.true in
+    let h = walk_there r.1 c.args.ranges.now c.args.depth r.2 c.args.base (places_of c.args.want) r.3 q.g c.loop-at.kids c.loop-at.at q.left.zip c.loop-at-test.true in
     omega (arith, h.long, h.fits, c.if-k-eq-TERM.auto.kids, c.loop-at.auto.kids)
 
 pub counted_bits-loop-at-smaller : goal.counted_bits-loop-at-smaller
 counted_bits-loop-at-smaller t c =
     let r = c.requires.parts_pre in
     let q = c.loop-at.invariant r.0 r.1 r.2 r.3 r.4.wanted r.5 r.6 in
-    let h = walk_there r.1 c.args.ranges.now c.args.depth r.2 c.args.base (placesOf c.args.want) r.3 q.g c.loop-at.kids c.loop-at.at q.left.zip c.loop-at-test.true in
+    let h = walk_there r.1 c.args.ranges.now c.args.depth r.2 c.args.base (places_of c.args.want) r.3 q.g c.loop-at.kids c.loop-at.at q.left.zip c.loop-at-test.true in
     omega (arith, h.long, h.fits, c.child_at-k.ensures.end, c.loop-at-test.true, c.loop-at.auto.kids)
 
 pub counted_bits-loop-at-preserved : goal.counted_bits-loop-at-preserved
@@ -227,7 +227,7 @@ counted_bits-loop-at-preserved t c =
     let q = c.loop-at.invariant n ix places ss u v p in
     elim c.if-k-eq-TERM.branch [
       | counted_bits-then-k-eq-TERM w ↦ count-took ix c.args.ranges.now c.args.depth places c.args.base c.args.want ss c.loop-at.kids c.loop-at.planes c.loop-at.next c.loop-at.at v.few c.child_at-k.result.end c.child_at-k.ensures.end c.args.postings.now c.args.positions.now n v.lends everywhere (λ p' b t'. refl) w.term_bits.result w.term_bits.new.st w.counted-carry.result c.if-k-eq-TERM.planes c.sooner-next.result w.term_bits.auto.st c.if-k-eq-TERM.kids w.kids-is c.sooner-next.ensures (ap length w.planes-is ∙ w.counted-carry.auto.planes) (λ p'. ap (λ (l : List ℕ). count p' (l ++ (w.counted-carry.result ∷ []))) w.planes-is ∙ w.counted-carry.ensures p') (w.term_bits.ensures (lent n c.args.postings.now c.args.positions.now c.args.ranges.now) c.args.depth refl) q c.loop-at-test.true
-      | counted_bits-else-k-eq-TERM w ↦ count-took ix c.args.ranges.now c.args.depth places c.args.base c.args.want ss c.loop-at.kids c.loop-at.planes c.loop-at.next c.loop-at.at v.few c.child_at-k.result.end c.child_at-k.ensures.end c.args.postings.now c.args.positions.now n v.lends (placesOf c.args.want) (λ p' b t'. t') w.node_bits.result w.node_bits.new.st w.counted-carry-else-k-eq-TERM.result c.if-k-eq-TERM.planes c.sooner-next.result w.node_bits.auto.st c.if-k-eq-TERM.kids w.kids-is c.sooner-next.ensures (ap length w.planes-is ∙ w.counted-carry-else-k-eq-TERM.auto.planes) (λ p'. ap (λ (l : List ℕ). count p' (l ++ (w.counted-carry-else-k-eq-TERM.result ∷ []))) w.planes-is ∙ w.counted-carry-else-k-eq-TERM.ensures p') (w.node_bits.ensures n u) q c.loop-at-test.true
+      | counted_bits-else-k-eq-TERM w ↦ count-took ix c.args.ranges.now c.args.depth places c.args.base c.args.want ss c.loop-at.kids c.loop-at.planes c.loop-at.next c.loop-at.at v.few c.child_at-k.result.end c.child_at-k.ensures.end c.args.postings.now c.args.positions.now n v.lends (places_of c.args.want) (λ p' b t'. t') w.node_bits.result w.node_bits.new.st w.counted-carry-else-k-eq-TERM.result c.if-k-eq-TERM.planes c.sooner-next.result w.node_bits.auto.st c.if-k-eq-TERM.kids w.kids-is c.sooner-next.ensures (ap length w.planes-is ∙ w.counted-carry-else-k-eq-TERM.auto.planes) (λ p'. ap (λ (l : List ℕ). count p' (l ++ (w.counted-carry-else-k-eq-TERM.result ∷ []))) w.planes-is ∙ w.counted-carry-else-k-eq-TERM.ensures p') (w.node_bits.ensures n u) q c.loop-at-test.true
     ]
 
 pub counted_bits-returns-clause-count_post : goal.counted_bits-returns-clause-count_post
@@ -298,7 +298,7 @@ pub excluded_bits-loop-at-preserved : goal.excluded_bits-loop-at-preserved
 excluded_bits-loop-at-preserved t c =
     λ n ix places ss u v p.
     let q = c.loop-at.invariant n ix places ss u v p in
-    excluded-took ix c.args.ranges.now c.args.depth places c.args.base c.args.want ss c.loop-at.kids c.loop-at.w c.loop-at.at c.child_at-k.result.end c.child_at-k.ensures.end c.args.postings.now c.args.positions.now n v.lends (placesOf c.loop-at.w) (λ p' b t'. t') c.node_bits.result c.node_bits.new.st c.without-w-else-k-eq-TERM.result c.node_bits.auto.st _ refl c.without-w-else-k-eq-TERM.ensures (c.node_bits.ensures n (λ p' b t'. u p' b (q.left.within p' b t'))) q c.loop-at-test.true
+    excluded-took ix c.args.ranges.now c.args.depth places c.args.base c.args.want ss c.loop-at.kids c.loop-at.w c.loop-at.at c.child_at-k.result.end c.child_at-k.ensures.end c.args.postings.now c.args.positions.now n v.lends (places_of c.loop-at.w) (λ p' b t'. t') c.node_bits.result c.node_bits.new.st c.without-w-else-k-eq-TERM.result c.node_bits.auto.st _ refl c.without-w-else-k-eq-TERM.ensures (c.node_bits.ensures n (λ p' b t'. u p' b (q.left.within p' b t'))) q c.loop-at-test.true
 
 pub excluded_bits-returns : goal.excluded_bits-returns
 excluded_bits-returns t c =

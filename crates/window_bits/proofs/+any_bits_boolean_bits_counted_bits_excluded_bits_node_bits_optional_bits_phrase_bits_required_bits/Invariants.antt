@@ -3,9 +3,9 @@ use Rattle.std.proofs.Common.{Bool, List, ℕ, ◌+◌, ◌-◌, ◌*◌, length
 use Rattle.meaning.specs.Lent.{Index}
 use Rattle.weight.specs.ScorerTree.{Scorers}
 use Rattle.leaf_scorer.specs.Calls.{lent}
-use Rattle.window_words.specs.Windowed.{nowhere, placesOf, AllWindowed}
+use Rattle.window_words.specs.Windowed.{nowhere, places_of, AllWindowed}
 use Rattle.window_leaf.specs.Asks.{Wanted}
-use Rattle.window_bits.specs.Parts.{askedBefore, SomeWindowed, PartsKnown}
+use Rattle.window_bits.specs.Parts.{asked_before, SomeWindowed, PartsKnown}
 use Rattle.window_bits.proofs.Passes.{PassAt}
 use Rattle.window_bits.proofs.Optionals.{AnyAt, CountAt}
 use Rattle.window_bits.proofs.Prohibited.{ExcludedAt}
@@ -38,7 +38,7 @@ decreases-required_bits l = l.depth * 8 + 1
 -- for all that fit the words at entry
 abbrev pub PassKept : List ℕ → List ℕ → List ℕ → ℕ → ℕ → List ℕ → Bool → ℕ → ℕ → ℕ → List ℕ → ℕ → ℕ → ℕ → Bool → Type 0
 PassKept postings positions ranges a b kids₀ last base want depth kids w next at skip =
-    (n : ℕ) (ix : Index) (places : ℕ) (ss : Scorers) → Wanted n base want → PartsKnown (lent n postings positions ranges) ix places ss → SomeWindowed (askedBefore last) ix ranges ss depth kids₀ base (placesOf want) → PassAt ix ranges depth places last base want ss kids w next at skip
+    (n : ℕ) (ix : Index) (places : ℕ) (ss : Scorers) → Wanted n base want → PartsKnown (lent n postings positions ranges) ix places ss → SomeWindowed (asked_before last) ix ranges ss depth kids₀ base (places_of want) → PassAt ix ranges depth places last base want ss kids w next at skip
 
 abbrev pub AnyKept : List ℕ → List ℕ → List ℕ → ℕ → ℕ → List ℕ → ℕ → ℕ → ℕ → List ℕ → ℕ → ℕ → ℕ → Type 0
 AnyKept postings positions ranges a b kids₀ base want depth kids w next at =

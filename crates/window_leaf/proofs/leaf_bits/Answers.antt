@@ -1,6 +1,6 @@
 use Rattle.std.proofs.Common.{refl, ◌+◌, ◌≤◌, length, arith}
 use Rattle.leaf_scorer.specs.Calls.{lent}
-use Rattle.meaning.specs.Limits.{nodeStateWords}
+use Rattle.meaning.specs.Limits.{node_state_words}
 use Rattle.window_words.specs.Windowed.{nowhere}
 use Rattle.window_words.proofs.Laws.{windowed-long}
 use Rattle.weight.specs.ScorerTree.{matches}
@@ -9,7 +9,7 @@ use Rattle.window_leaf.proofs.leaf_bits.Goals as goal
 
 -- src/lib.rt:114:16
 pub bounds-st-0 : goal.bounds-st-0
-bounds-st-0 c = let q = c.requires.bits_pre.1 in let z : nodeStateWords ≤ length c.args.st.now = windowed-long q.1 c.args.ranges.now q.3 c.args.depth q.4 c.args.st.now c.args.base c.args.base nowhere q.7.held in omega (arith, z)
+bounds-st-0 c = let q = c.requires.bits_pre.1 in let z : node_state_words ≤ length c.args.st.now = windowed-long q.1 c.args.ranges.now q.3 c.args.depth q.4 c.args.st.now c.args.base c.args.base nowhere q.7.held in omega (arith, z)
 
 -- src/lib.rt:116:9
 pub returns-then-kind-eq-TERM : goal.returns-then-kind-eq-TERM

@@ -1,5 +1,5 @@
 use Rattle.std.proofs.Common.{sym, ap, ◌≤◌, length, arith}
-use Rattle.meaning.specs.Limits.{nodeStateWords}
+use Rattle.meaning.specs.Limits.{node_state_words}
 use Rattle.window_words.specs.Windowed.{nowhere}
 use Rattle.window_words.proofs.Laws.{windowed-long}
 use Rattle.window_leaf.proofs.Ranges.{window-part}
@@ -8,11 +8,11 @@ use Rattle.window_leaf.proofs.range_bits.Goals as goal
 
 -- src/lib.rt:122:22
 pub bounds-st-6 : goal.bounds-st-6
-bounds-st-6 c = let q = c.requires.2 in let z : nodeStateWords ≤ length c.args.st.now = windowed-long q.2 q.0.ranges q.4 q.5 q.6 c.args.st.now c.args.base c.args.base nowhere q.7.held in omega (arith, z)
+bounds-st-6 c = let q = c.requires.2 in let z : node_state_words ≤ length c.args.st.now = windowed-long q.2 q.0.ranges q.4 q.5 q.6 c.args.st.now c.args.base c.args.base nowhere q.7.held in omega (arith, z)
 
 -- src/lib.rt:123:23
 pub bounds-st-7 : goal.bounds-st-7
-bounds-st-7 c = let q = c.requires.2 in let z : nodeStateWords ≤ length c.args.st.now = windowed-long q.2 q.0.ranges q.4 q.5 q.6 c.args.st.now c.args.base c.args.base nowhere q.7.held in omega (arith, z)
+bounds-st-7 c = let q = c.requires.2 in let z : node_state_words ≤ length c.args.st.now = windowed-long q.2 q.0.ranges q.4 q.5 q.6 c.args.st.now c.args.base c.args.base nowhere q.7.held in omega (arith, z)
 
 -- src/lib.rt:124:9
 pub bits_from-low-requires : goal.bits_from-low-requires

@@ -1,6 +1,6 @@
 -- A child's bits: a term's, cut to what is wanted, or those of any node.
 use Rattle.std.proofs.Common.{refl, ◌+◌, ◌≤◌, length, arith}
-use Rattle.meaning.specs.Limits.{nodeStateWords}
+use Rattle.meaning.specs.Limits.{node_state_words}
 use Rattle.weight.specs.ScorerTree.{matches}
 use Rattle.leaf_scorer.specs.Calls.{lent}
 use Rattle.window_words.specs.Windowed.{nowhere}
@@ -11,7 +11,7 @@ use Rattle.window_score.proofs.child_bits.Goals as goal
 pub bounds-st-0 : goal.bounds-st-0
 bounds-st-0 c =
     let q = c.requires.1 in
-    let z : nodeStateWords ≤ length c.args.st.now = windowed-long q.1 c.args.ranges.now q.3 c.args.depth q.4 c.args.st.now c.args.base c.args.base nowhere q.7.held in
+    let z : node_state_words ≤ length c.args.st.now = windowed-long q.1 c.args.ranges.now q.3 c.args.depth q.4 c.args.st.now c.args.base c.args.base nowhere q.7.held in
     omega (arith, z)
 
 pub term_bits-requires : goal.term_bits-requires

@@ -8,7 +8,7 @@ use lib.Signed.{shr_z, non_neg}
 use mir.Syntax.{w32}
 use mir.Val.{SFits, Fits, of_z, to_z}
 use lib.Bits.{bit_or, bit_xor}
-use Rattle.meaning.specs.Ieee754.{sortableBits}
+use Rattle.meaning.specs.Ieee754.{sortable_bits}
 use Rattle.collector.proofs.Halves.{flag, lower-is, flag_is, flag_one, flag-fits, pattern-is}
 use Rattle.collector.proofs.codes.sortable_bits.Statement.{statement}
 use Rattle.collector.proofs.codes.sortable_bits.Tie as tie
@@ -19,7 +19,7 @@ sign c = pos 0 -ℤ to_z w32 (of_z w32 (shr_z (to_z w32 (of_z w32 c.args.i)) 214
 abbrev lower : (c : tie.Start) → ℤ
 lower c = to_z w32 (bit_xor (of_z w32 c.args.i) (of_z w32 (shr_z (to_z w32 (of_z w32 c.args.i)) 2147483648)))
 
-pattern : (c : tie.Start) → bit_or (nat_abs (to_z w32 (of_z w32 (sign c))) * 2147483648 % 4294967296) (nat_abs (lower c)) ≡ sortableBits c.args.i
+pattern : (c : tie.Start) → bit_or (nat_abs (to_z w32 (of_z w32 (sign c))) * 2147483648 % 4294967296) (nat_abs (lower c)) ≡ sortable_bits c.args.i
 pattern c =
     ap (λ (z : ℤ). bit_or (nat_abs z * 2147483648 % 4294967296) (nat_abs (lower c))) (ap (λ (z : ℤ). to_z w32 (of_z w32 z)) (flag_is c.args.i c.ranges.i) ∙ flag_one c.args.i)
     ∙ ap (λ (z : ℤ). bit_or (flag c.args.i * 2147483648 % 4294967296) (nat_abs z)) (lower-is c.args.i c.ranges.i)

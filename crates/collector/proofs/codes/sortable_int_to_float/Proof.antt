@@ -7,12 +7,12 @@ use lib.Ieee.{binary32, of_bits, nan_bits}
 use mir.Syntax.{w32}
 use mir.ValLaws.{to_z-of_z}
 use borrow.Author.Rules.{rules}
-use Rattle.meaning.specs.Ieee754.{sortableBits}
+use Rattle.meaning.specs.Ieee754.{sortable_bits}
 use Rattle.collector.proofs.codes.sortable_int_to_float.Statement.{statement}
 use Rattle.collector.proofs.codes.sortable_int_to_float.Tie as tie
 
-pattern : (c : tie.After-sortable_bits) → c.sortable_bits.result ≡ sortableBits c.args.i
-pattern c = c.sortable_bits.ensures ∙ ap sortableBits (to_z-of_z w32 c.args.i c.ranges.i)
+pattern : (c : tie.After-sortable_bits) → c.sortable_bits.result ≡ sortable_bits c.args.i
+pattern c = c.sortable_bits.ensures ∙ ap sortable_bits (to_z-of_z w32 c.args.i c.ranges.i)
 
 sortable-bits-requires : tie.Need-sortable_bits-requires
 sortable-bits-requires c κs = search rules

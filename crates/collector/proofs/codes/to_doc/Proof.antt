@@ -8,7 +8,7 @@ use lib.Signed.{non_neg}
 use mir.Syntax.{w32, w64}
 use mir.Val.{Fits, of_z, to_z}
 use lib.Bits.{bit_and}
-use Rattle.meaning.specs.Hits.{low_word, toDoc}
+use Rattle.meaning.specs.Hits.{low_word, to_doc}
 use Rattle.collector.proofs.Halves.{low-is}
 use Rattle.collector.proofs.codes.to_doc.Statement.{statement}
 use Rattle.collector.proofs.codes.to_doc.Tie as tie
@@ -23,7 +23,7 @@ sub-result : tie.Need-overflow_sub-result
 sub-result c = subst (λ (z : ℤ). nat_abs z ≤ 2147483647) (sym (low c)) c.requires
 
 returns : tie.Need-returns
-unfolding toDoc
+unfolding to_doc
 returns c = ap (λ (z : ℤ). 2147483647 - nat_abs z) (low c)
 
 pub to_doc_spec : {M : Type 1} → statement M

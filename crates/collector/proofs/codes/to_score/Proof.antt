@@ -9,8 +9,8 @@ use mir.Val.{SFits, of_z, to_z}
 use mir.ValLaws.{to_z-of_z}
 use mathlib.Core.Bool.{not}
 use lib.Ieee.{binary32, of_bits, nan_bits}
-use Rattle.meaning.specs.Ieee754.{sortableBits}
-use Rattle.meaning.specs.Hits.{toScore}
+use Rattle.meaning.specs.Ieee754.{sortable_bits}
+use Rattle.meaning.specs.Hits.{to_score}
 use Rattle.collector.proofs.Halves.{high_is, high_fits}
 use Rattle.collector.proofs.codes.to_score.Statement.{statement}
 use Rattle.collector.proofs.codes.to_score.Tie as tie
@@ -22,11 +22,11 @@ cast-sortable-int-to-float : tie.Need-overflow_cast-code
 cast-sortable-int-to-float c = subst (SFits w32) (sym (high_is c.args.code c.ranges.code)) (high_fits c.args.code c.ranges.code)
 
 sortable-int-to-float-requires : tie.Need-sortable_int_to_float-requires
-sortable-int-to-float-requires c κs = subst (λ (z : ℤ). T (not (nan_bits binary32 (sortableBits z)))) (sym (high c)) c.requires
+sortable-int-to-float-requires c κs = subst (λ (z : ℤ). T (not (nan_bits binary32 (sortable_bits z)))) (sym (high c)) c.requires
 
 returns : tie.Need-returns
-unfolding toScore
-returns c = c.sortable_int_to_float.ensures ∙ ap (λ (z : ℤ). of_bits binary32 (sortableBits z)) (high c.before)
+unfolding to_score
+returns c = c.sortable_int_to_float.ensures ∙ ap (λ (z : ℤ). of_bits binary32 (sortable_bits z)) (high c.before)
 
 pub to_score_spec : {M : Type 1} → statement M
 to_score_spec =

@@ -8,8 +8,8 @@ use borrow.Author.Rules.{rules}
 use mir.Syntax.{w64}
 use mir.Val.{of_z, to_z}
 use mir.ValLaws.{to_z-of_z}
-use Rattle.meaning.specs.Hits.{toDoc}
-use Rattle.hits_text.specs.Text.{decimal, hex8, scoreBits, hitLine}
+use Rattle.meaning.specs.Hits.{to_doc}
+use Rattle.hits_text.specs.Text.{decimal, hex8, score_bits, hit_line}
 use Rattle.hits_text.proofs.Putting.{put_same, put-more}
 use Rattle.hits_text.proofs.Numbers.{length-hex}
 use Rattle.hits_text.proofs.Lines.{document-short, line-short, line-is}
@@ -20,8 +20,8 @@ use Rattle.hits_text.proofs.hit.put_hit.Tie as tie
 same : (s : tie.Start) → to_z w64 (of_z w64 s.args.code) ≡ s.args.code
 same s = to_z-of_z w64 s.args.code s.ranges.code
 
-document-is : (c : tie.After-document) → c.document.result ≡ toDoc c.args.code
-document-is c = c.document.ensures ∙ ap toDoc (same c.before.before)
+document-is : (c : tie.After-document) → c.document.result ≡ to_doc c.args.code
+document-is c = c.document.ensures ∙ ap to_doc (same c.before.before)
 
 -- a document has at most 20 digits
 few : (c : tie.After-document) → length (decimal c.document.result) ≤ 20
@@ -89,8 +89,8 @@ returns c =
     let hex = put-more b.put_byte-bits.new.out b.put_byte-bits.result (hex8 h.score_bits.result) (10 ∷ []) h.put_hex-end.result e.put_byte.result h.put_hex-end.new.out e.put_byte.new.out h.put_hex-end.ensures e.put_byte.ensures in
     let blank = put-more d.put_decimal-blank.new.out d.put_decimal-blank.result (32 ∷ []) text b.put_byte-bits.result e.put_byte.result b.put_byte-bits.new.out e.put_byte.new.out b.put_byte-bits.ensures hex in
     let all = put-more out s.args.at (decimal d.document.result) (32 ∷ text) d.put_decimal-blank.result e.put_byte.result d.put_decimal-blank.new.out e.put_byte.new.out d.put_decimal-blank.ensures blank in
-    let line = put_same out s.args.at (decimal d.document.result ++ (32 ∷ text)) (hitLine s.args.code) e.put_byte.result e.put_byte.new.out
-    (line-is s.args.code d.document.result h.score_bits.result (document-is d.before.before) (h.score_bits.ensures ∙ ap scoreBits (same s)))
+    let line = put_same out s.args.at (decimal d.document.result ++ (32 ∷ text)) (hit_line s.args.code) e.put_byte.result e.put_byte.new.out
+    (line-is s.args.code d.document.result h.score_bits.result (document-is d.before.before) (h.score_bits.ensures ∙ ap score_bits (same s)))
     all in
     (line, omega (arith, line.after, line-short s.args.code))
 

@@ -9,7 +9,7 @@ use mir.Val.{of_z, to_z}
 use mir.ValLaws.{to_z-of_z}
 use lib.Seq.{take_all}
 use borrow.Author.Rules.{rules}
-use Rattle.hits_text.specs.Text.{hitLines}
+use Rattle.hits_text.specs.Text.{hit_lines}
 use Rattle.hits_text.specs.Puts.{Put}
 use Rattle.hits_text.proofs.Putting.{put-none, put_same}
 use Rattle.hits_text.proofs.Lines.{lines_next}
@@ -18,13 +18,13 @@ use Rattle.hits_text.proofs.hit.put_hits.Tie as tie
 
 abbrev invariant-loop : tie.invariant-loop-i
 invariant-loop codes out₀ at next₀ i₀ out next i =
-    Put out₀ at (hitLines (take i codes)) next out × (length out ≡ length out₀) × (i ≤ length codes) × (next ≤ at + 30 * i)
+    Put out₀ at (hit_lines (take i codes)) next out × (length out ≡ length out₀) × (i ≤ length codes) × (next ≤ at + 30 * i)
 
 abbrev decreases-loop : tie.decreases-loop-i
 decreases-loop codes out₀ at next₀ i₀ out next i = length codes - i
 
 loop-holds : tie.Need-loop-i-init invariant-loop decreases-loop
-unfolding hitLines
+unfolding hit_lines
 loop-holds c = (put-none c.args.out.now c.args.at, refl, omega arith, omega arith)
 
 mul-put-hit : tie.Need-offset_bounds-codes-i invariant-loop decreases-loop
@@ -64,8 +64,8 @@ returns : tie.Need-returns invariant-loop decreases-loop
 returns c =
     let l = c in
     let s = l in
-    put_same s.args.out.now s.args.at (hitLines (take l.loop-i.i s.args.codes.now)) (hitLines s.args.codes.now) l.loop-i.next l.loop-i.out
-    (ap hitLines (take_all l.loop-i.i s.args.codes.now c.loop-i-test.false))
+    put_same s.args.out.now s.args.at (hit_lines (take l.loop-i.i s.args.codes.now)) (hit_lines s.args.codes.now) l.loop-i.next l.loop-i.out
+    (ap hit_lines (take_all l.loop-i.i s.args.codes.now c.loop-i-test.false))
     l.loop-i.invariant.0
 
 pub put_hits_spec : {M : Type 1} → statement M

@@ -1,6 +1,6 @@
 -- The word, the number and the line's end, one after the other.
 use Rattle.std.proofs.Common.{[], ◌∷◌, ◌++◌, arith}
-use Rattle.hits_text.specs.Text.{decimal, refusedWord, refusedText}
+use Rattle.hits_text.specs.Text.{decimal, refused_word, refused_text}
 use Rattle.hits_text.proofs.Putting.{put-more}
 use Rattle.hits_text.proofs.Numbers.{decimal-short}
 use Rattle.hits_text.proofs.hit.put_refused.Goals as goal
@@ -16,8 +16,8 @@ put_byte-requires c =
     omega (arith, few, c.requires, c.put_text-at.ensures.after, c.put_text-at.auto.out, c.put_decimal-end.ensures.after, c.put_decimal-end.auto.out)
 
 pub returns : goal.returns
-unfolding refusedText
+unfolding refused_text
 returns c =
     let number = decimal c.args.number in
     let rest = put-more c.put_text-at.new.out c.put_text-at.result number (10 ∷ []) c.put_decimal-end.result c.put_byte.result c.put_decimal-end.new.out c.put_byte.new.out c.put_decimal-end.ensures c.put_byte.ensures in
-    put-more c.args.out.now 0 refusedWord (number ++ (10 ∷ [])) c.put_text-at.result c.put_byte.result c.put_text-at.new.out c.put_byte.new.out c.put_text-at.ensures rest
+    put-more c.args.out.now 0 refused_word (number ++ (10 ∷ [])) c.put_text-at.result c.put_byte.result c.put_text-at.new.out c.put_byte.new.out c.put_text-at.ensures rest

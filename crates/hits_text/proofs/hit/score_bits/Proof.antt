@@ -6,7 +6,7 @@ use mir.Syntax.{w32, w64}
 use mir.Val.{SFits, of_z, to_z}
 use mir.ValLaws.{to_z-of_z}
 use borrow.Author.Rules.{rules}
-use Rattle.meaning.specs.Ieee754.{sortableBits}
+use Rattle.meaning.specs.Ieee754.{sortable_bits}
 use Rattle.collector.proofs.Halves.{high_is, high_fits}
 use Rattle.hits_text.proofs.hit.score_bits.Statement.{statement}
 use Rattle.hits_text.proofs.hit.score_bits.Tie as tie
@@ -21,7 +21,7 @@ sortable-bits-requires : tie.Need-sortable_bits-requires
 sortable-bits-requires c κs = search rules
 
 returns : tie.Need-returns
-returns c = c.sortable_bits.ensures ∙ ap sortableBits (high c.before)
+returns c = c.sortable_bits.ensures ∙ ap sortable_bits (high c.before)
 
 pub score_bits_spec : {M : Type 1} → statement M
 score_bits_spec = tie.close (tie.spec cast-sortable-bits sortable-bits-requires returns)

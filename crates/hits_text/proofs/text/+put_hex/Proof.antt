@@ -6,7 +6,7 @@ use native.Mathlib.Omega.{arith}
 use borrow.Author.Rules.{rules}
 use borrow.Fn.Kinds.{In}
 use borrow.Fn.PlainCycle.{Measures, is, falls, and}
-use Rattle.hits_text.specs.Text.{hexDigits}
+use Rattle.hits_text.specs.Text.{hex_digits}
 use Rattle.hits_text.proofs.Putting.{put-none, put_same, put-more}
 use Rattle.hits_text.proofs.Numbers.{hex-none, hex-more, length-hex}
 use Rattle.hits_text.proofs.text.put_hex.Reads as put-hex
@@ -33,7 +33,7 @@ calls t =
 returns : (t : ℕ) → put-hex-lts.Need-returns-then-digits-eq0 (calls t) (put-hex-at t) put-hex.Post
 returns t c =
     let s = c in
-    put_same s.args.out.now s.args.at [] (hexDigits s.args.digits s.args.n) s.args.at s.args.out.now (sym (hex-none s.args.digits s.args.n c.if-digits-eq0.true)) (put-none s.args.out.now s.args.at)
+    put_same s.args.out.now s.args.at [] (hex_digits s.args.digits s.args.n) s.args.at s.args.out.now (sym (hex-none s.args.digits s.args.n c.if-digits-eq0.true)) (put-none s.args.out.now s.args.at)
 
 sub-put-hex : (t : ℕ) → put-hex-lts.Need-overflow_sub-digits (calls t) (put-hex-at t) put-hex.Post
 sub-put-hex t c = search rules
@@ -67,9 +67,9 @@ returns-2 t c =
     let s = i in
     let n = s.args.n in
     let k = s.args.digits in
-    put_same s.args.out.now s.args.at (hexDigits (k - 1) (n / 16) ++ (d.digit.result ∷ [])) (hexDigits k n) b.put_byte.result b.put_byte.new.out
-    (ap (λ (x : ℕ). hexDigits (k - 1) (n / 16) ++ (x ∷ [])) d.digit.ensures ∙ sym (hex-more k n i.if-digits-eq0.false))
-    (put-more s.args.out.now s.args.at (hexDigits (k - 1) (n / 16)) (d.digit.result ∷ []) p.put_hex-last.result b.put_byte.result p.put_hex-last.new.out b.put_byte.new.out
+    put_same s.args.out.now s.args.at (hex_digits (k - 1) (n / 16) ++ (d.digit.result ∷ [])) (hex_digits k n) b.put_byte.result b.put_byte.new.out
+    (ap (λ (x : ℕ). hex_digits (k - 1) (n / 16) ++ (x ∷ [])) d.digit.ensures ∙ sym (hex-more k n i.if-digits-eq0.false))
+    (put-more s.args.out.now s.args.at (hex_digits (k - 1) (n / 16)) (d.digit.result ∷ []) p.put_hex-last.result b.put_byte.result p.put_hex-last.new.out b.put_byte.new.out
     p.put_hex-last.ensures
     b.put_byte.ensures)
 

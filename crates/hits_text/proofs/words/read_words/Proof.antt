@@ -5,21 +5,21 @@ use native.Mathlib.Omega.{arith}
 use lib.ListN.{length, take, length-set}
 use lib.Seq.{length-take-le}
 use borrow.Author.Rules.{rules}
-use Rattle.meaning.specs.Below.{listTo}
-use Rattle.meaning.proofs.Below.{listTo-zero}
+use Rattle.meaning.specs.Below.{list_to}
+use Rattle.meaning.proofs.Below.{list_to-zero}
 use Rattle.hits_text.specs.Text.{word_at, words_of}
 use Rattle.hits_text.proofs.Filling.{taken_more}
 use Rattle.hits_text.proofs.words.read_words.Statement.{statement}
 use Rattle.hits_text.proofs.words.read_words.Tie as tie
 
 abbrev invariant-loop : tie.invariant-loop-i
-invariant-loop bytes words₀ n i₀ words i = (take i words ≡ listTo i (word_at bytes)) × (length words ≡ length words₀) × (i ≤ n)
+invariant-loop bytes words₀ n i₀ words i = (take i words ≡ list_to i (word_at bytes)) × (length words ≡ length words₀) × (i ≤ n)
 
 abbrev decreases-loop : tie.decreases-loop-i
 decreases-loop bytes words₀ n i₀ words i = n - i
 
 loop-holds : tie.Need-loop-i-init invariant-loop decreases-loop
-loop-holds c = (sym (listTo-zero (word_at c.args.bytes.now)), refl, omega arith)
+loop-holds c = (sym (list_to-zero (word_at c.args.bytes.now)), refl, omega arith)
 
 word-at-requires : tie.Need-word_at-requires invariant-loop decreases-loop
 word-at-requires c κs = search rules
@@ -55,7 +55,7 @@ returns c =
     let s = l in
     let all : l.loop-i.i ≡ length s.args.bytes.now / 4 = omega (arith, c.loop-i-test.false, l.loop-i.invariant.2) in
     let fits : length s.args.bytes.now / 4 ≤ length l.loop-i.words = omega (arith, s.requires, l.loop-i.invariant.1) in
-    ((fits, sym (length-take-le (length s.args.bytes.now / 4) l.loop-i.words fits)), ap (λ (n : ℕ). take n l.loop-i.words) (sym all) ∙ l.loop-i.invariant.0 ∙ ap (λ (n : ℕ). listTo n (word_at s.args.bytes.now)) all)
+    ((fits, sym (length-take-le (length s.args.bytes.now / 4) l.loop-i.words fits)), ap (λ (n : ℕ). take n l.loop-i.words) (sym all) ∙ l.loop-i.invariant.0 ∙ ap (λ (n : ℕ). list_to n (word_at s.args.bytes.now)) all)
 
 pub read_words_spec : {M : Type 1} → statement M
 read_words_spec =

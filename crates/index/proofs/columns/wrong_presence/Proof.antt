@@ -1,7 +1,7 @@
 -- `index::columns::wrong_presence` meets its contract. Assumes nothing.
 use lib.Dec.{ltb}
 use lib.ListN.{get_or}
-use Rattle.meaning.specs.Below.{anyBelow}
+use Rattle.meaning.specs.Below.{any_below}
 use native.Mathlib.Omega.{arith}
 use Prim.Native.Nat.{◌-◌, ◌*◌, ◌≤◌}
 use mathlib.Core.Path.{◌≡◌, refl, sym}
@@ -11,7 +11,7 @@ use Rattle.index.proofs.columns.wrong_presence.Statement.{statement}
 use Rattle.index.proofs.columns.wrong_presence.Tie as tie
 
 abbrev invariant-loop : tie.invariant-loop-k
-invariant-loop values count bad₀ k₀ bad k = (bad ≡ anyBelow k (λ j. ltb 1 (get_or values (3 * j) 0))) × (k ≤ count)
+invariant-loop values count bad₀ k₀ bad k = (bad ≡ any_below k (λ j. ltb 1 (get_or values (3 * j) 0))) × (k ≤ count)
 
 abbrev decreases-loop : tie.decreases-loop-k
 decreases-loop values count bad₀ k₀ bad k = count - k

@@ -1,7 +1,7 @@
 -- `index::columns::wrong_types` meets its contract. Assumes nothing.
 use lib.Dec.{ltb}
 use lib.ListN.{length, get_or}
-use Rattle.meaning.specs.Below.{anyBelow}
+use Rattle.meaning.specs.Below.{any_below}
 use native.Mathlib.Omega.{arith}
 use Prim.Native.Nat.{◌-◌, ◌≤◌}
 use mathlib.Core.Path.{◌≡◌, refl, sym}
@@ -11,7 +11,7 @@ use Rattle.index.proofs.columns.wrong_types.Statement.{statement}
 use Rattle.index.proofs.columns.wrong_types.Tie as tie
 
 abbrev invariant-loop : tie.invariant-loop-c
-invariant-loop columns bad₀ c₀ bad c = (bad ≡ anyBelow c (λ j. ltb 1 (get_or columns j 0))) × (c ≤ length columns)
+invariant-loop columns bad₀ c₀ bad c = (bad ≡ any_below c (λ j. ltb 1 (get_or columns j 0))) × (c ≤ length columns)
 
 abbrev decreases-loop : tie.decreases-loop-c
 decreases-loop columns bad₀ c₀ bad c = length columns - c

@@ -1,8 +1,8 @@
 -- `index::fields::wrong_fields` meets its contract. Assumes nothing.
-use Rattle.meaning.specs.IndexRefusals.{wrongField}
-use Rattle.index.specs.Slices.{fieldsOnly}
+use Rattle.meaning.specs.IndexRefusals.{wrong_field}
+use Rattle.index.specs.Slices.{fields_only}
 use Rattle.index.proofs.Whole.{fields-not-whole, fields-too-many, fields-some}
-use Rattle.meaning.specs.Below.{anyBelow}
+use Rattle.meaning.specs.Below.{any_below}
 use native.Mathlib.Omega.{arith}
 use Prim.Native.Nat.{◌-◌, ◌≤◌}
 use mathlib.Core.Path.{◌≡◌, sym, ◌∙◌}
@@ -12,7 +12,7 @@ use Rattle.index.proofs.fields.wrong_fields.Statement.{statement}
 use Rattle.index.proofs.fields.wrong_fields.Tie as tie
 
 abbrev invariant-loop : tie.invariant-loop-f
-invariant-loop fields count bad₀ f₀ bad f = (bad ≡ anyBelow f (wrongField (fieldsOnly fields))) × (f ≤ count)
+invariant-loop fields count bad₀ f₀ bad f = (bad ≡ any_below f (wrong_field (fields_only fields))) × (f ≤ count)
 
 abbrev decreases-loop : tie.decreases-loop-f
 decreases-loop fields count bad₀ f₀ bad f = count - f

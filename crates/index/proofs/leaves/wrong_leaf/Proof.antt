@@ -1,5 +1,5 @@
 -- `index::leaves::wrong_leaf` meets its contract. Assumes nothing.
-use Rattle.meaning.specs.IndexRefusals.{wrongLeaf}
+use Rattle.meaning.specs.IndexRefusals.{wrong_leaf}
 use borrow.Author.Rules.{rules}
 use Rattle.index.proofs.leaves.wrong_leaf.Statement.{statement}
 use Rattle.index.proofs.leaves.wrong_leaf.Tie as tie
@@ -14,7 +14,7 @@ wide-requires : tie.Need-wide-requires
 wide-requires c κs = search rules
 
 returns : tie.Need-returns
-unfolding wrongLeaf
+unfolding wrong_leaf
 returns c = rw (c.wide.ensures, c.sum-end.ensures, c.leaf_at-leaf.ensures)
 
 pub wrong_leaf_spec : {M : Type 1} → statement M

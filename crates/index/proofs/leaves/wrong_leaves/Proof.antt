@@ -1,8 +1,8 @@
 -- `index::leaves::wrong_leaves` meets its contract. Assumes nothing.
-use Rattle.meaning.specs.IndexRefusals.{wrongLeaf}
-use Rattle.index.specs.Slices.{leavesOnly}
+use Rattle.meaning.specs.IndexRefusals.{wrong_leaf}
+use Rattle.index.specs.Slices.{leaves_only}
 use Rattle.index.proofs.Whole.{leaves-not-whole, leaves-too-many, leaves-some}
-use Rattle.meaning.specs.Below.{anyBelow}
+use Rattle.meaning.specs.Below.{any_below}
 use native.Mathlib.Omega.{arith}
 use Prim.Native.Nat.{◌-◌, ◌≤◌}
 use mathlib.Core.Path.{◌≡◌, sym, ◌∙◌}
@@ -12,7 +12,7 @@ use Rattle.index.proofs.leaves.wrong_leaves.Statement.{statement}
 use Rattle.index.proofs.leaves.wrong_leaves.Tie as tie
 
 abbrev invariant-loop : tie.invariant-loop-l
-invariant-loop fields leaves postings count bad₀ l₀ bad l = (bad ≡ anyBelow l (wrongLeaf (leavesOnly fields leaves postings))) × (l ≤ count)
+invariant-loop fields leaves postings count bad₀ l₀ bad l = (bad ≡ any_below l (wrong_leaf (leaves_only fields leaves postings))) × (l ≤ count)
 
 abbrev decreases-loop : tie.decreases-loop-l
 decreases-loop fields leaves postings count bad₀ l₀ bad l = count - l

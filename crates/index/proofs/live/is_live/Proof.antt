@@ -2,13 +2,13 @@
 use mathlib.Core.Path.{refl}
 use native.Mathlib.Omega.{arith}
 use borrow.Author.Tests.{eq-eqb, ne_eqb}
-use Rattle.meaning.specs.Live.{isLive}
+use Rattle.meaning.specs.Live.{is_live}
 use borrow.Author.Rules.{rules}
 use Rattle.index.proofs.live.is_live.Statement.{statement}
 use Rattle.index.proofs.live.is_live.Tie as tie
 
 returns : tie.Need-returns-then-live-eq0
-unfolding isLive
+unfolding is_live
 returns c = rw (eq-eqb _ _ c.if-live-eq0.true)
 
 wide-requires : tie.Need-wide-requires
@@ -27,7 +27,7 @@ shr-result : tie.Need-overflow_shr-result
 shr-result c = search rules
 
 returns-2 : tie.Need-returns
-unfolding isLive
+unfolding is_live
 returns-2 c = rw (ne_eqb _ _ c.if-live-eq0.false, c.wide.ensures) refl
 
 pub is_live_spec : {M : Type 1} → statement M

@@ -1,9 +1,9 @@
 -- `index::norms::norms_before` meets its contract. Assumes nothing.
 use mathlib.Core.Logic.{⊎_elim}
-use Rattle.meaning.specs.Lent.{hasNorms}
-use Rattle.meaning.specs.Below.{countBelow}
+use Rattle.meaning.specs.Lent.{has_norms}
+use Rattle.meaning.specs.Below.{count_below}
 use borrow.Author.Tests.{eq-eqb, ne_eqb}
-use Rattle.index.specs.Slices.{fieldsOnly}
+use Rattle.index.specs.Slices.{fields_only}
 use native.Mathlib.Omega.{arith}
 use Prim.Native.Nat.{◌-◌, ◌≤◌}
 use mathlib.Core.Path.{◌≡◌, sym, ◌∙◌}
@@ -13,7 +13,7 @@ use Rattle.index.proofs.norms.norms_before.Statement.{statement}
 use Rattle.index.proofs.norms.norms_before.Tie as tie
 
 abbrev invariant-loop : tie.invariant-loop-i
-invariant-loop fields f count₀ i₀ count i = (count ≡ countBelow i (hasNorms (fieldsOnly fields))) × (i ≤ f)
+invariant-loop fields f count₀ i₀ count i = (count ≡ count_below i (has_norms (fields_only fields))) × (i ≤ f)
 
 abbrev decreases-loop : tie.decreases-loop-i
 decreases-loop fields f count₀ i₀ count i = f - i
@@ -34,7 +34,7 @@ shared-slice-read-if1 : tie.Need-bounds-fields-i invariant-loop decreases-loop
 shared-slice-read-if1 c = search rules
 
 add-count : tie.Need-overflow_add-count invariant-loop decreases-loop
-add-count c = let a = c in omega (arith, a.loop-i.invariant.0, count-le a.loop-i.i (hasNorms (fieldsOnly a.args.fields.now)))
+add-count c = let a = c in omega (arith, a.loop-i.invariant.0, count-le a.loop-i.i (has_norms (fields_only a.args.fields.now)))
 
 add-i : tie.Need-overflow_add-i-in-loop-i invariant-loop decreases-loop
 add-i c = search rules

@@ -1,6 +1,6 @@
 -- `index::norms::norms_offset` meets its contract. Assumes nothing.
-use Rattle.meaning.specs.Lent.{hasNorms}
-use Rattle.index.specs.Slices.{fieldsOnly}
+use Rattle.meaning.specs.Lent.{has_norms}
+use Rattle.index.specs.Slices.{fields_only}
 use Rattle.index.proofs.Values.{product_le}
 use native.Mathlib.Omega.{arith}
 use Prim.Native.Nat.{◌≤◌}
@@ -16,7 +16,7 @@ wide-requires : tie.Need-wide-requires
 wide-requires c κs = search rules
 
 mul-result : tie.Need-overflow_mul-result
-mul-result c = let a = c in let h : c.norms_before.result ≤ 16 = omega (arith, c.norms_before.ensures, count-le a.args.field (hasNorms (fieldsOnly a.args.fields.now))) in let g : c.wide.result ≤ 4294967295 = omega (arith, c.wide.ensures) in omega (arith, product_le _ _ _ _ h g)
+mul-result c = let a = c in let h : c.norms_before.result ≤ 16 = omega (arith, c.norms_before.ensures, count-le a.args.field (has_norms (fields_only a.args.fields.now))) in let g : c.wide.result ≤ 4294967295 = omega (arith, c.wide.ensures) in omega (arith, product_le _ _ _ _ h g)
 
 returns : tie.Need-returns
 returns c = rw (c.norms_before.ensures, c.wide.ensures)

@@ -3,16 +3,16 @@ use borrow.Author.Rules.{rules}
 use native.Mathlib.Omega.{arith}
 use mathlib.Core.Path.{◌≡◌, ◌∙◌}
 use Prim.Native.Nat.{◌-◌, ◌≤◌}
-use Rattle.meaning.specs.Below.{listTo}
-use Rattle.meaning.specs.Ieee754.{zeroFloat, sumFrom}
+use Rattle.meaning.specs.Below.{list_to}
+use Rattle.meaning.specs.Ieee754.{zero_float, sum_from}
 use Rattle.meaning.specs.Lent.{Index}
-use Rattle.meaning.specs.Query.{recordChildren}
-use Rattle.node_words.proofs.Idf.{idfAt, idf-none, idf-more, idf-all, idf-not-nan}
+use Rattle.meaning.specs.Query.{record_children}
+use Rattle.node_words.proofs.Idf.{idf_at, idf-none, idf-more, idf-all, idf-not-nan}
 use Rattle.node_words.proofs.place.phrase_idf.Statement.{statement}
 use Rattle.node_words.proofs.place.phrase_idf.Tie as tie
 
 abbrev invariant-loop : tie.invariant-loop-j
-invariant-loop q leaves at terms sum₀ j₀ sum j = ((ix : Index) → ix.leaves ≡ leaves → sum ≡ sumFrom zeroFloat (listTo j (idfAt ix q at))) × (j ≤ terms) × (terms ≡ recordChildren q at)
+invariant-loop q leaves at terms sum₀ j₀ sum j = ((ix : Index) → ix.leaves ≡ leaves → sum ≡ sum_from zero_float (list_to j (idf_at ix q at))) × (j ≤ terms) × (terms ≡ record_children q at)
 
 abbrev decreases-loop : tie.decreases-loop-j
 decreases-loop q leaves at terms sum₀ j₀ sum j = terms - j

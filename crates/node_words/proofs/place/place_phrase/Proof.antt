@@ -1,10 +1,10 @@
 -- `place::place_phrase` meets its contract. Assumes nothing.
-use Rattle.meaning.specs.Limits.{nodeStateWords}
-use Rattle.node_words.proofs.PhraseParts.{phraseState, placed-phrase}
+use Rattle.meaning.specs.Limits.{node_state_words}
+use Rattle.node_words.proofs.PhraseParts.{phrase_state, placed-phrase}
 use Rattle.node_words.proofs.Placing.{put_same, score-is}
 use Rattle.ieee754.proofs.Bounds.{atmost-number}
 use Rattle.weight.specs.State.{words_of}
-use Rattle.meaning.specs.Lent.{fieldCount}
+use Rattle.meaning.specs.Lent.{field_count}
 use borrow.Rule.Slice.PartMut.{same_len_mid, post_of, put_mid}
 use lib.Ieee.{binary32, to_bits}
 use lib.ListN.{length, drop, length-take, length-drop}
@@ -29,7 +29,7 @@ add-size : tie.Need-overflow_add-size
 add-size c = search rules
 
 norms-word-requires : tie.Need-norms_word-norms-requires
-norms-word-requires c κs = let s = c in let a = s.requires.1 in (a.0, a.1.field-lent, subst (λ (z : ℕ). z < fieldCount a.0) (sym c.value-field.ensures) a.3)
+norms-word-requires c κs = let s = c in let a = s.requires.1 in (a.0, a.1.field-lent, subst (λ (z : ℕ). z < field_count a.0) (sym c.value-field.ensures) a.3)
 
 float-to-bits-bits : tie.Need-float_to_bits-bits
 float-to-bits-bits c = atmost-number c.requires.0.3
@@ -63,19 +63,19 @@ returns c = let s = c in
     let st₀ = s.args.st.now in
     let pt = c.place_terms in
     let out = pt.new.st in
-    let post = post_of nodeStateWords (length st₀ - nodeStateWords) st₀ in
-    let st₁ = put_mid nodeStateWords (length st₀ - nodeStateWords) st₀ out in
+    let post = post_of node_state_words (length st₀ - node_state_words) st₀ in
+    let st₁ = put_mid node_state_words (length st₀ - node_state_words) st₀ out in
     let st = c.put.new.st in
     let e = c.put.ensures in
-    let size = nodeStateWords + nodeStateWords * c.children.result in
+    let size = node_state_words + node_state_words * c.children.result in
     let many = c.children.ensures in
     let room = s.requires.0.0 in
-    let a = length-take (length st₀ - nodeStateWords) (drop nodeStateWords st₀) in
-    let b = length-drop nodeStateWords st₀ in
+    let a = length-take (length st₀ - node_state_words) (drop node_state_words st₀) in
+    let b = length-drop node_state_words st₀ in
     let lo = pt.ensures.1 in
-    let mid = same_len_mid nodeStateWords (length st₀ - nodeStateWords) st₀ out lo in
-    let whole = put_same (words_of (phraseState size c.value-field.result c.word-constant.result (to_bits binary32 s.args.score) s.args.scores c.norms_word-norms.result)) st₁ st e refl (omega (arith, mid, room)) in
-    (λ ix ranges d l. rw c.wide.ensures (placed-phrase ix ranges s.args.q.now st₀ out post st s.args.at d s.args.scores size s.args.score (to_bits binary32 s.args.score) (score-is s.args.score (subst T (sym s.well_formed.1.1.1.1.1.1.1.0.1) tt) s.requires.0.3) s.args.fixed c.word-constant.result c.value-field.result c.norms_word-norms.result (omega (arith, room)) e (omega (arith, room, whole, mid)) (ap (λ (z : ℕ). nodeStateWords + nodeStateWords * z) many) c.word-constant.ensures c.value-field.ensures (c.norms_word-norms.ensures ix l.field-lent) (omega (arith, lo, a, b, room)) (pt.ensures.0 ix l)), whole ∙ mid)
+    let mid = same_len_mid node_state_words (length st₀ - node_state_words) st₀ out lo in
+    let whole = put_same (words_of (phrase_state size c.value-field.result c.word-constant.result (to_bits binary32 s.args.score) s.args.scores c.norms_word-norms.result)) st₁ st e refl (omega (arith, mid, room)) in
+    (λ ix ranges d l. rw c.wide.ensures (placed-phrase ix ranges s.args.q.now st₀ out post st s.args.at d s.args.scores size s.args.score (to_bits binary32 s.args.score) (score-is s.args.score (subst T (sym s.well_formed.1.1.1.1.1.1.1.0.1) tt) s.requires.0.3) s.args.fixed c.word-constant.result c.value-field.result c.norms_word-norms.result (omega (arith, room)) e (omega (arith, room, whole, mid)) (ap (λ (z : ℕ). node_state_words + node_state_words * z) many) c.word-constant.ensures c.value-field.ensures (c.norms_word-norms.ensures ix l.field-lent) (omega (arith, lo, a, b, room)) (pt.ensures.0 ix l)), whole ∙ mid)
 
 pub place_phrase_spec : {M : Type 1} → statement M
 place_phrase_spec =

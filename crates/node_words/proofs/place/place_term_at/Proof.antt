@@ -3,7 +3,7 @@ use Rattle.node_words.proofs.Weighing.{term-nothing, term-there, term-small}
 use Rattle.node_words.proofs.Idf.{idf-small}
 use Rattle.query.proofs.Accepted.{term-leaf}
 use Rattle.ieee754.specs.Nonneg.{AtMost}
-use Rattle.meaning.specs.Lent.{leafCount}
+use Rattle.meaning.specs.Lent.{leaf_count}
 use lib.Ieee.{Float}
 use Prim.Native.Nat.{ℕ, ◌^◌, ◌<◌}
 use mathlib.Core.Path.{sym, subst}
@@ -24,13 +24,13 @@ value-requires : tie.Need-value-leaf-requires
 value-requires c κs = search rules
 
 idf-of-requires : tie.Need-idf_of-idf-requires
-idf-of-requires c κs = let s = c in let a = s.requires.1 in (a.0, a.1.accepted, a.2.leaves-are, (subst (λ (z : ℕ). z < leafCount a.0) (sym c.value-leaf.ensures) (term-leaf a.0 s.args.q.now a.1.values-right s.args.at s.requires.0.1 s.requires.0.2)))
+idf-of-requires c κs = let s = c in let a = s.requires.1 in (a.0, a.1.accepted, a.2.leaves-are, (subst (λ (z : ℕ). z < leaf_count a.0) (sym c.value-leaf.ensures) (term-leaf a.0 s.args.q.now a.1.values-right s.args.at s.requires.0.1 s.requires.0.2)))
 
 scored-by-requires : tie.Need-scored_by-score-requires
 scored-by-requires c κs = search rules
 
 place-term-requires : tie.Need-place_term-requires
-place-term-requires c κs = let s = c in let a = s.requires.1 in ((s.requires.0.0, subst (λ (z : Float). AtMost (2 ^ 29) z) (sym c.scored_by-score.ensures) (term-small s.args.fixed s.args.kept s.args.boost c.idf_of-idf.result s.requires.0.3 s.requires.0.4 (idf-small a.0 c.value-leaf.result c.idf_of-idf.result a.1.accepted (subst (λ (z : ℕ). z < leafCount a.0) (sym c.value-leaf.ensures) (term-leaf a.0 s.args.q.now a.1.values-right s.args.at s.requires.0.1 s.requires.0.2)) (c.idf_of-idf.ensures a.0 a.2.leaves-are)))), (a.0, a.2, (subst (λ (z : ℕ). z < leafCount a.0) (sym c.value-leaf.ensures) (term-leaf a.0 s.args.q.now a.1.values-right s.args.at s.requires.0.1 s.requires.0.2))))
+place-term-requires c κs = let s = c in let a = s.requires.1 in ((s.requires.0.0, subst (λ (z : Float). AtMost (2 ^ 29) z) (sym c.scored_by-score.ensures) (term-small s.args.fixed s.args.kept s.args.boost c.idf_of-idf.result s.requires.0.3 s.requires.0.4 (idf-small a.0 c.value-leaf.result c.idf_of-idf.result a.1.accepted (subst (λ (z : ℕ). z < leaf_count a.0) (sym c.value-leaf.ensures) (term-leaf a.0 s.args.q.now a.1.values-right s.args.at s.requires.0.1 s.requires.0.2)) (c.idf_of-idf.ensures a.0 a.2.leaves-are)))), (a.0, a.2, (subst (λ (z : ℕ). z < leaf_count a.0) (sym c.value-leaf.ensures) (term-leaf a.0 s.args.q.now a.1.values-right s.args.at s.requires.0.1 s.requires.0.2))))
 
 same-length-2 : tie.Need-shape_of-st
 same-length-2 c = search rules

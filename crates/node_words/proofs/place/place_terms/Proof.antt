@@ -5,18 +5,18 @@ use mathlib.Core.Path.{◌≡◌, refl, ◌∙◌}
 use Prim.Native.Nat.{◌-◌, ◌*◌, ◌≤◌}
 use lib.ListN.{length, take, drop, length-take, length-drop}
 use borrow.Rule.Slice.PartMut.{same_len_mid, post_of}
-use Rattle.meaning.specs.Limits.{nodeStateWords}
-use Rattle.meaning.specs.Below.{listTo}
+use Rattle.meaning.specs.Limits.{node_state_words}
+use Rattle.meaning.specs.Below.{list_to}
 use Rattle.meaning.specs.Lent.{Index}
-use Rattle.meaning.specs.Query.{recordChildren}
+use Rattle.meaning.specs.Query.{record_children}
 use Rattle.weight.specs.Held.{TermsAre}
 use Rattle.node_words.specs.Placed.{LeafLent}
-use Rattle.node_words.proofs.PhraseParts.{termAt, terms-begin, terms-more, terms-all}
+use Rattle.node_words.proofs.PhraseParts.{term_at, terms-begin, terms-more, terms-all}
 use Rattle.node_words.proofs.place.place_terms.Statement.{statement}
 use Rattle.node_words.proofs.place.place_terms.Tie as tie
 
 abbrev invariant-loop : tie.invariant-loop-j
-invariant-loop st₀ q max-doc fields leaves at terms j₀ st j = ((ix : Index) → LeafLent ix max-doc fields leaves → TermsAre ix (listTo j (termAt ix q at)) (take (nodeStateWords * j) st) 0) × (j ≤ terms) × (terms ≡ recordChildren q at) × (length st ≡ length st₀)
+invariant-loop st₀ q max-doc fields leaves at terms j₀ st j = ((ix : Index) → LeafLent ix max-doc fields leaves → TermsAre ix (list_to j (term_at ix q at)) (take (node_state_words * j) st) 0) × (j ≤ terms) × (terms ≡ record_children q at) × (length st ≡ length st₀)
 
 abbrev decreases-loop : tie.decreases-loop-j
 decreases-loop st₀ q max-doc fields leaves at terms j₀ st j = terms - j
@@ -73,7 +73,7 @@ loop-less : tie.Need-loop-j-smaller invariant-loop decreases-loop
 loop-less c = omega (arith, c.loop-j-test.true)
 
 loop-again : tie.Need-loop-j-preserved invariant-loop decreases-loop
-loop-again c = let s = c in let l = c.loop-j in let t = c.loop-j-test.true in let room = s.requires.0.0 in let here = s.requires.0.1 in let few = s.requires.0.2 in let is = l.invariant.2 in let long = l.invariant.3 in let k = c.place_phrase_term in let out = k.new.st in let part = take (length l.st - nodeStateWords * l.j) (drop (nodeStateWords * l.j) l.st) in (λ ix e. terms-more ix s.args.q.now s.args.at l.st out part (post_of (nodeStateWords * l.j) (length l.st - nodeStateWords * l.j) l.st) l.j c.value-leaf.result c.value-offset.result (omega (arith, t, is, room, long)) c.value-leaf.ensures c.value-offset.ensures (k.ensures ix e) (l.invariant.0 ix e), omega (arith, t), is, same_len_mid (nodeStateWords * l.j) (length l.st - nodeStateWords * l.j) l.st out k.auto.st ∙ long)
+loop-again c = let s = c in let l = c.loop-j in let t = c.loop-j-test.true in let room = s.requires.0.0 in let here = s.requires.0.1 in let few = s.requires.0.2 in let is = l.invariant.2 in let long = l.invariant.3 in let k = c.place_phrase_term in let out = k.new.st in let part = take (length l.st - node_state_words * l.j) (drop (node_state_words * l.j) l.st) in (λ ix e. terms-more ix s.args.q.now s.args.at l.st out part (post_of (node_state_words * l.j) (length l.st - node_state_words * l.j) l.st) l.j c.value-leaf.result c.value-offset.result (omega (arith, t, is, room, long)) c.value-leaf.ensures c.value-offset.ensures (k.ensures ix e) (l.invariant.0 ix e), omega (arith, t), is, same_len_mid (node_state_words * l.j) (length l.st - node_state_words * l.j) l.st out k.auto.st ∙ long)
 
 same_length : tie.Need-shape_of-st invariant-loop decreases-loop
 same_length c = c.loop-j.invariant.3

@@ -1,5 +1,5 @@
 -- `place::put` meets its contract. Assumes nothing.
-use Rattle.meaning.specs.Limits.{nodeStateWords}
+use Rattle.meaning.specs.Limits.{node_state_words}
 use Rattle.node_words.proofs.Placing.{put-more, put-long, put_all}
 use lib.ListN.{length, take, drop}
 use Prim.Native.Nat.{◌-◌, ◌≤◌}
@@ -13,12 +13,12 @@ use Rattle.node_words.proofs.place.put.Reads as reads
 use Rattle.node_words.proofs.place.put.Lts as lts
 
 abbrev invariant-loop : tie.invariant-loop-i
-invariant-loop st₀ words i₀ st i = (st ≡ take i words ++ drop i st₀) × (i ≤ nodeStateWords)
+invariant-loop st₀ words i₀ st i = (st ≡ take i words ++ drop i st₀) × (i ≤ node_state_words)
 
 abbrev decreases-loop : tie.decreases-loop-i
-decreases-loop st₀ words i₀ st i = nodeStateWords - i
+decreases-loop st₀ words i₀ st i = node_state_words - i
 
-words_long : (s : lts.Start reads.Pre reads.Post invariant-loop decreases-loop) → length s.args.words ≡ nodeStateWords
+words_long : (s : lts.Start reads.Pre reads.Post invariant-loop decreases-loop) → length s.args.words ≡ node_state_words
 words_long s = s.well_formed.1.0.1.0.1
 
 loop-holds : tie.Need-loop-i-init invariant-loop decreases-loop

@@ -3,8 +3,8 @@ use borrow.Author.Rules.{rules}
 use mathlib.Core.Path.{◌≡◌, sym, ◌∙◌, ap}
 use native.Mathlib.Omega.{arith}
 use borrow.Author.Tests.{eq-eqb, ne_eqb, le-leb, lt-leb}
-use Rattle.meaning.specs.Query.{aBoolean, aBoost, recordChildren, recordOccurrence, occurOf, decode, decodeClauses}
-use Rattle.query.specs.Inner.{endOfClauses}
+use Rattle.meaning.specs.Query.{a_boolean, a_boost, record_children, record_occurrence, occur_of, decode, decode_clauses}
+use Rattle.query.specs.Inner.{end_of_clauses}
 use Rattle.query.proofs.Steps.{fit-no, fit-zero, fit-yes, end-root, end-missing, end-term, end-phrase, end-clauses, end-range, end-all, end-constant, end-boost, end_none, end-other, child-missing, child-placed, child-there}
 use Rattle.query.proofs.Clauses.{no-occur-high, occur-known, clause-unknown, clause-none, clause-missing, clause-more, end-zero, no-clauses}
 use Prim.Native.Nat.{ℕ, ◌<◌, ◌+◌, ◌*◌}
@@ -74,7 +74,7 @@ child-end-children-requires t c κs = search rules
 child-end-returns : (t : ℕ) → child-end-lts.Need-returns-then-children-ne1 (child-end-calls t) (child-end-at t) child-end.Post
 child-end-returns t c =
     let s = c in let q = s.args.q.now in let at = s.args.at in
-    fit-no aBoost q at _ (ne_eqb (recordChildren q at) 1 (λ e. c.if-children-ne1.true (c.children.ensures ∙ e)))
+    fit-no a_boost q at _ (ne_eqb (record_children q at) 1 (λ e. c.if-children-ne1.true (c.children.ensures ∙ e)))
 
 child-end-record-count-requires : (t : ℕ) → child-end-lts.Need-record_count-requires (child-end-calls t) (child-end-at t) child-end.Post
 child-end-record-count-requires t c κs = search rules
@@ -85,7 +85,7 @@ child-end-add-if2 t c = search rules
 child-end-returns-2 : (t : ℕ) → child-end-lts.Need-returns-then-record_count-at (child-end-calls t) (child-end-at t) child-end.Post
 child-end-returns-2 t c =
     let s = c in let q = s.args.q.now in let at = s.args.at in let depth = s.args.depth in
-    fit-zero aBoost q at _ (child-missing q depth at (omega arith))
+    fit-zero a_boost q at _ (child-missing q depth at (omega arith))
 
 child-end-add-occurrence : (t : ℕ) → child-end-lts.Need-overflow_add-at-2 (child-end-calls t) (child-end-at t) child-end.Post
 child-end-add-occurrence t c = search rules
@@ -96,7 +96,7 @@ child-end-occurrence-requires t c κs = search rules
 child-end-returns-3 : (t : ℕ) → child-end-lts.Need-returns-then-occurrence-ne0 (child-end-calls t) (child-end-at t) child-end.Post
 child-end-returns-3 t c =
     let s = c in let q = s.args.q.now in let at = s.args.at in let depth = s.args.depth in
-    fit-zero aBoost q at _ (child-placed q depth at (λ e. c.if-occurrence-ne0.true (c.occurrence.ensures ∙ e)))
+    fit-zero a_boost q at _ (child-placed q depth at (λ e. c.if-occurrence-ne0.true (c.occurrence.ensures ∙ e)))
 
 child-end-add-tree-end : (t : ℕ) → child-end-lts.Need-overflow_add-at-3 (child-end-calls t) (child-end-at t) child-end.Post
 child-end-add-tree-end t c = search rules
@@ -107,10 +107,10 @@ child-end-tree-end-requires t c κs = search rules
 child-end-returns-4 : (t : ℕ) → child-end-lts.Need-returns (child-end-calls t) (child-end-at t) child-end.Post
 child-end-returns-4 t c =
     let s = c in let q = s.args.q.now in let at = s.args.at in let depth = s.args.depth in
-    fit-yes aBoost q at _ _ (eq-eqb (recordChildren q at) 1 (sym c.children.ensures ∙ c.if-children-ne1.false)) (c.tree_end.ensures ∙ child-there q depth at (sym c.occurrence.ensures ∙ c.if-occurrence-ne0.false))
+    fit-yes a_boost q at _ _ (eq-eqb (record_children q at) 1 (sym c.children.ensures ∙ c.if-children-ne1.false)) (c.tree_end.ensures ∙ child-there q depth at (sym c.occurrence.ensures ∙ c.if-occurrence-ne0.false))
 
 abbrev clauses-end-Inv-loop : clauses-end-lts.invariant-loop-left
-clauses-end-Inv-loop q depth at left₀ next₀ left next = endOfClauses (decodeClauses q (decode q depth) left next) ≡ endOfClauses (decodeClauses q (decode q depth) (recordChildren q at) (at + 1))
+clauses-end-Inv-loop q depth at left₀ next₀ left next = end_of_clauses (decode_clauses q (decode q depth) left next) ≡ end_of_clauses (decode_clauses q (decode q depth) (record_children q at) (at + 1))
 
 abbrev clauses-end-μ-loop : clauses-end-lts.decreases-loop-left
 clauses-end-μ-loop q depth at left₀ next₀ left next = left
@@ -121,7 +121,7 @@ clauses-end-children-requires t c κs = search rules
 clauses-end-returns : (t : ℕ) → clauses-end-lts.Need-returns-then-left-gt64 (clauses-end-calls t) (clauses-end-at t) clauses-end.Post clauses-end-Inv-loop clauses-end-μ-loop
 clauses-end-returns t c =
     let s = c in let q = s.args.q.now in let at = s.args.at in
-    fit-no aBoolean q at _ (lt-leb (recordChildren q at) 64 (omega arith))
+    fit-no a_boolean q at _ (lt-leb (record_children q at) 64 (omega arith))
 
 clauses-end-add-next : (t : ℕ) → clauses-end-lts.Need-overflow_add-next (clauses-end-calls t) (clauses-end-at t) clauses-end.Post clauses-end-Inv-loop clauses-end-μ-loop
 clauses-end-add-next t c = search rules
@@ -135,7 +135,7 @@ clauses-end-record-count-requires t c κs = search rules
 clauses-end-returns-2 : (t : ℕ) → clauses-end-lts.Need-returns-then-record_count-next (clauses-end-calls t) (clauses-end-at t) clauses-end.Post clauses-end-Inv-loop clauses-end-μ-loop
 clauses-end-returns-2 t c =
     let s = c in let q = s.args.q.now in let at = s.args.at in let depth = s.args.depth in
-    fit-zero aBoolean q at _ (sym (ap endOfClauses (clause-missing q depth c.loop-left.left c.loop-left.next (omega arith) (omega arith))) ∙ c.loop-left.invariant)
+    fit-zero a_boolean q at _ (sym (ap end_of_clauses (clause-missing q depth c.loop-left.left c.loop-left.next (omega arith) (omega arith))) ∙ c.loop-left.invariant)
 
 clauses-end-occurrence-requires : (t : ℕ) → clauses-end-lts.Need-occurrence-o-requires (clauses-end-calls t) (clauses-end-at t) clauses-end.Post clauses-end-Inv-loop clauses-end-μ-loop
 clauses-end-occurrence-requires t c κs = search rules
@@ -143,12 +143,12 @@ clauses-end-occurrence-requires t c κs = search rules
 clauses-end-returns-3 : (t : ℕ) → clauses-end-lts.Need-returns-then-o-eq0 (clauses-end-calls t) (clauses-end-at t) clauses-end.Post clauses-end-Inv-loop clauses-end-μ-loop
 clauses-end-returns-3 t c =
     let s = c in let q = s.args.q.now in let at = s.args.at in let depth = s.args.depth in
-    fit-zero aBoolean q at _ (sym (ap endOfClauses (clause-unknown q depth c.loop-left.left c.loop-left.next (omega arith) (ap occurOf (sym c.occurrence-o.ensures ∙ c.if-o-eq0.true)))) ∙ c.loop-left.invariant)
+    fit-zero a_boolean q at _ (sym (ap end_of_clauses (clause-unknown q depth c.loop-left.left c.loop-left.next (omega arith) (ap occur_of (sym c.occurrence-o.ensures ∙ c.if-o-eq0.true)))) ∙ c.loop-left.invariant)
 
 clauses-end-returns-4 : (t : ℕ) → clauses-end-lts.Need-returns-then-o-gt4 (clauses-end-calls t) (clauses-end-at t) clauses-end.Post clauses-end-Inv-loop clauses-end-μ-loop
 clauses-end-returns-4 t c =
     let s = c in let q = s.args.q.now in let at = s.args.at in let depth = s.args.depth in
-    fit-zero aBoolean q at _ (sym (ap endOfClauses (clause-unknown q depth c.loop-left.left c.loop-left.next (omega arith) (no-occur-high (recordOccurrence q c.loop-left.next) (omega arith)))) ∙ c.loop-left.invariant)
+    fit-zero a_boolean q at _ (sym (ap end_of_clauses (clause-unknown q depth c.loop-left.left c.loop-left.next (omega arith) (no-occur-high (record_occurrence q c.loop-left.next) (omega arith)))) ∙ c.loop-left.invariant)
 
 clauses-end-tree-end-requires : (t : ℕ) → clauses-end-lts.Need-tree_end-next-requires (clauses-end-calls t) (clauses-end-at t) clauses-end.Post clauses-end-Inv-loop clauses-end-μ-loop
 clauses-end-tree-end-requires t c κs = search rules
@@ -156,7 +156,7 @@ clauses-end-tree-end-requires t c κs = search rules
 clauses-end-returns-5 : (t : ℕ) → clauses-end-lts.Need-returns-then-next-eq0 (clauses-end-calls t) (clauses-end-at t) clauses-end.Post clauses-end-Inv-loop clauses-end-μ-loop
 clauses-end-returns-5 t c =
     let s = c in let q = s.args.q.now in let at = s.args.at in let depth = s.args.depth in
-    fit-zero aBoolean q at _ (sym (ap endOfClauses (clause-none q depth c.loop-left.left c.loop-left.next (omega arith) (end-zero q depth c.loop-left.next (sym c.tree_end-next.ensures ∙ c.if-next-eq0.true)))) ∙ c.loop-left.invariant)
+    fit-zero a_boolean q at _ (sym (ap end_of_clauses (clause-none q depth c.loop-left.left c.loop-left.next (omega arith) (end-zero q depth c.loop-left.next (sym c.tree_end-next.ensures ∙ c.if-next-eq0.true)))) ∙ c.loop-left.invariant)
 
 clauses-end-sub-left : (t : ℕ) → clauses-end-lts.Need-overflow_sub-left (clauses-end-calls t) (clauses-end-at t) clauses-end.Post clauses-end-Inv-loop clauses-end-μ-loop
 clauses-end-sub-left t c = search rules
@@ -167,13 +167,13 @@ clauses-end-loop-less t c = search rules
 clauses-end-loop-again : (t : ℕ) → clauses-end-lts.Need-loop-left-preserved (clauses-end-calls t) (clauses-end-at t) clauses-end.Post clauses-end-Inv-loop clauses-end-μ-loop
 clauses-end-loop-again t c =
     let s = c in let q = s.args.q.now in let depth = s.args.depth in
-    let o = occur-known (recordOccurrence q c.loop-left.next) (λ e. c.if-o-eq0.false (c.occurrence-o.ensures ∙ e)) (omega arith) in
+    let o = occur-known (record_occurrence q c.loop-left.next) (λ e. c.if-o-eq0.false (c.occurrence-o.ensures ∙ e)) (omega arith) in
     clause-more q depth c.loop-left.left c.loop-left.next c.tree_end-next.result o.0 (omega arith) o.1 c.tree_end-next.ensures c.if-next-eq0.false ∙ c.loop-left.invariant
 
 clauses-end-returns-6 : (t : ℕ) → clauses-end-lts.Need-returns (clauses-end-calls t) (clauses-end-at t) clauses-end.Post clauses-end-Inv-loop clauses-end-μ-loop
 clauses-end-returns-6 t c =
     let s = c in let q = s.args.q.now in let at = s.args.at in let depth = s.args.depth in
-    fit-yes aBoolean q at _ _ (le-leb (recordChildren q at) 64 (omega arith)) (no-clauses q (decode q depth) c.loop-left.left c.loop-left.next (omega arith) ∙ c.loop-left.invariant)
+    fit-yes a_boolean q at _ _ (le-leb (record_children q at) 64 (omega arith)) (no-clauses q (decode q depth) c.loop-left.left c.loop-left.next (omega arith) ∙ c.loop-left.invariant)
 
 tree-end-returns : (t : ℕ) → tree-end-lts.Need-returns-then-depth-eq0 (tree-end-calls t) (tree-end-at t) tree-end.Post
 tree-end-returns t c =

@@ -5,13 +5,13 @@ use mathlib.Core.Path.{◌≡◌, sym, ◌∙◌}
 use mathlib.Core.Bool.{true}
 use native.Mathlib.Omega.{arith}
 use borrow.Author.Count.{below_more}
-use Rattle.meaning.specs.Query.{aPhrase, recordChildren, isPhraseTerm}
+use Rattle.meaning.specs.Query.{a_phrase, record_children, is_phrase_term}
 use Rattle.query.proofs.Steps.{phrase-shallow, phrase-missing, phrase-wrong, phrase-right, fit-no, fit-zero, fit-yes, terms-fit, no-terms, many-terms, one_less}
 use Rattle.query.proofs.shape.phrase_end.Statement.{statement}
 use Rattle.query.proofs.shape.phrase_end.Tie as tie
 
 abbrev invariant-loop : tie.invariant-loop-j
-invariant-loop q depth at terms j₀ j = (j ≤ terms) × ((i : ℕ) → i < j → isPhraseTerm q (at + 1 + i) ≡ true)
+invariant-loop q depth at terms j₀ j = (j ≤ terms) × ((i : ℕ) → i < j → is_phrase_term q (at + 1 + i) ≡ true)
 
 abbrev decreases-loop : tie.decreases-loop-j
 decreases-loop q depth at terms j₀ j = terms - j
@@ -25,17 +25,17 @@ wide-requires c κs = search rules
 returns : tie.Need-returns-then-terms-eq0 invariant-loop decreases-loop
 returns c =
     let s = c in let q = s.args.q.now in let at = s.args.at in
-    fit-no aPhrase q at _ (no-terms (recordChildren q at) (omega arith))
+    fit-no a_phrase q at _ (no-terms (record_children q at) (omega arith))
 
 returns-2 : tie.Need-returns-then-terms-gt32 invariant-loop decreases-loop
 returns-2 c =
     let s = c in let q = s.args.q.now in let at = s.args.at in
-    fit-no aPhrase q at _ (many-terms (recordChildren q at) (omega arith))
+    fit-no a_phrase q at _ (many-terms (record_children q at) (omega arith))
 
 returns-3 : tie.Need-returns-then-depth-eq0 invariant-loop decreases-loop
 returns-3 c =
     let s = c in let q = s.args.q.now in let at = s.args.at in let depth = s.args.depth in
-    fit-zero aPhrase q at _ (phrase-shallow q at depth c.if-depth-eq0.true)
+    fit-zero a_phrase q at _ (phrase-shallow q at depth c.if-depth-eq0.true)
 
 record-count-requires : tie.Need-record_count-requires invariant-loop decreases-loop
 record-count-requires c κs = search rules
@@ -49,7 +49,7 @@ add-if4-2 c = search rules
 returns-4 : tie.Need-returns-then-record_count-at invariant-loop decreases-loop
 returns-4 c =
     let s = c in let q = s.args.q.now in let at = s.args.at in let depth = s.args.depth in
-    fit-zero aPhrase q at _ (phrase-missing q at depth (omega arith))
+    fit-zero a_phrase q at _ (phrase-missing q at depth (omega arith))
 
 loop-holds : tie.Need-loop-j-init invariant-loop decreases-loop
 loop-holds c = (omega arith, λ i h. absurd (omega (arith, h)))
@@ -66,7 +66,7 @@ is-phrase-term-requires c κs = search rules
 returns-5 : tie.Need-returns-then-not-is_phrase_term invariant-loop decreases-loop
 returns-5 c =
     let s = c in let q = s.args.q.now in let at = s.args.at in let depth = s.args.depth in
-    fit-zero aPhrase q at _ (phrase-wrong q at depth c.loop-j.j (omega arith) (sym c.is_phrase_term.ensures ∙ c.if-not-is_phrase_term.true))
+    fit-zero a_phrase q at _ (phrase-wrong q at depth c.loop-j.j (omega arith) (sym c.is_phrase_term.ensures ∙ c.if-not-is_phrase_term.true))
 
 add-j : tie.Need-overflow_add-j invariant-loop decreases-loop
 add-j c = search rules
@@ -86,9 +86,9 @@ add-result-2 c = search rules
 returns-6 : tie.Need-returns invariant-loop decreases-loop
 returns-6 c =
     let s = c in let q = s.args.q.now in let at = s.args.at in let depth = s.args.depth in
-    let q = q in let at = at in let terms : c.wide-terms.result ≡ recordChildren q at = c.wide-terms.ensures ∙ c.children.ensures in
+    let q = q in let at = at in let terms : c.wide-terms.result ≡ record_children q at = c.wide-terms.ensures ∙ c.children.ensures in
     rw terms
-    (fit-yes aPhrase q at _ _ (terms-fit (recordChildren q at) (λ e. c.if-terms-eq0.false (terms ∙ e)) (omega arith))
+    (fit-yes a_phrase q at _ _ (terms-fit (record_children q at) (λ e. c.if-terms-eq0.false (terms ∙ e)) (omega arith))
     (phrase-right q at depth (omega (arith, one_less depth c.if-depth-eq0.false)) (omega arith) (λ j h. c.loop-j.invariant.1 j (omega (arith, h)))))
 
 pub phrase_end_spec : {M : Type 1} → statement M

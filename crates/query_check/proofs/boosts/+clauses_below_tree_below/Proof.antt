@@ -5,8 +5,8 @@ use mathlib.Core.Option.{some}
 use mathlib.Core.Bool.{true, false}
 use native.Mathlib.Omega.{arith}
 use Rattle.meaning.specs.Score.{boosted}
-use Rattle.meaning.specs.Query.{recordChildren, occurOf, DecodedClauses, decode, decodeClauses}
-use Rattle.query.specs.Inner.{endBelowLimit, clausesBelowLimit}
+use Rattle.meaning.specs.Query.{record_children, occur_of, DecodedClauses, decode, decode_clauses}
+use Rattle.query.specs.Inner.{end_below_limit, clauses_below_limit}
 use Rattle.query.proofs.Above.{limit, limit-passed, level, decoded-here, boost-number, below-phrase, below-leaf, below-boolean, below-constant, below-boost, below-clauses, below-constant-child, below-boost-child, left_below, first-clause, none-left-below, clause-above, clause-on}
 use Prim.Native.Nat.{ℕ, ◌<◌, ◌+◌, ◌-◌, ◌*◌}
 use borrow.Fn.Kinds.{In}
@@ -53,7 +53,7 @@ tree-below-below t =
     and 1 tree-below-kinds.ps (falls 1 tree-below-kinds.ps ◌<◌ μ-tree-below t) tree-below.Pre
 
 abbrev clauses-below-Inv-loop : clauses-below-lts.invariant-loop-left
-clauses-below-Inv-loop q depth at boost left₀ next₀ left next = (C : DecodedClauses) × (decodeClauses q (decode q depth) left next ≡ some C) × (left_below C boost ≡ clausesBelowLimit (decodeClauses q (decode q depth) (recordChildren q at) (at + 1)) boost)
+clauses-below-Inv-loop q depth at boost left₀ next₀ left next = (C : DecodedClauses) × (decode_clauses q (decode q depth) left next ≡ some C) × (left_below C boost ≡ clauses_below_limit (decode_clauses q (decode q depth) (record_children q at) (at + 1)) boost)
 
 abbrev clauses-below-μ-loop : clauses-below-lts.decreases-loop-left
 clauses-below-μ-loop q depth at boost left₀ next₀ left next = left
@@ -97,7 +97,7 @@ clauses-below-returns t c =
     let s = c in let q = s.args.q.now in let depth = s.args.depth in let boost = s.args.boost in
     let o = first-clause q (decode q depth) c.loop-left.left c.loop-left.next c.loop-left.invariant.0 c.loop-left-test.true c.loop-left.invariant.1 in
     clause-above q depth (c.loop-left.left - 1) c.loop-left.next c.tree_below-next.result c.loop-left.invariant.0 boost c.passed_on.result o
-    (c.passed_on.ensures o.occur (ap occurOf c.occurrence-o.ensures ∙ o.occur-is)) c.tree_below-next.ensures c.if-next-eq0.true ∙ c.loop-left.invariant.2
+    (c.passed_on.ensures o.occur (ap occur_of c.occurrence-o.ensures ∙ o.occur-is)) c.tree_below-next.ensures c.if-next-eq0.true ∙ c.loop-left.invariant.2
 
 clauses-below-sub-left : (t : ℕ) → clauses-below-lts.Need-overflow_sub-left (clauses-below-calls t) (clauses-below-at t) clauses-below.Post clauses-below-Inv-loop clauses-below-μ-loop
 clauses-below-sub-left t c = search rules
@@ -110,7 +110,7 @@ clauses-below-loop-again t c =
     let s = c in let q = s.args.q.now in let depth = s.args.depth in let boost = s.args.boost in
     let o = first-clause q (decode q depth) c.loop-left.left c.loop-left.next c.loop-left.invariant.0 c.loop-left-test.true c.loop-left.invariant.1 in
     let on = clause-on q depth (c.loop-left.left - 1) c.loop-left.next c.tree_below-next.result c.loop-left.invariant.0 boost c.passed_on.result o
-    (c.passed_on.ensures o.occur (ap occurOf c.occurrence-o.ensures ∙ o.occur-is)) c.tree_below-next.ensures c.if-next-eq0.false in
+    (c.passed_on.ensures o.occur (ap occur_of c.occurrence-o.ensures ∙ o.occur-is)) c.tree_below-next.ensures c.if-next-eq0.false in
     (o.rest, rw on.0 o.rest-is, on.1 ∙ c.loop-left.invariant.2)
 
 clauses-below-returns-2 : (t : ℕ) → clauses-below-lts.Need-returns (clauses-below-calls t) (clauses-below-at t) clauses-below.Post clauses-below-Inv-loop clauses-below-μ-loop
@@ -219,7 +219,7 @@ tree-below-returns-4 t c =
 tree-below-returns-5 : (t : ℕ) → tree-below-lts.Need-returns-in-7 (tree-below-calls t) (tree-below-at t) tree-below.Post
 tree-below-returns-5 t c =
     let s = c in let q = s.args.q.now in let depth = s.args.depth in let at = s.args.at in let boost = s.args.boost in
-    c.tree_below-in-7.ensures ∙ ap (λ (z : ℕ). endBelowLimit (decode q (depth - 1) (at + 1)) (boosted boost z)) c.value.ensures ∙ below-boost q depth at s.requires.1.1.0 boost s.requires.1.1.1 (limit boost false c.if-boost.false) (sym c.kind.ensures ∙ c.in-7.is)
+    c.tree_below-in-7.ensures ∙ ap (λ (z : ℕ). end_below_limit (decode q (depth - 1) (at + 1)) (boosted boost z)) c.value.ensures ∙ below-boost q depth at s.requires.1.1.0 boost s.requires.1.1.1 (limit boost false c.if-boost.false) (sym c.kind.ensures ∙ c.in-7.is)
 
 tree-below-returns-6 : (t : ℕ) → tree-below-lts.Need-returns-in_default (tree-below-calls t) (tree-below-at t) tree-below.Post
 tree-below-returns-6 t c =

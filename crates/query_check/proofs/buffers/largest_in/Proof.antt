@@ -5,13 +5,13 @@ use mathlib.Core.Path.{◌≡◌, sym, ◌∙◌, ap}
 use native.Mathlib.Nat.{le_antisymm}
 use native.Mathlib.Omega.{arith}
 use lib.ListN.{get_or}
-use Rattle.meaning.specs.Below.{largestBelow}
+use Rattle.meaning.specs.Below.{largest_below}
 use Rattle.meaning.proofs.Below.{largest-zero, largest-more}
 use Rattle.query_check.proofs.buffers.largest_in.Statement.{statement}
 use Rattle.query_check.proofs.buffers.largest_in.Tie as tie
 
 abbrev invariant-loop : tie.invariant-loop-i
-invariant-loop postings first number largest₀ i₀ largest i = (i ≤ number) × (largest ≡ largestBelow i (λ k. get_or postings (3 * (first + k) + 1) 0))
+invariant-loop postings first number largest₀ i₀ largest i = (i ≤ number) × (largest ≡ largest_below i (λ k. get_or postings (3 * (first + k) + 1) 0))
 
 abbrev decreases-loop : tie.decreases-loop-i
 decreases-loop postings first number largest₀ i₀ largest i = number - i
@@ -53,7 +53,7 @@ loop-again c =
 returns : tie.Need-returns invariant-loop decreases-loop
 returns c =
     let s = c in let postings = s.args.postings.now in let first = s.args.first in let number = s.args.number in
-    c.loop-i.invariant.1 ∙ ap (λ (z : ℕ). largestBelow z (λ k. get_or postings (3 * (first + k) + 1) 0)) (le_antisymm {n = c.loop-i.i} {m = number} c.loop-i.invariant.0 c.loop-i-test.false)
+    c.loop-i.invariant.1 ∙ ap (λ (z : ℕ). largest_below z (λ k. get_or postings (3 * (first + k) + 1) 0)) (le_antisymm {n = c.loop-i.i} {m = number} c.loop-i.invariant.0 c.loop-i-test.false)
 
 pub largest_in_spec : {M : Type 1} → statement M
 largest_in_spec =

@@ -4,15 +4,15 @@ use Prim.Native.Nat.{◌≤◌, ◌-◌}
 use mathlib.Core.Path.{◌≡◌, sym, ◌∙◌}
 use native.Mathlib.Nat.{le_antisymm}
 use native.Mathlib.Omega.{arith}
-use Rattle.meaning.specs.Below.{largestBelow}
+use Rattle.meaning.specs.Below.{largest_below}
 use Rattle.meaning.specs.Lent.{Index}
 use Rattle.meaning.proofs.Below.{largest-zero, largest-more}
-use Rattle.query_check.proofs.Needs.{startsAt, starts-all}
+use Rattle.query_check.proofs.Needs.{starts_at, starts-all}
 use Rattle.query_check.proofs.buffers.starts_needed.Statement.{statement}
 use Rattle.query_check.proofs.buffers.starts_needed.Tie as tie
 
 abbrev invariant-loop : tie.invariant-loop-at
-invariant-loop q leaves postings count needed₀ at₀ needed at = (at ≤ count) × ((ix : Index) → ix.leaves ≡ leaves → ix.postings ≡ postings → needed ≡ largestBelow at (startsAt ix q))
+invariant-loop q leaves postings count needed₀ at₀ needed at = (at ≤ count) × ((ix : Index) → ix.leaves ≡ leaves → ix.postings ≡ postings → needed ≡ largest_below at (starts_at ix q))
 
 abbrev decreases-loop : tie.decreases-loop-at
 decreases-loop q leaves postings count needed₀ at₀ needed at = count - at
@@ -23,7 +23,7 @@ record-count-requires c κs = search rules
 loop-holds : tie.Need-loop-at-init invariant-loop decreases-loop
 loop-holds c =
     let s = c in let q = s.args.q.now in
-    (omega arith, λ ix l p. sym (largest-zero (startsAt ix q)))
+    (omega arith, λ ix l p. sym (largest-zero (starts_at ix q)))
 
 term-starts-requires : tie.Need-term_starts-requires invariant-loop decreases-loop
 term-starts-requires c κs =
@@ -42,7 +42,7 @@ loop-less c = search rules
 loop-again : tie.Need-loop-at-preserved invariant-loop decreases-loop
 loop-again c =
     let s = c in let q = s.args.q.now in
-    (omega arith, λ ix l p. rw (largest-more c.loop-at.at (startsAt ix q), ← c.loop-at.invariant.1 ix l p, ← c.term_starts.ensures ix l p) c.larger-needed.ensures)
+    (omega arith, λ ix l p. rw (largest-more c.loop-at.at (starts_at ix q), ← c.loop-at.invariant.1 ix l p, ← c.term_starts.ensures ix l p) c.larger-needed.ensures)
 
 returns : tie.Need-returns invariant-loop decreases-loop
 returns c =

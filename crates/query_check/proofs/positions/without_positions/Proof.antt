@@ -2,7 +2,7 @@
 use mathlib.Core.Path.{refl, sym, ◌∙◌}
 use native.Mathlib.Omega.{arith}
 use borrow.Author.Tests.{eq-eqb, ne_eqb}
-use Rattle.meaning.specs.Query.{recordKind}
+use Rattle.meaning.specs.Query.{record_kind}
 use borrow.Author.Rules.{rules}
 use Rattle.query_check.proofs.positions.without_positions.Statement.{statement}
 use Rattle.query_check.proofs.positions.without_positions.Tie as tie
@@ -13,7 +13,7 @@ kind-requires c κs = search rules
 returns : tie.Need-returns-then-kind-ne2
 returns c =
     let s = c in let q = s.args.q.now in let at = s.args.at in
-    rw (ne_eqb (recordKind q at) 2 (λ e. c.if-kind-ne2.true (c.kind.ensures ∙ e)))
+    rw (ne_eqb (record_kind q at) 2 (λ e. c.if-kind-ne2.true (c.kind.ensures ∙ e)))
 
 value-requires : tie.Need-value-requires
 value-requires c κs = search rules
@@ -38,7 +38,7 @@ shared-slice-read-result c =
 returns-2 : tie.Need-returns
 returns-2 c =
     let s = c in let q = s.args.q.now in let at = s.args.at in
-    rw (eq-eqb (recordKind q at) 2 (sym c.kind.ensures ∙ c.if-kind-ne2.false), ← c.value.ensures, ← c.wide-field.ensures) refl
+    rw (eq-eqb (record_kind q at) 2 (sym c.kind.ensures ∙ c.if-kind-ne2.false), ← c.value.ensures, ← c.wide-field.ensures) refl
 
 pub without_positions_spec : {M : Type 1} → statement M
 without_positions_spec =

@@ -5,14 +5,14 @@ use mathlib.Core.Path.{◌≡◌, sym, ◌∙◌}
 use mathlib.Core.Bool.{false}
 use native.Mathlib.Omega.{arith}
 use borrow.Author.Count.{below_more}
-use Rattle.meaning.specs.Query.{recordChildren}
-use Rattle.query_check.proofs.Records.{fieldOther, other-same, other-other}
+use Rattle.meaning.specs.Query.{record_children}
+use Rattle.query_check.proofs.Records.{field_other, other-same, other-other}
 use Rattle.meaning.proofs.Below.{any_none, any_some}
 use Rattle.query_check.proofs.values.other_field.Statement.{statement}
 use Rattle.query_check.proofs.values.other_field.Tie as tie
 
 abbrev invariant-loop : tie.invariant-loop-j
-invariant-loop q leaves at field terms j₀ j = (j ≤ terms) × ((i : ℕ) → i < j → fieldOther leaves q at i ≡ false)
+invariant-loop q leaves at field terms j₀ j = (j ≤ terms) × ((i : ℕ) → i < j → field_other leaves q at i ≡ false)
 
 abbrev decreases-loop : tie.decreases-loop-j
 decreases-loop q leaves at field terms j₀ j = terms - j
@@ -50,7 +50,7 @@ word-or-zero-requires c κs = search rules
 returns : tie.Need-returns-then-word_or_zero-field invariant-loop decreases-loop
 returns c =
     let s = c in let q = s.args.q.now in let at = s.args.at in let leaves = s.args.leaves.now in
-    sym (any_some (recordChildren q at) (fieldOther leaves q at) c.loop-j.j (omega arith) (other-other leaves q at c.loop-j.j c.wide-leaf.result (c.wide-leaf.ensures ∙ c.value.ensures) (λ e. c.if-word_or_zero-field.true (c.word_or_zero.ensures ∙ e ∙ sym c.value-field.ensures))))
+    sym (any_some (record_children q at) (field_other leaves q at) c.loop-j.j (omega arith) (other-other leaves q at c.loop-j.j c.wide-leaf.result (c.wide-leaf.ensures ∙ c.value.ensures) (λ e. c.if-word_or_zero-field.true (c.word_or_zero.ensures ∙ e ∙ sym c.value-field.ensures))))
 
 add-j : tie.Need-overflow_add-j invariant-loop decreases-loop
 add-j c = search rules
@@ -66,7 +66,7 @@ loop-again c =
 returns-2 : tie.Need-returns invariant-loop decreases-loop
 returns-2 c =
     let s = c in let q = s.args.q.now in let at = s.args.at in let leaves = s.args.leaves.now in
-    sym (any_none (recordChildren q at) (fieldOther leaves q at) (λ i h. c.loop-j.invariant.1 i (omega (arith, h))))
+    sym (any_none (record_children q at) (field_other leaves q at) (λ i h. c.loop-j.invariant.1 i (omega (arith, h))))
 
 pub other_field_spec : {M : Type 1} → statement M
 other_field_spec =

@@ -5,12 +5,12 @@ use mathlib.Core.Path.{◌≡◌, sym, ◌∙◌}
 use mathlib.Core.Bool.{false}
 use native.Mathlib.Omega.{arith}
 use borrow.Author.Count.{below_more}
-use Rattle.query_check.proofs.Records.{usedAt, unused-set, unused-clear, used-below, used-zero}
+use Rattle.query_check.proofs.Records.{used_at, unused-set, unused-clear, used-below, used-zero}
 use Rattle.query_check.proofs.values.unused_from.Statement.{statement}
 use Rattle.query_check.proofs.values.unused_from.Tie as tie
 
 abbrev invariant-loop : tie.invariant-loop-j
-invariant-loop q at v j₀ j = (v ≤ j) × ((i : ℕ) → i < j → usedAt q at v i ≡ false)
+invariant-loop q at v j₀ j = (v ≤ j) × ((i : ℕ) → i < j → used_at q at v i ≡ false)
 
 abbrev decreases-loop : tie.decreases-loop-j
 decreases-loop q at v j₀ j = 6 - j

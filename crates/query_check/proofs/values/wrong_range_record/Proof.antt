@@ -1,5 +1,5 @@
 -- `query::wrong_range_record` meets its contract: the Range entry's 8 looks at the columns alone. Assumes nothing.
-use Rattle.index.proofs.Parts.{wrongRange-of}
+use Rattle.index.proofs.Parts.{wrong_range-of}
 use borrow.Author.Rules.{rules}
 use Rattle.query_check.proofs.values.wrong_range_record.Statement.{statement}
 use Rattle.query_check.proofs.values.wrong_range_record.Tie as tie
@@ -35,7 +35,7 @@ returns : tie.Need-returns
 returns c =
     let six = c in let four = six in let two = four in
     λ ix are.
-    rw (wrongRange-of ix, are, ← two.value.ensures, ← two.value-2.ensures, ← four.value-3.ensures, ← four.value-4.ensures, ← six.value-5.ensures, ← six.value-6.ensures, ← six.joined.ensures, ← c.joined-2.ensures)
+    rw (wrong_range-of ix, are, ← two.value.ensures, ← two.value-2.ensures, ← four.value-3.ensures, ← four.value-4.ensures, ← six.value-5.ensures, ← six.value-6.ensures, ← six.joined.ensures, ← c.joined-2.ensures)
     c.wrong_range.ensures
 
 pub wrong_range_record_spec : {M : Type 1} → statement M

@@ -1,6 +1,6 @@
 -- `query::wrong_record` meets its contract. Assumes nothing.
 use mathlib.Core.Path.{sym, ◌∙◌}
-use Rattle.meaning.specs.Query.{recordKind}
+use Rattle.meaning.specs.Query.{record_kind}
 use Rattle.query.proofs.Steps.{no_kind}
 use Rattle.query_check.proofs.Records.{value-term, value-phrase, value-boolean, value-range, value-all, value-constant, value-boost, value_none, value-phrase-term, value-other}
 use borrow.Author.Rules.{rules}
@@ -89,7 +89,7 @@ returns-10 c =
     let s = c in let fields = s.args.fields.now in let leaves = s.args.leaves.now in let columns = s.args.columns.now in let q = s.args.q.now in let at = s.args.at in
     let no = c.in_default.in_default-own.rest in let is = c.kind.ensures in λ ix l.
     value-other ix fields leaves columns q at l
-    (no_kind (recordKind q at) (λ e. no.0.0.0.0.0.0.0.0.1 (is ∙ e)) (λ e. no.0.0.0.0.0.0.0.1 (is ∙ e)) (λ e. no.0.0.0.0.0.0.1 (is ∙ e)) (λ e. no.0.0.0.0.0.1 (is ∙ e)) (λ e. no.0.0.0.0.1 (is ∙ e)) (λ e. no.0.0.0.1 (is ∙ e)) (λ e. no.0.0.1 (is ∙ e)) (λ e. no.0.1 (is ∙ e)) (λ e. no.1 (is ∙ e)))
+    (no_kind (record_kind q at) (λ e. no.0.0.0.0.0.0.0.0.1 (is ∙ e)) (λ e. no.0.0.0.0.0.0.0.1 (is ∙ e)) (λ e. no.0.0.0.0.0.0.1 (is ∙ e)) (λ e. no.0.0.0.0.0.1 (is ∙ e)) (λ e. no.0.0.0.0.1 (is ∙ e)) (λ e. no.0.0.0.1 (is ∙ e)) (λ e. no.0.0.1 (is ∙ e)) (λ e. no.0.1 (is ∙ e)) (λ e. no.1 (is ∙ e)))
 
 pub wrong_record_spec : {M : Type 1} → statement M
 wrong_record_spec =

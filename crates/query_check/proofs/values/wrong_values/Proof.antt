@@ -6,8 +6,8 @@ use mathlib.Core.Bool.{false}
 use native.Mathlib.Omega.{arith}
 use borrow.Author.Count.{below_more}
 use Rattle.meaning.specs.Lent.{Index}
-use Rattle.meaning.specs.Query.{recordKind, kind_of}
-use Rattle.meaning.specs.QueryRefusals.{wrongValues}
+use Rattle.meaning.specs.Query.{record_kind, kind_of}
+use Rattle.meaning.specs.QueryRefusals.{wrong_values}
 use Rattle.query.specs.Read.{Lends}
 use Rattle.query.proofs.Whole.{terms-here}
 use Rattle.query_check.proofs.Records.{some-value, no_value}
@@ -15,7 +15,7 @@ use Rattle.query_check.proofs.values.wrong_values.Statement.{statement}
 use Rattle.query_check.proofs.values.wrong_values.Tie as tie
 
 abbrev invariant-loop : tie.invariant-loop-at
-invariant-loop q fields leaves columns count at₀ at = (at ≤ count) × ((ix : Index) → Lends ix fields leaves columns → (i : ℕ) → i < at → wrongValues ix q i (kind_of (recordKind q i)) ≡ false)
+invariant-loop q fields leaves columns count at₀ at = (at ≤ count) × ((ix : Index) → Lends ix fields leaves columns → (i : ℕ) → i < at → wrong_values ix q i (kind_of (record_kind q i)) ≡ false)
 
 abbrev decreases-loop : tie.decreases-loop-at
 decreases-loop q fields leaves columns count at₀ at = count - at

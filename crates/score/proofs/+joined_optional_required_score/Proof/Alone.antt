@@ -4,7 +4,7 @@ use native.Mathlib.Omega.{arith}
 use Prim.Native.Nat.{ℕ, ◌≤◌, min}
 use lib.ListN.{length}
 use lib.Seq.{length_front, length-take-le}
-use Rattle.meaning.specs.Ieee754.{zeroFloat}
+use Rattle.meaning.specs.Ieee754.{zero_float}
 use Rattle.leaf_score.proofs.Bounds.{zero-64}
 use Rattle.score.proofs.Parts.{back-length}
 use Rattle.score.proofs.Loops.{put}
@@ -37,7 +37,7 @@ joined-required-requires t c κs =
     let kids = s₀.args.kids.now in
     let n = s₀.args.n in
     let p = s₀.requires.1 in
-    (omega (arith, s₀.requires.0), after-asks kids n s₀.args.max_doc s₀.args.postings.now s₀.args.positions.now s₀.args.norms.now s₀.args.ranges.now s₀.args.inverses.now (min (length s₀.args.a.now) (length s₀.args.b.now)) s₀.args.doc s₀.args.depth zeroFloat kids (ungrouped kids n s₀.args.max_doc s₀.args.postings.now s₀.args.positions.now s₀.args.norms.now s₀.args.ranges.now s₀.args.inverses.now (min (length s₀.args.a.now) (length s₀.args.b.now)) s₀.args.doc s₀.args.depth c.if-end-optional_end.true) zeroFloat zero-narrowed _ refl _ zero-64 p)
+    (omega (arith, s₀.requires.0), after-asks kids n s₀.args.max_doc s₀.args.postings.now s₀.args.positions.now s₀.args.norms.now s₀.args.ranges.now s₀.args.inverses.now (min (length s₀.args.a.now) (length s₀.args.b.now)) s₀.args.doc s₀.args.depth zero_float kids (ungrouped kids n s₀.args.max_doc s₀.args.postings.now s₀.args.positions.now s₀.args.norms.now s₀.args.ranges.now s₀.args.inverses.now (min (length s₀.args.a.now) (length s₀.args.b.now)) s₀.args.doc s₀.args.depth c.if-end-optional_end.true) zero_float zero-narrowed _ refl _ zero-64 p)
 
 pub joined-narrow-requires : (t : ℕ) → joined-lts.Need-narrow-requires (joined-calls t) (joined_at t) joined.Post
 joined-narrow-requires t c κs =
@@ -63,7 +63,7 @@ joined-returns t c =
     let s₀ = c in
     let kids = s₀.args.kids.now in
     let n = s₀.args.n in
-    alone-done kids n s₀.args.max_doc s₀.args.postings.now s₀.args.positions.now s₀.args.norms.now s₀.args.ranges.now s₀.args.inverses.now (min (length s₀.args.a.now) (length s₀.args.b.now)) s₀.args.doc s₀.args.depth zeroFloat kids (ungrouped kids n s₀.args.max_doc s₀.args.postings.now s₀.args.positions.now s₀.args.norms.now s₀.args.ranges.now s₀.args.inverses.now (min (length s₀.args.a.now) (length s₀.args.b.now)) s₀.args.doc s₀.args.depth c.if-end-optional_end.true) zeroFloat zero-narrowed _ refl _ zero-64 c.required.result c.required.new.kids c.required.ensures c.if-end-optional_end.true c.narrow.result c.narrow.ensures
+    alone-done kids n s₀.args.max_doc s₀.args.postings.now s₀.args.positions.now s₀.args.norms.now s₀.args.ranges.now s₀.args.inverses.now (min (length s₀.args.a.now) (length s₀.args.b.now)) s₀.args.doc s₀.args.depth zero_float kids (ungrouped kids n s₀.args.max_doc s₀.args.postings.now s₀.args.positions.now s₀.args.norms.now s₀.args.ranges.now s₀.args.inverses.now (min (length s₀.args.a.now) (length s₀.args.b.now)) s₀.args.doc s₀.args.depth c.if-end-optional_end.true) zero_float zero-narrowed _ refl _ zero-64 c.required.result c.required.new.kids c.required.ensures c.if-end-optional_end.true c.narrow.result c.narrow.ensures
 
 pub joined-same-length-4 : (t : ℕ) → joined-lts.Need-shape_of-kids-then-end-eq0 (joined-calls t) (joined_at t) joined.Post
 joined-same-length-4 t c =

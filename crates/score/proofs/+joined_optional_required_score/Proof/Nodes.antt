@@ -2,7 +2,7 @@
 use mathlib.Core.Path.{refl}
 use native.Mathlib.Omega.{arith}
 use lib.ListN.{length}
-use Rattle.meaning.specs.Limits.{nodeStateWords}
+use Rattle.meaning.specs.Limits.{node_state_words}
 use Rattle.leaf_scorer.proofs.Bounds.{ok-long}
 use Rattle.score.proofs.Parts.{back-length}
 use Rattle.score.proofs.Nodes.{node_at}
@@ -85,7 +85,7 @@ score-same-length-2 t c =
     let s₀ = c in
     let p = s₀.requires.1 in
     let st = s₀.args.st.now in
-    back-length st c.joined.new.kids nodeStateWords (length st) c.joined.auto.kids
+    back-length st c.joined.new.kids node_state_words (length st) c.joined.auto.kids
 
 pub score-same-length-3 : (t : ℕ) → score-lts.Need-shape_of-a-then-n-eq-BOOLEAN (score-calls t) (score-at t) score.Post
 score-same-length-3 t c = c.joined.auto.a

@@ -2,7 +2,7 @@
 use mathlib.Core.Path.{refl, sym, ◌∙◌}
 use native.Mathlib.Omega.{arith}
 use lib.ListN.{length}
-use Rattle.meaning.specs.Limits.{nodeStateWords}
+use Rattle.meaning.specs.Limits.{node_state_words}
 use Rattle.score.proofs.Loops.{places_same, required-there, required-stop, required-skip, required-term, required-number, required-term-took}
 use Prim.Native.Nat.{ℕ, min, ◌+◌}
 use Rattle.score.proofs.required.Reads as required
@@ -49,14 +49,14 @@ required-term-score-requires t c κs =
     let s₀ = c in
     let l = c.loop-at in
     let h = c.child_at-k.ensures in
-    required-term s₀.args.kids.now s₀.args.start s₀.args.max_doc s₀.args.postings.now s₀.args.positions.now s₀.args.norms.now s₀.args.ranges.now s₀.args.inverses.now (min (length s₀.args.a.now) (length s₀.args.b.now)) s₀.args.doc s₀.args.depth l.kids l.at l.sum l.invariant.3 c.loop-at-test.true (l.at + nodeStateWords) (required-stop s₀.args.kids.now s₀.args.start s₀.args.max_doc s₀.args.postings.now s₀.args.positions.now s₀.args.norms.now s₀.args.ranges.now s₀.args.inverses.now (min (length s₀.args.a.now) (length s₀.args.b.now)) s₀.args.doc s₀.args.depth l.kids l.at l.sum l.invariant.3 c.loop-at-test.true s₀.requires.1 (sym h.kind-is ∙ c.if-k-eq-TERM.true) (l.at + nodeStateWords) refl) (sym h.scores-is ∙ c.if-k-eq-MUST.true) (min (length l.a) (length l.b)) (places_same _ _ _ _ l.invariant.1 l.invariant.2) (sym h.kind-is ∙ c.if-k-eq-TERM.true) s₀.requires.1
+    required-term s₀.args.kids.now s₀.args.start s₀.args.max_doc s₀.args.postings.now s₀.args.positions.now s₀.args.norms.now s₀.args.ranges.now s₀.args.inverses.now (min (length s₀.args.a.now) (length s₀.args.b.now)) s₀.args.doc s₀.args.depth l.kids l.at l.sum l.invariant.3 c.loop-at-test.true (l.at + node_state_words) (required-stop s₀.args.kids.now s₀.args.start s₀.args.max_doc s₀.args.postings.now s₀.args.positions.now s₀.args.norms.now s₀.args.ranges.now s₀.args.inverses.now (min (length s₀.args.a.now) (length s₀.args.b.now)) s₀.args.doc s₀.args.depth l.kids l.at l.sum l.invariant.3 c.loop-at-test.true s₀.requires.1 (sym h.kind-is ∙ c.if-k-eq-TERM.true) (l.at + node_state_words) refl) (sym h.scores-is ∙ c.if-k-eq-MUST.true) (min (length l.a) (length l.b)) (places_same _ _ _ _ l.invariant.1 l.invariant.2) (sym h.kind-is ∙ c.if-k-eq-TERM.true) s₀.requires.1
 
 pub required-add-score-requires : (t : ℕ) → required-lts.Need-add_score-sum-requires (required-calls t) (required-at t) required.Post required-Inv-loop required-μ-loop
 required-add-score-requires t c κs =
     let s₀ = c in
     let l = c.loop-at in
     let h = c.child_at-k.ensures in
-    required-number s₀.args.kids.now s₀.args.start s₀.args.max_doc s₀.args.postings.now s₀.args.positions.now s₀.args.norms.now s₀.args.ranges.now s₀.args.inverses.now (min (length s₀.args.a.now) (length s₀.args.b.now)) s₀.args.doc s₀.args.depth l.kids l.at l.sum l.invariant.3 c.loop-at-test.true (l.at + nodeStateWords) (required-stop s₀.args.kids.now s₀.args.start s₀.args.max_doc s₀.args.postings.now s₀.args.positions.now s₀.args.norms.now s₀.args.ranges.now s₀.args.inverses.now (min (length s₀.args.a.now) (length s₀.args.b.now)) s₀.args.doc s₀.args.depth l.kids l.at l.sum l.invariant.3 c.loop-at-test.true s₀.requires.1 (sym h.kind-is ∙ c.if-k-eq-TERM.true) (l.at + nodeStateWords) refl) (sym h.scores-is ∙ c.if-k-eq-MUST.true) (min (length l.a) (length l.b)) (places_same _ _ _ _ l.invariant.1 l.invariant.2) c.term_score-s.result _ (c.term_score-s.ensures s₀.args.max_doc s₀.args.positions.now s₀.args.ranges.now (min (length l.a) (length l.b)) s₀.args.depth) s₀.requires.1
+    required-number s₀.args.kids.now s₀.args.start s₀.args.max_doc s₀.args.postings.now s₀.args.positions.now s₀.args.norms.now s₀.args.ranges.now s₀.args.inverses.now (min (length s₀.args.a.now) (length s₀.args.b.now)) s₀.args.doc s₀.args.depth l.kids l.at l.sum l.invariant.3 c.loop-at-test.true (l.at + node_state_words) (required-stop s₀.args.kids.now s₀.args.start s₀.args.max_doc s₀.args.postings.now s₀.args.positions.now s₀.args.norms.now s₀.args.ranges.now s₀.args.inverses.now (min (length s₀.args.a.now) (length s₀.args.b.now)) s₀.args.doc s₀.args.depth l.kids l.at l.sum l.invariant.3 c.loop-at-test.true s₀.requires.1 (sym h.kind-is ∙ c.if-k-eq-TERM.true) (l.at + node_state_words) refl) (sym h.scores-is ∙ c.if-k-eq-MUST.true) (min (length l.a) (length l.b)) (places_same _ _ _ _ l.invariant.1 l.invariant.2) c.term_score-s.result _ (c.term_score-s.ensures s₀.args.max_doc s₀.args.positions.now s₀.args.ranges.now (min (length l.a) (length l.b)) s₀.args.depth) s₀.requires.1
 
 pub required-loop-less : (t : ℕ) → required-lts.Need-loop-at-smaller-then-k-eq-MUST (required-calls t) (required-at t) required.Post required-Inv-loop required-μ-loop
 required-loop-less t c =
@@ -69,7 +69,7 @@ required-loop-again t c =
     let s₀ = c in
     let l = c.loop-at in
     let h = c.child_at-k.ensures in
-    (l.invariant.0, l.invariant.1, l.invariant.2, required-term-took s₀.args.kids.now s₀.args.start s₀.args.max_doc s₀.args.postings.now s₀.args.positions.now s₀.args.norms.now s₀.args.ranges.now s₀.args.inverses.now (min (length s₀.args.a.now) (length s₀.args.b.now)) s₀.args.doc s₀.args.depth l.kids l.at l.sum l.invariant.3 c.loop-at-test.true (l.at + nodeStateWords) (required-stop s₀.args.kids.now s₀.args.start s₀.args.max_doc s₀.args.postings.now s₀.args.positions.now s₀.args.norms.now s₀.args.ranges.now s₀.args.inverses.now (min (length s₀.args.a.now) (length s₀.args.b.now)) s₀.args.doc s₀.args.depth l.kids l.at l.sum l.invariant.3 c.loop-at-test.true s₀.requires.1 (sym h.kind-is ∙ c.if-k-eq-TERM.true) (l.at + nodeStateWords) refl) (sym h.scores-is ∙ c.if-k-eq-MUST.true) (min (length l.a) (length l.b)) (places_same _ _ _ _ l.invariant.1 l.invariant.2) c.term_score-s.result c.term_score-s.ensures c.add_score-sum.result c.add_score-sum.ensures)
+    (l.invariant.0, l.invariant.1, l.invariant.2, required-term-took s₀.args.kids.now s₀.args.start s₀.args.max_doc s₀.args.postings.now s₀.args.positions.now s₀.args.norms.now s₀.args.ranges.now s₀.args.inverses.now (min (length s₀.args.a.now) (length s₀.args.b.now)) s₀.args.doc s₀.args.depth l.kids l.at l.sum l.invariant.3 c.loop-at-test.true (l.at + node_state_words) (required-stop s₀.args.kids.now s₀.args.start s₀.args.max_doc s₀.args.postings.now s₀.args.positions.now s₀.args.norms.now s₀.args.ranges.now s₀.args.inverses.now (min (length s₀.args.a.now) (length s₀.args.b.now)) s₀.args.doc s₀.args.depth l.kids l.at l.sum l.invariant.3 c.loop-at-test.true s₀.requires.1 (sym h.kind-is ∙ c.if-k-eq-TERM.true) (l.at + node_state_words) refl) (sym h.scores-is ∙ c.if-k-eq-MUST.true) (min (length l.a) (length l.b)) (places_same _ _ _ _ l.invariant.1 l.invariant.2) c.term_score-s.result c.term_score-s.ensures c.add_score-sum.result c.add_score-sum.ensures)
 
 pub required-loop-less-2 : (t : ℕ) → required-lts.Need-loop-at-smaller-else-k-eq-MUST (required-calls t) (required-at t) required.Post required-Inv-loop required-μ-loop
 required-loop-less-2 t c =
@@ -82,4 +82,4 @@ required-loop-again-2 t c =
     let s₀ = c in
     let l = c.loop-at in
     let h = c.child_at-k.ensures in
-    (l.invariant.0, l.invariant.1, l.invariant.2, required-skip s₀.args.kids.now s₀.args.start s₀.args.max_doc s₀.args.postings.now s₀.args.positions.now s₀.args.norms.now s₀.args.ranges.now s₀.args.inverses.now (min (length s₀.args.a.now) (length s₀.args.b.now)) s₀.args.doc s₀.args.depth l.kids l.at l.sum l.invariant.3 c.loop-at-test.true (l.at + nodeStateWords) (required-stop s₀.args.kids.now s₀.args.start s₀.args.max_doc s₀.args.postings.now s₀.args.positions.now s₀.args.norms.now s₀.args.ranges.now s₀.args.inverses.now (min (length s₀.args.a.now) (length s₀.args.b.now)) s₀.args.doc s₀.args.depth l.kids l.at l.sum l.invariant.3 c.loop-at-test.true s₀.requires.1 (sym h.kind-is ∙ c.if-k-eq-TERM.true) (l.at + nodeStateWords) refl) (λ w. c.if-k-eq-MUST.false (h.scores-is ∙ w)))
+    (l.invariant.0, l.invariant.1, l.invariant.2, required-skip s₀.args.kids.now s₀.args.start s₀.args.max_doc s₀.args.postings.now s₀.args.positions.now s₀.args.norms.now s₀.args.ranges.now s₀.args.inverses.now (min (length s₀.args.a.now) (length s₀.args.b.now)) s₀.args.doc s₀.args.depth l.kids l.at l.sum l.invariant.3 c.loop-at-test.true (l.at + node_state_words) (required-stop s₀.args.kids.now s₀.args.start s₀.args.max_doc s₀.args.postings.now s₀.args.positions.now s₀.args.norms.now s₀.args.ranges.now s₀.args.inverses.now (min (length s₀.args.a.now) (length s₀.args.b.now)) s₀.args.doc s₀.args.depth l.kids l.at l.sum l.invariant.3 c.loop-at-test.true s₀.requires.1 (sym h.kind-is ∙ c.if-k-eq-TERM.true) (l.at + node_state_words) refl) (λ w. c.if-k-eq-MUST.false (h.scores-is ∙ w)))

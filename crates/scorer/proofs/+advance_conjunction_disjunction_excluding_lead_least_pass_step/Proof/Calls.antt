@@ -3,7 +3,7 @@ use Prim.Native.Nat.{◌+◌, ◌-◌, ◌*◌, ◌≤◌}
 use mathlib.Core.Path.{◌≡◌}
 use lib.ListN.{length}
 use lib.Dec.{leb}
-use Rattle.meaning.specs.Limits.{noMoreDocs}
+use Rattle.meaning.specs.Limits.{no_more_docs}
 use Rattle.meaning.specs.Lent.{Index}
 use Rattle.weight.specs.ScorerTree.{Scorers, matching}
 use Rattle.scorer.specs.Calls.{PartsHeld, LeadHeld, BooleanHeld, leads, takes}
@@ -150,22 +150,22 @@ abbrev pub step-calls : ℕ → step-lts.Claims
 step-calls t = (pass_below t, pass.Post, disjunction-below t, disjunction.Post)
 
 abbrev pub conjunction-Inv-loop : conjunction-lts.invariant-loop-d
-conjunction-Inv-loop kids₀ max-doc postings positions ranges a₀ b₀ required-end need target depth d₀ kids a b d = Lengths (length kids) (length kids₀) (length a) (length a₀) (length b) (length b₀) × (d ≤ noMoreDocs) × ((ix : Index) (p : ℕ) (rs os : Scorers) → LeadHeld (lent max-doc postings positions ranges) ix p rs os depth required-end kids₀ target → Going (leads ix rs os need) target d (LeadHeld (lent max-doc postings positions ranges) ix p rs os depth required-end kids d))
+conjunction-Inv-loop kids₀ max-doc postings positions ranges a₀ b₀ required-end need target depth d₀ kids a b d = Lengths (length kids) (length kids₀) (length a) (length a₀) (length b) (length b₀) × (d ≤ no_more_docs) × ((ix : Index) (p : ℕ) (rs os : Scorers) → LeadHeld (lent max-doc postings positions ranges) ix p rs os depth required-end kids₀ target → Going (leads ix rs os need) target d (LeadHeld (lent max-doc postings positions ranges) ix p rs os depth required-end kids d))
 
 abbrev pub conjunction-μ-loop : conjunction-lts.decreases-loop-d
-conjunction-μ-loop kids₀ max-doc postings positions ranges a₀ b₀ required-end need target depth d₀ kids a b d = noMoreDocs - d
+conjunction-μ-loop kids₀ max-doc postings positions ranges a₀ b₀ required-end need target depth d₀ kids a b d = no_more_docs - d
 
 abbrev pub disjunction-Inv-loop : disjunction-lts.invariant-loop-x
-disjunction-Inv-loop kids₀ max-doc postings positions ranges a₀ b₀ need target depth enough t₀ kids a b t = Lengths (length kids) (length kids₀) (length a) (length a₀) (length b) (length b₀) × (t ≤ noMoreDocs) × (enough ≡ need) × ((ix : Index) (p : ℕ) (ss : Scorers) → PartsHeld (lent max-doc postings positions ranges) ix p ss depth kids₀ target → Going (λ x. leb need (matching ix ss x)) target t (PartsHeld (lent max-doc postings positions ranges) ix p ss depth kids t))
+disjunction-Inv-loop kids₀ max-doc postings positions ranges a₀ b₀ need target depth enough t₀ kids a b t = Lengths (length kids) (length kids₀) (length a) (length a₀) (length b) (length b₀) × (t ≤ no_more_docs) × (enough ≡ need) × ((ix : Index) (p : ℕ) (ss : Scorers) → PartsHeld (lent max-doc postings positions ranges) ix p ss depth kids₀ target → Going (λ x. leb need (matching ix ss x)) target t (PartsHeld (lent max-doc postings positions ranges) ix p ss depth kids t))
 
 abbrev pub disjunction-μ-loop : disjunction-lts.decreases-loop-x
-disjunction-μ-loop kids₀ max-doc postings positions ranges a₀ b₀ need target depth enough t₀ kids a b t = noMoreDocs - t
+disjunction-μ-loop kids₀ max-doc postings positions ranges a₀ b₀ need target depth enough t₀ kids a b t = no_more_docs - t
 
 abbrev pub excluding-Inv-loop : excluding-lts.invariant-loop-max_doc
-excluding-Inv-loop kids₀ max-doc postings positions ranges a₀ b₀ required-end optional-end need target depth t₀ kids a b t = Lengths (length kids) (length kids₀) (length a) (length a₀) (length b) (length b₀) × (t ≤ noMoreDocs) × ((ix : Index) (p : ℕ) (rs os ps : Scorers) → BooleanHeld (lent max-doc postings positions ranges) ix p rs os ps depth required-end optional-end kids₀ target → Going (takes ix rs os ps need) target t (BooleanHeld (lent max-doc postings positions ranges) ix p rs os ps depth required-end optional-end kids t))
+excluding-Inv-loop kids₀ max-doc postings positions ranges a₀ b₀ required-end optional-end need target depth t₀ kids a b t = Lengths (length kids) (length kids₀) (length a) (length a₀) (length b) (length b₀) × (t ≤ no_more_docs) × ((ix : Index) (p : ℕ) (rs os ps : Scorers) → BooleanHeld (lent max-doc postings positions ranges) ix p rs os ps depth required-end optional-end kids₀ target → Going (takes ix rs os ps need) target t (BooleanHeld (lent max-doc postings positions ranges) ix p rs os ps depth required-end optional-end kids t))
 
 abbrev pub excluding-μ-loop : excluding-lts.decreases-loop-max_doc
-excluding-μ-loop kids₀ max-doc postings positions ranges a₀ b₀ required-end optional-end need target depth t₀ kids a b t = noMoreDocs - t
+excluding-μ-loop kids₀ max-doc postings positions ranges a₀ b₀ required-end optional-end need target depth t₀ kids a b t = no_more_docs - t
 
 abbrev pub least-Inv-loop : least-lts.invariant-loop-at
 least-Inv-loop kids₀ max-doc postings positions ranges a₀ b₀ target depth best₀ count₀ at₀ kids a b best count at = Lengths (length kids) (length kids₀) (length a) (length a₀) (length b) (length b₀) × ((ix : Index) (p : ℕ) (ss : Scorers) → PartsHeld (lent max-doc postings positions ranges) ix p ss depth kids₀ target → LeastAt (lent max-doc postings positions ranges) ix p depth ss kids target best count at)

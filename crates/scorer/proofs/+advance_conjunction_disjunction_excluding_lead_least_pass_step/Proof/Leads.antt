@@ -8,8 +8,8 @@ use lib.ListN.{length, drop}
 use lib.Seq.{length-take-le}
 use lib.Dec.{leb}
 use borrow.Author.Tests.{le-leb}
-use Rattle.meaning.specs.Limits.{noMoreDocs}
-use Rattle.weight.specs.ScorerTree.{matching, allMatch}
+use Rattle.meaning.specs.Limits.{no_more_docs}
+use Rattle.weight.specs.ScorerTree.{matching, all_match}
 use Rattle.scorer.proofs.Firsts.{pass-done, pass-more, pass-then, pass-only, enough-top, enough-hit, enough-more}
 use Rattle.leaf_scorer.proofs.Loops.{back-length}
 use Rattle.leaf_scorer.proofs.Loops.{going_start}
@@ -77,7 +77,7 @@ pub disjunction-loop-less : (t : ℕ) → disjunction-lts.Need-loop-x-smaller (d
 disjunction-loop-less t c = let s = c in let P = s.requires.1.1.1 in let a = c.loop-x in let i = a.invariant.3 P.0 P.1 P.2 P.4 in let g = c.least-x in let q = g.ensures P.0 P.1 P.2 i.held in omega (arith, q.0.first.top, q.0.first.from, c.if-d-eq-NO_MORE_DOCS.false)
 
 pub disjunction-loop-again : (t : ℕ) → disjunction-lts.Need-loop-x-preserved (disjunction-calls t) (disjunction-at t) disjunction.Post disjunction-Inv-loop disjunction-μ-loop
-disjunction-loop-again t c = let s = c in let P = s.requires.1.1.1 in let a = c.loop-x in let i = a.invariant.3 P.0 P.1 P.2 P.4 in let g = c.least-x in let q = g.ensures P.0 P.1 P.2 i.held in let d : g.result.doc < noMoreDocs = omega (arith, q.0.first.top, c.if-d-eq-NO_MORE_DOCS.false) in (record { kids-same = g.auto.kids ∙ a.invariant.0.kids-same; a-same = g.auto.a ∙ a.invariant.0.a-same; b-same = g.auto.b ∙ a.invariant.0.b-same }, omega arith, a.invariant.2, λ ix p ss h. let i = a.invariant.3 ix p ss h in let q = g.ensures ix p ss i.held in record { lo = omega (arith, i.lo, q.0.first.from); before = enough-more s.requires.1.0 i.lo i.before q.0 d (omega (arith, c.if-x-enough.true, a.invariant.2)); held = parts-later (g.result.doc + 1) (omega (arith, q.0.first.from)) q.1 })
+disjunction-loop-again t c = let s = c in let P = s.requires.1.1.1 in let a = c.loop-x in let i = a.invariant.3 P.0 P.1 P.2 P.4 in let g = c.least-x in let q = g.ensures P.0 P.1 P.2 i.held in let d : g.result.doc < no_more_docs = omega (arith, q.0.first.top, c.if-d-eq-NO_MORE_DOCS.false) in (record { kids-same = g.auto.kids ∙ a.invariant.0.kids-same; a-same = g.auto.a ∙ a.invariant.0.a-same; b-same = g.auto.b ∙ a.invariant.0.b-same }, omega arith, a.invariant.2, λ ix p ss h. let i = a.invariant.3 ix p ss h in let q = g.ensures ix p ss i.held in record { lo = omega (arith, i.lo, q.0.first.from); before = enough-more s.requires.1.0 i.lo i.before q.0 d (omega (arith, c.if-x-enough.true, a.invariant.2)); held = parts-later (g.result.doc + 1) (omega (arith, q.0.first.from)) q.1 })
 
 pub disjunction-same-length-4 : (t : ℕ) → disjunction-lts.Need-shape_of-kids-else-x-enough (disjunction-calls t) (disjunction-at t) disjunction.Post disjunction-Inv-loop disjunction-μ-loop
 disjunction-same-length-4 t c = let a = c.loop-x in let g = c.least-x in g.auto.kids ∙ a.invariant.0.kids-same
@@ -158,7 +158,7 @@ pub step-same-length-3 : (t : ℕ) → step-lts.Need-shape_of-b-then-need-eq0 (s
 step-same-length-3 t c = c.pass-e.auto.b
 
 pub step-returns : (t : ℕ) → step-lts.Need-returns-then-need-eq0 (step-calls t) (step-at t) step.Post
-step-returns t c = let s = c in let g = c.pass-e in λ ix p rs os h. let q = g.ensures ix p rs (lead-required h) in (pass-only {P = allMatch ix rs} {Q = λ d. leb s.args.need (matching ix os d)} (λ d. le-leb s.args.need (matching ix os d) (omega (arith, c.if-need-eq0.true))) q.0, lead-passed h g.new.kids g.result q.0.from q.1)
+step-returns t c = let s = c in let g = c.pass-e in λ ix p rs os h. let q = g.ensures ix p rs (lead-required h) in (pass-only {P = all_match ix rs} {Q = λ d. leb s.args.need (matching ix os d)} (λ d. le-leb s.args.need (matching ix os d) (omega (arith, c.if-need-eq0.true))) q.0, lead-passed h g.new.kids g.result q.0.from q.1)
 
 pub step-same-length-4 : (t : ℕ) → step-lts.Need-shape_of-kids-else-need-eq0 (step-calls t) (step-at t) step.Post
 step-same-length-4 t c = let s = c in let n = s.args.required_end in let w = s.args.kids.now in let g = c.pass-e in let x = c.disjunction in let v = g.new.kids ++ drop n w in back-length v x.new.kids n (length v) x.auto.kids ∙ front_length w g.new.kids n g.auto.kids
@@ -170,4 +170,4 @@ pub step-same-length-6 : (t : ℕ) → step-lts.Need-shape_of-b-else-need-eq0 (s
 step-same-length-6 t c = c.disjunction.auto.b ∙ c.pass-e.auto.b
 
 pub step-returns-2 : (t : ℕ) → step-lts.Need-returns-else-need-eq0 (step-calls t) (step-at t) step.Post
-step-returns-2 t c = let s = c in let g = c.pass-e in let x = c.disjunction in λ ix p rs os h. let q = g.ensures ix p rs (lead-required h) in let j = lead-passed h g.new.kids g.result q.0.from q.1 in let y = x.ensures ix p os (lead-optional j) in (pass-then {P = allMatch ix rs} {Q = λ d. leb s.args.need (matching ix os d)} q.0 y.0, lead-joined j x.new.kids x.result y.0.from y.1)
+step-returns-2 t c = let s = c in let g = c.pass-e in let x = c.disjunction in λ ix p rs os h. let q = g.ensures ix p rs (lead-required h) in let j = lead-passed h g.new.kids g.result q.0.from q.1 in let y = x.ensures ix p os (lead-optional j) in (pass-then {P = all_match ix rs} {Q = λ d. leb s.args.need (matching ix os d)} q.0 y.0, lead-joined j x.new.kids x.result y.0.from y.1)

@@ -5,7 +5,7 @@ use mathlib.Core.List.{◌++◌}
 use native.Mathlib.Omega.{arith}
 use lib.ListN.{length, length-set, take, drop}
 use lib.Seq.{length-take-le, get_or-set_same}
-use Rattle.meaning.specs.Limits.{noMoreDocs, nodeStateWords}
+use Rattle.meaning.specs.Limits.{no_more_docs, node_state_words}
 use Rattle.leaf_scorer.specs.Calls.{lent}
 use Rattle.leaf_scorer.proofs.Bounds.{ok-long}
 use Rattle.scorer.proofs.Firsts.{kept_top, kept-alone, kept-hit, kept_more}
@@ -54,7 +54,7 @@ pub advance-add-st : (t : ℕ) → advance-lts.Need-overflow_add-st (advance-cal
 advance-add-st t c = let s = c in let P = s.requires.1.1 in let h = c.head_at-h in let b = c.boolean_at-n in let x = c.excluding-d in let d = node-joined (lent s.args.max_doc s.args.postings.now s.args.positions.now s.args.ranges.now) P.0 P.1 s.args.depth P.3 s.args.st.now s.args.target h.result.cached h.ensures.cached c.if-target-cached.false h.result.kind h.ensures.kind c.if-h-eq-BOOLEAN.true b.result.need b.ensures.need b.result.required b.result.optional b.ensures.required-end b.ensures.optional-end x.result x.new.kids x.ensures P.2 P.5 in omega (arith, d.0.top)
 
 pub advance-slice-write-st : (t : ℕ) → advance-lts.Need-bounds-st-2 (advance-calls t) (advance-at t) advance.Post
-advance-slice-write-st t c = let s = c in let P = s.requires.1.1 in let l = ok-long P.0 s.args.ranges.now P.2 s.args.depth P.3 s.args.st.now s.args.target P.5.ok in let x = c.excluding-d in omega (arith, l, back-length s.args.st.now x.new.kids nodeStateWords (length s.args.st.now) x.auto.kids)
+advance-slice-write-st t c = let s = c in let P = s.requires.1.1 in let l = ok-long P.0 s.args.ranges.now P.2 s.args.depth P.3 s.args.st.now s.args.target P.5.ok in let x = c.excluding-d in omega (arith, l, back-length s.args.st.now x.new.kids node_state_words (length s.args.st.now) x.auto.kids)
 
 pub advance-seek-requires : (t : ℕ) → advance-lts.Need-seek-d-requires (advance-calls t) (advance-at t) advance.Post
 advance-seek-requires t c κs = let s = c in let P = s.requires.1.1 in let h = c.head_at-h in let n = node-leaf (lent s.args.max_doc s.args.postings.now s.args.positions.now s.args.ranges.now) P.0 P.1 s.args.depth P.3 s.args.st.now s.args.target h.result.cached h.ensures.cached c.if-target-cached.false h.result.kind h.ensures.kind c.if-h-eq-BOOLEAN.false P.2 P.5 in (s.requires.1.0, (P.0, P.1, n.0, n.1, n.2, record { in-a = P.4.in-a; in_b = P.4.in_b }, n.3))
@@ -66,7 +66,7 @@ pub advance-slice-write-st-2 : (t : ℕ) → advance-lts.Need-bounds-st-2-else-h
 advance-slice-write-st-2 t c = let s = c in let P = s.requires.1.1 in let l = ok-long P.0 s.args.ranges.now P.2 s.args.depth P.3 s.args.st.now s.args.target P.5.ok in let y = c.seek-d in omega (arith, l, y.auto.st)
 
 pub advance-same-length-2 : (t : ℕ) → advance-lts.Need-shape_of-st-then-h-eq-BOOLEAN (advance-calls t) (advance-at t) advance.Post
-advance-same-length-2 t c = let s = c in let x = c.excluding-d in simp length-set (back-length s.args.st.now x.new.kids nodeStateWords (length s.args.st.now) x.auto.kids)
+advance-same-length-2 t c = let s = c in let x = c.excluding-d in simp length-set (back-length s.args.st.now x.new.kids node_state_words (length s.args.st.now) x.auto.kids)
 
 pub advance-same-length-3 : (t : ℕ) → advance-lts.Need-shape_of-a-then-h-eq-BOOLEAN (advance-calls t) (advance-at t) advance.Post
 advance-same-length-3 t c = c.excluding-d.auto.a
@@ -75,7 +75,7 @@ pub advance-same-length-4 : (t : ℕ) → advance-lts.Need-shape_of-b-then-h-eq-
 advance-same-length-4 t c = c.excluding-d.auto.b
 
 pub advance-returns-2 : (t : ℕ) → advance-lts.Need-returns-then-h-eq-BOOLEAN (advance-calls t) (advance-at t) advance.Post
-advance-returns-2 t c = let s = c in let P = s.requires.1.1 in let l = ok-long P.0 s.args.ranges.now P.2 s.args.depth P.3 s.args.st.now s.args.target P.5.ok in let h = c.head_at-h in let b = c.boolean_at-n in let x = c.excluding-d in ((λ ix p T o z. node-joined (lent s.args.max_doc s.args.postings.now s.args.positions.now s.args.ranges.now) ix p s.args.depth o s.args.st.now s.args.target h.result.cached h.ensures.cached c.if-target-cached.false h.result.kind h.ensures.kind c.if-h-eq-BOOLEAN.true b.result.need b.ensures.need b.result.required b.result.optional b.ensures.required-end b.ensures.optional-end x.result x.new.kids x.ensures T z), get_or-set_same (take nodeStateWords s.args.st.now ++ (x.new.kids ++ drop (length s.args.st.now - nodeStateWords) (drop nodeStateWords s.args.st.now))) 2 (x.result + 1) 0 (omega (arith, l, back-length s.args.st.now x.new.kids nodeStateWords (length s.args.st.now) x.auto.kids)))
+advance-returns-2 t c = let s = c in let P = s.requires.1.1 in let l = ok-long P.0 s.args.ranges.now P.2 s.args.depth P.3 s.args.st.now s.args.target P.5.ok in let h = c.head_at-h in let b = c.boolean_at-n in let x = c.excluding-d in ((λ ix p T o z. node-joined (lent s.args.max_doc s.args.postings.now s.args.positions.now s.args.ranges.now) ix p s.args.depth o s.args.st.now s.args.target h.result.cached h.ensures.cached c.if-target-cached.false h.result.kind h.ensures.kind c.if-h-eq-BOOLEAN.true b.result.need b.ensures.need b.result.required b.result.optional b.ensures.required-end b.ensures.optional-end x.result x.new.kids x.ensures T z), get_or-set_same (take node_state_words s.args.st.now ++ (x.new.kids ++ drop (length s.args.st.now - node_state_words) (drop node_state_words s.args.st.now))) 2 (x.result + 1) 0 (omega (arith, l, back-length s.args.st.now x.new.kids node_state_words (length s.args.st.now) x.auto.kids)))
 
 pub advance-same-length-5 : (t : ℕ) → advance-lts.Need-shape_of-st-else-h-eq-BOOLEAN (advance-calls t) (advance-at t) advance.Post
 advance-same-length-5 t c = let y = c.seek-d in simp length-set y.auto.st
@@ -144,10 +144,10 @@ pub excluding-add-t : (t : ℕ) → excluding-lts.Need-overflow_add-t (excluding
 excluding-add-t t c = let s = c in let P = s.requires.1.1 in let a = c.loop-max_doc in let i = a.invariant.2 P.0 P.1 P.2 P.3 P.4 P.6 in let m = s.args.optional_end in let g = c.lead-d in let q = g.ensures P.0 P.1 P.2 P.3 (boolean-lead i.held) in omega (arith, q.0.top)
 
 pub excluding-loop-less : (t : ℕ) → excluding-lts.Need-loop-max_doc-smaller (excluding-calls t) (excluding-at t) excluding.Post excluding-Inv-loop excluding-μ-loop
-excluding-loop-less t c = let s = c in let P = s.requires.1.1 in let a = c.loop-max_doc in let i = a.invariant.2 P.0 P.1 P.2 P.3 P.4 P.6 in let m = s.args.optional_end in let g = c.lead-d in let q = g.ensures P.0 P.1 P.2 P.3 (boolean-lead i.held) in let d : g.result < noMoreDocs = omega (arith, q.0.top, c.if-d-eq-NO_MORE_DOCS.false) in omega (arith, q.0.from)
+excluding-loop-less t c = let s = c in let P = s.requires.1.1 in let a = c.loop-max_doc in let i = a.invariant.2 P.0 P.1 P.2 P.3 P.4 P.6 in let m = s.args.optional_end in let g = c.lead-d in let q = g.ensures P.0 P.1 P.2 P.3 (boolean-lead i.held) in let d : g.result < no_more_docs = omega (arith, q.0.top, c.if-d-eq-NO_MORE_DOCS.false) in omega (arith, q.0.from)
 
 pub excluding-loop-again : (t : ℕ) → excluding-lts.Need-loop-max_doc-preserved (excluding-calls t) (excluding-at t) excluding.Post excluding-Inv-loop excluding-μ-loop
-excluding-loop-again t c = let s = c in let P = s.requires.1.1 in let a = c.loop-max_doc in let i = a.invariant.2 P.0 P.1 P.2 P.3 P.4 P.6 in let m = s.args.optional_end in let g = c.lead-d in let x = c.least-x in let w = g.new.kids ++ drop m a.kids in let q = g.ensures P.0 P.1 P.2 P.3 (boolean-lead i.held) in let d : g.result < noMoreDocs = omega (arith, q.0.top, c.if-d-eq-NO_MORE_DOCS.false) in (record { kids-same = back-length w x.new.kids m (length w) x.auto.kids ∙ front_length a.kids g.new.kids m g.auto.kids ∙ a.invariant.0.kids-same; a-same = x.auto.a ∙ g.auto.a ∙ a.invariant.0.a-same; b-same = x.auto.b ∙ g.auto.b ∙ a.invariant.0.b-same }, omega arith, λ ix p rs os ps h. let i = a.invariant.2 ix p rs os ps h in let q = g.ensures ix p rs os (boolean-lead i.held) in let j = boolean-led i.held g.new.kids g.result q.0.from g.auto.kids q.1 in let y = x.ensures ix p ps (boolean-prohibited j) in record { lo = omega (arith, i.lo, q.0.from); before = kept_more ix rs os ps s.args.need i.lo i.before q.0 x.result.doc x.result.count d y.0 c.if-x-d.true; held = boolean-later (boolean-joined j x.new.kids y.1) (g.result + 1) (omega arith) })
+excluding-loop-again t c = let s = c in let P = s.requires.1.1 in let a = c.loop-max_doc in let i = a.invariant.2 P.0 P.1 P.2 P.3 P.4 P.6 in let m = s.args.optional_end in let g = c.lead-d in let x = c.least-x in let w = g.new.kids ++ drop m a.kids in let q = g.ensures P.0 P.1 P.2 P.3 (boolean-lead i.held) in let d : g.result < no_more_docs = omega (arith, q.0.top, c.if-d-eq-NO_MORE_DOCS.false) in (record { kids-same = back-length w x.new.kids m (length w) x.auto.kids ∙ front_length a.kids g.new.kids m g.auto.kids ∙ a.invariant.0.kids-same; a-same = x.auto.a ∙ g.auto.a ∙ a.invariant.0.a-same; b-same = x.auto.b ∙ g.auto.b ∙ a.invariant.0.b-same }, omega arith, λ ix p rs os ps h. let i = a.invariant.2 ix p rs os ps h in let q = g.ensures ix p rs os (boolean-lead i.held) in let j = boolean-led i.held g.new.kids g.result q.0.from g.auto.kids q.1 in let y = x.ensures ix p ps (boolean-prohibited j) in record { lo = omega (arith, i.lo, q.0.from); before = kept_more ix rs os ps s.args.need i.lo i.before q.0 x.result.doc x.result.count d y.0 c.if-x-d.true; held = boolean-later (boolean-joined j x.new.kids y.1) (g.result + 1) (omega arith) })
 
 pub excluding-same-length-7 : (t : ℕ) → excluding-lts.Need-shape_of-kids-else-x-d (excluding-calls t) (excluding-at t) excluding.Post excluding-Inv-loop excluding-μ-loop
 excluding-same-length-7 t c = let s = c in let a = c.loop-max_doc in let m = s.args.optional_end in let g = c.lead-d in let x = c.least-x in let w = g.new.kids ++ drop m a.kids in back-length w x.new.kids m (length w) x.auto.kids ∙ front_length a.kids g.new.kids m g.auto.kids ∙ a.invariant.0.kids-same

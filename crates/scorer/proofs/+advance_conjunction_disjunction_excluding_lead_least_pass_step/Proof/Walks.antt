@@ -1,7 +1,7 @@
 -- The loops over children. Assumes nothing.
 use mathlib.Core.Path.{refl, sym, ◌∙◌}
 use native.Mathlib.Omega.{arith}
-use Rattle.meaning.specs.Limits.{nodeStateWords}
+use Rattle.meaning.specs.Limits.{node_state_words}
 use Rattle.scorer.proofs.Children.{child-facts, child-held, child-kind, child-cached, child-term, child-range, term-end, range-end}
 use Rattle.leaf_scorer.proofs.Loops.{back-length}
 use Rattle.scorer.proofs.Loops.{least_start, least-end, least_skip, least-took, pass-start, pass-end, pass-skip, pass-took, pass-asked}
@@ -35,16 +35,16 @@ pub least-part-advance-term-end : (t : ℕ) → least-lts.Need-slice_bounds-adva
 least-part-advance-term-end t c = let s = c in let P = s.requires.1.1 in let a = c.loop-at in let i = a.invariant.1 P.0 P.1 P.2 P.4 in let l = c.loop-at-test.true in let f = child-facts i.left i.zip l in let n = child-term i.left i.zip l (sym c.kind_at.ensures ∙ c.if-kind_at-eq-TERM.true) in omega (arith, f, n, a.invariant.0, s.well_formed)
 
 pub least-advance-term-requires : (t : ℕ) → least-lts.Need-advance_term-d-requires (least-calls t) (least_at t) least.Post least-Inv-loop least-μ-loop
-least-advance-term-requires t c κs = let s = c in let P = s.requires.1.1 in let a = c.loop-at in let i = a.invariant.1 P.0 P.1 P.2 P.4 in let l = c.loop-at-test.true in let f = child-facts i.left i.zip l in let v = term-end i.left i.zip l (sym c.kind_at.ensures ∙ c.if-kind_at-eq-TERM.true) in let h = child-held i.left i.zip l (a.at + nodeStateWords) v in (s.requires.1.0, child-kind a.kids a.at (a.at + nodeStateWords) f v ∙ (sym c.kind_at.ensures ∙ c.if-kind_at-eq-TERM.true), (lent s.args.max_doc s.args.postings.now s.args.positions.now s.args.ranges.now, refl, P.0, P.1, h.0, s.args.depth, h.1, h.2))
+least-advance-term-requires t c κs = let s = c in let P = s.requires.1.1 in let a = c.loop-at in let i = a.invariant.1 P.0 P.1 P.2 P.4 in let l = c.loop-at-test.true in let f = child-facts i.left i.zip l in let v = term-end i.left i.zip l (sym c.kind_at.ensures ∙ c.if-kind_at-eq-TERM.true) in let h = child-held i.left i.zip l (a.at + node_state_words) v in (s.requires.1.0, child-kind a.kids a.at (a.at + node_state_words) f v ∙ (sym c.kind_at.ensures ∙ c.if-kind_at-eq-TERM.true), (lent s.args.max_doc s.args.postings.now s.args.positions.now s.args.ranges.now, refl, P.0, P.1, h.0, s.args.depth, h.1, h.2))
 
 pub least-tally-requires : (t : ℕ) → least-lts.Need-tally-x-requires (least-calls t) (least_at t) least.Post least-Inv-loop least-μ-loop
 least-tally-requires t c κs = let s = c in let P = s.requires.1.1 in let a = c.loop-at in let i = a.invariant.1 P.0 P.1 P.2 P.4 in let l = c.loop-at-test.true in omega (arith, i.few, l, a.invariant.0, s.well_formed)
 
 pub least-loop-less : (t : ℕ) → least-lts.Need-loop-at-smaller-then-kind_at-eq-TERM (least-calls t) (least_at t) least.Post least-Inv-loop least-μ-loop
-least-loop-less t c = let s = c in let P = s.requires.1.1 in let a = c.loop-at in let i = a.invariant.1 P.0 P.1 P.2 P.4 in let l = c.loop-at-test.true in let f = child-facts i.left i.zip l in let n = child-term i.left i.zip l (sym c.kind_at.ensures ∙ c.if-kind_at-eq-TERM.true) in let d = c.advance_term-d in omega (arith, f, n, l, back-length a.kids d.new.st a.at (a.at + nodeStateWords) d.auto.st)
+least-loop-less t c = let s = c in let P = s.requires.1.1 in let a = c.loop-at in let i = a.invariant.1 P.0 P.1 P.2 P.4 in let l = c.loop-at-test.true in let f = child-facts i.left i.zip l in let n = child-term i.left i.zip l (sym c.kind_at.ensures ∙ c.if-kind_at-eq-TERM.true) in let d = c.advance_term-d in omega (arith, f, n, l, back-length a.kids d.new.st a.at (a.at + node_state_words) d.auto.st)
 
 pub least-loop-again : (t : ℕ) → least-lts.Need-loop-at-preserved-then-kind_at-eq-TERM (least-calls t) (least_at t) least.Post least-Inv-loop least-μ-loop
-least-loop-again t c = let s = c in let a = c.loop-at in let l = c.loop-at-test.true in let d = c.advance_term-d in let y = c.tally-x in (record { kids-same = back-length a.kids d.new.st a.at (a.at + nodeStateWords) d.auto.st ∙ a.invariant.0.kids-same; a-same = a.invariant.0.a-same; b-same = a.invariant.0.b-same }, λ ix p ss h. let v = term-end (a.invariant.1 ix p ss h).left (a.invariant.1 ix p ss h).zip l (sym c.kind_at.ensures ∙ c.if-kind_at-eq-TERM.true) in least-took (a.invariant.1 ix p ss h) l (a.at + nodeStateWords) v d.result y.result.doc y.result.count d.new.st d.auto.st (d.ensures.0 (lent s.args.max_doc s.args.postings.now s.args.positions.now s.args.ranges.now) s.args.depth refl) y.ensures)
+least-loop-again t c = let s = c in let a = c.loop-at in let l = c.loop-at-test.true in let d = c.advance_term-d in let y = c.tally-x in (record { kids-same = back-length a.kids d.new.st a.at (a.at + node_state_words) d.auto.st ∙ a.invariant.0.kids-same; a-same = a.invariant.0.a-same; b-same = a.invariant.0.b-same }, λ ix p ss h. let v = term-end (a.invariant.1 ix p ss h).left (a.invariant.1 ix p ss h).zip l (sym c.kind_at.ensures ∙ c.if-kind_at-eq-TERM.true) in least-took (a.invariant.1 ix p ss h) l (a.at + node_state_words) v d.result y.result.doc y.result.count d.new.st d.auto.st (d.ensures.0 (lent s.args.max_doc s.args.postings.now s.args.positions.now s.args.ranges.now) s.args.depth refl) y.ensures)
 
 pub least-child-at-requires : (t : ℕ) → least-lts.Need-child_at-k-requires (least-calls t) (least_at t) least.Post least-Inv-loop least-μ-loop
 least-child-at-requires t c κs = let s = c in let P = s.requires.1.1 in let a = c.loop-at in let i = a.invariant.1 P.0 P.1 P.2 P.4 in let l = c.loop-at-test.true in child-facts i.left i.zip l
@@ -119,13 +119,13 @@ pub pass-part-advance-term-end : (t : ℕ) → pass-lts.Need-slice_bounds-advanc
 pass-part-advance-term-end t c = let s = c in let P = s.requires.1.1 in let a = c.loop-at in let i = a.invariant.1 P.0 P.1 P.2 P.4 in let l = c.loop-at-test.true in let f = child-facts i.left i.zip l in let n = child-term i.left i.zip l (sym c.kind_at-kind.ensures ∙ c.if-kind-eq-TERM.true) in omega (arith, f, n, a.invariant.0, s.well_formed)
 
 pub pass-advance-term-requires : (t : ℕ) → pass-lts.Need-advance_term-d-requires (pass-calls t) (pass-at t) pass.Post pass-Inv-loop pass-μ-loop
-pass-advance-term-requires t c κs = let s = c in let P = s.requires.1.1 in let a = c.loop-at in let i = a.invariant.1 P.0 P.1 P.2 P.4 in let l = c.loop-at-test.true in let f = child-facts i.left i.zip l in let v = term-end i.left i.zip l (sym c.kind_at-kind.ensures ∙ c.if-kind-eq-TERM.true) in let h = child-held i.left i.zip l (a.at + nodeStateWords) v in (i.top, child-kind a.kids a.at (a.at + nodeStateWords) f v ∙ (sym c.kind_at-kind.ensures ∙ c.if-kind-eq-TERM.true), (lent s.args.max_doc s.args.postings.now s.args.positions.now s.args.ranges.now, refl, P.0, P.1, h.0, s.args.depth, h.1, h.2))
+pass-advance-term-requires t c κs = let s = c in let P = s.requires.1.1 in let a = c.loop-at in let i = a.invariant.1 P.0 P.1 P.2 P.4 in let l = c.loop-at-test.true in let f = child-facts i.left i.zip l in let v = term-end i.left i.zip l (sym c.kind_at-kind.ensures ∙ c.if-kind-eq-TERM.true) in let h = child-held i.left i.zip l (a.at + node_state_words) v in (i.top, child-kind a.kids a.at (a.at + node_state_words) f v ∙ (sym c.kind_at-kind.ensures ∙ c.if-kind-eq-TERM.true), (lent s.args.max_doc s.args.postings.now s.args.positions.now s.args.ranges.now, refl, P.0, P.1, h.0, s.args.depth, h.1, h.2))
 
 pub pass-loop-less : (t : ℕ) → pass-lts.Need-loop-at-smaller-then-kind-eq-TERM (pass-calls t) (pass-at t) pass.Post pass-Inv-loop pass-μ-loop
-pass-loop-less t c = let s = c in let P = s.requires.1.1 in let a = c.loop-at in let i = a.invariant.1 P.0 P.1 P.2 P.4 in let l = c.loop-at-test.true in let f = child-facts i.left i.zip l in let n = child-term i.left i.zip l (sym c.kind_at-kind.ensures ∙ c.if-kind-eq-TERM.true) in let d = c.advance_term-d in omega (arith, f, n, l, back-length a.kids d.new.st a.at (a.at + nodeStateWords) d.auto.st)
+pass-loop-less t c = let s = c in let P = s.requires.1.1 in let a = c.loop-at in let i = a.invariant.1 P.0 P.1 P.2 P.4 in let l = c.loop-at-test.true in let f = child-facts i.left i.zip l in let n = child-term i.left i.zip l (sym c.kind_at-kind.ensures ∙ c.if-kind-eq-TERM.true) in let d = c.advance_term-d in omega (arith, f, n, l, back-length a.kids d.new.st a.at (a.at + node_state_words) d.auto.st)
 
 pub pass-loop-again : (t : ℕ) → pass-lts.Need-loop-at-preserved-then-kind-eq-TERM (pass-calls t) (pass-at t) pass.Post pass-Inv-loop pass-μ-loop
-pass-loop-again t c = let s = c in let a = c.loop-at in let l = c.loop-at-test.true in let d = c.advance_term-d in (record { kids-same = back-length a.kids d.new.st a.at (a.at + nodeStateWords) d.auto.st ∙ a.invariant.0.kids-same; a-same = a.invariant.0.a-same; b-same = a.invariant.0.b-same }, λ ix p ss h. let v = term-end (a.invariant.1 ix p ss h).left (a.invariant.1 ix p ss h).zip l (sym c.kind_at-kind.ensures ∙ c.if-kind-eq-TERM.true) in pass-took (a.invariant.1 ix p ss h) l (a.at + nodeStateWords) v d.result d.new.st d.auto.st (d.ensures.0 (lent s.args.max_doc s.args.postings.now s.args.positions.now s.args.ranges.now) s.args.depth refl))
+pass-loop-again t c = let s = c in let a = c.loop-at in let l = c.loop-at-test.true in let d = c.advance_term-d in (record { kids-same = back-length a.kids d.new.st a.at (a.at + node_state_words) d.auto.st ∙ a.invariant.0.kids-same; a-same = a.invariant.0.a-same; b-same = a.invariant.0.b-same }, λ ix p ss h. let v = term-end (a.invariant.1 ix p ss h).left (a.invariant.1 ix p ss h).zip l (sym c.kind_at-kind.ensures ∙ c.if-kind-eq-TERM.true) in pass-took (a.invariant.1 ix p ss h) l (a.at + node_state_words) v d.result d.new.st d.auto.st (d.ensures.0 (lent s.args.max_doc s.args.postings.now s.args.positions.now s.args.ranges.now) s.args.depth refl))
 
 pub pass-add-end-2 : (t : ℕ) → pass-lts.Need-overflow_add-end-then-kind-eq-RANGE (pass-calls t) (pass-at t) pass.Post pass-Inv-loop pass-μ-loop
 pass-add-end-2 t c = let s = c in let P = s.requires.1.1 in let a = c.loop-at in let i = a.invariant.1 P.0 P.1 P.2 P.4 in let l = c.loop-at-test.true in let f = child-facts i.left i.zip l in let n = child-range i.left i.zip l (sym c.kind_at-kind.ensures ∙ c.if-kind-eq-RANGE.true) in omega (arith, f, n, a.invariant.0, s.well_formed)
@@ -143,13 +143,13 @@ pub pass-part-advance-range-end : (t : ℕ) → pass-lts.Need-slice_bounds-advan
 pass-part-advance-range-end t c = let s = c in let P = s.requires.1.1 in let a = c.loop-at in let i = a.invariant.1 P.0 P.1 P.2 P.4 in let l = c.loop-at-test.true in let f = child-facts i.left i.zip l in let n = child-range i.left i.zip l (sym c.kind_at-kind.ensures ∙ c.if-kind-eq-RANGE.true) in omega (arith, f, n, a.invariant.0, s.well_formed)
 
 pub pass-advance-range-requires : (t : ℕ) → pass-lts.Need-advance_range-d-requires (pass-calls t) (pass-at t) pass.Post pass-Inv-loop pass-μ-loop
-pass-advance-range-requires t c κs = let s = c in let P = s.requires.1.1 in let a = c.loop-at in let i = a.invariant.1 P.0 P.1 P.2 P.4 in let l = c.loop-at-test.true in let f = child-facts i.left i.zip l in let v = range-end i.left i.zip l (sym c.kind_at-kind.ensures ∙ c.if-kind-eq-RANGE.true) in let h = child-held i.left i.zip l (a.at + nodeStateWords) v in (i.top, child-kind a.kids a.at (a.at + nodeStateWords) f v ∙ (sym c.kind_at-kind.ensures ∙ c.if-kind-eq-RANGE.true), (lent s.args.max_doc s.args.postings.now s.args.positions.now s.args.ranges.now, refl, P.0, P.1, h.0, s.args.depth, h.1, h.2))
+pass-advance-range-requires t c κs = let s = c in let P = s.requires.1.1 in let a = c.loop-at in let i = a.invariant.1 P.0 P.1 P.2 P.4 in let l = c.loop-at-test.true in let f = child-facts i.left i.zip l in let v = range-end i.left i.zip l (sym c.kind_at-kind.ensures ∙ c.if-kind-eq-RANGE.true) in let h = child-held i.left i.zip l (a.at + node_state_words) v in (i.top, child-kind a.kids a.at (a.at + node_state_words) f v ∙ (sym c.kind_at-kind.ensures ∙ c.if-kind-eq-RANGE.true), (lent s.args.max_doc s.args.postings.now s.args.positions.now s.args.ranges.now, refl, P.0, P.1, h.0, s.args.depth, h.1, h.2))
 
 pub pass-loop-less-2 : (t : ℕ) → pass-lts.Need-loop-at-smaller-then-kind-eq-RANGE (pass-calls t) (pass-at t) pass.Post pass-Inv-loop pass-μ-loop
-pass-loop-less-2 t c = let s = c in let P = s.requires.1.1 in let a = c.loop-at in let i = a.invariant.1 P.0 P.1 P.2 P.4 in let l = c.loop-at-test.true in let f = child-facts i.left i.zip l in let n = child-range i.left i.zip l (sym c.kind_at-kind.ensures ∙ c.if-kind-eq-RANGE.true) in let d = c.advance_range-d in omega (arith, f, n, l, back-length a.kids d.new.st a.at (a.at + nodeStateWords) d.auto.st)
+pass-loop-less-2 t c = let s = c in let P = s.requires.1.1 in let a = c.loop-at in let i = a.invariant.1 P.0 P.1 P.2 P.4 in let l = c.loop-at-test.true in let f = child-facts i.left i.zip l in let n = child-range i.left i.zip l (sym c.kind_at-kind.ensures ∙ c.if-kind-eq-RANGE.true) in let d = c.advance_range-d in omega (arith, f, n, l, back-length a.kids d.new.st a.at (a.at + node_state_words) d.auto.st)
 
 pub pass-loop-again-2 : (t : ℕ) → pass-lts.Need-loop-at-preserved-then-kind-eq-RANGE (pass-calls t) (pass-at t) pass.Post pass-Inv-loop pass-μ-loop
-pass-loop-again-2 t c = let s = c in let a = c.loop-at in let l = c.loop-at-test.true in let d = c.advance_range-d in (record { kids-same = back-length a.kids d.new.st a.at (a.at + nodeStateWords) d.auto.st ∙ a.invariant.0.kids-same; a-same = a.invariant.0.a-same; b-same = a.invariant.0.b-same }, λ ix p ss h. let v = range-end (a.invariant.1 ix p ss h).left (a.invariant.1 ix p ss h).zip l (sym c.kind_at-kind.ensures ∙ c.if-kind-eq-RANGE.true) in pass-took (a.invariant.1 ix p ss h) l (a.at + nodeStateWords) v d.result d.new.st d.auto.st (d.ensures (lent s.args.max_doc s.args.postings.now s.args.positions.now s.args.ranges.now) s.args.depth refl))
+pass-loop-again-2 t c = let s = c in let a = c.loop-at in let l = c.loop-at-test.true in let d = c.advance_range-d in (record { kids-same = back-length a.kids d.new.st a.at (a.at + node_state_words) d.auto.st ∙ a.invariant.0.kids-same; a-same = a.invariant.0.a-same; b-same = a.invariant.0.b-same }, λ ix p ss h. let v = range-end (a.invariant.1 ix p ss h).left (a.invariant.1 ix p ss h).zip l (sym c.kind_at-kind.ensures ∙ c.if-kind-eq-RANGE.true) in pass-took (a.invariant.1 ix p ss h) l (a.at + node_state_words) v d.result d.new.st d.auto.st (d.ensures (lent s.args.max_doc s.args.postings.now s.args.positions.now s.args.ranges.now) s.args.depth refl))
 
 pub pass-child-at-requires : (t : ℕ) → pass-lts.Need-child_at-k-requires (pass-calls t) (pass-at t) pass.Post pass-Inv-loop pass-μ-loop
 pass-child-at-requires t c κs = let s = c in let P = s.requires.1.1 in let a = c.loop-at in let i = a.invariant.1 P.0 P.1 P.2 P.4 in let l = c.loop-at-test.true in child-facts i.left i.zip l

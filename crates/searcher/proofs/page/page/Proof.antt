@@ -19,7 +19,7 @@ returns : tie.Need-returns-then-refusal-ne0
 returns c =
     let t = c in
     let a = t.args in
-    let ix : Index = record { maxDoc = a.max_doc; fields = a.fields.now; leaves = a.leaves.now; postings = a.postings.now; positions = a.positions.now; norms = a.norms.now; live = a.live.now; columns = a.columns.now; values = a.values.now } in
+    let ix : Index = record { max_doc = a.max_doc; fields = a.fields.now; leaves = a.leaves.now; postings = a.postings.now; positions = a.positions.now; norms = a.norms.now; live = a.live.now; columns = a.columns.now; values = a.values.now } in
     let w : Work = work (length a.states.now) (length a.a.now) (length a.b.now) (length a.ranges.now) in
     let o = t.page_refusal-refusal in
     let r = page-refused ix a.q.now a.target w a.documents.now a.scores.now o.result o.ensures t.if-refusal-ne0.true in
@@ -28,7 +28,7 @@ returns c =
 list-page-requires : tie.Need-list_page-requires
 list-page-requires c κs =
     let a = c.args in
-    let ix : Index = record { maxDoc = a.max_doc; fields = a.fields.now; leaves = a.leaves.now; postings = a.postings.now; positions = a.positions.now; norms = a.norms.now; live = a.live.now; columns = a.columns.now; values = a.values.now } in
+    let ix : Index = record { max_doc = a.max_doc; fields = a.fields.now; leaves = a.leaves.now; postings = a.postings.now; positions = a.positions.now; norms = a.norms.now; live = a.live.now; columns = a.columns.now; values = a.values.now } in
     let w : Work = work (length a.states.now) (length a.a.now) (length a.b.now) (length a.ranges.now) in
     let o = c.page_refusal-refusal in
     let z = c.if-refusal-ne0.false in
@@ -62,7 +62,7 @@ same-length-6 c =
 returns-2 : tie.Need-returns
 returns-2 c =
     let a = c.args in
-    let ix : Index = record { maxDoc = a.max_doc; fields = a.fields.now; leaves = a.leaves.now; postings = a.postings.now; positions = a.positions.now; norms = a.norms.now; live = a.live.now; columns = a.columns.now; values = a.values.now } in
+    let ix : Index = record { max_doc = a.max_doc; fields = a.fields.now; leaves = a.leaves.now; postings = a.postings.now; positions = a.positions.now; norms = a.norms.now; live = a.live.now; columns = a.columns.now; values = a.values.now } in
     let w : Work = work (length a.states.now) (length a.a.now) (length a.b.now) (length a.ranges.now) in
     let o = c.page_refusal-refusal in
     let z = c.if-refusal-ne0.false in

@@ -1,11 +1,11 @@
 -- What the loop collects is the full list.
 use Rattle.std.proofs.Common.{length, arith}
 use Rattle.meaning.specs.CallRefusals.{Work}
-use Rattle.meaning.specs.Limits.{noMoreDocs}
+use Rattle.meaning.specs.Limits.{no_more_docs}
 use Rattle.index.specs.Slices.{lent}
 use Rattle.order_check.specs.Lends.{work}
 use Rattle.order_check.proofs.Rooms.{states-room, ranges-room}
-use Rattle.walk.specs.Walks.{liveScored}
+use Rattle.walk.specs.Walks.{live_scored}
 use Rattle.bulk_scorer.proofs.Begins.{begin-ready, end-ready, end-answer}
 use Rattle.searcher.proofs.Preparing.{tree_of, answer-full, leaf-lent, columns-lent, root-held}
 use Rattle.searcher.proofs.search.find_by.Goals as goal
@@ -58,7 +58,7 @@ top_docs-requires c =
     let placed = p.ensures.placed ix asks leaves columns in
     let held = root-held a.max_doc a.fields.now a.leaves.now a.postings.now a.positions.now a.norms.now a.live.now a.columns.now a.values.now q w asks c.requires.asks.1 a.inverses.now c.requires.tables p.new.ranges p.new.states p.result placed in
     let k = c.collect_matches-c in
-    end-ready a.t c.new.result a.heap.now c.new.ensures c.requires.heap_nonzero.0 c.requires.heap_nonzero.1 a.max_doc (liveScored ix (tree_of ix q)) k.result k.new.heap (k.ensures.collect_post ix (tree_of ix q) 0 held) noMoreDocs (omega (arith, asks.accepted.documents))
+    end-ready a.t c.new.result a.heap.now c.new.ensures c.requires.heap_nonzero.0 c.requires.heap_nonzero.1 a.max_doc (live_scored ix (tree_of ix q)) k.result k.new.heap (k.ensures.collect_post ix (tree_of ix q) 0 held) no_more_docs (omega (arith, asks.accepted.documents))
 
 pub returns : goal.returns
 returns c =
@@ -74,6 +74,6 @@ returns c =
     let held = root-held a.max_doc a.fields.now a.leaves.now a.postings.now a.positions.now a.norms.now a.live.now a.columns.now a.values.now q w asks c.requires.asks.1 a.inverses.now c.requires.tables p.new.ranges p.new.states p.result placed in
     let k = c.collect_matches-c in
     let d = c.top_docs in
-    let drawn = end-answer a.t c.new.result a.heap.now c.new.ensures c.requires.heap_nonzero.0 c.requires.heap_nonzero.1 a.max_doc (liveScored ix (tree_of ix q)) k.result k.new.heap (k.ensures.collect_post ix (tree_of ix q) 0 held) d.result d.new.heap d.ensures in
+    let drawn = end-answer a.t c.new.result a.heap.now c.new.ensures c.requires.heap_nonzero.0 c.requires.heap_nonzero.1 a.max_doc (live_scored ix (tree_of ix q)) k.result k.new.heap (k.ensures.collect_post ix (tree_of ix q) 0 held) d.result d.new.heap d.ensures in
     let full = answer-full ix q (length a.heap.now) a.t a.heap.now d.new.heap d.result drawn in
     record { value = full.0; heap_after = full.1 }

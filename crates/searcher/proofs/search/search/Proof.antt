@@ -19,7 +19,7 @@ returns : tie.Need-returns-then-refusal-ne0
 returns c =
     let t = c in
     let a = t.args in
-    let ix : Index = record { maxDoc = a.max_doc; fields = a.fields.now; leaves = a.leaves.now; postings = a.postings.now; positions = a.positions.now; norms = a.norms.now; live = a.live.now; columns = a.columns.now; values = a.values.now } in
+    let ix : Index = record { max_doc = a.max_doc; fields = a.fields.now; leaves = a.leaves.now; postings = a.postings.now; positions = a.positions.now; norms = a.norms.now; live = a.live.now; columns = a.columns.now; values = a.values.now } in
     let w : Work = work (length a.states.now) (length a.a.now) (length a.b.now) (length a.ranges.now) in
     let o = t.search_refusal-refusal in
     let r = search-refused ix a.q.now a.k a.t w a.hits.now o.result o.ensures t.if-refusal-ne0.true in
@@ -28,7 +28,7 @@ returns c =
 slice-relend-prefix-find : tie.Need-slice_bounds-find-end
 slice-relend-prefix-find c =
     let a = c.args in
-    let ix : Index = record { maxDoc = a.max_doc; fields = a.fields.now; leaves = a.leaves.now; postings = a.postings.now; positions = a.positions.now; norms = a.norms.now; live = a.live.now; columns = a.columns.now; values = a.values.now } in
+    let ix : Index = record { max_doc = a.max_doc; fields = a.fields.now; leaves = a.leaves.now; postings = a.postings.now; positions = a.positions.now; norms = a.norms.now; live = a.live.now; columns = a.columns.now; values = a.values.now } in
     let w : Work = work (length a.states.now) (length a.a.now) (length a.b.now) (length a.ranges.now) in
     let o = c.search_refusal-refusal in
     let z = c.if-refusal-ne0.false in
@@ -38,7 +38,7 @@ slice-relend-prefix-find c =
 slice-aggregate-find : tie.Need-slice_bounds-find-end-2
 slice-aggregate-find c =
     let a = c.args in
-    let ix : Index = record { maxDoc = a.max_doc; fields = a.fields.now; leaves = a.leaves.now; postings = a.postings.now; positions = a.positions.now; norms = a.norms.now; live = a.live.now; columns = a.columns.now; values = a.values.now } in
+    let ix : Index = record { max_doc = a.max_doc; fields = a.fields.now; leaves = a.leaves.now; postings = a.postings.now; positions = a.positions.now; norms = a.norms.now; live = a.live.now; columns = a.columns.now; values = a.values.now } in
     let w : Work = work (length a.states.now) (length a.a.now) (length a.b.now) (length a.ranges.now) in
     let o = c.search_refusal-refusal in
     let z = c.if-refusal-ne0.false in
@@ -49,7 +49,7 @@ slice-aggregate-find c =
 find-requires : tie.Need-find-requires
 find-requires c κs =
     let a = c.args in
-    let ix : Index = record { maxDoc = a.max_doc; fields = a.fields.now; leaves = a.leaves.now; postings = a.postings.now; positions = a.positions.now; norms = a.norms.now; live = a.live.now; columns = a.columns.now; values = a.values.now } in
+    let ix : Index = record { max_doc = a.max_doc; fields = a.fields.now; leaves = a.leaves.now; postings = a.postings.now; positions = a.positions.now; norms = a.norms.now; live = a.live.now; columns = a.columns.now; values = a.values.now } in
     let w : Work = work (length a.states.now) (length a.a.now) (length a.b.now) (length a.ranges.now) in
     let o = c.search_refusal-refusal in
     let z = c.if-refusal-ne0.false in
@@ -80,7 +80,7 @@ same-length-5 c =
 returns-2 : tie.Need-returns
 returns-2 c =
     let a = c.args in
-    let ix : Index = record { maxDoc = a.max_doc; fields = a.fields.now; leaves = a.leaves.now; postings = a.postings.now; positions = a.positions.now; norms = a.norms.now; live = a.live.now; columns = a.columns.now; values = a.values.now } in
+    let ix : Index = record { max_doc = a.max_doc; fields = a.fields.now; leaves = a.leaves.now; postings = a.postings.now; positions = a.positions.now; norms = a.norms.now; live = a.live.now; columns = a.columns.now; values = a.values.now } in
     let w : Work = work (length a.states.now) (length a.a.now) (length a.b.now) (length a.ranges.now) in
     let o = c.search_refusal-refusal in
     let z = c.if-refusal-ne0.false in

@@ -3,8 +3,8 @@ use borrow.Author.Rules.{rules}
 use mathlib.Core.Path.{◌≡◌, sym, ap, ◌∙◌, subst}
 use Prim.Native.Nat.{ℕ, ◌+◌, ◌≤◌}
 use native.Mathlib.Omega.{arith}
-use Rattle.meaning.specs.SmallFloat.{byte4ToInt}
-use Rattle.sim.proofs.Codes.{int-few, int-many, byte4ToInt-le}
+use Rattle.meaning.specs.SmallFloat.{byte4_to_int}
+use Rattle.sim.proofs.Codes.{int-few, int-many, byte4_to_int-le}
 use Rattle.sim.proofs.small_float.byte4_to_int.Statement.{statement}
 use Rattle.sim.proofs.small_float.byte4_to_int.Tie as tie
 
@@ -12,13 +12,13 @@ int4-to-long-requires : tie.Need-int4_to_long-requires
 int4-to-long-requires c κs = search rules
 
 -- the sum is the length
-sum_is : (c : tie.After-int4_to_long) → 24 + c.int4_to_long.result ≡ byte4ToInt c.before.before.args.b
+sum_is : (c : tie.After-int4_to_long) → 24 + c.int4_to_long.result ≡ byte4_to_int c.before.before.args.b
 sum_is c = ap (λ (z : ℕ). 24 + z) c.int4_to_long.ensures ∙ int-many c.before.before.args.b c.before.if-i-lt-NUM_FREE_VALUES.false
 
 sum-le : (c : tie.After-int4_to_long) → 24 + c.int4_to_long.result ≤ 2013265944
 sum-le c =
     let s = c.before.before in
-    subst (λ (z : ℕ). z ≤ 2013265944) (sym (sum_is c)) (byte4ToInt-le s.args.b (omega (arith, s.ranges.b)))
+    subst (λ (z : ℕ). z ≤ 2013265944) (sym (sum_is c)) (byte4_to_int-le s.args.b (omega (arith, s.ranges.b)))
 
 cast-result : tie.Need-overflow_cast-result
 cast-result c = omega (arith, sum-le c)

@@ -3,8 +3,8 @@ use borrow.Author.Rules.{rules}
 use mathlib.Core.Path.{◌≡◌, sym, ap, ◌∙◌, subst}
 use Prim.Native.Nat.{ℕ, ◌+◌, ◌<◌}
 use native.Mathlib.Omega.{arith}
-use Rattle.meaning.specs.SmallFloat.{intToByte4}
-use Rattle.sim.proofs.Codes.{byte-few, byte-many, intToByte4-lt}
+use Rattle.meaning.specs.SmallFloat.{int_to_byte4}
+use Rattle.sim.proofs.Codes.{byte-few, byte-many, int_to_byte4-lt}
 use Rattle.sim.proofs.small_float.int_to_byte4.Statement.{statement}
 use Rattle.sim.proofs.small_float.int_to_byte4.Tie as tie
 
@@ -18,11 +18,11 @@ long-to-int4-requires : tie.Need-long_to_int4-requires
 long-to-int4-requires c κs = search rules
 
 -- the sum is the byte's number
-sum_is : (c : tie.After-long_to_int4) → 24 + c.long_to_int4.result ≡ intToByte4 c.before.before.args.i
+sum_is : (c : tie.After-long_to_int4) → 24 + c.long_to_int4.result ≡ int_to_byte4 c.before.before.args.i
 sum_is c = ap (λ (z : ℕ). 24 + z) c.long_to_int4.ensures ∙ byte-many c.before.before.args.i c.before.if-i-lt-NUM_FREE_VALUES.false
 
 sum_lt : (c : tie.After-long_to_int4) → 24 + c.long_to_int4.result < 256
-sum_lt c = subst (λ (z : ℕ). z < 256) (sym (sum_is c)) (intToByte4-lt c.before.before.args.i c.before.before.requires)
+sum_lt c = subst (λ (z : ℕ). z < 256) (sym (sum_is c)) (int_to_byte4-lt c.before.before.args.i c.before.before.requires)
 
 add-result : tie.Need-overflow_add-result
 add-result c = omega (arith, sum_lt c)

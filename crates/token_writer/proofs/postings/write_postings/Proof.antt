@@ -5,8 +5,8 @@ use Prim.Native.Nat.{ℕ, ◌+◌, ◌-◌, ◌≤◌}
 use native.Mathlib.Omega.{arith}
 use lib.ListN.{length}
 use borrow.Author.Rules.{rules}
-use Rattle.meaning.specs.Limits.{maxTokens}
-use Rattle.meaning.specs.Tokens.{tokenCount, tokenAt}
+use Rattle.meaning.specs.Limits.{max_tokens}
+use Rattle.meaning.specs.Tokens.{token_count, token_at}
 use Rattle.tokens.specs.declared.Token.{Token}
 use Rattle.token_writer.specs.Writing.{PostingsPre}
 use Rattle.token_writer.proofs.LeafRun.{Upto, Turn, upto-length, number-le, upto-start, turn, room, upto_next, upto-end}
@@ -19,7 +19,7 @@ invariant-loop tokens from leaf positional postings₀ posting position token₀
 
 abbrev decreases-loop : tie.decreases-loop-token
 decreases-loop tokens from leaf positional postings₀ posting position token₀ next₀ start₀ before₀ postings token next start before =
-    tokenCount tokens - token
+    token_count tokens - token
 
 -- the call's start, and the head of the loop before a token of the leaf
 abbrev start : tie.At-loop-token invariant-loop decreases-loop → tie.Start invariant-loop decreases-loop
@@ -36,14 +36,14 @@ same_size : (a : tie.At-loop-token invariant-loop decreases-loop) → length a.l
 same_size a = upto-length _ _ _ _ _ _ _ _ _ _ _ _ _ (at_head a)
 
 -- the positions are no more than the tokens passed, which are few
-few : (a : tie.At-loop-token invariant-loop decreases-loop) → ((start a).args.from ≤ a.loop-token.token) × ((start a).args.position ≤ (start a).args.from) × (a.loop-token.token ≤ maxTokens)
+few : (a : tie.At-loop-token invariant-loop decreases-loop) → ((start a).args.from ≤ a.loop-token.token) × ((start a).args.position ≤ (start a).args.from) × (a.loop-token.token ≤ max_tokens)
 few a =
     let h = at_head a in
     let pre = (start a).requires.2 in
-    (omega (arith, h.first, h.order), pre.fewPositions, omega (arith, h.within, pre.tokens.few))
+    (omega (arith, h.first, h.order), pre.few_positions, omega (arith, h.within, pre.tokens.few))
 
 -- the token read is of the leaf
-own : (c : tie.Else-here-leaf invariant-loop decreases-loop) → (tokenAt (start (head c)).args.tokens.now (head c).loop-token.token).leaf ≡ (start (head c)).args.leaf
+own : (c : tie.Else-here-leaf invariant-loop decreases-loop) → (token_at (start (head c)).args.tokens.now (head c).loop-token.token).leaf ≡ (start (head c)).args.leaf
 own c = sym (ap (λ (t : Token). t.leaf) c.token_at-here.ensures) ∙ c.if-here-leaf.false
 
 -- where its posting begins, and the number of that posting
@@ -87,7 +87,7 @@ returns c =
     λ n m h. upto-end n m _ _ _ _ _ _ _ h _ _ _ _ _ _ (a.loop-token.invariant n m h) (λ _ e. i.if-here-leaf.true (ap (λ (t : Token). t.leaf) i.token_at-here.ensures ∙ e)) _ _ c.where_positional.ensures refl refl refl
 
 add-next : tie.Need-overflow_add-next invariant-loop decreases-loop
-add-next c = let a = head c.before.before in omega (arith, (at_head a).fewNext, (few a).2)
+add-next c = let a = head c.before.before in omega (arith, (at_head a).few_next, (few a).2)
 
 sub-frequency : tie.Need-overflow_sub-frequency invariant-loop decreases-loop
 sub-frequency c = (turn-here c.before).order
@@ -108,7 +108,7 @@ where-positional-requires-2 : tie.Need-where_positional-index-requires invariant
 where-positional-requires-2 c κs = search rules
 
 sub-write-posting : tie.Need-overflow_sub-next invariant-loop decreases-loop
-sub-write-posting c = let t = turn-here c.before.before.before.before in omega (arith, t.nextIs)
+sub-write-posting c = let t = turn-here c.before.before.before.before in omega (arith, t.next_is)
 
 cast-write-posting : tie.Need-overflow_cast-frequency invariant-loop decreases-loop
 cast-write-posting c = omega (arith, (few (head c.before.before.before.before.before.before)).2)

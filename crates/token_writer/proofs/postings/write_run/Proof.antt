@@ -25,13 +25,13 @@ write-postings-requires : tie.Need-write_postings-end-requires
 write-postings-requires c κs = let s = c in (s.requires.0, s.requires.1, run-postings _ _ _ _ _ _ _ _ _ _ s.requires.2)
 
 sub-copy-positions : tie.Need-overflow_sub-end
-sub-copy-positions c = omega (arith, (done-here c.before.before.before).positionEnd)
+sub-copy-positions c = omega (arith, (done-here c.before.before.before).position_end)
 
 copy-positions-requires : tie.Need-copy_positions-requires
 copy-positions-requires c κs =
     let w = c.before.before.before.before in
     let d = done-here w in
-    (d.within, omega (arith, d.positionEnd, (start w).requires.2.positionsFit))
+    (d.within, omega (arith, d.position_end, (start w).requires.2.positions_fit))
 
 same_length : tie.Need-shape_of-postings
 same_length c = search rules

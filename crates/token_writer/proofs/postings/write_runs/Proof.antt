@@ -3,8 +3,8 @@ use mathlib.Core.Path.{◌≡◌, refl}
 use Prim.Native.Nat.{ℕ, ◌-◌, ◌≤◌}
 use native.Mathlib.Omega.{arith}
 use lib.ListN.{length}
-use Rattle.meaning.specs.Limits.{maxLeaves, maxTokens}
-use Rattle.meaning.specs.Tokens.{tokenCount}
+use Rattle.meaning.specs.Limits.{max_leaves, max_tokens}
+use Rattle.meaning.specs.Tokens.{token_count}
 use Rattle.token_index.proofs.Order.{few-tokens, few-leaves}
 use Rattle.token_writer.specs.Writing.{RunPre, RunsPre}
 use Rattle.token_writer.proofs.LeafRuns.{Filled, field-there, filled-start, filled-lengths, run_fits, filled_next, filled-end}
@@ -34,7 +34,7 @@ lengths : (a : tie.At-loop-leaf invariant-loop decreases-loop) → let s = (star
 lengths a = filled-lengths _ _ _ _ _ _ _ (start a).requires.1 _ _ _ _ _ _ _ (at_head a)
 
 -- the numbers of tokens and leaves fit 32 bits
-few : (a : tie.At-loop-leaf invariant-loop decreases-loop) → let s = (start a).args in (tokenCount s.tokens.now ≤ maxTokens) × (length s.leaf_fields.now ≤ maxLeaves)
+few : (a : tie.At-loop-leaf invariant-loop decreases-loop) → let s = (start a).args in (token_count s.tokens.now ≤ max_tokens) × (length s.leaf_fields.now ≤ max_leaves)
 few a = let right = (start a).requires.1.right in (few-tokens _ _ _ _ right, few-leaves _ _ _ _ right)
 
 -- the leaf's run can be written
@@ -44,10 +44,10 @@ fits c =
     run_fits _ _ _ _ _ _ _ (start a).requires.1 _ _ _ _ _ _ _ (at_head a) c.loop-leaf-test.true _ c.is_positional.ensures
 
 -- the postings only grow in number, and are at most as many as the tokens
-grown : (c : tie.After-write_run-end invariant-loop decreases-loop) → let a = c in (a.loop-leaf.posting ≤ c.write_run-end.result.posting) × (c.write_run-end.result.posting ≤ maxTokens)
+grown : (c : tie.After-write_run-end invariant-loop decreases-loop) → let a = c in (a.loop-leaf.posting ≤ c.write_run-end.result.posting) × (c.write_run-end.result.posting ≤ max_tokens)
 grown c =
     let post = c.write_run-end.ensures _ _ (fits c.before.before.before) in
-    (omega (arith, post.postingEnd), omega (arith, post.fewPostings, post.begins.within, (few c.before.before.before.before.before).0))
+    (omega (arith, post.posting_end), omega (arith, post.few_postings, post.begins.within, (few c.before.before.before.before.before).0))
 
 loop-holds : tie.Need-loop-leaf-init invariant-loop decreases-loop
 loop-holds c = λ n h. filled-start _ _ _ _ _ _ _
@@ -62,7 +62,7 @@ write-run-requires : tie.Need-write_run-end-requires invariant-loop decreases-lo
 write-run-requires c κs = (_, _, fits c.before.before)
 
 cast-write-leaf : tie.Need-overflow_cast-posting invariant-loop decreases-loop
-cast-write-leaf c = let a = c.before.before.before.before.before.before.before.before.before.before in omega (arith, (at_head a).fewPostings, (at_head a).begins.within, (few a).0)
+cast-write-leaf c = let a = c.before.before.before.before.before.before.before.before.before.before in omega (arith, (at_head a).few_postings, (at_head a).begins.within, (few a).0)
 
 sub-write-leaf : tie.Need-overflow_sub-end invariant-loop decreases-loop
 sub-write-leaf c = (grown (ran c)).0
@@ -71,7 +71,7 @@ cast-write-leaf-2 : tie.Need-overflow_cast-end invariant-loop decreases-loop
 cast-write-leaf-2 c = omega (arith, (grown (ran c)).1)
 
 write-leaf-requires : tie.Need-write_leaf-requires invariant-loop decreases-loop
-write-leaf-requires c κs = let t = (ran c).before.before.before.before in omega (arith, (lengths t.before).2, t.loop-leaf-test.true, (start t.before).requires.1.runsFit)
+write-leaf-requires c κs = let t = (ran c).before.before.before.before in omega (arith, (lengths t.before).2, t.loop-leaf-test.true, (start t.before).requires.1.runs_fit)
 
 add-leaf : tie.Need-overflow_add-leaf invariant-loop decreases-loop
 add-leaf c = let t = (ran c.before.before.before).before.before.before.before in omega (arith, t.loop-leaf-test.true, (few t.before).1)

@@ -1,5 +1,5 @@
 use Rattle.std.proofs.Common.{refl, ◌∙◌}
-use Rattle.window_words.specs.Windowed.{placesOf}
+use Rattle.window_words.specs.Windowed.{places_of}
 use Rattle.window_leaf.proofs.PlaneLaws.{noting-start, noting-next, noting-end, left-among}
 use Rattle.window_leaf.proofs.phrases.planes_of.Goals as goal
 
@@ -21,5 +21,5 @@ loop-left-preserved c =
       f.auto.a ∙ l.invariant.0,
       f.auto.b ∙ l.invariant.1,
       left-among c.args.candidates l.left w.result t.result others l.invariant.2,
-      λ ix places k ts h. noting-next (l.invariant.3 ix places k ts h) t.result t.ensures f.result (f.ensures ix places k ts (placesOf c.args.candidates) on h) on w.result n.result.ones n.result.twos others n.ensures,
+      λ ix places k ts h. noting-next (l.invariant.3 ix places k ts h) t.result t.ensures f.result (f.ensures ix places k ts (places_of c.args.candidates) on h) on w.result n.result.ones n.result.twos others n.ensures,
     )

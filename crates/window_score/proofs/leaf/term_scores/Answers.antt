@@ -3,7 +3,7 @@ use Rattle.std.proofs.Common.{ℕ, ◌+◌, arith, get_or}
 use lib.Ieee.{Float, nan, binary64, add}
 use Rattle.leaf_score.proofs.Leaves.{Weighs}
 use Rattle.window_score.proofs.Adding.{adding-step, adding-done, place-wanted}
-use Rattle.window_score.proofs.Terms.{TermPlace, termScore, place-weighs, place-number, place-score, pre-long, pre-constant, pre-place, post-constant, post-weighted}
+use Rattle.window_score.proofs.Terms.{TermPlace, term_score, place-weighs, place-number, place-score, pre-long, pre-constant, pre-place, post-constant, post-weighted}
 use Rattle.window_score.proofs.leaf.term_scores.Goals as goal
 
 pub node_at-n-requires : goal.node_at-n-requires
@@ -31,14 +31,14 @@ bounds-st-21 c = omega (arith, pre-long c.args.st.now c.args.postings.now c.args
 at-posting : (c : goal.After-wide-in-loop-left) → TermPlace c.requires.1.5.1 c.requires.1.5.3 c.args.postings.now c.args.norms.now c.args.inverses.now c.node_at-n.result (c.node_at-n.result.first + c.wide.result) c.joined-bits.result c.args.base c.lowest-place.result
 at-posting c =
     pre-place c.args.st.now c.args.postings.now c.args.norms.now c.args.inverses.now c.args.base c.args.want c.args.sums.now (λ i. omega (arith, c.type_inv.norms i)) (λ i. omega (arith, c.type_inv.st i)) c.requires c.node_at-n.result c.node_at-n.ensures (c.node_at-n.result.first + c.wide.result) c.joined-bits.result (omega (arith, c.wide.ensures)) c.joined-bits.ensures.word c.lowest-place.result c.lowest-place.ensures.within
-    (place-wanted (λ (p : ℕ) (x : Float). add binary64 x (termScore c.node_at-n.result c.args.norms.now c.args.inverses.now c.args.postings.now (c.node_at-n.result.first + c.wide.result) c.joined-bits.result c.args.base p)) c.args.want c.args.sums.now c.loop-left.left c.loop-left.sums c.loop-left.invariant c.lowest-place.result c.lowest-place.ensures)
+    (place-wanted (λ (p : ℕ) (x : Float). add binary64 x (term_score c.node_at-n.result c.args.norms.now c.args.inverses.now c.args.postings.now (c.node_at-n.result.first + c.wide.result) c.joined-bits.result c.args.base p)) c.args.want c.args.sums.now c.loop-left.left c.loop-left.sums c.loop-left.invariant c.lowest-place.result c.lowest-place.ensures)
     c.if-n-eq1.false
 
 at-frequency : (c : goal.After-posting_frequency-frequency) → Weighs c.node_at-n.result c.args.norms.now c.args.inverses.now (c.args.base + c.lowest-place.result) c.posting_frequency-frequency.result
 at-frequency c =
     place-weighs
     (pre-place c.args.st.now c.args.postings.now c.args.norms.now c.args.inverses.now c.args.base c.args.want c.args.sums.now (λ i. omega (arith, c.type_inv.norms i)) (λ i. omega (arith, c.type_inv.st i)) c.requires c.node_at-n.result c.node_at-n.ensures (c.node_at-n.result.first + c.wide.result) c.joined-bits.result (omega (arith, c.wide.ensures)) c.joined-bits.ensures.word c.lowest-place.result c.lowest-place.ensures.within
-    (place-wanted (λ (p : ℕ) (x : Float). add binary64 x (termScore c.node_at-n.result c.args.norms.now c.args.inverses.now c.args.postings.now (c.node_at-n.result.first + c.wide.result) c.joined-bits.result c.args.base p)) c.args.want c.args.sums.now c.loop-left.left c.loop-left.sums c.loop-left.invariant c.lowest-place.result c.lowest-place.ensures)
+    (place-wanted (λ (p : ℕ) (x : Float). add binary64 x (term_score c.node_at-n.result c.args.norms.now c.args.inverses.now c.args.postings.now (c.node_at-n.result.first + c.wide.result) c.joined-bits.result c.args.base p)) c.args.want c.args.sums.now c.loop-left.left c.loop-left.sums c.loop-left.invariant c.lowest-place.result c.lowest-place.ensures)
     c.if-n-eq1.false)
     c.wide-in-loop-left.result c.posting_frequency-frequency.result (c.wide-in-loop-left.ensures ∙ c.rank.ensures) c.posting_frequency-frequency.ensures
 
@@ -58,7 +58,7 @@ pub add_score-requires : goal.add_score-requires
 add_score-requires c =
     place-number
     (pre-place c.args.st.now c.args.postings.now c.args.norms.now c.args.inverses.now c.args.base c.args.want c.args.sums.now (λ i. omega (arith, c.type_inv.norms i)) (λ i. omega (arith, c.type_inv.st i)) c.requires c.node_at-n.result c.node_at-n.ensures (c.node_at-n.result.first + c.wide.result) c.joined-bits.result (omega (arith, c.wide.ensures)) c.joined-bits.ensures.word c.lowest-place.result c.lowest-place.ensures.within
-    (place-wanted (λ (p : ℕ) (x : Float). add binary64 x (termScore c.node_at-n.result c.args.norms.now c.args.inverses.now c.args.postings.now (c.node_at-n.result.first + c.wide.result) c.joined-bits.result c.args.base p)) c.args.want c.args.sums.now c.loop-left.left c.loop-left.sums c.loop-left.invariant c.lowest-place.result c.lowest-place.ensures)
+    (place-wanted (λ (p : ℕ) (x : Float). add binary64 x (term_score c.node_at-n.result c.args.norms.now c.args.inverses.now c.args.postings.now (c.node_at-n.result.first + c.wide.result) c.joined-bits.result c.args.base p)) c.args.want c.args.sums.now c.loop-left.left c.loop-left.sums c.loop-left.invariant c.lowest-place.result c.lowest-place.ensures)
     c.if-n-eq1.false)
     c.wide-in-loop-left.result c.posting_frequency-frequency.result (c.wide-in-loop-left.ensures ∙ c.rank.ensures) c.posting_frequency-frequency.ensures c.weighted-s.result c.weighted-s.ensures
 
@@ -67,12 +67,12 @@ loop-left-preserved c =
     let l = c.loop-left in
     let t = c.lowest-place in
     let w = c.without_lowest-left in
-    adding-step (λ (p : ℕ) (x : Float). add binary64 x (termScore c.node_at-n.result c.args.norms.now c.args.inverses.now c.args.postings.now (c.node_at-n.result.first + c.wide.result) c.joined-bits.result c.args.base p)) c.args.want c.args.sums.now l.left l.sums l.invariant t.result t.ensures w.result (w.ensures.others t.result t.ensures) c.wide-at.result c.add_score.result c.wide-at.ensures
+    adding-step (λ (p : ℕ) (x : Float). add binary64 x (term_score c.node_at-n.result c.args.norms.now c.args.inverses.now c.args.postings.now (c.node_at-n.result.first + c.wide.result) c.joined-bits.result c.args.base p)) c.args.want c.args.sums.now l.left l.sums l.invariant t.result t.ensures w.result (w.ensures.others t.result t.ensures) c.wide-at.result c.add_score.result c.wide-at.ensures
     (c.add_score.ensures
     ∙ ap (add binary64 (get_or l.sums c.wide-at.result nan))
     (place-score
     (pre-place c.args.st.now c.args.postings.now c.args.norms.now c.args.inverses.now c.args.base c.args.want c.args.sums.now (λ i. omega (arith, c.type_inv.norms i)) (λ i. omega (arith, c.type_inv.st i)) c.requires c.node_at-n.result c.node_at-n.ensures (c.node_at-n.result.first + c.wide.result) c.joined-bits.result (omega (arith, c.wide.ensures)) c.joined-bits.ensures.word c.lowest-place.result c.lowest-place.ensures.within
-    (place-wanted (λ (p : ℕ) (x : Float). add binary64 x (termScore c.node_at-n.result c.args.norms.now c.args.inverses.now c.args.postings.now (c.node_at-n.result.first + c.wide.result) c.joined-bits.result c.args.base p)) c.args.want c.args.sums.now c.loop-left.left c.loop-left.sums c.loop-left.invariant c.lowest-place.result c.lowest-place.ensures)
+    (place-wanted (λ (p : ℕ) (x : Float). add binary64 x (term_score c.node_at-n.result c.args.norms.now c.args.inverses.now c.args.postings.now (c.node_at-n.result.first + c.wide.result) c.joined-bits.result c.args.base p)) c.args.want c.args.sums.now c.loop-left.left c.loop-left.sums c.loop-left.invariant c.lowest-place.result c.lowest-place.ensures)
     c.if-n-eq1.false)
     c.wide-in-loop-left.result c.posting_frequency-frequency.result (c.wide-in-loop-left.ensures ∙ c.rank.ensures) c.posting_frequency-frequency.ensures c.weighted-s.result c.weighted-s.ensures))
 
@@ -80,4 +80,4 @@ pub returns : goal.returns
 returns c =
     let l = c.loop-left in
     post-weighted c.args.st.now c.args.postings.now c.args.norms.now c.args.inverses.now c.args.base c.args.want c.args.sums.now (λ i. omega (arith, c.type_inv.norms i)) (λ i. omega (arith, c.type_inv.st i)) c.requires.0 c.node_at-n.result c.node_at-n.ensures l.sums c.if-n-eq1.false (c.node_at-n.result.first + c.wide.result) c.joined-bits.result (omega (arith, c.wide.ensures)) c.joined-bits.ensures.word l.invariant.long
-    (adding-done (λ (p : ℕ) (x : Float). add binary64 x (termScore c.node_at-n.result c.args.norms.now c.args.inverses.now c.args.postings.now (c.node_at-n.result.first + c.wide.result) c.joined-bits.result c.args.base p)) c.args.want c.args.sums.now l.left l.sums l.invariant c.loop-left-test.false)
+    (adding-done (λ (p : ℕ) (x : Float). add binary64 x (term_score c.node_at-n.result c.args.norms.now c.args.inverses.now c.args.postings.now (c.node_at-n.result.first + c.wide.result) c.joined-bits.result c.args.base p)) c.args.want c.args.sums.now l.left l.sums l.invariant c.loop-left-test.false)

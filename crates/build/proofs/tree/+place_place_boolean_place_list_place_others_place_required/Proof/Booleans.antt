@@ -5,8 +5,8 @@ use native.Mathlib.Omega.{arith}
 use lib.Dec.{T}
 use lib.ListN.{length}
 use Prim.Native.Nat.{ℕ, ◌+◌, ◌-◌, ◌≤◌, ◌<◌}
-use Rattle.meaning.specs.Limits.{nodeStateWords}
-use Rattle.meaning.specs.Query.{recordCount}
+use Rattle.meaning.specs.Limits.{node_state_words}
+use Rattle.meaning.specs.Query.{record_count}
 use Rattle.node_words.specs.Prepared.{records}
 use Rattle.build.proofs.PlacingBooleans.{tree-here, tree-room, tree-deep, tree-kept, tree-present, nothing_placed, boolean-known, boolean-required, first_fits, boolean-optional, second_fits, boolean-prohibited, whole-fits, whole-small, group-within, whole-placed}
 use Rattle.build.proofs.tree.place_boolean.Reads as place-boolean
@@ -42,7 +42,7 @@ record-within t c =
     let pre = s.requires.1.1 in
     tree-present E at fixed kept boost words depth pre
 
-record-counted : (t : ℕ) (c : place-boolean-lts.Start (place-boolean-calls t) (place-boolean-at t) place-boolean.Post) → c.args.at < recordCount c.args.q.now
+record-counted : (t : ℕ) (c : place-boolean-lts.Start (place-boolean-calls t) (place-boolean-at t) place-boolean.Post) → c.args.at < record_count c.args.q.now
 record-counted t c =
     let s = c in
     let E = records s.args.q.now s.args.max_doc s.args.fields.now s.args.leaves.now s.args.nexts.now s.args.presents.now s.args.costs.now s.args.places.now in
@@ -56,7 +56,7 @@ record-counted t c =
     let pre = s.requires.1.1 in
     tree-here E at fixed kept boost words depth pre
 
-some-room : (t : ℕ) (c : place-boolean-lts.Start (place-boolean-calls t) (place-boolean-at t) place-boolean.Post) → nodeStateWords ≤ length c.args.st.now
+some-room : (t : ℕ) (c : place-boolean-lts.Start (place-boolean-calls t) (place-boolean-at t) place-boolean.Post) → node_state_words ≤ length c.args.st.now
 some-room t c =
     let s = c in
     let E = records s.args.q.now s.args.max_doc s.args.fields.now s.args.leaves.now s.args.nexts.now s.args.presents.now s.args.costs.now s.args.places.now in
@@ -71,15 +71,15 @@ some-room t c =
     tree-room E at fixed kept boost words depth pre
 
 -- the words stay as many, and so many are left after the required
-required-long : (t : ℕ) (c : place-boolean-lts.After-place_required-first (place-boolean-calls t) (place-boolean-at t) place-boolean.Post) → length (put_mid nodeStateWords (length c.args.st.now - nodeStateWords) c.args.st.now c.place_required-first.new.st) ≡ length c.args.st.now
+required-long : (t : ℕ) (c : place-boolean-lts.After-place_required-first (place-boolean-calls t) (place-boolean-at t) place-boolean.Post) → length (put_mid node_state_words (length c.args.st.now - node_state_words) c.args.st.now c.place_required-first.new.st) ≡ length c.args.st.now
 required-long t c =
-    same_len_mid nodeStateWords (length c.args.st.now - nodeStateWords) c.args.st.now c.place_required-first.new.st c.place_required-first.auto.st
+    same_len_mid node_state_words (length c.args.st.now - node_state_words) c.args.st.now c.place_required-first.new.st c.place_required-first.auto.st
 
-optional-part : (t : ℕ) (c : place-boolean-lts.After-place_required-first (place-boolean-calls t) (place-boolean-at t) place-boolean.Post) → length (mid_of (nodeStateWords + c.place_required-first.result.end) (length (put_mid nodeStateWords (length c.args.st.now - nodeStateWords) c.args.st.now c.place_required-first.new.st) - (nodeStateWords + c.place_required-first.result.end)) (put_mid nodeStateWords (length c.args.st.now - nodeStateWords) c.args.st.now c.place_required-first.new.st)) ≡ length c.args.st.now - (nodeStateWords + c.place_required-first.result.end)
+optional-part : (t : ℕ) (c : place-boolean-lts.After-place_required-first (place-boolean-calls t) (place-boolean-at t) place-boolean.Post) → length (mid_of (node_state_words + c.place_required-first.result.end) (length (put_mid node_state_words (length c.args.st.now - node_state_words) c.args.st.now c.place_required-first.new.st) - (node_state_words + c.place_required-first.result.end)) (put_mid node_state_words (length c.args.st.now - node_state_words) c.args.st.now c.place_required-first.new.st)) ≡ length c.args.st.now - (node_state_words + c.place_required-first.result.end)
 optional-part t c =
-    mid_len (nodeStateWords + c.place_required-first.result.end) (length (put_mid nodeStateWords (length c.args.st.now - nodeStateWords) c.args.st.now c.place_required-first.new.st)) (put_mid nodeStateWords (length c.args.st.now - nodeStateWords) c.args.st.now c.place_required-first.new.st) (omega arith) ∙ ap (λ (z : ℕ). z - (nodeStateWords + c.place_required-first.result.end)) (required-long t c)
+    mid_len (node_state_words + c.place_required-first.result.end) (length (put_mid node_state_words (length c.args.st.now - node_state_words) c.args.st.now c.place_required-first.new.st)) (put_mid node_state_words (length c.args.st.now - node_state_words) c.args.st.now c.place_required-first.new.st) (omega arith) ∙ ap (λ (z : ℕ). z - (node_state_words + c.place_required-first.result.end)) (required-long t c)
 
-required-fits : (t : ℕ) (c : place-boolean-lts.After-place_required-first (place-boolean-calls t) (place-boolean-at t) place-boolean.Post) → (nodeStateWords + c.place_required-first.result.end) ≤ length c.args.st.now
+required-fits : (t : ℕ) (c : place-boolean-lts.After-place_required-first (place-boolean-calls t) (place-boolean-at t) place-boolean.Post) → (node_state_words + c.place_required-first.result.end) ≤ length c.args.st.now
 required-fits t c =
     let s = c in
     let E = records s.args.q.now s.args.max_doc s.args.fields.now s.args.leaves.now s.args.nexts.now s.args.presents.now s.args.costs.now s.args.places.now in
@@ -93,21 +93,21 @@ required-fits t c =
     let kind = s.requires.1.0 in
     let pre = s.requires.1.1 in
     let there = c.if-presents-at-eq0.false in
-    let part₁ = mid_len nodeStateWords words st₀ (omega arith) in
+    let part₁ = mid_len node_state_words words st₀ (omega arith) in
     let a = c.place_required-first in
     let e₁ = a.result.end in
     first_fits E at fixed kept boost words depth kind there _ part₁ a.result.group_at e₁ a.new.st a.ensures.0 pre
 
 -- and after the optional
-optional-long : (t : ℕ) (c : place-boolean-lts.After-place_others-shoulds (place-boolean-calls t) (place-boolean-at t) place-boolean.Post) → length (put_mid (nodeStateWords + c.place_required-first.result.end) (length (put_mid nodeStateWords (length c.args.st.now - nodeStateWords) c.args.st.now c.place_required-first.new.st) - (nodeStateWords + c.place_required-first.result.end)) (put_mid nodeStateWords (length c.args.st.now - nodeStateWords) c.args.st.now c.place_required-first.new.st) c.place_others-shoulds.new.st) ≡ length c.args.st.now
+optional-long : (t : ℕ) (c : place-boolean-lts.After-place_others-shoulds (place-boolean-calls t) (place-boolean-at t) place-boolean.Post) → length (put_mid (node_state_words + c.place_required-first.result.end) (length (put_mid node_state_words (length c.args.st.now - node_state_words) c.args.st.now c.place_required-first.new.st) - (node_state_words + c.place_required-first.result.end)) (put_mid node_state_words (length c.args.st.now - node_state_words) c.args.st.now c.place_required-first.new.st) c.place_others-shoulds.new.st) ≡ length c.args.st.now
 optional-long t c =
-    same_len_mid (nodeStateWords + c.place_required-first.result.end) (length (put_mid nodeStateWords (length c.args.st.now - nodeStateWords) c.args.st.now c.place_required-first.new.st) - (nodeStateWords + c.place_required-first.result.end)) (put_mid nodeStateWords (length c.args.st.now - nodeStateWords) c.args.st.now c.place_required-first.new.st) c.place_others-shoulds.new.st c.place_others-shoulds.auto.st ∙ required-long t c.before.before.before.before.before
+    same_len_mid (node_state_words + c.place_required-first.result.end) (length (put_mid node_state_words (length c.args.st.now - node_state_words) c.args.st.now c.place_required-first.new.st) - (node_state_words + c.place_required-first.result.end)) (put_mid node_state_words (length c.args.st.now - node_state_words) c.args.st.now c.place_required-first.new.st) c.place_others-shoulds.new.st c.place_others-shoulds.auto.st ∙ required-long t c.before.before.before.before.before
 
-prohibited-part : (t : ℕ) (c : place-boolean-lts.After-place_others-shoulds (place-boolean-calls t) (place-boolean-at t) place-boolean.Post) → length (mid_of (nodeStateWords + (c.place_required-first.result.end + c.place_others-shoulds.result)) (length (put_mid (nodeStateWords + c.place_required-first.result.end) (length (put_mid nodeStateWords (length c.args.st.now - nodeStateWords) c.args.st.now c.place_required-first.new.st) - (nodeStateWords + c.place_required-first.result.end)) (put_mid nodeStateWords (length c.args.st.now - nodeStateWords) c.args.st.now c.place_required-first.new.st) c.place_others-shoulds.new.st) - (nodeStateWords + (c.place_required-first.result.end + c.place_others-shoulds.result))) (put_mid (nodeStateWords + c.place_required-first.result.end) (length (put_mid nodeStateWords (length c.args.st.now - nodeStateWords) c.args.st.now c.place_required-first.new.st) - (nodeStateWords + c.place_required-first.result.end)) (put_mid nodeStateWords (length c.args.st.now - nodeStateWords) c.args.st.now c.place_required-first.new.st) c.place_others-shoulds.new.st)) ≡ length c.args.st.now - (nodeStateWords + (c.place_required-first.result.end + c.place_others-shoulds.result))
+prohibited-part : (t : ℕ) (c : place-boolean-lts.After-place_others-shoulds (place-boolean-calls t) (place-boolean-at t) place-boolean.Post) → length (mid_of (node_state_words + (c.place_required-first.result.end + c.place_others-shoulds.result)) (length (put_mid (node_state_words + c.place_required-first.result.end) (length (put_mid node_state_words (length c.args.st.now - node_state_words) c.args.st.now c.place_required-first.new.st) - (node_state_words + c.place_required-first.result.end)) (put_mid node_state_words (length c.args.st.now - node_state_words) c.args.st.now c.place_required-first.new.st) c.place_others-shoulds.new.st) - (node_state_words + (c.place_required-first.result.end + c.place_others-shoulds.result))) (put_mid (node_state_words + c.place_required-first.result.end) (length (put_mid node_state_words (length c.args.st.now - node_state_words) c.args.st.now c.place_required-first.new.st) - (node_state_words + c.place_required-first.result.end)) (put_mid node_state_words (length c.args.st.now - node_state_words) c.args.st.now c.place_required-first.new.st) c.place_others-shoulds.new.st)) ≡ length c.args.st.now - (node_state_words + (c.place_required-first.result.end + c.place_others-shoulds.result))
 prohibited-part t c =
-    mid_len (nodeStateWords + (c.place_required-first.result.end + c.place_others-shoulds.result)) (length (put_mid (nodeStateWords + c.place_required-first.result.end) (length (put_mid nodeStateWords (length c.args.st.now - nodeStateWords) c.args.st.now c.place_required-first.new.st) - (nodeStateWords + c.place_required-first.result.end)) (put_mid nodeStateWords (length c.args.st.now - nodeStateWords) c.args.st.now c.place_required-first.new.st) c.place_others-shoulds.new.st)) (put_mid (nodeStateWords + c.place_required-first.result.end) (length (put_mid nodeStateWords (length c.args.st.now - nodeStateWords) c.args.st.now c.place_required-first.new.st) - (nodeStateWords + c.place_required-first.result.end)) (put_mid nodeStateWords (length c.args.st.now - nodeStateWords) c.args.st.now c.place_required-first.new.st) c.place_others-shoulds.new.st) (omega arith) ∙ ap (λ (z : ℕ). z - (nodeStateWords + (c.place_required-first.result.end + c.place_others-shoulds.result))) (optional-long t c)
+    mid_len (node_state_words + (c.place_required-first.result.end + c.place_others-shoulds.result)) (length (put_mid (node_state_words + c.place_required-first.result.end) (length (put_mid node_state_words (length c.args.st.now - node_state_words) c.args.st.now c.place_required-first.new.st) - (node_state_words + c.place_required-first.result.end)) (put_mid node_state_words (length c.args.st.now - node_state_words) c.args.st.now c.place_required-first.new.st) c.place_others-shoulds.new.st)) (put_mid (node_state_words + c.place_required-first.result.end) (length (put_mid node_state_words (length c.args.st.now - node_state_words) c.args.st.now c.place_required-first.new.st) - (node_state_words + c.place_required-first.result.end)) (put_mid node_state_words (length c.args.st.now - node_state_words) c.args.st.now c.place_required-first.new.st) c.place_others-shoulds.new.st) (omega arith) ∙ ap (λ (z : ℕ). z - (node_state_words + (c.place_required-first.result.end + c.place_others-shoulds.result))) (optional-long t c)
 
-optional-fits : (t : ℕ) (c : place-boolean-lts.After-place_others-shoulds (place-boolean-calls t) (place-boolean-at t) place-boolean.Post) → (nodeStateWords + (c.place_required-first.result.end + c.place_others-shoulds.result)) ≤ length c.args.st.now
+optional-fits : (t : ℕ) (c : place-boolean-lts.After-place_others-shoulds (place-boolean-calls t) (place-boolean-at t) place-boolean.Post) → (node_state_words + (c.place_required-first.result.end + c.place_others-shoulds.result)) ≤ length c.args.st.now
 optional-fits t c =
     let s = c in
     let E = records s.args.q.now s.args.max_doc s.args.fields.now s.args.leaves.now s.args.nexts.now s.args.presents.now s.args.costs.now s.args.places.now in
@@ -121,7 +121,7 @@ optional-fits t c =
     let kind = s.requires.1.0 in
     let pre = s.requires.1.1 in
     let there = c.if-presents-at-eq0.false in
-    let part₁ = mid_len nodeStateWords words st₀ (omega arith) in
+    let part₁ = mid_len node_state_words words st₀ (omega arith) in
     let a = c.place_required-first in
     let e₁ = a.result.end in
     let part₂ = optional-part t c.before.before.before.before.before in
@@ -130,9 +130,9 @@ optional-fits t c =
     second_fits E at fixed kept boost words depth kind there _ part₁ a.result.group_at e₁ a.new.st a.ensures.0 _ part₂ e₂ b.new.st b.ensures.0 pre
 
 -- and after the prohibited
-prohibited-long : (t : ℕ) (c : place-boolean-lts.After-place_others-nots (place-boolean-calls t) (place-boolean-at t) place-boolean.Post) → length (put_mid (nodeStateWords + (c.place_required-first.result.end + c.place_others-shoulds.result)) (length (put_mid (nodeStateWords + c.place_required-first.result.end) (length (put_mid nodeStateWords (length c.args.st.now - nodeStateWords) c.args.st.now c.place_required-first.new.st) - (nodeStateWords + c.place_required-first.result.end)) (put_mid nodeStateWords (length c.args.st.now - nodeStateWords) c.args.st.now c.place_required-first.new.st) c.place_others-shoulds.new.st) - (nodeStateWords + (c.place_required-first.result.end + c.place_others-shoulds.result))) (put_mid (nodeStateWords + c.place_required-first.result.end) (length (put_mid nodeStateWords (length c.args.st.now - nodeStateWords) c.args.st.now c.place_required-first.new.st) - (nodeStateWords + c.place_required-first.result.end)) (put_mid nodeStateWords (length c.args.st.now - nodeStateWords) c.args.st.now c.place_required-first.new.st) c.place_others-shoulds.new.st) c.place_others-nots.new.st) ≡ length c.args.st.now
+prohibited-long : (t : ℕ) (c : place-boolean-lts.After-place_others-nots (place-boolean-calls t) (place-boolean-at t) place-boolean.Post) → length (put_mid (node_state_words + (c.place_required-first.result.end + c.place_others-shoulds.result)) (length (put_mid (node_state_words + c.place_required-first.result.end) (length (put_mid node_state_words (length c.args.st.now - node_state_words) c.args.st.now c.place_required-first.new.st) - (node_state_words + c.place_required-first.result.end)) (put_mid node_state_words (length c.args.st.now - node_state_words) c.args.st.now c.place_required-first.new.st) c.place_others-shoulds.new.st) - (node_state_words + (c.place_required-first.result.end + c.place_others-shoulds.result))) (put_mid (node_state_words + c.place_required-first.result.end) (length (put_mid node_state_words (length c.args.st.now - node_state_words) c.args.st.now c.place_required-first.new.st) - (node_state_words + c.place_required-first.result.end)) (put_mid node_state_words (length c.args.st.now - node_state_words) c.args.st.now c.place_required-first.new.st) c.place_others-shoulds.new.st) c.place_others-nots.new.st) ≡ length c.args.st.now
 prohibited-long t c =
-    same_len_mid (nodeStateWords + (c.place_required-first.result.end + c.place_others-shoulds.result)) (length (put_mid (nodeStateWords + c.place_required-first.result.end) (length (put_mid nodeStateWords (length c.args.st.now - nodeStateWords) c.args.st.now c.place_required-first.new.st) - (nodeStateWords + c.place_required-first.result.end)) (put_mid nodeStateWords (length c.args.st.now - nodeStateWords) c.args.st.now c.place_required-first.new.st) c.place_others-shoulds.new.st) - (nodeStateWords + (c.place_required-first.result.end + c.place_others-shoulds.result))) (put_mid (nodeStateWords + c.place_required-first.result.end) (length (put_mid nodeStateWords (length c.args.st.now - nodeStateWords) c.args.st.now c.place_required-first.new.st) - (nodeStateWords + c.place_required-first.result.end)) (put_mid nodeStateWords (length c.args.st.now - nodeStateWords) c.args.st.now c.place_required-first.new.st) c.place_others-shoulds.new.st) c.place_others-nots.new.st c.place_others-nots.auto.st ∙ optional-long t c.before.before.before.before.before
+    same_len_mid (node_state_words + (c.place_required-first.result.end + c.place_others-shoulds.result)) (length (put_mid (node_state_words + c.place_required-first.result.end) (length (put_mid node_state_words (length c.args.st.now - node_state_words) c.args.st.now c.place_required-first.new.st) - (node_state_words + c.place_required-first.result.end)) (put_mid node_state_words (length c.args.st.now - node_state_words) c.args.st.now c.place_required-first.new.st) c.place_others-shoulds.new.st) - (node_state_words + (c.place_required-first.result.end + c.place_others-shoulds.result))) (put_mid (node_state_words + c.place_required-first.result.end) (length (put_mid node_state_words (length c.args.st.now - node_state_words) c.args.st.now c.place_required-first.new.st) - (node_state_words + c.place_required-first.result.end)) (put_mid node_state_words (length c.args.st.now - node_state_words) c.args.st.now c.place_required-first.new.st) c.place_others-shoulds.new.st) c.place_others-nots.new.st c.place_others-nots.auto.st ∙ optional-long t c.before.before.before.before.before
 
 pub place-boolean-mul-if1 : (t : ℕ) → place-boolean-lts.Need-offset_bounds-presents-at (place-boolean-calls t) (place-boolean-at t) place-boolean.Post
 place-boolean-mul-if1 t c =
@@ -212,7 +212,7 @@ place-boolean-place-required-requires t c κs =
     let kind = s.requires.1.0 in
     let pre = s.requires.1.1 in
     let there = c.if-presents-at-eq0.false in
-    let part₁ = mid_len nodeStateWords words st₀ (omega arith) in
+    let part₁ = mid_len node_state_words words st₀ (omega arith) in
     (omega (arith, s.requires.0, some-levels t c.before.before.before.before.before.before.before.before.before.before.before.before.before), boolean-required E at fixed kept boost words depth kind there _ part₁ pre)
 
 pub place-boolean-add-place-others : (t : ℕ) → place-boolean-lts.Need-overflow_add-first (place-boolean-calls t) (place-boolean-at t) place-boolean.Post
@@ -252,7 +252,7 @@ place-boolean-place-others-requires t c κs =
     let kind = s.requires.1.0 in
     let pre = s.requires.1.1 in
     let there = c.if-presents-at-eq0.false in
-    let part₁ = mid_len nodeStateWords words st₀ (omega arith) in
+    let part₁ = mid_len node_state_words words st₀ (omega arith) in
     let a = c.place_required-first in
     let e₁ = a.result.end in
     let part₂ = optional-part t c.before.before.before.before in
@@ -299,7 +299,7 @@ place-boolean-place-others-requires-2 t c κs =
     let kind = s.requires.1.0 in
     let pre = s.requires.1.1 in
     let there = c.if-presents-at-eq0.false in
-    let part₁ = mid_len nodeStateWords words st₀ (omega arith) in
+    let part₁ = mid_len node_state_words words st₀ (omega arith) in
     let a = c.place_required-first in
     let e₁ = a.result.end in
     let part₂ = optional-part t c.before.before.before.before.before.before.before.before.before in
@@ -326,7 +326,7 @@ place-boolean-add-size-2 t c =
     let kind = s.requires.1.0 in
     let pre = s.requires.1.1 in
     let there = c.if-presents-at-eq0.false in
-    let part₁ = mid_len nodeStateWords words st₀ (omega arith) in
+    let part₁ = mid_len node_state_words words st₀ (omega arith) in
     let a = c.place_required-first in
     let e₁ = a.result.end in
     let part₂ = optional-part t c.before.before.before.before.before.before.before.before.before.before.before.before in
@@ -357,7 +357,7 @@ place-boolean-put-boolean-requires t c κs =
     let kind = s.requires.1.0 in
     let pre = s.requires.1.1 in
     let there = c.if-presents-at-eq0.false in
-    let part₁ = mid_len nodeStateWords words st₀ (omega arith) in
+    let part₁ = mid_len node_state_words words st₀ (omega arith) in
     let a = c.place_required-first in
     let e₁ = a.result.end in
     let part₂ = optional-part t c.before.before.before.before.before.before.before.before.before.before.before.before.before.before.before in
@@ -388,15 +388,15 @@ place-boolean-returns-2 t c =
     let kind = s.requires.1.0 in
     let pre = s.requires.1.1 in
     let there = c.if-presents-at-eq0.false in
-    let part₁ = mid_len nodeStateWords words st₀ (omega arith) in
+    let part₁ = mid_len node_state_words words st₀ (omega arith) in
     let a = c.place_required-first in
     let e₁ = a.result.end in
-    let st₁ = put_mid nodeStateWords (words - nodeStateWords) st₀ a.new.st in
+    let st₁ = put_mid node_state_words (words - node_state_words) st₀ a.new.st in
     let part₂ = optional-part t c.before.before.before.before.before.before.before.before.before.before.before.before.before.before.before.before.before.before in
     let b = c.place_others-shoulds in
     let e₂ = b.result in
-    let st₂ = put_mid (nodeStateWords + e₁) (length st₁ - (nodeStateWords + e₁)) st₁ b.new.st in
+    let st₂ = put_mid (node_state_words + e₁) (length st₁ - (node_state_words + e₁)) st₁ b.new.st in
     let part₃ = prohibited-part t c.before.before.before.before.before.before.before.before.before.before.before.before.before in
     let d = c.place_others-nots in
     let e₃ = d.result in
-    (whole-placed E at fixed kept boost words depth kind there _ part₁ a.result.group_at e₁ a.new.st a.ensures.0 _ part₂ e₂ b.new.st b.ensures.0 _ part₃ e₃ d.new.st d.ensures.0 st₀ (post_of nodeStateWords (words - nodeStateWords) st₀) (post_of (nodeStateWords + e₁) (length st₁ - (nodeStateWords + e₁)) st₁) (post_of (nodeStateWords + (e₁ + e₂)) (length st₂ - (nodeStateWords + (e₁ + e₂))) st₂) c.put_boolean.new.st s.args.scores c.shoulds_needed-need.result c.value-msm.result c.has_required-required.result c.joins_afterwards.result refl pre (subst T (sym s.well_formed.1.1.1.1.1.1.1.1.1.1.1.0.1) tt) c.value-msm.ensures (c.has_required-required.ensures s.args.presents.now s.args.costs.now) c.shoulds_needed-need.ensures c.joins_afterwards.ensures c.put_boolean.ensures, c.put_boolean.auto.st ∙ prohibited-long t c.before.before.before.before.before.before.before.before)
+    (whole-placed E at fixed kept boost words depth kind there _ part₁ a.result.group_at e₁ a.new.st a.ensures.0 _ part₂ e₂ b.new.st b.ensures.0 _ part₃ e₃ d.new.st d.ensures.0 st₀ (post_of node_state_words (words - node_state_words) st₀) (post_of (node_state_words + e₁) (length st₁ - (node_state_words + e₁)) st₁) (post_of (node_state_words + (e₁ + e₂)) (length st₂ - (node_state_words + (e₁ + e₂))) st₂) c.put_boolean.new.st s.args.scores c.shoulds_needed-need.result c.value-msm.result c.has_required-required.result c.joins_afterwards.result refl pre (subst T (sym s.well_formed.1.1.1.1.1.1.1.1.1.1.1.0.1) tt) c.value-msm.ensures (c.has_required-required.ensures s.args.presents.now s.args.costs.now) c.shoulds_needed-need.ensures c.joins_afterwards.ensures c.put_boolean.ensures, c.put_boolean.auto.st ∙ prohibited-long t c.before.before.before.before.before.before.before.before)

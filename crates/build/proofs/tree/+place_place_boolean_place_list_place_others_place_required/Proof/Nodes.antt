@@ -3,7 +3,7 @@ use mathlib.Core.Path.{sym, ◌∙◌}
 use native.Mathlib.Omega.{arith}
 use lib.ListN.{length}
 use Prim.Native.Nat.{ℕ, ◌≤◌, ◌<◌}
-use Rattle.meaning.specs.Query.{recordCount}
+use Rattle.meaning.specs.Query.{record_count}
 use Rattle.node_words.specs.Prepared.{records}
 use Rattle.build.proofs.PlacingBooleans.{tree-here, tree-deep, tree-present}
 use Rattle.build.proofs.PlacingBelow.{constant-asked, constant-placed, boost-asked, boost-placed, boost-number-here}
@@ -38,7 +38,7 @@ record-within t c =
     let pre = s.requires.1 in
     tree-present E at fixed kept boost words depth pre
 
-record-counted : (t : ℕ) (c : place-lts.Start (place-calls t) (place_at t) place.Post) → c.args.at < recordCount c.args.q.now
+record-counted : (t : ℕ) (c : place-lts.Start (place-calls t) (place_at t) place.Post) → c.args.at < record_count c.args.q.now
 record-counted t c =
     let s = c in
     let E = records s.args.q.now s.args.max_doc s.args.fields.now s.args.leaves.now s.args.nexts.now s.args.presents.now s.args.costs.now s.args.places.now in

@@ -9,9 +9,9 @@ use lib.Dec.{lit≤}
 use lib.ListN.{length, take, set, length-set}
 use lib.Seq.{take-suc-set, take_all}
 use lib.Ieee.{Float}
-use Rattle.meaning.specs.Below.{listTo}
+use Rattle.meaning.specs.Below.{list_to}
 use Rattle.meaning.specs.Bm25.{length_of, inverse}
-use Rattle.meaning.proofs.Below.{listTo-zero, listTo-next}
+use Rattle.meaning.proofs.Below.{list_to-zero, list_to-next}
 use Rattle.sim.proofs.bm25.Bm25.new.Statement.{statement}
 use Rattle.sim.proofs.bm25.Bm25.new.Tie as tie
 
@@ -19,13 +19,13 @@ abbrev entry : Float → ℕ → Float
 entry average n = inverse average (length_of n)
 
 abbrev invariant-loop : tie.invariant-loop-norm
-invariant-loop average cache₀ norm₀ cache norm = (norm ≤ 256) × (length cache ≡ 256) × (take norm cache ≡ listTo norm (entry average))
+invariant-loop average cache₀ norm₀ cache norm = (norm ≤ 256) × (length cache ≡ 256) × (take norm cache ≡ list_to norm (entry average))
 
 abbrev decreases-loop : tie.decreases-loop-norm
 decreases-loop average cache₀ norm₀ cache norm = 256 - norm
 
 loop-holds : tie.Need-loop-norm-init invariant-loop decreases-loop
-loop-holds c = (lit≤ tt, refl, sym (listTo-zero (entry c.args.average)))
+loop-holds c = (lit≤ tt, refl, sym (list_to-zero (entry c.args.average)))
 
 length-of-requires : tie.Need-length_of-requires invariant-loop decreases-loop
 length-of-requires c κs = search rules
@@ -46,13 +46,13 @@ loop-less : tie.Need-loop-norm-smaller invariant-loop decreases-loop
 loop-less c = search rules
 
 -- one more entry
-filled : (f : ℕ → Float) (t : List Float) (i : ℕ) (v : Float) → i < length t → take i t ≡ listTo i f → v ≡ f i → take (i + 1) (set t i v) ≡ listTo (i + 1) f
+filled : (f : ℕ → Float) (t : List Float) (i : ℕ) (v : Float) → i < length t → take i t ≡ list_to i f → v ≡ f i → take (i + 1) (set t i v) ≡ list_to (i + 1) f
 filled f t i v h all e =
     ap (λ (k : ℕ). take k (set t i v)) (add-one i)
     ∙ take-suc-set t i v h
     ∙ ap (λ (z : List Float). z ++ (v ∷ [])) all
-    ∙ ap (λ (z : Float). listTo i f ++ (z ∷ [])) e
-    ∙ sym (listTo-next f i)
+    ∙ ap (λ (z : Float). list_to i f ++ (z ∷ [])) e
+    ∙ sym (list_to-next f i)
 
 loop-again : tie.Need-loop-norm-preserved invariant-loop decreases-loop
 loop-again c =
@@ -70,7 +70,7 @@ returns c =
     let l = c.before.loop-norm in
     let a = c.before.before.args.average in
     let end : l.norm ≡ 256 = le_antisymm l.invariant.0 c.loop-norm-test.false in
-    sym (take_all l.norm l.cache (le_of_eq (l.invariant.1 ∙ sym end))) ∙ l.invariant.2 ∙ ap (λ (n : ℕ). listTo n (entry a)) end
+    sym (take_all l.norm l.cache (le_of_eq (l.invariant.1 ∙ sym end))) ∙ l.invariant.2 ∙ ap (λ (n : ℕ). list_to n (entry a)) end
 
 pub new_spec : {M : Type 1} → statement M
 new_spec =
