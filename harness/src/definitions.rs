@@ -57,12 +57,12 @@ costed ix q = cond (has_scorer ix (query_tree q)) (1 ∷ cost ix (query_tree q) 
 abbrev outputs : ℕ → ℕ → ℕ → ℕ → Outputs
 outputs a b c d = record { norms = a; postings = b; positions = c; runs = d }
 
-abbrev tokenWords : List Token → List ℕ
-tokenWords [] = []
-tokenWords (t ∷ ts) = t.leaf ∷ t.document ∷ t.position ∷ tokenWords ts
+abbrev token_words : List Token → List ℕ
+token_words [] = []
+token_words (t ∷ ts) = t.leaf ∷ t.document ∷ t.position ∷ token_words ts
 
-abbrev readBack : ℕ → List ℕ → List ℕ → List ℕ → List ℕ
-readBack n fields leaf_fields ws = tokenWords (tokens_back (index_of_tokens n fields ws leaf_fields [] [] [] []))
+abbrev read_back : ℕ → List ℕ → List ℕ → List ℕ → List ℕ
+read_back n fields leaf_fields ws = token_words (tokens_back (index_of_tokens n fields ws leaf_fields [] [] [] []))
 ";
 
 /// The entries, with the full list, the text of the program `hits`, and narrowing, by the step that

@@ -64,7 +64,7 @@ fn write(call: &Call) -> Row {
         equations.push((call, words(&held)));
     }
     if let Ok(written) = &right {
-        let call = format!("readBack {given}");
+        let call = format!("read_back {given}");
         equations.push((call, words(&told(tokens, written))));
     }
     of_lists(Entry::Write, number, equations)
