@@ -19,16 +19,16 @@ CAMEL = re.compile(r"[a-z][a-z0-9']*(?:[A-Z][a-z0-9']*)+")
 STRING = re.compile(r'"(?:[^"\\\n]|\\.)*"')
 # words of IEEE 754 and of Lucene: their spelling stays in prose, the definitions that render them are respelled
 THEIRS = set("byte4ToInt convertFormat floatToSortableInt int4ToLong intToByte4 longToInt4 nextUp roundTiesToEven sortableIntToFloat totalOrder".split())
-# the older kit's words within names of laws
-KITS = {"getD": "get_or", "other_Offset": "other_offset"}
-# laws whose names would hide a definition as it is now spelled: a file, the old name, the new one
+# words that go otherwise: the older kit's within names of laws, and one that would meet a word of the kit
+OTHERWISE = {"getD": "get_or", "other_Offset": "other_offset", "takeAll": "take_nodes"}
+# laws whose names would hide a definition as it is now spelled: a file, the old name, the new one, and that definition's old name
 HIDING = [
-    ("crates/border_demands/proofs/Pages.antt", "goes_on", "goes_on_lem"),
-    ("crates/window_bits/proofs/Passes.antt", "asked_by", "asked_by_lem"),
-    ("crates/index/proofs/Accepted.antt", "no_index", "no_index_lem"),
-    ("crates/index/proofs/Words.antt", "leaf_first", "leaf_first_lem"),
-    ("crates/adjacent_leaves/proofs/plain_leaves/Proof.antt", "leaf_first", "leaf_first_lem"),
-    ("crates/posting_check/proofs/wrong_run/Proof.antt", "leaf_first", "leaf_first_lem"),
+    ("crates/border_demands/proofs/Pages.antt", "goes_on", "goes_on_lem", "goesOn"),
+    ("crates/window_bits/proofs/Passes.antt", "asked_by", "asked_by_lem", "askedBy"),
+    ("crates/index/proofs/Accepted.antt", "no_index", "no_index_lem", "noIndex"),
+    ("crates/index/proofs/Words.antt", "leaf_first", "leaf_first_lem", "leafFirst"),
+    ("crates/adjacent_leaves/proofs/plain_leaves/Proof.antt", "leaf_first", "leaf_first_lem", "leafFirst"),
+    ("crates/posting_check/proofs/wrong_run/Proof.antt", "leaf_first", "leaf_first_lem", "leafFirst"),
 ]
 TEXTS = ("README.md", "docs", "harness", "include", "examples", "Makefile", ".ci")
 KINDS = (".md", ".rs", ".h", ".c", ".toml", "Makefile", "run")
@@ -39,8 +39,8 @@ def snake(word):
 
 
 def new_name(word):
-    if word in KITS:
-        return KITS[word]
+    if word in OTHERWISE:
+        return OTHERWISE[word]
     return snake(word) if CAMEL.fullmatch(word) else word
 
 
@@ -91,11 +91,9 @@ def main():
         with open(path, encoding="utf-8") as f:
             texts[path] = f.read()
     before = dict(texts)
-    # a second run finds no word outside of THEIRS, and leaves what hides nothing any more
-    first = any(new_name(w) != w and w not in THEIRS for t in texts.values() for w in TOKEN.findall(t))
-    for name, old, new in HIDING:
+    for name, old, new, hidden in HIDING:
         path = os.path.join(root, name)
-        if first and path in texts:
+        if hidden in TOKEN.findall(texts.get(path, "")):
             texts[path] = TOKEN.sub(lambda m: new if m[0] == old else m[0], texts[path])
     known, met = set(), {}
     for path, text in texts.items():

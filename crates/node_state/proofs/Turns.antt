@@ -36,13 +36,13 @@ put_all ns zero w = w
 put_all ns (suc n) w = put_node (put_all ns n w) n (get_or ns n none)
 
 -- the records after the first n turns
-abbrev pub take_all : List ℕ → ℕ → List NodeState → List NodeState
-take_all w zero ns = ns
-take_all w (suc n) ns = set (take_all w n ns) n (node_from (drop (node_state_words * n) w))
+abbrev pub take_nodes : List ℕ → ℕ → List NodeState → List NodeState
+take_nodes w zero ns = ns
+take_nodes w (suc n) ns = set (take_nodes w n ns) n (node_from (drop (node_state_words * n) w))
 
-pub taken-length : (w : List ℕ) (n : ℕ) (ns : List NodeState) → length (take_all w n ns) ≡ length ns
+pub taken-length : (w : List ℕ) (n : ℕ) (ns : List NodeState) → length (take_nodes w n ns) ≡ length ns
 taken-length w zero ns = refl
-taken-length w (suc n) ns = length-set (take_all w n ns) n (node_from (drop (node_state_words * n) w)) ∙ taken-length w n ns
+taken-length w (suc n) ns = length-set (take_nodes w n ns) n (node_from (drop (node_state_words * n) w)) ∙ taken-length w n ns
 
 pub words_append : (xs ys : List NodeState) → record_words (xs ++ ys) ≡ record_words xs ++ record_words ys
 unfolding record_words
@@ -114,10 +114,10 @@ pub from-words : (y : List ℕ) → node_state_words ≤ length y → words_of (
 from-words y h = sym (prefix-is node_state_words y h)
 
 -- all turns of `pack`
-pub all-taken : (w : List ℕ) (n : ℕ) (ns : List NodeState) → n ≤ length ns → node_state_words * n ≤ length w → record_words (take n (take_all w n ns)) ≡ take (node_state_words * n) w
+pub all-taken : (w : List ℕ) (n : ℕ) (ns : List NodeState) → n ≤ length ns → node_state_words * n ≤ length w → record_words (take n (take_nodes w n ns)) ≡ take (node_state_words * n) w
 all-taken w zero ns h g = words-none
 all-taken w (suc n) ns h g =
-    let T = take_all w n ns in
+    let T = take_nodes w n ns in
     let x = node_from (drop (node_state_words * n) w) in
     let long = taken-length w n ns in
     let d = length-drop (node_state_words * n) w in
@@ -131,11 +131,11 @@ all-taken w (suc n) ns h g =
     next : (n : ℕ) → node_state_words * n + node_state_words ≡ node_state_words * suc n
     next n = omega arith
 
-pub rest-stays : (w : List ℕ) (n : ℕ) (ns : List NodeState) → drop n (take_all w n ns) ≡ drop n ns
+pub rest-stays : (w : List ℕ) (n : ℕ) (ns : List NodeState) → drop n (take_nodes w n ns) ≡ drop n ns
 rest-stays w zero ns = refl
 rest-stays w (suc n) ns =
-    drop-set-lt (suc n) (take_all w n ns) n (node_from (drop (node_state_words * n) w)) (omega arith)
-    ∙ further n (take_all w n ns) ∙ ap (λ (l : List NodeState). drop 1 l) (rest-stays w n ns) ∙ sym (further n ns)
+    drop-set-lt (suc n) (take_nodes w n ns) n (node_from (drop (node_state_words * n) w)) (omega arith)
+    ∙ further n (take_nodes w n ns) ∙ ap (λ (l : List NodeState). drop 1 l) (rest-stays w n ns) ∙ sym (further n ns)
   where
     further : (n : ℕ) (l : List NodeState) → drop (suc n) l ≡ drop 1 (drop n l)
     further n l = ap (λ (m : ℕ). drop m l) (sym (add-one n)) ∙ sym (drop-drop 1 n l)

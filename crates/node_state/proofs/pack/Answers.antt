@@ -3,7 +3,7 @@ use Rattle.std.proofs.Common.{◌≡◌, ◌*◌, ℕ, List, take, drop, arith, 
 use Rattle.meaning.specs.Limits.{node_state_words}
 use Rattle.node_state.specs.declared.NodeState.{NodeState}
 use Rattle.node_state.specs.Records.{record_words}
-use Rattle.node_state.proofs.Turns.{take_all, all-taken, rest-stays}
+use Rattle.node_state.proofs.Turns.{take_nodes, all-taken, rest-stays}
 use Rattle.node_state.proofs.pack.Goals as goal
 
 pub returns : goal.returns
@@ -12,7 +12,7 @@ returns c =
     let n = c.args.n in
     let ns = c.args.nodes.now in
     let upto : c.loop-i.i ≡ n = omega arith in
-    let e : take_all w n ns ≡ c.loop-i.nodes = subst (λ (i : ℕ). take_all w i ns ≡ c.loop-i.nodes) upto (sym c.loop-i.invariant.taken) in
+    let e : take_nodes w n ns ≡ c.loop-i.nodes = subst (λ (i : ℕ). take_nodes w i ns ≡ c.loop-i.nodes) upto (sym c.loop-i.invariant.taken) in
     subst
     (λ (l : List NodeState). (record_words (take n l) ≡ take (node_state_words * n) w) × (drop n l ≡ drop n ns))
     e
