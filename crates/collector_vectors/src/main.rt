@@ -7,7 +7,7 @@ ghost use Rattle.meaning.specs.CallRefusals.{wrong14};
 
 use collector::codes;
 use std::io;
-use std::io::{BufWriter, Write};
+use std::io::Write;
 use vectors::{f32_of, print_f32};
 
 // Scores in rising order, from 0 to plus infinity.
@@ -304,7 +304,7 @@ fn codes_of_any(out: &mut impl Write) -> io::Result<()> {
 }
 
 fn main(rt: HostRuntime) -> io::Result<()> {
-    let mut out = BufWriter::new(rt.alloc(), io::writer(&rt))?;
+    let mut out = io::writer(&rt);
     ask_each(&mut out, 0, 0, 156)?;
     ask_each(&mut out, 0, 1, 156)?;
     ask_each(&mut out, 0, 2, 312)?;

@@ -7,7 +7,7 @@ ghost use Rattle.std.specs.Prelude.{◌≡◌, ◌<◌, ◌≤◌};
 ghost use Rattle.doc_values_vectors.specs.Columns.{Columns};
 
 use std::io;
-use std::io::{BufWriter, Write};
+use std::io::Write;
 
 // Values: present or not, the low half and the high half. As i64 the least, the largest and others around 0; as f64 zeros,
 // subnormals, ones, infinities and NaNs of both signs. Two are absent, one of them with a pattern.
@@ -185,7 +185,7 @@ fn print_column(
 
 // The values as one column of eighteen documents, of either type, and as three columns of six.
 fn main(rt: HostRuntime) -> io::Result<()> {
-    let mut out = BufWriter::new(rt.alloc(), io::writer(&rt))?;
+    let mut out = io::writer(&rt);
     let i64s = [0u32];
     let f64s = [1u32];
     let three = [0u32, 1, 0];

@@ -8,7 +8,7 @@ use range_entry::Ranged;
 use searcher::page::Paged;
 use searcher::search::Searched;
 use std::io;
-use std::io::{BufWriter, Write};
+use std::io::Write;
 use weight::NODE_STATE_WORDS;
 
 // A query of one record, MatchAll.
@@ -256,7 +256,7 @@ fn place(out: &mut impl Write, query: &[u32], document: u32) -> io::Result<()> {
 }
 
 fn main(rt: HostRuntime) -> io::Result<()> {
-    let mut out = BufWriter::new(rt.alloc(), io::writer(&rt))?;
+    let mut out = io::writer(&rt);
     writeln!(out, "MatchAll of 3, page of 2")?;
     page_all(&mut out, 0)?;
     page_all(&mut out, 3)?;

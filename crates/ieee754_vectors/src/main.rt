@@ -5,7 +5,7 @@
 ghost use Rattle.std.specs.Prelude.{◌<◌, ◌≤◌};
 
 use std::io;
-use std::io::{BufWriter, Write};
+use std::io::Write;
 use vectors::{f32_of, f64_of, print_f32, print_f64};
 
 // The sign's bit of a binary64 pattern.
@@ -273,7 +273,7 @@ fn sums(out: &mut impl Write) -> io::Result<()> {
 }
 
 fn main(rt: HostRuntime) -> io::Result<()> {
-    let mut out = BufWriter::new(rt.alloc(), io::writer(&rt))?;
+    let mut out = io::writer(&rt);
     narrowed_kinds(&mut out)?;
     narrowed_from(&mut out, 0, 2)?;
     narrowed_from(&mut out, 868, 1155)?;

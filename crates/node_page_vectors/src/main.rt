@@ -13,7 +13,7 @@ ghost use Rattle.meaning.specs.Limits.{no_more_docs};
 use node_state::NodeState;
 use searcher::page::Paged;
 use std::io;
-use std::io::{BufWriter, Write};
+use std::io::Write;
 
 // One field; leaf 0 in the documents 0, 2 and 3, leaf 1 in 2.
 const FIELDS: [u32; 3] = [0x3f80_0000, 0, 0];
@@ -470,7 +470,7 @@ fn phrase_and_range(out: &mut impl Write) -> io::Result<()> {
 }
 
 fn main(rt: HostRuntime) -> io::Result<()> {
-    let mut out = BufWriter::new(rt.alloc(), io::writer(&rt))?;
+    let mut out = io::writer(&rt);
     whole_case(&mut out)?;
     phrase_and_range(&mut out)?;
     out.flush()

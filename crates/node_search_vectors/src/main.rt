@@ -12,7 +12,7 @@ ghost use Rattle.searcher.specs.Answers.{searched_numbers};
 use node_state::NodeState;
 use searcher::search::Searched;
 use std::io;
-use std::io::{BufWriter, Write};
+use std::io::Write;
 use weight::NODE_STATE_WORDS;
 
 // One field; leaf 0 in the documents 0, 2 and 3, leaf 1 in 2.
@@ -432,7 +432,7 @@ fn compare(out: &mut impl Write, q: &[u32], k: u32, t: u32) -> io::Result<()> {
 }
 
 fn main(rt: HostRuntime) -> io::Result<()> {
-    let mut out = BufWriter::new(rt.alloc(), io::writer(&rt))?;
+    let mut out = io::writer(&rt);
     compare(&mut out, &QUERY, 2, 10)?;
     compare(&mut out, &QUERY, 2, 1)?;
     compare(&mut out, &QUERY, 0, 10)?;

@@ -8,7 +8,7 @@ ghost use Rattle.phrase_vectors.specs.Asked.{Asked};
 
 use phrase::Placed;
 use std::io;
-use std::io::{BufWriter, Write};
+use std::io::Write;
 
 // Near the largest position and offset.
 const HIGH: u32 = 2_147_483_600;
@@ -185,7 +185,7 @@ fn ask_each(
 }
 
 fn main(rt: HostRuntime) -> io::Result<()> {
-    let mut out = BufWriter::new(rt.alloc(), io::writer(&rt))?;
+    let mut out = io::writer(&rt);
     ask_each(&mut out, 0, 0, 1500)?;
     ask_each(&mut out, 0, HIGH, 200)?;
     ask_each(&mut out, HIGH, 0, 200)?;

@@ -7,7 +7,7 @@
 ghost use Rattle.std.specs.Prelude.{◌+◌, ◌≤◌, length};
 
 use std::io;
-use std::io::{BufWriter, Write};
+use std::io::Write;
 use vectors::file::{list, size};
 
 // So many bytes, or all.
@@ -94,8 +94,8 @@ fn print_all(out: &mut impl Write, bytes: &[u8]) -> io::Result<()> {
 }
 
 fn main(rt: HostRuntime) -> io::Result<()> {
-    let mut out = BufWriter::new(rt.alloc(), io::writer(&rt))?;
-    let bytes = vectors::file::read_bytes(&rt, "cases.rec")?;
-    print_all(&mut out, &bytes)?;
-    out.flush()
+    let mut out = io::writer(&rt);
+    let mut bytes = [0u8; 262_144];
+    let n = vectors::file::read_bytes(&rt, "cases.rec", &mut bytes)?;
+    print_all(&mut out, &bytes[..n])
 }

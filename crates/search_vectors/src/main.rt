@@ -7,7 +7,7 @@
 use searcher::page::Paged;
 use searcher::search::Searched;
 use std::io;
-use std::io::{BufWriter, Write};
+use std::io::Write;
 use std::rt::Files;
 use vectors::file::{bytes_at, list_at, size, word};
 use weight::NODE_STATE_WORDS;
@@ -222,17 +222,14 @@ fn print_words(out: &mut impl Write, bytes: &[u8]) -> io::Result<()> {
     print_cases(out, &file, bytes)
 }
 
-fn print_file(
-    out: &mut impl Write,
-    rt: &(impl Files + AllocGlobal + Eprint),
-    path: &str,
-) -> io::Result<()> {
-    let bytes = vectors::file::read_bytes(rt, path)?;
+fn print_file(out: &mut impl Write, rt: &(impl Files + Eprint), path: &str) -> io::Result<()> {
+    let mut bytes = [0u8; 65_536];
+    vectors::file::read_bytes(rt, path, &mut bytes)?;
     print_words(out, &bytes)
 }
 
 fn main(rt: HostRuntime) -> io::Result<()> {
-    let mut out = BufWriter::new(rt.alloc(), io::writer(&rt))?;
+    let mut out = io::writer(&rt);
     print_file(&mut out, &rt, "cases1.rec")?;
     print_file(&mut out, &rt, "cases2.rec")?;
     print_file(&mut out, &rt, "cases3.rec")?;

@@ -6,7 +6,7 @@ ghost use Rattle.std.specs.Prelude.{◌<◌};
 
 use sim::bm25::Bm25;
 use std::io;
-use std::io::{BufWriter, Write};
+use std::io::Write;
 use vectors::{f32_of, print_f32};
 
 // Averages as f32 bits: 1, the next one, 3.7, 17.25, 123456.79 and 2^24.
@@ -171,7 +171,7 @@ fn any_four_bits(out: &mut impl Write) -> io::Result<()> {
 }
 
 fn main(rt: HostRuntime) -> io::Result<()> {
-    let mut out = BufWriter::new(rt.alloc(), io::writer(&rt))?;
+    let mut out = io::writer(&rt);
     all_decoded(&mut out)?;
     codes(&mut out)?;
     at_averages(&mut out)?;

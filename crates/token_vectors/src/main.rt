@@ -5,7 +5,7 @@
 #![tactic(auto)]
 
 use std::io;
-use std::io::{BufWriter, Write};
+use std::io::Write;
 use token_writer::Written;
 use vectors::file::{list_at, size, word};
 
@@ -119,8 +119,8 @@ fn print_all(out: &mut impl Write, bytes: &[u8]) -> io::Result<()> {
 }
 
 fn main(rt: HostRuntime) -> io::Result<()> {
-    let mut out = BufWriter::new(rt.alloc(), io::writer(&rt))?;
-    let bytes = vectors::file::read_bytes(&rt, "rows.rec")?;
-    print_all(&mut out, &bytes)?;
-    out.flush()
+    let mut out = io::writer(&rt);
+    let mut bytes = [0u8; 65_536];
+    let n = vectors::file::read_bytes(&rt, "rows.rec", &mut bytes)?;
+    print_all(&mut out, &bytes[..n])
 }

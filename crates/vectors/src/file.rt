@@ -1,6 +1,7 @@
 // A file of little-endian words: the words, and the lists that a place in it names.
-ghost use Rattle.std.specs.Prelude.{◌≡◌};
+ghost use Rattle.std.specs.Prelude.{◌≡◌, ◌≤◌, length, IfOk};
 
+use std::io::Read;
 use std::rt::Files;
 use std::{fs, io};
 
@@ -11,15 +12,36 @@ pub fn size(x: u32) -> usize
     x as usize
 }
 
-// The bytes of a file. What is missing or unreadable is told of on standard error, and has none.
-pub fn read_bytes(rt: &(impl Files + AllocGlobal + Eprint), path: &str) -> io::Result<Vec<u8>> {
-    match fs::read(rt, path) {
-        Ok(bytes) => Ok(bytes),
+// How many bytes of the file stand at the front of the buffer. One that cannot be opened is told of on standard error, and has none.
+pub fn read_bytes(rt: &(impl Files + Eprint), path: &str, bytes: &mut [u8]) -> io::Result<usize>
+    ensures { IfOk result (λ n. n ≤ length bytes.new) }
+{
+    match fs::open(rt, path) {
+        Ok(mut file) => Ok(read_all(&mut file, bytes)),
         Err(error) => {
             eprintln!(rt; "{path}: {error}")?;
-            Ok(Vec::new(rt.alloc()))
+            Ok(0)
         }
     }
+}
+
+// Reads until the file ends, the buffer is full or a read fails.
+fn read_all(file: &mut impl Read, bytes: &mut [u8]) -> usize
+    ensures { result ≤ length bytes.new }
+{
+    let mut done = 0;
+    while done < bytes.len() {
+        match file.read(&mut bytes[done..]) {
+            Ok(more) => {
+                if more == 0 {
+                    return done;
+                }
+                done += more;
+            }
+            Err(_) => return done,
+        }
+    }
+    done
 }
 
 fn word_of(a: u8, b: u8, c: u8, d: u8) -> u32 {
