@@ -2,3 +2,4 @@
 pub mod Clauses
 pub mod Tallies
 pub mod Listing
+pub mod Mapped

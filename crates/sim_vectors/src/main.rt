@@ -44,7 +44,7 @@ fn decoded(out: &mut impl Write, norm: u8) -> io::Result<()> {
     print_code(out, std::num::wrapping_sub_u32(length, 1))?;
     print_code(out, length)?;
     print_code(out, std::num::wrapping_add_u32(length, 1))?;
-    print_f32(out, sim::lengths::length_of(norm as usize))
+    print_f32(out, ieee754::length_to_f32(length))
 }
 
 fn all_decoded(out: &mut impl Write) -> io::Result<()> {

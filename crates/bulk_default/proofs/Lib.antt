@@ -1,0 +1,2 @@
+-- The laws of the loop from the walk to the collector.
+pub mod Collecting

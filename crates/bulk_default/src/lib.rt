@@ -1,0 +1,48 @@
+// The live documents that a scorer tree matches, one after the other, to the collector.
+#![tactic(auto)]
+
+ghost use Rattle.std.specs.Prelude.{◌≡◌, ℕ, ◌≤◌, ◌<◌, min, length};
+ghost use Rattle.meaning.specs.Limits.{max_hits};
+ghost use Rattle.scorer.specs.Calls.{lent};
+ghost use Rattle.bulk_default.specs.Collects.{CollectPre, CollectPost, CollectEnd};
+
+use collector::{TopDocs, TopScoreDocCollector};
+use walk::{NO_MORE_DOCS, next_match};
+
+// The hits of the tree at the front of the lent heap, whose length is k.
+pub fn collect_matches(
+    st: &mut [u32],
+    max_doc: u32,
+    postings: &[u32],
+    positions: &[u32],
+    norms: &[u8],
+    ranges: &[u32],
+    inverses: &[f32],
+    live: &[u64],
+    a: &mut [i32],
+    b: &mut [i32],
+    t: u32,
+    depth: u32,
+    heap: &mut [i64],
+) -> TopDocs
+    requires heap_nonzero { (0 < length heap.old) × (length heap.old ≤ max_hits) }
+    requires collect_pre { CollectPre (lent max_doc postings.now positions.now ranges.now) norms.now live.now inverses.now (min (length a.old) (length b.old)) st.old depth }
+    ensures collect_post { CollectPost (lent max_doc postings.now positions.now ranges.now) norms.now live.now inverses.now (min (length a.old) (length b.old)) st.old depth t heap.old result heap.new }
+    ensures collect_end { CollectEnd (lent max_doc postings.now positions.now ranges.now) norms.now live.now inverses.now (min (length a.old) (length b.old)) st.old depth st.new }
+{
+    let mut c = TopScoreDocCollector::new(t as u64);
+    let mut from = 0;
+    loop {
+        let next = next_match(
+            st, max_doc, postings, positions, ranges, live, a, b, from, depth,
+        );
+        if next == NO_MORE_DOCS {
+            return c.top_docs(heap);
+        }
+        let s = score::score(
+            st, max_doc, postings, positions, norms, ranges, inverses, a, b, next, depth,
+        );
+        c = c.stepped(heap, next, s);
+        from = next + 1;
+    }
+}
