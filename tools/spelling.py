@@ -7,7 +7,7 @@ FOLDER is a checkout that the kit's port.py has turned; without it, the one that
 In crates/: each word of specs/, proofs/, src/ (but for strings) and must-fail/ that is written as in 'listTo' is written as in 'list_to', between dashes too.
 In texts and in the harness the same words, as far as crates/ has them; the pages of docs/landings stay, each of which speaks of its own commits.
 Words of IEEE 754 and of Lucene stay as they are there, and in comments.
-It stops before it writes where two names would become one.
+It stops before it writes where two names would become one. Where a new name meets a word that stood already it does not: docs/PORT.md has how those were read.
 """
 
 import os

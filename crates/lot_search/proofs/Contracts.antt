@@ -1,89 +1,29 @@
--- The clauses of the contracts of lot_search, lot_page and lot_pick are the fields of a call. `Learnt` is what the kit reads from an entry's `ensures`, `args` what a call was lent in the order of the parameters, `end` what it was lent as it stood afterwards. Assumes nothing.
+-- The clauses of the contracts of the exports lot_search, lot_page and lot_pick are those of `border`'s functions, so a call of an export is a call as `border_demands` has it. `Learnt` is what the kit reads from an `ensures`, `args` what a call was lent in the order of the parameters, `end` what it was lent as it stood afterwards. Assumes nothing.
 use contract.Lifetimes.{Lfts}
 use borrow.Fn.Kinds.{Dens, res_t, ended_of}
 use denote.Triple.Clauses.{AtExit}
-use Rattle.meaning.specs.Lent.{Index}
-use Rattle.index.specs.Slices.{lent}
 use Rattle.lot_search.proofs.lot_search.Kinds as search-kinds
 use Rattle.lot_search.proofs.lot_search.Reads as search-contract
 use Rattle.lot_search.proofs.lot_page.Kinds as page-kinds
 use Rattle.lot_search.proofs.lot_page.Reads as page-contract
 use Rattle.lot_search.proofs.lot_pick.Kinds as pick-kinds
 use Rattle.lot_search.proofs.lot_pick.Reads as pick-contract
+use Rattle.meaning.specs.Lent.{Index}
+use Rattle.index.specs.Slices.{lent}
 use Rattle.border_demands.specs.Calls.{SearchCall, PageCall, PickCall}
+use Rattle.border_demands.proofs.Contracts as of-border
 
--- ---- lot_search
-module _ (κs : Lfts 15) (args : Dens κs search-kinds.ps) where
-  abbrev search-index : Index
-  search-index = lent args.0 args.1.0.now args.1.1.0.now args.1.1.1.0.now args.1.1.1.1.0.now args.1.1.1.1.1.0.now args.1.1.1.1.1.1.0.now args.1.1.1.1.1.1.1.0.now args.1.1.1.1.1.1.1.1.0.now
+abbrev search-index : (κs : Lfts 15) → Dens κs search-kinds.ps → Index
+search-index κs args = lent args.0 args.1.0.now args.1.1.0.now args.1.1.1.0.now args.1.1.1.1.0.now args.1.1.1.1.1.0.now args.1.1.1.1.1.1.0.now args.1.1.1.1.1.1.1.0.now args.1.1.1.1.1.1.1.1.0.now
 
-  pub search-call : (r : (res_t search-kinds.r κs).Denot) (end : AtExit (ended_of 15 search-kinds.ps search-kinds.r) κs) → search-contract.Learnt κs args r end → SearchCall search-index args.1.1.1.1.1.1.1.1.1.0.now args.1.1.1.1.1.1.1.1.1.1.0 args.1.1.1.1.1.1.1.1.1.1.1.0
-  search-call r end told = record {
-    states = args.1.1.1.1.1.1.1.1.1.1.1.1.0.now;
-    a = args.1.1.1.1.1.1.1.1.1.1.1.1.1.0.now;
-    b = args.1.1.1.1.1.1.1.1.1.1.1.1.1.1.0.now;
-    ranges = args.1.1.1.1.1.1.1.1.1.1.1.1.1.1.1.0.now;
-    hits = args.1.1.1.1.1.1.1.1.1.1.1.1.1.1.1.1.0.now;
-    answer = args.1.1.1.1.1.1.1.1.1.1.1.1.1.1.1.1.1.0.now;
-    returned = r;
-    states' = end.1.1.1.1.1.1.1.1.1.1.1.1.0.now;
-    a' = end.1.1.1.1.1.1.1.1.1.1.1.1.1.0.now;
-    b' = end.1.1.1.1.1.1.1.1.1.1.1.1.1.1.0.now;
-    ranges' = end.1.1.1.1.1.1.1.1.1.1.1.1.1.1.1.0.now;
-    hits' = end.1.1.1.1.1.1.1.1.1.1.1.1.1.1.1.1.0.now;
-    answer' = end.1.1.1.1.1.1.1.1.1.1.1.1.1.1.1.1.1.0.now;
-    number = told.0;
-    hits-told = told.1.0;
-    answer-told = told.1.1.0;
-    states-kept = told.1.1.1.0;
-    a-kept = told.1.1.1.1.0;
-    b-kept = told.1.1.1.1.1.0;
-    ranges-kept = told.1.1.1.1.1.1;
-  }
+pub search-call : (κs : Lfts 15) (args : Dens κs search-kinds.ps) (r : (res_t search-kinds.r κs).Denot) (end : AtExit (ended_of 15 search-kinds.ps search-kinds.r) κs) → search-contract.Learnt κs args r end → SearchCall (search-index κs args) args.1.1.1.1.1.1.1.1.1.0.now args.1.1.1.1.1.1.1.1.1.1.0 args.1.1.1.1.1.1.1.1.1.1.1.0
+search-call κs args r end told = of-border.search-call κs args r end told
 
--- ---- lot_page
-module _ (κs : Lfts 16) (args : Dens κs page-kinds.ps) where
-  abbrev page-index : Index
-  page-index = lent args.0 args.1.0.now args.1.1.0.now args.1.1.1.0.now args.1.1.1.1.0.now args.1.1.1.1.1.0.now args.1.1.1.1.1.1.0.now args.1.1.1.1.1.1.1.0.now args.1.1.1.1.1.1.1.1.0.now
+abbrev page-index : (κs : Lfts 16) → Dens κs page-kinds.ps → Index
+page-index κs args = lent args.0 args.1.0.now args.1.1.0.now args.1.1.1.0.now args.1.1.1.1.0.now args.1.1.1.1.1.0.now args.1.1.1.1.1.1.0.now args.1.1.1.1.1.1.1.0.now args.1.1.1.1.1.1.1.1.0.now
 
-  pub page-call : (r : (res_t page-kinds.r κs).Denot) (end : AtExit (ended_of 16 page-kinds.ps page-kinds.r) κs) → page-contract.Learnt κs args r end → PageCall page-index args.1.1.1.1.1.1.1.1.1.0.now
-  page-call r end told = record {
-    target = args.1.1.1.1.1.1.1.1.1.1.0;
-    states = args.1.1.1.1.1.1.1.1.1.1.1.0.now;
-    a = args.1.1.1.1.1.1.1.1.1.1.1.1.0.now;
-    b = args.1.1.1.1.1.1.1.1.1.1.1.1.1.0.now;
-    ranges = args.1.1.1.1.1.1.1.1.1.1.1.1.1.1.0.now;
-    documents = args.1.1.1.1.1.1.1.1.1.1.1.1.1.1.1.0.now;
-    scores = args.1.1.1.1.1.1.1.1.1.1.1.1.1.1.1.1.0.now;
-    answer = args.1.1.1.1.1.1.1.1.1.1.1.1.1.1.1.1.1.0.now;
-    returned = r;
-    states' = end.1.1.1.1.1.1.1.1.1.1.1.0.now;
-    a' = end.1.1.1.1.1.1.1.1.1.1.1.1.0.now;
-    b' = end.1.1.1.1.1.1.1.1.1.1.1.1.1.0.now;
-    ranges' = end.1.1.1.1.1.1.1.1.1.1.1.1.1.1.0.now;
-    documents' = end.1.1.1.1.1.1.1.1.1.1.1.1.1.1.1.0.now;
-    scores' = end.1.1.1.1.1.1.1.1.1.1.1.1.1.1.1.1.0.now;
-    answer' = end.1.1.1.1.1.1.1.1.1.1.1.1.1.1.1.1.1.0.now;
-    number = told.0;
-    documents-told = told.1.0;
-    scores-told = told.1.1.0;
-    answer-told = told.1.1.1.0;
-    states-kept = told.1.1.1.1.0;
-    a-kept = told.1.1.1.1.1.0;
-    b-kept = told.1.1.1.1.1.1.0;
-    ranges-kept = told.1.1.1.1.1.1.1;
-  }
+pub page-call : (κs : Lfts 16) (args : Dens κs page-kinds.ps) (r : (res_t page-kinds.r κs).Denot) (end : AtExit (ended_of 16 page-kinds.ps page-kinds.r) κs) → page-contract.Learnt κs args r end → PageCall (page-index κs args) args.1.1.1.1.1.1.1.1.1.0.now
+page-call κs args r end told = of-border.page-call κs args r end told
 
--- ---- lot_pick
-module _ (κs : Lfts 4) (args : Dens κs pick-kinds.ps) where
-  pub pick-call : (r : (res_t pick-kinds.r κs).Denot) (end : AtExit (ended_of 4 pick-kinds.ps pick-kinds.r) κs) → pick-contract.Learnt κs args r end → PickCall args.0.now args.1.0.now args.1.1.0 args.1.1.1.0
-  pick-call r end told = record {
-    hits = args.1.1.1.1.0.now;
-    answer = args.1.1.1.1.1.0.now;
-    returned = r;
-    hits' = end.1.1.1.1.0.now;
-    answer' = end.1.1.1.1.1.0.now;
-    number = told.0;
-    hits-told = told.1.0;
-    answer-told = told.1.1;
-  }
+pub pick-call : (κs : Lfts 4) (args : Dens κs pick-kinds.ps) (r : (res_t pick-kinds.r κs).Denot) (end : AtExit (ended_of 4 pick-kinds.ps pick-kinds.r) κs) → pick-contract.Learnt κs args r end → PickCall args.0.now args.1.0.now args.1.1.0 args.1.1.1.0
+pick-call κs args r end told = of-border.pick-call κs args r end told
