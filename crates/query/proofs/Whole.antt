@@ -2,7 +2,7 @@
 use mathlib.Core.Path.{◌≡◌, refl, ap}
 use mathlib.Core.Bool.{Bool, true, false, not, ◌||◌, ◌&&◌}
 use mathlib.Core.List.{List}
-use Rattle.std.specs.Prelude.{Some}
+use Rattle.std.specs.Prelude.{Option as Answer, Some}
 use Rattle.std.specs.Option.{option_eq}
 use mathlib.Core.Option.{Option, none, some}
 use Prim.Native.Nat.{ℕ, zero, suc, ◌+◌, ◌%◌, ◌≤◌, ◌<◌}
@@ -28,6 +28,10 @@ wrong7_parts q =
     go false false o = refl
     go false true none = refl
     go false true (some D) = refl
+
+-- "records left over", where all else is right
+pub left_over : (q : List ℕ) (count : ℕ) (end : Answer ℕ) (r : Bool) → (not (eqb (length q % 9) 0) || eqb (record_count q) 0 || ltb 256 (record_count q) || not (eqb (record_occurrence q 0) 0)) ≡ false → count ≡ record_count q → end ≡ end_of (decode q 16 0) → r ≡ not (option_eq eqb end (Some count)) → r ≡ wrong7 q
+left_over q count end r e c d f = rw (wrong7_parts q, e, ← c, ← d) f
 
 module _ (q : List ℕ) where
   -- ---- what 7 lets through
