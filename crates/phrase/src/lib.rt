@@ -17,9 +17,12 @@ fn rarest(terms: &[u32]) -> usize
     ensures { Rarest terms.now result }
 {
     let mut best = 0;
+    let mut least = terms[1];
     for at in (3..terms.len()).step_by(3) {
-        if terms[at + 1] < terms[best + 1] {
+        let freq = terms[at + 1];
+        if freq < least {
             best = at;
+            least = freq;
         }
     }
     best

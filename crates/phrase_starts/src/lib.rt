@@ -40,9 +40,8 @@ pub fn write_starts(positions: &[u32], t: Term, out: &mut [i32])
     requires { GoodTerm positions.now t × (t.freq ≤ length out.old) }
     ensures { take t.freq out.new ≡ starts_of positions.now t }
 {
-    let own = &positions[t.first..t.first + t.freq];
-    for (j, position) in own.iter().enumerate() {
-        out[j] = start(*position, t.offset);
+    for j in 0..t.freq {
+        out[j] = start(positions[t.first + j], t.offset);
     }
 }
 

@@ -1,5 +1,6 @@
+use Rattle.std.proofs.Common.{◌≡◌, ◌+◌, get_or}
 use Rattle.phrase.proofs.LeastFrequency.{Passed}
 use Rattle.phrase.proofs.rarest.Given as goal
 
 abbrev pub invariant-loop-at : goal.invariant-loop-at
-invariant-loop-at l = Passed l.terms l.best l.at
+invariant-loop-at l = (l.least ≡ get_or l.terms (l.best + 1) 0) × Passed l.terms l.best l.at

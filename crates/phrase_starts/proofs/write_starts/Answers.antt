@@ -4,7 +4,7 @@ use mir.Val.{SFits}
 use mir.ValLaws.{to_z-of_z}
 use Rattle.phrase_starts.specs.declared.Term.{Term}
 use Rattle.phrase_starts.specs.Terms.{starts_of}
-use Rattle.phrase_starts.proofs.Records.{starts-length, starts-take, own-at, own-length}
+use Rattle.phrase_starts.proofs.Records.{starts-length, starts-take}
 use Rattle.phrase_starts.proofs.write_starts.Goals as goal
 
 -- one more start is written
@@ -23,14 +23,11 @@ pub loop-j-preserved : goal.loop-j-preserved
 loop-j-preserved c =
     let a = c.args in
     let l = c.loop-j in
-    let n = own-length a.positions.now a.t c.requires.0.within in
-    let h : l.j < a.t.freq = omega (arith, n, c.loop-j-test.true) in
-    let e = ap (λ (p : ℕ). sub_ℕ p a.t.offset) (own-at a.positions.now a.t l.j h) in
-    written a.positions.now a.t l.out l.j _ h (omega (arith, h, l.auto.out, c.requires.1)) (to_z-of_z w32 c.start.result (record { sfits = c.start.type_inv }) ∙ c.start.ensures ∙ e) l.invariant
+    let h = c.loop-j-test.true in
+    written a.positions.now a.t l.out l.j _ h (omega (arith, h, l.auto.out, c.requires.1)) (to_z-of_z w32 c.start.result (record { sfits = c.start.type_inv }) ∙ c.start.ensures) l.invariant
 
 pub returns : goal.returns
 returns c =
     let a = c.args in
     let l = c.loop-j in
-    let n = own-length a.positions.now a.t c.requires.0.within in
-    all-written a.positions.now a.t l.out l.j (omega (arith, n, l.auto.j-end, c.loop-j-test.false)) l.invariant
+    all-written a.positions.now a.t l.out l.j (omega (arith, l.auto.j-end, c.loop-j-test.false)) l.invariant
