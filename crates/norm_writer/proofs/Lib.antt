@@ -1,4 +1,5 @@
 -- The laws of lengths and windows.
+pub mod Stored
 pub mod Filled
 pub mod Passed
 pub mod Adding

@@ -33,126 +33,81 @@ fn add_run(
     ensures value { result ≡ before postings.now first number (base + length counts.old) }
     ensures counts_after { counts.new ≡ list_to (length counts.old) (λ j. get_or counts.old j 0 + in_run postings.now first number (base + j)) }
 {
-    let mut i = from;
-    while i < number {
+    for i in from..number {
         let document = wide(posting_document(postings, first, i));
         if document - base >= counts.len() {
             return i;
         }
         counts[document - base] += posting_frequency(postings, first, i);
-        i += 1;
     }
-    i
+    number
 }
 
-// Adds up the runs of a field's leaves over the window from base on.
-fn add_leaves(
-    leaf_fields: &[u32],
-    field: u32,
-    postings: &[u32],
-    runs: &[u32],
-    base: usize,
-    cursors: &mut [usize],
-    counts: &mut [u32],
-)
-    requires runs_ok { RunsOk leaf_fields.now postings.now runs.now × (base + length counts.old < 2 ^ 32) }
-    requires cursors_value { cursors.old ≡ list_to 512 (cursors_at leaf_fields.now postings.now runs.now field base) }
-    requires counts_value { counts.old ≡ list_to (length counts.old) (λ j. 0) }
-    ensures cursors_after { cursors.new ≡ list_to 512 (cursors_at leaf_fields.now postings.now runs.now field (base + length counts.old)) }
-    ensures counts_after { counts.new ≡ list_to (length counts.old) (λ j. length_in leaf_fields.now postings.now runs.now field (base + j)) }
-{
-    let mut l = 0;
-    while l < leaf_fields.len() {
-        if leaf_fields[l] == field {
-            cursors[l] = add_run(
-                postings,
-                wide(runs[2 * l]),
-                wide(runs[2 * l + 1]),
-                cursors[l],
-                base,
-                counts,
-            );
-        }
-        l += 1;
-    }
-}
-
-// The lengths as bytes, from a place of the norms on.
-fn code_lengths(lengths: &[u32], norms: &mut [u8], at: usize)
-    requires lengths_in_bounds { at + length lengths.now ≤ length norms.old }
+// The lengths as bytes.
+fn code_lengths(lengths: &[u32], norms: &mut [u8])
+    requires same_length { length norms.old ≡ length lengths.now }
     requires by_index { (j : ℕ) → j < length lengths.now → get_or lengths.now j 0 ≤ 2147483647 }
-    ensures { norms.new ≡ sets norms.old at (list_to (length lengths.now) (λ j. int_to_byte4 (get_or lengths.now j 0))) }
+    ensures { norms.new ≡ list_to (length norms.old) (λ j. int_to_byte4 (get_or lengths.now j 0)) }
 {
-    let mut j = 0;
-    while j < lengths.len() {
-        norms[at + j] = int_to_byte4(lengths[j]);
-        j += 1;
+    for (j, norm) in norms.iter_mut().enumerate() {
+        *norm = int_to_byte4(lengths[j]);
     }
 }
 
-// The norm bytes of the documents of one window, of which the last may reach beyond N.
-fn write_window(
-    max_doc: usize,
-    leaf_fields: &[u32],
+// A field, and the leaves' fields, postings and runs, in which those of the field are found.
+#[derive(Clone, Copy)]
+struct FieldRuns<'a> {
     field: u32,
-    postings: &[u32],
-    runs: &[u32],
-    base: usize,
-    cursors: &mut [usize],
-    norms: &mut [u8],
-    at: usize,
-)
-    requires runs_ok { RunsOk leaf_fields.now postings.now runs.now × (base < max_doc) × (max_doc ≤ 1048576) × (at + max_doc ≤ length norms.old) }
-    requires cursors_value { cursors.old ≡ list_to 512 (cursors_at leaf_fields.now postings.now runs.now field base) }
-    ensures cursors_after { cursors.new ≡ list_to 512 (cursors_at leaf_fields.now postings.now runs.now field (base + 4096)) }
-    ensures norms_after { norms.new ≡ sets norms.old (at + base) (list_to (min 4096 (max_doc - base)) (λ j. int_to_byte4 (length_in leaf_fields.now postings.now runs.now field (base + j)))) }
-{
-    let mut counts = [0u32; WINDOW];
-    add_leaves(
-        leaf_fields,
-        field,
-        postings,
-        runs,
-        base,
-        cursors,
-        &mut counts,
-    );
-    let width = if max_doc - base < WINDOW {
-        max_doc - base
-    } else {
-        WINDOW
-    };
-    code_lengths(&counts[..width], norms, at + base);
+    leaf_fields: &'a [u32],
+    postings: &'a [u32],
+    runs: &'a [u32],
 }
 
-// The norm bytes of a field, window by window.
-fn write_field(
-    max_doc: usize,
-    leaf_fields: &[u32],
-    field: u32,
-    postings: &[u32],
-    runs: &[u32],
-    norms: &mut [u8],
-    at: usize,
-)
-    requires { RunsOk leaf_fields.now postings.now runs.now × (max_doc ≤ 1048576) × (at + max_doc ≤ length norms.old) }
-    ensures { norms.new ≡ sets norms.old at (list_to max_doc (λ d. int_to_byte4 (length_in leaf_fields.now postings.now runs.now field d))) }
-{
-    let mut cursors = [0usize; 512];
-    let mut base = 0;
-    while base < max_doc {
-        write_window(
-            max_doc,
-            leaf_fields,
-            field,
-            postings,
-            runs,
-            base,
-            &mut cursors,
-            norms,
-            at,
-        );
-        base += WINDOW;
+impl FieldRuns<'_> {
+    // Adds up the runs of the field's leaves over the window from base on.
+    fn add_leaves(self, base: usize, cursors: &mut [usize], counts: &mut [u32])
+        requires runs_ok { RunsOk self.leaf_fields.now self.postings.now self.runs.now × (base + length counts.old < 2 ^ 32) }
+        requires cursors_value { cursors.old ≡ list_to 512 (cursors_at self.leaf_fields.now self.postings.now self.runs.now self.field base) }
+        requires counts_value { counts.old ≡ list_to (length counts.old) (λ j. 0) }
+        ensures cursors_after { cursors.new ≡ list_to 512 (cursors_at self.entry.leaf_fields.now self.entry.postings.now self.entry.runs.now self.entry.field (base + length counts.old)) }
+        ensures counts_after { counts.new ≡ list_to (length counts.old) (λ j. length_in self.entry.leaf_fields.now self.entry.postings.now self.entry.runs.now self.entry.field (base + j)) }
+    {
+        for (l, field) in self.leaf_fields.iter().enumerate() {
+            if *field == self.field {
+                cursors[l] = add_run(
+                    self.postings,
+                    wide(self.runs[2 * l]),
+                    wide(self.runs[2 * l + 1]),
+                    cursors[l],
+                    base,
+                    counts,
+                );
+            }
+        }
+    }
+
+    // The norm bytes of the documents of one window, of which the last may reach beyond N.
+    fn write_window(self, base: usize, cursors: &mut [usize], norms: &mut [u8])
+        requires runs_ok { RunsOk self.leaf_fields.now self.postings.now self.runs.now × (base < length norms.old) × (length norms.old ≤ 1048576) }
+        requires cursors_value { cursors.old ≡ list_to 512 (cursors_at self.leaf_fields.now self.postings.now self.runs.now self.field base) }
+        ensures cursors_after { cursors.new ≡ list_to 512 (cursors_at self.entry.leaf_fields.now self.entry.postings.now self.entry.runs.now self.entry.field (base + 4096)) }
+        ensures norms_after { norms.new ≡ sets norms.old base (list_to (min 4096 (length norms.old - base)) (λ j. int_to_byte4 (length_in self.entry.leaf_fields.now self.entry.postings.now self.entry.runs.now self.entry.field (base + j)))) }
+    {
+        let mut counts = [0u32; WINDOW];
+        self.add_leaves(base, cursors, &mut counts);
+        let width = WINDOW.min(norms.len() - base);
+        code_lengths(&counts[..width], &mut norms[base..base + width]);
+    }
+
+    // The norm bytes of the field, window by window.
+    fn write_field(self, norms: &mut [u8])
+        requires { RunsOk self.leaf_fields.now self.postings.now self.runs.now × (length norms.old ≤ 1048576) }
+        ensures { norms.new ≡ list_to (length norms.old) (λ d. int_to_byte4 (length_in self.entry.leaf_fields.now self.entry.postings.now self.entry.runs.now self.entry.field d)) }
+    {
+        let mut cursors = [0usize; 512];
+        for window in 0..norms.len().div_ceil(WINDOW) {
+            self.write_window(window * WINDOW, &mut cursors, norms);
+        }
     }
 }
 
@@ -170,12 +125,17 @@ pub fn write_norms(
     ensures { norms.new ≡ written (norm_bytes max_doc fields.now leaf_fields.now postings.now runs.now) norms.old }
 {
     let mut at = 0;
-    let mut f: u32 = 0;
-    while wide(f) < fields.len() / 3 {
-        if fields::field_at(fields, wide(f)).norms == 1 {
-            write_field(wide(max_doc), leaf_fields, f, postings, runs, norms, at);
-            at += wide(max_doc);
+    for f in 0..fields.len() / 3 {
+        if fields::field_at(fields, f).norms == 1 {
+            let end = at + wide(max_doc);
+            let field_runs = FieldRuns {
+                field: f as u32,
+                leaf_fields,
+                postings,
+                runs,
+            };
+            field_runs.write_field(&mut norms[at..end]);
+            at = end;
         }
-        f += 1;
     }
 }

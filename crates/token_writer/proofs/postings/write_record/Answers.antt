@@ -2,7 +2,7 @@
 use Rattle.std.proofs.Common.{◌+◌, ◌*◌, ap, ◌∙◌, arith}
 use Rattle.std.proofs.lemmas.List.Edits.{sets}
 use borrow.Rule.Slice.PartMut.{mid_len}
-use Rattle.token_writer.proofs.Stored.{put-sets}
+use Rattle.norm_writer.proofs.Stored.{put-sets}
 use Rattle.token_writer.proofs.postings.write_record.Goals as goal
 
 pub returns : goal.returns

@@ -5,7 +5,7 @@ use borrow.Rule.Slice.PartMut.{mid_len}
 use Rattle.meaning.specs.Below.{list_to}
 use Rattle.meaning.specs.Tokens.{token_at}
 use Rattle.meaning.proofs.Below.{length-list_to}
-use Rattle.token_writer.proofs.Stored.{put-sets}
+use Rattle.norm_writer.proofs.Stored.{put-sets}
 use Rattle.token_writer.proofs.LeafRun.{run-postings, run-placed}
 use Rattle.token_writer.proofs.postings.write_run.Goals as goal
 
