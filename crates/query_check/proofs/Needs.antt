@@ -1,5 +1,5 @@
 -- What refusal 12 asks for, as the code comes to it. Assumes nothing.
-use mathlib.Core.Path.{◌≡◌, sym, ◌∙◌, ap}
+use mathlib.Core.Path.{◌≡◌, refl, sym, ◌∙◌, ap}
 use mathlib.Core.Bool.{cond}
 use mathlib.Core.List.{List}
 use Prim.Native.Nat.{ℕ, ◌+◌, ◌*◌, ◌^◌, ◌≤◌, ◌<◌}
@@ -8,7 +8,7 @@ use native.Mathlib.Nat.{mul-le-mul, lt_of_le_of_lt}
 use lib.Dec.{eqb, lit<}
 use lib.ListN.{length, get_or}
 use borrow.Author.Tests.{eq-eqb, ne_eqb}
-use Rattle.meaning.specs.Below.{largest_below}
+use Rattle.meaning.specs.Below.{count_below, largest_below}
 use Rattle.meaning.specs.Lent.{Index}
 use Rattle.meaning.specs.Query.{record_count, record_kind, record_value}
 use Rattle.meaning.specs.CallRefusals.{range_records, ranges_needed, largest_in, starts_needed}
@@ -16,6 +16,10 @@ use Rattle.query.specs.Read.{PhraseRuns}
 use Rattle.meaning.proofs.Below.{count-le}
 
 -- ---- ranges
+pub ranges-counted : (q : List ℕ) → count_below (record_count q) (λ r. eqb (record_kind q r) 4) ≡ range_records q
+unfolding range_records
+ranges-counted q = refl
+
 pub few-ranges : (q : List ℕ) (n : ℕ) → n ≡ range_records q → n ≤ record_count q
 unfolding range_records
 few-ranges q n e = let h = count-le (record_count q) (λ r. eqb (record_kind q r) 4) in omega (arith, e, h)
@@ -38,9 +42,6 @@ ranges-words ix q m n f e z = rw (← e, ne_eqb n 0 z, f)
 -- ---- starts
 abbrev pub starts_at : Index → List ℕ → ℕ → ℕ
 starts_at ix q r = cond (eqb (record_kind q r) 9) (largest_in ix (record_value q r 0)) 0
-
-pub no-starts : (ix : Index) (q : List ℕ) (r : ℕ) → (record_kind q r ≡ 9 → ⊥) → 0 ≡ starts_at ix q r
-no-starts ix q r h = rw (ne_eqb (record_kind q r) 9 h)
 
 module _ (q leaves postings : List ℕ) (r l first number : ℕ) (k : record_kind q r ≡ 9) (e : l ≡ record_value q r 0) (f : first ≡ get_or leaves (4 * l + 1) 0) (n : number ≡ get_or leaves (4 * l + 2) 0) where
   first-is : first ≡ get_or leaves (4 * record_value q r 0 + 1) 0

@@ -7,36 +7,25 @@ ghost use Rattle.meaning.specs.Query.{record_count, record_kind, record_value};
 ghost use Rattle.meaning.specs.CallRefusals.{range_records, states_needed, ranges_needed, largest_in, starts_needed};
 ghost use Rattle.query.specs.Read.{PhraseRuns};
 
+use index::leaves::leaf_at;
 use index::wide;
+use query::{Kind, kind_at, record_count, value};
 use weight::NODE_STATE_WORDS;
-
-// 1 where the record at `at` is a Range.
-fn one_range(q: &[u32], at: usize) -> usize
-    requires { at < record_count q.now }
-    ensures { result ≡ cond (eqb (record_kind q.now at) 4) 1 0 }
-{
-    if query::kind(q, at) == 4 { 1 } else { 0 }
-}
 
 // How many Range records the query has.
 pub fn range_records(q: &[u32]) -> usize
     ensures { result ≡ range_records q.now }
 {
-    let count = query::record_count(q);
-    let mut found = 0;
-    let mut at = 0;
-    while at < count {
-        found += one_range(q, at);
-        at += 1;
-    }
-    found
+    (0..record_count(q))
+        .filter(|at| kind_at(q, *at) == Some(Kind::Range))
+        .count()
 }
 
 // A node state for each record.
 pub fn states_needed(q: &[u32]) -> u64
     ensures { result ≡ states_needed q.now }
 {
-    NODE_STATE_WORDS as u64 * query::record_count(q) as u64
+    NODE_STATE_WORDS as u64 * record_count(q) as u64
 }
 
 // With range records, N words for each and N more.
@@ -51,24 +40,15 @@ pub fn ranges_needed(max_doc: u32, q: &[u32]) -> u64
     max_doc as u64 * (ranges + 1)
 }
 
-fn larger(a: u32, b: u32) -> u32
-    ensures { result ≡ max a b }
-{
-    if a < b { b } else { a }
-}
-
 // The largest frequency in a run of postings.
 fn largest_in(postings: &[u32], first: usize, number: usize) -> u32
     requires { 3 * (first + number) ≤ length postings.now }
     ensures { result ≡ largest_below number (λ i. get_or postings.now (3 * (first + i) + 1) 0) }
 {
-    let mut largest = 0;
-    let mut i = 0;
-    while i < number {
-        largest = larger(largest, postings[3 * (first + i) + 1]);
-        i += 1;
-    }
-    largest
+    (first..first + number)
+        .map(|posting| postings[3 * posting + 1])
+        .max()
+        .unwrap_or(0)
 }
 
 // The largest frequency in the run of the leaf that the record at `at` names, where it is a PhraseTerm.
@@ -76,13 +56,11 @@ fn term_starts(q: &[u32], leaves: &[u32], postings: &[u32], at: usize) -> u32
     requires { PhraseRuns q.now leaves.now postings.now × (at < record_count q.now) }
     ensures { (ix : Index) → ix.leaves ≡ leaves.now → ix.postings ≡ postings.now → result ≡ cond (eqb (record_kind q.now at) 9) (largest_in ix (record_value q.now at 0)) 0 }
 {
-    if query::kind(q, at) != 9 {
+    if kind_at(q, at) != Some(Kind::PhraseTerm) {
         return 0;
     }
-    let leaf = wide(query::value(q, at, 0));
-    let first = wide(leaves[4 * leaf + 1]);
-    let number = wide(leaves[4 * leaf + 2]);
-    largest_in(postings, first, number)
+    let leaf = leaf_at(leaves, wide(value(q, at, 0)));
+    largest_in(postings, wide(leaf.first), wide(leaf.number))
 }
 
 // The largest frequency in the run of a leaf that some PhraseTerm names.
@@ -90,12 +68,8 @@ pub fn starts_needed(q: &[u32], leaves: &[u32], postings: &[u32]) -> u32
     requires { PhraseRuns q.now leaves.now postings.now }
     ensures { (ix : Index) → ix.leaves ≡ leaves.now → ix.postings ≡ postings.now → result ≡ starts_needed ix q.now }
 {
-    let count = query::record_count(q);
-    let mut needed = 0;
-    let mut at = 0;
-    while at < count {
-        needed = larger(needed, term_starts(q, leaves, postings, at));
-        at += 1;
-    }
-    needed
+    (0..record_count(q))
+        .map(|at| term_starts(q, leaves, postings, at))
+        .max()
+        .unwrap_or(0)
 }

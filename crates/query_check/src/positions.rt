@@ -7,16 +7,17 @@ ghost use Rattle.query.specs.Read.{PhraseFields};
 ghost use Rattle.query_check.specs.Inner.{without_positions};
 
 use index::wide;
+use query::{Kind, kind_at, record_count, value};
 
 // A phrase in a field without positions, at `at`.
 fn without_positions(q: &[u32], fields: &[u32], at: usize) -> bool
     requires { (at < record_count q.now) × (record_kind q.now at ≡ 2 → record_value q.now at 0 < length fields.now / 3) }
     ensures { result ≡ without_positions fields.now q.now at }
 {
-    if query::kind(q, at) != 2 {
+    if kind_at(q, at) != Some(Kind::Phrase) {
         return false;
     }
-    let field = wide(query::value(q, at, 0));
+    let field = wide(value(q, at, 0));
     fields[3 * field + 2] != 1
 }
 
@@ -25,13 +26,5 @@ pub fn wrong_positions(q: &[u32], fields: &[u32]) -> bool
     requires { PhraseFields q.now fields.now }
     ensures { (ix : Index) → ix.fields ≡ fields.now → result ≡ wrong10 ix q.now }
 {
-    let count = query::record_count(q);
-    let mut at = 0;
-    while at < count {
-        if without_positions(q, fields, at) {
-            return true;
-        }
-        at += 1;
-    }
-    false
+    (0..record_count(q)).any(|at| without_positions(q, fields, at))
 }

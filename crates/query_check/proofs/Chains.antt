@@ -1,0 +1,85 @@
+-- What a chain over a range gives, as the definitions of numbers below a bound say it. Assumes nothing.
+use Rattle.std.proofs.Common.{◌≡◌, ℕ, zero, suc, ◌+◌, ◌-◌, ◌≤◌, ◌<◌, Bool, true, false, ◌||◌, ◌&&◌, cond, ◌∷◌, map, length, leb, max, unwrap_or, refl, ◌∙◌, ap, arith, add-zero, zero-add}
+use Rattle.std.specs.List.{range_with_len, list_any, filter, fold, reduce}
+use borrow.Author.Tests.{leb-true, leb-false}
+use Rattle.meaning.specs.Below.{any_below, count_below, largest_below}
+use Rattle.meaning.proofs.Below.{any-like}
+use Rattle.query.proofs.Chains.{range-any}
+
+pub below-any : (p : ℕ → Bool) (n m : ℕ) (r : Bool) → r ≡ list_any p (range_with_len 0 n) → n ≡ m → r ≡ any_below m p
+below-any p n m r e f =
+    e ∙ range-any p 0 n ∙ any-like n (λ j. p (0 + j)) p (λ j h. ap p (zero-add j)) ∙ ap (λ z. any_below z p) f
+
+-- those from v on
+pub any-from : (n v : ℕ) (p : ℕ → Bool) → any_below (n - v) (λ j. p (v + j)) ≡ any_below n (λ j. leb v j && p j)
+unfolding any_below
+any-from zero v p = let none : 0 - v ≡ 0 = omega arith in rw none
+any-from (suc n) v p = go (leb v n) refl (any-from n v p)
+  where
+    go : (b : Bool) → leb v n ≡ b → any_below (n - v) (λ j. p (v + j)) ≡ any_below n (λ j. leb v j && p j) → any_below (suc n - v) (λ j. p (v + j)) ≡ (any_below n (λ j. leb v j && p j) || (leb v n && p n))
+    go true e same =
+        let h : v ≤ n = leb-true v n e in
+        let more : suc n - v ≡ suc (n - v) = omega arith in
+        let last : v + (n - v) ≡ n = omega arith in
+        rw (more, e, ← same, last)
+    go false e same =
+        let h : n < v = leb-false v n e in
+        let none : suc n - v ≡ 0 = omega arith in
+        let before : n - v ≡ 0 = omega arith in
+        rw (none, e, ← same, before)
+
+-- ---- how many pass a test
+count-first : (n : ℕ) (f : ℕ → Bool) → count_below (suc n) f ≡ cond (f 0) 1 0 + count_below n (λ j. f (suc j))
+unfolding count_below
+count-first zero f = omega arith
+count-first (suc n) f = let e = count-first n f in omega (arith, e)
+
+count-same : (n : ℕ) (f g : ℕ → Bool) → ((j : ℕ) → f j ≡ g j) → count_below n f ≡ count_below n g
+unfolding count_below
+count-same zero f g h = refl
+count-same (suc n) f g h = rw (count-same n f g h, h n)
+
+pub range-count : (p : ℕ → Bool) (a n : ℕ) → length (filter p (range_with_len a n)) ≡ count_below n (λ j. p (a + j))
+unfolding count_below
+range-count p a zero = refl
+range-count p a (suc n) =
+    rw (count-first n (λ j. p (a + j)), add-zero a, ← count-same n (λ j. p (a + 1 + j)) (λ j. p (a + suc j)) (λ j. let e : a + 1 + j ≡ a + suc j = omega arith in ap p e), ← range-count p (a + 1) n) (go (p a))
+  where
+    go : (b : Bool) → length (cond b (a ∷ filter p (range_with_len (a + 1) n)) (filter p (range_with_len (a + 1) n))) ≡ cond b 1 0 + length (filter p (range_with_len (a + 1) n))
+    go true = omega arith
+    go false = omega arith
+
+-- ---- the largest
+largest-first : (n : ℕ) (f : ℕ → ℕ) → largest_below (suc n) f ≡ max (f 0) (largest_below n (λ j. f (suc j)))
+unfolding largest_below
+largest-first zero f = omega arith
+largest-first (suc n) f = let e = largest-first n f in omega (arith, e)
+
+largest-same : (n : ℕ) (f g : ℕ → ℕ) → ((j : ℕ) → f j ≡ g j) → largest_below n f ≡ largest_below n g
+unfolding largest_below
+largest-same zero f g h = refl
+largest-same (suc n) f g h = rw (largest-same n f g h, h n)
+
+fold-largest : (f : ℕ → ℕ) (a n x : ℕ) → fold max x (map f (range_with_len a n)) ≡ max x (largest_below n (λ j. f (a + j)))
+unfolding largest_below
+fold-largest f a zero x = omega arith
+fold-largest f a (suc n) x =
+    let here : f (a + 0) ≡ f a = ap f (add-zero a) in
+    let later = largest-same n (λ j. f (a + 1 + j)) (λ j. f (a + suc j)) (λ j. let e : a + 1 + j ≡ a + suc j = omega arith in ap f e) in
+    omega (arith, fold-largest f (a + 1) n (max x (f a)), largest-first n (λ j. f (a + j)), here, later)
+
+pub range-largest : (f : ℕ → ℕ) (a n : ℕ) → unwrap_or (reduce max (map f (range_with_len a n))) 0 ≡ largest_below n (λ j. f (a + j))
+unfolding largest_below
+range-largest f a zero = refl
+range-largest f a (suc n) =
+    let here : f (a + 0) ≡ f a = ap f (add-zero a) in
+    let later = largest-same n (λ j. f (a + 1 + j)) (λ j. f (a + suc j)) (λ j. let e : a + 1 + j ≡ a + suc j = omega arith in ap f e) in
+    omega (arith, fold-largest f (a + 1) n (f a), largest-first n (λ j. f (a + j)), here, later)
+
+pub below-largest : (f : ℕ → ℕ) (n m : ℕ) → n ≡ m → unwrap_or (reduce max (map f (range_with_len 0 n))) 0 ≡ largest_below m f
+below-largest f n m e =
+    range-largest f 0 n ∙ largest-same n (λ j. f (0 + j)) f (λ j. ap f (zero-add j)) ∙ ap (λ z. largest_below z f) e
+
+pub below-count : (p : ℕ → Bool) (n m : ℕ) → n ≡ m → length (filter p (range_with_len 0 n)) ≡ count_below m p
+below-count p n m e =
+    range-count p 0 n ∙ count-same n (λ j. p (0 + j)) p (λ j. ap p (zero-add j)) ∙ ap (λ z. count_below z p) e
