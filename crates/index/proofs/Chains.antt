@@ -49,7 +49,7 @@ pub chunk_word : (size n : ℕ) (xs : List ℕ) (i k : ℕ) → i < n → k < si
 chunk_word size n xs i k l g =
     ap (λ (c : List ℕ). get_or c k 0) (chunk-at size n xs i l) ∙ get_or-take _ _ k 0 g ∙ get_or-drop (size * i) xs k 0
 
-length-chunks : {X : Type 0} (size n : ℕ) (xs : List X) → length (first_chunks size n xs) ≡ n
+pub length-chunks : {X : Type 0} (size n : ℕ) (xs : List X) → length (first_chunks size n xs) ≡ n
 length-chunks size zero xs = refl
 length-chunks size (suc n) xs = ap suc (length-chunks size n (drop size xs))
 

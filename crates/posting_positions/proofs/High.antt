@@ -1,6 +1,6 @@
 -- The high bits of an or, and differences that wrap: what the loops over a run gather. Assumes nothing.
 use Rattle.std.proofs.Common.{◌≡◌, ℕ, ◌+◌, ◌%◌, ◌^◌, ◌<◌, ◌≤◌, Bool, true, false, ◌||◌, eqb, ltb, leb, sym, refl, ap, ◌∙◌, ⊎_elim, arith, le-ltb, lt-ltb, eq-eqb, ne_eqb, le-leb}
-use mathlib.Core.Bool.{or_assoc, or-true}
+use mathlib.Core.Bool.{or-true}
 use lib.Bits.{bit_or, or_lt, or_comm, or_add_and, and_le_r}
 use borrow.Author.Tests.{lt-leb}
 use Rattle.meaning.proofs.Tests.{cmp}
@@ -25,8 +25,8 @@ step-flag v f r h e l =
     ⊎_elim (λ (g : v < 2147483648). ap (λ (b : Bool). leb 2147483648 v || b) (⊎_elim (λ (m : v < f). let k : 2147483648 ≤ r = omega arith in le-leb _ _ k ∙ sym (lt-ltb _ _ m)) (λ (m : f ≤ v). let k : r < 2147483648 = omega arith in lt-leb _ _ k ∙ sym (le-ltb _ _ m)) (cmp v f))) (λ (g : 2147483648 ≤ v). rw (le-leb _ _ g)) (cmp v 2147483648)
 
 -- a turn that gathers v and v - f
-pub step-turn : (s v f r : ℕ) → (leb 2147483648 s ≡ false → f ≤ 2147483648) → (r + f) % 4294967296 ≡ v → r < 4294967296 → leb 2147483648 (bit_or (bit_or s v) r) ≡ (leb 2147483648 s || (leb 2147483648 v || ltb v f))
-step-turn s v f r h e l = high-or 31 (bit_or s v) r ∙ ap (λ (b : Bool). b || leb 2147483648 r) (high-or 31 s v) ∙ or_assoc (leb 2147483648 s) (leb 2147483648 v) (leb 2147483648 r) ∙ go (leb 2147483648 s) h
+pub step-turn : (s v f r : ℕ) → (leb 2147483648 s ≡ false → f ≤ 2147483648) → (r + f) % 4294967296 ≡ v → r < 4294967296 → leb 2147483648 (bit_or s (bit_or v r)) ≡ (leb 2147483648 s || (leb 2147483648 v || ltb v f))
+step-turn s v f r h e l = high-or 31 s (bit_or v r) ∙ ap (λ (b : Bool). leb 2147483648 s || b) (high-or 31 v r) ∙ go (leb 2147483648 s) h
   where
     go : (b : Bool) → (b ≡ false → f ≤ 2147483648) → (b || (leb 2147483648 v || leb 2147483648 r)) ≡ (b || (leb 2147483648 v || ltb v f))
     go true k = refl

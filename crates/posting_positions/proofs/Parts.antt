@@ -1,10 +1,12 @@
 -- A posting's positions as a part of the positions. Assumes nothing.
-use Rattle.std.proofs.Common.{◌≡◌, ℕ, ◌+◌, ◌-◌, ◌*◌, ◌<◌, ◌≤◌, Bool, true, List, length, get_or, take, drop, ◌∙◌, arith, length-drop, length-take, get_or-drop, get_or-take, le-ltb, lt-ltb}
+use Rattle.std.proofs.Common.{◌≡◌, ℕ, ◌+◌, ◌-◌, ◌*◌, ◌<◌, ◌≤◌, Bool, true, List, [], length, lit<, get_or, take, drop, ◌∙◌, arith, length-drop, length-take, get_or-drop, get_or-take, le-ltb, lt-ltb}
+use Rattle.std.specs.Simd.{first_chunks}
 use Rattle.meaning.specs.Below.{any_below}
 use Rattle.meaning.specs.Lent.{Index, leaf_positions_index}
 use Rattle.meaning.specs.IndexRefusals.{wrong_position}
 use Rattle.posting_positions.specs.Places.{wrong_place, wrong_places}
 use Rattle.meaning.proofs.Below.{any-like}
+use Rattle.index.proofs.Chains.{chunk_word}
 
 -- a posting's positions
 module _ (positions : List ℕ) (index frequency : ℕ) (fits : index + frequency ≤ length positions) where
@@ -18,15 +20,20 @@ module _ (positions : List ℕ) (index frequency : ℕ) (fits : index + frequenc
   places-part : any_below (length (take (index + frequency - index) (drop index positions))) (wrong_place (take (index + frequency - index) (drop index positions))) ≡ any_below frequency (wrong_place (drop index positions))
   places-part = rw part_length (any-like frequency (wrong_place (take (index + frequency - index) (drop index positions))) (wrong_place (drop index positions)) part-like)
 
--- the turn of the loop over a run's positions, where the code holds their ends in locals
-module _ (run positions : List ℕ) (i from end : ℕ) (e : from ≡ get_or run (3 * i + 2) 0) (g : end ≡ get_or run (3 * i + 2) 0 + get_or run (3 * i + 1) 0) where
-  pub places-flag : end ≤ length positions → (t : Bool) → t ≡ any_below (length (take (end - from) (drop from positions))) (wrong_place (take (end - from) (drop from positions))) → t ≡ wrong_places run positions i
+-- the positions of a record alone
+module _ (record-words positions : List ℕ) where
+  pub places-within : get_or record-words 2 0 + get_or record-words 1 0 ≤ length positions → any_below (length (take (get_or record-words 2 0 + get_or record-words 1 0 - get_or record-words 2 0) (drop (get_or record-words 2 0) positions))) (wrong_place (take (get_or record-words 2 0 + get_or record-words 1 0 - get_or record-words 2 0) (drop (get_or record-words 2 0) positions))) ≡ wrong_places record-words positions 0
   unfolding wrong_places
-  places-flag h t s = let k : get_or run (3 * i + 2) 0 + get_or run (3 * i + 1) 0 ≤ length positions = omega arith in s ∙ rw (e, g, le-ltb _ _ k) (places-part positions (get_or run (3 * i + 2) 0) (get_or run (3 * i + 1) 0) k)
+  places-within h = rw (le-ltb _ _ h) (places-part positions (get_or record-words 2 0) (get_or record-words 1 0) h)
 
-  pub places-past : length positions < end → wrong_places run positions i ≡ true
+  pub places-past : length positions < get_or record-words 2 0 + get_or record-words 1 0 → true ≡ wrong_places record-words positions 0
   unfolding wrong_places
-  places-past h = let k : length positions < get_or run (3 * i + 2) 0 + get_or run (3 * i + 1) 0 = omega arith in rw (lt-ltb _ _ k)
+  places-past h = rw (lt-ltb _ _ h)
+
+-- the positions of the i-th record, asked of that record
+pub record_places : (run positions : List ℕ) (n i : ℕ) → i < n → wrong_places (get_or (first_chunks 3 n run) i []) positions 0 ≡ wrong_places run positions i
+unfolding wrong_places
+record_places run positions n i l = rw (chunk_word 3 n run i 2 l (lit< tt), chunk_word 3 n run i 1 l (lit< tt))
 
 -- the positions of a posting of the leaf, asked of the slice from its index on
 pub places-are : (ix : Index) (l i j : ℕ) → wrong_place (drop (leaf_positions_index ix l i) ix.positions) j ≡ wrong_position ix l i j

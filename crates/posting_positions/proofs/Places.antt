@@ -39,7 +39,7 @@ pub record Places (part : List ℕ) (j steps previous : ℕ) : Type 0 where
 pub places-none : (part : List ℕ) → Places part 0 0 0
 places-none part = record { flag = sym (any-zero (wrong_place part)); last = refl; small = λ e. omega arith }
 
-pub places-more : (part : List ℕ) (j s p r : ℕ) → Places part j s p → (r + p) % 4294967296 ≡ get_or part j 0 → r < 4294967296 → Places part (j + 1) (bit_or (bit_or s (get_or part j 0)) r) (get_or part j 0)
+pub places-more : (part : List ℕ) (j s p r : ℕ) → Places part j s p → (r + p) % 4294967296 ≡ get_or part j 0 → r < 4294967296 → Places part (j + 1) (bit_or s (bit_or (get_or part j 0) r)) (get_or part j 0)
 places-more part j s p r h e l =
     record {
       flag = turn ∙ any-more j (wrong_place part) (leb 2147483648 s) _ h.flag (place_here h.last);
@@ -47,7 +47,7 @@ places-more part j s p r h e l =
       small = λ g. let k : leb 2147483648 (get_or part j 0) ≡ false = or_left (leb 2147483648 (get_or part j 0)) (ltb (get_or part j 0) p) (or_right (leb 2147483648 s) (leb 2147483648 (get_or part j 0) || ltb (get_or part j 0) p) (sym turn ∙ g)) in let m : get_or part j 0 < 2147483648 = leb-false _ _ k in omega arith;
     }
   where
-    turn : leb 2147483648 (bit_or (bit_or s (get_or part j 0)) r) ≡ (leb 2147483648 s || (leb 2147483648 (get_or part j 0) || ltb (get_or part j 0) p))
+    turn : leb 2147483648 (bit_or s (bit_or (get_or part j 0) r)) ≡ (leb 2147483648 s || (leb 2147483648 (get_or part j 0) || ltb (get_or part j 0) p))
     turn = step-turn s (get_or part j 0) p r h.small e l
 
     place_here : p ≡ previous_of part j → (leb 2147483648 (get_or part j 0) || ltb (get_or part j 0) p) ≡ wrong_place part j

@@ -6,8 +6,6 @@ ghost use Rattle.meaning.specs.Below.{any_below, count_below};
 ghost use Rattle.posting_positions.specs.Places.{wrong_place, wrong_places, apart_at, seam_at, drop_at};
 
 use index::postings::NO_MORE_DOCS;
-use index::{sum, wide};
-use std::num::wrapping_sub_u32;
 
 // The positions of one posting in one pass without a branch: falling, or above NO_MORE_DOCS, by the high bit of an or.
 fn wrong_places(part: &[u32]) -> bool
@@ -15,51 +13,45 @@ fn wrong_places(part: &[u32]) -> bool
 {
     let mut steps: u32 = 0;
     let mut previous: u32 = 0;
-    let mut j = 0;
-    while j < part.len() {
-        let place = part[j];
-        steps = steps | place | wrapping_sub_u32(place, previous);
-        previous = place;
-        j += 1;
+    for place in part {
+        steps |= *place | place.wrapping_sub(previous);
+        previous = *place;
     }
     steps > NO_MORE_DOCS
+}
+
+// The positions of a record: past the slice, or one of them wrong.
+fn wrong_record_places(record: &[u32; 3], positions: &[u32]) -> bool
+    ensures { result ≡ wrong_places record.now positions.now 0 }
+{
+    let [_, frequency, index] = *record;
+    let from = index as usize;
+    let end = from + frequency as usize;
+    if end > positions.len() {
+        return true;
+    }
+    wrong_places(&positions[from..end])
 }
 
 // The positions of a run's postings, where they lie within the slice.
 pub fn wrong_run_places(run: &[u32], positions: &[u32]) -> bool
     ensures { result ≡ any_below (length run.now / 3) (wrong_places run.now positions.now) }
 {
-    let count = run.len() / 3;
-    let mut bad = false;
-    let mut i = 0;
-    while i < count {
-        let index = run[3 * i + 2];
-        let from = wide(index);
-        let end = sum(index, run[3 * i + 1]);
-        if end > positions.len() {
-            return true;
-        }
-        bad = bad | wrong_places(&positions[from..end]);
-        i += 1;
-    }
-    bad
+    let (records, _) = run.as_chunks::<3>();
+    records
+        .iter()
+        .any(|record| wrong_record_places(record, positions))
 }
 
 // The or of positions.
 fn or_all(part: &[u32]) -> u32
     ensures { (k : ℕ) → k < length part.now → slice_index part.now k ≤ result }
 {
-    let mut all: u32 = 0;
-    let mut k = 0;
-    while k < part.len() {
-        all = all | part[k];
-        k += 1;
-    }
-    all
+    part.iter().fold(0, |all, place| all | *place)
 }
 
 // What one pass over positions sees.
-#[derive(Drop)]
+#[derive(Clone, Copy)]
 pub struct Seen {
     pub all: u32,
     pub falls: u32,
@@ -71,14 +63,13 @@ fn seen_in(part: &[u32]) -> Seen
     ensures by_index { (k : ℕ) → k < length part.now → slice_index part.now k ≤ result.all }
     ensures falls_value { result.falls ≡ count_below (length part.now) (drop_at part.now) }
 {
-    let mut all = part[0];
+    let mut all: u32 = 0;
     let mut falls: u32 = 0;
-    let mut k = 1;
-    while k < part.len() {
-        let place = part[k];
-        all = all | place;
-        falls = falls + (wrapping_sub_u32(place, part[k - 1]) >> 31);
-        k += 1;
+    let mut previous = part[0];
+    for place in part {
+        all |= *place;
+        falls += place.wrapping_sub(previous) >> 31;
+        previous = *place;
     }
     Seen { all, falls }
 }
@@ -89,15 +80,13 @@ fn seams(run: &[u32], positions: &[u32]) -> usize
     requires by_index { (i : ℕ) → 0 < i → i < length run.now / 3 → (0 < slice_index run.now (3 * i + 2)) × (slice_index run.now (3 * i + 2) < length positions.now) }
     ensures { result ≡ count_below (length run.now / 3) (seam_at run.now positions.now) }
 {
-    let count = run.len() / 3;
+    let (records, _) = run.as_chunks::<3>();
     let mut falls: usize = 0;
-    let mut i = 1;
-    while i < count {
-        let index = wide(run[3 * i + 2]);
-        if positions[index] < positions[index - 1] {
+    for [_, _, index] in &records[1..] {
+        let first = *index as usize;
+        if positions[first] < positions[first - 1] {
             falls += 1;
         }
-        i += 1;
     }
     falls
 }
@@ -110,19 +99,19 @@ pub fn plain_positions(run: &[u32], positions: &[u32], frequencies: u32) -> bool
     requires by_index { (i : ℕ) → i < length run.now / 3 → (0 < slice_index run.now (3 * i + 1)) × (slice_index run.now (3 * i + 1) ≤ frequencies) }
     ensures { result ≡ true → any_below (length run.now / 3) (wrong_places run.now positions.now) ≡ false }
 {
-    let count = run.len() / 3;
-    let last = 3 * (count - 1);
-    let from = wide(run[2]);
-    let end = sum(run[last + 2], run[last + 1]);
+    let last = 3 * (run.len() / 3 - 1);
+    let from = run[2] as usize;
+    let end = run[last + 2] as usize + run[last + 1] as usize;
     if end > positions.len() {
         return false;
     }
     if end - from > 4294967295 {
         return false;
     }
+    let part = &positions[from..end];
     if frequencies <= 1 {
-        return or_all(&positions[from..end]) <= NO_MORE_DOCS;
+        return or_all(part) <= NO_MORE_DOCS;
     }
-    let seen = seen_in(&positions[from..end]);
-    (seen.all <= NO_MORE_DOCS) & (wide(seen.falls) == seams(run, positions))
+    let seen = seen_in(part);
+    (seen.all <= NO_MORE_DOCS) & (seen.falls as usize == seams(run, positions))
 }

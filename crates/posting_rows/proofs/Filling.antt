@@ -1,10 +1,12 @@
 -- What the pass over rows of records gathers, word by word of a row. Assumes nothing.
-use Rattle.std.proofs.Common.{◌≡◌, ℕ, zero, suc, ◌+◌, ◌-◌, ◌*◌, ◌/◌, ◌%◌, ◌<◌, ◌≤◌, Bool, cond, leb, List, [], ◌∷◌, length, get_or, set, sym, refl, ap, ◌∙◌, subst, ⊎_elim, arith, length-set, get_or-set_other, get_or-set_same}
+use Rattle.std.proofs.Common.{◌≡◌, ℕ, zero, suc, ◌+◌, ◌-◌, ◌*◌, ◌/◌, ◌%◌, ◌<◌, ◌≤◌, Bool, cond, leb, List, [], ◌∷◌, length, get_or, set, sym, refl, ap, ◌∙◌, subst, ⊎_elim, arith, length-set, get_or-set_other, get_or-set_same, take, drop, length-take, length-drop, get_or-take, get_or-drop}
 use lib.Bits.{bit_or}
 use Rattle.meaning.proofs.Below.{count-zero, count-more, count-le, last-or-below}
 use Rattle.posting_positions.specs.Places.{gap}
 use Rattle.posting_rows.specs.Rows.{up_at, off_at, Lane}
-use Rattle.posting_positions.proofs.Gaps.{gap_is, high_bit, bound-more}
+use Rattle.posting_positions.proofs.Gaps.{gap_is, wraps, wrap_fits, high_bit, bound-more}
+use Rattle.std.specs.Simd.{first_chunks}
+use Rattle.index.proofs.Chains.{chunk_word}
 
 module _ (words : List ℕ) (at : ℕ) where
   pub lane-none : Lane words at 0 0 0 0
@@ -68,6 +70,25 @@ module _ (words : List ℕ) (i j : ℕ) (R A O : List ℕ) (h : Filled words i j
           lane-as words (6 + t) (i + 1) _ _ _ _ _ _ (set_here R j _ t q (omega (arith, h.long-rises))) (set_here A j _ t q (omega (arith, h.long_apart))) (set_here O j _ t q (omega (arith, h.long-all)))
           (subst (λ (z : ℕ). Lane words (6 + z) (i + 1) (get_or R j 0 + s / 2147483648) (bit_or (get_or A j 0) x) (bit_or (get_or O j 0) (get_or words k 0))) (sym q)
           (lane-more words (6 + j) i _ _ _ k s x (h.left j (omega arith) l) e g m n f))
+
+  -- the same as the code writes it: a word, that of the record before, and the one before that
+  pub filled_word : (k w b c : ℕ) → k ≡ 6 + j + 12 * i → get_or words k 0 ≡ w → get_or words (k - 3) 0 ≡ b → get_or words (k - 4) 0 ≡ c → w < 4294967296 → b < 4294967296 → Filled words i (j + 1) (set R j (get_or R j 0 + (b + (4294967296 - w)) % 4294967296 / 2147483648)) (set A j (bit_or (get_or A j 0) (((b + (4294967296 - w)) % 4294967296 + c) % 4294967296))) (set O j (bit_or (get_or O j 0) w))
+  filled_word k w b c e ew eb ec lw lb =
+      let small : get_or words k 0 < 4294967296 = omega arith in
+      let back : ((b + (4294967296 - w)) % 4294967296 + get_or words k 0) % 4294967296 ≡ get_or words (k - 3) 0 = ap (λ (z : ℕ). ((b + (4294967296 - w)) % 4294967296 + z) % 4294967296) ew ∙ wraps b w lb lw ∙ sym eb in
+      let sum : ((b + (4294967296 - w)) % 4294967296 + c) % 4294967296 ≡ ((b + (4294967296 - w)) % 4294967296 + get_or words (k - 4) 0) % 4294967296 = ap (λ (z : ℕ). ((b + (4294967296 - w)) % 4294967296 + z) % 4294967296) (sym ec) in
+      subst (λ (z : ℕ). Filled words i (j + 1) (set R j (get_or R j 0 + (b + (4294967296 - w)) % 4294967296 / 2147483648)) (set A j (bit_or (get_or A j 0) (((b + (4294967296 - w)) % 4294967296 + c) % 4294967296))) (set O j (bit_or (get_or O j 0) z))) ew
+      (filled_more k _ _ e back (wrap_fits _) small sum)
+
+-- a word of a chunk of twelve in what is left from a place on
+pub row-word : (words : List ℕ) (from n i j : ℕ) (rows : List (List ℕ)) → rows ≡ first_chunks 12 n (take (length words - from) (drop from words)) → from ≤ length words → n ≡ length (take (length words - from) (drop from words)) / 12 → i < n → j < 12 → (k : ℕ) → k ≡ from + 12 * i + j → get_or words k 0 ≡ get_or (get_or rows i []) j 0
+row-word words from n i j rows e f m l g k h =
+    let size : length (take (length words - from) (drop from words)) ≡ length words - from = simp (length-take, length-drop) (omega arith) in
+    let in-part : 12 * i + j < length words - from = omega arith in
+    ap (λ (z : ℕ). get_or words z 0) (h ∙ shift from i j) ∙ sym (get_or-take _ (drop from words) (12 * i + j) 0 in-part ∙ get_or-drop from words (12 * i + j) 0) ∙ sym (ap (λ (rs : List (List ℕ)). get_or (get_or rs i []) j 0) e ∙ chunk_word 12 n _ i j l g)
+  where
+    shift : (a b c : ℕ) → a + 12 * b + c ≡ a + (12 * b + c)
+    shift a b c = omega arith
 
 -- before the first row, and from one row to the next
 pub filled_next : (words : List ℕ) (i : ℕ) (R A O : List ℕ) (j : ℕ) → 12 ≤ j → Filled words i j R A O → Filled words (i + 1) 0 R A O

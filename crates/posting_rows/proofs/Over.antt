@@ -7,7 +7,7 @@ use Rattle.posting_positions.specs.Places.{gap}
 use Rattle.posting_rows.specs.Rows.{up_at, off_at, Over, document_up, index_up}
 use Rattle.posting_rows.specs.declared.Tally.{Tally}
 use Rattle.posting_positions.proofs.High.{or-ge}
-use Rattle.posting_positions.proofs.Gaps.{gap_is, high_bit, or_right, bound-more, only}
+use Rattle.posting_positions.proofs.Gaps.{gap_is, wraps, wrap_fits, high_bit, or_right, bound-more, only}
 
 abbrev pub tally_of : ℕ → ℕ → ℕ → ℕ → ℕ → ℕ → Tally
 tally_of a b c d e f = record { ascents = a; advances = b; apart = c; docs = d; frequencies = e; indexes = f }
@@ -51,6 +51,11 @@ module _ (run : List ℕ) (i : ℕ) (some : 0 < i) (t : Tally) (h : Over run i t
         frequency = bound-more (λ k. get_or run (3 * k + 1) 0) i t.frequencies _ h.frequency refl;
         index = bound-more (λ k. get_or run (3 * k + 2) 0) i t.indexes _ h.index refl;
       }
+
+  -- the same as the code writes the differences
+  pub over-next : ((k : ℕ) → get_or run k 0 < 4294967296) → Over run (i + 1) (tally_of (t.ascents + (get_or run (3 * i - 3) 0 + (4294967296 - get_or run (3 * i) 0)) % 4294967296 / 2147483648) (t.advances + (get_or run (3 * i - 1) 0 + (4294967296 - get_or run (3 * i + 2) 0)) % 4294967296 / 2147483648) (bit_or t.apart (((get_or run (3 * i - 1) 0 + (4294967296 - get_or run (3 * i + 2) 0)) % 4294967296 + get_or run (3 * i - 2) 0) % 4294967296)) (bit_or t.docs (get_or run (3 * i) 0)) (bit_or t.frequencies (get_or run (3 * i + 1) 0)) (bit_or t.indexes (get_or run (3 * i + 2) 0)))
+  over-next w =
+      over-more _ _ _ (wraps _ _ (w (3 * i - 3)) (w (3 * i))) (wrap_fits _) (w (3 * i)) (wraps _ _ (w (3 * i - 1)) (w (3 * i + 2))) (wrap_fits _) (w (3 * i + 2)) refl
 
   pub over-few : (t.ascents ≤ i) × (t.advances ≤ i)
   over-few = (omega (arith, h.documents-up, count-le i (document_up run)), omega (arith, h.indexes-up, count-le i (index_up run)))

@@ -4,8 +4,6 @@
 ghost use Rattle.std.specs.Prelude.{◌≡◌, ℕ, ◌+◌, ◌-◌, ◌/◌, ◌<◌, ◌≤◌, length, slice_index};
 ghost use Rattle.posting_rows.specs.Rows.{Lane, Over, lane_documents, lane_indexes, joined_of};
 
-use std::num::{wrapping_add_u32, wrapping_sub_u32};
-
 // What is gathered of each of the twelve words of a row.
 #[derive(Drop)]
 pub struct Lanes {
@@ -26,7 +24,7 @@ pub struct Tally {
 }
 
 // Every row after the first two records: how often a word is above that of the record before, the or of the distances from
-// where the positions before end, the or of the words.
+// where the positions before end, the or of the words. Word for word beside the record before and the word before that.
 fn rows(part: &[u32]) -> Lanes
     requires { (6 ≤ length part.now) × (length part.now ≤ 4294967295) }
     ensures { (j : ℕ) → j < 12 → Lane part.now (6 + j) ((length part.now - 6) / 12) (slice_index result.rises j) (slice_index result.apart j) (slice_index result.all j) }
@@ -34,18 +32,17 @@ fn rows(part: &[u32]) -> Lanes
     let mut rises: [u32; 12] = [0; 12];
     let mut apart: [u32; 12] = [0; 12];
     let mut all: [u32; 12] = [0; 12];
-    let mut at = 6;
-    while part.len() - at >= 12 {
-        let mut j = 0;
-        while j < 12 {
-            let word = part[at + j];
-            let step = wrapping_sub_u32(part[at + j - 3], word);
-            rises[j] = rises[j] + (step >> 31);
-            apart[j] = apart[j] | wrapping_add_u32(step, part[at + j - 4]);
-            all[j] = all[j] | word;
-            j += 1;
+    let (words, _) = part[6..].as_chunks::<12>();
+    let (before, _) = part[3..].as_chunks::<12>();
+    let (counts, _) = part[2..].as_chunks::<12>();
+    for i in 0..words.len() {
+        for j in 0..12 {
+            let word = words[i][j];
+            let step = before[i][j].wrapping_sub(word);
+            rises[j] += step >> 31;
+            apart[j] |= step.wrapping_add(counts[i][j]);
+            all[j] |= word;
         }
-        at += 12;
     }
     Lanes { rises, apart, all }
 }
@@ -55,34 +52,27 @@ fn head(run: &[u32], to: usize) -> Tally
     requires { (1 ≤ to) × (to ≤ length run.now / 3) × (to ≤ 4294967295) }
     ensures { Over run.now to result }
 {
-    let mut ascents: u32 = 0;
-    let mut advances: u32 = 0;
-    let mut apart: u32 = 0;
-    let mut docs = run[0];
-    let mut frequencies = run[1];
-    let mut indexes = run[2];
-    let mut i = 1;
-    while i < to {
+    let mut t = Tally {
+        ascents: 0,
+        advances: 0,
+        apart: 0,
+        docs: run[0],
+        frequencies: run[1],
+        indexes: run[2],
+    };
+    for i in 1..to {
         let at = 3 * i;
         let doc = run[at];
         let index = run[at + 2];
-        let step = wrapping_sub_u32(run[at - 1], index);
-        ascents = ascents + (wrapping_sub_u32(run[at - 3], doc) >> 31);
-        advances = advances + (step >> 31);
-        apart = apart | wrapping_add_u32(step, run[at - 2]);
-        docs = docs | doc;
-        frequencies = frequencies | run[at + 1];
-        indexes = indexes | index;
-        i += 1;
+        let step = run[at - 1].wrapping_sub(index);
+        t.ascents += run[at - 3].wrapping_sub(doc) >> 31;
+        t.advances += step >> 31;
+        t.apart |= step.wrapping_add(run[at - 2]);
+        t.docs |= doc;
+        t.frequencies |= run[at + 1];
+        t.indexes |= index;
     }
-    Tally {
-        ascents,
-        advances,
-        apart,
-        docs,
-        frequencies,
-        indexes,
-    }
+    t
 }
 
 // Rows beside what was gathered before them.
