@@ -1,18 +1,23 @@
 -- Leaves whose runs follow one another: one, and one more. Assumes nothing.
 use mathlib.Core.Path.{◌≡◌, refl, sym, ap, subst, ◌∙◌}
 use mathlib.Core.Logic.{⊎_elim}
-use mathlib.Core.Bool.{Bool, true, ◌&&◌, ◌||◌}
+use mathlib.Core.Bool.{Bool, true, false, not, ◌&&◌, ◌||◌}
 use mathlib.Core.List.{List, []}
-use Prim.Native.Nat.{ℕ, suc, ◌+◌, ◌-◌, ◌*◌, ◌<◌}
+use Prim.Native.Nat.{ℕ, suc, ◌+◌, ◌-◌, ◌*◌, ◌/◌, ◌<◌}
 use native.Mathlib.Omega.{arith}
-use lib.Dec.{leb}
-use lib.ListN.{get_or}
-use borrow.Author.Tests.{lt-ltb, leb-false}
+use lib.Dec.{leb, eqb}
+use lib.ListN.{length, get_or}
+use borrow.Author.Tests.{lt-ltb, leb-false, eqb-true, eqb-false, not-true}
+use Rattle.meaning.specs.IndexRefusals.{wrong4}
 use Rattle.meaning.specs.Below.{count_below}
 use Rattle.meaning.specs.Lent.{Index, has_positions, leaf_field, leaf_first, leaf_number, leaf_document}
 use Rattle.meaning.proofs.Tests.{or_left, or_right}
 use Rattle.meaning.proofs.Below.{last-or-below}
-use Rattle.index.specs.Slices.{runs_only}
+use Rattle.index.specs.Slices.{leaves_only, runs_only}
+use Rattle.index.specs.Accepted.{LeafOk}
+use Rattle.index.proofs.Known.{leaf-ok}
+use Rattle.index.proofs.Parts.{wrong4-of}
+use Rattle.posting_positions.proofs.Gaps.{and_left, and_right}
 use Rattle.adjacent_leaves.specs.Together.{Together, border_fall}
 
 module _ (ix : Index) where
@@ -60,3 +65,23 @@ module _ (ix : Index) where
 -- positions say nothing of it
 pub together-with : (n : ℕ) (fs ls ps qs : List ℕ) (l m last falls : ℕ) (high : Bool) → Together (runs_only n fs ls ps []) l m last falls high → Together (runs_only n fs ls ps qs) l m last falls high
 together-with n fs ls ps qs l m last falls high t = record { some = t.some; next = t.next; with = t.with; ends = t.ends; fallen = t.fallen; low = t.low }
+
+-- what is known of a leaf that is lent
+pub leaf-within : (n : ℕ) (fs ls ps qs : List ℕ) → wrong4 (leaves_only fs ls ps) ≡ false → (k : ℕ) → k < length ls / 4 → LeafOk (runs_only n fs ls ps qs) k
+leaf-within n fs ls ps qs e k h = leaf-ok (runs_only n fs ls ps qs) (wrong4-of (runs_only n fs ls ps qs) ∙ e) k h
+
+-- a leaf whose run begins where the one before ends
+pub record Followed (ix : Index) (k last : ℕ) : Type 0 where
+  pub first : leaf_first ix k ≡ last
+  pub some : 0 < leaf_number ix k
+  pub with : has_positions ix (leaf_field ix k) ≡ true
+
+pub followed : (ix : Index) (k last : ℕ) → ((eqb (leaf_first ix k) last && not (eqb (leaf_number ix k) 0)) && has_positions ix (leaf_field ix k)) ≡ true → Followed ix k last
+followed ix k last e =
+    let both = and_left (eqb (leaf_first ix k) last && not (eqb (leaf_number ix k) 0)) (has_positions ix (leaf_field ix k)) e in
+    let z : leaf_number ix k ≡ 0 → ⊥ = eqb-false _ _ (not-true _ (and_right (eqb (leaf_first ix k) last) (not (eqb (leaf_number ix k) 0)) both)) in
+    record {
+      first = eqb-true _ _ (and_left (eqb (leaf_first ix k) last) (not (eqb (leaf_number ix k) 0)) both);
+      some = omega (arith, z);
+      with = and_right (eqb (leaf_first ix k) last && not (eqb (leaf_number ix k) 0)) (has_positions ix (leaf_field ix k)) e;
+    }

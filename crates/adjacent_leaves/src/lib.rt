@@ -1,7 +1,7 @@
 // Leaves whose runs follow one another, as a writer lays them: whether nothing in them is wrong, where that shows at once.
 #![tactic(auto)]
 
-ghost use Rattle.std.specs.Prelude.{◌≡◌, [], true, false, not, ◌&&◌, ℕ, ◌<◌, ◌≤◌, ◌+◌, ◌-◌, ◌/◌, eqb, length};
+ghost use Rattle.std.specs.Prelude.{◌≡◌, [], true, false, not, ◌&&◌, ℕ, ◌<◌, ◌≤◌, ◌+◌, ◌-◌, ◌/◌, eqb, length, IfSome};
 ghost use Rattle.meaning.specs.Below.{any_below};
 ghost use Rattle.meaning.specs.Lent.{has_positions, leaf_field, leaf_first, leaf_number};
 ghost use Rattle.meaning.specs.IndexRefusals.{wrong4, wrong_posting};
@@ -14,7 +14,7 @@ ghost use Rattle.adjacent_leaves.specs.Together.{Together};
 use index::fields::field_at;
 use index::leaves::leaf_at;
 use index::postings::{LARGEST_FREQUENCY, NO_MORE_DOCS};
-use index::{sum, wide};
+use index::wide;
 use posting_positions::plain_positions;
 use posting_rows::{Tally, gathered};
 
@@ -25,7 +25,7 @@ fn plain(run: &[u32], t: Tally) -> bool
     ensures { result ≡ true → (t.ascents ≤ length run.now / 3 - 1) × Plain run.now (length run.now / 3) (length run.now / 3 - 1 - t.ascents) }
 {
     let count = run.len() / 3;
-    if (wide(t.advances) != count - 1) | (t.apart != 0) {
+    if (t.advances as usize != count - 1) | (t.apart != 0) {
         return false;
     }
     if (t.docs > NO_MORE_DOCS) | (t.indexes > NO_MORE_DOCS) {
@@ -41,29 +41,20 @@ fn plain(run: &[u32], t: Tally) -> bool
 // How many records are looked at together: so few that their positions and seams are read while they are near.
 const BLOCK: usize = 4096;
 
-// What a block shows: whether it is plainly right but for its documents, and how many of those are not above the one before.
-#[derive(Drop)]
-pub struct Block {
-    pub fine: bool,
-    pub falls: usize,
-}
-
-// A part of a run: records, then their positions.
-fn looked_at(part: &[u32], positions: &[u32]) -> Block
+// A part of a run: records, then their positions. How many of its documents are not above the one before, where it is plainly
+// right but for them.
+fn looked_at(part: &[u32], positions: &[u32]) -> Option<usize>
     requires { (2 ≤ length part.now / 3) × (length part.now ≤ 4294967295) }
-    ensures { result.fine ≡ true → Plain part.now (length part.now / 3) result.falls × (any_below (length part.now / 3) (wrong_places part.now positions.now) ≡ false) }
+    ensures { IfSome result (λ falls. Plain part.now (length part.now / 3) falls × (any_below (length part.now / 3) (wrong_places part.now positions.now) ≡ false)) }
 {
     let t = gathered(part);
-    if plain(part, t) {
-        let fine = plain_positions(part, positions, t.frequencies);
-        let falls = part.len() / 3 - 1 - wide(t.ascents);
-        Block { fine, falls }
-    } else {
-        Block {
-            fine: false,
-            falls: 0,
-        }
+    if !plain(part, t) {
+        return None;
     }
+    if !plain_positions(part, positions, t.frequencies) {
+        return None;
+    }
+    Some(part.len() / 3 - 1 - t.ascents as usize)
 }
 
 // The end of the block that follows so many records.
@@ -71,11 +62,7 @@ fn block_end(done: usize, count: usize) -> usize
     requires { done < count }
     ensures { (done < result) × (result ≤ count) × (result ≤ done + 4096) }
 {
-    if count - done > BLOCK {
-        done + BLOCK
-    } else {
-        count
-    }
+    done + BLOCK.min(count - done)
 }
 
 // Whether a run is plainly right but for its documents, of which so many are not above the one before. Block by block, each with
@@ -89,15 +76,15 @@ fn plain_run(run: &[u32], positions: &[u32], falls: usize) -> bool
     }
     let mut done = 1;
     let mut fallen = 0;
+    // Kept: no plainer: a block begins with a record of the one before, so neither chunks nor windows gives it.
     while done < count {
         let end = block_end(done, count);
         let from = 3 * done - 3;
         let to = 3 * end;
-        let b = looked_at(&run[from..to], positions);
-        if !b.fine {
+        let Some(fall) = looked_at(&run[from..to], positions) else {
             return false;
-        }
-        fallen += b.falls;
+        };
+        fallen += fall;
         done = end;
     }
     fallen == falls
@@ -105,7 +92,7 @@ fn plain_run(run: &[u32], positions: &[u32], falls: usize) -> bool
 
 // Leaves up to `end`: where the last run ends, how many first documents are not above the one before, and whether a last
 // document is not below N.
-#[derive(Drop)]
+#[derive(Clone, Copy)]
 pub struct Stretch {
     pub end: usize,
     pub last: usize,
@@ -119,7 +106,7 @@ fn leaf_end(leaves: &[u32], l: usize) -> usize
     ensures { result ≡ leaf_first (leaves_only [] leaves.now []) l + leaf_number (leaves_only [] leaves.now []) l }
 {
     let leaf = leaf_at(leaves, l);
-    sum(leaf.first, leaf.number)
+    leaf.first as usize + leaf.number as usize
 }
 
 // Whether the run of leaf l begins at posting `last`, is not empty, and its field has positions.
@@ -128,8 +115,8 @@ fn follows(fields: &[u32], leaves: &[u32], l: usize, last: usize) -> bool
     ensures { result ≡ ((eqb (leaf_first (leaves_only [] leaves.now []) l) last && not (eqb (leaf_number (leaves_only [] leaves.now []) l) 0)) && has_positions (leaves_only fields.now [] []) (leaf_field (leaves_only [] leaves.now []) l)) }
 {
     let leaf = leaf_at(leaves, l);
-    let field = field_at(fields, wide(leaf.field));
-    (wide(leaf.first) == last) & (leaf.number != 0) & (field.positions == 1)
+    let field = field_at(fields, leaf.field as usize);
+    (leaf.first as usize == last) & (leaf.number != 0) & (field.positions == 1)
 }
 
 // The leaves from l on, below a limit, whose runs follow one another in fields with positions.
@@ -148,8 +135,7 @@ fn adjacent(
     let mut last = leaf_end(leaves, l);
     let mut high = postings[3 * last - 3] >= max_doc;
     let mut falls: usize = 0;
-    let mut end = l + 1;
-    while end < limit {
+    for end in l + 1..limit {
         if !follows(fields, leaves, end, last) {
             return Stretch {
                 end,
@@ -163,10 +149,9 @@ fn adjacent(
         }
         last = leaf_end(leaves, end);
         high = high | (postings[3 * last - 3] >= max_doc);
-        end += 1;
     }
     Stretch {
-        end,
+        end: limit,
         last,
         falls,
         high,
@@ -174,7 +159,8 @@ fn adjacent(
 }
 
 // How far the leaves were looked at together, and whether they are plainly right.
-#[derive(Drop)]
+// Kept: no plainer: `end` counts for leaves that are not plainly right too, so it is no Option.
+#[derive(Clone, Copy)]
 pub struct Turn {
     pub end: usize,
     pub fine: bool,

@@ -1,21 +1,20 @@
 -- A test of the numbers below an end, taken from a number on. Assumes nothing.
-use Rattle.std.proofs.Common.{◌≡◌, ℕ, ◌+◌, ◌-◌, ◌<◌, ◌≤◌, Bool, true, false, ◌||◌, sym, refl, ap, ◌∙◌, arith}
+use Rattle.std.proofs.Common.{◌≡◌, ℕ, ◌+◌, ◌-◌, ◌<◌, ◌≤◌, Bool, true, false, ◌||◌, get_or, sym, refl, ap, ◌∙◌, arith}
+use Rattle.std.specs.List.{list_any, range_with_len}
+use Rattle.std.proofs.lemmas.List.FromFn.{length-range_with_len, get_or-range_with_len}
 use Rattle.meaning.specs.Below.{any_below}
-use Rattle.meaning.proofs.Below.{any-zero, any-more, any-add, any_none}
+use Rattle.meaning.proofs.Below.{any-add, any-like, any_none}
+use Rattle.index.proofs.Chains.{any-list}
 
 or-false : (b : Bool) → b ≡ (b || false)
 or-false true = refl
 or-false false = refl
 
 module _ (p : ℕ → Bool) (l : ℕ) where
-  pub from-none : false ≡ any_below (l - l) (λ i. p (l + i))
-  from-none = let z : l - l ≡ 0 = omega arith in sym (ap (λ (n : ℕ). any_below n (λ i. p (l + i))) z ∙ any-zero (λ i. p (l + i)))
-
-  pub from_more : (k : ℕ) (b t : Bool) → l ≤ k → b ≡ any_below (k - l) (λ i. p (l + i)) → t ≡ p k → (b || t) ≡ any_below (k + 1 - l) (λ i. p (l + i))
-  from_more k b t g e f =
-      let y : l + (k - l) ≡ k = omega arith in
-      let z : k - l + 1 ≡ k + 1 - l = omega arith in
-      any-more (k - l) (λ i. p (l + i)) b t e (f ∙ ap p (sym y)) ∙ ap (λ (n : ℕ). any_below n (λ i. p (l + i))) z
+  -- the numbers from l on as a range
+  pub any-range : (n : ℕ) → list_any p (range_with_len l n) ≡ any_below n (λ i. p (l + i))
+  any-range n =
+      any-list p (range_with_len l n) 0 ∙ ap (λ (m : ℕ). any_below m (λ k. p (get_or (range_with_len l n) k 0))) (length-range_with_len l n) ∙ any-like n _ _ (λ i m. ap p (get_or-range_with_len l n i 0 m))
 
   -- what is found from l on beside what was found below l
   pub from-joined : (k : ℕ) (b t : Bool) → l ≤ k → b ≡ any_below l p → t ≡ any_below (k - l) (λ i. p (l + i)) → (b || t) ≡ any_below k p

@@ -1,5 +1,5 @@
 -- What the loop over a run's records gathers. Assumes nothing.
-use Rattle.std.proofs.Common.{◌≡◌, ℕ, zero, suc, ◌+◌, ◌-◌, ◌*◌, ◌%◌, ◌<◌, ◌≤◌, Bool, true, false, not, ◌&&◌, ◌||◌, eqb, ltb, leb, List, get_or, sym, refl, ap, ◌∙◌, ⊎_elim, add-one, arith, le-ltb, lt-ltb, le-leb, leb-false}
+use Rattle.std.proofs.Common.{◌≡◌, ℕ, zero, suc, ◌+◌, ◌-◌, ◌*◌, ◌%◌, ◌<◌, ◌≤◌, Bool, true, false, not, ◌&&◌, ◌||◌, eqb, ltb, leb, List, get_or, sym, refl, ap, ◌∙◌, ⊎_elim, add-one, arith, le-ltb, lt-ltb, le-leb, leb-false, lit<}
 use mathlib.Core.Bool.{or-true}
 use lib.Dec.{leb-suc-suc}
 use lib.Bits.{bit_or}
@@ -9,6 +9,7 @@ use Rattle.meaning.specs.Limits.{largest_frequency}
 use Rattle.posting_check.specs.Runs.{wrong_record}
 use Rattle.meaning.proofs.Tests.{cmp, or_left, or_right}
 use Rattle.meaning.proofs.Below.{any-zero, any-more, any-like, any-or, any-and}
+use Rattle.posting_positions.proofs.Gaps.{wraps, wrap_fits}
 use Rattle.posting_positions.proofs.High.{high-or, step-turn, frequency-flag}
 use Rattle.posting_positions.proofs.Places.{carried, carried-next, pred-suc}
 
@@ -44,7 +45,7 @@ pub records-none : (run : List ℕ) → Records run 0 0 0 0 0
 records-none run = record { step = sym (any-zero (high_step run)); last = λ e. refl; small = λ e. omega arith; frequency = sym (any-zero (outside run)); index = sym (any-zero (indexed run)) }
 
 module _ (run : List ℕ) (i s q x f : ℕ) (h : Records run i s q x f) (r t g : ℕ) (er : (r + f) % 4294967296 ≡ get_or run (3 * i) 0) (lr : r < 4294967296) (et : (t + 1) % 4294967296 ≡ get_or run (3 * i + 1) 0) (lt : t < 4294967296) (eg : g ≡ (get_or run (3 * i) 0 + 1) % 4294967296) where
-  turn : leb 2147483648 (bit_or (bit_or s (get_or run (3 * i) 0)) r) ≡ (leb 2147483648 s || (leb 2147483648 (get_or run (3 * i) 0) || ltb (get_or run (3 * i) 0) f))
+  turn : leb 2147483648 (bit_or s (bit_or (get_or run (3 * i) 0) r)) ≡ (leb 2147483648 s || (leb 2147483648 (get_or run (3 * i) 0) || ltb (get_or run (3 * i) 0) f))
   turn = step-turn s (get_or run (3 * i) 0) f r h.small er lr
 
   -- the floor is the run's as long as no high bit is set
@@ -52,11 +53,11 @@ module _ (run : List ℕ) (i s q x f : ℕ) (h : Records run i s q x f) (r t g :
   exact true k = refl
   exact false k = rw (k refl)
 
-  doc-small : leb 2147483648 (bit_or (bit_or s (get_or run (3 * i) 0)) r) ≡ false → get_or run (3 * i) 0 < 2147483648
+  doc-small : leb 2147483648 (bit_or s (bit_or (get_or run (3 * i) 0) r)) ≡ false → get_or run (3 * i) 0 < 2147483648
   doc-small e =
       leb-false _ _ (or_left (leb 2147483648 (get_or run (3 * i) 0)) (ltb (get_or run (3 * i) 0) f) (or_right (leb 2147483648 s) (leb 2147483648 (get_or run (3 * i) 0) || ltb (get_or run (3 * i) 0) f) (sym turn ∙ e)))
 
-  pub records-more : Records run (i + 1) (bit_or (bit_or s (get_or run (3 * i) 0)) r) (bit_or q t) (bit_or x (get_or run (3 * i + 2) 0)) g
+  pub records-more : Records run (i + 1) (bit_or s (bit_or (get_or run (3 * i) 0) r)) (bit_or q t) (bit_or x (get_or run (3 * i + 2) 0)) g
   records-more =
       record {
         step = turn ∙ exact (leb 2147483648 s) h.last ∙ any-more i (high_step run) (leb 2147483648 s) (high_step run i) h.step refl;
@@ -65,6 +66,13 @@ module _ (run : List ℕ) (i s q x f : ℕ) (h : Records run i s q x f) (r t g :
         frequency = high-or 24 q t ∙ any-more i (outside run) (leb 16777216 q) (leb 16777216 t) h.frequency (frequency-flag (get_or run (3 * i + 1) 0) t et lt);
         index = high-or 0 x (get_or run (3 * i + 2) 0) ∙ any-more i (indexed run) (leb 1 x) _ h.index refl;
       }
+
+-- the same as the code writes it, with the record's words in locals
+pub records-next : (run : List ℕ) (i s q x f : ℕ) → Records run i s q x f → f < 4294967296 → (d v w : ℕ) → d ≡ get_or run (3 * i) 0 → v ≡ get_or run (3 * i + 1) 0 → w ≡ get_or run (3 * i + 2) 0 → d < 4294967296 → v < 4294967296 → Records run (i + 1) (bit_or s (bit_or d ((d + (4294967296 - f)) % 4294967296))) (bit_or q ((v + (4294967296 - 1)) % 4294967296)) (bit_or x w) ((d + 1) % 4294967296)
+records-next run i s q x f h lf d v w ed ev ew ld lv =
+    let document : get_or run (3 * i) 0 < 4294967296 = omega arith in
+    let frequency : get_or run (3 * i + 1) 0 < 4294967296 = omega arith in
+    rw (ed, ev, ew) (records-more run i s q x f h _ _ _ (wraps _ _ document lf) (wrap_fits _) (wraps _ 1 frequency (lit< tt)) (wrap_fits _) refl)
 
 -- in a run that ascends the last document is the largest: the others need not be held to N
 module _ (n : ℕ) (top : n ≤ 2147483648) (run : List ℕ) where

@@ -14,7 +14,6 @@ use index::leaves::leaf_at;
 use index::postings::{LARGEST_FREQUENCY, NO_MORE_DOCS};
 use index::wide;
 use posting_positions::wrong_run_places;
-use std::num::{wrapping_add_u32, wrapping_sub_u32};
 
 // The records of a run in one pass without a branch. The or of all words shows in its high bits whether one is too large:
 // a document, or its distance above the document before, from 2^31 on; a frequency less 1 from 2^24 on; an index from 1 on.
@@ -22,19 +21,16 @@ fn wrong_records(run: &[u32], max_doc: u32, has_positions: bool) -> bool
     requires { max_doc ≤ 2147483648 }
     ensures { result ≡ any_below (length run.now / 3) (wrong_record max_doc has_positions run.now) }
 {
-    let count = run.len() / 3;
+    let (records, _) = run.as_chunks::<3>();
     let mut steps: u32 = 0;
     let mut frequencies: u32 = 0;
     let mut indexes: u32 = 0;
     let mut floor: u32 = 0;
-    let mut i = 0;
-    while i < count {
-        let doc = run[3 * i];
-        steps = steps | doc | wrapping_sub_u32(doc, floor);
-        frequencies = frequencies | wrapping_sub_u32(run[3 * i + 1], 1);
-        indexes = indexes | run[3 * i + 2];
-        floor = wrapping_add_u32(doc, 1);
-        i += 1;
+    for [doc, frequency, index] in records {
+        steps |= *doc | doc.wrapping_sub(floor);
+        frequencies |= frequency.wrapping_sub(1);
+        indexes |= *index;
+        floor = doc.wrapping_add(1);
     }
     ((steps > NO_MORE_DOCS) | (floor > max_doc))
         | (frequencies >= LARGEST_FREQUENCY)
@@ -86,13 +82,7 @@ fn wrong_runs(
     requires l_le_end { (l ≤ end) × (end ≤ length leaves.now / 4) }
     ensures { result ≡ any_below (end - l) (λ i. any_below (leaf_number (leaves_only [] leaves.now []) (l + i)) (wrong_posting (runs_only max_doc fields.now leaves.now postings.now positions.now) (l + i))) }
 {
-    let mut bad = false;
-    let mut k = l;
-    while k < end {
-        bad = bad | wrong_run(max_doc, fields, leaves, postings, positions, k);
-        k += 1;
-    }
-    bad
+    (l..end).any(|k| wrong_run(max_doc, fields, leaves, postings, positions, k))
 }
 
 // 5, the posting words: not whole, or something wrong in a leaf's run. Leaves that are not plainly right are read one by one.
@@ -113,6 +103,7 @@ pub fn wrong_postings(
     let count = leaves.len() / 4;
     let mut bad = false;
     let mut l = 0;
+    // Kept: no plainer: each turn says itself how far it came, so there is no range to go through.
     while l < count {
         let turn = plain_leaves(max_doc, fields, leaves, postings, positions, l, count);
         let end = turn.end;

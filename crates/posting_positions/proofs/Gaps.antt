@@ -54,7 +54,7 @@ or-each (x ∷ xs) a zero l = omega (arith, or-from xs (bit_or a x), or_right a 
 or-each (x ∷ xs) a (suc k) l = or-each xs (bit_or a x) k (omega arith)
 
 -- ---- positions
-drop-first : (part : List ℕ) → ◌≡◌ {A = ℕ} 0 (count_below 1 (drop_at part))
+pub drop-first : (part : List ℕ) → ◌≡◌ {A = ℕ} 0 (count_below 1 (drop_at part))
 unfolding count_below drop_at
 drop-first part = refl
 

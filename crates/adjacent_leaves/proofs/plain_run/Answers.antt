@@ -1,6 +1,5 @@
 -- Block by block. Assumes nothing.
 use Rattle.std.proofs.Common.{◌/◌, length, arith, eqb-true, refl}
-use borrow.Author.Tests.{not-false}
 use Rattle.meaning.proofs.Below.{count-le}
 use Rattle.adjacent_leaves.specs.Plain.{document_fall}
 use Rattle.adjacent_leaves.proofs.Blocks.{passed-none, passed-more, passed-all, part, part-count}
@@ -14,15 +13,15 @@ overflow_add-fallen c =
     let run = c.args.run.now in
     let l = c.loop-done in
     let e = c.block_end-end in
-    let b = c.looked_at-b.ensures (not-false _ c.if-not-b.false) in
+    let b = c.in-Some.ensures in
     omega (arith, l.invariant.0.falling, count-le l.done (document_fall run), b.0.falling, count-le (length (part run c.args.positions.now l.done l.fallen e.result l.invariant.0 l.invariant.1 e.ensures.0 e.ensures.1) / 3) (document_fall (part run c.args.positions.now l.done l.fallen e.result l.invariant.0 l.invariant.1 e.ensures.0 e.ensures.1)), part-count run c.args.positions.now l.done l.fallen e.result l.invariant.0 l.invariant.1 e.ensures.0 e.ensures.1, e.ensures, l.invariant.2, c.well_formed)
 
 pub loop-done-preserved : goal.loop-done-preserved
 loop-done-preserved c =
     let l = c.loop-done in
     let e = c.block_end-end in
-    let b = c.looked_at-b.ensures (not-false _ c.if-not-b.false) in
-    (passed-more c.args.run.now c.args.positions.now l.done l.fallen e.result l.invariant.0 l.invariant.1 e.ensures.0 e.ensures.1 c.looked_at-b.result.falls b.0 b.1 _ refl, omega (arith, e.ensures), omega (arith, e.ensures))
+    let b = c.in-Some.ensures in
+    (passed-more c.args.run.now c.args.positions.now l.done l.fallen e.result l.invariant.0 l.invariant.1 e.ensures.0 e.ensures.1 c.in-Some.fall b.0 b.1 _ refl, omega (arith, e.ensures), omega (arith, e.ensures))
 
 pub returns : goal.returns
 returns c =

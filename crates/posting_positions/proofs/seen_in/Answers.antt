@@ -1,31 +1,29 @@
-use Rattle.std.proofs.Common.{◌≡◌, ℕ, ◌+◌, ◌-◌, ◌<◌, get_or, refl, sym, ap, arith}
-use Rattle.meaning.proofs.Below.{count-le, count-zero}
+use Rattle.std.proofs.Common.{◌≡◌, ℕ, ◌-◌, ◌<◌, get_or, refl, arith}
+use Rattle.meaning.proofs.Below.{count-le}
 use Rattle.posting_positions.specs.Places.{drop_at}
-use Rattle.posting_positions.proofs.Gaps.{bound-more, drop_more, drop-end}
+use Rattle.posting_positions.proofs.Gaps.{bound-more, only, drop-first, drop_more, drop-end}
 use Rattle.posting_positions.proofs.seen_in.Goals as goal
 
-pub loop-place-init : goal.loop-place-init
-loop-place-init c = record { bound = λ k l. absurd (omega arith); dropped = sym (count-zero _); last = refl }
+pub loop-k-init : goal.loop-k-init
+loop-k-init c = record { bound = only (λ i. get_or c.args.part.now i 0); dropped = drop-first _ }
 
 pub overflow_add-falls : goal.overflow_add-falls
-overflow_add-falls c = omega (arith, c.loop-place.invariant.dropped, count-le c.loop-place.place-index (drop_at c.args.part.now), c.requires)
+overflow_add-falls c = omega (arith, c.loop-k.invariant.dropped, count-le c.loop-k.k (drop_at c.args.part.now), c.requires, c.loop-k-test.true)
 
-pub loop-place-preserved : goal.loop-place-preserved
-loop-place-preserved c =
+pub loop-k-preserved : goal.loop-k-preserved
+loop-k-preserved c =
     let part = c.args.part.now in
-    let k = c.loop-place.place-index in
+    let k = c.loop-k.k in
     let place : get_or c.args.part.now k 0 < 4294967296 = omega (arith, c.type_inv.part k) in
-    let before : c.loop-place.previous < 4294967296 = omega (arith, c.loop-place.auto.previous-fits) in
-    let same : k ≡ k + 1 - 1 = omega arith in
+    let before : get_or c.args.part.now (k - 1) 0 < 4294967296 = omega (arith, c.type_inv.part (k - 1)) in
     record {
-      bound = bound-more (λ i. get_or part i 0) _ _ _ c.loop-place.invariant.bound refl;
-      dropped = drop_more part k _ _ c.loop-place.invariant.last c.loop-place.invariant.dropped place before;
-      last = ap (λ (i : ℕ). get_or part i 0) same;
+      bound = bound-more (λ i. get_or part i 0) _ _ _ c.loop-k.invariant.bound refl;
+      dropped = drop_more part k _ (get_or part (k - 1) 0) refl c.loop-k.invariant.dropped place before;
     }
 
 pub returns : goal.returns
 returns c =
     record {
-      by_index = λ k l. c.loop-place.invariant.bound k (omega (arith, c.loop-place-test.false));
-      falls_value = drop-end c.args.part.now c.loop-place.place-index _ _ c.loop-place.invariant.dropped (omega (arith, c.loop-place-test.false, c.loop-place.auto.place-index-end));
+      by_index = λ i l. c.loop-k.invariant.bound i (omega (arith, c.loop-k-test.false));
+      falls_value = drop-end c.args.part.now c.loop-k.k _ _ c.loop-k.invariant.dropped (omega (arith, c.loop-k-test.false, c.loop-k.auto.k-end, c.requires));
     }
