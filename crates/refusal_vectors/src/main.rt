@@ -4,12 +4,13 @@
 // it stands; then the lists' words. What norm bytes and live words hold is refused by nothing, so they are made here.
 #![tactic(auto)]
 
+use refusal::Refusal;
 use std::io;
 use std::io::Write;
 use vectors::file::{first, list};
 
-// The lowest of 1 to 10 for a case, or 0; its norm bytes and live words are the first of the given ones.
-fn refusal(file: &[u32], norms: &[u8], live: &[u64], case: [u32; 10]) -> u32 {
+// Checks a case's index, then its query; its norm bytes and live words are the first of the given ones.
+fn check(file: &[u32], norms: &[u8], live: &[u64], case: [u32; 10]) -> Result<(), Refusal> {
     let [
         max_doc,
         norm_bytes,
@@ -25,7 +26,7 @@ fn refusal(file: &[u32], norms: &[u8], live: &[u64], case: [u32; 10]) -> u32 {
     let fields = list(file, fields);
     let leaves = list(file, leaves);
     let columns = list(file, columns);
-    let index = index_check::check_index(
+    index_check::check_index(
         max_doc,
         fields,
         leaves,
@@ -35,10 +36,7 @@ fn refusal(file: &[u32], norms: &[u8], live: &[u64], case: [u32; 10]) -> u32 {
         first(live, live_words as usize),
         columns,
         list(file, values),
-    );
-    if index != 0 {
-        return index;
-    }
+    )?;
     query_check::check_query(list(file, query), fields, leaves, columns)
 }
 
@@ -53,7 +51,10 @@ fn print_refusals(
     };
     let (cases, _) = words.as_chunks::<10>();
     for case in first(cases, *number as usize) {
-        writeln!(out, "{}", refusal(file, norms, live, *case))?;
+        match check(file, norms, live, *case) {
+            Ok(()) => writeln!(out, "0")?,
+            Err(refusal) => writeln!(out, "{refusal}")?,
+        }
     }
     Ok(())
 }
