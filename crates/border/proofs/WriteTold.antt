@@ -1,4 +1,5 @@
 -- What the border's token writer is to answer and to leave: one law for each way through it, over the writer's own contract. Assumes nothing.
+use Rattle.std.proofs.Common.{Result, Ok, Err}
 use mathlib.Core.Path.{◌≡◌, refl, sym, ap, ◌∙◌}
 use mathlib.Core.Bool.{Bool, true, false, or-false, ◌||◌}
 use mathlib.Core.List.{List, [], ◌∷◌}
@@ -10,8 +11,9 @@ use Rattle.meaning.specs.Refusals.{◌when◌, lowest}
 use Rattle.meaning.specs.TokenRefusals.{Outputs, wrong16, write_refusal, write_answer, written_norms, written_postings, written_positions, written_runs}
 use Rattle.meaning.specs.Entries.{written, answered}
 use Rattle.meaning.proofs.Lowest.{answered-refused}
-use Rattle.token_writer.specs.declared.Numbers.{Numbers}
-use Rattle.token_writer.specs.declared.Written.{Written}
+use Rattle.refusal.specs.declared.Refusal.{Refusal}
+use Rattle.refusal.specs.Numbers.{number_of}
+use Rattle.tokens.specs.declared.Numbers.{Numbers}
 use Rattle.token_writer.specs.Answers.{written_numbers, outputs, WritesIndex}
 use Rattle.border.specs.Write.{write_numbers, border_write, LotWritesIndex}
 use Rattle.border.proofs.Told.{refused-number, found-numbers, refused-keeps}
@@ -43,11 +45,11 @@ module _ (n : ℕ) (fields leaf_fields ws norms postings positions runs answer :
   refusal = write_refusal n fields leaf_fields ws o
 
   -- the writer's answer, by its shape
-  refused-is : (a : Written) (k : ℕ) → a ≡ Written.Refused k → written_numbers a ≡ write_answer n fields leaf_fields ws o → (k ≡ refusal) × (0 < refusal)
+  refused-is : (a : Result Numbers Refusal) (k : Refusal) → a ≡ Err k → written_numbers a ≡ write_answer n fields leaf_fields ws o → (number_of k ≡ refusal) × (0 < refusal)
   unfolding written_numbers write_answer
-  refused-is a k e f = refused-number refusal k _ _ (sym (ap written_numbers e) ∙ f)
+  refused-is a k e f = refused-number refusal (number_of k) _ _ (sym (ap written_numbers e) ∙ f)
 
-  done-is : (a : Written) (numbers : Numbers) → a ≡ Written.Done numbers → written_numbers a ≡ write_answer n fields leaf_fields ws o → (refusal ≡ 0) × ((numbers.postings ∷ numbers.positions ∷ []) ≡ write_numbers n fields leaf_fields ws)
+  done-is : (a : Result Numbers Refusal) (numbers : Numbers) → a ≡ Ok numbers → written_numbers a ≡ write_answer n fields leaf_fields ws o → (refusal ≡ 0) × ((numbers.postings ∷ numbers.positions ∷ []) ≡ write_numbers n fields leaf_fields ws)
   unfolding written_numbers write_answer
   done-is a numbers e f = found-numbers refusal _ _ _ (sym (ap written_numbers e) ∙ f)
 
@@ -64,21 +66,21 @@ module _ (n : ℕ) (fields leaf_fields ws norms postings positions runs answer :
         numbers = refused-keeps r _ answer h;
       }
 
-  pub write-told-short : (a : Written) (k : ℕ) → length answer < 2 → a ≡ Written.Refused k → written_numbers a ≡ write_answer n fields leaf_fields ws o → LotWritesIndex n fields leaf_fields ws norms postings positions runs answer norms postings positions runs answer k
+  pub write-told-short : (a : Result Numbers Refusal) (k : Refusal) → length answer < 2 → a ≡ Err k → written_numbers a ≡ write_answer n fields leaf_fields ws o → LotWritesIndex n fields leaf_fields ws norms postings positions runs answer norms postings positions runs answer (number_of k)
   write-told-short a k h e f =
       let z = refused-is a k e f in
       let stays : answered refusal 16 (λ m. m) ≡ refusal = sym (refused-stays refusal z.1) in
-      told-refused k (z.0 ∙ sym (write-short n fields leaf_fields ws o (length answer) h ∙ stays)) (rw z.0 z.1)
+      told-refused (number_of k) (z.0 ∙ sym (write-short n fields leaf_fields ws o (length answer) h ∙ stays)) (rw z.0 z.1)
     where
       refused-stays : (m : ℕ) → 0 < m → m ≡ answered m 16 (λ i. i)
       refused-stays m p = answered-refused 16 (λ i. i) m (λ e. omega (arith, e, p))
 
-  pub write-told-sixteen : (a : Written) (numbers : Numbers) → length answer < 2 → a ≡ Written.Done numbers → written_numbers a ≡ write_answer n fields leaf_fields ws o → LotWritesIndex n fields leaf_fields ws norms postings positions runs answer norms postings positions runs answer 16
+  pub write-told-sixteen : (a : Result Numbers Refusal) (numbers : Numbers) → length answer < 2 → a ≡ Ok numbers → written_numbers a ≡ write_answer n fields leaf_fields ws o → LotWritesIndex n fields leaf_fields ws norms postings positions runs answer norms postings positions runs answer 16
   write-told-sixteen a numbers h e f =
       let z = (done-is a numbers e f).0 in
       told-refused 16 (sym (write-short n fields leaf_fields ws o (length answer) h ∙ ap (λ (m : ℕ). answered m 16 (λ i. i)) z)) (omega arith)
 
-  module _ (a : Written) (norms' postings' positions' runs' : List ℕ) (h : 2 ≤ length answer) (w : WritesIndex n fields leaf_fields ws norms postings positions runs norms' postings' positions' runs' a) where
+  module _ (a : Result Numbers Refusal) (norms' postings' positions' runs' : List ℕ) (h : 2 ≤ length answer) (w : WritesIndex n fields leaf_fields ws norms postings positions runs norms' postings' positions' runs' a) where
     by : (r : ℕ) (answer' : List ℕ) → r ≡ refusal → answer' ≡ answered r (written (write_numbers n fields leaf_fields ws) answer) (λ m. answer) → LotWritesIndex n fields leaf_fields ws norms postings positions runs answer norms' postings' positions' runs' answer' r
     by r answer' e g =
         record {
@@ -90,12 +92,12 @@ module _ (n : ℕ) (fields leaf_fields ws norms postings positions runs answer :
           numbers = g;
         }
 
-    pub write-told-refused : (k : ℕ) → a ≡ Written.Refused k → LotWritesIndex n fields leaf_fields ws norms postings positions runs answer norms' postings' positions' runs' answer k
+    pub write-told-refused : (k : Refusal) → a ≡ Err k → LotWritesIndex n fields leaf_fields ws norms postings positions runs answer norms' postings' positions' runs' answer (number_of k)
     write-told-refused k e =
         let z = refused-is a k e w.answer in
-        by k answer z.0 (refused-keeps k _ answer (rw z.0 z.1))
+        by (number_of k) answer z.0 (refused-keeps (number_of k) _ answer (rw z.0 z.1))
 
-    pub write-told-done : (numbers : Numbers) (answer' : List ℕ) → a ≡ Written.Done numbers → answer' ≡ written (numbers.postings ∷ numbers.positions ∷ []) answer → LotWritesIndex n fields leaf_fields ws norms postings positions runs answer norms' postings' positions' runs' answer' 0
+    pub write-told-done : (numbers : Numbers) (answer' : List ℕ) → a ≡ Ok numbers → answer' ≡ written (numbers.postings ∷ numbers.positions ∷ []) answer → LotWritesIndex n fields leaf_fields ws norms postings positions runs answer norms' postings' positions' runs' answer' 0
     write-told-done numbers answer' e g =
         let z = done-is a numbers e w.answer in
         by 0 answer' (sym z.0) (g ∙ ap (λ (xs : List ℕ). written xs answer) z.1)

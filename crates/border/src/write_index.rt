@@ -1,7 +1,9 @@
 // The border's token writer.
 ghost use Rattle.border.specs.Write.{LotWritesIndex};
 
-use token_writer::Written;
+use refusal::Refusal;
+use token_writer::Outputs;
+use tokens::TokenRecords;
 
 pub fn lot_write_index(
     max_doc: u32,
@@ -16,36 +18,30 @@ pub fn lot_write_index(
 ) -> u32
     ensures { LotWritesIndex max_doc fields.now leaf_fields.now tokens.now norms.old postings.old positions.old runs.old answer.old norms.new postings.new positions.new runs.new answer.new result }
 {
-    if answer.len() < 2 {
-        match token_writer::accept(
-            max_doc,
-            fields,
-            tokens,
-            leaf_fields,
-            norms.len(),
-            postings.len(),
-            positions.len(),
-            runs.len(),
-        ) {
-            Written::Refused(n) => return n,
-            Written::Done(numbers) => return 16,
-        }
-    }
-    match token_writer::write_index(
+    let records = TokenRecords {
         max_doc,
         fields,
         tokens,
         leaf_fields,
-        norms,
-        postings,
-        positions,
-        runs,
-    ) {
-        Written::Refused(n) => n,
-        Written::Done(numbers) => {
+    };
+    if answer.len() < 2 {
+        let room = Outputs {
+            norms: norms.len(),
+            postings: postings.len(),
+            positions: positions.len(),
+            runs: runs.len(),
+        };
+        return match token_writer::accept(records, room) {
+            Ok(_) => Refusal::Outputs.number(),
+            Err(refusal) => refusal.number(),
+        };
+    }
+    match token_writer::write_index(records, norms, postings, positions, runs) {
+        Ok(numbers) => {
             answer[0] = numbers.postings as u64;
             answer[1] = numbers.positions as u64;
             0
         }
+        Err(refusal) => refusal.number(),
     }
 }

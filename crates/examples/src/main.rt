@@ -2,7 +2,6 @@
 // crates/examples/stdout is written from the document's text: a hit is its document and its score's bits.
 #![tactic(auto)]
 
-use pick_entry::Picked;
 use place_entry::Placed;
 use range_entry::Ranged;
 use searcher::page::Paged;
@@ -211,8 +210,8 @@ fn pick(out: &mut impl Write) -> io::Result<()> {
     let scores: [u32; 3] = [0x3f80_0000, 0x4000_0000, 0x3f80_0000];
     let mut hits = [0i64; 2];
     match pick_entry::pick(&documents, &scores, 2, 10, &mut hits) {
-        Picked::Refused(n) => print_refused(out, n),
-        Picked::Found(top) => print_found(out, top, &hits),
+        Err(refusal) => print_refused(out, refusal.number()),
+        Ok(top) => print_found(out, top, &hits),
     }
 }
 

@@ -2,6 +2,7 @@
 use mathlib.Core.Path.{◌≡◌, refl, sym, subst}
 use mathlib.Core.Bool.{Bool, true, false, cond}
 use mathlib.Core.List.{List, [], ◌∷◌}
+use Rattle.std.specs.Prelude.{Option, Some, None, SomeIff}
 use Prim.Native.Nat.{ℕ, ◌+◌, ◌%◌, ◌≤◌, ◌<◌}
 use native.Mathlib.Nat.{le_trans}
 use native.Mathlib.Omega.{arith}
@@ -11,7 +12,7 @@ use lib.ListN.{length, drop}
 use Rattle.meaning.specs.Phrase.{multiplicity, smallest}
 use Rattle.phrase_starts.specs.Terms.{term_at, starts_of, start_lists, Good}
 use Rattle.phrase_starts.specs.Common.{Ascending, Common}
-use Rattle.phrase.specs.Step.{Held, unmet_from, Candidates, Left, Meets}
+use Rattle.phrase.specs.Step.{Held, unmet_from, Candidates, Left, Further, Meets}
 use Rattle.phrase_starts.proofs.Records.{lists_at, lists-end, lists-some, smallest-at}
 
 -- ---- the common part of lists
@@ -45,11 +46,6 @@ left_end ps ts at cs e a =
 pub left-none : (ps ts : List ℕ) (at : ℕ) (cs : List ℤ) → length cs ≡ 0 → Left ps ts at cs cs
 left-none ps ts at [] e = record { common = common-none (start_lists ps (drop at ts)); no_more = omega arith }
 left-none ps ts at (c ∷ cs) e = absurd (omega (arith, e))
-
-none-same : (ms zs : List ℤ) → length ms ≡ 0 → length zs ≡ 0 → ms ≡ zs
-none-same [] [] e f = refl
-none-same (x ∷ ms) zs e f = absurd (omega (arith, e))
-none-same [] (z ∷ zs) e f = absurd (omega (arith, f))
 
 -- ---- the next record to meet
 module _ (ps ts : List ℕ) (r : ℕ) (cs : List ℤ) (k : Held ps ts r cs) (at : ℕ) (w : at % 3 ≡ 0) (h : at ≤ length ts) where
@@ -125,37 +121,33 @@ module _ (ps ts : List ℕ) (r at : ℕ) (cs : List ℤ) (places : ℕ) (c : Can
         }
 
     -- the other terms are still to be met
-    pub meets : Meets ps ts r at cs ms (unmet_from r (at + 3))
-    meets =
+    further : unmet_from r (at + 3) < length ts → Further ps ts r at cs ms (unmet_from r (at + 3))
+    further h =
         record {
-          rising = m.rising;
           further = (let f = unmet-not-before ps ts r ms held-met (at + 3) past-start past-there in omega (arith, f));
           on = λ zs l. left-met zs (left-unmet ps ts r ms held-met (at + 3) past-start past-there zs l);
-          ready = λ h.
+          ready =
               record {
                 held = held-met;
                 record-start = unmet-start ps ts r ms held-met (at + 3) past-start past-there;
-                there = (let n = unmet-not-past ps ts r ms held-met (at + 3) past-start past-there in omega (arith, n, h));
+                there = h;
                 room = few;
               };
         }
 
-    -- or nothing is left, and none is
-    pub meets-none : length ms ≡ 0 → Meets ps ts r at cs ms (length ts)
-    meets-none e =
-        record {
-          rising = m.rising;
-          further = c.there;
-          on = λ zs l. left-met zs (nothing zs l);
-          ready = λ h. absurd (h refl);
-        }
-      where
-        nothing : (zs : List ℤ) → Left ps ts (length ts) ms zs → Left ps ts (at + 3) ms zs
-        nothing zs l = subst (λ (k : List ℤ). Left ps ts (at + 3) ms k) (none-same ms zs e (omega (arith, l.no_more, e))) (left-none ps ts (at + 3) ms e)
+    -- or none is
+    ended : (unmet_from r (at + 3) < length ts → ⊥) → Left ps ts at cs ms
+    ended h =
+        let e : unmet_from r (at + 3) ≡ length ts = (let n = unmet-not-past ps ts r ms held-met (at + 3) past-start past-there in omega (arith, n, h)) in
+        left-met ms (left-unmet ps ts r ms held-met (at + 3) past-start past-there ms (left_end ps ts (unmet_from r (at + 3)) ms e m.rising))
 
--- ---- at the end
-pub left-at-end : (ps ts : List ℕ) (r at next : ℕ) (cs ms : List ℤ) → Meets ps ts r at cs ms next → next ≡ length ts → Left ps ts at cs ms
-left-at-end ps ts r at next cs ms k e = k.on ms (left_end ps ts next ms e k.rising)
+    pub meets : (next : Option ℕ) → SomeIff next (unmet_from r (at + 3) < length ts) (unmet_from r (at + 3)) → Meets ps ts r at cs ms next
+    meets None h = ended h
+    meets (Some k) h = subst (λ (n : ℕ). Further ps ts r at cs ms n) (sym h.1) (further h.0)
+
+    -- or nothing is left
+    pub meets-none : length ms ≡ 0 → Meets ps ts r at cs ms None
+    meets-none e = left-met ms (left-none ps ts (at + 3) ms e)
 
 -- ---- all terms
 smallest-among : (s : ℤ) (xs : List ℤ) (xss : List (List ℤ)) → 0 < length xss → smallest s xss ≤ multiplicity s xs → smallest s (xs ∷ xss) ≡ smallest s xss

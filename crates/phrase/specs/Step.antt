@@ -1,5 +1,5 @@
 -- What each step of the common part asks for and leaves. Assumes nothing: these are definitions.
-use Rattle.std.specs.Prelude.{◌≡◌, cond, List, ◌∷◌, ℕ, ◌+◌, ◌%◌, ◌≤◌, ◌<◌, eqb, ℤ, length, drop}
+use Rattle.std.specs.Prelude.{◌≡◌, cond, List, ◌∷◌, ℕ, ◌+◌, ◌%◌, ◌≤◌, ◌<◌, eqb, ℤ, length, drop, Option, MatchOption}
 use Rattle.meaning.specs.Phrase.{multiplicity}
 use Rattle.phrase_starts.specs.Terms.{Good, term_at, starts_of, start_lists}
 use Rattle.phrase_starts.specs.Common.{Ascending, Common}
@@ -28,9 +28,12 @@ pub record Left (ps ts : List ℕ) (at : ℕ) (cs zs : List ℤ) : Type 0 where
   pub common : Common (cs ∷ start_lists ps (drop at ts)) zs
   pub no_more : length zs ≤ length cs
 
--- one more term is met: ms is what it leaves, and what is left of ms from the next record on is left of the candidates
-pub record Meets (ps ts : List ℕ) (rarest at : ℕ) (cs ms : List ℤ) (next : ℕ) : Type 0 where
-  pub rising : Ascending ms
+-- one more term is met, and another record is to be met: what is left of ms from there on is left of the candidates
+pub record Further (ps ts : List ℕ) (rarest at : ℕ) (cs ms : List ℤ) (next : ℕ) : Type 0 where
   pub further : at < next
   pub on : (zs : List ℤ) → Left ps ts next ms zs → Left ps ts at cs zs
-  pub ready : (next ≡ length ts → ⊥) → Candidates ps ts rarest next ms (length cs)
+  pub ready : Candidates ps ts rarest next ms (length cs)
+
+-- what one more term leaves of the candidates is left at the end, or there is a record to meet next
+abbrev pub Meets : List ℕ → List ℕ → ℕ → ℕ → List ℤ → List ℤ → Option ℕ → Type 0
+Meets ps ts rarest at cs ms next = MatchOption next (Left ps ts at cs ms) (λ k. Further ps ts rarest at cs ms k)

@@ -2,7 +2,7 @@
 // with the smallest multiplicity. A term is a record of three words: index of its first position, frequency, offset.
 #![tactic(auto)]
 
-ghost use Rattle.std.specs.Prelude.{◌≡◌, ◌≤◌, ◌<◌, ◌+◌, ◌%◌, length, take};
+ghost use Rattle.std.specs.Prelude.{◌≡◌, ◌≤◌, ◌<◌, ◌+◌, ◌%◌, length, take, SomeIff};
 ghost use Rattle.meaning.specs.Phrase.{common_size};
 ghost use Rattle.phrase_starts.specs.Terms.{start_lists, Good, Room, Rarest};
 ghost use Rattle.phrase_starts.specs.Common.{Common};
@@ -11,45 +11,34 @@ ghost use Rattle.phrase.specs.Place.{PlacedIn};
 
 use phrase_starts::{intersect, pair, term_at, write_starts};
 
-#[derive(Drop)]
-pub enum Placed {
-    At(i32),
-    Nothing,
-}
-
 // The first record with the least frequency.
 fn rarest(terms: &[u32]) -> usize
     requires { (0 < length terms.now) × (length terms.now % 3 ≡ 0) }
     ensures { Rarest terms.now result }
 {
     let mut best = 0;
-    let mut least = terms[1];
-    let mut at = 3;
-    while at < terms.len() {
-        let freq = terms[at + 1];
-        if freq < least {
+    for at in (3..terms.len()).step_by(3) {
+        if terms[at + 1] < terms[best + 1] {
             best = at;
-            least = freq;
         }
-        at += 3;
     }
     best
 }
 
-// The record to meet at or after a word: the rarest term's is not met again.
-fn unmet(rarest: usize, at: usize) -> usize
-    requires { rarest + 3 < 18446744073709551616 }
-    ensures { result ≡ unmet_from rarest at }
+// The record to meet at or after a word, if there is one: the rarest term's is not met again.
+fn unmet(terms: &[u32], rarest: usize, at: usize) -> Option<usize>
+    requires { (at ≤ length terms.now) × (rarest + 2 < length terms.now) }
+    ensures { SomeIff result (unmet_from rarest at < length terms.now) (unmet_from rarest at) }
 {
-    if at == rarest { at + 3 } else { at }
+    let next = if at == rarest { at + 3 } else { at };
+    (next < terms.len()).then_some(next)
 }
 
-// What one more term leaves: so many candidates, and the record to meet next, or the end where there is none to meet or
-// nothing is left.
-#[derive(Drop)]
-pub struct Met {
-    pub n: usize,
-    pub next: usize,
+// What one more term leaves: so many candidates, and the record to meet next, if there is one and any is left.
+#[derive(Clone, Copy)]
+struct Met {
+    n: usize,
+    next: Option<usize>,
 }
 
 fn meet(
@@ -65,13 +54,12 @@ fn meet(
 {
     let n = intersect(positions, term_at(terms, at), cands, spare);
     if n == 0 {
-        return Met {
-            n,
-            next: terms.len(),
-        };
+        return Met { n, next: None };
     }
-    let next = unmet(rarest, at + 3);
-    Met { n, next }
+    Met {
+        n,
+        next: unmet(terms, rarest, at + 3),
+    }
 }
 
 // The candidates that every term from `at` on has, but for the rarest, which they came from: a part of whichever buffer was
@@ -87,13 +75,11 @@ fn survivors<'a>(
     requires { Candidates positions.now terms.now rarest at cands.old (length spare.old) }
     ensures { Left positions.now terms.now at cands.old result.now }
 {
-    let m = meet(positions, terms, rarest, at, cands, spare);
-    let n = m.n;
-    let next = m.next;
-    if next == terms.len() {
-        return &mut spare[..n];
+    let Met { n, next } = meet(positions, terms, rarest, at, cands, spare);
+    match next {
+        None => &mut spare[..n],
+        Some(next) => survivors(positions, terms, rarest, next, &mut spare[..n], cands),
     }
-    survivors(positions, terms, rarest, next, &mut spare[..n], cands)
 }
 
 // The common part of all the terms' starts: the rarest term's first, then whatever the others leave of them. The first of
@@ -104,19 +90,15 @@ fn common<'a>(positions: &[u32], terms: &[u32], a: &'a mut [i32], b: &'a mut [i3
 {
     let best = rarest(terms);
     let t = term_at(terms, best);
-    let freq = t.freq;
     write_starts(positions, t, a);
-    let at = unmet(best, 0);
-    if at == terms.len() {
-        return &mut a[..freq];
+    let Some(at) = unmet(terms, best, 0) else {
+        return &mut a[..t.freq];
+    };
+    let Met { n, next } = meet(positions, terms, best, at, &a[..t.freq], b);
+    match next {
+        None => &mut b[..n],
+        Some(next) => survivors(positions, terms, best, next, &mut b[..n], &mut a[..t.freq]),
     }
-    let m = meet(positions, terms, best, at, &a[..freq], b);
-    let n = m.n;
-    let next = m.next;
-    if next == terms.len() {
-        return &mut b[..n];
-    }
-    survivors(positions, terms, best, next, &mut b[..n], &mut a[..freq])
 }
 
 pub fn frequency(positions: &[u32], terms: &[u32], a: &mut [i32], b: &mut [i32]) -> u32
@@ -131,14 +113,10 @@ pub fn frequency(positions: &[u32], terms: &[u32], a: &mut [i32], b: &mut [i32])
     left.len() as u32
 }
 
-pub fn place(positions: &[u32], terms: &[u32], a: &mut [i32], b: &mut [i32]) -> Placed
+// A start that all the terms have, if there is one: the least.
+pub fn place(positions: &[u32], terms: &[u32], a: &mut [i32], b: &mut [i32]) -> Option<i32>
     requires { Good positions.now terms.now × (Room terms.now (length a.old) × Room terms.now (length b.old)) }
     ensures { PlacedIn (start_lists positions.now terms.now) result }
 {
-    let left = common(positions, terms, a, b);
-    if left.len() == 0 {
-        Placed::Nothing
-    } else {
-        Placed::At(left[0])
-    }
+    common(positions, terms, a, b).first().copied()
 }

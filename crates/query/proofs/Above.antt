@@ -2,25 +2,30 @@
 use mathlib.Core.Path.{◌≡◌, refl, sym, ◌∙◌, ap, subst}
 use mathlib.Core.Bool.{Bool, true, false, not, cond}
 use mathlib.Core.List.{List}
+use Rattle.std.specs.Prelude.{Option as Answer, Some, None, is_some}
 use mathlib.Core.Option.{Option, some}
+use mathlib.Core.Logic.{◌⊎◌, inl, inr}
 use Prim.Native.Nat.{ℕ, zero, suc, ◌+◌, ◌-◌, ◌%◌, ◌≤◌, ◌<◌}
 use native.Mathlib.Omega.{arith}
 use native.Mathlib.Nat.{not-suc-le-zero}
-use lib.Dec.{T, eqb}
+use lib.Dec.{T}
 use lib.Ieee.{Float, binary32, lt, of_bits, nan_bits}
 use lib.Ieee.Bits.{nan_bits_above}
-use borrow.Author.Tests.{le-ltb, eq-eqb, ne_eqb}
+use borrow.Author.Tests.{le-ltb}
 use Rattle.meaning.specs.Limits.{largest_boost}
 use Rattle.meaning.specs.Ieee754.{zero_float}
 use Rattle.meaning.specs.Score.{boosted, passed}
 use Rattle.meaning.specs.Query.{record_count, record_kind, record_children, record_value, Occur, must, should, must_not, filter, occur_of, Tree, term, phrase, boolean, range, match_all, constant_score, boost, match_none, empty, Decoded, DecodedClauses, decode, decode_clauses, tree_of, clause, Clauses}
 use Rattle.meaning.specs.Bm25.{one}
 use Rattle.meaning.specs.QueryRefusals.{wrong7, above_limit, carries_above, clauses_above, wrong9}
+use Rattle.query.specs.declared.kinds.Kind.{Kind}
+use Rattle.query.specs.declared.kinds.Kind.TheVariants.{Term, Range, MatchAll, MatchNone}
+use Rattle.query.specs.Kinds.{kind_number}
 use Rattle.query.specs.Inner.{end_below_limit, clauses_below_limit}
 use Rattle.meaning.proofs.Tests.{or_left, or_right}
 use Rattle.query.proofs.Inverse.{OneClause, one-clause, record-here, term-at, phrase-at, boolean-at, range_at, all-at, constant-at, boost-at, none-at, kind-is, KindIs, is-term, is-phrase, is-boolean, is-range, is_all, is-constant, is-boost, is_none, some_same}
 use Rattle.query.proofs.Whole.{whole}
-use Rattle.query.proofs.Spans.{tree-span, no-depth, nothing}
+use Rattle.query.proofs.Spans.{no-depth, nothing}
 
 -- ---- what a clause passes on
 -- the code's 0.0
@@ -58,7 +63,7 @@ carries-here (constant_score t) b e = rw e
 carries-here (boost v t) b e = rw e
 carries-here match_none b e = e
 
-pub limit-passed : (o : Option Decoded) (b : Float) → above_limit b ≡ true → 0 ≡ end_below_limit o b
+pub limit-passed : (o : Option Decoded) (b : Float) → above_limit b ≡ true → None ≡ end_below_limit o b
 limit-passed o b e = rw (carries-here (tree_of o) b e)
 
 -- one level at least
@@ -74,26 +79,34 @@ module _ (q : List ℕ) (d r : ℕ) (D : Decoded) (b : Float) (e : decode q d r 
   below : decode q (suc (d - 1)) r ≡ some D
   below = subst (λ (z : ℕ). decode q z r ≡ some D) (level q d r D e) e
 
-  ends_as : (t : Tree) (x : ℕ) (c : Bool) → D.tree ≡ t → D.next ≡ x → carries_above t b ≡ c → cond c 0 x ≡ end_below_limit (decode q d r) b
+  ends_as : (t : Tree) (x : ℕ) (c : Bool) → D.tree ≡ t → D.next ≡ x → carries_above t b ≡ c → cond c None (Some x) ≡ end_below_limit (decode q d r) b
   ends_as t x c p n f = rw (e, p, f, n)
 
-  pub below-phrase : record_kind q r ≡ 2 → r + 1 + record_children q r ≡ end_below_limit (decode q d r) b
+  pub below-phrase : record_kind q r ≡ 2 → Some (r + 1 + record_children q r) ≡ end_below_limit (decode q d r) b
   unfolding carries_above
   below-phrase h = let p = phrase-at q (d - 1) r D below h in ends_as _ _ false p.tree_is p.next-is within
 
-  pub below-leaf : (record_kind q r ≡ 2 → ⊥) → (record_kind q r ≡ 3 → ⊥) → (record_kind q r ≡ 6 → ⊥) → (record_kind q r ≡ 7 → ⊥) → r + 1 ≡ end_below_limit (decode q d r) b
+  -- the four kinds of a leaf
+  pub below-leaf : (kind : Kind) → ◌⊎◌ (kind ≡ Term) (◌⊎◌ (kind ≡ Range) (◌⊎◌ (kind ≡ MatchAll) (kind ≡ MatchNone))) → record_kind q r ≡ kind_number kind → Some (r + 1) ≡ end_below_limit (decode q d r) b
   unfolding carries_above
-  below-leaf n2 n3 n6 n7 = go (kind-is q (d - 1) r D below)
+  below-leaf kind (inl k) h = let p = term-at q (d - 1) r D below (h ∙ ap kind_number k) in ends_as _ _ false p.tree_is p.next-is within
+  below-leaf kind (inr (inl k)) h = let p = range_at q (d - 1) r D below (h ∙ ap kind_number k) in ends_as _ _ false p.tree_is p.next-is within
+  below-leaf kind (inr (inr (inl k))) h = let p = all-at q (d - 1) r D below (h ∙ ap kind_number k) in ends_as _ _ false p.tree_is p.next-is within
+  below-leaf kind (inr (inr (inr k))) h = let p = none-at q (d - 1) r D below (h ∙ ap kind_number k) in ends_as _ _ false p.tree_is p.next-is within
+
+  -- the root of a tree is of a kind, and no PhraseTerm
+  pub kind-known : (1 ≤ record_kind q r) × (record_kind q r ≤ 8)
+  kind-known = go (kind-is q (d - 1) r D below)
     where
-      go : KindIs (record_kind q r) → r + 1 ≡ end_below_limit (decode q d r) b
-      go (is-term h) = let p = term-at q (d - 1) r D below h in ends_as _ _ false p.tree_is p.next-is within
-      go (is-phrase h) = absurd (n2 h)
-      go (is-boolean h) = absurd (n3 h)
-      go (is-range h) = let p = range_at q (d - 1) r D below h in ends_as _ _ false p.tree_is p.next-is within
-      go (is_all h) = let p = all-at q (d - 1) r D below h in ends_as _ _ false p.tree_is p.next-is within
-      go (is-constant h) = absurd (n6 h)
-      go (is-boost h) = absurd (n7 h)
-      go (is_none h) = let p = none-at q (d - 1) r D below h in ends_as _ _ false p.tree_is p.next-is within
+      go : KindIs (record_kind q r) → (1 ≤ record_kind q r) × (record_kind q r ≤ 8)
+      go (is-term h) = (omega (arith, h), omega (arith, h))
+      go (is-phrase h) = (omega (arith, h), omega (arith, h))
+      go (is-boolean h) = (omega (arith, h), omega (arith, h))
+      go (is-range h) = (omega (arith, h), omega (arith, h))
+      go (is_all h) = (omega (arith, h), omega (arith, h))
+      go (is-constant h) = (omega (arith, h), omega (arith, h))
+      go (is-boost h) = (omega (arith, h), omega (arith, h))
+      go (is_none h) = (omega (arith, h), omega (arith, h))
 
   pub below-boolean : record_kind q r ≡ 3 → clauses_below_limit (decode_clauses q (decode q (d - 1)) (record_children q r) (r + 1)) b ≡ end_below_limit (decode q d r) b
   unfolding carries_above
@@ -123,8 +136,8 @@ module _ (q : List ℕ) (d r : ℕ) (D : Decoded) (b : Float) (e : decode q d r 
   below-boost-child h = let p = boost-at q (d - 1) r D below h in (p.child, p.decoded)
 
 -- ---- the clauses of a Boolean, one by one
-abbrev pub left_below : DecodedClauses → Float → ℕ
-left_below C b = cond (clauses_above C.clauses b) 0 C.next
+abbrev pub left_below : DecodedClauses → Float → Answer ℕ
+left_below C b = cond (clauses_above C.clauses b) None (Some C.next)
 
 pub first-clause : (q : List ℕ) (at : ℕ → Option Decoded) (n r : ℕ) (C : DecodedClauses) → 0 < n → decode_clauses q at n r ≡ some C → OneClause q at (n - 1) r C
 first-clause q at zero r C h e = absurd (not-suc-le-zero h)
@@ -133,47 +146,47 @@ first-clause q at (suc n) r C h e = subst (λ (z : ℕ). OneClause q at z r C) l
     less : n ≡ suc n - 1
     less = omega arith
 
-pub none-left-below : (q : List ℕ) (at : ℕ → Option Decoded) (n r : ℕ) (C : DecodedClauses) (b : Float) → n ≤ 0 → decode_clauses q at n r ≡ some C → r ≡ left_below C b
+pub none-left-below : (q : List ℕ) (at : ℕ → Option Decoded) (n r : ℕ) (C : DecodedClauses) (b : Float) → n ≤ 0 → decode_clauses q at n r ≡ some C → Some r ≡ left_below C b
 unfolding decode_clauses clauses_above
 none-left-below q at zero r C b h e = ap (λ (D : DecodedClauses). left_below D b) (some_same (record { clauses = empty; next = r }) C e)
 none-left-below q at (suc n) r C b h e = absurd (not-suc-le-zero h)
 
-module _ (q : List ℕ) (d n r x : ℕ) (C : DecodedClauses) (b c : Float) (this : OneClause q (decode q d) n r C) (c-is : c ≡ passed this.occur b) (x-is : x ≡ end_below_limit (decode q d r) c) where
-  at_first : x ≡ cond (carries_above this.first.tree (passed this.occur b)) 0 this.first.next
+module _ (q : List ℕ) (d n r : ℕ) (x : Answer ℕ) (C : DecodedClauses) (b c : Float) (this : OneClause q (decode q d) n r C) (c-is : c ≡ passed this.occur b) (x-is : x ≡ end_below_limit (decode q d r) c) where
+  at_first : x ≡ cond (carries_above this.first.tree (passed this.occur b)) None (Some this.first.next)
   at_first = rw (this.first-is, c-is) at x-is
 
-  -- the code's result is 0 exactly where the limit is passed
-  pub clause-above : x ≡ 0 → 0 ≡ left_below C b
+  -- the code's result is none exactly where the limit is passed
+  pub clause-above : x ≡ None → None ≡ left_below C b
   unfolding clauses_above
-  clause-above z = go (carries_above this.first.tree (passed this.occur b)) refl (sym at_first ∙ z)
+  clause-above z = go (carries_above this.first.tree (passed this.occur b)) refl (sym z ∙ at_first)
     where
-      go : (a : Bool) → carries_above this.first.tree (passed this.occur b) ≡ a → cond a 0 this.first.next ≡ 0 → 0 ≡ left_below C b
+      go : (a : Bool) → carries_above this.first.tree (passed this.occur b) ≡ a → None ≡ cond a None (Some this.first.next) → None ≡ left_below C b
       go true f w = rw (this.clauses-are, f)
-      go false f w = let s = (tree-span q d r this.first this.first-is).past in absurd (omega (arith, s, w))
+      go false f w = cc
 
-  pub clause-on : (x ≡ 0 → ⊥) → (x ≡ this.first.next) × (left_below this.rest b ≡ left_below C b)
+  pub clause-on : (next : ℕ) → x ≡ Some next → (next ≡ this.first.next) × (left_below this.rest b ≡ left_below C b)
   unfolding clauses_above
-  clause-on n = go (carries_above this.first.tree (passed this.occur b)) refl at_first
+  clause-on next z = go (carries_above this.first.tree (passed this.occur b)) refl (sym z ∙ at_first)
     where
-      go : (a : Bool) → carries_above this.first.tree (passed this.occur b) ≡ a → x ≡ cond a 0 this.first.next → (x ≡ this.first.next) × (left_below this.rest b ≡ left_below C b)
-      go true f w = absurd (n w)
-      go false f w = (w, rw (this.clauses-are, f, this.next-is))
+      go : (a : Bool) → carries_above this.first.tree (passed this.occur b) ≡ a → Some next ≡ cond a None (Some this.first.next) → (next ≡ this.first.next) × (left_below this.rest b ≡ left_below C b)
+      go true f w = cc
+      go false f w = (cc, rw (this.clauses-are, f, this.next-is))
 
 -- ---- the code's test, and the whole query
 pub limit : (b : Float) (a : Bool) → lt (of_bits binary32 largest_boost) b ≡ a → above_limit b ≡ a
 unfolding above_limit
 limit b a e = e
 
-pub query-above : (q : List ℕ) (e : wrong7 q ≡ false) (x : ℕ) → x ≡ end_below_limit (decode q 16 0) one → eqb x 0 ≡ wrong9 q
+pub query-above : (q : List ℕ) (e : wrong7 q ≡ false) (x : Answer ℕ) → x ≡ end_below_limit (decode q 16 0) one → not (is_some x) ≡ wrong9 q
 unfolding wrong9
 query-above q e x f =
     let w = whole q e in
-    let g : x ≡ cond (carries_above w.root.tree one) 0 w.root.next = rw w.root_is at f in
-    rw w.tree_is (go (carries_above w.root.tree one) g w.none_left w.some-records)
+    let g : x ≡ cond (carries_above w.root.tree one) None (Some w.root.next) = rw w.root_is at f in
+    rw w.tree_is (go (carries_above w.root.tree one) g)
   where
-    go : (a : Bool) {n c : ℕ} → x ≡ cond a 0 n → n ≡ c → 0 < c → eqb x 0 ≡ a
-    go true g n s = eq-eqb x 0 g
-    go false g n s = ne_eqb x 0 (λ z. absurd (omega (arith, g, n, s, z)))
+    go : (a : Bool) → x ≡ cond a None (Some (whole q e).root.next) → not (is_some x) ≡ a
+    go true g = rw g
+    go false g = rw g
 
 -- ---- what refusal 9 lets through, from a node to those below it
 pub within-here : (t : Tree) (b : Float) → carries_above t b ≡ false → above_limit b ≡ false

@@ -2,14 +2,20 @@
 use mathlib.Core.Path.{◌≡◌, refl, sym, ◌∙◌, ap}
 use mathlib.Core.Bool.{Bool, true, false, not, cond, ◌&&◌}
 use mathlib.Core.List.{List}
+use Rattle.std.specs.Prelude.{Option as Answer, Some, None}
 use mathlib.Core.Option.{Option, none, some}
 use Prim.Native.Nat.{ℕ, zero, suc, ◌+◌, ◌-◌, ◌≤◌, ◌<◌}
 use native.Mathlib.Omega.{arith}
-use lib.Dec.{eqb, leb, ltb}
-use borrow.Author.Tests.{lt-ltb, le-ltb, eq-eqb, ne_eqb, le-leb, lt-leb, eqb-true, eqb-false}
-use Rattle.meaning.specs.Query.{Kind, a_term, a_phrase, a_boolean, a_range, a_match_all, a_constant_score, a_boost, a_match_none, a_phrase_term, kind_of, children_fit, record_count, record_kind, record_occurrence, record_children, Decoded, DecodedClauses, decode, decode_kind, decode_clauses, decode_child, decode_phrase, is_phrase_term, guard, ◌>>=◌}
+use lib.Dec.{eqb, ltb}
+use borrow.Author.Tests.{lt-ltb, le-ltb, eq-eqb, ne_eqb, le-leb, lt-leb}
+use Rattle.std.specs.Bool.{then_some}
+use mathlib.Core.Logic.{◌⊎◌, inl, inr}
+use Rattle.meaning.specs.Below.{any_below}
+use Rattle.meaning.specs.Query.{phrase, phrase_terms_of, record_value, Kind, a_term, a_phrase, a_boolean, a_range, a_match_all, a_constant_score, a_boost, a_match_none, a_phrase_term, kind_of, children_fit, record_count, record_kind, record_occurrence, record_children, Decoded, DecodedClauses, decode, decode_kind, decode_clauses, decode_child, decode_phrase, is_phrase_term, guard, ◌>>=◌}
+use Rattle.query.specs.declared.kinds.Kind.{Kind as CodeKind}
+use Rattle.query.specs.declared.kinds.Kind.TheVariants.{Term, Phrase, Boolean, Range, MatchAll, ConstantScore, Boost, MatchNone, PhraseTerm}
+use Rattle.query.specs.Kinds.{kind_number}
 use Rattle.query.specs.Inner.{end_of, end_of_clauses, fitting}
-use Rattle.meaning.proofs.Below.{any_none, any_some}
 
 pub bind-none : {A B : Type 0} (o : Option A) (f : A → Option B) → ((a : A) → f a ≡ none) → (o >>= f) ≡ none
 bind-none none f h = refl
@@ -44,34 +50,28 @@ module _ (q : List ℕ) (r : ℕ) where
       (λ ok. rw e (bind-none (guard (eqb (record_children q r) 0)) _ (λ ok. refl)))
 
   -- ---- a phrase
-  pub phrase-shallow : (d : ℕ) → d ≡ 0 → 0 ≡ end_of (decode_phrase q d r)
+  pub phrase-shallow : (d : ℕ) → d ≡ 0 → None ≡ end_of (decode_phrase q d r)
   unfolding decode_phrase
   phrase-shallow d e = rw e
 
-  pub phrase-missing : (d : ℕ) → record_count q < r + 1 + record_children q r → 0 ≡ end_of (decode_phrase q d r)
+  pub phrase-missing : (d : ℕ) → record_count q < r + 1 + record_children q r → None ≡ end_of (decode_phrase q d r)
   unfolding decode_phrase
   phrase-missing d h =
       rw (lt-leb (r + 1 + record_children q r) (record_count q) h) (unguarded (ltb 0 d) _)
     where
-      unguarded : (b : Bool) (f : Bool → Option Decoded) → 0 ≡ end_of (guard (b && false) >>= f)
+      unguarded : (b : Bool) (f : Bool → Option Decoded) → None ≡ end_of (guard (b && false) >>= f)
       unguarded true f = refl
       unguarded false f = refl
 
-  pub phrase-wrong : (d j : ℕ) → j < record_children q r → is_phrase_term q (r + 1 + j) ≡ false → 0 ≡ end_of (decode_phrase q d r)
+  -- where there are records enough and a level is left, the terms decide
+  pub phrase-terms : (d : ℕ) → 0 < d → r + 1 + record_children q r ≤ record_count q → (right : Bool) → right ≡ not (any_below (record_children q r) (λ j. not (is_phrase_term q (r + 1 + j)))) → then_some right (r + 1 + record_children q r) ≡ end_of (decode_phrase q d r)
   unfolding decode_phrase
-  phrase-wrong d j h e =
-      let some-wrong = any_some (record_children q r) (λ j. not (is_phrase_term q (r + 1 + j))) j h (ap not e) in
-      rw some-wrong (go (ltb 0 d && leb (r + 1 + record_children q r) (record_count q)))
+  phrase-terms d h g right e =
+      rw (lt-ltb 0 d h, le-leb (r + 1 + record_children q r) (record_count q) g) (go (any_below (record_children q r) (λ j. not (is_phrase_term q (r + 1 + j)))) e)
     where
-      go : (b : Bool) → 0 ≡ end_of (guard b >>= λ ok. none)
-      go true = refl
-      go false = refl
-
-  pub phrase-right : (d : ℕ) → 0 < d → r + 1 + record_children q r ≤ record_count q → ((j : ℕ) → j < record_children q r → is_phrase_term q (r + 1 + j) ≡ true) → r + 1 + record_children q r ≡ end_of (decode_phrase q d r)
-  unfolding decode_phrase
-  phrase-right d h g e =
-      let none-wrong = any_none (record_children q r) (λ j. not (is_phrase_term q (r + 1 + j))) (λ j k. ap not (e j k)) in
-      rw (lt-ltb 0 d h, le-leb (r + 1 + record_children q r) (record_count q) g, none-wrong)
+      go : (b : Bool) → right ≡ not b → then_some right (r + 1 + record_children q r) ≡ end_of (guard (not b) >>= λ ok. some (record { tree = phrase (record_value q r 0) (phrase_terms_of q r); next = r + 1 + record_children q r }))
+      go true z = rw z
+      go false z = rw z
 
 -- where the depth left is not 0, it is one more than what is left below
 pub one_less : (d : ℕ) → (d ≡ 0 → ⊥) → d ≡ suc (d - 1)
@@ -80,21 +80,21 @@ one_less (suc d) h = omega arith
 
 -- ---- the children's number, as the code looks at it
 module _ (kind : Kind) (q : List ℕ) (r : ℕ) where
-  pub fit-no : (x : ℕ) → children_fit kind (record_children q r) ≡ false → 0 ≡ fitting kind q r x
+  pub fit-no : (x : Answer ℕ) → children_fit kind (record_children q r) ≡ false → None ≡ fitting kind q r x
   fit-no x e = rw e
 
-  pub fit-zero : (x : ℕ) → 0 ≡ x → 0 ≡ fitting kind q r x
-  fit-zero x e = go (children_fit kind (record_children q r))
+  pub fit-none : (x : Answer ℕ) → None ≡ x → None ≡ fitting kind q r x
+  fit-none x e = go (children_fit kind (record_children q r))
     where
-      go : (b : Bool) → 0 ≡ cond b x 0
+      go : (b : Bool) → None ≡ cond b x None
       go true = e
       go false = refl
 
-  pub fit-yes : (x y : ℕ) → children_fit kind (record_children q r) ≡ true → y ≡ x → y ≡ fitting kind q r x
+  pub fit-yes : (x y : Answer ℕ) → children_fit kind (record_children q r) ≡ true → y ≡ x → y ≡ fitting kind q r x
   fit-yes x y e f = rw e f
 
-pub terms-fit : (n : ℕ) → (n ≡ 0 → ⊥) → n ≤ 32 → children_fit a_phrase n ≡ true
-terms-fit n h g = rw (le-leb 1 n (omega (arith, one_less n h)), le-leb n 32 g)
+pub terms-fit : (n : ℕ) → 0 < n → n ≤ 32 → children_fit a_phrase n ≡ true
+terms-fit n h g = rw (le-leb 1 n h, le-leb n 32 g)
 
 pub no-terms : (n : ℕ) → n ≡ 0 → children_fit a_phrase n ≡ false
 no-terms n e = rw e
@@ -106,34 +106,37 @@ many-terms n h = rw (le-leb 1 n (omega arith), lt-leb n 32 h)
 -- what a bind ends in
 end-boolean : (o : Option DecodedClauses) (f : DecodedClauses → Decoded) → ((cs : DecodedClauses) → (f cs).next ≡ cs.next) → end_of (o >>= λ cs. some (f cs)) ≡ end_of_clauses o
 end-boolean none f e = refl
-end-boolean (some cs) f e = e cs
+end-boolean (some cs) f e = ap Some (e cs)
 
 end-child : (o : Option Decoded) (f : Decoded → Decoded) → ((t : Decoded) → (f t).next ≡ t.next) → end_of (o >>= λ t. some (f t)) ≡ end_of o
 end-child none f e = refl
-end-child (some t) f e = e t
+end-child (some t) f e = ap Some (e t)
 
 module _ (q : List ℕ) (r d : ℕ) where
-  pub end-root : d ≡ 0 → 0 ≡ end_of (decode q d r)
+  pub end-root : d ≡ 0 → None ≡ end_of (decode q d r)
   unfolding decode
   end-root e = rw e
 
-  pub end-missing : record_count q ≤ r → 0 ≡ end_of (decode q d r)
+  pub end-missing : record_count q ≤ r → None ≡ end_of (decode q d r)
   end-missing h = rw (decode-missing q r d h)
 
-  pub end-unknown : kind_of (record_kind q r) ≡ none → 0 ≡ end_of (decode q d r)
+  pub end-unknown : kind_of (record_kind q r) ≡ none → None ≡ end_of (decode q d r)
   end-unknown e = rw (decode-unknown q r d e)
 
+  pub end-astray : kind_of (record_kind q r) ≡ some a_phrase_term → None ≡ end_of (decode q d r)
+  end-astray e = rw (decode-astray q r d e)
+
   module _ (deep : d ≡ 0 → ⊥) (here : r < record_count q) where
-    pub end-kind : (kind : Kind) → kind_of (record_kind q r) ≡ some kind → (x : ℕ) → end_of (decode_kind q (decode q (d - 1)) (d - 1) r kind) ≡ x → fitting kind q r x ≡ end_of (decode q d r)
+    pub end-kind : (kind : Kind) → kind_of (record_kind q r) ≡ some kind → (x : Answer ℕ) → end_of (decode_kind q (decode q (d - 1)) (d - 1) r kind) ≡ x → fitting kind q r x ≡ end_of (decode q d r)
     end-kind kind e x f = go (children_fit kind (record_children q r)) refl
       where
-        go : (b : Bool) → children_fit kind (record_children q r) ≡ b → cond b x 0 ≡ end_of (decode q d r)
+        go : (b : Bool) → children_fit kind (record_children q r) ≡ b → cond b x None ≡ end_of (decode q d r)
         go true g = sym (ap (λ (z : ℕ). end_of (decode q z r)) (one_less d deep) ∙ ap end_of (decode-kind q r (d - 1) kind here e g) ∙ f)
         go false g = rw (decode-unfit q r d kind e g)
 
-    pub end-term : record_kind q r ≡ 1 → fitting a_term q r (r + 1) ≡ end_of (decode q d r)
+    pub end-term : record_kind q r ≡ 1 → fitting a_term q r (Some (r + 1)) ≡ end_of (decode q d r)
     unfolding decode_kind
-    end-term e = end-kind a_term (ap kind_of e) (r + 1) refl
+    end-term e = end-kind a_term (ap kind_of e) (Some (r + 1)) refl
 
     pub end-phrase : record_kind q r ≡ 2 → fitting a_phrase q r (end_of (decode_phrase q (d - 1) r)) ≡ end_of (decode q d r)
     unfolding decode_kind
@@ -145,13 +148,13 @@ module _ (q : List ℕ) (r d : ℕ) where
         end-kind a_boolean (ap kind_of e) (end_of_clauses (decode_clauses q (decode q (d - 1)) (record_children q r) (r + 1)))
         (end-boolean (decode_clauses q (decode q (d - 1)) (record_children q r) (r + 1)) _ (λ cs. refl))
 
-    pub end-range : record_kind q r ≡ 4 → fitting a_term q r (r + 1) ≡ end_of (decode q d r)
+    pub end-range : record_kind q r ≡ 4 → fitting a_term q r (Some (r + 1)) ≡ end_of (decode q d r)
     unfolding decode_kind
-    end-range e = end-kind a_range (ap kind_of e) (r + 1) refl
+    end-range e = end-kind a_range (ap kind_of e) (Some (r + 1)) refl
 
-    pub end-all : record_kind q r ≡ 5 → fitting a_term q r (r + 1) ≡ end_of (decode q d r)
+    pub end-all : record_kind q r ≡ 5 → fitting a_term q r (Some (r + 1)) ≡ end_of (decode q d r)
     unfolding decode_kind
-    end-all e = end-kind a_match_all (ap kind_of e) (r + 1) refl
+    end-all e = end-kind a_match_all (ap kind_of e) (Some (r + 1)) refl
 
     pub end-constant : record_kind q r ≡ 6 → fitting a_boost q r (end_of (decode_child q (decode q (d - 1)) r)) ≡ end_of (decode q d r)
     unfolding decode_kind
@@ -165,18 +168,18 @@ module _ (q : List ℕ) (r d : ℕ) where
         end-kind a_boost (ap kind_of e) (end_of (decode_child q (decode q (d - 1)) r))
         (end-child (decode_child q (decode q (d - 1)) r) _ (λ t. refl))
 
-    pub end_none : record_kind q r ≡ 8 → fitting a_term q r (r + 1) ≡ end_of (decode q d r)
+    pub end_none : record_kind q r ≡ 8 → fitting a_term q r (Some (r + 1)) ≡ end_of (decode q d r)
     unfolding decode_kind
-    end_none e = end-kind a_match_none (ap kind_of e) (r + 1) refl
+    end_none e = end-kind a_match_none (ap kind_of e) (Some (r + 1)) refl
 
 -- ---- an only child
 module _ (q : List ℕ) (d r : ℕ) where
-  pub child-missing : record_count q ≤ r + 1 → 0 ≡ end_of (decode_child q (decode q d) r)
+  pub child-missing : record_count q ≤ r + 1 → None ≡ end_of (decode_child q (decode q d) r)
   unfolding decode_child
   child-missing h =
       rw (bind-none (guard (eqb (record_occurrence q (r + 1)) 0)) (λ ok. decode q d (r + 1)) (λ ok. decode-missing q (r + 1) d h))
 
-  pub child-placed : (record_occurrence q (r + 1) ≡ 0 → ⊥) → 0 ≡ end_of (decode_child q (decode q d) r)
+  pub child-placed : (record_occurrence q (r + 1) ≡ 0 → ⊥) → None ≡ end_of (decode_child q (decode q d) r)
   unfolding decode_child
   child-placed h = rw (ne_eqb (record_occurrence q (r + 1)) 0 h)
 
@@ -184,23 +187,39 @@ module _ (q : List ℕ) (d r : ℕ) where
   unfolding decode_child
   child-there h = rw (eq-eqb (record_occurrence q (r + 1)) 0 h)
 
--- a number that is no kind's, or PhraseTerm's, which stands nowhere but below a phrase
-pub no_kind : (n : ℕ) → (n ≡ 1 → ⊥) → (n ≡ 2 → ⊥) → (n ≡ 3 → ⊥) → (n ≡ 4 → ⊥) → (n ≡ 5 → ⊥) → (n ≡ 6 → ⊥) → (n ≡ 7 → ⊥) → (n ≡ 8 → ⊥) → (n ≡ 9 → ⊥) → kind_of n ≡ none
-no_kind zero a b c d e f g h i = refl
-no_kind (suc zero) a b c d e f g h i = absurd (a refl)
-no_kind (suc (suc zero)) a b c d e f g h i = absurd (b refl)
-no_kind (suc (suc (suc zero))) a b c d e f g h i = absurd (c refl)
-no_kind (suc (suc (suc (suc zero)))) a b c d e f g h i = absurd (d refl)
-no_kind (suc (suc (suc (suc (suc zero))))) a b c d e f g h i = absurd (e refl)
-no_kind (suc (suc (suc (suc (suc (suc zero)))))) a b c d e f g h i = absurd (f refl)
-no_kind (suc (suc (suc (suc (suc (suc (suc zero))))))) a b c d e f g h i = absurd (g refl)
-no_kind (suc (suc (suc (suc (suc (suc (suc (suc zero)))))))) a b c d e f g h i = absurd (h refl)
-no_kind (suc (suc (suc (suc (suc (suc (suc (suc (suc zero))))))))) a b c d e f g h i = absurd (i refl)
-no_kind (suc (suc (suc (suc (suc (suc (suc (suc (suc (suc n)))))))))) a b c d e f g h i = refl
+-- ---- a tree, by its record's kind as the code names it
+abbrev pub end_at : List ℕ → ℕ → ℕ → CodeKind → Answer ℕ
+end_at q r below Term = fitting a_term q r (Some (r + 1))
+end_at q r below Phrase = fitting a_phrase q r (end_of (decode_phrase q below r))
+end_at q r below Boolean = fitting a_boolean q r (end_of_clauses (decode_clauses q (decode q below) (record_children q r) (r + 1)))
+end_at q r below Range = fitting a_term q r (Some (r + 1))
+end_at q r below MatchAll = fitting a_term q r (Some (r + 1))
+end_at q r below ConstantScore = fitting a_boost q r (end_of (decode_child q (decode q below) r))
+end_at q r below Boost = fitting a_boost q r (end_of (decode_child q (decode q below) r))
+end_at q r below MatchNone = fitting a_term q r (Some (r + 1))
+end_at q r below PhraseTerm = None
 
-pub end-other : (q : List ℕ) (r d : ℕ) → (record_kind q r ≡ 1 → ⊥) → (record_kind q r ≡ 2 → ⊥) → (record_kind q r ≡ 3 → ⊥) → (record_kind q r ≡ 4 → ⊥) → (record_kind q r ≡ 5 → ⊥) → (record_kind q r ≡ 6 → ⊥) → (record_kind q r ≡ 7 → ⊥) → (record_kind q r ≡ 8 → ⊥) → 0 ≡ end_of (decode q d r)
-end-other q r d n1 n2 n3 n4 n5 n6 n7 n8 = go (eqb (record_kind q r) 9) refl
-  where
-    go : (b : Bool) → eqb (record_kind q r) 9 ≡ b → 0 ≡ end_of (decode q d r)
-    go true e = rw (decode-astray q r d (ap kind_of (eqb-true (record_kind q r) 9 e)))
-    go false e = end-unknown q r d (no_kind (record_kind q r) n1 n2 n3 n4 n5 n6 n7 n8 (eqb-false (record_kind q r) 9 e))
+module _ (q : List ℕ) (r d : ℕ) (deep : 1 ≤ d) (here : r < record_count q) where
+  some-level : d ≡ 0 → ⊥
+  some-level e = omega (arith, deep, e)
+
+  end-at : (kind : CodeKind) → record_kind q r ≡ kind_number kind → end_at q r (d - 1) kind ≡ end_of (decode q d r)
+  end-at Term e = end-term q r d some-level here e
+  end-at Phrase e = end-phrase q r d some-level here e
+  end-at Boolean e = end-clauses q r d some-level here e
+  end-at Range e = end-range q r d some-level here e
+  end-at MatchAll e = end-all q r d some-level here e
+  end-at ConstantScore e = end-constant q r d some-level here e
+  end-at Boost e = end-boost q r d some-level here e
+  end-at MatchNone e = end_none q r d some-level here e
+  end-at PhraseTerm e = end-astray q r d (ap kind_of e)
+
+  pub end-by-kind : (kind : CodeKind) (below : ℕ) → below ≡ d - 1 → record_kind q r ≡ kind_number kind → (x : Answer ℕ) → x ≡ end_at q r below kind → x ≡ end_of (decode q d r)
+  end-by-kind kind below b e x f = rw (f, b) (end-at kind e)
+
+  -- the four kinds of a leaf
+  pub end-of-leaf : (kind : CodeKind) → ◌⊎◌ (kind ≡ Term) (◌⊎◌ (kind ≡ Range) (◌⊎◌ (kind ≡ MatchAll) (kind ≡ MatchNone))) → record_kind q r ≡ kind_number kind → fitting a_term q r (Some (r + 1)) ≡ end_of (decode q d r)
+  end-of-leaf kind (inl k) e = end-at Term (e ∙ ap kind_number k)
+  end-of-leaf kind (inr (inl k)) e = end-at Range (e ∙ ap kind_number k)
+  end-of-leaf kind (inr (inr (inl k))) e = end-at MatchAll (e ∙ ap kind_number k)
+  end-of-leaf kind (inr (inr (inr k))) e = end-at MatchNone (e ∙ ap kind_number k)

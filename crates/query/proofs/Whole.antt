@@ -1,49 +1,39 @@
 -- Refusal 7: how the code comes to it, and what is known of a query that it lets through. Assumes nothing.
-use mathlib.Core.Path.{◌≡◌, refl, sym, ap}
-use mathlib.Core.Bool.{true, false, not, ◌||◌, ◌&&◌}
+use mathlib.Core.Path.{◌≡◌, refl, ap}
+use mathlib.Core.Bool.{Bool, true, false, not, ◌||◌, ◌&&◌}
 use mathlib.Core.List.{List}
+use Rattle.std.specs.Prelude.{Option as Answer, Some}
+use Rattle.std.specs.Option.{option_eq}
 use mathlib.Core.Option.{Option, none, some}
 use Prim.Native.Nat.{ℕ, zero, suc, ◌+◌, ◌%◌, ◌≤◌, ◌<◌}
 use native.Mathlib.Omega.{arith}
 use lib.Dec.{eqb, ltb}
 use lib.ListN.{length}
-use borrow.Author.Tests.{lt-ltb, le-ltb, eq-eqb, ne_eqb, ltb-false, eqb-true, eqb-false, not-false}
-use Rattle.meaning.specs.Query.{record_count, record_kind, record_children, record_occurrence, Decoded, decode, decode_query, query_tree, tree_of, guard}
+use borrow.Author.Tests.{ltb-false, eqb-true, eqb-false, not-false}
+use Rattle.meaning.specs.Query.{record_count, record_kind, record_children, record_occurrence, Decoded, decode, decode_query, query_tree, tree_of, guard, ◌>>=◌}
 use Rattle.meaning.specs.QueryRefusals.{wrong7, wrong_records}
 use Rattle.query.specs.Inner.{end_of}
-use Rattle.meaning.proofs.Tests.{true-left, true-right, or_left, or_right}
+use Rattle.meaning.proofs.Tests.{or_left, or_right}
 use Rattle.query.proofs.Inverse.{bind-some, guard-some, both_true, phrase-at}
 use Rattle.query.proofs.Spans.{Stands, a-tree, a-phrase-term, tree-stands}
 
+-- 7 as the code asks it
+pub wrong7_parts : (q : List ℕ) → wrong7 q ≡ (not (eqb (length q % 9) 0) || eqb (record_count q) 0 || ltb 256 (record_count q) || not (eqb (record_occurrence q 0) 0) || not (option_eq eqb (end_of (decode q 16 0)) (Some (record_count q))))
+unfolding wrong7 decode_query wrong_records
+wrong7_parts q =
+    go (not (eqb (length q % 9) 0) || eqb (record_count q) 0 || ltb 256 (record_count q)) (eqb (record_occurrence q 0) 0) (decode q 16 0)
+  where
+    go : (a b : Bool) (o : Option Decoded) → (a || wrong_records q (guard b >>= λ ok. o)) ≡ (a || not b || not (option_eq eqb (end_of o) (Some (record_count q))))
+    go true b o = refl
+    go false false o = refl
+    go false true none = refl
+    go false true (some D) = refl
+
+-- "records left over", where all else is right
+pub left_over : (q : List ℕ) (count : ℕ) (end : Answer ℕ) (r : Bool) → (not (eqb (length q % 9) 0) || eqb (record_count q) 0 || ltb 256 (record_count q) || not (eqb (record_occurrence q 0) 0)) ≡ false → count ≡ record_count q → end ≡ end_of (decode q 16 0) → r ≡ not (option_eq eqb end (Some count)) → r ≡ wrong7 q
+left_over q count end r e c d f = rw (wrong7_parts q, e, ← c, ← d) f
+
 module _ (q : List ℕ) where
-  pub not-whole : (length q % 9 ≡ 0 → ⊥) → true ≡ wrong7 q
-  unfolding wrong7
-  not-whole h = rw (ne_eqb (length q % 9) 0 h)
-
-  pub no-records : record_count q ≡ 0 → true ≡ wrong7 q
-  unfolding wrong7
-  no-records e = sym (true-left _ _ (true-left _ _ (true-right (not (eqb (length q % 9) 0)) (eqb (record_count q) 0) (eq-eqb (record_count q) 0 e))))
-
-  pub many-records : 256 < record_count q → true ≡ wrong7 q
-  unfolding wrong7
-  many-records h = sym (true-left _ _ (true-right (not (eqb (length q % 9) 0) || eqb (record_count q) 0) (ltb 256 (record_count q)) (lt-ltb 256 (record_count q) h)))
-
-  pub root-placed : (record_occurrence q 0 ≡ 0 → ⊥) → true ≡ wrong7 q
-  unfolding wrong7 decode_query wrong_records
-  root-placed h = sym (true-right (not (eqb (length q % 9) 0) || eqb (record_count q) 0 || ltb 256 (record_count q)) _ (rw (ne_eqb (record_occurrence q 0) 0 h)))
-
-  ends-wrong : (o : Option Decoded) → (record_count q ≡ 0 → ⊥) → not (eqb (end_of o) (record_count q)) ≡ wrong_records q o
-  unfolding wrong_records
-  ends-wrong none h = rw (ne_eqb 0 (record_count q) (λ e. h (sym e)))
-  ends-wrong (some D) h = refl
-
-  -- "records left over", where all else is right
-  pub left_over : length q % 9 ≡ 0 → (record_count q ≡ 0 → ⊥) → record_count q ≤ 256 → record_occurrence q 0 ≡ 0 → not (eqb (end_of (decode q 16 0)) (record_count q)) ≡ wrong7 q
-  unfolding wrong7 decode_query
-  left_over w n m o =
-      rw (eq-eqb (length q % 9) 0 w, ne_eqb (record_count q) 0 n, le-ltb 256 (record_count q) m, eq-eqb (record_occurrence q 0) 0 o)
-      (ends-wrong (decode q 16 0) n)
-
   -- ---- what 7 lets through
   pub record Whole : Type 0 where
     pub whole : length q % 9 ≡ 0

@@ -14,51 +14,77 @@ pub fn document(words: &[u32], stride: usize, first: usize, i: usize) -> u32
     words[stride * (first + i)]
 }
 
-// By halves, between two places.
-fn halve(words: &[u32], stride: usize, first: usize, from: usize, to: usize, target: u32) -> usize
-    requires { (count : ℕ) × Between words.now stride first count from to target }
-    ensures { (count : ℕ) → Between words.now stride first count from to target → Lower words.now stride first count from target result }
-{
-    let mut low = from;
-    let mut high = to;
-    while low < high {
-        let mid = low + (high - low) / 2;
-        if document(words, stride, first, mid) < target {
-            low = mid + 1;
-        } else {
-            high = mid;
-        }
-    }
-    low
+// A run in its words: its documents ascend.
+#[derive(Clone, Copy)]
+pub struct Postings<'a> {
+    pub words: &'a [u32],
+    pub stride: usize,
+    pub first: usize,
+    pub count: usize,
+    pub ghost run: { Run words.now stride first count },
 }
 
-// By steps that double, then by halves within the last one.
-fn gallop(
-    words: &[u32],
-    stride: usize,
-    first: usize,
-    count: usize,
-    from: usize,
-    target: u32,
-) -> usize
-    requires { Run words.now stride first count × (from ≤ count) }
-    ensures { Lower words.now stride first count from target result }
-{
-    let mut low = from;
-    let mut step = NEAR;
-    while step < count - low {
-        let high = low + step;
-        if document(words, stride, first, high) < target {
-            low = high + 1;
-            step = step * 2;
-        } else {
-            return halve(words, stride, first, low, high, target);
-        }
+impl Postings<'_> {
+    pub fn document(self, i: usize) -> u32
+        requires { i < self.count }
+        ensures { result ≡ document_at self.entry.words.now self.entry.stride self.entry.first i }
+    {
+        document(self.words, self.stride, self.first, i)
     }
-    halve(words, stride, first, low, count, target)
+
+    // By halves, between two places.
+    fn halve(self, from: usize, to: usize, target: u32) -> usize
+        requires { Between self.words.now self.stride self.first self.count from to target }
+        ensures { Lower self.entry.words.now self.entry.stride self.entry.first self.entry.count from target result }
+    {
+        let mut low = from;
+        let mut high = to;
+        while low < high {
+            let mid = low + (high - low) / 2;
+            if self.document(mid) < target {
+                low = mid + 1;
+            } else {
+                high = mid;
+            }
+        }
+        low
+    }
+
+    // By steps that double, then by halves within the last one.
+    fn gallop(self, from: usize, target: u32) -> usize
+        requires { from ≤ self.count }
+        ensures { Lower self.entry.words.now self.entry.stride self.entry.first self.entry.count from target result }
+    {
+        let mut low = from;
+        let mut step = NEAR;
+        while step < self.count - low {
+            let high = low + step;
+            if self.document(high) < target {
+                low = high + 1;
+                step = step * 2;
+            } else {
+                return self.halve(low, high, target);
+            }
+        }
+        self.halve(low, self.count, target)
+    }
+
+    // The first place from the cursor on whose document is at least the target: mostly it is near.
+    pub fn lower(self, from: usize, target: u32) -> usize
+        requires { from ≤ self.count }
+        ensures { Lower self.entry.words.now self.entry.stride self.entry.first self.entry.count from target result }
+    {
+        let near = self.count.min(from + NEAR);
+        for at in from..near {
+            if target <= self.document(at) {
+                return at;
+            }
+        }
+        self.gallop(near, target)
+    }
 }
 
-// The first place from the cursor on whose document is at least the target: mostly it is near.
+// The same for a caller that has the run's words and numbers.
 pub fn lower(
     words: &[u32],
     stride: usize,
@@ -70,16 +96,11 @@ pub fn lower(
     requires { Run words.now stride first count × (from ≤ count) }
     ensures { Lower words.now stride first count from target result }
 {
-    let mut at = from;
-    while at < count {
-        if document(words, stride, first, at) < target {
-            at += 1;
-        } else {
-            return at;
-        }
-        if at - from == NEAR {
-            return gallop(words, stride, first, count, at, target);
-        }
-    }
-    at
+    let postings = Postings {
+        words,
+        stride,
+        first,
+        count,
+    };
+    postings.lower(from, target)
 }

@@ -4,36 +4,26 @@
 // stand; then the lists' words.
 #![tactic(auto)]
 
+use refusal::Refusal;
 use std::io;
 use std::io::Write;
-use token_writer::Written;
+use tokens::{Numbers, TokenRecords};
 use vectors::file::{list_at, size, word};
 
 // So many elements of each output there is room for.
 const ROOM: usize = 1024;
 
 // A refusal's number, or 0 with the numbers of postings and positions.
-fn print_written(out: &mut impl Write, written: Written) -> io::Result<()> {
+fn print_written(out: &mut impl Write, written: Result<Numbers, Refusal>) -> io::Result<()> {
     match written {
-        Written::Refused(number) => vectors::print_number(out, number)?,
-        Written::Done(numbers) => {
-            vectors::print_number(out, 0)?;
-            write!(out, "{} {}", numbers.postings, numbers.positions)?;
-        }
+        Ok(numbers) => writeln!(out, "0 {} {}", numbers.postings, numbers.positions),
+        Err(refusal) => writeln!(out, "{refusal} "),
     }
-    vectors::end_line(out)
-}
-
-// A byte's number as a word, with no proof at the caller.
-fn word_of(byte: u8) -> u32 {
-    byte as u32
 }
 
 fn print_bytes(out: &mut impl Write, list: &[u8]) -> io::Result<()> {
-    let mut i = 0;
-    while i < list.len() {
-        vectors::print_number(out, word_of(list[i]))?;
-        i += 1;
+    for byte in list {
+        write!(out, "{byte} ")?;
     }
     vectors::end_line(out)
 }
@@ -41,25 +31,13 @@ fn print_bytes(out: &mut impl Write, list: &[u8]) -> io::Result<()> {
 // The answer, and all that stands in the outputs afterwards.
 fn write(
     out: &mut impl Write,
-    max_doc: u32,
-    fields: &[u32],
-    tokens: &[u32],
-    leaf_fields: &[u32],
+    records: TokenRecords,
     norms: &mut [u8],
     postings: &mut [u32],
     positions: &mut [u32],
     runs: &mut [u32],
 ) -> io::Result<()> {
-    let written = token_writer::write_index(
-        max_doc,
-        fields,
-        tokens,
-        leaf_fields,
-        norms,
-        postings,
-        positions,
-        runs,
-    );
+    let written = token_writer::write_index(records, norms, postings, positions, runs);
     print_written(out, written)?;
     print_bytes(out, norms)?;
     vectors::print_list(out, postings, 1024)?;
@@ -73,28 +51,22 @@ fn print_row(out: &mut impl Write, file: &[u32], at: usize) -> io::Result<()> {
     let postings_words = size(word(file, at, 2));
     let positions_words = size(word(file, at, 3));
     let runs_words = size(word(file, at, 4));
-    if ROOM < norms_bytes {
+    if ROOM < norms_bytes || ROOM < postings_words || ROOM < positions_words || ROOM < runs_words {
         return Ok(());
     }
-    if ROOM < postings_words {
-        return Ok(());
-    }
-    if ROOM < positions_words {
-        return Ok(());
-    }
-    if ROOM < runs_words {
-        return Ok(());
-    }
+    let records = TokenRecords {
+        max_doc: word(file, at, 0),
+        fields: list_at(file, at, 5),
+        tokens: list_at(file, at, 6),
+        leaf_fields: list_at(file, at, 7),
+    };
     let mut norms = [77u8; ROOM];
     let mut postings = [77u32; ROOM];
     let mut positions = [77u32; ROOM];
     let mut runs = [77u32; ROOM];
     write(
         out,
-        word(file, at, 0),
-        list_at(file, at, 5),
-        list_at(file, at, 6),
-        list_at(file, at, 7),
+        records,
         &mut norms[..norms_bytes],
         &mut postings[..postings_words],
         &mut positions[..positions_words],
@@ -104,10 +76,8 @@ fn print_row(out: &mut impl Write, file: &[u32], at: usize) -> io::Result<()> {
 
 fn print_rows(out: &mut impl Write, file: &[u32]) -> io::Result<()> {
     let rows = size(word(file, 0, 0));
-    let mut i = 0;
-    while i < rows {
-        print_row(out, file, 1 + 8 * i)?;
-        i += 1;
+    for row in 0..rows {
+        print_row(out, file, 1 + 8 * row)?;
     }
     Ok(())
 }

@@ -1,4 +1,5 @@
 -- The writer's entry: what it knows by its answer, and what its outputs hold. Assumes nothing.
+use Rattle.std.proofs.Common.{Result, Ok, Err, IsErrAnd}
 use mathlib.Core.Path.{◌≡◌, refl, sym, ap, ◌∙◌}
 use mathlib.Core.Bool.{false}
 use mathlib.Core.List.{List, [], ◌∷◌}
@@ -24,8 +25,9 @@ use Rattle.index.proofs.Known.{fields-few}
 use Rattle.packed.proofs.Longer.{postings-length}
 use Rattle.token_index.proofs.Written.{runs_number}
 use Rattle.norm_writer.specs.Lengths.{norm_bytes, RunsOk}
-use Rattle.token_writer.specs.declared.Numbers.{Numbers}
-use Rattle.token_writer.specs.declared.Written.{Written}
+use Rattle.refusal.specs.declared.Refusal.{Refusal}
+use Rattle.refusal.specs.Numbers.{number_of}
+use Rattle.tokens.specs.declared.Numbers.{Numbers}
 use Rattle.token_writer.specs.Answers.{written_numbers, outputs, WritesIndex}
 use Rattle.token_writer.specs.Writing.{RunsPre, RunsPost}
 use Rattle.token_writer.proofs.Norms.{runs-ok, norms-are}
@@ -48,15 +50,20 @@ module _ (n : ℕ) (fields leaf_fields ws norms postings positions runs : List �
   refusal = write_refusal n fields leaf_fields ws o
 
   -- a refused call leaves the outputs
-  pub entry-refused : (k : ℕ) → written_numbers (Written.Refused k) ≡ write_answer n fields leaf_fields ws o → WritesIndex n fields leaf_fields ws norms postings positions runs norms postings positions runs (Written.Refused k)
+  entry-refused : (k : Refusal) → written_numbers (Err k) ≡ write_answer n fields leaf_fields ws o → WritesIndex n fields leaf_fields ws norms postings positions runs norms postings positions runs (Err k)
   unfolding written_numbers write_answer written_norms written_postings written_positions written_runs
   entry-refused k e =
-      let h = (one_number k refusal _ _ e).1 in
+      let h = (one_number (number_of k) refusal _ _ e).1 in
       record { answer = e; norm_bytes = answered-refused _ _ refusal h; posting_words = answered-refused _ _ refusal h; position_words = answered-refused _ _ refusal h; run_words = answered-refused _ _ refusal h }
+
+  -- the answer that `?` hands on
+  pub entry-handed-on : (r : Result Numbers Refusal) (k : Refusal) → IsErrAnd r (λ x. x ≡ k) → written_numbers (Err k) ≡ write_answer n fields leaf_fields ws o → WritesIndex n fields leaf_fields ws norms postings positions runs norms postings positions runs r
+  entry-handed-on (Ok x) k h e = absurd h
+  entry-handed-on (Err x) k h e = entry-refused x (ap (λ (y : Refusal). written_numbers (Err y)) h ∙ e)
 
   -- what a call that is not refused knows
   pub record Accepted (numbers : Numbers) : Type 0 where
-    pub answer : written_numbers (Written.Done numbers) ≡ write_answer n fields leaf_fields ws o
+    pub answer : written_numbers (Ok numbers) ≡ write_answer n fields leaf_fields ws o
     pub accepted : refusal ≡ 0
     pub number : numbers.postings ≡ posting_number n fields leaf_fields ws
     pub few_documents : n ≤ max_documents
@@ -64,7 +71,7 @@ module _ (n : ℕ) (fields leaf_fields ws norms postings positions runs : List �
     pub norms_fit : count_below (field_count (fields_only fields)) (has_norms (fields_only fields)) * n ≤ length norms
     pub runs_pre : RunsPre n fields leaf_fields ws (length postings) (length positions) (length runs)
 
-  module _ (numbers : Numbers) (e : written_numbers (Written.Done numbers) ≡ write_answer n fields leaf_fields ws o) where
+  module _ (numbers : Numbers) (e : written_numbers (Ok numbers) ≡ write_answer n fields leaf_fields ws o) where
     not-refused : (refusal ≡ 0) × (numbers.postings ≡ posting_number n fields leaf_fields ws)
     unfolding written_numbers write_answer
     not-refused = three-numbers _ _ refusal _ _ e
@@ -148,7 +155,7 @@ module _ (n : ℕ) (fields leaf_fields ws norms postings positions runs : List �
 
       pub entry_done : (norms' : List ℕ)
           → norms' ≡ written (norm_bytes n fields leaf_fields (take (3 * numbers.postings) postings') (take (2 * length leaf_fields) runs')) norms
-          → WritesIndex n fields leaf_fields ws norms postings positions runs norms' postings' positions' runs' (Written.Done numbers)
+          → WritesIndex n fields leaf_fields ws norms postings positions runs norms' postings' positions' runs' (Ok numbers)
       unfolding written_norms written_postings written_positions written_runs
       entry_done norms' w =
           let z = k.accepted in

@@ -9,7 +9,7 @@ use native.Mathlib.Omega.{arith}
 use lib.ListN.{length, length-append}
 use lib.Seq.{sets, length-sets}
 use Rattle.meaning.specs.Below.{list_to}
-use Rattle.meaning.specs.Limits.{no_more_docs}
+use Rattle.std.proofs.Common.{Option, Some, None}
 use Rattle.meaning.specs.Packed.{Posting, positions_in, pack_run}
 use Rattle.meaning.specs.Tokens.{token_count, token_at, tokens_of, run_for}
 use Rattle.meaning.proofs.Below.{list_to-zero, length-list_to}
@@ -18,7 +18,7 @@ use Rattle.packed.proofs.Longer.{positions-append, run-append, run_length}
 use Rattle.token_index.proofs.Runs.{run_none, run-longer, run-other, run-grows}
 use Rattle.tokens.specs.declared.Token.{Token}
 use Rattle.tokens.specs.Records.{token_of}
-use Rattle.token_writer.specs.declared.postings.RunEnd.{RunEnd}
+use Rattle.token_writer.specs.declared.postings.Cursor.{Cursor}
 use Rattle.token_writer.specs.Writing.{Begins, PostingsPre, PostingsPost, RunPre, RunPost}
 use Rattle.meaning.proofs.Stores.{sets_behind, sets_over}
 
@@ -40,19 +40,23 @@ list_to-parts f g a (suc b) h =
     ∙ ap₂ (λ xs x. xs ++ (x ∷ [])) (list_to-parts f g a b h) (sym (h b))
     ∙ append_assoc (list_to a f) (list_to b g) (g b ∷ [])
 
+-- the numbers of two equal `Some`s
+pub inner : {a b : ℕ} → Some a ≡ Some b → a ≡ b
+inner e = cc
+
 -- there are no more positions than tokens
 pub number-le : (p : Bool) (k : ℕ) → cond p k 0 ≤ k
 number-le true k = le_refl k
 number-le false k = omega arith
 
--- postings with the run of the tokens before `token` written to them: `start` the first token of the last posting, `next` the posting behind it, `before` the document of the last token
-pub record Upto (n : ℕ) (ws : List ℕ) (l : ℕ) (p : Bool) (from posting position : ℕ) (postings₀ postings : List ℕ) (token next start before : ℕ) : Type 0 where
+-- postings with the run of the tokens before `token` written to them: `start` the first token of the last posting, `next` the posting behind it, `before` the document of the last token, where there is one
+pub record Upto (n : ℕ) (ws : List ℕ) (l : ℕ) (p : Bool) (from posting position : ℕ) (postings₀ postings : List ℕ) (token next start : ℕ) (before : Option ℕ) : Type 0 where
   pub first : from ≤ start
   pub order : start ≤ token
   pub within : token ≤ token_count ws
   pub some : from < token → start < token
-  pub none : token ≡ from → before ≡ no_more_docs
-  pub last : from < token → before ≡ (token_at ws (token - 1)).document
+  pub none : token ≡ from → before ≡ None
+  pub last : from < token → before ≡ Some (token_at ws (token - 1)).document
   pub own : (k : ℕ) → from ≤ k → k < token → (token_at ws k).leaf ≡ l
   pub same : (k : ℕ) → start ≤ k → k < token → (token_at ws k).document ≡ (token_at ws start).document
   pub lower : (k : ℕ) → k < start → (token_at ws k).leaf ≡ l → (token_at ws k).document < (token_at ws start).document
@@ -75,7 +79,7 @@ pub record Turn (n : ℕ) (ws : List ℕ) (l : ℕ) (p : Bool) (from posting pos
   pub stored : (a b c : ℕ) → sets postings (3 * (next - 1)) (a ∷ b ∷ c ∷ []) ≡ sets postings₀ (3 * posting) (pack_run p position (run_to p n ws l start) ++ (a ∷ b ∷ c ∷ []))
 
 -- the stores kept the length
-pub upto-length : (n : ℕ) (ws : List ℕ) (l : ℕ) (p : Bool) (from posting position : ℕ) (postings₀ postings : List ℕ) (token next start before : ℕ) → Upto n ws l p from posting position postings₀ postings token next start before → length postings ≡ length postings₀
+pub upto-length : (n : ℕ) (ws : List ℕ) (l : ℕ) (p : Bool) (from posting position : ℕ) (postings₀ postings : List ℕ) (token next start : ℕ) (before : Option ℕ) → Upto n ws l p from posting position postings₀ postings token next start before → length postings ≡ length postings₀
 upto-length n ws l p from posting position postings₀ postings token next start before h = ap length h.written ∙ length-sets postings₀ (3 * posting) (pack_run p position (run_to p n ws l token))
 
 module _ (n m : ℕ) (ws : List ℕ) (l : ℕ) (p : Bool) (from posting position a : ℕ) (pre : PostingsPre n m ws l p from posting position a) (postings₀ : List ℕ) where
@@ -90,7 +94,7 @@ module _ (n m : ℕ) (ws : List ℕ) (l : ℕ) (p : Bool) (from posting position
       ∙ ap (λ ts. run_for p n ts l) (list_to-zero (token_at ws))
       ∙ run_none p n l
 
-  pub upto-start : Upto n ws l p from posting position postings₀ postings₀ from posting from no_more_docs
+  pub upto-start : Upto n ws l p from posting position postings₀ postings₀ from posting from None
   unfolding pack_run positions_in
   upto-start =
       record {
@@ -162,7 +166,7 @@ module _ (n m : ℕ) (ws : List ℕ) (l : ℕ) (p : Bool) (from posting position
           joined false = append-nil (list_to 0 place)
 
   -- the positions of the tokens passed
-  places-now : (postings : List ℕ) (i next start before : ℕ) → Upto n ws l p from posting position postings₀ postings i next start before → positions_in (run_to p n ws l i) ≡ list_to (cond p (i - from) 0) place
+  places-now : (postings : List ℕ) (i next start : ℕ) (before : Option ℕ) → Upto n ws l p from posting position postings₀ postings i next start before → positions_in (run_to p n ws l i) ≡ list_to (cond p (i - from) 0) place
   places-now postings i next start before done =
       ⊎_elim
       (λ (e : start ≡ i). subst (λ (k : ℕ). positions_in (run_to p n ws l k) ≡ list_to (cond p (k - from) 0) place) e done.places)
@@ -170,7 +174,7 @@ module _ (n m : ℕ) (ws : List ℕ) (l : ℕ) (p : Bool) (from posting position
       (eq-or-lt_of_le done.order)
 
   -- a token of the leaf
-  module _ (postings : List ℕ) (i next start before : ℕ) (done : Upto n ws l p from posting position postings₀ postings i next start before) (inside : i < token_count ws) (here : (token_at ws i).leaf ≡ l) where
+  module _ (postings : List ℕ) (i next start : ℕ) (before : Option ℕ) (done : Upto n ws l p from posting position postings₀ postings i next start before) (inside : i < token_count ws) (here : (token_at ws i).leaf ≡ l) where
     own-more : (k : ℕ) → from ≤ k → k < i + 1 → (token_at ws k).leaf ≡ l
     own-more k x y =
         ⊎_elim
@@ -179,7 +183,7 @@ module _ (n m : ℕ) (ws : List ℕ) (l : ℕ) (p : Bool) (from posting position
         (cmp k i)
 
     -- it is not of the document before: it begins a posting
-    turn-begins : ((token_at ws i).document ≡ before → ⊥) → Turn n ws l p from posting position postings₀ postings i (next + 1) i
+    turn-begins : (Some (token_at ws i).document ≡ before → ⊥) → Turn n ws l p from posting position postings₀ postings i (next + 1) i
     turn-begins begins =
         record {
           first = omega (arith, done.first, done.order);
@@ -202,18 +206,19 @@ module _ (n m : ℕ) (ws : List ℕ) (l : ℕ) (p : Bool) (from posting position
             let leaf = done.own (i - 1) (omega (arith, h, g)) (omega (arith, g)) in
             let to = pre.tokens.documents k (i - 1) (omega (arith, g)) (omega (arith, inside)) (own ∙ sym leaf) in
             let on = pre.tokens.documents (i - 1) i (omega arith) inside (leaf ∙ sym here) in
-            let not : (token_at ws i).document ≡ (token_at ws (i - 1)).document → ⊥ = λ e. begins (e ∙ sym (done.last (omega (arith, h, g)))) in
+            let not : (token_at ws i).document ≡ (token_at ws (i - 1)).document → ⊥ = λ e. begins (ap Some e ∙ sym (done.last (omega (arith, h, g)))) in
             omega (arith, to, on, not))
             (cmp k from)
 
     -- it is: it begins none, and is not the leaf's first, which no document is before
-    turn-goes : (token_at ws i).document ≡ before → Turn n ws l p from posting position postings₀ postings i next start
+    turn-goes : Some (token_at ws i).document ≡ before → Turn n ws l p from posting position postings₀ postings i next start
     turn-goes goes =
         let later : from < i =
         ⊎_elim
-        (λ (e : from ≡ i). absurd (omega (arith, goes, done.none (sym e), pre.tokens.document i inside, pre.few_documents)))
+        (λ (e : from ≡ i). let other : Some (token_at ws i).document ≡ None = goes ∙ done.none (sym e) in cc)
         (λ (g : from < i). g)
         (eq-or-lt_of_le (omega (arith, done.first, done.order))) in
+        let as-before : (token_at ws i).document ≡ (token_at ws (i - 1)).document = inner (goes ∙ done.last later) in
         let has = done.some later in
         let own : (k : ℕ) → start ≤ k → k < i → (token_at ws k).leaf ≡ l = λ k x y. done.own k (omega (arith, x, done.first)) y in
         let longer = length_more start i done.first has done.within own done.same done.lower done.places in
@@ -226,7 +231,7 @@ module _ (n m : ℕ) (ws : List ℕ) (l : ℕ) (p : Bool) (from posting position
           same = λ k x y.
               ⊎_elim
               (λ (g : k < i). done.same k x g)
-              (λ (g : i ≤ k). let e : k ≡ i = omega (arith, g, y) in ap (λ (j : ℕ). (token_at ws j).document) e ∙ goes ∙ done.last later ∙ done.same (i - 1) (omega (arith, has)) (omega (arith, has)))
+              (λ (g : i ≤ k). let e : k ≡ i = omega (arith, g, y) in ap (λ (j : ℕ). (token_at ws j).document) e ∙ as-before ∙ done.same (i - 1) (omega (arith, has)) (omega (arith, has)))
               (cmp k i);
           lower = done.lower;
           places = done.places;
@@ -238,13 +243,13 @@ module _ (n m : ℕ) (ws : List ℕ) (l : ℕ) (p : Bool) (from posting position
     -- the two ways as the code takes them
     pub turn : (w : Token) (next' start' : ℕ)
         → w ≡ token_of ws i
-        → ((w.document ≡ before → ⊥) × (next' ≡ next + 1) × (start' ≡ i)) ⊎ ((w.document ≡ before) × (next' ≡ next) × (start' ≡ start))
+        → ((Some w.document ≡ before → ⊥) × (next' ≡ next + 1) × (start' ≡ i)) ⊎ ((Some w.document ≡ before) × (next' ≡ next) × (start' ≡ start))
         → Turn n ws l p from posting position postings₀ postings i next' start'
     turn v next' start' b came =
         let document : v.document ≡ (token_at ws i).document = ap (λ (t : Token). t.document) b in
         ⊎_elim
-        (λ w. subst (λ (k : ℕ). Turn n ws l p from posting position postings₀ postings i k start') (sym w.1) (subst (Turn n ws l p from posting position postings₀ postings i (next + 1)) (sym w.2) (turn-begins (λ e. w.0 (document ∙ e)))))
-        (λ w. subst (λ (k : ℕ). Turn n ws l p from posting position postings₀ postings i k start') (sym w.1) (subst (Turn n ws l p from posting position postings₀ postings i next) (sym w.2) (turn-goes (sym document ∙ w.0))))
+        (λ w. subst (λ (k : ℕ). Turn n ws l p from posting position postings₀ postings i k start') (sym w.1) (subst (Turn n ws l p from posting position postings₀ postings i (next + 1)) (sym w.2) (turn-begins (λ e. w.0 (ap Some document ∙ e)))))
+        (λ w. subst (λ (k : ℕ). Turn n ws l p from posting position postings₀ postings i k start') (sym w.1) (subst (Turn n ws l p from posting position postings₀ postings i next) (sym w.2) (turn-goes (sym (ap Some document) ∙ w.0))))
         came
 
   -- its posting is stored
@@ -263,7 +268,7 @@ module _ (n m : ℕ) (ws : List ℕ) (l : ℕ) (p : Bool) (from posting position
         → w ≡ token_of ws i
         → index ≡ cond p (position + (start - from)) 0
         → postings' ≡ sets postings (3 * (next - 1)) (w.document ∷ (i - start + 1) ∷ index ∷ [])
-        → Upto n ws l p from posting position postings₀ postings' (i + 1) next start w.document
+        → Upto n ws l p from posting position postings₀ postings' (i + 1) next start (Some w.document)
     upto_next w index postings' x y z =
         let document = ap (λ (v : Token). v.document) x ∙ t.same i t.order (omega arith) in
         let frequency : i - start + 1 ≡ i + 1 - start = omega (arith, t.order) in
@@ -274,7 +279,7 @@ module _ (n m : ℕ) (ws : List ℕ) (l : ℕ) (p : Bool) (from posting position
           within = omega (arith, t.within);
           some = λ _. omega (arith, t.order);
           none = λ e. absurd (omega (arith, e, t.first, t.order));
-          last = λ _. let back : i ≡ i + 1 - 1 = omega arith in ap (λ (v : Token). v.document) x ∙ ap (λ (k : ℕ). (token_at ws k).document) back;
+          last = λ _. let back : i ≡ i + 1 - 1 = omega arith in ap Some (ap (λ (v : Token). v.document) x ∙ ap (λ (k : ℕ). (token_at ws k).document) back);
           own = t.own;
           same = t.same;
           lower = t.lower;
@@ -289,7 +294,7 @@ module _ (n m : ℕ) (ws : List ℕ) (l : ℕ) (p : Bool) (from posting position
         }
 
   -- no token from i on is of the leaf
-  module _ (postings : List ℕ) (i next start before : ℕ) (done : Upto n ws l p from posting position postings₀ postings i next start before) (stop : i < token_count ws → (token_at ws i).leaf ≡ l → ⊥) where
+  module _ (postings : List ℕ) (i next start : ℕ) (before : Option ℕ) (done : Upto n ws l p from posting position postings₀ postings i next start before) (stop : i < token_count ws → (token_at ws i).leaf ≡ l → ⊥) where
     later : (k : ℕ) → i ≤ k → k < token_count ws → l + 1 ≤ (token_at ws k).leaf
     later k x y =
         let h : i < token_count ws = omega (arith, x, y) in
@@ -304,7 +309,7 @@ module _ (n m : ℕ) (ws : List ℕ) (l : ℕ) (p : Bool) (from posting position
     all-places : positions_in (run_for p n (tokens_of ws) l) ≡ list_to (cond p (i - from) 0) place
     all-places = ap positions_in (sym all-written) ∙ places-now postings i next start before done
 
-    pub upto-end : (r : RunEnd) (number : ℕ) → number ≡ cond p (i - from) 0 → r.token ≡ i → r.posting ≡ next → r.position ≡ position + number → PostingsPost n ws l p from posting position postings₀ postings r
+    pub upto-end : (r : Cursor) (number : ℕ) → number ≡ cond p (i - from) 0 → r.token ≡ i → r.posting ≡ next → r.position ≡ position + number → PostingsPost n ws l p from posting position postings₀ postings r
     upto-end r number e x y z =
         let few = number-le p (i - from) in
         let behind = done.first in
@@ -325,7 +330,7 @@ module _ (n m : ℕ) (ws : List ℕ) (l : ℕ) (p : Bool) (from posting position
 pub run-postings : (n m : ℕ) (ws : List ℕ) (l : ℕ) (p : Bool) (from posting position a b : ℕ) → RunPre n m ws l p from posting position a b → PostingsPre n m ws l p from posting position a
 run-postings n m ws l p from posting position a b h = record { few_documents = h.few_documents; tokens = h.tokens; begins = h.begins; few_postings = h.few_postings; few_positions = h.few_positions; postings_fit = h.postings_fit }
 
-pub run-placed : (n : ℕ) (ws : List ℕ) (l : ℕ) (p : Bool) (from posting position : ℕ) (postings positions postings' positions' : List ℕ) (r : RunEnd)
+pub run-placed : (n : ℕ) (ws : List ℕ) (l : ℕ) (p : Bool) (from posting position : ℕ) (postings positions postings' positions' : List ℕ) (r : Cursor)
     → PostingsPost n ws l p from posting position postings postings' r
     → positions' ≡ sets positions position (list_to (r.position - position) (λ j. (token_at ws (from + j)).position))
     → RunPost n ws l p posting position postings positions postings' positions' r

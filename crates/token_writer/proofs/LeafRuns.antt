@@ -20,7 +20,7 @@ use Rattle.meaning.proofs.Tests.{cmp}
 use Rattle.packed.proofs.Joined.{join-next, join-same, rows-length}
 use Rattle.packed.proofs.Longer.{postings-append, pack-positions-append, postings-in-append, postings-length, firsts_at}
 use Rattle.token_index.proofs.Order.{tokens-ok, leaf-field}
-use Rattle.token_writer.specs.declared.postings.RunEnd.{RunEnd}
+use Rattle.token_writer.specs.declared.postings.Cursor.{Cursor}
 use Rattle.token_writer.specs.Writing.{Begins, RunPre, RunPost, RunsPre, RunsPost}
 use Rattle.meaning.proofs.Stores.{sets_behind, sets-front}
 
@@ -183,7 +183,7 @@ module _ (n : ℕ) (fields leaf_fields ws : List ℕ) where
 
       -- and has been
       pub filled_next : leaf < length leaf_fields
-          → (b : Bool) (first : ℕ) (postings' positions' runs' : List ℕ) (r : RunEnd)
+          → (b : Bool) (first : ℕ) (postings' positions' runs' : List ℕ) (r : Cursor)
           → b ≡ positional fields leaf_fields leaf
           → first ≡ posting
           → RunPost n ws leaf b posting position postings positions postings' positions' r

@@ -1,4 +1,5 @@
 -- The laws of the writer, each file after those that it uses.
+pub mod Stored
 pub mod LeafRun
 pub mod LeafRuns
 pub mod Counts

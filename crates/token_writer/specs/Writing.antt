@@ -9,7 +9,7 @@ use Rattle.meaning.specs.Tokens.{token_count, token_at, tokens_of, run_for, toke
 use Rattle.meaning.specs.TokenRefusals.{wrong15, posting_number, position_number}
 use Rattle.meaning.specs.Entries.{written}
 use Rattle.token_index.specs.TokensOk.{TokensOk}
-use Rattle.token_writer.specs.declared.postings.RunEnd.{RunEnd}
+use Rattle.token_writer.specs.declared.postings.Cursor.{Cursor}
 
 -- leaf l's tokens begin at token from: those before are of lower leaves, the others of no lower one
 pub record Begins (ws : List ℕ) (l from : ℕ) : Type 0 where
@@ -27,7 +27,7 @@ pub record PostingsPre (n m : ℕ) (ws : List ℕ) (l : ℕ) (p : Bool) (from po
   pub postings_fit : 3 * (posting + length (run_for p n (tokens_of ws) l)) ≤ postings
 
 -- and they have been; its positions are those of its tokens in turn, and none in a field without positions
-pub record PostingsPost (n : ℕ) (ws : List ℕ) (l : ℕ) (p : Bool) (from posting position : ℕ) (postings postings' : List ℕ) (r : RunEnd) : Type 0 where
+pub record PostingsPost (n : ℕ) (ws : List ℕ) (l : ℕ) (p : Bool) (from posting position : ℕ) (postings postings' : List ℕ) (r : Cursor) : Type 0 where
   pub begins : Begins ws (l + 1) r.token
   pub few_postings : r.posting ≤ r.token
   pub few_positions : r.position ≤ r.token
@@ -48,7 +48,7 @@ pub record RunPre (n m : ℕ) (ws : List ℕ) (l : ℕ) (p : Bool) (from posting
   pub positions_fit : position + length (positions_in (run_for p n (tokens_of ws) l)) ≤ positions
 
 -- and it has been
-pub record RunPost (n : ℕ) (ws : List ℕ) (l : ℕ) (p : Bool) (posting position : ℕ) (postings positions postings' positions' : List ℕ) (r : RunEnd) : Type 0 where
+pub record RunPost (n : ℕ) (ws : List ℕ) (l : ℕ) (p : Bool) (posting position : ℕ) (postings positions postings' positions' : List ℕ) (r : Cursor) : Type 0 where
   pub begins : Begins ws (l + 1) r.token
   pub few_postings : r.posting ≤ r.token
   pub few_positions : r.position ≤ r.token

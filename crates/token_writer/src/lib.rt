@@ -3,7 +3,7 @@
 
 pub mod postings;
 
-ghost use Rattle.std.specs.Prelude.{◌≡◌, false};
+ghost use Rattle.std.specs.Prelude.{◌≡◌, false, length};
 ghost use Rattle.meaning.specs.IndexRefusals.{wrong1, wrong2};
 ghost use Rattle.meaning.specs.Tokens.{fields_lent};
 ghost use Rattle.meaning.specs.TokenRefusals.{wrong15, wrong16, write_answer};
@@ -12,120 +12,73 @@ ghost use Rattle.token_writer.specs.Answers.{written_numbers, outputs, WritesInd
 
 use index::{fields, norms};
 use postings::{POSTING_WORDS, RUN_WORDS};
+use refusal::Refusal;
+use tokens::{Numbers, TokenRecords};
 
-// How many postings and positions were written.
-#[derive(Drop)]
-pub struct Numbers {
+// The lengths of the outputs.
+#[derive(Clone, Copy)]
+pub struct Outputs {
+    pub norms: usize,
     pub postings: usize,
     pub positions: usize,
-}
-
-#[derive(Drop)]
-pub enum Written {
-    Refused(u32),
-    Done(Numbers),
+    pub runs: usize,
 }
 
 // 16, an output too short; the other numbers do not hold.
-fn outputs_short(
-    max_doc: u32,
-    fields: &[u32],
-    tokens: &[u32],
-    leaf_fields: &[u32],
-    counted: tokens::Counted,
-    norms: usize,
-    postings: usize,
-    positions: usize,
-    runs: usize,
-) -> bool
-    requires fields_value { (wrong1 (fields_lent max_doc fields.now) ≡ false) × (wrong2 (fields_lent max_doc fields.now) ≡ false) × (wrong15 max_doc fields.now leaf_fields.now tokens.now ≡ false) }
-    requires counts { Counts fields.now leaf_fields.now tokens.now counted × (counted.wrong ≡ false) }
-    ensures { result ≡ wrong16 max_doc fields.now leaf_fields.now tokens.now (outputs norms postings positions runs) }
+fn outputs_short(records: TokenRecords, numbers: Numbers, room: Outputs) -> bool
+    requires fields_value { (wrong1 (fields_lent records.max_doc records.fields.now) ≡ false) × (wrong2 (fields_lent records.max_doc records.fields.now) ≡ false) × (wrong15 records.max_doc records.fields.now records.leaf_fields.now records.tokens.now ≡ false) }
+    requires counts { Counts records.fields.now records.leaf_fields.now records.tokens.now numbers }
+    ensures { result ≡ wrong16 records.entry.max_doc records.entry.fields.now records.entry.leaf_fields.now records.entry.tokens.now (outputs room.norms room.postings room.positions room.runs) }
 {
-    (norms < norms::norms_offset(max_doc, fields, fields.len() / 3))
-        | (postings < POSTING_WORDS * counted.postings)
-        | (positions < counted.positions)
-        | (runs < RUN_WORDS * leaf_fields.len())
+    let number = records.fields.len() / 3;
+    (room.norms < norms::norms_offset(records.max_doc, records.fields, number))
+        | (room.postings < POSTING_WORDS * numbers.postings)
+        | (room.positions < numbers.positions)
+        | (room.runs < RUN_WORDS * records.leaf_fields.len())
 }
 
 // Whether outputs of these lengths can be written, and how many postings and positions there will be; nothing is written.
-pub fn accept(
-    max_doc: u32,
-    fields: &[u32],
-    tokens: &[u32],
-    leaf_fields: &[u32],
-    norms: usize,
-    postings: usize,
-    positions: usize,
-    runs: usize,
-) -> Written
-    ensures { written_numbers result ≡ write_answer max_doc fields.now leaf_fields.now tokens.now (outputs norms postings positions runs) }
+pub fn accept(records: TokenRecords, room: Outputs) -> Result<Numbers, Refusal>
+    ensures { written_numbers result ≡ write_answer records.entry.max_doc records.entry.fields.now records.entry.leaf_fields.now records.entry.tokens.now (outputs room.norms room.postings room.positions room.runs) }
 {
-    if index::wrong_max_doc(max_doc) {
-        return Written::Refused(1);
+    if index::wrong_max_doc(records.max_doc) {
+        return Err(Refusal::MaxDoc);
     }
-    if fields::wrong_fields(fields) {
-        return Written::Refused(2);
+    if fields::wrong_fields(records.fields) {
+        return Err(Refusal::Fields);
     }
-    let counted = tokens::check(max_doc, fields, tokens, leaf_fields);
-    if counted.wrong {
-        return Written::Refused(15);
+    let numbers = records.check()?;
+    if outputs_short(records, numbers, room) {
+        return Err(Refusal::Outputs);
     }
-    let numbers = Numbers {
-        postings: counted.postings,
-        positions: counted.positions,
-    };
-    if outputs_short(
-        max_doc,
-        fields,
-        tokens,
-        leaf_fields,
-        counted,
-        norms,
-        postings,
-        positions,
-        runs,
-    ) {
-        return Written::Refused(16);
-    }
-    Written::Done(numbers)
+    Ok(numbers)
 }
 
 // Writes norms, postings, positions and runs, or refuses and leaves them.
 pub fn write_index(
-    max_doc: u32,
-    fields: &[u32],
-    tokens: &[u32],
-    leaf_fields: &[u32],
+    records: TokenRecords,
     norms: &mut [u8],
     postings: &mut [u32],
     positions: &mut [u32],
     runs: &mut [u32],
-) -> Written
-    ensures { WritesIndex max_doc fields.now leaf_fields.now tokens.now norms.old postings.old positions.old runs.old norms.new postings.new positions.new runs.new result }
+) -> Result<Numbers, Refusal>
+    ensures { WritesIndex records.entry.max_doc records.entry.fields.now records.entry.leaf_fields.now records.entry.tokens.now norms.old postings.old positions.old runs.old norms.new postings.new positions.new runs.new result }
 {
-    match accept(
-        max_doc,
-        fields,
-        tokens,
-        leaf_fields,
-        norms.len(),
-        postings.len(),
-        positions.len(),
-        runs.len(),
-    ) {
-        Written::Refused(n) => Written::Refused(n),
-        Written::Done(numbers) => {
-            postings::write_runs(fields, tokens, leaf_fields, postings, positions, runs);
-            norm_writer::write_norms(
-                max_doc,
-                fields,
-                leaf_fields,
-                &postings[..POSTING_WORDS * numbers.postings],
-                &runs[..RUN_WORDS * leaf_fields.len()],
-                norms,
-            );
-            Written::Done(numbers)
-        }
-    }
+    let room = Outputs {
+        norms: norms.len(),
+        postings: postings.len(),
+        positions: positions.len(),
+        runs: runs.len(),
+    };
+    let numbers = accept(records, room)?;
+    postings::write_runs(records, postings, positions, runs);
+    norm_writer::write_norms(
+        records.max_doc,
+        records.fields,
+        records.leaf_fields,
+        &postings[..POSTING_WORDS * numbers.postings],
+        &runs[..RUN_WORDS * records.leaf_fields.len()],
+        norms,
+    );
+    Ok(numbers)
 }

@@ -1,38 +1,34 @@
 // The postings and positions of the tokens, leaf by leaf, posting by posting, and the run of each leaf.
-ghost use Rattle.std.specs.Prelude.{◌≡◌, cond, [], ◌∷◌, ℕ, ◌+◌, ◌*◌, ◌<◌, ◌≤◌, length};
+ghost use Rattle.std.specs.Prelude.{◌≡◌, cond, ◌+◌, ◌*◌, ◌<◌, ◌≤◌, length};
 ghost use Rattle.std.proofs.lemmas.List.Edits.{sets};
 ghost use Rattle.meaning.specs.Below.{list_to};
 ghost use Rattle.meaning.specs.Tokens.{token_count, token_at};
 ghost use Rattle.token_writer.specs.Writing.{PostingsPre, PostingsPost, RunPre, RunPost, RunsPre, RunsPost};
 
-use index::postings::NO_MORE_DOCS;
-use tokens::{is_positional, token_at};
+use tokens::{TokenRecords, token_at};
 
 // Words of a posting, and of a leaf's run: first posting, number of postings.
 pub const POSTING_WORDS: usize = 3;
 
 pub const RUN_WORDS: usize = 2;
 
-// The positions of some tokens, from a place on.
-fn copy_positions(tokens: &[u32], from: usize, number: usize, positions: &mut [u32], at: usize)
-    requires { (from + number ≤ token_count tokens.now) × (at + number ≤ length positions.old) }
-    ensures { positions.new ≡ sets positions.old at (list_to number (λ j. (token_at tokens.now (from + j)).position)) }
+// The positions of the tokens from one on.
+fn copy_positions(tokens: &[u32], from: usize, positions: &mut [u32])
+    requires { from + length positions.old ≤ token_count tokens.now }
+    ensures { positions.new ≡ list_to (length positions.old) (λ j. (token_at tokens.now (from + j)).position) }
 {
-    let mut j = 0;
-    while j < number {
-        positions[at + j] = token_at(tokens, from + j).position;
-        j += 1;
+    for (j, position) in positions.iter_mut().enumerate() {
+        *position = token_at(tokens, from + j).position;
     }
 }
 
-// The words of a posting.
-fn write_posting(postings: &mut [u32], posting: usize, document: u32, frequency: u32, index: u32)
-    requires { 3 * posting + 3 ≤ length postings.old }
-    ensures { postings.new ≡ sets postings.old (3 * posting) (document ∷ frequency ∷ index ∷ []) }
+// The words of a record, behind so many records of its length.
+fn write_record<const N: usize>(words: &mut [u32], number: usize, values: [u32; N])
+    requires { N * number + N ≤ length words.old }
+    ensures { words.new ≡ sets words.old (N * number) values.entry }
 {
-    postings[POSTING_WORDS * posting] = document;
-    postings[POSTING_WORDS * posting + 1] = frequency;
-    postings[POSTING_WORDS * posting + 2] = index;
+    let at = N * number;
+    words[at..at + N].copy_from_slice(&values);
 }
 
 // A number where the field has positions, else 0.
@@ -42,123 +38,96 @@ fn where_positional(positional: bool, number: usize) -> usize
     if positional { number } else { 0 }
 }
 
-// The token after a leaf's last, and the postings and positions up to there.
-#[derive(Drop)]
-pub struct RunEnd {
+// The first token that is not written yet, and how many postings and positions are.
+#[derive(Clone, Copy)]
+pub struct Cursor {
     pub token: usize,
     pub posting: usize,
     pub position: usize,
 }
 
-// The postings of a leaf, whose tokens begin at token from, behind those that are written. A posting is written again with each
+// The postings of a leaf, whose tokens begin at the cursor, behind those that are written. A posting is written again with each
 // of its tokens, so that no branch hangs on where it ends.
 fn write_postings(
-    tokens: &[u32],
-    from: usize,
+    records: TokenRecords,
+    at: Cursor,
     leaf: u32,
     positional: bool,
     postings: &mut [u32],
-    posting: usize,
-    position: usize,
-) -> RunEnd
-    requires { (n : ℕ) × (m : ℕ) × PostingsPre n m tokens.now leaf positional from posting position (length postings.old) }
-    ensures { (n m : ℕ) → PostingsPre n m tokens.now leaf positional from posting position (length postings.old) → PostingsPost n tokens.now leaf positional from posting position postings.old postings.new result }
+) -> Cursor
+    requires { PostingsPre records.max_doc (length records.leaf_fields.now) records.tokens.now leaf positional at.token at.posting at.position (length postings.old) }
+    ensures { PostingsPost records.entry.max_doc records.entry.tokens.now leaf positional at.token at.posting at.position postings.old postings.new result }
 {
-    let mut token = from;
-    let mut next = posting;
-    let mut start = from;
-    let mut before = NO_MORE_DOCS;
-    while token < tokens.len() / 3 {
-        let here = token_at(tokens, token);
+    let mut end = at;
+    let mut start = at.token;
+    let mut before = None;
+    for token in at.token..records.tokens.len() / 3 {
+        let here = token_at(records.tokens, token);
         if here.leaf != leaf {
-            return RunEnd {
-                token,
-                posting: next,
-                position: position + where_positional(positional, token - from),
-            };
+            break;
         }
-        if here.document != before {
-            next += 1;
+        if before != Some(here.document) {
+            end.posting += 1;
             start = token;
         }
         let frequency = token - start + 1;
-        let index = where_positional(positional, position + (start - from));
-        write_posting(
+        let index = where_positional(positional, at.position + (start - at.token));
+        write_record(
             postings,
-            next - 1,
-            here.document,
-            frequency as u32,
-            index as u32,
+            end.posting - 1,
+            [here.document, frequency as u32, index as u32],
         );
-        before = here.document;
-        token += 1;
+        before = Some(here.document);
+        end.token = token + 1;
     }
-    RunEnd {
-        token,
-        posting: next,
-        position: position + where_positional(positional, token - from),
-    }
+    end.position += where_positional(positional, end.token - at.token);
+    end
 }
 
 // The postings of a leaf, and then its positions.
 fn write_run(
-    tokens: &[u32],
-    from: usize,
+    records: TokenRecords,
+    at: Cursor,
     leaf: u32,
     positional: bool,
     postings: &mut [u32],
-    posting: usize,
     positions: &mut [u32],
-    position: usize,
-) -> RunEnd
-    requires { (n : ℕ) × (m : ℕ) × RunPre n m tokens.now leaf positional from posting position (length postings.old) (length positions.old) }
-    ensures { (n m : ℕ) → RunPre n m tokens.now leaf positional from posting position (length postings.old) (length positions.old) → RunPost n tokens.now leaf positional posting position postings.old positions.old postings.new positions.new result }
+) -> Cursor
+    requires { RunPre records.max_doc (length records.leaf_fields.now) records.tokens.now leaf positional at.token at.posting at.position (length postings.old) (length positions.old) }
+    ensures { RunPost records.entry.max_doc records.entry.tokens.now leaf positional at.posting at.position postings.old positions.old postings.new positions.new result }
 {
-    let end = write_postings(tokens, from, leaf, positional, postings, posting, position);
-    copy_positions(tokens, from, end.position - position, positions, position);
+    let end = write_postings(records, at, leaf, positional, postings);
+    copy_positions(
+        records.tokens,
+        at.token,
+        &mut positions[at.position..end.position],
+    );
     end
-}
-
-// A leaf's run: its first posting, and their number.
-fn write_leaf(runs: &mut [u32], leaf: usize, first: u32, number: u32)
-    requires { 2 * leaf + 2 ≤ length runs.old }
-    ensures { runs.new ≡ sets runs.old (2 * leaf) (first ∷ number ∷ []) }
-{
-    runs[RUN_WORDS * leaf] = first;
-    runs[RUN_WORDS * leaf + 1] = number;
 }
 
 // The postings, positions and runs of all leaves; the first of each that they fill are written.
 pub fn write_runs(
-    fields: &[u32],
-    tokens: &[u32],
-    leaf_fields: &[u32],
+    records: TokenRecords,
     postings: &mut [u32],
     positions: &mut [u32],
     runs: &mut [u32],
 )
-    requires { (n : ℕ) × RunsPre n fields.now leaf_fields.now tokens.now (length postings.old) (length positions.old) (length runs.old) }
-    ensures { (n : ℕ) → RunsPre n fields.now leaf_fields.now tokens.now (length postings.old) (length positions.old) (length runs.old) → RunsPost n fields.now leaf_fields.now tokens.now postings.old positions.old runs.old postings.new positions.new runs.new }
+    requires { RunsPre records.max_doc records.fields.now records.leaf_fields.now records.tokens.now (length postings.old) (length positions.old) (length runs.old) }
+    ensures { RunsPost records.entry.max_doc records.entry.fields.now records.entry.leaf_fields.now records.entry.tokens.now postings.old positions.old runs.old postings.new positions.new runs.new }
 {
-    let mut token = 0;
-    let mut posting = 0;
-    let mut position = 0;
-    let mut leaf = 0;
-    while leaf < leaf_fields.len() {
-        let end = write_run(
-            tokens,
-            token,
-            leaf as u32,
-            is_positional(fields, leaf_fields, leaf),
-            postings,
-            posting,
-            positions,
-            position,
+    let mut at = Cursor {
+        token: 0,
+        posting: 0,
+        position: 0,
+    };
+    for leaf in 0..records.leaf_fields.len() {
+        let positional = records.is_positional(leaf);
+        let end = write_run(records, at, leaf as u32, positional, postings, positions);
+        write_record(
+            runs,
+            leaf,
+            [at.posting as u32, (end.posting - at.posting) as u32],
         );
-        write_leaf(runs, leaf, posting as u32, (end.posting - posting) as u32);
-        token = end.token;
-        posting = end.posting;
-        position = end.position;
-        leaf += 1;
+        at = end;
     }
 }

@@ -1,23 +1,23 @@
 // Token records, three words each: leaf, document, position; what 15 asks of them, and how many postings and positions they fill.
 #![tactic(auto)]
 
-ghost use Rattle.std.specs.Prelude.{◌≡◌, false, ◌<◌, ◌-◌, ◌^◌, length};
+ghost use Rattle.std.specs.Prelude.{◌≡◌, false, ◌<◌, ◌-◌, length, is_err, IfOk, IfErr};
 ghost use Rattle.meaning.specs.Below.{any_below};
-ghost use Rattle.meaning.specs.Lent.{joined};
 ghost use Rattle.meaning.specs.Tokens.{token_count, token_at, not_after, positional};
 ghost use Rattle.meaning.specs.TokenRefusals.{wrong_token, wrong_leaf_field, wrong15};
 ghost use Rattle.tokens.specs.Records.{token_of};
 ghost use Rattle.tokens.specs.Counts.{begins_posting, Counts};
 
 use index::{fields, postings, wide};
+use refusal::Refusal;
 
 // The limits of the request: 16,777,216 tokens; of document 01: 512 leaves.
 const MAX_TOKENS: usize = 16777216;
 
 const MAX_LEAVES: usize = 512;
 
-// A token's record by value.
-#[derive(Drop)]
+// A token's record by value. Tokens are in the order of its fields.
+#[derive(Clone, Copy, PartialEq, Eq, PartialOrd, Ord)]
 pub struct Token {
     pub leaf: u32,
     pub document: u32,
@@ -36,16 +36,6 @@ pub fn token_at(tokens: &[u32], i: usize) -> Token
     }
 }
 
-// Leaf and document of token i as one number, in their order.
-fn posting_key(tokens: &[u32], i: usize) -> u64
-    requires { i < token_count tokens.now }
-    ensures value { result ≡ joined (token_at tokens.now i).document (token_at tokens.now i).leaf }
-    ensures i_bound { (token_at tokens.now i).document < 2 ^ 32 }
-{
-    let token = token_at(tokens, i);
-    token.document as u64 + token.leaf as u64 * 0x1_0000_0000
-}
-
 // Whether token i begins a posting: it is the first, or another leaf's or document's than the one before.
 fn begins_posting(tokens: &[u32], i: usize) -> bool
     requires { i < token_count tokens.now }
@@ -54,118 +44,98 @@ fn begins_posting(tokens: &[u32], i: usize) -> bool
     if i == 0 {
         return true;
     }
-    posting_key(tokens, i) != posting_key(tokens, i - 1)
-}
-
-// Whether token i, which is not the first, stands after the one before it or is equal to it.
-fn in_order(tokens: &[u32], i: usize) -> bool
-    requires { (0 < i) × (i < token_count tokens.now) }
-    ensures { result ≡ not_after (token_at tokens.now (i - 1)) (token_at tokens.now i) }
-{
-    let before = posting_key(tokens, i - 1);
-    let here = posting_key(tokens, i);
-    let position_before = token_at(tokens, i - 1).position;
-    let position = token_at(tokens, i).position;
-    (before < here) | ((before == here) & (position_before <= position))
-}
-
-// Token i: out of order, its leaf or document absent, or its position too large.
-fn wrong_token(max_doc: u32, tokens: &[u32], leaf_fields: &[u32], i: usize) -> bool
-    requires { i < token_count tokens.now }
-    ensures { result ≡ wrong_token max_doc leaf_fields.now tokens.now i }
-{
+    let before = token_at(tokens, i - 1);
     let here = token_at(tokens, i);
-    let absent = (wide(here.leaf) >= leaf_fields.len())
-        | (here.document >= max_doc)
-        | (here.position > postings::NO_MORE_DOCS);
-    if i == 0 {
-        return absent;
-    }
-    !in_order(tokens, i) | absent
+    (here.leaf != before.leaf) | (here.document != before.document)
 }
 
-// Whether a leaf's field has positions.
-pub fn is_positional(fields: &[u32], leaf_fields: &[u32], leaf: usize) -> bool
-    requires { (leaf < length leaf_fields.now) × (wrong_leaf_field fields.now leaf_fields.now leaf ≡ false) }
-    ensures { result ≡ positional fields.now leaf_fields.now leaf }
-{
-    fields::field_at(fields, wide(leaf_fields[leaf])).positions == 1
-}
-
-// What 15 says of the tokens, and how much they fill.
-#[derive(Drop)]
-pub struct Counted {
-    pub wrong: bool,
+// How many postings and positions tokens fill.
+#[derive(Clone, Copy)]
+pub struct Numbers {
     pub postings: usize,
     pub positions: usize,
 }
 
-// The tokens one after the other, up to the first that is wrong.
-fn count_tokens(max_doc: u32, fields: &[u32], tokens: &[u32], leaf_fields: &[u32]) -> Counted
-    requires { any_below (length leaf_fields.now) (wrong_leaf_field fields.now leaf_fields.now) ≡ false }
-    ensures wrong_value { result.wrong ≡ any_below (token_count tokens.now) (wrong_token max_doc leaf_fields.now tokens.now) }
-    ensures counts { Counts fields.now leaf_fields.now tokens.now result }
-{
-    let mut postings: usize = 0;
-    let mut positions: usize = 0;
-    let mut i = 0;
-    while i < tokens.len() / 3 {
-        if wrong_token(max_doc, tokens, leaf_fields, i) {
-            return Counted {
-                wrong: true,
-                postings,
-                positions,
-            };
-        }
-        if begins_posting(tokens, i) {
-            postings += 1;
-        }
-        if is_positional(fields, leaf_fields, wide(token_at(tokens, i).leaf)) {
-            positions += 1;
-        }
-        i += 1;
-    }
-    Counted {
-        wrong: false,
-        postings,
-        positions,
-    }
+// N, the field records, the token records, and the field of each leaf.
+#[derive(Clone, Copy)]
+pub struct TokenRecords<'a> {
+    pub max_doc: u32,
+    pub fields: &'a [u32],
+    pub tokens: &'a [u32],
+    pub leaf_fields: &'a [u32],
 }
 
-// Whether some leaf's field is absent.
-fn wrong_leaf_fields(fields: &[u32], leaf_fields: &[u32]) -> bool
-    ensures { result ≡ any_below (length leaf_fields.now) (wrong_leaf_field fields.now leaf_fields.now) }
-{
-    let mut bad = false;
-    let mut l = 0;
-    while l < leaf_fields.len() {
-        bad = bad | (wide(leaf_fields[l]) >= fields.len() / 3);
-        l += 1;
+impl TokenRecords<'_> {
+    // Token i: out of order, its leaf or document absent, or its position too large.
+    fn wrong_token(self, i: usize) -> bool
+        requires { i < token_count self.tokens.now }
+        ensures { result ≡ wrong_token self.entry.max_doc self.entry.leaf_fields.now self.entry.tokens.now i }
+    {
+        let here = token_at(self.tokens, i);
+        let absent = (wide(here.leaf) >= self.leaf_fields.len())
+            | (here.document >= self.max_doc)
+            | (here.position > postings::NO_MORE_DOCS);
+        if i == 0 {
+            return absent;
+        }
+        (here < token_at(self.tokens, i - 1)) | absent
     }
-    bad
-}
 
-// 15, the tokens and the leaves' fields, and how many postings and positions the tokens fill.
-pub fn check(max_doc: u32, fields: &[u32], tokens: &[u32], leaf_fields: &[u32]) -> Counted
-    ensures wrong_value { result.wrong ≡ wrong15 max_doc fields.now leaf_fields.now tokens.now }
-    ensures counts { Counts fields.now leaf_fields.now tokens.now result }
-{
-    let wrong = Counted {
-        wrong: true,
-        postings: 0,
-        positions: 0,
-    };
-    if tokens.len() % 3 != 0 {
-        return wrong;
+    // Whether a leaf's field has positions.
+    pub fn is_positional(self, leaf: usize) -> bool
+        requires { (leaf < length self.leaf_fields.now) × (wrong_leaf_field self.fields.now self.leaf_fields.now leaf ≡ false) }
+        ensures { result ≡ positional self.entry.fields.now self.entry.leaf_fields.now leaf }
+    {
+        fields::field_at(self.fields, wide(self.leaf_fields[leaf])).positions == 1
     }
-    if tokens.len() / 3 > MAX_TOKENS {
-        return wrong;
+
+    // The tokens one after the other, up to the first that is wrong.
+    fn count_tokens(self) -> Result<Numbers, Refusal>
+        requires { any_below (length self.leaf_fields.now) (wrong_leaf_field self.fields.now self.leaf_fields.now) ≡ false }
+        ensures wrong { is_err result ≡ any_below (token_count self.entry.tokens.now) (wrong_token self.entry.max_doc self.entry.leaf_fields.now self.entry.tokens.now) }
+        ensures refusal { IfErr result (λ r. r ≡ Refusal.Tokens) }
+        ensures counts { IfOk result (Counts self.entry.fields.now self.entry.leaf_fields.now self.entry.tokens.now) }
+    {
+        let mut postings = 0;
+        let mut positions = 0;
+        for i in 0..self.tokens.len() / 3 {
+            if self.wrong_token(i) {
+                return Err(Refusal::Tokens);
+            }
+            if begins_posting(self.tokens, i) {
+                postings += 1;
+            }
+            if self.is_positional(wide(token_at(self.tokens, i).leaf)) {
+                positions += 1;
+            }
+        }
+        Ok(Numbers {
+            postings,
+            positions,
+        })
     }
-    if leaf_fields.len() > MAX_LEAVES {
-        return wrong;
+
+    // Whether some leaf's field is absent.
+    fn wrong_leaf_fields(self) -> bool
+        ensures { result ≡ any_below (length self.entry.leaf_fields.now) (wrong_leaf_field self.entry.fields.now self.entry.leaf_fields.now) }
+    {
+        let number = self.fields.len() / 3;
+        self.leaf_fields.iter().any(|f| wide(*f) >= number)
     }
-    if wrong_leaf_fields(fields, leaf_fields) {
-        return wrong;
+
+    // 15, the tokens and the leaves' fields, and how many postings and positions the tokens fill.
+    pub fn check(self) -> Result<Numbers, Refusal>
+        ensures wrong { is_err result ≡ wrong15 self.entry.max_doc self.entry.fields.now self.entry.leaf_fields.now self.entry.tokens.now }
+        ensures refusal { IfErr result (λ r. r ≡ Refusal.Tokens) }
+        ensures counts { IfOk result (Counts self.entry.fields.now self.entry.leaf_fields.now self.entry.tokens.now) }
+    {
+        if (self.tokens.len() % 3 != 0)
+            | (self.tokens.len() / 3 > MAX_TOKENS)
+            | (self.leaf_fields.len() > MAX_LEAVES)
+            | self.wrong_leaf_fields()
+        {
+            return Err(Refusal::Tokens);
+        }
+        self.count_tokens()
     }
-    count_tokens(max_doc, fields, tokens, leaf_fields)
 }

@@ -24,14 +24,15 @@ pub fn gathered(
     ensures { Gathers words.now stride first number base from result.bits result.at }
 {
     let mut w = 0;
-    let mut i = from;
-    while i < number {
+    for i in from..number {
         let place = document(words, stride, first, i) - base;
         if 64 <= place {
             return InWindow { bits: w, at: i };
         }
         w = bits::set_bit(w, place);
-        i += 1;
     }
-    InWindow { bits: w, at: i }
+    InWindow {
+        bits: w,
+        at: number,
+    }
 }
