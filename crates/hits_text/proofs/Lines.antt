@@ -1,5 +1,5 @@
 -- Laws of the lines of hits: one line more, and how long a line is. Assumes nothing.
-use mathlib.Core.Path.{◌≡◌, sym, ap, ◌∙◌}
+use mathlib.Core.Path.{◌≡◌, refl, sym, ap, ◌∙◌}
 use mathlib.Core.List.{List, [], ◌∷◌, ◌++◌, append_assoc, append-nil}
 use Prim.Native.Nat.{ℕ, ◌+◌, ◌≤◌, ◌<◌}
 use native.Mathlib.Numerals.{add-one}
@@ -13,6 +13,10 @@ use Rattle.hits_text.specs.Text.{decimal, hex8, score_bits, hit_line, hit_lines}
 use Rattle.hits_text.specs.Puts.{Put}
 use Rattle.hits_text.proofs.Putting.{put_same, put-more}
 use Rattle.hits_text.proofs.Numbers.{decimal-short, length-hex}
+
+pub lines-none : hit_lines [] ≡ []
+unfolding hit_lines
+lines-none = refl
 
 pub lines-last : (cs : List ℤ) (c : ℤ) → hit_lines (cs ++ (c ∷ [])) ≡ hit_lines cs ++ hit_line c
 unfolding hit_lines

@@ -1,38 +1,44 @@
 // Which files the program takes.
 ghost use Rattle.std.specs.Prelude.{◌≡◌, ◌<◌};
-ghost use Rattle.hits_text.specs.Text.{files, whole as whole_file, taken as taken_files};
+ghost use Rattle.hits_text.specs.Text.{whole as whole_file, taken as taken_files};
+ghost use Rattle.hits_text.specs.Contents.{files_of};
+
+// What was read of each of the ten files.
+#[derive(Clone, Copy)]
+pub struct Contents<'a> {
+    pub run: &'a [u8],
+    pub fields: &'a [u8],
+    pub leaves: &'a [u8],
+    pub postings: &'a [u8],
+    pub positions: &'a [u8],
+    pub norms: &'a [u8],
+    pub live: &'a [u8],
+    pub columns: &'a [u8],
+    pub values: &'a [u8],
+    pub query: &'a [u8],
+}
 
 // Whether a file is not too long and of whole words of so many bytes.
 fn whole(bytes: &[u8], size: usize) -> bool
     requires { 0 < size }
     ensures { result ≡ whole_file size bytes.now }
 {
-    (bytes.len() <= 65536) & (bytes.len() % size == 0)
+    bytes.len() <= 65536 && bytes.len() % size == 0
 }
 
 // Whether each file is one that the program takes.
-pub fn taken(
-    run: &[u8],
-    fields: &[u8],
-    leaves: &[u8],
-    postings: &[u8],
-    positions: &[u8],
-    norms: &[u8],
-    live: &[u8],
-    columns: &[u8],
-    values: &[u8],
-    query: &[u8],
-) -> bool
-    ensures { result ≡ taken_files (files run.now fields.now leaves.now postings.now positions.now norms.now live.now columns.now values.now query.now) }
+#[tactic(auto, unfolding(crate::specs::Text::taken))]
+pub fn taken(files: Contents) -> bool
+    ensures { result ≡ taken_files (files_of files.entry) }
 {
-    (run.len() == 12)
-        & whole(fields, 4)
-        & whole(leaves, 4)
-        & whole(postings, 4)
-        & whole(positions, 4)
-        & whole(norms, 1)
-        & whole(live, 8)
-        & whole(columns, 4)
-        & whole(values, 4)
-        & whole(query, 4)
+    files.run.len() == 12
+        && whole(files.fields, 4)
+        && whole(files.leaves, 4)
+        && whole(files.postings, 4)
+        && whole(files.positions, 4)
+        && whole(files.norms, 1)
+        && whole(files.live, 8)
+        && whole(files.columns, 4)
+        && whole(files.values, 4)
+        && whole(files.query, 4)
 }

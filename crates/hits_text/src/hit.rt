@@ -4,6 +4,7 @@ ghost use Rattle.meaning.specs.Hits.{to_doc};
 ghost use Rattle.hits_text.specs.Text.{score_bits, hit_line, hit_lines, found_text, refused_text};
 ghost use Rattle.hits_text.specs.Puts.{Put};
 
+use crate::text::{put_byte, put_decimal, put_hex, put_text};
 use collector::codes::{sortable_bits, to_doc};
 
 // A code's document; 0 where the lower word has no document.
@@ -29,10 +30,10 @@ fn put_hit(code: i64, out: &mut [u8], at: usize) -> usize
     ensures put { Put out.old at (hit_line code) result out.new }
     ensures upper_bound { result ≤ at + 30 }
 {
-    let blank = crate::text::put_decimal(document(code) as u64, out, at);
-    let bits = crate::text::put_byte(b' ', out, blank);
-    let end = crate::text::put_hex(score_bits(code) as u64, 8, out, bits);
-    crate::text::put_byte(b'\n', out, end)
+    let blank = put_decimal(u64::from(document(code)), out, at);
+    let bits = put_byte(b' ', out, blank);
+    let end = put_hex(u64::from(score_bits(code)), 8, out, bits);
+    put_byte(b'\n', out, end)
 }
 
 fn put_hits(codes: &[i64], out: &mut [u8], at: usize) -> usize
@@ -40,10 +41,8 @@ fn put_hits(codes: &[i64], out: &mut [u8], at: usize) -> usize
     ensures { Put out.old at (hit_lines codes.now) result out.new }
 {
     let mut next = at;
-    let mut i = 0;
-    while i < codes.len() {
-        next = put_hit(codes[i], out, next);
-        i += 1;
+    for &code in codes {
+        next = put_hit(code, out, next);
     }
     next
 }
@@ -53,13 +52,13 @@ pub fn put_found(count: u64, marked: bool, codes: &[i64], out: &mut [u8]) -> usi
     requires { 28 + 30 * length codes.now ≤ length out.old }
     ensures { Put out.old 0 (found_text count marked codes.now) result out.new }
 {
-    let number = crate::text::put_text(b"count ", out, 0);
-    let mark = crate::text::put_decimal(count, out, number);
+    let number = put_text(b"count ", out, 0);
+    let mark = put_decimal(count, out, number);
     if marked {
-        let end = crate::text::put_text(b"+\n", out, mark);
+        let end = put_text(b"+\n", out, mark);
         return put_hits(codes, out, end);
     }
-    let end = crate::text::put_byte(b'\n', out, mark);
+    let end = put_byte(b'\n', out, mark);
     put_hits(codes, out, end)
 }
 
@@ -67,7 +66,7 @@ pub fn put_refused(number: u32, out: &mut [u8]) -> usize
     requires { 29 ≤ length out.old }
     ensures { Put out.old 0 (refused_text number) result out.new }
 {
-    let at = crate::text::put_text(b"refused ", out, 0);
-    let end = crate::text::put_decimal(number as u64, out, at);
-    crate::text::put_byte(b'\n', out, end)
+    let at = put_text(b"refused ", out, 0);
+    let end = put_decimal(u64::from(number), out, at);
+    put_byte(b'\n', out, end)
 }

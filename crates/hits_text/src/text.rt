@@ -1,4 +1,5 @@
 // Bytes, decimal and hexadecimal numbers put into a lent output at a place; each answers the place after what it put.
+// Kept: no plainer: a struct of the output and the place would pass through the same calls, and each would still say where it ends.
 ghost use Rattle.std.specs.Prelude.{◌≡◌, [], ◌∷◌, ◌+◌, ◌≤◌, ◌<◌, length};
 ghost use Rattle.hits_text.specs.Text.{digit_of, decimal, hex_digits};
 ghost use Rattle.hits_text.specs.Puts.{Put};
@@ -15,13 +16,9 @@ pub fn put_text(text: &[u8], out: &mut [u8], at: usize) -> usize
     requires { at + length text.now ≤ length out.old }
     ensures { Put out.old at text.now result out.new }
 {
-    let mut next = at;
-    let mut i = 0;
-    while i < text.len() {
-        next = put_byte(text[i], out, next);
-        i += 1;
-    }
-    next
+    let end = at + text.len();
+    out[at..end].copy_from_slice(text);
+    end
 }
 
 // The ASCII code of a digit below 16.

@@ -1,13 +1,7 @@
 // The words of a file's bytes.
-ghost use Rattle.std.specs.Prelude.{◌≡◌, ◌+◌, ◌*◌, ◌/◌, ◌≤◌, ◌<◌, length, take};
+ghost use Rattle.std.specs.Prelude.{ℕ, ◌≡◌, ◌+◌, ◌*◌, ◌/◌, ◌≤◌, ◌<◌, length, take, slice_index_or};
 ghost use Rattle.io.specs.Counts.{IsPrefixLen};
 ghost use Rattle.hits_text.specs.Text.{word_at, long_at, words_of, longs_of};
-
-fn wide(b: u8) -> u32
-    ensures { (result ≡ b) × (b < 256) }
-{
-    b as u32
-}
 
 // The i-th little-endian word of 32 bits.
 pub fn word_at(bytes: &[u8], i: usize) -> u32
@@ -15,10 +9,7 @@ pub fn word_at(bytes: &[u8], i: usize) -> u32
     ensures { result ≡ word_at bytes.now i }
 {
     let at = 4 * i;
-    let a = wide(bytes[at]);
-    let b = wide(bytes[at + 1]);
-    let c = wide(bytes[at + 2]);
-    let d = wide(bytes[at + 3]);
+    let [a, b, c, d] = [bytes[at], bytes[at + 1], bytes[at + 2], bytes[at + 3]].map(u32::from);
     a + 256 * b + 65536 * c + 16777216 * d
 }
 
@@ -29,7 +20,17 @@ fn long_at(bytes: &[u8], i: usize) -> u64
 {
     let low = word_at(bytes, 2 * i);
     let high = word_at(bytes, 2 * i + 1);
-    low as u64 + high as u64 * 4294967296
+    u64::from(low) + u64::from(high) * 4294967296
+}
+
+// Each word of a slice, by its place.
+fn fill<W: Copy, F: Fn(usize) -> W>(words: &mut [W], word: F)
+    requires { (i : ℕ) → i < length words.old → F.pre word i }
+    ensures { (i : ℕ) (d : W) → i < length words.new → F.post word i (slice_index_or words.new i d) }
+{
+    for (i, place) in words.iter_mut().enumerate() {
+        *place = word(i);
+    }
 }
 
 // All words, from the front; how many there are.
@@ -39,11 +40,11 @@ pub fn read_words(bytes: &[u8], words: &mut [u32]) -> usize
     ensures words_after { take result words.new ≡ words_of bytes.now }
 {
     let n = bytes.len() / 4;
-    let mut i = 0;
-    while i < n {
-        words[i] = word_at(bytes, i);
-        i += 1;
-    }
+    let word = |i: usize| -> u32
+        requires { 4 * i + 3 < length bytes.now }
+        ensures { result ≡ word_at bytes.entry.now i }
+    { word_at(bytes, i) };
+    fill(&mut words[..n], word);
     n
 }
 
@@ -53,10 +54,10 @@ pub fn read_longs(bytes: &[u8], words: &mut [u64]) -> usize
     ensures words_after { take result words.new ≡ longs_of bytes.now }
 {
     let n = bytes.len() / 8;
-    let mut i = 0;
-    while i < n {
-        words[i] = long_at(bytes, i);
-        i += 1;
-    }
+    let word = |i: usize| -> u64
+        requires { 8 * i + 7 < length bytes.now }
+        ensures { result ≡ long_at bytes.entry.now i }
+    { long_at(bytes, i) };
+    fill(&mut words[..n], word);
     n
 }

@@ -4,64 +4,40 @@
 // it stands; then the lists' words. What norm bytes and live words hold is refused by nothing, so they are made here.
 #![tactic(auto)]
 
-ghost use Rattle.std.specs.Prelude.{◌+◌, ◌≤◌, length};
-
 use refusal::Refusal;
 use std::io;
 use std::io::Write;
-use vectors::file::{list, size};
+use vectors::file::{first, list};
 
-// So many bytes, or all.
-fn first_bytes(bytes: &[u8], number: usize) -> &[u8] {
-    if number <= bytes.len() {
-        return &bytes[..number];
-    }
-    bytes
-}
-
-fn first_words(words: &[u64], number: usize) -> &[u64] {
-    if number <= words.len() {
-        return &words[..number];
-    }
-    words
-}
-
-fn print_answer(out: &mut impl Write, answer: Result<(), Refusal>) -> io::Result<()> {
-    match answer {
-        Ok(()) => writeln!(out, "0"),
-        Err(refusal) => writeln!(out, "{refusal}"),
-    }
-}
-
-// The lowest of 1 to 10 for the case at `at`, or 0.
-fn print_refusal(
-    out: &mut impl Write,
-    file: &[u32],
-    norms: &[u8],
-    live: &[u64],
-    at: usize,
-) -> io::Result<()>
-    requires { at + 10 ≤ length file.now }
-{
-    let fields = list(file, file[at + 3]);
-    let leaves = list(file, file[at + 4]);
-    let columns = list(file, file[at + 7]);
-    let query = list(file, file[at + 9]);
-    let index = index_check::check_index(
-        file[at],
+// Checks a case's index, then its query; its norm bytes and live words are the first of the given ones.
+fn check(file: &[u32], norms: &[u8], live: &[u64], case: [u32; 10]) -> Result<(), Refusal> {
+    let [
+        max_doc,
+        norm_bytes,
+        live_words,
         fields,
         leaves,
-        list(file, file[at + 5]),
-        list(file, file[at + 6]),
-        first_bytes(norms, size(file[at + 1])),
-        first_words(live, size(file[at + 2])),
+        postings,
+        positions,
         columns,
-        list(file, file[at + 8]),
-    );
-    print_answer(
-        out,
-        index.and_then(|()| query_check::check_query(query, fields, leaves, columns)),
-    )
+        values,
+        query,
+    ] = case;
+    let fields = list(file, fields);
+    let leaves = list(file, leaves);
+    let columns = list(file, columns);
+    index_check::check_index(
+        max_doc,
+        fields,
+        leaves,
+        list(file, postings),
+        list(file, positions),
+        first(norms, norm_bytes as usize),
+        first(live, live_words as usize),
+        columns,
+        list(file, values),
+    )?;
+    query_check::check_query(list(file, query), fields, leaves, columns)
 }
 
 fn print_refusals(
@@ -70,17 +46,15 @@ fn print_refusals(
     norms: &[u8],
     live: &[u64],
 ) -> io::Result<()> {
-    if file.len() == 0 {
+    let Some((number, words)) = file.split_first() else {
         return Ok(());
-    }
-    let cases = size(file[0]);
-    let mut i = 0;
-    while i < cases {
-        if file.len() / 10 <= i + 1 {
-            return Ok(());
+    };
+    let (cases, _) = words.as_chunks::<10>();
+    for case in first(cases, *number as usize) {
+        match check(file, norms, live, *case) {
+            Ok(()) => writeln!(out, "0")?,
+            Err(refusal) => writeln!(out, "{refusal}")?,
         }
-        print_refusal(out, file, norms, live, 1 + 10 * i)?;
-        i += 1;
     }
     Ok(())
 }

@@ -9,142 +9,90 @@ use searcher::search::Searched;
 use std::io;
 use std::io::Write;
 use std::rt::Files;
-use vectors::file::{bytes_at, list_at, size, word};
+use vectors::file::{bytes_at, first, list};
+use vectors::lists::Index;
 use weight::NODE_STATE_WORDS;
 
-fn print_refused(out: &mut impl Write, number: u32) -> io::Result<()> {
-    writeln!(out, "refused {number}")
-}
-
-fn print_searched(out: &mut impl Write, searched: Searched, hits: &[i64]) -> io::Result<()> {
-    match searched {
-        Searched::Refused(number) => print_refused(out, number),
-        Searched::Found(top) => vectors::print_hits(out, top.count, top.mark, hits, top.held),
-    }
-}
+// The most places that a page has.
+const PLACES: usize = 128;
 
 // The hits, in buffers that hold rubbish before.
-fn search(
-    out: &mut impl Write,
-    max_doc: u32,
-    fields: &[u32],
-    leaves: &[u32],
-    postings: &[u32],
-    positions: &[u32],
-    norms: &[u8],
-    live: &[u64],
-    columns: &[u32],
-    values: &[u32],
-    q: &[u32],
-    k: u32,
-    t: u32,
-) -> io::Result<()> {
+fn search(out: &mut impl Write, index: Index, query: &[u32], k: u32, t: u32) -> io::Result<()> {
     let mut states = [0xdead_beefu32; 256 * NODE_STATE_WORDS];
-    let mut a = [7i32; 64];
-    let mut b = [-7i32; 64];
+    let mut starts = [7i32; 64];
+    let mut other_starts = [-7i32; 64];
     let mut ranges = [0xdead_beefu32; 1024];
     let mut hits = [-1i64; 1024];
     let searched = searcher::search::search(
-        max_doc,
-        fields,
-        leaves,
-        postings,
-        positions,
-        norms,
-        live,
-        columns,
-        values,
-        q,
+        index.max_doc,
+        index.fields,
+        index.leaves,
+        index.postings,
+        index.positions,
+        index.norms,
+        index.live,
+        index.columns,
+        index.values,
+        query,
         k,
         t,
         &mut states,
-        &mut a,
-        &mut b,
+        &mut starts,
+        &mut other_starts,
         &mut ranges,
         &mut hits,
     );
-    print_searched(out, searched, &hits)
-}
-
-fn print_paged(
-    out: &mut impl Write,
-    paged: Paged,
-    documents: &[u32],
-    scores: &[u32],
-) -> io::Result<()> {
-    match paged {
-        Paged::Refused(number) => print_refused(out, number),
-        Paged::Given(page) => vectors::print_page(out, documents, scores, page.given, page.next),
+    match searched {
+        Searched::Refused(number) => writeln!(out, "refused {number}"),
+        Searched::Found(top) => vectors::print_hits(out, top.count, top.mark, &hits, top.held),
     }
 }
 
-// A page, for which the work buffers hold rubbish before.
+// A page into the lent places, for which the work buffers hold rubbish before.
 fn page(
     out: &mut impl Write,
-    max_doc: u32,
-    fields: &[u32],
-    leaves: &[u32],
-    postings: &[u32],
-    positions: &[u32],
-    norms: &[u8],
-    live: &[u64],
-    columns: &[u32],
-    values: &[u32],
-    q: &[u32],
+    index: Index,
+    query: &[u32],
     target: u32,
     documents: &mut [u32],
     scores: &mut [u32],
 ) -> io::Result<()> {
     let mut states = [0xdead_beefu32; 256 * NODE_STATE_WORDS];
-    let mut a = [-7i32; 64];
-    let mut b = [7i32; 64];
+    let mut starts = [-7i32; 64];
+    let mut other_starts = [7i32; 64];
     let mut ranges = [0xdead_beefu32; 1024];
     let paged = searcher::page::page(
-        max_doc,
-        fields,
-        leaves,
-        postings,
-        positions,
-        norms,
-        live,
-        columns,
-        values,
-        q,
+        index.max_doc,
+        index.fields,
+        index.leaves,
+        index.postings,
+        index.positions,
+        index.norms,
+        index.live,
+        index.columns,
+        index.values,
+        query,
         target,
         &mut states,
-        &mut a,
-        &mut b,
+        &mut starts,
+        &mut other_starts,
         &mut ranges,
         documents,
         scores,
     );
-    print_paged(out, paged, documents, scores)
+    match paged {
+        Paged::Refused(number) => writeln!(out, "refused {number}"),
+        Paged::Given(page) => vectors::print_page(out, documents, scores, page.given, page.next),
+    }
 }
 
-// A page of so many places, at most 128.
-fn page_of(
-    out: &mut impl Write,
-    max_doc: u32,
-    fields: &[u32],
-    leaves: &[u32],
-    postings: &[u32],
-    positions: &[u32],
-    norms: &[u8],
-    live: &[u64],
-    columns: &[u32],
-    values: &[u32],
-    q: &[u32],
-    target: u32,
-    places: usize,
-) -> io::Result<()> {
-    let mut documents = [0u32; 128];
-    let mut scores = [0u32; 128];
-    if 128 < places {
-        return Ok(());
-    }
-    page(
-        out,
+fn print_case(out: &mut impl Write, file: &[u32], bytes: &[u8], case: [u32; 14]) -> io::Result<()> {
+    let [
         max_doc,
+        k,
+        t,
+        target,
+        places,
         fields,
         leaves,
         postings,
@@ -153,86 +101,61 @@ fn page_of(
         live,
         columns,
         values,
-        q,
+        query,
+    ] = case;
+    let mut longs = [0u64; 16];
+    let index = Index {
+        max_doc,
+        fields: list(file, fields),
+        leaves: list(file, leaves),
+        postings: list(file, postings),
+        positions: list(file, positions),
+        norms: bytes_at(bytes, norms),
+        live: vectors::file::read_long_words(list(file, live), &mut longs),
+        columns: list(file, columns),
+        values: list(file, values),
+    };
+    let query = list(file, query);
+    search(out, index, query, k, t)?;
+    let mut documents = [0u32; PLACES];
+    let mut scores = [0u32; PLACES];
+    let places = places as usize;
+    if PLACES < places {
+        return Ok(());
+    }
+    page(
+        out,
+        index,
+        query,
         target,
         &mut documents[..places],
         &mut scores[..places],
     )
 }
 
-// The case at `at`.
-fn print_case(out: &mut impl Write, file: &[u32], bytes: &[u8], at: usize) -> io::Result<()> {
-    let max_doc = word(file, at, 0);
-    let fields = list_at(file, at, 5);
-    let leaves = list_at(file, at, 6);
-    let postings = list_at(file, at, 7);
-    let positions = list_at(file, at, 8);
-    let norms = bytes_at(bytes, word(file, at, 9));
-    let mut longs = [0u64; 16];
-    let number = vectors::file::read_long_words(list_at(file, at, 10), &mut longs);
-    let live = vectors::file::first_long_words(&longs, number);
-    let columns = list_at(file, at, 11);
-    let values = list_at(file, at, 12);
-    let q = list_at(file, at, 13);
-    search(
-        out,
-        max_doc,
-        fields,
-        leaves,
-        postings,
-        positions,
-        norms,
-        live,
-        columns,
-        values,
-        q,
-        word(file, at, 1),
-        word(file, at, 2),
-    )?;
-    page_of(
-        out,
-        max_doc,
-        fields,
-        leaves,
-        postings,
-        positions,
-        norms,
-        live,
-        columns,
-        values,
-        q,
-        word(file, at, 3),
-        size(word(file, at, 4)),
-    )
-}
-
 fn print_cases(out: &mut impl Write, file: &[u32], bytes: &[u8]) -> io::Result<()> {
-    let cases = size(word(file, 0, 0));
-    let mut i = 0;
-    while i < cases {
-        print_case(out, file, bytes, 1 + 14 * i)?;
-        i += 1;
+    let Some((number, words)) = file.split_first() else {
+        return Ok(());
+    };
+    let (cases, _) = words.as_chunks::<14>();
+    for case in first(cases, *number as usize) {
+        print_case(out, file, bytes, *case)?;
     }
     Ok(())
 }
 
-fn print_words(out: &mut impl Write, bytes: &[u8]) -> io::Result<()> {
-    let mut file = [0u32; 16_384];
-    vectors::file::read_words(bytes, &mut file);
-    print_cases(out, &file, bytes)
-}
-
 fn print_file(out: &mut impl Write, rt: &(impl Files + Eprint), path: &str) -> io::Result<()> {
     let mut bytes = [0u8; 65_536];
+    let mut file = [0u32; 16_384];
     vectors::file::read_bytes(rt, path, &mut bytes)?;
-    print_words(out, &bytes)
+    vectors::file::read_words(&bytes, &mut file);
+    print_cases(out, &file, &bytes)
 }
 
 fn main(rt: HostRuntime) -> io::Result<()> {
     let mut out = io::writer(&rt);
-    print_file(&mut out, &rt, "cases1.rec")?;
-    print_file(&mut out, &rt, "cases2.rec")?;
-    print_file(&mut out, &rt, "cases3.rec")?;
-    print_file(&mut out, &rt, "cases4.rec")?;
+    for path in ["cases1.rec", "cases2.rec", "cases3.rec", "cases4.rec"] {
+        print_file(&mut out, &rt, path)?;
+    }
     out.flush()
 }

@@ -1,6 +1,6 @@
 -- Files that are not taken are refused, and the words of the others are searched.
 use Rattle.std.proofs.Common.{ℕ, ◌/◌, ◌≤◌, sym, ◌∙◌, arith}
-use Rattle.hits_text.specs.Text.{files}
+use Rattle.hits_text.specs.Contents.{files_of}
 use Rattle.hits_text.proofs.Putting.{put_front}
 use Rattle.hits.proofs.Taken.{sizes-of, refused-files, taken-files}
 use Rattle.hits.proofs.report.report.Goals as goal
@@ -12,31 +12,31 @@ quarter n h = omega arith
 pub returns-then-not-taken-clause-out_after : goal.returns-then-not-taken-clause-out_after
 returns-then-not-taken-clause-out_after c =
     put_front c.args.out.now _ c.put_refused.result c.put_refused.new.out c.put_refused.ensures
-    ∙ refused-files (files c.args.run.now c.args.fields.now c.args.leaves.now c.args.postings.now c.args.positions.now c.args.norms.now c.args.live.now c.args.columns.now c.args.values.now c.args.query.now) (sym c.taken.ensures ∙ c.if-not-taken.true)
+    ∙ refused-files (files_of c.args.files) (sym c.taken.ensures ∙ c.if-not-taken.true)
+
+pub read_words-a-requires : goal.read_words-a-requires
+read_words-a-requires c = quarter _ (sizes-of _ (sym c.taken.ensures ∙ c.if-not-taken.false)).fields
 
 pub read_words-b-requires : goal.read_words-b-requires
-read_words-b-requires c = quarter _ (sizes-of _ (sym c.taken.ensures ∙ c.if-not-taken.false)).fields
+read_words-b-requires c = quarter _ (sizes-of _ (sym c.taken.ensures ∙ c.if-not-taken.false)).leaves
 
 pub read_words-c-requires : goal.read_words-c-requires
-read_words-c-requires c = quarter _ (sizes-of _ (sym c.taken.ensures ∙ c.if-not-taken.false)).leaves
+read_words-c-requires c = quarter _ (sizes-of _ (sym c.taken.ensures ∙ c.if-not-taken.false)).postings
 
 pub read_words-d-requires : goal.read_words-d-requires
-read_words-d-requires c = quarter _ (sizes-of _ (sym c.taken.ensures ∙ c.if-not-taken.false)).postings
+read_words-d-requires c = quarter _ (sizes-of _ (sym c.taken.ensures ∙ c.if-not-taken.false)).positions
 
-pub read_words-e-requires : goal.read_words-e-requires
-read_words-e-requires c = quarter _ (sizes-of _ (sym c.taken.ensures ∙ c.if-not-taken.false)).positions
+pub read_longs-e-requires : goal.read_longs-e-requires
+read_longs-e-requires c = let s = sizes-of _ (sym c.taken.ensures ∙ c.if-not-taken.false) in omega (arith, s.live)
 
-pub read_longs-g-requires : goal.read_longs-g-requires
-read_longs-g-requires c = let s = sizes-of _ (sym c.taken.ensures ∙ c.if-not-taken.false) in omega (arith, s.live)
+pub read_words-f-requires : goal.read_words-f-requires
+read_words-f-requires c = quarter _ (sizes-of _ (sym c.taken.ensures ∙ c.if-not-taken.false)).columns
+
+pub read_words-g-requires : goal.read_words-g-requires
+read_words-g-requires c = quarter _ (sizes-of _ (sym c.taken.ensures ∙ c.if-not-taken.false)).values
 
 pub read_words-h-requires : goal.read_words-h-requires
-read_words-h-requires c = quarter _ (sizes-of _ (sym c.taken.ensures ∙ c.if-not-taken.false)).columns
-
-pub read_words-i-requires : goal.read_words-i-requires
-read_words-i-requires c = quarter _ (sizes-of _ (sym c.taken.ensures ∙ c.if-not-taken.false)).values
-
-pub read_words-j-requires : goal.read_words-j-requires
-read_words-j-requires c = quarter _ (sizes-of _ (sym c.taken.ensures ∙ c.if-not-taken.false)).query
+read_words-h-requires c = quarter _ (sizes-of _ (sym c.taken.ensures ∙ c.if-not-taken.false)).query
 
 pub word_at-requires : goal.word_at-requires
 word_at-requires c = let s = sizes-of _ (sym c.taken.ensures ∙ c.if-not-taken.false) in omega (arith, s.run)
@@ -49,7 +49,7 @@ word_at-requires-3 c = let s = sizes-of _ (sym c.taken.ensures ∙ c.if-not-take
 
 pub returns-clause-out_after : goal.returns-clause-out_after
 returns-clause-out_after c =
-    let a = c.args in
+    let a = c.args.files in
     let text =
-    taken-files a.run.now a.fields.now a.leaves.now a.postings.now a.positions.now a.norms.now a.live.now a.columns.now a.values.now a.query.now (sym c.taken.ensures ∙ c.if-not-taken.false) c.word_at.result c.word_at-2.result c.word_at-3.result _ _ _ _ _ _ _ _ c.word_at.ensures c.word_at-2.ensures c.word_at-3.ensures c.read_words-b.ensures.words_after c.read_words-c.ensures.words_after c.read_words-d.ensures.words_after c.read_words-e.ensures.words_after c.read_longs-g.ensures.words_after c.read_words-h.ensures.words_after c.read_words-i.ensures.words_after c.read_words-j.ensures.words_after in
+    taken-files a.run.now a.fields.now a.leaves.now a.postings.now a.positions.now a.norms.now a.live.now a.columns.now a.values.now a.query.now (sym c.taken.ensures ∙ c.if-not-taken.false) c.word_at.result c.word_at-2.result c.word_at-3.result _ _ _ _ _ _ _ _ c.word_at.ensures c.word_at-2.ensures c.word_at-3.ensures c.read_words-a.ensures.words_after c.read_words-b.ensures.words_after c.read_words-c.ensures.words_after c.read_words-d.ensures.words_after c.read_longs-e.ensures.words_after c.read_words-f.ensures.words_after c.read_words-g.ensures.words_after c.read_words-h.ensures.words_after in
     c.answer.ensures.holds ∙ text

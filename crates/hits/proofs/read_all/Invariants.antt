@@ -1,9 +1,0 @@
--- `read_all` meets its contract: what was read stands at the front. Its measure is the room that is left.
-use Rattle.std.proofs.Common.{◌≤◌, length, ◌-◌}
-use Rattle.hits.proofs.read_all.Given as goal
-
-abbrev pub invariant-loop-done : goal.invariant-loop-done
-invariant-loop-done g l = l.done ≤ length l.bytes
-
-abbrev pub decreases-loop-done : goal.decreases-loop-done
-decreases-loop-done g l = length l.initial.bytes - l.done
