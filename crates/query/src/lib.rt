@@ -21,6 +21,7 @@ pub fn record_count(q: &[u32]) -> usize
 }
 
 // A word of the record at `at`.
+// Kept: no plainer: a struct of `q` and `at` would be made anew at each record, and `kind_at(q, at)` reads as the definitions' `record_kind q at`.
 pub fn kind(q: &[u32], at: usize) -> u32
     requires { at < record_count q.now }
     ensures { result ≡ record_kind q.now at }

@@ -37,7 +37,7 @@ pub fn ranges_needed(max_doc: u32, q: &[u32]) -> u64
     if ranges == 0 {
         return 0;
     }
-    max_doc as u64 * (ranges + 1)
+    u64::from(max_doc) * (ranges + 1)
 }
 
 // The largest frequency in a run of postings.

@@ -12,8 +12,9 @@ overflow_add-result c =
 
 pub overflow_mul-result : goal.overflow_mul-result
 overflow_mul-result c =
-    record { fits = product-fits c.args.max_doc c.range_records-ranges.result c.ranges.max_doc.fits (omega (arith, few-ranges c.args.q.now c.range_records-ranges.result c.range_records-ranges.ensures)) }
+    rw c.from.ensures
+    (record { fits = product-fits c.args.max_doc c.range_records-ranges.result c.ranges.max_doc.fits (omega (arith, few-ranges c.args.q.now c.range_records-ranges.result c.range_records-ranges.ensures)) })
 
 pub returns : goal.returns
 returns c =
-    λ ix e. ranges-words ix c.args.q.now c.args.max_doc c.range_records-ranges.result e c.range_records-ranges.ensures c.if-ranges-eq0.false
+    λ ix e. rw c.from.ensures (ranges-words ix c.args.q.now c.args.max_doc c.range_records-ranges.result e c.range_records-ranges.ensures c.if-ranges-eq0.false)
