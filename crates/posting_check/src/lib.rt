@@ -12,7 +12,6 @@ use adjacent_leaves::plain_leaves;
 use index::fields::field_at;
 use index::leaves::leaf_at;
 use index::postings::{LARGEST_FREQUENCY, NO_MORE_DOCS};
-use index::wide;
 use posting_positions::wrong_run_places;
 
 // The records of a run in one pass without a branch. The or of all words shows in its high bits whether one is too large:
@@ -52,9 +51,9 @@ fn wrong_run(
     ensures { result ≡ any_below (leaf_number (leaves_only [] leaves.now []) l) (wrong_posting (runs_only max_doc fields.now leaves.now postings.now positions.now) l) }
 {
     let leaf = leaf_at(leaves, l);
-    let field = field_at(fields, wide(leaf.field));
-    let from = 3 * wide(leaf.first);
-    let to = from + 3 * wide(leaf.number);
+    let field = field_at(fields, leaf.field as usize);
+    let from = 3 * leaf.first as usize;
+    let to = from + 3 * leaf.number as usize;
     let run = &postings[from..to];
     if field.positions == 1 {
         if wrong_records(run, max_doc, true) {

@@ -1,8 +1,6 @@
 -- A run whose postings' positions follow one another: one pass over all of them. Assumes nothing.
-use Rattle.std.proofs.Common.{◌≡◌, ℕ, zero, suc, ◌+◌, ◌-◌, ◌*◌, ◌<◌, ◌≤◌, Bool, true, false, not, ◌&&◌, ◌||◌, eqb, ltb, List, length, get_or, take, drop, sym, refl, ap, ◌∙◌, subst, arith, length-drop, length-take, [], ◌/◌, lit<, get_or-drop, get_or-take, le-ltb, lt-ltb, eq-eqb, eqb-true}
+use Rattle.std.proofs.Common.{◌≡◌, ℕ, zero, suc, ◌+◌, ◌-◌, ◌*◌, ◌<◌, ◌≤◌, Bool, true, false, not, ◌&&◌, ◌||◌, eqb, ltb, List, length, get_or, take, drop, sym, refl, ap, ◌∙◌, subst, arith, length-drop, length-take, ◌/◌, get_or-drop, get_or-take, le-ltb, lt-ltb, eq-eqb, eqb-true}
 use borrow.Author.Tests.{not-false}
-use Rattle.std.specs.Simd.{first_chunks}
-use Rattle.index.proofs.Chains.{length-chunks, chunk_word}
 use Rattle.meaning.specs.Below.{any_below, count_below}
 use Rattle.meaning.specs.Limits.{no_more_docs}
 use Rattle.posting_positions.specs.Places.{wrong_place, wrong_places, apart_at, seam_at, drop_at}
@@ -138,14 +136,7 @@ module _ (run : List ℕ) (n : ℕ) (joined : any_below n (apart_at run) ≡ fal
 pub begins-before : (run : List ℕ) → 0 < length run / 3 → any_below (length run / 3) (apart_at run) ≡ false → ((i : ℕ) → i < length run / 3 → 0 < frequency_at run i) → index_at run 0 < index_at run (length run / 3 - 1) + frequency_at run (length run / 3 - 1)
 begins-before run some joined above = omega (arith, ends-within run (length run / 3) joined _ some refl 0 some, above 0 some)
 
--- ---- the loop: an index as the records give it
-pub later-index : (run : List ℕ) (records : List (List ℕ)) (k : ℕ) → records ≡ first_chunks 3 (length run / 3) run → k < length (take (length records - 1) (drop 1 records)) → (get_or (get_or (take (length records - 1) (drop 1 records)) k []) 2 0 ≡ index_at run (k + 1)) × (k + 1 < length run / 3)
-later-index run records k e l =
-    let size : length records ≡ length run / 3 = ap length e ∙ length-chunks 3 (length run / 3) run in
-    let short : length (take (length records - 1) (drop 1 records)) ≤ length records - 1 = omega (arith, length-take (length records - 1) (drop 1 records)) in
-    let next : 1 + k ≡ k + 1 = omega arith in
-    (ap (λ (r : List ℕ). get_or r 2 0) (get_or-take _ _ k [] (omega arith) ∙ get_or-drop 1 records k [] ∙ ap (λ (i : ℕ). get_or records i []) next ∙ ap (λ (rs : List (List ℕ)). get_or rs (k + 1) []) e) ∙ chunk_word 3 (length run / 3) run (k + 1) 2 (omega arith) (lit< tt), omega arith)
-
+-- ---- the loops
 pub seam-first : (run positions : List ℕ) → ◌≡◌ {A = ℕ} 0 (count_below 1 (seam_at run positions))
 unfolding count_below seam_at
 seam-first run positions = refl
