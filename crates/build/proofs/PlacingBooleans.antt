@@ -34,6 +34,8 @@ use Rattle.node_words.proofs.AtRecord.{at_here, record-room, present-word}
 use Rattle.build.proofs.BooleanParts.{sizes-first, boolean-whole}
 use Rattle.clauses.proofs.ClauseLaws.{others-should, others-not}
 use Rattle.build.proofs.PlacingParts.{part-known, sizes-split}
+use Rattle.measure.specs.declared.Measure.{Measure}
+use Rattle.build.proofs.Found.{MeasuresAre}
 
 weigh-boolean-none : (ix : Index) (msm : ℕ) (cs : Clauses) (b : Float) (f : Bool) (x : Float) → has_scorer ix (Query.boolean msm cs) ≡ false → weigh ix (Query.boolean msm cs) b (kept_of f x) ≡ no_scorer
 unfolding weigh
@@ -122,11 +124,11 @@ module _ (E : Records) (at : ℕ) (fixed : Bool) (kept boost : Float) (words dep
       asks : (ix : Index) (ranges : List ℕ) (k : ℕ) (D : Decoded) (p : Prepared ix E ranges) (a : TreeAsked ix E.query k at D fixed kept boost words) → k ≤ depth → (n : ℕ) (rs : List Ready) → sizes_of (scorers_of rs) ≤ n → PartAsked ix E ranges (k - 1) at (here ix ranges k D p a).inside boost rs n (depth - 1)
       asks ix ranges k D p a levels n rs room = record { prepared = p; asked = (here ix ranges k D p a).asked; room = room; levels = omega (arith, levels) }
 
-      pub boolean-known : TreePre E at fixed kept boost words depth → SomeClauses E.query E.nexts E.presents E.costs at
-      boolean-known a =
+      pub boolean-known : (ms : List Measure) → MeasuresAre E ms → TreePre E at fixed kept boost words depth → SomeClauses E.query ms at
+      boolean-known ms are a =
           let h = here a.0 a.1 a.2 a.3 a.4 a.5 in
           let r = h.room in
-          (a.0, a.2 - 1, h.inside, boost, part-known E at boost words (depth - 1) (asks a.0 a.1 a.2 a.3 a.4 a.5 a.6 words (required_of a.0 h.inside boost) (omega (arith, r))))
+          (a.0, a.2 - 1, h.inside, boost, part-known E ms are at boost words (depth - 1) (asks a.0 a.1 a.2 a.3 a.4 a.5 a.6 words (required_of a.0 h.inside boost) (omega (arith, r))))
 
       -- ---- the required, after the record
       module _ (n₁ : ℕ) (n₁-is : n₁ ≡ words - node_state_words) where
@@ -219,13 +221,13 @@ module _ (E : Records) (at : ℕ) (fixed : Bool) (kept boost : Float) (words dep
                       let s = first-size a.0 a.1 a.2 a.3 a.4 a.5 a.6 in
                       omega (arith, g, f, b, s)
 
-                  pub whole-placed : (st₀ rest₁ rest₂ rest₃ st : List ℕ) (scores need msm : ℕ) (required after : Bool) → length st₀ ≡ words → TreePre E at fixed kept boost words depth → T (fits binary32 kept) → msm ≡ record_value E.query at 0 → ((ix : Index) (k : ℕ) (C : DecodedClauses) (b : Float) → ClausesKnown ix E.query E.nexts E.presents E.costs k at C b → required ≡ has_required C.clauses) → need ≡ cond required msm (max 1 msm) → after ≡ (required && eqb msm 0) → st ≡ words_of (boolean_state (node_state_words + (e₁ + e₂) + e₃) need e₁ (e₁ + e₂) fixed (to_bits binary32 kept) after group_at scores) ++ drop node_state_words (take (node_state_words + (e₁ + e₂)) (take (node_state_words + e₁) (take node_state_words st₀ ++ (out₁ ++ rest₁)) ++ (out₂ ++ rest₂)) ++ (out₃ ++ rest₃)) → TreePost E at fixed kept boost words depth scores (node_state_words + (e₁ + e₂) + e₃) st
+                  pub whole-placed : (ms : List Measure) → MeasuresAre E ms → (st₀ rest₁ rest₂ rest₃ st : List ℕ) (scores need msm : ℕ) (required after : Bool) → length st₀ ≡ words → TreePre E at fixed kept boost words depth → T (fits binary32 kept) → msm ≡ record_value E.query at 0 → ((ix : Index) (k : ℕ) (C : DecodedClauses) (b : Float) → ClausesKnown ix E.query ms k at C b → required ≡ has_required C.clauses) → need ≡ cond required msm (max 1 msm) → after ≡ (required && eqb msm 0) → st ≡ words_of (boolean_state (node_state_words + (e₁ + e₂) + e₃) need e₁ (e₁ + e₂) fixed (to_bits binary32 kept) after group_at scores) ++ drop node_state_words (take (node_state_words + (e₁ + e₂)) (take (node_state_words + e₁) (take node_state_words st₀ ++ (out₁ ++ rest₁)) ++ (out₂ ++ rest₂)) ++ (out₃ ++ rest₃)) → TreePost E at fixed kept boost words depth scores (node_state_words + (e₁ + e₂) + e₃) st
                   unfolding shoulds_needed
-                  whole-placed st₀ rest₁ rest₂ rest₃ st scores need msm required after all pre held m required-is need-is after_is st-is ix ranges k D p a levels =
+                  whole-placed ms are st₀ rest₁ rest₂ rest₃ st scores need msm required after all pre held m required-is need-is after_is st-is ix ranges k D p a levels =
                       let h = here ix ranges k D p a in
                       let C = h.inside in
                       let asked = required-asked ix ranges k D p a levels in
-                      let has = required-is ix (k - 1) C boost (part-known E at boost n₁ (depth - 1) asked) in
+                      let has = required-is ix (k - 1) C boost (part-known E ms are at boost n₁ (depth - 1) asked) in
                       let one = post₁ ix ranges (k - 1) C asked in
                       let two = subst (λ (zs : List Ready). PlacedAll ix ranges zs (depth - 1) e₂ out₂) (others-should ix C boost) (post₂ ix ranges (k - 1) C (optional-asked ix ranges k D p a levels)) in
                       let three = subst (λ (zs : List Ready). PlacedAll ix ranges zs (depth - 1) e₃ out₃) (others-not ix C boost) (post₃ ix ranges (k - 1) C (prohibited-asked ix ranges k D p a levels)) in

@@ -17,10 +17,14 @@ use Rattle.clauses.specs.Clauses.{ClausesKnown, SomeClauses, ReadiesAt, no_deare
 use Rattle.build.proofs.BooleanParts.{sizes-append, sizes-first}
 use Rattle.clauses.proofs.ClauseLaws.{readies-take, readies-drop, readies-here, no-dearer-is}
 use Rattle.build.proofs.PlacingLists.{placed-both, placed-longer}
+use Rattle.measure.specs.declared.Measure.{Measure}
+use Rattle.measure.specs.Measures.{costs_of}
+use Rattle.meaning.specs.Query.{record_count}
+use Rattle.build.proofs.Found.{MeasuresAre, all-measured, measures-long}
 
 -- a list of the records of some of the clauses
-abbrev pub Listed : (Index → DecodedClauses → Float → List Ready) → Records → ℕ → List ℕ → Type 0
-Listed f E at list = (ix : Index) (k : ℕ) (C : DecodedClauses) (b : Float) → ClausesKnown ix E.query E.nexts E.presents E.costs k at C b → ReadiesAt ix E.query k b list (f ix C b)
+abbrev pub Listed : (Index → DecodedClauses → Float → List Ready) → Records → List Measure → ℕ → List ℕ → Type 0
+Listed f E ms at list = (ix : Index) (k : ℕ) (C : DecodedClauses) (b : Float) → ClausesKnown ix E.query ms k at C b → ReadiesAt ix E.query k b list (f ix C b)
 
 -- the elements from one place to another
 pub between : (list : List ℕ) (a e : ℕ) → a ≤ e → e ≤ length list → take (e - a) (drop a list) ≡ drop a (take e list)
@@ -33,23 +37,23 @@ between list a e h g =
 pub sizes-split : (n : ℕ) (rs : List Ready) → sizes_of (scorers_of (take n rs)) + sizes_of (scorers_of (drop n rs)) ≡ sizes_of (scorers_of rs)
 sizes-split n rs = sym (sizes-append (take n rs) (drop n rs)) ∙ ap (λ (zs : List Ready). sizes_of (scorers_of zs)) (take-append-drop n rs)
 
-module _ (E : Records) (at : ℕ) (boost : Float) (words depth : ℕ) where
-  pub part-known : {ix : Index} {ranges : List ℕ} {k : ℕ} {C : DecodedClauses} {rs : List Ready} → PartAsked ix E ranges k at C boost rs words depth → ClausesKnown ix E.query E.nexts E.presents E.costs k at C boost
-  part-known p =
+module _ (E : Records) (ms : List Measure) (are : MeasuresAre E ms) (at : ℕ) (boost : Float) (words depth : ℕ) where
+  pub part-known : {ix : Index} {ranges : List ℕ} {k : ℕ} {C : DecodedClauses} {rs : List Ready} → PartAsked ix E ranges k at C boost rs words depth → ClausesKnown ix E.query ms k at C boost
+  part-known {ix} {ranges} {k} {C} {rs} p =
       let e = p.prepared in
       record {
         right = e.asks.records-right;
-        measured = e.measured;
-        held = record { here = p.asked.here; nexts-long = e.nexts-long; presents-long = e.presents-long; costs-long = e.costs-long };
+        measured = all-measured E ms are ix e.measured;
+        held = record { here = p.asked.here; long = measures-long E ms are (record_count E.query) e.presents-long };
         asked = p.asked;
       }
 
   -- ---- those of one occurrence
   module _ (occurrence : ℕ) where
-    pub others-known : OthersPre E at occurrence boost words depth → SomeClauses E.query E.nexts E.presents E.costs at
+    pub others-known : OthersPre E at occurrence boost words depth → SomeClauses E.query ms at
     others-known a = (a.0, a.2, a.3, boost, part-known a.4)
 
-    module _ (list : List ℕ) (listed : Listed (λ ix C b. others_of ix C b occurrence) E at list) where
+    module _ (list : List ℕ) (listed : Listed (λ ix C b. others_of ix C b occurrence) E ms at list) where
       pub others-listed : OthersPre E at occurrence boost words depth → ListPre E list boost words depth
       others-listed a =
           let p = a.4 in
@@ -60,14 +64,14 @@ module _ (E : Records) (at : ℕ) (boost : Float) (words depth : ℕ) where
           post ix ranges k (others_of ix C boost occurrence) p.prepared (listed ix k C boost (part-known p)) p.room p.levels
 
   -- ---- the required
-  pub required-known : RequiredPre E at boost words depth → SomeClauses E.query E.nexts E.presents E.costs at
+  pub required-known : RequiredPre E at boost words depth → SomeClauses E.query ms at
   required-known a = (a.0, a.2, a.3, boost, part-known a.4)
 
-  module _ (list : List ℕ) (listed : Listed required_of E at list) where
-    pub required-here : RequiredPre E at boost words depth → (i : ℕ) → i < length list → get_or list i 0 < length E.costs
+  module _ (list : List ℕ) (listed : Listed required_of E ms at list) where
+    pub required-here : RequiredPre E at boost words depth → (i : ℕ) → i < length list → get_or list i 0 < length ms
     required-here a i h =
         let here = readies-here a.0 E.query a.2 boost list (required_of a.0 a.3 boost) (listed a.0 a.2 a.3 boost (part-known a.4)) i h in
-        let long = a.4.prepared.costs-long in
+        let long = measures-long E ms are (record_count E.query) a.4.prepared.presents-long in
         omega (arith, here, long)
 
     -- those that cost no more than the group
@@ -116,12 +120,12 @@ module _ (E : Records) (at : ℕ) (boost : Float) (words depth : ℕ) where
                 let y = (second-placed a.4).within in
                 omega (arith, x, y, long, left_is)
 
-            pub required-placed : (group : ℕ) → ((ix : Index) (k : ℕ) (C : DecodedClauses) (b : Float) → ClausesKnown ix E.query E.nexts E.presents E.costs k at C b → group ≡ disjunction_cost (costs ix C.clauses)) → n ≡ no_dearer group E.costs list → (tail : List ℕ) → RequiredPost E at boost words depth group_at (group_at + rest) (take group_at st ++ (out ++ tail))
+            pub required-placed : (group : ℕ) → ((ix : Index) (k : ℕ) (C : DecodedClauses) (b : Float) → ClausesKnown ix E.query ms k at C b → group ≡ disjunction_cost (costs ix C.clauses)) → n ≡ no_dearer group (costs_of ms) list → (tail : List ℕ) → RequiredPost E at boost words depth group_at (group_at + rest) (take group_at st ++ (out ++ tail))
             required-placed group group-is n-is tail ix ranges k C p =
                 let rs = required_of ix C boost in
                 let up_to : n ≡ up_to_cost (disjunction_cost (costs ix C.clauses)) rs =
                 n-is
-                ∙ no-dearer-is ix E.query k boost E.nexts E.presents E.costs p.prepared.measured list rs (listed ix k C boost (part-known p)) group
+                ∙ no-dearer-is ix E.query k boost ms (part-known p).measured list rs (listed ix k C boost (part-known p)) group
                 ∙ ap (λ (z : ℕ). up_to_cost z rs) (group-is ix k C boost (part-known p)) in (
                   subst (λ (zs : List Ready). PlacedAll ix ranges zs depth (group_at + rest) (take group_at st ++ (out ++ tail))) (take-append-drop n rs) (placed-both ix ranges depth (take n rs) (drop n rs) group_at rest st (out ++ tail) (first-placed p) (placed-longer ix ranges depth (drop n rs) rest out tail (second-placed p))),
                   (first-placed p).size_is ∙ sym (sizes-first n rs) ∙ ap (λ (z : ℕ). sizes_of_first z (scorers_of rs)) up_to,

@@ -13,6 +13,9 @@ ghost use Rattle.weight.specs.Measured.{Asks, Columns};
 ghost use Rattle.weight.specs.Weigh.{weigh};
 ghost use Rattle.node_words.specs.Placed.{Placed, LeafLent};
 
+use measure::{Measure, RangeList};
+use node_words::place::Records;
+
 // The whole query: its scorer tree in the node states, the documents of its Range records in the range buffer; how many words of the states it takes.
 pub fn build(
     max_doc: u32,
@@ -28,31 +31,21 @@ pub fn build(
     ensures placed { (ix : Index) → Asks ix q.now → LeafLent ix max_doc fields.now leaves.now → Columns ix max_doc columns.now values.now → Placed ix ranges.new (weigh ix (query_tree q.now) one none) 16 0 result states.new }
     ensures states_len_unchanged { (length states.new ≡ length states.old) × (length ranges.new ≡ length ranges.old) }
 {
-    let mut places: [u32; 256] = [0; 256];
-    let mut counts: [u32; 256] = [0; 256];
-    measure::list_ranges(
-        q,
+    let mut listed = [RangeList { place: 0, count: 0 }; 256];
+    measure::list_ranges(q, max_doc, columns, values, &mut listed, ranges);
+    let mut measures = [Measure {
+        next: 0,
+        present: false,
+        cost: 0,
+    }; 256];
+    measure::measure_all(q, max_doc, leaves, &listed, &mut measures);
+    let records = Records {
+        query: q,
         max_doc,
-        columns,
-        values,
-        &mut places,
-        &mut counts,
-        ranges,
-    );
-    let mut nexts: [usize; 256] = [0; 256];
-    let mut presents: [u32; 256] = [0; 256];
-    let mut costs: [u64; 256] = [0; 256];
-    measure::measure_all(
-        q,
-        max_doc,
+        fields,
         leaves,
-        &counts,
-        &mut nexts,
-        &mut presents,
-        &mut costs,
-    );
-    tree::place(
-        states, q, max_doc, fields, leaves, &nexts, &presents, &costs, &places, 0, false, 0.0, 1.0,
-        0, 16,
-    )
+        measures: &measures,
+        listed: &listed,
+    };
+    tree::place(states, records, 0, None, 1.0, 0, 16)
 }

@@ -1,20 +1,20 @@
 // The words of a tree: its own record, then its children's parts.
-ghost use Rattle.std.specs.Prelude.{◌≡◌, ◌&&◌, ◌++◌, ℕ, ◌^◌, ◌≤◌, ◌<◌, eqb, length, drop};
+ghost use Rattle.std.specs.Prelude.{◌≡◌, T, is_some, ◌&&◌, ◌++◌, ℕ, ◌^◌, ◌≤◌, ◌<◌, eqb, length, drop};
 ghost use Rattle.std.proofs.Math.Option.{some};
 ghost use Rattle.std.specs.Float.{binary32};
-ghost use Rattle.std.specs.Float.Ieee.{to_bits};
+ghost use Rattle.std.specs.Float.Ieee.{to_bits, fits};
 ghost use Rattle.meaning.specs.Limits.{node_state_words};
 ghost use Rattle.meaning.specs.Query.{Occur, occur_of, record_kind};
 ghost use Rattle.meaning.specs.Score.{passed};
 ghost use Rattle.ieee754.specs.Nonneg.{AtMost};
 ghost use Rattle.weight.specs.State.{words_of};
-ghost use Rattle.node_words.specs.Placed.{boolean_state};
-ghost use Rattle.node_words.specs.Prepared.{records, TreePre, TreePost};
+ghost use Rattle.node_words.specs.Placed.{kept_score, boolean_state};
+ghost use Rattle.node_words.specs.Prepared.{given, TreePre, TreePost};
 ghost use Rattle.build.specs.Parts.{ListPre, ListPost, RequiredPre, RequiredPost, OthersPre, OthersPost};
 
 use clauses::{clauses_of, group_cost, has_required, no_dearer, required_clauses};
-use node_words::leaf::{kept_or, place_leaf};
-use node_words::place::{place_nothing, put, word};
+use node_words::leaf::place_leaf;
+use node_words::place::{Records, place_nothing, put};
 use weight::NODE_STATE_WORDS;
 
 // Must and Should pass the boost on, Filter and MustNot pass 0.
@@ -29,48 +29,24 @@ fn passed_on(occurrence: u32, boost: f32) -> f32
 }
 
 // The clauses at the records of a list, one part after the other.
-#[cycle(place_place_boolean_place_list_place_others_place_required)]
-fn place_list(
-    st: &mut [u32],
-    q: &[u32],
-    max_doc: u32,
-    fields: &[u32],
-    leaves: &[u32],
-    nexts: &[usize],
-    presents: &[u32],
-    costs: &[u64],
-    places: &[u32],
-    list: &[usize],
-    boost: f32,
-    depth: u32,
-) -> usize
-    requires { ListPre (records q.now max_doc fields.now leaves.now nexts.now presents.now costs.now places.now) list.now boost (length st.old) depth }
-    ensures list_post { ListPost (records q.now max_doc fields.now leaves.now nexts.now presents.now costs.now places.now) list.now boost (length st.old) depth result st.new }
+#[cycle(placing)]
+fn place_list(st: &mut [u32], records: Records, list: &[usize], boost: f32, depth: u32) -> usize
+    requires { ListPre (given records.query.now records.max_doc records.fields.now records.leaves.now records.measures.now records.listed.now) list.now boost (length st.old) depth }
+    ensures list_post { ListPost (given records.entry.query.now records.entry.max_doc records.entry.fields.now records.entry.leaves.now records.entry.measures.now records.entry.listed.now) list.now boost (length st.old) depth result st.new }
     ensures st_len_unchanged { length st.new ≡ length st.old }
 {
     let mut used = 0;
-    let mut i = 0;
-    while i < list.len() {
-        let at = list[i];
-        let occurrence = query::occurrence(q, at);
+    for at in list {
+        let occurrence = query::occurrence(records.query, *at);
         used += place(
             &mut st[used..],
-            q,
-            max_doc,
-            fields,
-            leaves,
-            nexts,
-            presents,
-            costs,
-            places,
-            at,
-            false,
-            0.0,
+            records,
+            *at,
+            None,
             passed_on(occurrence, boost),
-            word(occurrence == 1),
+            (occurrence == 1) as u32,
             depth,
         );
-        i += 1;
     }
     used
 }
@@ -83,57 +59,18 @@ pub struct Required {
 }
 
 // The required clauses of the Boolean at `at`, cheapest first: those that cost no more than the group, then the others.
-#[cycle(place_place_boolean_place_list_place_others_place_required)]
-fn place_required(
-    st: &mut [u32],
-    q: &[u32],
-    max_doc: u32,
-    fields: &[u32],
-    leaves: &[u32],
-    nexts: &[usize],
-    presents: &[u32],
-    costs: &[u64],
-    places: &[u32],
-    at: usize,
-    boost: f32,
-    depth: u32,
-) -> Required
-    requires { RequiredPre (records q.now max_doc fields.now leaves.now nexts.now presents.now costs.now places.now) at boost (length st.old) depth }
-    ensures required_post { RequiredPost (records q.now max_doc fields.now leaves.now nexts.now presents.now costs.now places.now) at boost (length st.old) depth result.group_at result.end st.new }
+#[cycle(placing)]
+fn place_required(st: &mut [u32], records: Records, at: usize, boost: f32, depth: u32) -> Required
+    requires { RequiredPre (given records.query.now records.max_doc records.fields.now records.leaves.now records.measures.now records.listed.now) at boost (length st.old) depth }
+    ensures required_post { RequiredPost (given records.entry.query.now records.entry.max_doc records.entry.fields.now records.entry.leaves.now records.entry.measures.now records.entry.listed.now) at boost (length st.old) depth result.group_at result.end st.new }
     ensures st_len_unchanged { length st.new ≡ length st.old }
 {
-    let group = group_cost(q, nexts, presents, costs, at);
-    let mut list: [usize; 64] = [0; 64];
-    let count = required_clauses(q, nexts, presents, costs, at, &mut list);
-    let before = no_dearer(costs, &list[..count], group);
-    let group_at = place_list(
-        st,
-        q,
-        max_doc,
-        fields,
-        leaves,
-        nexts,
-        presents,
-        costs,
-        places,
-        &list[..before],
-        boost,
-        depth,
-    );
-    let rest = place_list(
-        &mut st[group_at..],
-        q,
-        max_doc,
-        fields,
-        leaves,
-        nexts,
-        presents,
-        costs,
-        places,
-        &list[before..count],
-        boost,
-        depth,
-    );
+    let group = group_cost(records.query, records.measures, at);
+    let mut buffer: [usize; 64] = [0; 64];
+    let list = required_clauses(records.query, records.measures, at, &mut buffer);
+    let before = no_dearer(records.measures, list, group);
+    let group_at = place_list(st, records, &list[..before], boost, depth);
+    let rest = place_list(&mut st[group_at..], records, &list[before..], boost, depth);
     Required {
         group_at,
         end: group_at + rest,
@@ -141,42 +78,22 @@ fn place_required(
 }
 
 // The clauses of one occurrence of the Boolean at `at`, in clause order.
-#[cycle(place_place_boolean_place_list_place_others_place_required)]
+#[cycle(placing)]
 fn place_others(
     st: &mut [u32],
-    q: &[u32],
-    max_doc: u32,
-    fields: &[u32],
-    leaves: &[u32],
-    nexts: &[usize],
-    presents: &[u32],
-    costs: &[u64],
-    places: &[u32],
+    records: Records,
     at: usize,
     occurrence: u32,
     boost: f32,
     depth: u32,
 ) -> usize
-    requires { OthersPre (records q.now max_doc fields.now leaves.now nexts.now presents.now costs.now places.now) at occurrence boost (length st.old) depth }
-    ensures others_post { OthersPost (records q.now max_doc fields.now leaves.now nexts.now presents.now costs.now places.now) at occurrence boost (length st.old) depth result st.new }
+    requires { OthersPre (given records.query.now records.max_doc records.fields.now records.leaves.now records.measures.now records.listed.now) at occurrence boost (length st.old) depth }
+    ensures others_post { OthersPost (given records.entry.query.now records.entry.max_doc records.entry.fields.now records.entry.leaves.now records.entry.measures.now records.entry.listed.now) at occurrence boost (length st.old) depth result st.new }
     ensures st_len_unchanged { length st.new ≡ length st.old }
 {
-    let mut list: [usize; 64] = [0; 64];
-    let count = clauses_of(q, nexts, presents, costs, at, occurrence, &mut list);
-    place_list(
-        st,
-        q,
-        max_doc,
-        fields,
-        leaves,
-        nexts,
-        presents,
-        costs,
-        places,
-        &list[..count],
-        boost,
-        depth,
-    )
+    let mut buffer: [usize; 64] = [0; 64];
+    let list = clauses_of(records.query, records.measures, at, occurrence, &mut buffer);
+    place_list(st, records, list, boost, depth)
 }
 
 // The record of a Boolean, from where its required and its optional children's parts end and where its group joins.
@@ -186,16 +103,16 @@ fn put_boolean(
     need: u32,
     required_end: usize,
     optional_end: usize,
-    fixed: bool,
-    kept: f32,
+    kept: Option<f32>,
     afterwards: bool,
     group_at: usize,
     scores: u32,
 )
-    requires { (node_state_words ≤ length st.old) × (size < 4294967296) × (required_end ≤ size) × (optional_end ≤ size) × (group_at ≤ size) × AtMost (2 ^ 29) kept }
-    ensures { st.new ≡ words_of (boolean_state size need required_end optional_end fixed (to_bits binary32 kept) afterwards group_at scores) ++ drop node_state_words st.old }
+    requires { (node_state_words ≤ length st.old) × (size < 4294967296) × (required_end ≤ size) × (optional_end ≤ size) × (group_at ≤ size) × AtMost (2 ^ 29) (kept_score kept) }
+    ensures written { st.new ≡ words_of (boolean_state size need required_end optional_end (is_some kept) (to_bits binary32 (kept_score kept)) afterwards group_at scores) ++ drop node_state_words st.old }
+    ensures score_fits { T (fits binary32 (kept_score kept)) }
 {
-    let bits = f32::to_bits(kept);
+    let bits = f32::to_bits(kept.unwrap_or(0.0));
     put(
         st,
         [
@@ -210,9 +127,9 @@ fn put_boolean(
             0,
             0,
             0,
-            word(fixed),
+            kept.is_some() as u32,
             bits,
-            word(afterwards),
+            afterwards as u32,
             group_at as u32,
             scores,
             0,
@@ -236,58 +153,30 @@ fn put_boolean(
 }
 
 // The Boolean at `at`: its record, then the required, the optional and the prohibited.
-#[cycle(place_place_boolean_place_list_place_others_place_required)]
+#[cycle(placing)]
 fn place_boolean(
     st: &mut [u32],
-    q: &[u32],
-    max_doc: u32,
-    fields: &[u32],
-    leaves: &[u32],
-    nexts: &[usize],
-    presents: &[u32],
-    costs: &[u64],
-    places: &[u32],
+    records: Records,
     at: usize,
-    fixed: bool,
-    kept: f32,
+    kept: Option<f32>,
     boost: f32,
     scores: u32,
     depth: u32,
 ) -> usize
-    requires at_value { record_kind q.now at ≡ 3 }
-    requires tree_pre { TreePre (records q.now max_doc fields.now leaves.now nexts.now presents.now costs.now places.now) at fixed kept boost (length st.old) depth }
-    ensures tree_post { TreePost (records q.now max_doc fields.now leaves.now nexts.now presents.now costs.now places.now) at fixed kept boost (length st.old) depth scores result st.new }
+    requires at_value { record_kind records.query.now at ≡ 3 }
+    requires tree_pre { TreePre (given records.query.now records.max_doc records.fields.now records.leaves.now records.measures.now records.listed.now) at (is_some kept) (kept_score kept) boost (length st.old) depth }
+    ensures tree_post { TreePost (given records.entry.query.now records.entry.max_doc records.entry.fields.now records.entry.leaves.now records.entry.measures.now records.entry.listed.now) at (is_some kept) (kept_score kept) boost (length st.old) depth scores result st.new }
     ensures st_len_unchanged { length st.new ≡ length st.old }
 {
-    if presents[at] == 0 {
+    if !records.measures[at].present {
         return place_nothing(st, scores);
     }
-    let msm = query::value(q, at, 0);
-    let required = has_required(q, nexts, at);
-    let first = place_required(
-        &mut st[NODE_STATE_WORDS..],
-        q,
-        max_doc,
-        fields,
-        leaves,
-        nexts,
-        presents,
-        costs,
-        places,
-        at,
-        boost,
-        depth - 1,
-    );
+    let msm = query::value(records.query, at, 0);
+    let required = has_required(records.query, records.measures, at);
+    let first = place_required(&mut st[NODE_STATE_WORDS..], records, at, boost, depth - 1);
     let shoulds = place_others(
         &mut st[NODE_STATE_WORDS + first.end..],
-        q,
-        max_doc,
-        fields,
-        leaves,
-        nexts,
-        presents,
-        costs,
-        places,
+        records,
         at,
         2, // the optional
         boost,
@@ -296,14 +185,7 @@ fn place_boolean(
     let optional_end = first.end + shoulds;
     let nots = place_others(
         &mut st[NODE_STATE_WORDS + optional_end..],
-        q,
-        max_doc,
-        fields,
-        leaves,
-        nexts,
-        presents,
-        costs,
-        places,
+        records,
         at,
         3, // the prohibited
         boost,
@@ -317,7 +199,6 @@ fn place_boolean(
         need,
         first.end,
         optional_end,
-        fixed,
         kept,
         joins_afterwards(required, msm),
         first.group_at,
@@ -334,69 +215,40 @@ fn joins_afterwards(required: bool, msm: u32) -> bool
 }
 
 // The tree at `at`, with the score that is kept or at the boost that reaches it.
-#[cycle(place_place_boolean_place_list_place_others_place_required)]
+#[cycle(placing)]
 pub fn place(
     st: &mut [u32],
-    q: &[u32],
-    max_doc: u32,
-    fields: &[u32],
-    leaves: &[u32],
-    nexts: &[usize],
-    presents: &[u32],
-    costs: &[u64],
-    places: &[u32],
+    records: Records,
     at: usize,
-    fixed: bool,
-    kept: f32,
+    kept: Option<f32>,
     boost: f32,
     scores: u32,
     depth: u32,
 ) -> usize
-    requires { TreePre (records q.now max_doc fields.now leaves.now nexts.now presents.now costs.now places.now) at fixed kept boost (length st.old) depth }
-    ensures tree_post { TreePost (records q.now max_doc fields.now leaves.now nexts.now presents.now costs.now places.now) at fixed kept boost (length st.old) depth scores result st.new }
+    requires { TreePre (given records.query.now records.max_doc records.fields.now records.leaves.now records.measures.now records.listed.now) at (is_some kept) (kept_score kept) boost (length st.old) depth }
+    ensures tree_post { TreePost (given records.entry.query.now records.entry.max_doc records.entry.fields.now records.entry.leaves.now records.entry.measures.now records.entry.listed.now) at (is_some kept) (kept_score kept) boost (length st.old) depth scores result st.new }
     ensures st_len_unchanged { length st.new ≡ length st.old }
 {
-    match query::kind(q, at) {
-        3 => place_boolean(
-            st, q, max_doc, fields, leaves, nexts, presents, costs, places, at, fixed, kept, boost,
-            scores, depth,
-        ),
+    match query::kind(records.query, at) {
+        3 => place_boolean(st, records, at, kept, boost, scores, depth),
         6 => place(
             st,
-            q,
-            max_doc,
-            fields,
-            leaves,
-            nexts,
-            presents,
-            costs,
-            places,
+            records,
             at + 1,
-            true,
-            kept_or(fixed, kept, boost),
+            Some(kept.unwrap_or(boost)),
             0.0, // not the boost
             scores,
             depth - 1,
         ),
         7 => place(
             st,
-            q,
-            max_doc,
-            fields,
-            leaves,
-            nexts,
-            presents,
-            costs,
-            places,
+            records,
             at + 1,
-            fixed,
             kept,
-            boost * f32::from_bits(query::value(q, at, 0)),
+            boost * f32::from_bits(query::value(records.query, at, 0)),
             scores,
             depth - 1,
         ),
-        _ => place_leaf(
-            st, q, max_doc, fields, leaves, presents, places, at, fixed, kept, boost, scores,
-        ),
+        _ => place_leaf(st, records, at, kept, boost, scores),
     }
 }

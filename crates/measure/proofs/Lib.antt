@@ -1,5 +1,5 @@
 -- The laws of the first pass: the tally of a Boolean's clauses, and the documents of the ranges.
-pub mod Clauses
+pub mod Arrays
 pub mod Tallies
 pub mod Listing
 pub mod Mapped

@@ -28,6 +28,9 @@ use Rattle.weight.proofs.Measures.{from_or}
 use Rattle.weight.specs.ScorerTree.{range, leaf_matches}
 use Rattle.bits.specs.Bit.{bit, bitmap_words, Bitmap}
 use Rattle.weight.specs.Measured.{Asks, Columns, RangeListed, RangesListed}
+use Rattle.measure.specs.declared.RangeList.{RangeList}
+use Rattle.measure.specs.Measures.{places_of, counts_of}
+use Rattle.measure.proofs.Arrays.{places-set, counts-set, places-long, counts-long}
 
 -- ---- an accepted index has neither 1 nor 6
 right1 : (ix : Index) → Accepted ix → wrong1 ix ≡ false
@@ -225,3 +228,8 @@ module _ (ix : Index) (q columns values places counts ranges out rest : List ℕ
 pub step_small : (b : Bool) (n step : ℕ) → step ≡ cond b n 0 → step ≤ n
 step_small true n step e = omega (arith, e)
 step_small false n step e = omega (arith, e)
+
+pub listed-more : (ix : Index) (q columns values ranges out rest : List ℕ) (ls : List RangeList) (n used at k step : ℕ) → Columns ix n columns values → Listing ix q (places_of ls) (counts_of ls) ranges used at → at < length ls → used ≤ length ranges → (record_kind q at ≡ 4 → bitmap_words n ≤ length ranges - used) → (record_kind q at ≡ 4 → bitmap_words n ≤ length out) → length (take used ranges ++ (out ++ rest)) ≡ length ranges → (record_kind q at ≡ 4 → (k ≡ length (range_documents ix (range_of q at))) × Bitmap (leaf_matches ix (range (range_of q at))) out 0 (bitmap_words n)) → step ≡ cond (is_range q at) (bitmap_words n) 0 → Listing ix q (places_of (set ls at (record { place = used; count = k }))) (counts_of (set ls at (record { place = used; count = k }))) (take used ranges ++ (out ++ rest)) (used + step) (at + 1)
+listed-more ix q columns values ranges out rest ls n used at k step cs l h within enough fits long gave stepped =
+    rw (places-set ls at (record { place = used; count = k }), counts-set ls at (record { place = used; count = k }))
+    (listing-more ix q columns values (places_of ls) (counts_of ls) ranges out rest n used at k step cs l (omega (arith, h, places-long ls)) (omega (arith, h, counts-long ls)) within enough fits long gave stepped)

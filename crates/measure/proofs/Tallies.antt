@@ -1,8 +1,9 @@
 -- The tally of a Boolean's clauses says whether it has a scorer, and its cost. Assumes nothing.
-use mathlib.Core.Path.{◌≡◌, refl, sym, ◌∙◌, ap}
+use mathlib.Core.Path.{◌≡◌, refl, sym, ◌∙◌, ap, subst}
 use mathlib.Core.Bool.{Bool, true, false, not, cond, ◌&&◌, ◌||◌}
 use mathlib.Core.List.{List, [], ◌∷◌, ◌++◌}
 use mathlib.Core.Option.{some}
+use Rattle.std.specs.Prelude.{Option, Some, None}
 use Prim.Native.Nat.{ℕ, zero, suc, ◌+◌, ◌-◌, ◌*◌, ◌≤◌, ◌<◌, min, max}
 use native.Mathlib.Omega.{arith}
 use lib.Dec.{eqb, leb, ltb}
@@ -18,12 +19,14 @@ use Rattle.query.proofs.Above.{first-clause}
 use Rattle.query.proofs.Spans.{tree-span}
 use Rattle.weight.proofs.Standing.{deep}
 use Rattle.measure.specs.declared.Tally.{Tally}
-use Rattle.weight.specs.Measured.{MeasureIs, Measured}
-use Rattle.measure.specs.Tallied.{tallied, tally_present, tally_cost}
+use Rattle.measure.specs.declared.Measure.{Measure}
+use Rattle.measure.specs.Measures.{AllMeasured, TreeMeasured}
+use Rattle.measure.specs.Tallied.{less, tallied, tally_present, conjunction, tally_cost}
+use Rattle.measure.proofs.Arrays.{no_measure, tree_measured, same_bool}
 
 -- no clause yet
 abbrev pub untallied : Tally
-untallied = record { required = false; missing = false; found = false; least = 0; shoulds = 0; group = 0 }
+untallied = record { required = false; missing = false; least = None; shoulds = 0; group = 0 }
 
 -- the tally after some clauses more
 unfoldable pub after : Index → Tally → Clauses → Tally
@@ -92,18 +95,18 @@ step-group t should true c = refl
 step-group t should false c = omega arith
 step-group t must_not p c = omega arith
 
-step-least : (t : Tally) (o : Occur) (p : Bool) (c : ℕ) → (tallied t o p c).least ≤ max t.least c
-step-least t must true c = go t.found
-  where
-    go : (f : Bool) → cond f (min t.least c) c ≤ max t.least c
-    go true = omega arith
-    go false = omega arith
+abbrev pub or_zero : Option ℕ → ℕ
+or_zero (Some l) = l
+or_zero None = 0
+
+less-small : (f : Option ℕ) (c : ℕ) → less f c ≤ max (or_zero f) c
+less-small (Some l) c = omega arith
+less-small None c = omega arith
+
+step-least : (t : Tally) (o : Occur) (p : Bool) (c : ℕ) → or_zero (tallied t o p c).least ≤ max (or_zero t.least) c
+step-least t must true c = less-small t.least c
 step-least t must false c = omega arith
-step-least t filter true c = go t.found
-  where
-    go : (f : Bool) → cond f (min t.least c) c ≤ max t.least c
-    go true = omega arith
-    go false = omega arith
+step-least t filter true c = less-small t.least c
 step-least t filter false c = omega arith
 step-least t should true c = omega arith
 step-least t should false c = omega arith
@@ -152,26 +155,23 @@ after-group ix t (clause o x cs) =
     omega (arith, e, f, g)
 
 -- the least of what the tally found and some costs more
-abbrev join_least : Tally → List ℕ → ℕ
-join_least t xs = cond t.found (least (t.least ∷ xs)) (least xs)
+abbrev join_least : Option ℕ → List ℕ → ℕ
+join_least (Some l) xs = least (l ∷ xs)
+join_least None xs = least xs
 
 least-two : (a b : ℕ) (xs : List ℕ) → least (min a b ∷ xs) ≡ least (a ∷ b ∷ xs)
 unfolding least
 least-two a b [] = refl
 least-two a b (x ∷ xs) = omega arith
 
-step-found : (t : Tally) (o : Occur) (p : Bool) (c : ℕ) (xs : List ℕ) → join_least (tallied t o p c) xs ≡ join_least t (cond (is_required o && p) (c ∷ []) [] ++ xs)
-step-found t must true c xs = go t.found
-  where
-    go : (f : Bool) → least (cond f (min t.least c) c ∷ xs) ≡ cond f (least (t.least ∷ c ∷ xs)) (least (c ∷ xs))
-    go true = least-two t.least c xs
-    go false = refl
+join-less : (f : Option ℕ) (c : ℕ) (xs : List ℕ) → least (less f c ∷ xs) ≡ join_least f (c ∷ xs)
+join-less (Some l) c xs = least-two l c xs
+join-less None c xs = refl
+
+step-found : (t : Tally) (o : Occur) (p : Bool) (c : ℕ) (xs : List ℕ) → join_least (tallied t o p c).least xs ≡ join_least t.least (cond (is_required o && p) (c ∷ []) [] ++ xs)
+step-found t must true c xs = join-less t.least c xs
 step-found t must false c xs = refl
-step-found t filter true c xs = go t.found
-  where
-    go : (f : Bool) → least (cond f (min t.least c) c ∷ xs) ≡ cond f (least (t.least ∷ c ∷ xs)) (least (c ∷ xs))
-    go true = least-two t.least c xs
-    go false = refl
+step-found t filter true c xs = join-less t.least c xs
 step-found t filter false c xs = refl
 step-found t should true c xs = refl
 step-found t should false c xs = refl
@@ -182,21 +182,21 @@ append-once : (b : Bool) (c : ℕ) (xs ys : List ℕ) → (cond b (c ∷ []) [] 
 append-once true c xs ys = refl
 append-once false c xs ys = refl
 
-after-least : (ix : Index) (t : Tally) (cs : Clauses) (ys : List ℕ) → join_least (after ix t cs) ys ≡ join_least t (costs_of is_required (costs ix cs) ++ ys)
+after-least : (ix : Index) (t : Tally) (cs : Clauses) (ys : List ℕ) → join_least (after ix t cs).least ys ≡ join_least t.least (costs_of is_required (costs ix cs) ++ ys)
 unfolding after costs costs_of
 after-least ix t empty ys = refl
 after-least ix t (clause o x cs) ys =
     after-least ix (tallied t o (has_scorer ix x) (cost ix x)) cs ys
     ∙ step-found t o (has_scorer ix x) (cost ix x) (costs_of is_required (costs ix cs) ++ ys)
-    ∙ ap (join_least t) (sym (append-once (is_required o && has_scorer ix x) (cost ix x) (costs_of is_required (costs ix cs)) ys))
+    ∙ ap (join_least t.least) (sym (append-once (is_required o && has_scorer ix x) (cost ix x) (costs_of is_required (costs ix cs)) ys))
 
 module _ (ix : Index) (msm : ℕ) (cs : Clauses) where
-  pub tally-present : tally_present (after ix untallied cs) msm ≡ cond (has_scorer ix (boolean msm cs)) 1 0
+  pub tally-present : tally_present (after ix untallied cs) msm ≡ has_scorer ix (boolean msm cs)
   unfolding has_scorer shoulds_needed
   tally-present =
-      ap (λ (b : Bool). cond (b && leb (cond (after ix untallied cs).required msm (max 1 msm)) (after ix untallied cs).shoulds) 1 0) (after-missing ix untallied cs)
-      ∙ ap (λ (b : Bool). cond (required_hold (scorers_of ix cs) && leb (cond b msm (max 1 msm)) (after ix untallied cs).shoulds) 1 0) (after-required ix untallied cs)
-      ∙ ap (λ (n : ℕ). cond (required_hold (scorers_of ix cs) && leb (cond (has_required cs) msm (max 1 msm)) n) 1 0) (shoulds (after ix untallied cs).shoulds (after-shoulds ix untallied cs))
+      ap (λ (b : Bool). b && leb (cond (after ix untallied cs).required msm (max 1 msm)) (after ix untallied cs).shoulds) (after-missing ix untallied cs)
+      ∙ ap (λ (b : Bool). required_hold (scorers_of ix cs) && leb (cond b msm (max 1 msm)) (after ix untallied cs).shoulds) (after-required ix untallied cs)
+      ∙ ap (λ (n : ℕ). required_hold (scorers_of ix cs) && leb (cond (has_required cs) msm (max 1 msm)) n) (shoulds (after ix untallied cs).shoulds (after-shoulds ix untallied cs))
     where
       shoulds : (n : ℕ) → n ≡ 0 + shoulds_holding (scorers_of ix cs) → n ≡ shoulds_holding (scorers_of ix cs)
       shoulds n e = omega (arith, e)
@@ -205,34 +205,30 @@ module _ (ix : Index) (msm : ℕ) (cs : Clauses) where
   unfolding disjunction_cost
   group-is = let e = after-group ix untallied cs in omega (arith, e)
 
-  E : List ℕ
-  E = costs_of is_required (costs ix cs)
-
-  least-none : (f : Bool) (l : ℕ) → cond f (least (l ∷ [])) (least []) ≡ cond f l 0
+  least-none : (f : Option ℕ) (g : ℕ) → conjunction f 0 g ≡ join_least f []
   unfolding least
-  least-none true l = refl
-  least-none false l = refl
+  least-none (Some l) g = refl
+  least-none None g = refl
 
-  least-group : (f : Bool) (l g : ℕ) → cond f (least (l ∷ g ∷ [])) (least (g ∷ [])) ≡ cond f (min l g) g
+  least-group : (f : Option ℕ) (g : ℕ) → eqb msm 0 ≡ false → conjunction f msm g ≡ join_least f (g ∷ [])
   unfolding least
-  least-group true l g = refl
-  least-group false l g = refl
+  least-group (Some l) g e = rw e
+  least-group None g e = rw e
 
-  conjunction : (z : Bool) → eqb msm 0 ≡ z → (A : Tally) → after ix untallied cs ≡ A → cond z (cond A.found A.least 0) (cond A.found (min A.least A.group) A.group) ≡ conjunction_cost msm (costs ix cs)
+  conjunction-is : (z : Bool) → eqb msm 0 ≡ z → conjunction (after ix untallied cs).least msm (after ix untallied cs).group ≡ conjunction_cost msm (costs ix cs)
   unfolding conjunction_cost
-  conjunction true e A h =
-      sym (least-none A.found A.least)
-      ∙ ap (λ (a : Tally). join_least a []) (sym h)
+  conjunction-is true e =
+      ap (λ (m : ℕ). conjunction (after ix untallied cs).least m (after ix untallied cs).group) (eqb-true msm 0 e)
+      ∙ least-none (after ix untallied cs).least (after ix untallied cs).group
       ∙ after-least ix untallied cs []
       ∙ ap (λ (b : Bool). least (costs_of is_required (costs ix cs) ++ cond b (disjunction_cost (costs ix cs) ∷ []) [])) (sym (zero-ltb msm (eqb-true msm 0 e)))
     where
       zero-ltb : (m : ℕ) → m ≡ 0 → ltb 0 m ≡ false
       zero-ltb m e = le-ltb 0 m (omega (arith, e))
-  conjunction false e A h =
-      sym (least-group A.found A.least A.group)
-      ∙ ap (λ (a : Tally). join_least a (A.group ∷ [])) (sym h)
-      ∙ after-least ix untallied cs (A.group ∷ [])
-      ∙ ap (λ (g : ℕ). least (costs_of is_required (costs ix cs) ++ (g ∷ []))) (ap Tally.group (sym h) ∙ group-is)
+  conjunction-is false e =
+      least-group (after ix untallied cs).least (after ix untallied cs).group e
+      ∙ after-least ix untallied cs ((after ix untallied cs).group ∷ [])
+      ∙ ap (λ (g : ℕ). least (costs_of is_required (costs ix cs) ++ (g ∷ []))) group-is
       ∙ ap (λ (b : Bool). least (costs_of is_required (costs ix cs) ++ cond b (disjunction_cost (costs ix cs) ∷ []) [])) (sym (lt-ltb 0 msm (above msm (eqb-false msm 0 e))))
     where
       above : (m : ℕ) → (m ≡ 0 → ⊥) → 0 < m
@@ -242,13 +238,9 @@ module _ (ix : Index) (msm : ℕ) (cs : Clauses) where
   pub tally-cost : tally_cost (after ix untallied cs) msm ≡ cost ix (boolean msm cs)
   unfolding cost
   tally-cost =
-      ap (λ (b : Bool). cond b X (after ix untallied cs).group) (after-required ix untallied cs)
-      ∙ ap (λ (x : ℕ). cond (has_required cs) x (after ix untallied cs).group) (conjunction (eqb msm 0) refl (after ix untallied cs) refl)
+      ap (λ (b : Bool). cond b (conjunction (after ix untallied cs).least msm (after ix untallied cs).group) (after ix untallied cs).group) (after-required ix untallied cs)
+      ∙ ap (λ (x : ℕ). cond (has_required cs) x (after ix untallied cs).group) (conjunction-is (eqb msm 0) refl)
       ∙ ap (λ (g : ℕ). cond (has_required cs) (conjunction_cost msm (costs ix cs)) g) group-is
-    where
-      X : ℕ
-      X =
-          cond (eqb msm 0) (cond (after ix untallied cs).found (after ix untallied cs).least 0) (cond (after ix untallied cs).found (min (after ix untallied cs).least (after ix untallied cs).group) (after ix untallied cs).group)
 
 -- ---- the clauses as the code passes them: those left, and the tally so far
 pub record Left (ix : Index) (q : List ℕ) (k at left next : ℕ) (t : Tally) (C : DecodedClauses) : Type 0 where
@@ -257,7 +249,7 @@ pub record Left (ix : Index) (q : List ℕ) (k at left next : ℕ) (t : Tally) (
   pub end_is : rest.next ≡ C.next
   pub tally-is : after ix t rest.clauses ≡ after ix untallied C.clauses
   pub group-small : t.group + 4294967296 * (at + 1) ≤ 4294967296 * next
-  pub least-small : t.least + 4294967296 * (at + 1) ≤ 4294967296 * next
+  pub least-small : or_zero t.least + 4294967296 * (at + 1) ≤ 4294967296 * next
   pub few : t.shoulds + left ≤ record_children q at
   pub within : next ≤ record_count q
 
@@ -266,21 +258,21 @@ module _ (ix : Index) (q : List ℕ) (k at : ℕ) (C : DecodedClauses) where
   left-begins h e =
       record { rest = C; rest-is = e; end_is = refl; tally-is = refl; group-small = omega arith; least-small = omega arith; few = omega arith; within = omega (arith, h) }
 
-  pub left-on : (nexts presents costs : List ℕ) (left next : ℕ) (t t' : Tally) → Measured ix q nexts presents costs (at + 1) → Left ix q k at left next t C → 0 < left → ((o : Occur) (p : Bool) → occur_of (record_occurrence q next) ≡ some o → get_or presents next 0 ≡ cond p 1 0 → t' ≡ tallied t o p (get_or costs next 0)) → Left ix q k at (left - 1) (get_or nexts next 0) t' C
+  pub left-on : (ms : List Measure) (left next : ℕ) (t t' : Tally) → AllMeasured ix q ms (at + 1) → Left ix q k at left next t C → 0 < left → (m : Measure) → m ≡ get_or ms next no_measure → ((o : Occur) → occur_of (record_occurrence q next) ≡ some o → t' ≡ tallied t o m.present m.cost) → Left ix q k at (left - 1) m.next t' C
   unfolding after
-  left-on nexts presents costs left next t t' m l h f =
+  left-on ms left next t t' all l h m read f =
       let o = first-clause q (decode q k) left next l.rest h l.rest-is in
       let ahead = l.group-small in
-      let is = m k next o.first (omega (arith, ahead)) o.first-is in
+      let is : TreeMeasured ix next o.first m = subst (λ (x : Measure). TreeMeasured ix next o.first x) (sym read) (tree_measured ix q ms (at + 1) all k next o.first (omega (arith, ahead)) o.first-is) in
       let span = tree-span q k next o.first o.first-is in
-      let e = f o.occur (has_scorer ix o.first.tree) o.occur-is is.present-is in
-      let c = get_or costs next 0 in
+      let c = m.cost in
+      let e = f o.occur o.occur-is ∙ ap (λ (p : Bool). tallied t o.occur p c) (same_bool m.present (has_scorer ix o.first.tree) is.present-is) in
       let small = is.small in
       let more = is.next-is in
       let inside = span.within in
       let group = ap Tally.group e ∙ step-group t o.occur (has_scorer ix o.first.tree) c in
       let fewest = step-least t o.occur (has_scorer ix o.first.tree) c in
-      let some-least = ap Tally.least e in
+      let some-least = ap (λ (x : Tally). or_zero x.least) e in
       let shoulds = ap Tally.shoulds e ∙ step-shoulds t o.occur (has_scorer ix o.first.tree) c in
       let one = at_most (is_should o.occur && has_scorer ix o.first.tree) 1 in
       let none_or = at_most (is_should o.occur && has_scorer ix o.first.tree) c in
@@ -310,16 +302,16 @@ module _ (ix : Index) (q : List ℕ) (k at : ℕ) (C : DecodedClauses) where
   left-ends (suc left) next t h l = absurd (omega (arith, h))
 
   -- what the code asks at a clause
-  pub record OneLeft (nexts costs : List ℕ) (next : ℕ) (t : Tally) : Type 0 where
+  pub record OneLeft (next : ℕ) (t : Tally) (m : Measure) : Type 0 where
     pub here : next < record_count q
-    pub fits : t.group + get_or costs next 0 < 18446744073709551616
+    pub fits : t.group + m.cost < 18446744073709551616
     pub few : t.shoulds < 1000
 
-  pub one_left : (nexts presents costs : List ℕ) (left next : ℕ) (t : Tally) → record_count q ≤ 256 → record_children q at ≤ 64 → Measured ix q nexts presents costs (at + 1) → Left ix q k at left next t C → 0 < left → OneLeft nexts costs next t
-  one_left nexts presents costs left next t records clauses m l h =
+  pub one_left : (ms : List Measure) (left next : ℕ) (t : Tally) → record_count q ≤ 256 → record_children q at ≤ 64 → AllMeasured ix q ms (at + 1) → Left ix q k at left next t C → 0 < left → OneLeft next t (get_or ms next no_measure)
+  one_left ms left next t records clauses m l h =
       let o = first-clause q (decode q k) left next l.rest h l.rest-is in
       let ahead = l.group-small in
-      let is = m k next o.first (omega (arith, ahead)) o.first-is in
+      let is = tree_measured ix q ms (at + 1) m k next o.first (omega (arith, ahead)) o.first-is in
       let span = tree-span q k next o.first o.first-is in
       let small = is.small in
       let more = is.next-is in
@@ -329,34 +321,40 @@ module _ (ix : Index) (q : List ℕ) (k at : ℕ) (C : DecodedClauses) where
       record { here = omega (arith, inside, past); fits = omega (arith, ahead, small, more, inside, records); few = omega (arith, few, clauses) }
 
 -- the tally's cost is no more than the costs in it
-tally-small : (t : Tally) (msm : ℕ) → tally_cost t msm ≤ max t.least t.group
-tally-small t msm = go t.required (eqb msm 0) t.found
+conjunction-small : (f : Option ℕ) (msm group : ℕ) → conjunction f msm group ≤ max (or_zero f) group
+conjunction-small (Some l) msm group = go (eqb msm 0)
   where
-    go : (r z f : Bool) → cond r (cond z (cond f t.least 0) (cond f (min t.least t.group) t.group)) t.group ≤ max t.least t.group
-    go true true true = omega arith
-    go true true false = omega arith
-    go true false true = omega arith
-    go true false false = omega arith
-    go false true true = omega arith
-    go false true false = omega arith
-    go false false true = omega arith
-    go false false false = omega arith
+    go : (z : Bool) → cond z l (min l group) ≤ max l group
+    go true = omega arith
+    go false = omega arith
+conjunction-small None msm group = go (eqb msm 0)
+  where
+    go : (z : Bool) → cond z 0 group ≤ max 0 group
+    go true = omega arith
+    go false = omega arith
+
+tally-small : (t : Tally) (msm : ℕ) → tally_cost t msm ≤ max (or_zero t.least) t.group
+tally-small t msm = go t.required (conjunction t.least msm t.group) (conjunction-small t.least msm t.group)
+  where
+    go : (r : Bool) (n : ℕ) → n ≤ max (or_zero t.least) t.group → cond r n t.group ≤ max (or_zero t.least) t.group
+    go true n h = h
+    go false n h = omega arith
 
 module _ (ix : Index) (q : List ℕ) (k at : ℕ) (D : Decoded) (e : decode q k at ≡ some D) (kind : record_kind q at ≡ 3) where
   -- the clauses of the Boolean at a record
   pub clauses-in : BooleanAt q (k - 1) at D (deep q k at D e)
   clauses-in = boolean-at q (k - 1) at D (deep q k at D e) kind
 
-  pub boolean-measured : (left next : ℕ) (t : Tally) (msm present size : ℕ) → Left ix q (k - 1) at left next t clauses-in.inside → left ≤ 0 → msm ≡ record_value q at 0 → present ≡ tally_present t msm → size ≡ tally_cost t msm → MeasureIs ix at D next present size
-  boolean-measured left next t msm present size l z m p s =
+  pub boolean-measured : (left next : ℕ) (t : Tally) (msm : ℕ) (m : Measure) → Left ix q (k - 1) at left next t clauses-in.inside → left ≤ 0 → msm ≡ record_value q at 0 → m.next ≡ next → m.present ≡ tally_present t msm → m.cost ≡ tally_cost t msm → TreeMeasured ix at D m
+  boolean-measured left next t msm m l z v n p s =
       let end = left-ends ix q (k - 1) at clauses-in.inside left next t z l in
       let cs = clauses-in.inside.clauses in
       let group = l.group-small in
       let fewest = l.least-small in
       let most = tally-small t msm in
       record {
-        next-is = end.0 ∙ sym clauses-in.next-is;
-        present-is = p ∙ ap (λ (x : Tally). tally_present x msm) end.1 ∙ tally-present ix msm cs ∙ ap (λ (n : ℕ). cond (has_scorer ix (boolean n cs)) 1 0) m ∙ ap (λ (x : Tree). cond (has_scorer ix x) 1 0) (sym clauses-in.tree_is);
-        cost-is = s ∙ ap (λ (x : Tally). tally_cost x msm) end.1 ∙ tally-cost ix msm cs ∙ ap (λ (n : ℕ). cost ix (boolean n cs)) m ∙ ap (cost ix) (sym clauses-in.tree_is);
-        small = omega (arith, s, most, group, fewest);
+        next-is = n ∙ end.0 ∙ sym clauses-in.next-is;
+        present-is = ap (λ (b : Bool). cond b 1 0) (p ∙ ap (λ (x : Tally). tally_present x msm) end.1 ∙ tally-present ix msm cs ∙ ap (λ (n : ℕ). has_scorer ix (boolean n cs)) v ∙ ap (λ (x : Tree). has_scorer ix x) (sym clauses-in.tree_is));
+        cost-is = s ∙ ap (λ (x : Tally). tally_cost x msm) end.1 ∙ tally-cost ix msm cs ∙ ap (λ (n : ℕ). cost ix (boolean n cs)) v ∙ ap (cost ix) (sym clauses-in.tree_is);
+        small = omega (arith, n, s, most, group, fewest);
       }

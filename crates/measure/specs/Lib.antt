@@ -1,2 +1,3 @@
 -- What the contracts of this crate say beside the definitions below.
+pub mod Measures
 pub mod Tallied

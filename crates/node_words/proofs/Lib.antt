@@ -5,3 +5,4 @@ pub mod PhraseParts
 pub mod Idf
 pub mod Weighing
 pub mod AtRecord
+pub mod Kept

@@ -1,5 +1,8 @@
 -- What the second pass writes, and what it needs to know of the index. Assumes nothing: these are definitions.
 use Rattle.std.specs.Prelude.{◌≡◌, Bool, true, false, cond, List, ◌++◌, ℕ, ◌≤◌, length, take, drop, Float}
+use Rattle.std.specs.Prelude.{Some, None, Option as Maybe}
+use Rattle.std.specs.Float.{binary32}
+use Rattle.std.specs.Float.Ieee.{of_bits}
 use Rattle.std.proofs.Math.Option.{Option, none, some}
 use Rattle.meaning.specs.Limits.{node_state_words}
 use Rattle.meaning.specs.Lent.{Index}
@@ -41,6 +44,11 @@ PhraseTermPlaced ix t before after =
 abbrev pub kept_of : Bool → Float → Option Float
 kept_of true x = some x
 kept_of false x = none
+
+-- the score that the code keeps, or 0
+abbrev pub kept_score : Maybe Float → Float
+kept_score (Some x) = x
+kept_score None = of_bits binary32 0
 
 -- a Boolean's record, not asked yet
 abbrev pub boolean_state : ℕ → ℕ → ℕ → ℕ → Bool → ℕ → Bool → ℕ → ℕ → State

@@ -8,6 +8,9 @@ use Rattle.ieee754.specs.Nonneg.{sign_clear, AtMost}
 use Rattle.weight.specs.Weigh.{weigh}
 use Rattle.weight.specs.State.{size_of}
 use Rattle.weight.specs.Measured.{Asks, Measured, RangesListed}
+use Rattle.measure.specs.declared.Measure.{Measure}
+use Rattle.measure.specs.declared.RangeList.{RangeList}
+use Rattle.measure.specs.Measures.{nexts_of, presents_of, costs_of, places_of}
 use Rattle.node_words.specs.Placed.{LeafLent, kept_of, Placed}
 
 -- the query, what is lent of the index, what the first pass found at each record: the record after its tree, whether it has a scorer, its cost, where the bitmap of a range begins
@@ -24,6 +27,10 @@ pub record Records : Type 0 where
 abbrev pub records : List ℕ → ℕ → List ℕ → List ℕ → List ℕ → List ℕ → List ℕ → List ℕ → Records
 records q n fields leaves nexts presents costs places =
     record { query = q; documents = n; fields = fields; leaves = leaves; nexts = nexts; presents = presents; costs = costs; places = places }
+
+-- as the code has them: one struct of each record's measure, one of each range
+abbrev pub given : List ℕ → ℕ → List ℕ → List ℕ → List Measure → List RangeList → Records
+given q n fields leaves ms ls = records q n fields leaves (nexts_of ms) (presents_of ms) (costs_of ms) (places_of ls)
 
 -- they are those of an accepted index and query, with the documents of every Range record in this buffer
 pub record Prepared (ix : Index) (E : Records) (ranges : List ℕ) : Type 0 where

@@ -1,0 +1,65 @@
+use Rattle.std.proofs.Common.{◌≡◌, ℕ, ◌+◌, ◌-◌, ap, subst, refl, ◌∙◌, get_or, arith}
+use Rattle.meaning.specs.Query.{record_children, occur_of}
+use Rattle.weight.proofs.Standing.{clauses-at}
+use Rattle.measure.proofs.Arrays.{no_measure}
+use Rattle.measure.proofs.Tallies.{Left, untallied, left-begins, left-on, one_left, boolean-measured, clauses-in}
+use Rattle.measure.proofs.measure_boolean.Goals as goal
+
+pub loop-i-init : goal.loop-i-init
+loop-i-init c =
+    let n = record_children c.args.q.now c.args.at in
+    λ ix k C m e. subst (λ (z : ℕ). Left ix c.args.q.now k c.args.at z (c.args.at + 1) untallied C) (none-less n) (left-begins ix c.args.q.now k c.args.at C c.requires.held.0.here e)
+  where
+    none-less : (n : ℕ) → n ≡ n - 0
+    none-less n = omega arith
+
+pub offset_bounds-measures-next : goal.offset_bounds-measures-next
+offset_bounds-measures-next c =
+    let a = c.requires.asks in
+    let l = c.loop-i in
+    let ks = clauses-at c.args.q.now c.args.at a.1.records-right c.requires.held.0.here c.requires.held.1 in
+    let o = one_left a.0 c.args.q.now ks.level c.args.at ks.inside c.args.measures.now (record_children c.args.q.now c.args.at - l._i) l.next l.t ks.few-records ks.few-clauses a.2 (l.invariant a.0 ks.level ks.inside a.2 ks.decoded) (omega arith) in
+    omega (arith, o.here, ks.few-records)
+
+pub bounds-measures-next : goal.bounds-measures-next
+bounds-measures-next c =
+    let a = c.requires.asks in
+    let l = c.loop-i in
+    let ks = clauses-at c.args.q.now c.args.at a.1.records-right c.requires.held.0.here c.requires.held.1 in
+    let o = one_left a.0 c.args.q.now ks.level c.args.at ks.inside c.args.measures.now (record_children c.args.q.now c.args.at - l._i) l.next l.t ks.few-records ks.few-clauses a.2 (l.invariant a.0 ks.level ks.inside a.2 ks.decoded) (omega arith) in
+    omega (arith, o.here, c.requires.held.0.long)
+
+pub occurrence-requires : goal.occurrence-requires
+occurrence-requires c =
+    let a = c.requires.asks in
+    let l = c.loop-i in
+    let ks = clauses-at c.args.q.now c.args.at a.1.records-right c.requires.held.0.here c.requires.held.1 in
+    (one_left a.0 c.args.q.now ks.level c.args.at ks.inside c.args.measures.now (record_children c.args.q.now c.args.at - l._i) l.next l.t ks.few-records ks.few-clauses a.2 (l.invariant a.0 ks.level ks.inside a.2 ks.decoded) (omega arith)).here
+
+pub tally_clause-t-requires : goal.tally_clause-t-requires
+tally_clause-t-requires c =
+    let a = c.requires.asks in
+    let l = c.loop-i in
+    let ks = clauses-at c.args.q.now c.args.at a.1.records-right c.requires.held.0.here c.requires.held.1 in
+    let o = one_left a.0 c.args.q.now ks.level c.args.at ks.inside c.args.measures.now (record_children c.args.q.now c.args.at - l._i) l.next l.t ks.few-records ks.few-clauses a.2 (l.invariant a.0 ks.level ks.inside a.2 ks.decoded) (omega arith) in
+    (o.few, o.fits)
+
+pub loop-i-preserved : goal.loop-i-preserved
+loop-i-preserved c =
+    let l = c.loop-i in
+    let n = record_children c.args.q.now c.args.at in
+    let m = get_or c.args.measures.now l.next no_measure in
+    λ ix k C all e. subst
+    (λ (z : ℕ). Left ix c.args.q.now k c.args.at z m.next c.tally_clause-t.result C)
+    (one-less n l._i)
+    (left-on ix c.args.q.now k c.args.at C c.args.measures.now (n - l._i) l.next l.t c.tally_clause-t.result all (l.invariant ix k C all e) (omega arith) m refl (λ o f. c.tally_clause-t.ensures o (ap occur_of c.occurrence.ensures ∙ f)))
+  where
+    one-less : (n i : ℕ) → n - i - 1 ≡ n - (i + 1)
+    one-less n i = omega arith
+
+pub returns : goal.returns
+returns c =
+    let l = c.loop-i in
+    let q = c.args.q.now in
+    let at = c.args.at in
+    λ ix k D m e. let b = clauses-in ix q k at D e c.requires.held.1 in boolean-measured ix q k at D e c.requires.held.1 (record_children q at - l._i) l.next l.t c.value-msm.result _ (l.invariant ix (k - 1) b.inside m b.decoded) (omega arith) c.value-msm.ensures refl c.boolean_present.ensures c.boolean_cost.ensures

@@ -1,0 +1,28 @@
+use Rattle.node_words.proofs.Norms.{field-here, norms-none, norms-some, norms-small}
+use native.Mathlib.Omega.{arith}
+use mathlib.Core.Path.{refl}
+use Rattle.node_words.proofs.place.norms_word.Goals as goal
+
+pub bounds-fields-f : goal.bounds-fields-f
+bounds-fields-f c =
+    let a = c.requires in let h = field-here a.0 c.args.max_doc c.args.fields.now c.args.field a.1 a.2 in omega (arith, h.there)
+
+pub returns-then-fields-f-ne1 : goal.returns-then-fields-f-ne1
+returns-then-fields-f-ne1 c =
+    λ ix l. norms-none ix c.args.max_doc c.args.fields.now c.args.field l _ (refl) c.if-fields-f-ne1.true
+
+pub norms_offset-requires : goal.norms_offset-requires
+norms_offset-requires c =
+    let a = c.requires in let h = field-here a.0 c.args.max_doc c.args.fields.now c.args.field a.1 a.2 in (omega (arith, h.there), omega (arith, h.few))
+
+pub overflow_cast-result : goal.overflow_cast-result
+overflow_cast-result c =
+    let a = c.requires in let h = field-here a.0 c.args.max_doc c.args.fields.now c.args.field a.1 a.2 in let small = norms-small a.0 c.args.max_doc c.args.fields.now c.args.field a.1 c.norms_offset.result h.few (c.norms_offset.ensures) in omega (arith, small)
+
+pub overflow_add-result : goal.overflow_add-result
+overflow_add-result c =
+    let a = c.requires in let h = field-here a.0 c.args.max_doc c.args.fields.now c.args.field a.1 a.2 in let small = norms-small a.0 c.args.max_doc c.args.fields.now c.args.field a.1 c.norms_offset.result h.few (c.norms_offset.ensures) in omega (arith, small)
+
+pub returns : goal.returns
+returns c =
+    λ ix l. norms-some ix c.args.max_doc c.args.fields.now c.args.field l _ c.norms_offset.result (refl) c.if-fields-f-ne1.false (c.norms_offset.ensures)
