@@ -3,6 +3,8 @@ ghost use Rattle.std.specs.Prelude.{◌≡◌};
 ghost use Rattle.meaning.specs.Below.{list_to};
 ghost use Rattle.meaning.specs.Bm25.{length_of, inverse, weight, bm25};
 
+use crate::lengths::length_of;
+
 // The inverse of each length code's norm, for a field's average length.
 #[derive(Drop)]
 pub struct Bm25 {
@@ -23,11 +25,9 @@ impl Bm25 {
     pub fn new(average: f32) -> Bm25
         ensures { result.cache ≡ list_to 256 (λ n. inverse average (length_of n)) }
     {
-        let mut cache: [f32; 256] = [0.0; 256];
-        let mut norm: usize = 0;
-        while norm < 256 {
-            cache[norm] = Bm25::norm_inverse(average, crate::lengths::length_of(norm));
-            norm += 1;
+        let mut cache = [0.0; 256];
+        for (norm, inverse) in cache.iter_mut().enumerate() {
+            *inverse = Bm25::norm_inverse(average, length_of(norm));
         }
         Bm25 { cache }
     }

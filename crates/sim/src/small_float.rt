@@ -9,7 +9,7 @@ const NUM_FREE_VALUES: u32 = 24;
 pub fn long_to_int4(i: u64) -> u32
     ensures { result ≡ long_to_int4 i }
 {
-    let digits = 64 - u64::leading_zeros(i);
+    let digits = u64::BITS - i.leading_zeros();
     if digits < 4 {
         i as u32
     } else {
@@ -24,9 +24,9 @@ pub fn int4_to_long(i: u32) -> u64
     ensures { result ≡ int4_to_long i }
 {
     if i < 8 {
-        i as u64
+        u64::from(i)
     } else {
-        ((8 + i % 8) as u64) << (i / 8 - 1)
+        u64::from(8 + i % 8) << (i / 8 - 1)
     }
 }
 
@@ -38,7 +38,7 @@ pub fn int_to_byte4(i: u32) -> u8
     if i < NUM_FREE_VALUES {
         i as u8
     } else {
-        (NUM_FREE_VALUES + long_to_int4((i - NUM_FREE_VALUES) as u64)) as u8
+        (NUM_FREE_VALUES + long_to_int4(u64::from(i - NUM_FREE_VALUES))) as u8
     }
 }
 
@@ -46,7 +46,7 @@ pub fn int_to_byte4(i: u32) -> u8
 pub fn byte4_to_int(b: u8) -> u32
     ensures { result ≡ byte4_to_int b }
 {
-    let i = b as u32;
+    let i = u32::from(b);
     if i < NUM_FREE_VALUES {
         i
     } else {
