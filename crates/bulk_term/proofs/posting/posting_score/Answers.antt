@@ -1,33 +1,23 @@
 -- `posting_score` meets its contract. Assumes nothing.
 use native.Mathlib.Omega.{arith}
 use Rattle.bulk_term.proofs.PostingScores.{posting-constant, posting-weighs, posting-weighted}
-use Rattle.bulk_term.proofs.posting.posting_score.Statement.{statement}
-use Rattle.bulk_term.proofs.posting.posting_score.Tie as tie
+use Rattle.bulk_term.proofs.posting.posting_score.Goals as goal
 
-float-from-bits-result : tie.Need-float_from_bits-result
-float-from-bits-result c =
-    let s = c in
+pub float_from_bits-result : goal.float_from_bits-result
+float_from_bits-result c = let s = c in
     let a = s.args in
     (posting-constant a.norms.now a.inverses.now a.n a.frequency a.doc s.requires.0 s.requires.1 s.requires.2 s.requires.3 c.if-n-eq1.true).0
 
-returns : tie.Need-returns-then-n-eq1
-returns c =
-    let a = c.args in
+pub returns-then-n-eq1 : goal.returns-then-n-eq1
+returns-then-n-eq1 c = let a = c.args in
     λ ix l sc p. (posting-constant a.norms.now a.inverses.now a.n a.frequency a.doc ix l sc p c.if-n-eq1.true).1
 
-weighted-requires : tie.Need-weighted-requires
-weighted-requires c κs =
-    let s = c in
+pub weighted-requires : goal.weighted-requires
+weighted-requires c = let s = c in
     let a = s.args in
     let q = posting-weighs a.norms.now a.inverses.now a.n a.frequency a.doc s.requires.0 s.requires.1 (λ i. omega (arith, c.shared_slice_known-1.given i)) s.requires.2 s.requires.3 c.if-n-eq1.false in
     ((q.frequency-few, (q.number, q.field-few)), (q.byte-there, q.inverse-there))
 
-returns-2 : tie.Need-returns
-returns-2 c =
-    let a = c.args in
+pub returns : goal.returns
+returns c = let a = c.args in
     λ ix l sc p. posting-weighted a.norms.now a.inverses.now a.n a.frequency a.doc ix l (λ i. omega (arith, c.shared_slice_known-1.given i)) sc p c.if-n-eq1.false c.weighted.result c.weighted.ensures
-
-pub posting_score_spec : {M : Type 1} → statement M
-posting_score_spec =
-    tie.close
-    (tie.spec float-from-bits-result returns weighted-requires returns-2)

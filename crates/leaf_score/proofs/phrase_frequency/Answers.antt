@@ -4,7 +4,6 @@ use Prim.Native.Nat.{ℕ, suc, ◌+◌, ◌≤◌, ◌<◌}
 use mathlib.Core.Path.{◌≡◌, refl, sym, ap, subst, ◌∙◌}
 use mathlib.Core.List.{List}
 use lib.ListN.{get_or}
-use borrow.Author.Rules.{rules}
 use mathlib.Core.Bool.{Bool, true, false≢true}
 use mathlib.Core.Logic.{⊎_elim}
 use native.Mathlib.Nat.{le_refl, eq-or-lt_of_le}
@@ -17,8 +16,7 @@ use Rattle.weight.specs.Held.{PhraseIs}
 use Rattle.leaf_scorer.specs.Phrases.{PhrasePost}
 use Rattle.leaf_score.specs.Asked.{FrequencyPost}
 use Rattle.leaf_score.proofs.Leaves.{words_long}
-use Rattle.leaf_score.proofs.phrase_frequency.Statement.{statement}
-use Rattle.leaf_score.proofs.phrase_frequency.Tie as tie
+use Rattle.leaf_score.proofs.phrase_frequency.Goals as goal
 
 more : (d : ℕ) → d + 1 ≡ suc d
 more d = omega arith
@@ -43,55 +41,20 @@ worked-out-now st st' postings positions doc r few post ix places f ts s w H m =
 top : (d : ℕ) → d < no_more_docs → d ≤ no_more_docs
 top d h = omega arith
 
-slice-read-wide : tie.Need-bounds-st-16
-slice-read-wide c = let p = c.requires in omega (arith, words_long _ p.1.5 p.1.4 p.1.8.words)
+pub bounds-st-16 : goal.bounds-st-16
+bounds-st-16 c = let p = c.requires in omega (arith, words_long _ p.1.5 p.1.4 p.1.8.words)
 
-wide-requires : tie.Need-wide-requires
-wide-requires c κs = search rules
+pub bounds-st-17 : goal.bounds-st-17
+bounds-st-17 c = let p = c.requires in omega (arith, words_long _ p.1.5 p.1.4 p.1.8.words)
 
-wide-requires-2 : tie.Need-wide-requires-2
-wide-requires-2 c κs = search rules
+pub returns-then-wide : goal.returns-then-wide
+returns-then-wide c = same-there c.args.st.now c.args.postings.now c.args.positions.now c.args.doc (sym c.wide.ensures ∙ c.if-wide.true ∙ ap (λ (i : ℕ). i + 1) c.wide-2.ensures)
 
-add-if1 : tie.Need-overflow_add-wide
-add-if1 c = search rules
+pub seek_phrase-d-requires : goal.seek_phrase-d-requires
+seek_phrase-d-requires c = let p = c.requires in (top _ p.0, (p.1.0, p.1.1, p.1.2, p.1.3, p.1.4, p.1.5, p.1.6, p.1.7, p.1.8))
 
-slice-read-result : tie.Need-bounds-st-17
-slice-read-result c = let p = c.requires in omega (arith, words_long _ p.1.5 p.1.4 p.1.8.words)
+pub bounds-st-17-2 : goal.bounds-st-17-2
+bounds-st-17-2 c = let p = c.requires in omega (arith, words_long _ p.1.5 p.1.4 p.1.8.words, c.seek_phrase-d.auto.st)
 
-returns : tie.Need-returns-then-wide
-returns c = same-there c.args.st.now c.args.postings.now c.args.positions.now c.args.doc (sym c.wide.ensures ∙ c.if-wide.true ∙ ap (λ (i : ℕ). i + 1) c.wide-2.ensures)
-
-seek-phrase-requires : tie.Need-seek_phrase-d-requires
-seek-phrase-requires c κs = let p = c.requires in (top _ p.0, (p.1.0, p.1.1, p.1.2, p.1.3, p.1.4, p.1.5, p.1.6, p.1.7, p.1.8))
-
-slice-read-result-2 : tie.Need-bounds-st-17-2
-slice-read-result-2 c = let p = c.requires in omega (arith, words_long _ p.1.5 p.1.4 p.1.8.words, c.seek_phrase-d.auto.st)
-
-same_length : tie.Need-shape_of-st
-same_length c = search rules
-
-same-length-2 : tie.Need-shape_of-a
-same-length-2 c = search rules
-
-same-length-3 : tie.Need-shape_of-b
-same-length-3 c = search rules
-
-returns-2 : tie.Need-returns
-returns-2 c = worked-out-now c.args.st.now c.seek_phrase-d.new.st c.args.postings.now c.args.positions.now c.args.doc c.seek_phrase-d.result c.requires.0 c.seek_phrase-d.ensures
-
-pub phrase_frequency_spec : {M : Type 1} → statement M
-phrase_frequency_spec =
-    tie.close
-    (tie.spec
-    slice-read-wide
-    wide-requires
-    wide-requires-2
-    add-if1
-    slice-read-result
-    returns
-    seek-phrase-requires
-    slice-read-result-2
-    same_length
-    same-length-2
-    same-length-3
-    returns-2)
+pub returns : goal.returns
+returns c = worked-out-now c.args.st.now c.seek_phrase-d.new.st c.args.postings.now c.args.positions.now c.args.doc c.seek_phrase-d.result c.requires.0 c.seek_phrase-d.ensures
