@@ -4,7 +4,7 @@ use lib.ListN.{length, drop, take}
 use lib.Dec.{leb}
 use Rattle.meaning.specs.Limits.{no_more_docs, node_state_words}
 use Rattle.weight.specs.ScorerTree.{matching, all_match}
-use Rattle.leaf_scorer.specs.Calls.{lent}
+use Rattle.leaf_scorer.specs.Calls.{lent_of, lent}
 use mathlib.Core.Path.{refl, sym, ◌∙◌}
 use mathlib.Core.List.{◌++◌}
 use native.Mathlib.Omega.{arith}
@@ -102,97 +102,97 @@ pub step-returns-else-need-eq0 : goal.step-returns-else-need-eq0
 step-returns-else-need-eq0 t c = let s = c in let g = c.pass-e in let x = c.disjunction in λ ix p rs os h. let q = g.ensures ix p rs (lead-required h) in let j = lead-passed h g.new.kids g.result q.0.from q.1 in let y = x.ensures ix p os (lead-optional j) in (pass-then {P = all_match ix rs} {Q = λ d. leb s.args.need (matching ix os d)} q.0 y.0, lead-joined j x.new.kids x.result y.0.from y.1)
 
 pub advance-head_at-h-requires : goal.advance-head_at-h-requires
-advance-head_at-h-requires t c = let s = c in let P = s.requires.1 in let l = ok-long P.0 s.args.ranges.now P.2 s.args.depth P.3 s.args.st.now s.args.target P.5.ok in l
+advance-head_at-h-requires t c = let s = c in let P = s.requires.1 in let l = ok-long P.0 s.args.reader.now.ranges.now P.2 s.args.depth P.3 s.args.st.now s.args.target P.5.ok in l
 
 pub advance-overflow_sub-result : goal.advance-overflow_sub-result
 advance-overflow_sub-result t c = omega (arith, c.if-target-cached.true)
 
 pub advance-returns-then-target-cached : goal.advance-returns-then-target-cached
-advance-returns-then-target-cached t c = let s = c in let h = c.head_at-h in record { advance_post = (λ ix p T o z. (node-cached (lent s.args.max_doc s.args.postings.now s.args.positions.now s.args.ranges.now) ix p s.args.depth o s.args.st.now s.args.target h.result.cached h.ensures.cached T z c.if-target-cached.true, z.ok)); st_after = omega (arith, h.ensures.cached, c.if-target-cached.true) }
+advance-returns-then-target-cached t c = let s = c in let h = c.head_at-h in record { advance_post = (λ ix p T o z. (node-cached (lent_of s.args.reader.now) ix p s.args.depth o s.args.st.now s.args.target h.result.cached h.ensures.cached T z c.if-target-cached.true, z.ok)); st_after = omega (arith, h.ensures.cached, c.if-target-cached.true) }
 
 pub advance-boolean_at-n-requires : goal.advance-boolean_at-n-requires
-advance-boolean_at-n-requires t c = let s = c in let P = s.requires.1 in let l = ok-long P.0 s.args.ranges.now P.2 s.args.depth P.3 s.args.st.now s.args.target P.5.ok in l
+advance-boolean_at-n-requires t c = let s = c in let P = s.requires.1 in let l = ok-long P.0 s.args.reader.now.ranges.now P.2 s.args.depth P.3 s.args.st.now s.args.target P.5.ok in l
 
 pub advance-slice_bounds-kids-count : goal.advance-slice_bounds-kids-count
-advance-slice_bounds-kids-count t c = let s = c in let P = s.requires.1 in let l = ok-long P.0 s.args.ranges.now P.2 s.args.depth P.3 s.args.st.now s.args.target P.5.ok in omega (arith, l)
+advance-slice_bounds-kids-count t c = let s = c in let P = s.requires.1 in let l = ok-long P.0 s.args.reader.now.ranges.now P.2 s.args.depth P.3 s.args.st.now s.args.target P.5.ok in omega (arith, l)
 
 pub advance-slice_bounds-kids-start : goal.advance-slice_bounds-kids-start
-advance-slice_bounds-kids-start t c = let s = c in let P = s.requires.1 in let l = ok-long P.0 s.args.ranges.now P.2 s.args.depth P.3 s.args.st.now s.args.target P.5.ok in omega (arith, l)
+advance-slice_bounds-kids-start t c = let s = c in let P = s.requires.1 in let l = ok-long P.0 s.args.reader.now.ranges.now P.2 s.args.depth P.3 s.args.st.now s.args.target P.5.ok in omega (arith, l)
 
 pub advance-slice_bounds-kids-end : goal.advance-slice_bounds-kids-end
-advance-slice_bounds-kids-end t c = let s = c in let P = s.requires.1 in let l = ok-long P.0 s.args.ranges.now P.2 s.args.depth P.3 s.args.st.now s.args.target P.5.ok in omega (arith, l)
+advance-slice_bounds-kids-end t c = let s = c in let P = s.requires.1 in let l = ok-long P.0 s.args.reader.now.ranges.now P.2 s.args.depth P.3 s.args.st.now s.args.target P.5.ok in omega (arith, l)
 
 pub advance-overflow_sub-depth : goal.advance-overflow_sub-depth
-advance-overflow_sub-depth t c = let s = c in let P = s.requires.1 in let h = c.head_at-h in let b = c.boolean_at-n in let n = node-boolean (lent s.args.max_doc s.args.postings.now s.args.positions.now s.args.ranges.now) P.0 P.1 s.args.depth P.3 s.args.st.now s.args.target h.result.cached h.ensures.cached c.if-target-cached.false h.result.kind h.ensures.kind c.if-h-eq-BOOLEAN.true b.result.need b.ensures.need b.result.required b.result.optional b.ensures.required-end b.ensures.optional-end P.2 P.5 in omega (arith, n.0)
+advance-overflow_sub-depth t c = let s = c in let P = s.requires.1 in let h = c.head_at-h in let b = c.boolean_at-n in let n = node-boolean (lent_of s.args.reader.now) P.0 P.1 s.args.depth P.3 s.args.st.now s.args.target h.result.cached h.ensures.cached c.if-target-cached.false h.result.kind h.ensures.kind c.if-h-eq-BOOLEAN.true b.result.need b.ensures.need b.result.required b.result.optional b.ensures.required-end b.ensures.optional-end P.2 P.5 in omega (arith, n.0)
 
 pub advance-excluding-d-requires : goal.advance-excluding-d-requires
-advance-excluding-d-requires t c = let s = c in let P = s.requires.1 in let h = c.head_at-h in let b = c.boolean_at-n in let n = node-boolean (lent s.args.max_doc s.args.postings.now s.args.positions.now s.args.ranges.now) P.0 P.1 s.args.depth P.3 s.args.st.now s.args.target h.result.cached h.ensures.cached c.if-target-cached.false h.result.kind h.ensures.kind c.if-h-eq-BOOLEAN.true b.result.need b.ensures.need b.result.required b.result.optional b.ensures.required-end b.ensures.optional-end P.2 P.5 in (omega (arith, n.0), (s.requires.0, (P.0, P.1, n.1.0, n.1.1, n.1.2, record { in-a = P.4.in-a; in_b = P.4.in_b }, n.1.3)))
+advance-excluding-d-requires t c = let s = c in let P = s.requires.1 in let h = c.head_at-h in let b = c.boolean_at-n in let n = node-boolean (lent_of s.args.reader.now) P.0 P.1 s.args.depth P.3 s.args.st.now s.args.target h.result.cached h.ensures.cached c.if-target-cached.false h.result.kind h.ensures.kind c.if-h-eq-BOOLEAN.true b.result.need b.ensures.need b.result.required b.result.optional b.ensures.required-end b.ensures.optional-end P.2 P.5 in (omega (arith, n.0), (s.requires.0, (P.0, P.1, n.1.0, n.1.1, n.1.2, record { in-a = P.4.in-a; in_b = P.4.in_b }, n.1.3)))
 
 pub advance-overflow_add-st : goal.advance-overflow_add-st
-advance-overflow_add-st t c = let s = c in let P = s.requires.1 in let h = c.head_at-h in let b = c.boolean_at-n in let x = c.excluding-d in let d = node-joined (lent s.args.max_doc s.args.postings.now s.args.positions.now s.args.ranges.now) P.0 P.1 s.args.depth P.3 s.args.st.now s.args.target h.result.cached h.ensures.cached c.if-target-cached.false h.result.kind h.ensures.kind c.if-h-eq-BOOLEAN.true b.result.need b.ensures.need b.result.required b.result.optional b.ensures.required-end b.ensures.optional-end x.result x.new.kids x.ensures P.2 P.5 in omega (arith, d.0.top)
+advance-overflow_add-st t c = let s = c in let P = s.requires.1 in let h = c.head_at-h in let b = c.boolean_at-n in let x = c.excluding-d in let d = node-joined (lent_of s.args.reader.now) P.0 P.1 s.args.depth P.3 s.args.st.now s.args.target h.result.cached h.ensures.cached c.if-target-cached.false h.result.kind h.ensures.kind c.if-h-eq-BOOLEAN.true b.result.need b.ensures.need b.result.required b.result.optional b.ensures.required-end b.ensures.optional-end x.result x.new.kids x.ensures P.2 P.5 in omega (arith, d.0.top)
 
 pub advance-bounds-st-2 : goal.advance-bounds-st-2
-advance-bounds-st-2 t c = let s = c in let P = s.requires.1 in let l = ok-long P.0 s.args.ranges.now P.2 s.args.depth P.3 s.args.st.now s.args.target P.5.ok in let x = c.excluding-d in omega (arith, l, back-length s.args.st.now x.new.kids node_state_words (length s.args.st.now) x.auto.kids)
+advance-bounds-st-2 t c = let s = c in let P = s.requires.1 in let l = ok-long P.0 s.args.reader.now.ranges.now P.2 s.args.depth P.3 s.args.st.now s.args.target P.5.ok in let x = c.excluding-d in omega (arith, l, back-length s.args.st.now x.new.kids node_state_words (length s.args.st.now) x.auto.kids)
 
 pub advance-seek-d-requires : goal.advance-seek-d-requires
-advance-seek-d-requires t c = let s = c in let P = s.requires.1 in let h = c.head_at-h in let n = node-leaf (lent s.args.max_doc s.args.postings.now s.args.positions.now s.args.ranges.now) P.0 P.1 s.args.depth P.3 s.args.st.now s.args.target h.result.cached h.ensures.cached c.if-target-cached.false h.result.kind h.ensures.kind c.if-h-eq-BOOLEAN.false P.2 P.5 in (s.requires.0, (P.0, P.1, n.0, n.1, n.2, record { in-a = P.4.in-a; in_b = P.4.in_b }, n.3))
+advance-seek-d-requires t c = let s = c in let P = s.requires.1 in let h = c.head_at-h in let n = node-leaf (lent_of s.args.reader.now) P.0 P.1 s.args.depth P.3 s.args.st.now s.args.target h.result.cached h.ensures.cached c.if-target-cached.false h.result.kind h.ensures.kind c.if-h-eq-BOOLEAN.false P.2 P.5 in (s.requires.0, (P.0, P.1, n.0, n.1, n.2, record { in-a = P.4.in-a; in_b = P.4.in_b }, n.3))
 
 pub advance-overflow_add-st-else-h-eq-BOOLEAN : goal.advance-overflow_add-st-else-h-eq-BOOLEAN
-advance-overflow_add-st-else-h-eq-BOOLEAN t c = let s = c in let P = s.requires.1 in let h = c.head_at-h in let y = c.seek-d in let d = node-sought (lent s.args.max_doc s.args.postings.now s.args.positions.now s.args.ranges.now) P.0 P.1 s.args.depth P.3 s.args.st.now s.args.target h.result.cached h.ensures.cached c.if-target-cached.false h.result.kind h.ensures.kind s.requires.0 c.if-h-eq-BOOLEAN.false y.result y.new.st y.ensures P.2 P.5 in omega (arith, d.0.top)
+advance-overflow_add-st-else-h-eq-BOOLEAN t c = let s = c in let P = s.requires.1 in let h = c.head_at-h in let y = c.seek-d in let d = node-sought (lent_of s.args.reader.now) P.0 P.1 s.args.depth P.3 s.args.st.now s.args.target h.result.cached h.ensures.cached c.if-target-cached.false h.result.kind h.ensures.kind s.requires.0 c.if-h-eq-BOOLEAN.false y.result y.new.st y.ensures P.2 P.5 in omega (arith, d.0.top)
 
 pub advance-bounds-st-2-else-h-eq-BOOLEAN : goal.advance-bounds-st-2-else-h-eq-BOOLEAN
-advance-bounds-st-2-else-h-eq-BOOLEAN t c = let s = c in let P = s.requires.1 in let l = ok-long P.0 s.args.ranges.now P.2 s.args.depth P.3 s.args.st.now s.args.target P.5.ok in let y = c.seek-d in omega (arith, l, y.auto.st)
+advance-bounds-st-2-else-h-eq-BOOLEAN t c = let s = c in let P = s.requires.1 in let l = ok-long P.0 s.args.reader.now.ranges.now P.2 s.args.depth P.3 s.args.st.now s.args.target P.5.ok in let y = c.seek-d in omega (arith, l, y.auto.st)
 
 pub advance-returns-then-h-eq-BOOLEAN : goal.advance-returns-then-h-eq-BOOLEAN
-advance-returns-then-h-eq-BOOLEAN t c = let s = c in let P = s.requires.1 in let l = ok-long P.0 s.args.ranges.now P.2 s.args.depth P.3 s.args.st.now s.args.target P.5.ok in let h = c.head_at-h in let b = c.boolean_at-n in let x = c.excluding-d in record { advance_post = (λ ix p T o z. node-joined (lent s.args.max_doc s.args.postings.now s.args.positions.now s.args.ranges.now) ix p s.args.depth o s.args.st.now s.args.target h.result.cached h.ensures.cached c.if-target-cached.false h.result.kind h.ensures.kind c.if-h-eq-BOOLEAN.true b.result.need b.ensures.need b.result.required b.result.optional b.ensures.required-end b.ensures.optional-end x.result x.new.kids x.ensures T z); st_after = get_or-set_same (take node_state_words s.args.st.now ++ (x.new.kids ++ drop (length s.args.st.now - node_state_words) (drop node_state_words s.args.st.now))) 2 (x.result + 1) 0 (omega (arith, l, back-length s.args.st.now x.new.kids node_state_words (length s.args.st.now) x.auto.kids)) }
+advance-returns-then-h-eq-BOOLEAN t c = let s = c in let P = s.requires.1 in let l = ok-long P.0 s.args.reader.now.ranges.now P.2 s.args.depth P.3 s.args.st.now s.args.target P.5.ok in let h = c.head_at-h in let b = c.boolean_at-n in let x = c.excluding-d in record { advance_post = (λ ix p T o z. node-joined (lent_of s.args.reader.now) ix p s.args.depth o s.args.st.now s.args.target h.result.cached h.ensures.cached c.if-target-cached.false h.result.kind h.ensures.kind c.if-h-eq-BOOLEAN.true b.result.need b.ensures.need b.result.required b.result.optional b.ensures.required-end b.ensures.optional-end x.result x.new.kids x.ensures T z); st_after = get_or-set_same (take node_state_words s.args.st.now ++ (x.new.kids ++ drop (length s.args.st.now - node_state_words) (drop node_state_words s.args.st.now))) 2 (x.result + 1) 0 (omega (arith, l, back-length s.args.st.now x.new.kids node_state_words (length s.args.st.now) x.auto.kids)) }
 
 pub advance-returns-else-h-eq-BOOLEAN : goal.advance-returns-else-h-eq-BOOLEAN
-advance-returns-else-h-eq-BOOLEAN t c = let s = c in let P = s.requires.1 in let l = ok-long P.0 s.args.ranges.now P.2 s.args.depth P.3 s.args.st.now s.args.target P.5.ok in let h = c.head_at-h in let y = c.seek-d in record { advance_post = (λ ix p T o z. node-sought (lent s.args.max_doc s.args.postings.now s.args.positions.now s.args.ranges.now) ix p s.args.depth o s.args.st.now s.args.target h.result.cached h.ensures.cached c.if-target-cached.false h.result.kind h.ensures.kind s.requires.0 c.if-h-eq-BOOLEAN.false y.result y.new.st y.ensures T z); st_after = get_or-set_same y.new.st 2 (y.result + 1) 0 (omega (arith, l, y.auto.st)) }
+advance-returns-else-h-eq-BOOLEAN t c = let s = c in let P = s.requires.1 in let l = ok-long P.0 s.args.reader.now.ranges.now P.2 s.args.depth P.3 s.args.st.now s.args.target P.5.ok in let h = c.head_at-h in let y = c.seek-d in record { advance_post = (λ ix p T o z. node-sought (lent_of s.args.reader.now) ix p s.args.depth o s.args.st.now s.args.target h.result.cached h.ensures.cached c.if-target-cached.false h.result.kind h.ensures.kind s.requires.0 c.if-h-eq-BOOLEAN.false y.result y.new.st y.ensures T z); st_after = get_or-set_same y.new.st 2 (y.result + 1) 0 (omega (arith, l, y.auto.st)) }
 
-pub excluding-loop-max_doc-init : goal.excluding-loop-max_doc-init
-excluding-loop-max_doc-init t c = let s = c in (record { kids-same = refl; a-same = refl; b-same = refl }, s.requires.0, λ ix p rs os ps h. going_start h)
+pub excluding-loop-required_end-init : goal.excluding-loop-required_end-init
+excluding-loop-required_end-init t c = let s = c in (record { kids-same = refl; a-same = refl; b-same = refl }, s.requires.0, λ ix p rs os ps h. going_start h)
 
 pub excluding-slice_bounds-lead-end : goal.excluding-slice_bounds-lead-end
-excluding-slice_bounds-lead-end t c = let s = c in let P = s.requires.1 in let a = c.loop-max_doc in let i = a.invariant.2 P.0 P.1 P.2 P.3 P.4 P.6 in let m = s.args.optional_end in boolean-fits i.held
+excluding-slice_bounds-lead-end t c = let s = c in let P = s.requires.1 in let a = c.loop-required_end in let i = a.invariant.2 P.0 P.1 P.2 P.3 P.4 P.6 in let m = s.args.optional_end in boolean-fits i.held
 
-pub excluding-slice_bounds-lead-end-in-loop-max_doc : goal.excluding-slice_bounds-lead-end-in-loop-max_doc
-excluding-slice_bounds-lead-end-in-loop-max_doc t c = let s = c in let P = s.requires.1 in let a = c.loop-max_doc in let i = a.invariant.2 P.0 P.1 P.2 P.3 P.4 P.6 in let m = s.args.optional_end in sym (length-take-le m a.kids (boolean-fits i.held))
+pub excluding-slice_bounds-lead-end-in-loop-required_end : goal.excluding-slice_bounds-lead-end-in-loop-required_end
+excluding-slice_bounds-lead-end-in-loop-required_end t c = let s = c in let P = s.requires.1 in let a = c.loop-required_end in let i = a.invariant.2 P.0 P.1 P.2 P.3 P.4 P.6 in let m = s.args.optional_end in sym (length-take-le m a.kids (boolean-fits i.held))
 
 pub excluding-lead-d-requires : goal.excluding-lead-d-requires
-excluding-lead-d-requires t c = let s = c in let P = s.requires.1 in let a = c.loop-max_doc in let i = a.invariant.2 P.0 P.1 P.2 P.3 P.4 P.6 in let m = s.args.optional_end in (omega arith, (a.invariant.1, (P.0, P.1, P.2, P.3, record { in-a = omega (arith, a.invariant.0, P.5); in_b = omega (arith, a.invariant.0, P.5) }, boolean-lead i.held)))
+excluding-lead-d-requires t c = let s = c in let P = s.requires.1 in let a = c.loop-required_end in let i = a.invariant.2 P.0 P.1 P.2 P.3 P.4 P.6 in let m = s.args.optional_end in (omega arith, (a.invariant.1, (P.0, P.1, P.2, P.3, record { in-a = omega (arith, a.invariant.0, P.5); in_b = omega (arith, a.invariant.0, P.5) }, boolean-lead i.held)))
 
 pub excluding-returns-then-d-eq-NO_MORE_DOCS : goal.excluding-returns-then-d-eq-NO_MORE_DOCS
-excluding-returns-then-d-eq-NO_MORE_DOCS t c = let s = c in let a = c.loop-max_doc in let m = s.args.optional_end in let g = c.lead-d in λ ix p rs os ps h. let i = a.invariant.2 ix p rs os ps h in let q = g.ensures ix p rs os (boolean-lead i.held) in (kept_top ix rs os ps s.args.need i.lo i.before q.0 c.if-d-eq-NO_MORE_DOCS.true, boolean-led i.held g.new.kids g.result q.0.from g.auto.kids q.1)
+excluding-returns-then-d-eq-NO_MORE_DOCS t c = let s = c in let a = c.loop-required_end in let m = s.args.optional_end in let g = c.lead-d in λ ix p rs os ps h. let i = a.invariant.2 ix p rs os ps h in let q = g.ensures ix p rs os (boolean-lead i.held) in (kept_top ix rs os ps s.args.need i.lo i.before q.0 c.if-d-eq-NO_MORE_DOCS.true, boolean-led i.held g.new.kids g.result q.0.from g.auto.kids q.1)
 
 pub excluding-returns-then-optional_end-kids : goal.excluding-returns-then-optional_end-kids
-excluding-returns-then-optional_end-kids t c = let s = c in let a = c.loop-max_doc in let m = s.args.optional_end in let g = c.lead-d in λ ix p rs os ps h. let i = a.invariant.2 ix p rs os ps h in let q = g.ensures ix p rs os (boolean-lead i.held) in let j = boolean-led i.held g.new.kids g.result q.0.from g.auto.kids q.1 in (kept-alone ix rs os ps s.args.need i.lo i.before q.0 (boolean-none j c.if-optional_end-kids.true), j)
+excluding-returns-then-optional_end-kids t c = let s = c in let a = c.loop-required_end in let m = s.args.optional_end in let g = c.lead-d in λ ix p rs os ps h. let i = a.invariant.2 ix p rs os ps h in let q = g.ensures ix p rs os (boolean-lead i.held) in let j = boolean-led i.held g.new.kids g.result q.0.from g.auto.kids q.1 in (kept-alone ix rs os ps s.args.need i.lo i.before q.0 (boolean-none j c.if-optional_end-kids.true), j)
 
 pub excluding-offset_bounds-kids-optional_end : goal.excluding-offset_bounds-kids-optional_end
-excluding-offset_bounds-kids-optional_end t c = let s = c in let P = s.requires.1 in let a = c.loop-max_doc in let i = a.invariant.2 P.0 P.1 P.2 P.3 P.4 P.6 in let m = s.args.optional_end in let f = boolean-fits i.held in omega (arith, f, a.invariant.0, s.well_formed)
+excluding-offset_bounds-kids-optional_end t c = let s = c in let P = s.requires.1 in let a = c.loop-required_end in let i = a.invariant.2 P.0 P.1 P.2 P.3 P.4 P.6 in let m = s.args.optional_end in let f = boolean-fits i.held in omega (arith, f, a.invariant.0, s.well_formed)
 
 pub excluding-slice_bounds-least-count : goal.excluding-slice_bounds-least-count
-excluding-slice_bounds-least-count t c = let s = c in let P = s.requires.1 in let a = c.loop-max_doc in let i = a.invariant.2 P.0 P.1 P.2 P.3 P.4 P.6 in let m = s.args.optional_end in let g = c.lead-d in let f = boolean-fits i.held in let e = front_length a.kids g.new.kids m g.auto.kids in omega (arith, f, e)
+excluding-slice_bounds-least-count t c = let s = c in let P = s.requires.1 in let a = c.loop-required_end in let i = a.invariant.2 P.0 P.1 P.2 P.3 P.4 P.6 in let m = s.args.optional_end in let g = c.lead-d in let f = boolean-fits i.held in let e = front_length a.kids g.new.kids m g.auto.kids in omega (arith, f, e)
 
 pub excluding-slice_bounds-least-start : goal.excluding-slice_bounds-least-start
-excluding-slice_bounds-least-start t c = let s = c in let P = s.requires.1 in let a = c.loop-max_doc in let i = a.invariant.2 P.0 P.1 P.2 P.3 P.4 P.6 in let m = s.args.optional_end in let g = c.lead-d in let f = boolean-fits i.held in let e = front_length a.kids g.new.kids m g.auto.kids in omega (arith, f, e, a.invariant.0, s.well_formed)
+excluding-slice_bounds-least-start t c = let s = c in let P = s.requires.1 in let a = c.loop-required_end in let i = a.invariant.2 P.0 P.1 P.2 P.3 P.4 P.6 in let m = s.args.optional_end in let g = c.lead-d in let f = boolean-fits i.held in let e = front_length a.kids g.new.kids m g.auto.kids in omega (arith, f, e, a.invariant.0, s.well_formed)
 
 pub excluding-slice_bounds-least-end : goal.excluding-slice_bounds-least-end
-excluding-slice_bounds-least-end t c = let s = c in let P = s.requires.1 in let a = c.loop-max_doc in let i = a.invariant.2 P.0 P.1 P.2 P.3 P.4 P.6 in let m = s.args.optional_end in let g = c.lead-d in let f = boolean-fits i.held in let e = front_length a.kids g.new.kids m g.auto.kids in omega (arith, f, e, a.invariant.0, s.well_formed)
+excluding-slice_bounds-least-end t c = let s = c in let P = s.requires.1 in let a = c.loop-required_end in let i = a.invariant.2 P.0 P.1 P.2 P.3 P.4 P.6 in let m = s.args.optional_end in let g = c.lead-d in let f = boolean-fits i.held in let e = front_length a.kids g.new.kids m g.auto.kids in omega (arith, f, e, a.invariant.0, s.well_formed)
 
 pub excluding-least-x-requires : goal.excluding-least-x-requires
-excluding-least-x-requires t c = let s = c in let P = s.requires.1 in let a = c.loop-max_doc in let i = a.invariant.2 P.0 P.1 P.2 P.3 P.4 P.6 in let m = s.args.optional_end in let g = c.lead-d in let q = g.ensures P.0 P.1 P.2 P.3 (boolean-lead i.held) in (omega arith, (q.0.top, (P.0, P.1, P.4, record { in-a = omega (arith, a.invariant.0, P.5, g.auto.a); in_b = omega (arith, a.invariant.0, P.5, g.auto.b) }, boolean-prohibited (boolean-led i.held g.new.kids g.result q.0.from g.auto.kids q.1))))
+excluding-least-x-requires t c = let s = c in let P = s.requires.1 in let a = c.loop-required_end in let i = a.invariant.2 P.0 P.1 P.2 P.3 P.4 P.6 in let m = s.args.optional_end in let g = c.lead-d in let q = g.ensures P.0 P.1 P.2 P.3 (boolean-lead i.held) in (omega arith, (q.0.top, (P.0, P.1, P.4, record { in-a = omega (arith, a.invariant.0, P.5, g.auto.a); in_b = omega (arith, a.invariant.0, P.5, g.auto.b) }, boolean-prohibited (boolean-led i.held g.new.kids g.result q.0.from g.auto.kids q.1))))
 
 pub excluding-overflow_add-t : goal.excluding-overflow_add-t
-excluding-overflow_add-t t c = let s = c in let P = s.requires.1 in let a = c.loop-max_doc in let i = a.invariant.2 P.0 P.1 P.2 P.3 P.4 P.6 in let m = s.args.optional_end in let g = c.lead-d in let q = g.ensures P.0 P.1 P.2 P.3 (boolean-lead i.held) in omega (arith, q.0.top)
+excluding-overflow_add-t t c = let s = c in let P = s.requires.1 in let a = c.loop-required_end in let i = a.invariant.2 P.0 P.1 P.2 P.3 P.4 P.6 in let m = s.args.optional_end in let g = c.lead-d in let q = g.ensures P.0 P.1 P.2 P.3 (boolean-lead i.held) in omega (arith, q.0.top)
 
-pub excluding-loop-max_doc-smaller : goal.excluding-loop-max_doc-smaller
-excluding-loop-max_doc-smaller t c = let s = c in let P = s.requires.1 in let a = c.loop-max_doc in let i = a.invariant.2 P.0 P.1 P.2 P.3 P.4 P.6 in let m = s.args.optional_end in let g = c.lead-d in let q = g.ensures P.0 P.1 P.2 P.3 (boolean-lead i.held) in let d : g.result < no_more_docs = omega (arith, q.0.top, c.if-d-eq-NO_MORE_DOCS.false) in omega (arith, q.0.from)
+pub excluding-loop-required_end-smaller : goal.excluding-loop-required_end-smaller
+excluding-loop-required_end-smaller t c = let s = c in let P = s.requires.1 in let a = c.loop-required_end in let i = a.invariant.2 P.0 P.1 P.2 P.3 P.4 P.6 in let m = s.args.optional_end in let g = c.lead-d in let q = g.ensures P.0 P.1 P.2 P.3 (boolean-lead i.held) in let d : g.result < no_more_docs = omega (arith, q.0.top, c.if-d-eq-NO_MORE_DOCS.false) in omega (arith, q.0.from)
 
-pub excluding-loop-max_doc-preserved : goal.excluding-loop-max_doc-preserved
-excluding-loop-max_doc-preserved t c = let s = c in let P = s.requires.1 in let a = c.loop-max_doc in let i = a.invariant.2 P.0 P.1 P.2 P.3 P.4 P.6 in let m = s.args.optional_end in let g = c.lead-d in let x = c.least-x in let w = g.new.kids ++ drop m a.kids in let q = g.ensures P.0 P.1 P.2 P.3 (boolean-lead i.held) in let d : g.result < no_more_docs = omega (arith, q.0.top, c.if-d-eq-NO_MORE_DOCS.false) in (record { kids-same = back-length w x.new.kids m (length w) x.auto.kids ∙ front_length a.kids g.new.kids m g.auto.kids ∙ a.invariant.0.kids-same; a-same = x.auto.a ∙ g.auto.a ∙ a.invariant.0.a-same; b-same = x.auto.b ∙ g.auto.b ∙ a.invariant.0.b-same }, omega arith, λ ix p rs os ps h. let i = a.invariant.2 ix p rs os ps h in let q = g.ensures ix p rs os (boolean-lead i.held) in let j = boolean-led i.held g.new.kids g.result q.0.from g.auto.kids q.1 in let y = x.ensures ix p ps (boolean-prohibited j) in record { lo = omega (arith, i.lo, q.0.from); before = kept_more ix rs os ps s.args.need i.lo i.before q.0 x.result.doc x.result.count d y.0 c.if-x-d.true; held = boolean-later (boolean-joined j x.new.kids y.1) (g.result + 1) (omega arith) })
+pub excluding-loop-required_end-preserved : goal.excluding-loop-required_end-preserved
+excluding-loop-required_end-preserved t c = let s = c in let P = s.requires.1 in let a = c.loop-required_end in let i = a.invariant.2 P.0 P.1 P.2 P.3 P.4 P.6 in let m = s.args.optional_end in let g = c.lead-d in let x = c.least-x in let w = g.new.kids ++ drop m a.kids in let q = g.ensures P.0 P.1 P.2 P.3 (boolean-lead i.held) in let d : g.result < no_more_docs = omega (arith, q.0.top, c.if-d-eq-NO_MORE_DOCS.false) in (record { kids-same = back-length w x.new.kids m (length w) x.auto.kids ∙ front_length a.kids g.new.kids m g.auto.kids ∙ a.invariant.0.kids-same; a-same = x.auto.a ∙ g.auto.a ∙ a.invariant.0.a-same; b-same = x.auto.b ∙ g.auto.b ∙ a.invariant.0.b-same }, omega arith, λ ix p rs os ps h. let i = a.invariant.2 ix p rs os ps h in let q = g.ensures ix p rs os (boolean-lead i.held) in let j = boolean-led i.held g.new.kids g.result q.0.from g.auto.kids q.1 in let y = x.ensures ix p ps (boolean-prohibited j) in record { lo = omega (arith, i.lo, q.0.from); before = kept_more ix rs os ps s.args.need i.lo i.before q.0 x.result.doc x.result.count d y.0 c.if-x-d.true; held = boolean-later (boolean-joined j x.new.kids y.1) (g.result + 1) (omega arith) })
 
 pub excluding-returns-else-x-d : goal.excluding-returns-else-x-d
-excluding-returns-else-x-d t c = let s = c in let a = c.loop-max_doc in let m = s.args.optional_end in let g = c.lead-d in let x = c.least-x in λ ix p rs os ps h. let i = a.invariant.2 ix p rs os ps h in let q = g.ensures ix p rs os (boolean-lead i.held) in let j = boolean-led i.held g.new.kids g.result q.0.from g.auto.kids q.1 in let y = x.ensures ix p ps (boolean-prohibited j) in (kept-hit ix rs os ps s.args.need i.lo i.before q.0 x.result.doc x.result.count y.0 c.if-x-d.false, boolean-joined j x.new.kids y.1)
+excluding-returns-else-x-d t c = let s = c in let a = c.loop-required_end in let m = s.args.optional_end in let g = c.lead-d in let x = c.least-x in λ ix p rs os ps h. let i = a.invariant.2 ix p rs os ps h in let q = g.ensures ix p rs os (boolean-lead i.held) in let j = boolean-led i.held g.new.kids g.result q.0.from g.auto.kids q.1 in let y = x.ensures ix p ps (boolean-prohibited j) in (kept-hit ix rs os ps s.args.need i.lo i.before q.0 x.result.doc x.result.count y.0 c.if-x-d.false, boolean-joined j x.new.kids y.1)
 
 pub least-loop-at-init : goal.least-loop-at-init
 least-loop-at-init t c = let s = c in (record { kids-same = refl; a-same = refl; b-same = refl }, λ ix p ss h. least_start s.requires.0 h)
@@ -216,7 +216,7 @@ pub least-slice_bounds-advance_term-end : goal.least-slice_bounds-advance_term-e
 least-slice_bounds-advance_term-end t c = let s = c in let P = s.requires.1 in let a = c.loop-at in let i = a.invariant.1 P.0 P.1 P.2 P.4 in let l = c.loop-at-test.true in let f = child-facts i.left i.zip l in let n = child-term i.left i.zip l (sym c.kind_at.ensures ∙ c.if-kind_at-eq-TERM.true) in omega (arith, f, n, a.invariant.0, s.well_formed)
 
 pub least-advance_term-d-requires : goal.least-advance_term-d-requires
-least-advance_term-d-requires t c = let s = c in let P = s.requires.1 in let a = c.loop-at in let i = a.invariant.1 P.0 P.1 P.2 P.4 in let l = c.loop-at-test.true in let f = child-facts i.left i.zip l in let v = term-end i.left i.zip l (sym c.kind_at.ensures ∙ c.if-kind_at-eq-TERM.true) in let h = child-held i.left i.zip l (a.at + node_state_words) v in (s.requires.0, child-kind a.kids a.at (a.at + node_state_words) f v ∙ (sym c.kind_at.ensures ∙ c.if-kind_at-eq-TERM.true), (lent s.args.max_doc s.args.postings.now s.args.positions.now s.args.ranges.now, refl, P.0, P.1, h.0, s.args.depth, h.1, h.2))
+least-advance_term-d-requires t c = let s = c in let P = s.requires.1 in let a = c.loop-at in let i = a.invariant.1 P.0 P.1 P.2 P.4 in let l = c.loop-at-test.true in let f = child-facts i.left i.zip l in let v = term-end i.left i.zip l (sym c.kind_at.ensures ∙ c.if-kind_at-eq-TERM.true) in let h = child-held i.left i.zip l (a.at + node_state_words) v in (s.requires.0, child-kind a.kids a.at (a.at + node_state_words) f v ∙ (sym c.kind_at.ensures ∙ c.if-kind_at-eq-TERM.true), (lent_of s.args.reader.now, refl, P.0, P.1, h.0, s.args.depth, h.1, h.2))
 
 pub least-tally-x-requires : goal.least-tally-x-requires
 least-tally-x-requires t c = let s = c in let P = s.requires.1 in let a = c.loop-at in let i = a.invariant.1 P.0 P.1 P.2 P.4 in let l = c.loop-at-test.true in omega (arith, i.few, l, a.invariant.0, s.well_formed)
@@ -225,7 +225,7 @@ pub least-loop-at-smaller-then-kind_at-eq-TERM : goal.least-loop-at-smaller-then
 least-loop-at-smaller-then-kind_at-eq-TERM t c = let s = c in let P = s.requires.1 in let a = c.loop-at in let i = a.invariant.1 P.0 P.1 P.2 P.4 in let l = c.loop-at-test.true in let f = child-facts i.left i.zip l in let n = child-term i.left i.zip l (sym c.kind_at.ensures ∙ c.if-kind_at-eq-TERM.true) in let d = c.advance_term-d in omega (arith, f, n, l, back-length a.kids d.new.st a.at (a.at + node_state_words) d.auto.st)
 
 pub least-loop-at-preserved-then-kind_at-eq-TERM : goal.least-loop-at-preserved-then-kind_at-eq-TERM
-least-loop-at-preserved-then-kind_at-eq-TERM t c = let s = c in let a = c.loop-at in let l = c.loop-at-test.true in let d = c.advance_term-d in let y = c.tally-x in (record { kids-same = back-length a.kids d.new.st a.at (a.at + node_state_words) d.auto.st ∙ a.invariant.0.kids-same; a-same = a.invariant.0.a-same; b-same = a.invariant.0.b-same }, λ ix p ss h. let v = term-end (a.invariant.1 ix p ss h).left (a.invariant.1 ix p ss h).zip l (sym c.kind_at.ensures ∙ c.if-kind_at-eq-TERM.true) in least-took (a.invariant.1 ix p ss h) l (a.at + node_state_words) v d.result y.result.doc y.result.count d.new.st d.auto.st (d.ensures.term_post (lent s.args.max_doc s.args.postings.now s.args.positions.now s.args.ranges.now) s.args.depth refl) y.ensures)
+least-loop-at-preserved-then-kind_at-eq-TERM t c = let s = c in let a = c.loop-at in let l = c.loop-at-test.true in let d = c.advance_term-d in let y = c.tally-x in (record { kids-same = back-length a.kids d.new.st a.at (a.at + node_state_words) d.auto.st ∙ a.invariant.0.kids-same; a-same = a.invariant.0.a-same; b-same = a.invariant.0.b-same }, λ ix p ss h. let v = term-end (a.invariant.1 ix p ss h).left (a.invariant.1 ix p ss h).zip l (sym c.kind_at.ensures ∙ c.if-kind_at-eq-TERM.true) in least-took (a.invariant.1 ix p ss h) l (a.at + node_state_words) v d.result y.result.doc y.result.count d.new.st d.auto.st (d.ensures.term_post (lent_of s.args.reader.now) s.args.depth refl) y.ensures)
 
 pub least-child_at-k-requires : goal.least-child_at-k-requires
 least-child_at-k-requires t c = let s = c in let P = s.requires.1 in let a = c.loop-at in let i = a.invariant.1 P.0 P.1 P.2 P.4 in let l = c.loop-at-test.true in child-facts i.left i.zip l
@@ -291,13 +291,13 @@ pub pass-slice_bounds-advance_term-end : goal.pass-slice_bounds-advance_term-end
 pass-slice_bounds-advance_term-end t c = let s = c in let P = s.requires.1 in let a = c.loop-at in let i = a.invariant.1 P.0 P.1 P.2 P.4 in let l = c.loop-at-test.true in let f = child-facts i.left i.zip l in let n = child-term i.left i.zip l (sym c.kind_at-kind.ensures ∙ c.if-kind-eq-TERM.true) in omega (arith, f, n, a.invariant.0, s.well_formed)
 
 pub pass-advance_term-d-requires : goal.pass-advance_term-d-requires
-pass-advance_term-d-requires t c = let s = c in let P = s.requires.1 in let a = c.loop-at in let i = a.invariant.1 P.0 P.1 P.2 P.4 in let l = c.loop-at-test.true in let f = child-facts i.left i.zip l in let v = term-end i.left i.zip l (sym c.kind_at-kind.ensures ∙ c.if-kind-eq-TERM.true) in let h = child-held i.left i.zip l (a.at + node_state_words) v in (i.top, child-kind a.kids a.at (a.at + node_state_words) f v ∙ (sym c.kind_at-kind.ensures ∙ c.if-kind-eq-TERM.true), (lent s.args.max_doc s.args.postings.now s.args.positions.now s.args.ranges.now, refl, P.0, P.1, h.0, s.args.depth, h.1, h.2))
+pass-advance_term-d-requires t c = let s = c in let P = s.requires.1 in let a = c.loop-at in let i = a.invariant.1 P.0 P.1 P.2 P.4 in let l = c.loop-at-test.true in let f = child-facts i.left i.zip l in let v = term-end i.left i.zip l (sym c.kind_at-kind.ensures ∙ c.if-kind-eq-TERM.true) in let h = child-held i.left i.zip l (a.at + node_state_words) v in (i.top, child-kind a.kids a.at (a.at + node_state_words) f v ∙ (sym c.kind_at-kind.ensures ∙ c.if-kind-eq-TERM.true), (lent_of s.args.reader.now, refl, P.0, P.1, h.0, s.args.depth, h.1, h.2))
 
 pub pass-loop-at-smaller-then-kind-eq-TERM : goal.pass-loop-at-smaller-then-kind-eq-TERM
 pass-loop-at-smaller-then-kind-eq-TERM t c = let s = c in let P = s.requires.1 in let a = c.loop-at in let i = a.invariant.1 P.0 P.1 P.2 P.4 in let l = c.loop-at-test.true in let f = child-facts i.left i.zip l in let n = child-term i.left i.zip l (sym c.kind_at-kind.ensures ∙ c.if-kind-eq-TERM.true) in let d = c.advance_term-d in omega (arith, f, n, l, back-length a.kids d.new.st a.at (a.at + node_state_words) d.auto.st)
 
 pub pass-loop-at-preserved-then-kind-eq-TERM : goal.pass-loop-at-preserved-then-kind-eq-TERM
-pass-loop-at-preserved-then-kind-eq-TERM t c = let s = c in let a = c.loop-at in let l = c.loop-at-test.true in let d = c.advance_term-d in (record { kids-same = back-length a.kids d.new.st a.at (a.at + node_state_words) d.auto.st ∙ a.invariant.0.kids-same; a-same = a.invariant.0.a-same; b-same = a.invariant.0.b-same }, λ ix p ss h. let v = term-end (a.invariant.1 ix p ss h).left (a.invariant.1 ix p ss h).zip l (sym c.kind_at-kind.ensures ∙ c.if-kind-eq-TERM.true) in pass-took (a.invariant.1 ix p ss h) l (a.at + node_state_words) v d.result d.new.st d.auto.st (d.ensures.term_post (lent s.args.max_doc s.args.postings.now s.args.positions.now s.args.ranges.now) s.args.depth refl))
+pass-loop-at-preserved-then-kind-eq-TERM t c = let s = c in let a = c.loop-at in let l = c.loop-at-test.true in let d = c.advance_term-d in (record { kids-same = back-length a.kids d.new.st a.at (a.at + node_state_words) d.auto.st ∙ a.invariant.0.kids-same; a-same = a.invariant.0.a-same; b-same = a.invariant.0.b-same }, λ ix p ss h. let v = term-end (a.invariant.1 ix p ss h).left (a.invariant.1 ix p ss h).zip l (sym c.kind_at-kind.ensures ∙ c.if-kind-eq-TERM.true) in pass-took (a.invariant.1 ix p ss h) l (a.at + node_state_words) v d.result d.new.st d.auto.st (d.ensures.term_post (lent_of s.args.reader.now) s.args.depth refl))
 
 pub pass-overflow_add-end-then-kind-eq-RANGE : goal.pass-overflow_add-end-then-kind-eq-RANGE
 pass-overflow_add-end-then-kind-eq-RANGE t c = let s = c in let P = s.requires.1 in let a = c.loop-at in let i = a.invariant.1 P.0 P.1 P.2 P.4 in let l = c.loop-at-test.true in let f = child-facts i.left i.zip l in let n = child-range i.left i.zip l (sym c.kind_at-kind.ensures ∙ c.if-kind-eq-RANGE.true) in omega (arith, f, n, a.invariant.0, s.well_formed)
@@ -315,13 +315,13 @@ pub pass-slice_bounds-advance_range-end : goal.pass-slice_bounds-advance_range-e
 pass-slice_bounds-advance_range-end t c = let s = c in let P = s.requires.1 in let a = c.loop-at in let i = a.invariant.1 P.0 P.1 P.2 P.4 in let l = c.loop-at-test.true in let f = child-facts i.left i.zip l in let n = child-range i.left i.zip l (sym c.kind_at-kind.ensures ∙ c.if-kind-eq-RANGE.true) in omega (arith, f, n, a.invariant.0, s.well_formed)
 
 pub pass-advance_range-d-requires : goal.pass-advance_range-d-requires
-pass-advance_range-d-requires t c = let s = c in let P = s.requires.1 in let a = c.loop-at in let i = a.invariant.1 P.0 P.1 P.2 P.4 in let l = c.loop-at-test.true in let f = child-facts i.left i.zip l in let v = range-end i.left i.zip l (sym c.kind_at-kind.ensures ∙ c.if-kind-eq-RANGE.true) in let h = child-held i.left i.zip l (a.at + node_state_words) v in (i.top, child-kind a.kids a.at (a.at + node_state_words) f v ∙ (sym c.kind_at-kind.ensures ∙ c.if-kind-eq-RANGE.true), (lent s.args.max_doc s.args.postings.now s.args.positions.now s.args.ranges.now, refl, P.0, P.1, h.0, s.args.depth, h.1, h.2))
+pass-advance_range-d-requires t c = let s = c in let P = s.requires.1 in let a = c.loop-at in let i = a.invariant.1 P.0 P.1 P.2 P.4 in let l = c.loop-at-test.true in let f = child-facts i.left i.zip l in let v = range-end i.left i.zip l (sym c.kind_at-kind.ensures ∙ c.if-kind-eq-RANGE.true) in let h = child-held i.left i.zip l (a.at + node_state_words) v in (i.top, child-kind a.kids a.at (a.at + node_state_words) f v ∙ (sym c.kind_at-kind.ensures ∙ c.if-kind-eq-RANGE.true), (lent_of s.args.reader.now, refl, P.0, P.1, h.0, s.args.depth, h.1, h.2))
 
 pub pass-loop-at-smaller-then-kind-eq-RANGE : goal.pass-loop-at-smaller-then-kind-eq-RANGE
 pass-loop-at-smaller-then-kind-eq-RANGE t c = let s = c in let P = s.requires.1 in let a = c.loop-at in let i = a.invariant.1 P.0 P.1 P.2 P.4 in let l = c.loop-at-test.true in let f = child-facts i.left i.zip l in let n = child-range i.left i.zip l (sym c.kind_at-kind.ensures ∙ c.if-kind-eq-RANGE.true) in let d = c.advance_range-d in omega (arith, f, n, l, back-length a.kids d.new.st a.at (a.at + node_state_words) d.auto.st)
 
 pub pass-loop-at-preserved-then-kind-eq-RANGE : goal.pass-loop-at-preserved-then-kind-eq-RANGE
-pass-loop-at-preserved-then-kind-eq-RANGE t c = let s = c in let a = c.loop-at in let l = c.loop-at-test.true in let d = c.advance_range-d in (record { kids-same = back-length a.kids d.new.st a.at (a.at + node_state_words) d.auto.st ∙ a.invariant.0.kids-same; a-same = a.invariant.0.a-same; b-same = a.invariant.0.b-same }, λ ix p ss h. let v = range-end (a.invariant.1 ix p ss h).left (a.invariant.1 ix p ss h).zip l (sym c.kind_at-kind.ensures ∙ c.if-kind-eq-RANGE.true) in pass-took (a.invariant.1 ix p ss h) l (a.at + node_state_words) v d.result d.new.st d.auto.st (d.ensures (lent s.args.max_doc s.args.postings.now s.args.positions.now s.args.ranges.now) s.args.depth refl))
+pass-loop-at-preserved-then-kind-eq-RANGE t c = let s = c in let a = c.loop-at in let l = c.loop-at-test.true in let d = c.advance_range-d in (record { kids-same = back-length a.kids d.new.st a.at (a.at + node_state_words) d.auto.st ∙ a.invariant.0.kids-same; a-same = a.invariant.0.a-same; b-same = a.invariant.0.b-same }, λ ix p ss h. let v = range-end (a.invariant.1 ix p ss h).left (a.invariant.1 ix p ss h).zip l (sym c.kind_at-kind.ensures ∙ c.if-kind-eq-RANGE.true) in pass-took (a.invariant.1 ix p ss h) l (a.at + node_state_words) v d.result d.new.st d.auto.st (d.ensures (lent_of s.args.reader.now) s.args.depth refl))
 
 pub pass-child_at-k-requires : goal.pass-child_at-k-requires
 pass-child_at-k-requires t c = let s = c in let P = s.requires.1 in let a = c.loop-at in let i = a.invariant.1 P.0 P.1 P.2 P.4 in let l = c.loop-at-test.true in child-facts i.left i.zip l
@@ -348,13 +348,13 @@ pub pass-slice_bounds-ask_phrase-end : goal.pass-slice_bounds-ask_phrase-end
 pass-slice_bounds-ask_phrase-end t c = let s = c in let P = s.requires.1 in let a = c.loop-at in let i = a.invariant.1 P.0 P.1 P.2 P.4 in let l = c.loop-at-test.true in let f = child-facts i.left i.zip l in let k = c.child_at-k in omega (arith, f, a.invariant.0, s.well_formed, k.ensures)
 
 pub pass-ask_phrase-d-requires : goal.pass-ask_phrase-d-requires
-pass-ask_phrase-d-requires t c = let s = c in let P = s.requires.1 in let a = c.loop-at in let i = a.invariant.1 P.0 P.1 P.2 P.4 in let l = c.loop-at-test.true in let f = child-facts i.left i.zip l in let k = c.child_at-k in let h = child-held i.left i.zip l k.result.end k.ensures.end in (i.top, child-kind a.kids a.at k.result.end f k.ensures.end ∙ (sym c.kind_at-kind.ensures ∙ c.if-kind-eq-PHRASE.true), child-cached a.kids a.at k.result.end f k.ensures.end k.result.cached k.ensures.cached c.if-d-cached.false, (lent s.args.max_doc s.args.postings.now s.args.positions.now s.args.ranges.now, refl, refl, P.0, P.1, h.0, s.args.depth, h.1, record { in-a = omega (arith, a.invariant.0, P.3); in_b = omega (arith, a.invariant.0, P.3) }, h.2))
+pass-ask_phrase-d-requires t c = let s = c in let P = s.requires.1 in let a = c.loop-at in let i = a.invariant.1 P.0 P.1 P.2 P.4 in let l = c.loop-at-test.true in let f = child-facts i.left i.zip l in let k = c.child_at-k in let h = child-held i.left i.zip l k.result.end k.ensures.end in (i.top, child-kind a.kids a.at k.result.end f k.ensures.end ∙ (sym c.kind_at-kind.ensures ∙ c.if-kind-eq-PHRASE.true), child-cached a.kids a.at k.result.end f k.ensures.end k.result.cached k.ensures.cached c.if-d-cached.false, (lent_of s.args.reader.now, refl, refl, P.0, P.1, h.0, s.args.depth, h.1, record { in-a = omega (arith, a.invariant.0, P.3); in_b = omega (arith, a.invariant.0, P.3) }, h.2))
 
 pub pass-loop-at-smaller-then-kind-eq-PHRASE : goal.pass-loop-at-smaller-then-kind-eq-PHRASE
 pass-loop-at-smaller-then-kind-eq-PHRASE t c = let s = c in let P = s.requires.1 in let a = c.loop-at in let i = a.invariant.1 P.0 P.1 P.2 P.4 in let l = c.loop-at-test.true in let f = child-facts i.left i.zip l in let k = c.child_at-k in let d = c.ask_phrase-d in omega (arith, f, k.ensures, l, back-length a.kids d.new.st a.at k.result.end d.auto.st)
 
 pub pass-loop-at-preserved-then-kind-eq-PHRASE : goal.pass-loop-at-preserved-then-kind-eq-PHRASE
-pass-loop-at-preserved-then-kind-eq-PHRASE t c = let s = c in let a = c.loop-at in let l = c.loop-at-test.true in let k = c.child_at-k in let d = c.ask_phrase-d in (record { kids-same = back-length a.kids d.new.st a.at k.result.end d.auto.st ∙ a.invariant.0.kids-same; a-same = d.auto.a ∙ a.invariant.0.a-same; b-same = d.auto.b ∙ a.invariant.0.b-same }, λ ix p ss h. pass-asked (a.invariant.1 ix p ss h) l k.result.end k.ensures.end d.result d.new.st d.auto.st (d.ensures (lent s.args.max_doc s.args.postings.now s.args.positions.now s.args.ranges.now) s.args.depth refl refl))
+pass-loop-at-preserved-then-kind-eq-PHRASE t c = let s = c in let a = c.loop-at in let l = c.loop-at-test.true in let k = c.child_at-k in let d = c.ask_phrase-d in (record { kids-same = back-length a.kids d.new.st a.at k.result.end d.auto.st ∙ a.invariant.0.kids-same; a-same = d.auto.a ∙ a.invariant.0.a-same; b-same = d.auto.b ∙ a.invariant.0.b-same }, λ ix p ss h. pass-asked (a.invariant.1 ix p ss h) l k.result.end k.ensures.end d.result d.new.st d.auto.st (d.ensures (lent_of s.args.reader.now) s.args.depth refl refl))
 
 pub pass-offset_bounds-kids-at-else-kind-eq-PHRASE : goal.pass-offset_bounds-kids-at-else-kind-eq-PHRASE
 pass-offset_bounds-kids-at-else-kind-eq-PHRASE t c = let s = c in let P = s.requires.1 in let a = c.loop-at in let i = a.invariant.1 P.0 P.1 P.2 P.4 in let l = c.loop-at-test.true in let f = child-facts i.left i.zip l in let k = c.child_at-k in omega (arith, f, a.invariant.0, s.well_formed, k.ensures)

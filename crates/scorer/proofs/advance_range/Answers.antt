@@ -22,4 +22,3 @@ bounds-st-2 c = let s = c in let P = s.requires.2 in let l = ok-long P.2 P.0.ran
 
 pub returns : goal.returns
 returns c = let s = c in let P = s.requires.2 in let h = c.head_at-h in let y = c.seek_range-d in λ E k same ix p T o v. range-sought s.args.ranges.now s.args.st.now s.args.target s.requires.1 h.result.cached h.ensures.cached c.if-target-cached.false E same ix p T k o v s.requires.0 y.result y.ensures
-

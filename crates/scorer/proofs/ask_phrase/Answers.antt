@@ -20,4 +20,3 @@ bounds-st-2 c = let s = c in let P = s.requires.3 in let y = c.phrase_at-d in om
 
 pub returns : goal.returns
 returns c = let s = c in let y = c.phrase_at-d in λ E k pe qe ix p T o h. asked-there s.args.postings.now s.args.positions.now s.args.st.now s.args.target s.requires.1 s.requires.2 E pe qe y.result y.new.st y.ensures ix p T k o h s.args.from c.if-from-target.false c.if-d-target.false
-
