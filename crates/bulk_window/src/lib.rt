@@ -2,13 +2,14 @@
 #![tactic(auto)]
 
 ghost use Rattle.std.specs.Prelude.{◌≡◌, ◌+◌, ◌*◌, ◌%◌, ◌≤◌, ◌<◌, length, min};
-ghost use Rattle.leaf_scorer.specs.Calls.{lent};
+ghost use Rattle.leaf_scorer.specs.Calls.{lent_of};
 ghost use Rattle.bulk_scorer.specs.Collects.{CollectPre, CollectPost, CollectEnd};
 ghost use Rattle.bulk_window.specs.Windows.{LiveWord, LiveBits, NextWindow, PlacesPre, PlacesPost, WindowPre, WindowPost, Cleared};
 ghost use Rattle.window_score.specs.Sums.{Zeros};
 
 use collector::TopScoreDocCollector;
 use index::wide;
+use leaf_scorer::LeafReader;
 use window_bits::node_bits;
 use window_score::root::root_scores;
 
@@ -79,10 +80,7 @@ fn collect_places(
 // The documents of a window that the tree matches, to the collector with their scores. All sums are 0 before and after.
 fn collect_window(
     st: &mut [u32],
-    postings: &[u32],
-    positions: &[u32],
-    norms: &[u8],
-    ranges: &[u32],
+    reader: &LeafReader<'_>,
     inverses: &[f32],
     a: &mut [i32],
     b: &mut [i32],
@@ -92,54 +90,45 @@ fn collect_window(
     depth: u32,
     doc_base: u32,
     c: TopScoreDocCollector,
-    heap: &mut [i64],
-) -> TopScoreDocCollector
+    heap: &mut [i64]) -> TopScoreDocCollector
     requires zeros { Zeros sums.old }
-    requires window { WindowPre st.old postings.now positions.now norms.now ranges.now inverses.now (length a.old) (length b.old) base places depth doc_base c heap.old }
+    requires window { WindowPre st.old reader.now.postings.now reader.now.positions.now reader.now.norms.now reader.now.ranges.now inverses.now (length a.old) (length b.old) base places depth doc_base c heap.old }
     ensures zeros { Zeros sums.new }
-    ensures window { WindowPost st.old postings.now positions.now norms.now ranges.now inverses.now (length a.old) (length b.old) base places depth doc_base c heap.old result heap.new st.new }
+    ensures window { WindowPost st.old reader.now.postings.now reader.now.positions.now reader.now.norms.now reader.now.ranges.now inverses.now (length a.old) (length b.old) base places depth doc_base c heap.old result heap.new st.new }
 {
     if places == 0 {
         return c;
     }
     root_scores(
-        st, postings, positions, norms, ranges, inverses, a, b, base, places, sums, depth,
-    );
+        st, reader, inverses, a, b, base, places, sums, depth);
     collect_places(c, heap, doc_base + base, places, sums)
 }
 
 // The live documents that the tree matches to the collector, numbered on from a document base.
 pub fn collect_windows(
     st: &mut [u32],
-    max_doc: u32,
-    postings: &[u32],
-    positions: &[u32],
-    norms: &[u8],
-    ranges: &[u32],
+    reader: &LeafReader<'_>,
     inverses: &[f32],
-    live: &[u64],
     a: &mut [i32],
     b: &mut [i32],
     depth: u32,
     doc_base: u32,
     c: TopScoreDocCollector,
-    heap: &mut [i64],
-) -> TopScoreDocCollector
-    requires { CollectPre (lent max_doc postings.now positions.now ranges.now) norms.now live.now inverses.now (min (length a.old) (length b.old)) st.old depth doc_base c heap.old }
-    ensures collect_post { CollectPost (lent max_doc postings.now positions.now ranges.now) norms.now live.now inverses.now (min (length a.old) (length b.old)) st.old depth doc_base c heap.old result heap.new }
-    ensures collect_end { CollectEnd (lent max_doc postings.now positions.now ranges.now) norms.now live.now inverses.now (min (length a.old) (length b.old)) st.old depth st.new }
+    heap: &mut [i64]) -> TopScoreDocCollector
+    requires { CollectPre (lent_of reader.now) reader.now.norms.now reader.now.live.now inverses.now (min (length a.old) (length b.old)) st.old depth doc_base c heap.old }
+    ensures collect_post { CollectPost (lent_of reader.now) reader.now.norms.now reader.now.live.now inverses.now (min (length a.old) (length b.old)) st.old depth doc_base c heap.old result heap.new }
+    ensures collect_end { CollectEnd (lent_of reader.now) reader.now.norms.now reader.now.live.now inverses.now (min (length a.old) (length b.old)) st.old depth st.new }
 {
     let mut c = c;
     let mut sums = [0.0f64; 64];
     let mut base = 0;
-    while base < max_doc {
-        let want = live_bits(live, base, max_doc);
-        let places = node_bits(st, postings, positions, ranges, a, b, base, want, depth);
+    while base < reader.max_doc {
+        let want = live_bits(reader.live, base, reader.max_doc);
+        let places = node_bits(st, reader, a, b, base, want, depth);
         let next = st[22];
         c = collect_window(
-            st, postings, positions, norms, ranges, inverses, a, b, base, places, &mut sums, depth,
-            doc_base, c, heap,
-        );
+            st, reader, inverses, a, b, base, places, &mut sums, depth,
+            doc_base, c, heap);
         base = next_window(base, next);
     }
     c

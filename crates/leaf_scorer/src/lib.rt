@@ -13,13 +13,15 @@ use weight::NODE_STATE_WORDS;
 
 pub const NO_MORE_DOCS: u32 = 2147483647;
 
-// What a scorer reads beside its words: N, postings and positions of the index, and the bitmaps of the order's ranges.
+// What is read of the index beside a tree's words, and the bitmaps of the order's ranges.
 #[derive(Clone, Copy)]
 pub struct LeafReader<'a> {
     pub max_doc: u32,
     pub postings: &'a [u32],
     pub positions: &'a [u32],
+    pub norms: &'a [u8],
     pub ranges: &'a [u32],
+    pub live: &'a [u64],
 }
 
 const TERM: u32 = 1;

@@ -1,54 +1,42 @@
 -- `walk::next_match` meets its contract: what the loop has passed is no live match. Assumes nothing.
-use Prim.Native.Nat.{◌≤◌, ◌<◌}
-use mathlib.Core.Path.{◌≡◌, refl, sym, ◌∙◌}
+use Prim.Native.Nat.{◌<◌}
+use mathlib.Core.Path.{refl, sym, ◌∙◌}
 use native.Mathlib.Omega.{arith}
 use lib.ListN.{length}
 use Rattle.meaning.specs.Limits.{no_more_docs}
-use Rattle.scorer.specs.Calls.{lent}
-use Rattle.walk.proofs.Walking.{WalkAt, walk_start, walk-asks, walk_top, walk_from, walk-live, walk-stop, walk-found, walk_more}
+use Rattle.scorer.specs.Calls.{lent_of, lent}
+use Rattle.walk.proofs.Walking.{walk_start, walk-asks, walk_top, walk_from, walk-live, walk-stop, walk-found, walk_more}
 use Rattle.walk.proofs.next_match.Goals as goal
 
-abbrev invariant-loop : tie.invariant-loop-max_doc
-invariant-loop st₀ max-doc postings positions ranges live a₀ b₀ from depth target₀ st a b target =
-    (length st ≡ length st₀) × (length a ≡ length a₀) × (length b ≡ length b₀) × (from ≤ target) × (target ≤ no_more_docs) × WalkAt (lent max-doc postings positions ranges) live st₀ from depth st target
-
-pub loop-max_doc-init : goal.loop-max_doc-init
-loop-max_doc-init c = let s₀ = c in
-    (refl, refl, refl, omega arith, s₀.requires.0, walk_start (lent s₀.args.max_doc s₀.args.postings.now s₀.args.positions.now s₀.args.ranges.now) s₀.args.live.now s₀.args.st.now s₀.args.from s₀.args.depth)
+pub loop-from-init : goal.loop-from-init
+loop-from-init c = (refl, refl, refl, omega arith, c.requires.0, walk_start (lent_of c.args.reader.now) c.args.reader.now.live.now c.args.st.now c.args.from c.args.depth)
 
 pub advance-d-requires : goal.advance-d-requires
-advance-d-requires c = let s₀ = c in
-    let l = c.loop-max_doc in
-    walk-asks (lent s₀.args.max_doc s₀.args.postings.now s₀.args.positions.now s₀.args.ranges.now) s₀.args.live.now s₀.args.st.now s₀.args.from s₀.args.depth l.st l.target l.invariant.5 (length s₀.args.a.now) (length s₀.args.b.now) (length l.a) (length l.b) l.invariant.1 l.invariant.2 l.invariant.4 s₀.requires
+advance-d-requires c = let l = c.loop-from in
+    walk-asks (lent_of c.args.reader.now) c.args.reader.now.live.now c.args.st.now c.args.from c.args.depth l.st l.target l.invariant.5 (length c.args.a.now) (length c.args.b.now) (length l.a) (length l.b) l.invariant.1 l.invariant.2 l.invariant.4 c.requires
 
 pub returns-then-d-max_doc : goal.returns-then-d-max_doc
-returns-then-d-max_doc c = let s₀ = c in
-    let l = c.loop-max_doc in
-    walk-stop (lent s₀.args.max_doc s₀.args.postings.now s₀.args.positions.now s₀.args.ranges.now) s₀.args.live.now s₀.args.st.now s₀.args.from s₀.args.depth l.st l.target l.invariant.5 c.advance-d.result c.advance-d.new.st c.advance-d.ensures.advance_post s₀.requires.0 l.invariant.4 (omega arith)
+returns-then-d-max_doc c = let l = c.loop-from in
+    walk-stop (lent_of c.args.reader.now) c.args.reader.now.live.now c.args.st.now c.args.from c.args.depth l.st l.target l.invariant.5 c.advance-d.result c.advance-d.new.st c.advance-d.ensures.advance_post c.requires.0 l.invariant.4 (omega arith)
 
 pub is_live-requires : goal.is_live-requires
-is_live-requires c = let s₀ = c in
-    let l = c.loop-max_doc in
-    walk-live (lent s₀.args.max_doc s₀.args.postings.now s₀.args.positions.now s₀.args.ranges.now) s₀.args.live.now s₀.args.st.now s₀.args.from s₀.args.depth l.st l.target l.invariant.5 c.advance-d.result c.advance-d.new.st c.advance-d.ensures.advance_post (length s₀.args.a.now) (length s₀.args.b.now) s₀.requires (omega arith)
+is_live-requires c = let l = c.loop-from in
+    walk-live (lent_of c.args.reader.now) c.args.reader.now.live.now c.args.st.now c.args.from c.args.depth l.st l.target l.invariant.5 c.advance-d.result c.advance-d.new.st c.advance-d.ensures.advance_post (length c.args.a.now) (length c.args.b.now) c.requires (omega arith)
 
 pub returns-then-is_live : goal.returns-then-is_live
-returns-then-is_live c = let s₀ = c in
-    let l = c.loop-max_doc in
-    walk-found (lent s₀.args.max_doc s₀.args.postings.now s₀.args.positions.now s₀.args.ranges.now) s₀.args.live.now s₀.args.st.now s₀.args.from s₀.args.depth l.st l.target l.invariant.5 c.advance-d.result c.advance-d.new.st c.advance-d.ensures.advance_post l.invariant.3 (omega arith) (sym c.is_live.ensures ∙ c.if-is_live.true)
+returns-then-is_live c = let l = c.loop-from in
+    walk-found (lent_of c.args.reader.now) c.args.reader.now.live.now c.args.st.now c.args.from c.args.depth l.st l.target l.invariant.5 c.advance-d.result c.advance-d.new.st c.advance-d.ensures.advance_post l.invariant.3 (omega arith) (sym c.is_live.ensures ∙ c.if-is_live.true)
 
 pub overflow_add-target : goal.overflow_add-target
-overflow_add-target c = let s₀ = c in
-    let l = c.loop-max_doc in
-    omega (arith, walk_top (lent s₀.args.max_doc s₀.args.postings.now s₀.args.positions.now s₀.args.ranges.now) s₀.args.live.now s₀.args.st.now s₀.args.from s₀.args.depth l.st l.target l.invariant.5 c.advance-d.result c.advance-d.new.st c.advance-d.ensures.advance_post (length s₀.args.a.now) (length s₀.args.b.now) s₀.requires)
+overflow_add-target c = let l = c.loop-from in
+    omega (arith, walk_top (lent_of c.args.reader.now) c.args.reader.now.live.now c.args.st.now c.args.from c.args.depth l.st l.target l.invariant.5 c.advance-d.result c.advance-d.new.st c.advance-d.ensures.advance_post (length c.args.a.now) (length c.args.b.now) c.requires)
 
-pub loop-max_doc-smaller : goal.loop-max_doc-smaller
-loop-max_doc-smaller c = let s₀ = c in
-    let l = c.loop-max_doc in
-    let h : c.advance-d.result < no_more_docs = omega (arith, s₀.requires.1.6.lends.accepted.documents, s₀.requires.1.6.lends.documents) in
-    omega (arith, h, walk_from (lent s₀.args.max_doc s₀.args.postings.now s₀.args.positions.now s₀.args.ranges.now) s₀.args.live.now s₀.args.st.now s₀.args.from s₀.args.depth l.st l.target l.invariant.5 c.advance-d.result c.advance-d.new.st c.advance-d.ensures.advance_post (length s₀.args.a.now) (length s₀.args.b.now) s₀.requires)
+pub loop-from-smaller : goal.loop-from-smaller
+loop-from-smaller c = let l = c.loop-from in
+    let h : c.advance-d.result < no_more_docs = omega (arith, c.requires.1.6.lends.accepted.documents, c.requires.1.6.lends.documents) in
+    omega (arith, h, walk_from (lent_of c.args.reader.now) c.args.reader.now.live.now c.args.st.now c.args.from c.args.depth l.st l.target l.invariant.5 c.advance-d.result c.advance-d.new.st c.advance-d.ensures.advance_post (length c.args.a.now) (length c.args.b.now) c.requires)
 
-pub loop-max_doc-preserved : goal.loop-max_doc-preserved
-loop-max_doc-preserved c = let s₀ = c in
-    let l = c.loop-max_doc in
-    let h : c.advance-d.result < no_more_docs = omega (arith, s₀.requires.1.6.lends.accepted.documents, s₀.requires.1.6.lends.documents) in
-    (c.advance-d.auto.st ∙ l.invariant.0, c.advance-d.auto.a ∙ l.invariant.1, c.advance-d.auto.b ∙ l.invariant.2, omega (arith, l.invariant.3, walk_from (lent s₀.args.max_doc s₀.args.postings.now s₀.args.positions.now s₀.args.ranges.now) s₀.args.live.now s₀.args.st.now s₀.args.from s₀.args.depth l.st l.target l.invariant.5 c.advance-d.result c.advance-d.new.st c.advance-d.ensures.advance_post (length s₀.args.a.now) (length s₀.args.b.now) s₀.requires), omega arith, walk_more (lent s₀.args.max_doc s₀.args.postings.now s₀.args.positions.now s₀.args.ranges.now) s₀.args.live.now s₀.args.st.now s₀.args.from s₀.args.depth l.st l.target l.invariant.5 c.advance-d.result c.advance-d.new.st c.advance-d.ensures.advance_post (sym c.is_live.ensures ∙ c.if-is_live.false))
+pub loop-from-preserved : goal.loop-from-preserved
+loop-from-preserved c = let l = c.loop-from in
+    let h : c.advance-d.result < no_more_docs = omega (arith, c.requires.1.6.lends.accepted.documents, c.requires.1.6.lends.documents) in
+    (c.advance-d.auto.st ∙ l.invariant.0, c.advance-d.auto.a ∙ l.invariant.1, c.advance-d.auto.b ∙ l.invariant.2, omega (arith, l.invariant.3, walk_from (lent_of c.args.reader.now) c.args.reader.now.live.now c.args.st.now c.args.from c.args.depth l.st l.target l.invariant.5 c.advance-d.result c.advance-d.new.st c.advance-d.ensures.advance_post (length c.args.a.now) (length c.args.b.now) c.requires), omega arith, walk_more (lent_of c.args.reader.now) c.args.reader.now.live.now c.args.st.now c.args.from c.args.depth l.st l.target l.invariant.5 c.advance-d.result c.advance-d.new.st c.advance-d.ensures.advance_post (sym c.is_live.ensures ∙ c.if-is_live.false))
