@@ -1,5 +1,5 @@
 -- The bits of a word, the lowest first, and of many words. Assumes nothing: these are definitions.
-use Rattle.std.specs.Prelude.{◌≡◌, Bool, true, false, ℕ, zero, suc, ◌+◌, ◌*◌, ◌/◌, ◌%◌, ◌<◌, List, get_or}
+use Rattle.std.specs.Prelude.{◌≡◌, Bool, true, false, not, ◌&&◌, eqb, ℕ, zero, suc, ◌+◌, ◌*◌, ◌/◌, ◌%◌, ◌<◌, List, ◌∷◌, get_or, Option, MatchOption}
 use Rattle.meaning.specs.Below.{list_below}
 
 -- a digit is 1
@@ -21,6 +21,10 @@ pub record LowestBit (w t : ℕ) : Type 0 where
   pub within : t < 64
   pub set : bit t w ≡ true
   pub below : (q : ℕ) → q < t → bit q w ≡ false
+
+-- a step from the set bits of w: the lowest one's place, and the others are left in v; or none is set, nor left
+abbrev pub NextSet : ℕ → Option ℕ → ℕ → Type 0
+NextSet w r v = MatchOption r ((w ≡ 0) × (v ≡ 0)) (λ t. LowestBit w t × ((q : ℕ) → bit q v ≡ bit q w && not (eqb q t)) × (set_bits w ≡ t ∷ set_bits v))
 
 -- how many words of 32 bits have so many
 abbrev pub bitmap_words : ℕ → ℕ

@@ -1,9 +1,10 @@
 // The bits of a word: set, combined, counted, and gone through from the lowest one on.
 #![tactic(auto)]
 
-ghost use Rattle.std.specs.Prelude.{◌≡◌, not, ◌&&◌, ◌||◌, eqb, ltb, ℕ, ◌+◌, ◌-◌, ◌*◌, ◌/◌, ◌%◌, ◌≤◌, ◌<◌, ◌∷◌};
+ghost use Rattle.std.specs.Prelude.{◌≡◌, not, ◌&&◌, ◌||◌, eqb, ltb, ℕ, ◌+◌, ◌-◌, ◌*◌, ◌/◌, ◌%◌, ◌≤◌, ◌<◌, ◌∷◌, length};
 ghost use Rattle.meaning.specs.Below.{count_below};
-ghost use Rattle.bits.specs.Bit.{bit, set_bits, LowestBit, bitmap_words};
+ghost use Rattle.bits.specs.Bit.{bit, set_bits, LowestBit, NextSet, bitmap_words};
+ghost use Rattle.std.specs.Iterator.{at_most};
 
 pub fn set_bit(w: u64, p: u32) -> u64
     requires { p < 64 }
@@ -38,7 +39,6 @@ pub fn lowest(w: u64) -> u32
     w.trailing_zeros()
 }
 
-// A loop over the set bits takes `lowest` and goes on with the others.
 pub fn without_lowest(w: u64) -> u64
     requires { 0 < w }
     ensures smaller { result < w }
@@ -46,6 +46,29 @@ pub fn without_lowest(w: u64) -> u64
     ensures listed { (t : ℕ) → LowestBit w t → set_bits w ≡ t ∷ set_bits result }
 {
     w & (w - 1)
+}
+
+// The places of the set bits, the lowest first: `for place in SetBits { left: w }`.
+#[derive(Clone, Copy)]
+pub struct SetBits {
+    pub left: u64,
+}
+
+impl Iterator for SetBits {
+    type Item = u32;
+
+    ghost next_gives = { λ s r t. NextSet s.left r t.left };
+
+    ghost remaining = { λ s. at_most (length (set_bits s.left)) };
+
+    fn next(&mut self) -> Option<u32> {
+        let w = self.left;
+        if w == 0 {
+            return None;
+        }
+        self.left = without_lowest(w);
+        Some(lowest(w))
+    }
 }
 
 // How many bits are set below a place.
@@ -70,7 +93,7 @@ pub fn joined(low: u32, high: u32) -> u64
     ensures low_bits { (q : ℕ) → q < 32 → bit q result ≡ bit q low }
     ensures high_bits { (q : ℕ) → 32 ≤ q → bit q result ≡ bit (q - 32) high }
 {
-    low as u64 + high as u64 * 4294967296
+    u64::from(low) + u64::from(high) * 4294967296
 }
 
 pub fn low(w: u64) -> u32
@@ -96,5 +119,5 @@ pub fn is_set(w: u64, p: u32) -> bool
 pub fn bitmap_words(n: u32) -> u32
     ensures { result ≡ bitmap_words n }
 {
-    ((n as u64 + 31) / 32) as u32
+    n.div_ceil(32)
 }

@@ -4,6 +4,8 @@ ghost use Rattle.meaning.specs.IndexRefusals.{wrong_field, wrong2};
 ghost use Rattle.index.specs.Slices.{fields_only};
 ghost use Rattle.index.specs.Records.{field_of};
 
+use super::wrong_records;
+
 // The limits of document 01: 16 fields, an average of 1 to 16,777,216 as f32 bits.
 const MAX_FIELDS: usize = 16;
 
@@ -12,7 +14,7 @@ const LEAST_AVERAGE: u32 = 0x3f80_0000;
 const LARGEST_AVERAGE: u32 = 0x4b80_0000;
 
 // A field's record by value.
-#[derive(Drop)]
+#[derive(Clone, Copy)]
 pub struct Field {
     pub average: u32,
     pub norms: u32,
@@ -47,18 +49,5 @@ fn wrong_field(fields: &[u32], f: usize) -> bool
 pub fn wrong_fields(fields: &[u32]) -> bool
     ensures { result ≡ wrong2 (fields_only fields.now) }
 {
-    if fields.len() % 3 != 0 {
-        return true;
-    }
-    let count = fields.len() / 3;
-    if count > MAX_FIELDS {
-        return true;
-    }
-    let mut bad = false;
-    let mut f = 0;
-    while f < count {
-        bad = bad | wrong_field(fields, f);
-        f += 1;
-    }
-    bad
+    wrong_records::<3, _>(fields, MAX_FIELDS, |f| wrong_field(fields, f))
 }

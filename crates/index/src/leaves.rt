@@ -4,7 +4,7 @@ ghost use Rattle.meaning.specs.IndexRefusals.{wrong_leaf, wrong4};
 ghost use Rattle.index.specs.Slices.{leaves_only};
 ghost use Rattle.index.specs.Records.{leaf_of};
 
-use super::{sum, wide};
+use super::wrong_records;
 
 // The limits of document 01: 512 leaves, an idf of 0 to 64 as f32 bits.
 const MAX_LEAVES: usize = 512;
@@ -12,7 +12,7 @@ const MAX_LEAVES: usize = 512;
 const LARGEST_IDF: u32 = 0x4280_0000;
 
 // A leaf's record by value.
-#[derive(Drop)]
+#[derive(Clone, Copy)]
 pub struct Leaf {
     pub field: u32,
     pub first: u32,
@@ -39,26 +39,19 @@ fn wrong_leaf(fields: &[u32], leaves: &[u32], postings: &[u32], l: usize) -> boo
     ensures { result ≡ wrong_leaf (leaves_only fields.now leaves.now postings.now) l }
 {
     let leaf = leaf_at(leaves, l);
-    let end = sum(leaf.first, leaf.number);
-    (wide(leaf.field) >= fields.len() / 3) | (end > postings.len() / 3) | (leaf.idf > LARGEST_IDF)
+    let end = leaf.first as usize + leaf.number as usize;
+    (leaf.field as usize >= fields.len() / 3)
+        | (end > postings.len() / 3)
+        | (leaf.idf > LARGEST_IDF)
 }
 
 // 4, the leaf records: not whole, too many, or one of them wrong.
 pub fn wrong_leaves(fields: &[u32], leaves: &[u32], postings: &[u32]) -> bool
     ensures { result ≡ wrong4 (leaves_only fields.now leaves.now postings.now) }
 {
-    if leaves.len() % 4 != 0 {
-        return true;
-    }
-    let count = leaves.len() / 4;
-    if count > MAX_LEAVES {
-        return true;
-    }
-    let mut bad = false;
-    let mut l = 0;
-    while l < count {
-        bad = bad | wrong_leaf(fields, leaves, postings, l);
-        l += 1;
-    }
-    bad
+    wrong_records::<4, _>(
+        leaves,
+        MAX_LEAVES,
+        |l| wrong_leaf(fields, leaves, postings, l),
+    )
 }

@@ -5,22 +5,16 @@ ghost use Rattle.meaning.specs.Lent.{has_norms};
 ghost use Rattle.meaning.specs.IndexRefusals.{wrong2, wrong3};
 ghost use Rattle.index.specs.Slices.{fields_only, lengths_only};
 
-use super::wide;
-
 // How many of the fields before field f have norms.
 fn norms_before(fields: &[u32], f: usize) -> usize
     requires { f ≤ length fields.now / 3 }
     ensures { result ≡ count_below f (has_norms (fields_only fields.now)) }
 {
-    let mut count: usize = 0;
-    let mut i = 0;
-    while i < f {
-        if fields[3 * i + 1] == 1 {
-            count += 1;
-        }
-        i += 1;
-    }
-    count
+    let (records, _) = fields.as_chunks::<3>();
+    records[..f]
+        .iter()
+        .filter(|[_, norms, _]| *norms == 1)
+        .count()
 }
 
 // Where the norm bytes of a field with norms begin.
@@ -28,7 +22,7 @@ pub fn norms_offset(max_doc: u32, fields: &[u32], field: usize) -> usize
     requires { (field ≤ length fields.now / 3) × (field ≤ 16) }
     ensures { result ≡ count_below field (has_norms (fields_only fields.now)) * max_doc }
 {
-    norms_before(fields, field) * wide(max_doc)
+    norms_before(fields, field) * max_doc as usize
 }
 
 // 3, the lengths of the norm bytes and of the live words, which are none or N ÷ 64 rounded up.
@@ -37,6 +31,6 @@ pub fn wrong_lengths(max_doc: u32, fields: &[u32], norms: &[u8], live: &[u64]) -
     ensures { result ≡ wrong3 (lengths_only max_doc fields.now norms.now live.now) }
 {
     let bytes = norms_offset(max_doc, fields, fields.len() / 3);
-    let words = (wide(max_doc) + 63) / 64;
-    (norms.len() != bytes) | !((live.len() == 0) | (live.len() == words))
+    let words = (max_doc as usize).div_ceil(64);
+    (norms.len() != bytes) | !(live.is_empty() | (live.len() == words))
 }

@@ -8,6 +8,7 @@ pub const NO_MORE_DOCS: u32 = 2147483647;
 pub const LARGEST_FREQUENCY: u32 = 16777216;
 
 // The document of the i-th posting at or after posting first.
+// Kept: no plainer: each of the three is one line, and its name says which word it reads.
 pub fn posting_document(postings: &[u32], first: usize, i: usize) -> u32
     requires { first + i < length postings.now / 3 }
     ensures { result ≡ posting_document postings.now first i }

@@ -4,8 +4,11 @@
 ghost use Rattle.std.specs.Prelude.{◌≡◌};
 ghost use Rattle.index.specs.Slices.{lent};
 ghost use Rattle.index.specs.Refusal.{index_refusal};
+ghost use Rattle.refusal.specs.Numbers.{refusal_of};
 
-// The lowest number of 1 to 6 whose condition holds for what is lent, and 0 where none does.
+use refusal::Refusal;
+
+// The first of the refusals 1 to 6 whose condition holds for what is lent.
 pub fn check_index(
     max_doc: u32,
     fields: &[u32],
@@ -16,26 +19,26 @@ pub fn check_index(
     live: &[u64],
     columns: &[u32],
     values: &[u32],
-) -> u32
-    ensures { result ≡ index_refusal (lent max_doc fields.now leaves.now postings.now positions.now norms.now live.now columns.now values.now) }
+) -> Result<(), Refusal>
+    ensures { refusal_of result ≡ index_refusal (lent max_doc fields.now leaves.now postings.now positions.now norms.now live.now columns.now values.now) }
 {
     if index::wrong_max_doc(max_doc) {
-        return 1;
+        return Err(Refusal::MaxDoc);
     }
     if index::fields::wrong_fields(fields) {
-        return 2;
+        return Err(Refusal::Fields);
     }
     if index::norms::wrong_lengths(max_doc, fields, norms, live) {
-        return 3;
+        return Err(Refusal::Lengths);
     }
     if index::leaves::wrong_leaves(fields, leaves, postings) {
-        return 4;
+        return Err(Refusal::Leaves);
     }
     if posting_check::wrong_postings(max_doc, fields, leaves, postings, positions) {
-        return 5;
+        return Err(Refusal::Postings);
     }
     if index::columns::wrong_columns(max_doc, columns, values) {
-        return 6;
+        return Err(Refusal::Columns);
     }
-    0
+    Ok(())
 }

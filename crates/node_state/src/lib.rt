@@ -12,7 +12,7 @@ use weight::NODE_STATE_WORDS;
 const MAX_RECORDS: usize = 256;
 
 // One scorer of the tree, or one term of a phrase.
-#[derive(Clone, Copy)]
+#[derive(Clone, Copy, PartialEq, Eq)]
 pub struct NodeState {
     pub kind: u32,
     pub size: u32,

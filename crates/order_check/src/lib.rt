@@ -1,4 +1,4 @@
-// The numbers of Search and Page, and those that they share with Place: 1 to 10 of what is lent, and work buffers too short.
+// The refusals of Search and Page, and those that they share with Place: 1 to 10 of what is lent, and work buffers too short.
 #![tactic(auto)]
 
 ghost use Rattle.std.specs.Prelude.{◌≡◌, ℕ};
@@ -7,9 +7,12 @@ ghost use Rattle.meaning.specs.Refusals.{lowest};
 ghost use Rattle.meaning.specs.CallRefusals.{starts_short, work_short};
 ghost use Rattle.meaning.specs.Entries.{order_conditions, search_refusal, page_refusal};
 ghost use Rattle.index.specs.Slices.{lent};
+ghost use Rattle.refusal.specs.Numbers.{refusal_of};
 ghost use Rattle.order_check.specs.Lends.{work, QueryLent};
 
-// The lowest number of 1 to 10 whose condition holds, and 0 where none does.
+use refusal::Refusal;
+
+// The first of the refusals 1 to 10 whose condition holds.
 pub fn check_order(
     max_doc: u32,
     fields: &[u32],
@@ -21,15 +24,12 @@ pub fn check_order(
     columns: &[u32],
     values: &[u32],
     q: &[u32],
-) -> u32
-    ensures { result ≡ lowest (order_conditions (lent max_doc fields.now leaves.now postings.now positions.now norms.now live.now columns.now values.now) q.now) }
+) -> Result<(), Refusal>
+    ensures { refusal_of result ≡ lowest (order_conditions (lent max_doc fields.now leaves.now postings.now positions.now norms.now live.now columns.now values.now) q.now) }
 {
-    let refusal = index_check::check_index(
+    index_check::check_index(
         max_doc, fields, leaves, postings, positions, norms, live, columns, values,
-    );
-    if refusal != 0 {
-        return refusal;
-    }
+    )?;
     query_check::check_query(q, fields, leaves, columns)
 }
 
@@ -74,7 +74,7 @@ pub fn work_short(
     (ranges as u64) < query_check::buffers::ranges_needed(max_doc, q)
 }
 
-// The lowest number of 1 to 12 whose condition holds, and 0 where none does.
+// The first of the refusals 1 to 12 whose condition holds.
 pub fn search_refusal(
     max_doc: u32,
     fields: &[u32],
@@ -92,20 +92,17 @@ pub fn search_refusal(
     other_starts: usize,
     ranges: usize,
     places: usize,
-) -> u32
-    ensures { result ≡ search_refusal (lent max_doc fields.now leaves.now postings.now positions.now norms.now live.now columns.now values.now) q.now k (work states starts other_starts ranges) places }
+) -> Result<(), Refusal>
+    ensures { refusal_of result ≡ search_refusal (lent max_doc fields.now leaves.now postings.now positions.now norms.now live.now columns.now values.now) q.now k (work states starts other_starts ranges) places }
 {
-    let refusal = check_order(
+    check_order(
         max_doc, fields, leaves, postings, positions, norms, live, columns, values, q,
-    );
-    if refusal != 0 {
-        return refusal;
-    }
+    )?;
     if k < 1 {
-        return 11;
+        return Err(Refusal::Hits);
     }
     if 1024 < k {
-        return 11;
+        return Err(Refusal::Hits);
     }
     if work_short(
         max_doc,
@@ -117,15 +114,15 @@ pub fn search_refusal(
         other_starts,
         ranges,
     ) {
-        return 12;
+        return Err(Refusal::Buffers);
     }
     if places < k as usize {
-        return 12;
+        return Err(Refusal::Buffers);
     }
-    0
+    Ok(())
 }
 
-// The lowest number of 1 to 10, 12 and 13 whose condition holds, and 0 where none does.
+// The first of the refusals 1 to 10, 12 and 13 whose condition holds.
 pub fn page_refusal(
     max_doc: u32,
     fields: &[u32],
@@ -144,15 +141,12 @@ pub fn page_refusal(
     ranges: usize,
     documents: usize,
     scores: usize,
-) -> u32
-    ensures { result ≡ page_refusal (lent max_doc fields.now leaves.now postings.now positions.now norms.now live.now columns.now values.now) q.now target (work states starts other_starts ranges) documents scores }
+) -> Result<(), Refusal>
+    ensures { refusal_of result ≡ page_refusal (lent max_doc fields.now leaves.now postings.now positions.now norms.now live.now columns.now values.now) q.now target (work states starts other_starts ranges) documents scores }
 {
-    let refusal = check_order(
+    check_order(
         max_doc, fields, leaves, postings, positions, norms, live, columns, values, q,
-    );
-    if refusal != 0 {
-        return refusal;
-    }
+    )?;
     if work_short(
         max_doc,
         leaves,
@@ -163,13 +157,13 @@ pub fn page_refusal(
         other_starts,
         ranges,
     ) {
-        return 12;
+        return Err(Refusal::Buffers);
     }
     if documents != scores {
-        return 12;
+        return Err(Refusal::Buffers);
     }
     if max_doc < target {
-        return 13;
+        return Err(Refusal::Target);
     }
-    0
+    Ok(())
 }

@@ -1,11 +1,12 @@
 -- What the words of a phrase's terms say: a term's starts one by one, and the lists record by record. Assumes nothing.
 use mathlib.Core.Path.{◌≡◌, sym, ap, subst, ◌∙◌}
 use mathlib.Core.List.{List, [], ◌∷◌, ◌++◌}
-use Prim.Native.Nat.{ℕ, zero, suc, ◌+◌, ◌%◌, ◌≤◌, ◌<◌}
+use Prim.Native.Nat.{ℕ, zero, suc, ◌+◌, ◌-◌, ◌%◌, ◌≤◌, ◌<◌}
 use native.Mathlib.Numerals.{add-one, add-two, add-three}
 use native.Mathlib.Omega.{arith}
 use lib.IntN.{ℤ, sub_ℕ}
-use lib.ListN.{length, get_or, take, drop, length-map, get_or-map}
+use lib.ListN.{length, get_or, take, drop, length-map, get_or-map, length-take, length-drop}
+use Rattle.std.proofs.lemmas.List.{get_or-take, get_or-drop}
 use lib.Seq.{drop-cons, take-suc, drop-length}
 use lib.Signed.{◌≤ℤ◌}
 use Rattle.meaning.specs.Below.{list_to}
@@ -15,6 +16,13 @@ use Rattle.phrase_starts.specs.declared.Term.{Term}
 use Rattle.phrase_starts.specs.Terms.{term_at, starts_of, start_lists, GoodTerm}
 use Rattle.phrase_starts.specs.Common.{Ascending}
 use Rattle.phrase_starts.proofs.Order.{ascending, difference-rises}
+
+-- ---- a term's positions
+pub own-length : (ps : List ℕ) (t : Term) → t.first + t.freq ≤ length ps → length (take (t.first + t.freq - t.first) (drop t.first ps)) ≡ t.freq
+own-length ps t h = omega (arith, length-take (t.first + t.freq - t.first) (drop t.first ps), length-drop t.first ps)
+
+pub own-at : (ps : List ℕ) (t : Term) (j : ℕ) → j < t.freq → get_or (take (t.first + t.freq - t.first) (drop t.first ps)) j 0 ≡ get_or ps (t.first + j) 0
+own-at ps t j h = get_or-take (t.first + t.freq - t.first) (drop t.first ps) j 0 (omega (arith, h)) ∙ get_or-drop t.first ps j 0
 
 -- ---- a term's starts
 module _ (ps : List ℕ) (t : Term) where

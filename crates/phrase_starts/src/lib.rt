@@ -9,25 +9,11 @@ ghost use Rattle.phrase_starts.specs.Terms.{term_at, starts_of, GoodTerm};
 ghost use Rattle.phrase_starts.specs.Common.{Ascending, Common};
 
 // One term's words.
-#[derive(Drop)]
+#[derive(Clone, Copy)]
 pub struct Term {
     pub first: usize,
     pub freq: usize,
     pub offset: u32,
-}
-
-fn wide(x: u32) -> usize
-    ensures { result ≡ x }
-{
-    x as usize
-}
-
-// A word below 2^31 as a signed number.
-fn signed(x: u32) -> i32
-    requires { x ≤ 2147483647 }
-    ensures { result ≡ pos x }
-{
-    x as i32
 }
 
 // Where the phrase would start, given a position of one of its terms: below 0 for a term too near the front.
@@ -35,9 +21,7 @@ fn start(position: u32, offset: u32) -> i32
     requires { (position ≤ 2147483647) × (offset ≤ 2147483647) }
     ensures { result ≡ sub_ℕ position offset }
 {
-    let p = signed(position);
-    let o = signed(offset);
-    p - o
+    position as i32 - offset as i32
 }
 
 pub fn term_at(terms: &[u32], at: usize) -> Term
@@ -45,8 +29,8 @@ pub fn term_at(terms: &[u32], at: usize) -> Term
     ensures { result ≡ term_at terms.now at }
 {
     Term {
-        first: wide(terms[at]),
-        freq: wide(terms[at + 1]),
+        first: terms[at] as usize,
+        freq: terms[at + 1] as usize,
         offset: terms[at + 2],
     }
 }
@@ -56,13 +40,9 @@ pub fn write_starts(positions: &[u32], t: Term, out: &mut [i32])
     requires { GoodTerm positions.now t × (t.freq ≤ length out.old) }
     ensures { take t.freq out.new ≡ starts_of positions.now t }
 {
-    let first = t.first;
-    let freq = t.freq;
-    let offset = t.offset;
-    let mut j = 0;
-    while j < freq {
-        out[j] = start(positions[first + j], offset);
-        j += 1;
+    let own = &positions[t.first..t.first + t.freq];
+    for (j, position) in own.iter().enumerate() {
+        out[j] = start(*position, t.offset);
     }
 }
 

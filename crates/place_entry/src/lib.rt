@@ -43,11 +43,11 @@ fn place_refusal(
 ) -> u32
     ensures { result ≡ place_refusal (lent max_doc fields.now leaves.now postings.now positions.now norms.now live.now columns.now values.now) q.now record_number document (work 0 starts other_starts 0) }
 {
-    let refusal = order_check::check_order(
+    match order_check::check_order(
         max_doc, fields, leaves, postings, positions, norms, live, columns, values, q,
-    );
-    if refusal != 0 {
-        return refusal;
+    ) {
+        Err(refusal) => return refusal.number(),
+        Ok(()) => {}
     }
     if order_check::starts_short(leaves, postings, q, starts, other_starts) {
         return 12;

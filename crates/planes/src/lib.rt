@@ -10,12 +10,10 @@ pub fn counted(planes: &mut [u64], x: u64) -> u64
     ensures { (p : ℕ) → count p (planes.new ++ (result ∷ [])) ≡ one (bit p x) + count p planes.old }
 {
     let mut carry = x;
-    let mut j: usize = 0;
-    while j < planes.len() {
-        let a = planes[j];
-        planes[j] = a ^ carry;
-        carry = a & carry;
-        j += 1;
+    for plane in planes.iter_mut() {
+        let before = *plane;
+        *plane = before ^ carry;
+        carry = before & carry;
     }
     carry
 }
@@ -28,9 +26,7 @@ pub fn above(planes: &[u64], least: u32, want: u64) -> u64
 {
     let mut more: u64 = 0;
     let mut equal = want;
-    let mut j = planes.len();
-    while 0 < j {
-        j -= 1;
+    for j in (0..planes.len()).rev() {
         if (least >> (j as u32)) % 2 == 1 {
             equal = equal & planes[j];
         } else {

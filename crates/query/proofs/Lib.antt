@@ -1,4 +1,5 @@
 -- The laws of this crate: those that the functions' proofs cite, and those for the crates above.
+pub mod Numbers
 pub mod Below
 pub mod Inverse
 pub mod Spans

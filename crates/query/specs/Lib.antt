@@ -1,3 +1,4 @@
 -- What the contracts of this crate say beside document 01's definitions.
+pub mod Kinds
 pub mod Read
 pub mod Inner

@@ -2,10 +2,16 @@
 // A record is 9 words: kind, occurrence, number of children, six values. After it stand its children's trees.
 #![tactic(auto)]
 
+pub mod kinds;
+pub mod occurrences;
 pub mod shape;
 
 ghost use Rattle.std.specs.Prelude.{◌≡◌, ◌<◌};
 ghost use Rattle.meaning.specs.Query.{record_count, record_kind, record_occurrence, record_children, record_value};
+ghost use Rattle.query.specs.Kinds.{IsKind, IsOccur};
+
+pub use kinds::{Kind, UnknownKind};
+pub use occurrences::{Occur, UnknownOccur};
 
 // How many whole records the query has.
 pub fn record_count(q: &[u32]) -> usize
@@ -27,6 +33,22 @@ pub fn occurrence(q: &[u32], at: usize) -> u32
     ensures { result ≡ record_occurrence q.now at }
 {
     q[9 * at + 1]
+}
+
+// The kind of the record at `at`, or `None` where its number is no kind's.
+pub fn kind_at(q: &[u32], at: usize) -> Option<Kind>
+    requires { at < record_count q.now }
+    ensures { IsKind (record_kind q.now at) result }
+{
+    Kind::try_from(q[9 * at]).ok()
+}
+
+// How the clause at `at` occurs in its Boolean, or `None` where its number is no occurrence's: 0 outside of a Boolean.
+pub fn occur_at(q: &[u32], at: usize) -> Option<Occur>
+    requires { at < record_count q.now }
+    ensures { IsOccur (record_occurrence q.now at) result }
+{
+    Occur::try_from(q[9 * at + 1]).ok()
 }
 
 pub fn children(q: &[u32], at: usize) -> u32

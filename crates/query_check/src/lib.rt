@@ -11,22 +11,25 @@ ghost use Rattle.meaning.specs.Lent.{Index};
 ghost use Rattle.meaning.specs.Refusals.{lowest, ◌when◌};
 ghost use Rattle.meaning.specs.QueryRefusals.{wrong7, wrong8, wrong9, wrong10};
 ghost use Rattle.query.specs.Read.{Lends};
+ghost use Rattle.refusal.specs.Numbers.{refusal_of};
 
-// The lowest of 7 to 10 that holds, or 0: each pass goes over the whole query before the next.
-pub fn check_query(q: &[u32], fields: &[u32], leaves: &[u32], columns: &[u32]) -> u32
-    ensures { (ix : Index) → Lends ix fields.now leaves.now columns.now → result ≡ lowest ((7 when wrong7 q.now) ∷ (8 when wrong8 ix q.now) ∷ (9 when wrong9 q.now) ∷ (10 when wrong10 ix q.now) ∷ []) }
+use refusal::Refusal;
+
+// The first of the refusals 7 to 10 whose condition holds: each pass goes over the whole query before the next.
+pub fn check_query(q: &[u32], fields: &[u32], leaves: &[u32], columns: &[u32]) -> Result<(), Refusal>
+    ensures { (ix : Index) → Lends ix fields.now leaves.now columns.now → refusal_of result ≡ lowest ((7 when wrong7 q.now) ∷ (8 when wrong8 ix q.now) ∷ (9 when wrong9 q.now) ∷ (10 when wrong10 ix q.now) ∷ []) }
 {
     if query::shape::wrong_records(q) {
-        return 7;
+        return Err(Refusal::Records);
     }
     if values::wrong_values(q, fields, leaves, columns) {
-        return 8;
+        return Err(Refusal::Values);
     }
     if boosts::wrong_boost(q) {
-        return 9;
+        return Err(Refusal::Boosts);
     }
     if positions::wrong_positions(q, fields) {
-        return 10;
+        return Err(Refusal::Positions);
     }
-    0
+    Ok(())
 }

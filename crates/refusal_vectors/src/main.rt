@@ -6,6 +6,7 @@
 
 ghost use Rattle.std.specs.Prelude.{◌+◌, ◌≤◌, length};
 
+use refusal::Refusal;
 use std::io;
 use std::io::Write;
 use vectors::file::{list, size};
@@ -25,8 +26,11 @@ fn first_words(words: &[u64], number: usize) -> &[u64] {
     words
 }
 
-fn print_line(out: &mut impl Write, number: u32) -> io::Result<()> {
-    writeln!(out, "{number}")
+fn print_answer(out: &mut impl Write, answer: Result<(), Refusal>) -> io::Result<()> {
+    match answer {
+        Ok(()) => writeln!(out, "0"),
+        Err(refusal) => writeln!(out, "{refusal}"),
+    }
 }
 
 // The lowest of 1 to 10 for the case at `at`, or 0.
@@ -54,14 +58,10 @@ fn print_refusal(
         columns,
         list(file, file[at + 8]),
     );
-    if index != 0 {
-        print_line(out, index)
-    } else {
-        print_line(
-            out,
-            query_check::check_query(query, fields, leaves, columns),
-        )
-    }
+    print_answer(
+        out,
+        index.and_then(|()| query_check::check_query(query, fields, leaves, columns)),
+    )
 }
 
 fn print_refusals(

@@ -1,11 +1,11 @@
 // A file of little-endian words: the words, and the lists that a place in it names.
-ghost use Rattle.std.specs.Prelude.{◌≡◌, ◌≤◌, length, IfOk};
+ghost use Rattle.std.specs.Prelude.{◌≡◌, ◌≤◌, length, take, IfOk, MatchResult};
 
 use std::io::Read;
 use std::rt::Files;
 use std::{fs, io};
 
-// A word's number as a length, with no proof at the caller.
+// A word's number as a length.
 pub fn size(x: u32) -> usize
     ensures { result ≡ x }
 {
@@ -17,7 +17,9 @@ pub fn read_bytes(rt: &(impl Files + Eprint), path: &str, bytes: &mut [u8]) -> i
     ensures { IfOk result (λ n. n ≤ length bytes.new) }
 {
     match fs::open(rt, path) {
-        Ok(mut file) => Ok(read_all(&mut file, bytes)),
+        Ok(mut file) => match read_all(&mut file, bytes) {
+            Ok(number) | Err(number) => Ok(number),
+        },
         Err(error) => {
             eprintln!(rt; "{path}: {error}")?;
             Ok(0)
@@ -25,69 +27,42 @@ pub fn read_bytes(rt: &(impl Files + Eprint), path: &str, bytes: &mut [u8]) -> i
     }
 }
 
-// Reads until the file ends, the buffer is full or a read fails.
-fn read_all(file: &mut impl Read, bytes: &mut [u8]) -> usize
-    ensures { result ≤ length bytes.new }
+// Reads until the file ends or the buffer is full: how many bytes, as an error where a read failed behind them.
+pub fn read_all(file: &mut impl Read, bytes: &mut [u8]) -> Result<usize, usize>
+    ensures { MatchResult result (λ n. n ≤ length bytes.new) (λ n. n ≤ length bytes.new) }
 {
     let mut done = 0;
     while done < bytes.len() {
         match file.read(&mut bytes[done..]) {
-            Ok(more) => {
-                if more == 0 {
-                    return done;
-                }
-                done += more;
-            }
-            Err(_) => return done,
+            Ok(0) => break,
+            Ok(more) => done += more,
+            Err(_) => return Err(done),
         }
     }
-    done
-}
-
-fn word_of(a: u8, b: u8, c: u8, d: u8) -> u32 {
-    a as u32 | ((b as u32) << 8) | ((c as u32) << 16) | ((d as u32) << 24)
+    Ok(done)
 }
 
 // Little-endian words, as many as both slices have room for.
 pub fn read_words(bytes: &[u8], words: &mut [u32]) {
-    let mut i = 0;
-    while i < words.len() {
-        if bytes.len() / 4 <= i {
-            return;
-        }
-        words[i] = word_of(
-            bytes[4 * i],
-            bytes[4 * i + 1],
-            bytes[4 * i + 2],
-            bytes[4 * i + 3],
-        );
-        i += 1;
+    let (chunks, _) = bytes.as_chunks::<4>();
+    for (word, chunk) in words.iter_mut().zip(chunks) {
+        *word = u32::from_le_bytes(*chunk);
     }
 }
 
 // The i-th word from a place on, 0 where the file has ended.
 pub fn word(file: &[u32], at: usize, i: usize) -> u32 {
-    if file.len() <= at {
-        return 0;
-    }
-    if file.len() - at <= i {
-        return 0;
-    }
-    file[at + i]
+    file.get(at..)
+        .and_then(|case| case.get(i))
+        .copied()
+        .unwrap_or(0)
 }
 
 // The list that stands at `place`, its first word + 65,536 × its length; none where it isn't within the file.
 pub fn list(file: &[u32], place: u32) -> &[u32] {
-    let first = size(place % 65536);
-    let number = size(place / 65536);
-    if file.len() < first {
-        return &file[..0];
-    }
-    if file.len() - first < number {
-        return &file[..0];
-    }
-    let end = first + number;
-    &file[first..end]
+    let first = (place % 65536) as usize;
+    let end = first + (place / 65536) as usize;
+    file.get(first..end).unwrap_or(&[])
 }
 
 // The list whose place is the i-th word from a place on.
@@ -97,35 +72,24 @@ pub fn list_at(file: &[u32], at: usize, i: usize) -> &[u32] {
 
 // The bytes that stand at `place`, their first word + 65,536 × their number; none where they aren't within the file.
 pub fn bytes_at(bytes: &[u8], place: u32) -> &[u8] {
-    let first = size(4 * (place % 65536));
-    let number = size(place / 65536);
-    if bytes.len() < first {
-        return &bytes[..0];
-    }
-    if bytes.len() - first < number {
-        return &bytes[..0];
-    }
-    let end = first + number;
-    &bytes[first..end]
+    let first = 4 * (place % 65536) as usize;
+    let end = first + (place / 65536) as usize;
+    bytes.get(first..end).unwrap_or(&[])
 }
 
-// Words of 64 bits from pairs of words, the low half first, as many as both slices have room for: how many.
-pub fn read_long_words(words: &[u32], longs: &mut [u64]) -> usize {
-    let mut i = 0;
-    while i < longs.len() {
-        if words.len() / 2 <= i {
-            return i;
-        }
-        longs[i] = crate::wide(words[2 * i]) | (crate::wide(words[2 * i + 1]) << 32);
-        i += 1;
+// Words of 64 bits from pairs of words, the low half first, as many as both slices have room for: those that were read.
+pub fn read_long_words<'a>(words: &[u32], longs: &'a mut [u64]) -> &'a [u64] {
+    let (pairs, _) = words.as_chunks::<2>();
+    let number = pairs.len();
+    for (long, [low, high]) in longs.iter_mut().zip(pairs) {
+        *long = u64::from(*low) | (u64::from(*high) << 32);
     }
-    i
+    first(longs, number)
 }
 
-// So many words, or all.
-pub fn first_long_words(words: &[u64], number: usize) -> &[u64] {
-    if number <= words.len() {
-        return &words[..number];
-    }
-    words
+// So many of a list, or all.
+pub fn first<T>(list: &[T], number: usize) -> &[T]
+    ensures { result.now ≡ take number list.now }
+{
+    list.get(..number).unwrap_or(list)
 }

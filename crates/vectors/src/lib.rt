@@ -2,82 +2,84 @@
 #![tactic(auto)]
 
 pub mod file;
+pub mod lists;
+pub mod print;
 
 ghost use Rattle.std.specs.Prelude.{◌≤◌};
 
+use print::{Code, Mark, Pattern};
 use std::io;
 use std::io::Write;
 
-// The value of a pattern; every pattern of a NaN gives a NaN.
+// A binary format: the values of its patterns, and the patterns of its values.
+pub trait Format: Copy + Drop {
+    type Bits;
+
+    // How many hexadecimal digits a pattern has.
+    const DIGITS: usize;
+
+    // The value of a pattern; every pattern of a NaN gives a NaN.
+    fn of(bits: Self::Bits) -> Self;
+
+    // The pattern of a value, none of a NaN's.
+    fn pattern(self) -> Option<u64>;
+}
+
+macro_rules! binary {
+    ($float:ty, $bits:ty, $digits:literal, $sign:literal, $infinity:literal) => {
+        impl Format for $float {
+            type Bits = $bits;
+
+            const DIGITS: usize = $digits;
+
+            fn of(bits: $bits) -> $float {
+                if bits % $sign <= $infinity {
+                    <$float>::from_bits(bits)
+                } else {
+                    <$float>::NAN
+                }
+            }
+
+            fn pattern(self) -> Option<u64> {
+                if self.is_nan() {
+                    None
+                } else {
+                    Some(u64::from(self.to_bits()))
+                }
+            }
+        }
+    };
+}
+
+binary!(f32, u32, 8, 0x8000_0000, 0x7f80_0000);
+
+binary!(f64, u64, 16, 0x8000_0000_0000_0000, 0x7ff0_0000_0000_0000);
+
 pub fn f64_of(bits: u64) -> f64 {
-    if bits % 0x8000_0000_0000_0000 <= 0x7ff0_0000_0000_0000 {
-        f64::from_bits(bits)
-    } else {
-        0.0 / 0.0
-    }
+    f64::of(bits)
 }
 
 pub fn f32_of(bits: u32) -> f32 {
-    if bits % 0x8000_0000 <= 0x7f80_0000 {
-        f32::from_bits(bits)
-    } else {
-        0.0 / 0.0
-    }
+    f32::of(bits)
 }
 
-// A word's number as a u64, with no proof at the caller.
+// A word's number as a u64.
 pub fn wide(x: u32) -> u64 {
-    x as u64
+    u64::from(x)
 }
 
 // The pattern, or `nan`, on a line of its own.
 pub fn print_f32(out: &mut impl Write, x: f32) -> io::Result<()> {
-    if x != x {
-        writeln!(out, "nan")
-    } else {
-        writeln!(out, "{:08x}", f32::to_bits(x))
-    }
+    writeln!(out, "{}", Pattern(x))
 }
 
 pub fn print_f64(out: &mut impl Write, x: f64) -> io::Result<()> {
-    if x != x {
-        writeln!(out, "nan")
-    } else {
-        writeln!(out, "{:016x}", f64::to_bits(x))
-    }
+    writeln!(out, "{}", Pattern(x))
 }
 
 // A number and a space.
 pub fn print_number(out: &mut impl Write, n: u32) -> io::Result<()> {
     write!(out, "{n} ")
-}
-
-// A code's sixteen hexadecimal digits and a space; `-` where it is below 0.
-pub fn print_code(out: &mut impl Write, code: i64) -> io::Result<()> {
-    if code >= 0 {
-        write!(out, "{:016x} ", code as u64)
-    } else {
-        write!(out, "- ")
-    }
-}
-
-fn print_mark(out: &mut impl Write, mark: bool) -> io::Result<()> {
-    if mark {
-        write!(out, "+ ")
-    } else {
-        write!(out, "= ")
-    }
-}
-
-fn print_codes(out: &mut impl Write, codes: &[i64], n: u32) -> io::Result<()> {
-    let mut i = 0;
-    while i < codes.len() {
-        if i < n as usize {
-            print_code(out, codes[i])?;
-        }
-        i += 1;
-    }
-    end_line(out)
 }
 
 // The count, its mark, and the codes of the best hits.
@@ -88,31 +90,11 @@ pub fn print_hits(
     codes: &[i64],
     held: u32,
 ) -> io::Result<()> {
-    write!(out, "{count}")?;
-    print_mark(out, mark)?;
-    print_codes(out, codes, held)
-}
-
-// Each document with its score's bits.
-fn print_pairs(
-    out: &mut impl Write,
-    documents: &[u32],
-    scores: &[u32],
-    given: usize,
-) -> io::Result<()> {
-    let mut i = 0;
-    while i < given {
-        if documents.len() <= i {
-            return Ok(());
-        }
-        if scores.len() <= i {
-            return Ok(());
-        }
-        print_number(out, documents[i])?;
-        write!(out, "{:08x} ", scores[i])?;
-        i += 1;
+    write!(out, "{count}{} ", Mark(mark))?;
+    for code in codes.iter().take(held as usize) {
+        write!(out, "{} ", Code(*code))?;
     }
-    Ok(())
+    end_line(out)
 }
 
 // A page: each document with its score's bits, and the next match.
@@ -124,7 +106,9 @@ pub fn print_page(
     next: u32,
 ) -> io::Result<()> {
     write!(out, "page ")?;
-    print_pairs(out, documents, scores, given)?;
+    for (document, score) in documents.iter().zip(scores).take(given) {
+        write!(out, "{document} {score:08x} ")?;
+    }
     writeln!(out, "next {next}")
 }
 
@@ -139,12 +123,8 @@ pub fn end_line(out: &mut impl Write) -> io::Result<()> {
 
 // The first n numbers of a list, or all of it, on one line.
 pub fn print_list(out: &mut impl Write, list: &[u32], n: u32) -> io::Result<()> {
-    let mut i = 0;
-    while i < list.len() {
-        if i < n as usize {
-            print_number(out, list[i])?;
-        }
-        i += 1;
+    for number in list.iter().take(n as usize) {
+        write!(out, "{number} ")?;
     }
     end_line(out)
 }
@@ -156,9 +136,26 @@ pub fn xorshift(x: u64) -> u64 {
     b ^ (b << 17)
 }
 
+// The numbers of xorshift's sequence after one other than 0.
+#[derive(Clone, Copy)]
+pub struct Sequence(pub u64);
+
+impl Iterator for Sequence {
+    type Item = u64;
+
+    fn next(&mut self) -> Option<u64> {
+        self.0 = xorshift(self.0);
+        Some(self.0)
+    }
+}
+
 // What a number leaves, divided by `end`; 0 where that is 0.
 pub fn below(x: u64, end: u32) -> u32
     ensures { result ≤ end }
 {
-    if end == 0 { 0 } else { (x % end as u64) as u32 }
+    if end == 0 {
+        0
+    } else {
+        (x % u64::from(end)) as u32
+    }
 }

@@ -3,11 +3,11 @@ use Rattle.bits.specs.Bit.{bit}
 use Rattle.bits.proofs.Laws.{bit-low, bit-high}
 use Rattle.bits.proofs.joined.Goals as goal
 
-turned : (low high : ℕ) → low + high * 4294967296 ≡ high * 2 ^ 32 + low
-turned low high = omega arith
+turned : (low high l h : ℕ) → l ≡ low → h ≡ high → l + h * 4294967296 ≡ high * 2 ^ 32 + low
+turned low high l h e f = omega arith
 
 pub returns-clause-low_bits : goal.returns-clause-low_bits
-returns-clause-low_bits c = λ q h. ap (bit q) (turned c.args.low c.args.high) ∙ bit-low 32 q c.args.high c.args.low h
+returns-clause-low_bits c = λ q k. ap (bit q) (turned c.args.low c.args.high c.from.result c.from-2.result c.from.ensures c.from-2.ensures) ∙ bit-low 32 q c.args.high c.args.low k
 
 pub returns-clause-high_bits : goal.returns-clause-high_bits
-returns-clause-high_bits c = λ q h. ap (bit q) (turned c.args.low c.args.high) ∙ bit-high 32 q c.args.high c.args.low c.ranges.low.fits h
+returns-clause-high_bits c = λ q k. ap (bit q) (turned c.args.low c.args.high c.from.result c.from-2.result c.from.ensures c.from-2.ensures) ∙ bit-high 32 q c.args.high c.args.low c.ranges.low.fits k

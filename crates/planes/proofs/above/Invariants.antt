@@ -3,6 +3,3 @@ use Rattle.planes.proofs.above.Given as goal
 
 abbrev pub invariant-loop-j : goal.invariant-loop-j
 invariant-loop-j l = Comparing l.planes l.least l.want l.more l.equal l.j
-
-abbrev pub decreases-loop-j : goal.decreases-loop-j
-decreases-loop-j l = l.j

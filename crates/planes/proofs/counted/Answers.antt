@@ -1,12 +1,13 @@
+use Rattle.std.proofs.Common.{arith}
 use Rattle.planes.proofs.Planes.{carry-more, carry-end}
 use Rattle.planes.proofs.counted.Goals as goal
 
-pub loop-j-preserved : goal.loop-j-preserved
-loop-j-preserved c =
-    let l = c.loop-j in
-    carry-more c.args.planes.now c.args.x l.planes l.carry l.j l.invariant c.loop-j-test.true
+pub loop-plane-preserved : goal.loop-plane-preserved
+loop-plane-preserved c =
+    let l = c.loop-plane in
+    carry-more c.args.planes.now c.args.x l.planes l.carry l.plane-index l.invariant (omega arith)
 
 pub returns : goal.returns
 returns c =
-    let l = c.loop-j in
-    carry-end c.args.planes.now c.args.x l.planes l.carry l.j l.invariant c.loop-j-test.false
+    let l = c.loop-plane in
+    carry-end c.args.planes.now c.args.x l.planes l.carry l.plane-index l.invariant (omega arith)

@@ -1,0 +1,11 @@
+use Rattle.std.proofs.Common.{◌≡◌, true, false, eqb, length, sym}
+use Rattle.meaning.specs.Live.{is_live}
+use Rattle.index.proofs.live.is_live.Goals as goal
+
+pub returns-then-is_empty : goal.returns-then-is_empty
+unfolding is_live
+returns-then-is_empty c = let e : eqb (length c.args.live.now) 0 ≡ true = sym c.if-is_empty.ensures in rw e
+
+pub returns : goal.returns
+unfolding is_live
+returns c = let e : eqb (length c.args.live.now) 0 ≡ false = sym c.if-is_empty.ensures in rw e

@@ -1,0 +1,18 @@
+-- The number of an answer, where it is a refusal and where it is none. Assumes nothing.
+use Rattle.std.proofs.Common.{◌≡◌, ap, sym, ◌∙◌, Result, Ok, Err, arith}
+use Rattle.refusal.specs.declared.Refusal.{Refusal}
+use Rattle.refusal.specs.Numbers.{number_of, refusal_of}
+
+pub number-above : (r : Refusal) → number_of r ≡ 0 → ⊥
+number-above r e = grind arith
+
+module _ {T : Type 0} (a : Result T Refusal) where
+  pub answered : (x : T) → a ≡ Ok x → refusal_of a ≡ 0
+  answered x e = ap refusal_of e
+
+  pub refused : (r : Refusal) → a ≡ Err r → refusal_of a ≡ 0 → ⊥
+  refused r e z = number-above r (sym (ap refusal_of e) ∙ z)
+
+  -- a caller passes the refusal on
+  pub passed_on : {U : Type 0} (b : Result U Refusal) (r : Refusal) → a ≡ Err r → b ≡ Err r → refusal_of b ≡ refusal_of a
+  passed_on b r e f = ap refusal_of f ∙ sym (ap refusal_of e)

@@ -1,0 +1,56 @@
+-- The order's refusal first, then 12, then 13.
+use Rattle.std.proofs.Common.{◌≡◌, ◌∙◌, refl, Err, Ok, rules, arith}
+use Rattle.index.specs.Slices.{lent}
+use Rattle.order_check.specs.Lends.{work, QueryLent}
+use Rattle.order_check.proofs.Answered.{answered, refused, passed_on}
+use Rattle.order_check.proofs.Refusing.{order-checked}
+use Rattle.order_check.proofs.CallConditions.{page-order, page-short, page-unequal, page-above, page-accepted}
+use Rattle.order_check.proofs.page_refusal.Goals as goal
+
+pub returns-in_err-check_order : goal.returns-in_err-check_order
+returns-in_err-check_order c =
+    let a = c.args in
+    let r = c.in_err-check_order.field-0.0 in
+    let e : c.check_order.result ≡ Err r = search rules in
+    let f : c.from_residual.result ≡ Err r = search rules in
+    passed_on _ _ r e f ∙ page-order (lent a.max_doc a.fields.now a.leaves.now a.postings.now a.positions.now a.norms.now a.live.now a.columns.now a.values.now) a.q.now a.target (work a.states a.starts a.other_starts a.ranges) a.documents a.scores _ c.check_order.ensures (refused _ r e)
+
+pub work_short-requires : goal.work_short-requires
+work_short-requires c =
+    let a = c.args in
+    let ix = lent a.max_doc a.fields.now a.leaves.now a.postings.now a.positions.now a.norms.now a.live.now a.columns.now a.values.now in
+    let e : c.check_order.result ≡ Ok c.in_ok-check_order.field-0 = search rules in
+    let h : QueryLent ix a.max_doc a.leaves.now a.postings.now a.q.now = record { asks = order-checked ix a.q.now _ c.check_order.ensures (answered _ c.in_ok-check_order.field-0 e); documents = refl; leaves-are = refl; postings-are = refl } in
+    (ix, h)
+
+pub returns-then-work_short : goal.returns-then-work_short
+returns-then-work_short c =
+    let a = c.args in
+    let ix = lent a.max_doc a.fields.now a.leaves.now a.postings.now a.positions.now a.norms.now a.live.now a.columns.now a.values.now in
+    let e : c.check_order.result ≡ Ok c.in_ok-check_order.field-0 = search rules in
+    let h : QueryLent ix a.max_doc a.leaves.now a.postings.now a.q.now = record { asks = order-checked ix a.q.now _ c.check_order.ensures (answered _ c.in_ok-check_order.field-0 e); documents = refl; leaves-are = refl; postings-are = refl } in
+    page-short ix a.q.now a.target (work a.states a.starts a.other_starts a.ranges) a.documents a.scores _ c.check_order.ensures (answered _ c.in_ok-check_order.field-0 e) _ (c.work_short.ensures ix h) c.if-work_short.true
+
+pub returns-then-documents-scores : goal.returns-then-documents-scores
+returns-then-documents-scores c =
+    let a = c.args in
+    let ix = lent a.max_doc a.fields.now a.leaves.now a.postings.now a.positions.now a.norms.now a.live.now a.columns.now a.values.now in
+    let e : c.check_order.result ≡ Ok c.in_ok-check_order.field-0 = search rules in
+    let h : QueryLent ix a.max_doc a.leaves.now a.postings.now a.q.now = record { asks = order-checked ix a.q.now _ c.check_order.ensures (answered _ c.in_ok-check_order.field-0 e); documents = refl; leaves-are = refl; postings-are = refl } in
+    page-unequal ix a.q.now a.target (work a.states a.starts a.other_starts a.ranges) a.documents a.scores _ c.check_order.ensures (answered _ c.in_ok-check_order.field-0 e) _ (c.work_short.ensures ix h) c.if-work_short.false c.if-documents-scores.true
+
+pub returns-then-max_doc-target : goal.returns-then-max_doc-target
+returns-then-max_doc-target c =
+    let a = c.args in
+    let ix = lent a.max_doc a.fields.now a.leaves.now a.postings.now a.positions.now a.norms.now a.live.now a.columns.now a.values.now in
+    let e : c.check_order.result ≡ Ok c.in_ok-check_order.field-0 = search rules in
+    let h : QueryLent ix a.max_doc a.leaves.now a.postings.now a.q.now = record { asks = order-checked ix a.q.now _ c.check_order.ensures (answered _ c.in_ok-check_order.field-0 e); documents = refl; leaves-are = refl; postings-are = refl } in
+    page-above ix a.q.now a.target (work a.states a.starts a.other_starts a.ranges) a.documents a.scores _ c.check_order.ensures (answered _ c.in_ok-check_order.field-0 e) _ (c.work_short.ensures ix h) c.if-work_short.false c.if-documents-scores.false (omega (arith, c.if-max_doc-target.true))
+
+pub returns : goal.returns
+returns c =
+    let a = c.args in
+    let ix = lent a.max_doc a.fields.now a.leaves.now a.postings.now a.positions.now a.norms.now a.live.now a.columns.now a.values.now in
+    let e : c.check_order.result ≡ Ok c.in_ok-check_order.field-0 = search rules in
+    let h : QueryLent ix a.max_doc a.leaves.now a.postings.now a.q.now = record { asks = order-checked ix a.q.now _ c.check_order.ensures (answered _ c.in_ok-check_order.field-0 e); documents = refl; leaves-are = refl; postings-are = refl } in
+    page-accepted ix a.q.now a.target (work a.states a.starts a.other_starts a.ranges) a.documents a.scores _ c.check_order.ensures (answered _ c.in_ok-check_order.field-0 e) _ (c.work_short.ensures ix h) c.if-work_short.false c.if-documents-scores.false (omega (arith, c.if-max_doc-target.false))

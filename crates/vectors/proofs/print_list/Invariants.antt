@@ -1,6 +1,0 @@
--- Its loop goes up to the list's length.
-use Rattle.std.proofs.Common.{length, ◌-◌}
-use Rattle.vectors.proofs.print_list.Given as goal
-
-abbrev pub decreases-loop-i : goal.decreases-loop-i
-decreases-loop-i g l = length l.list - l.i

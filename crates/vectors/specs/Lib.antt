@@ -1,0 +1,2 @@
+-- What the contracts of programs cite.
+pub mod Lists
