@@ -291,21 +291,15 @@ fn required_scores(
     requires { RequiredPre kids.old reader.now.postings.now reader.now.positions.now reader.now.norms.now reader.now.ranges.now inverses.now (length a.old) (length b.old) base want sums.old depth }
     ensures { RequiredPost kids.old reader.now.postings.now reader.now.positions.now reader.now.norms.now reader.now.ranges.now inverses.now (length a.old) (length b.old) base want sums.old depth kids.new sums.new }
 {
+    let postings = reader.postings;
+    let norms = reader.norms;
     let mut at = 0;
     while at < kids.len() {
         let k = child_at(kids, at);
         let end = k.end;
         if k.scores == MUST {
             if k.kind == TERM {
-                leaf::term_scores(
-                    &kids[at..end],
-                    reader.postings,
-                    reader.norms,
-                    inverses,
-                    base,
-                    want,
-                    sums,
-                );
+                leaf::term_scores(&kids[at..end], postings, norms, inverses, base, want, sums);
             } else {
                 node_scores(
                     &mut kids[at..end],
@@ -341,6 +335,8 @@ fn optional_scores(
     requires { OptionalPre kids.old need reader.now.postings.now reader.now.positions.now reader.now.norms.now reader.now.ranges.now inverses.now (length a.old) (length b.old) base want sums.old depth }
     ensures { OptionalPost kids.old need reader.now.postings.now reader.now.positions.now reader.now.norms.now reader.now.ranges.now inverses.now (length a.old) (length b.old) base want sums.old depth kids.new sums.new }
 {
+    let postings = reader.postings;
+    let norms = reader.norms;
     let mut at = 0;
     while at < kids.len() {
         let k = child_at(kids, at);
@@ -352,15 +348,7 @@ fn optional_scores(
         };
         if x != 0 {
             if k.kind == TERM {
-                leaf::term_scores(
-                    &kids[at..end],
-                    reader.postings,
-                    reader.norms,
-                    inverses,
-                    base,
-                    x,
-                    sums,
-                );
+                leaf::term_scores(&kids[at..end], postings, norms, inverses, base, x, sums);
             } else {
                 node_scores(
                     &mut kids[at..end],

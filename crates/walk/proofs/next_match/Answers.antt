@@ -15,8 +15,8 @@ pub advance-d-requires : goal.advance-d-requires
 advance-d-requires c = let l = c.loop-from in
     walk-asks (lent_of c.args.reader.now) c.args.reader.now.live.now c.args.st.now c.args.from c.args.depth l.st l.target l.invariant.5 (length c.args.a.now) (length c.args.b.now) (length l.a) (length l.b) l.invariant.1 l.invariant.2 l.invariant.4 c.requires
 
-pub returns-then-d-max_doc : goal.returns-then-d-max_doc
-returns-then-d-max_doc c = let l = c.loop-from in
+pub returns-then-d-reader : goal.returns-then-d-reader
+returns-then-d-reader c = let l = c.loop-from in
     walk-stop (lent_of c.args.reader.now) c.args.reader.now.live.now c.args.st.now c.args.from c.args.depth l.st l.target l.invariant.5 c.advance-d.result c.advance-d.new.st c.advance-d.ensures.advance_post c.requires.0 l.invariant.4 (omega arith)
 
 pub is_live-requires : goal.is_live-requires

@@ -16,7 +16,7 @@ pub weighted-requires : goal.weighted-requires
 weighted-requires c = let s = c in
     let a = s.args in
     let q = posting-weighs a.norms.now a.inverses.now a.n a.frequency a.doc s.requires.0 s.requires.1 (λ i. omega (arith, c.shared_slice_known-1.given i)) s.requires.2 s.requires.3 c.if-n-eq1.false in
-    ((q.frequency-few, (q.number, q.field-few)), (q.byte-there, q.inverse-there))
+    record { frequency_bound = (q.frequency-few, (q.number, q.field-few)); doc_in_bounds = q.byte-there; doc_in_bounds_2 = q.inverse-there }
 
 pub returns : goal.returns
 returns c = let a = c.args in
