@@ -7,6 +7,7 @@ ghost use Rattle.bulk_scorer.specs.Collects.{CollectPre, CollectPost, CollectEnd
 ghost use Rattle.bulk_window.specs.Windows.{LiveWord, LiveBits, NextWindow, PlacesPre, PlacesPost, WindowPre, WindowPost, Cleared};
 ghost use Rattle.window_score.specs.Sums.{Zeros};
 
+use bits::SetBits;
 use collector::TopScoreDocCollector;
 use index::wide;
 use leaf_scorer::LeafReader;
@@ -66,13 +67,10 @@ fn collect_places(
     ensures cleared { Cleared places sums.old sums.new }
 {
     let mut c = c;
-    let mut left = places;
-    while left != 0 {
-        let place = bits::lowest(left);
-        let at = wide(place);
+    for place in (SetBits { left: places }) {
+        let at = place as usize;
         c = c.stepped(heap, first + place, ieee754::narrow(sums[at]));
         sums[at] = 0.0;
-        left = bits::without_lowest(left);
     }
     c
 }

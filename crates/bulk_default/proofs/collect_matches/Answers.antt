@@ -47,7 +47,7 @@ stepped-c-requires c = let s = c in
     let f = c.next_match-next in
     let w = c.score-s in
     let m = c.if-next-eq-NO_MORE_DOCS.false in
-    (gather-ready K s.requires.collect_pre l.st l.c l.heap l.from l.invariant.5 f.result (gather-from K s.requires.collect_pre l.st l.c l.heap l.from l.invariant.5 f.result f.new.st f.ensures), (gather-below K s.requires.collect_pre l.st l.c l.heap l.from l.invariant.5 f.result f.new.st f.ensures m, gather-clear K s.requires.collect_pre l.st l.c l.heap l.from l.invariant.5 f.result f.new.st f.ensures m (min (length f.new.a) (length f.new.b)) (places_same _ _ _ _ (f.auto.a ∙ l.invariant.1) (f.auto.b ∙ l.invariant.2)) w.result w.new.st w.ensures))
+    record { ready = gather-ready K s.requires.collect_pre l.st l.c l.heap l.from l.invariant.5 f.result (gather-from K s.requires.collect_pre l.st l.c l.heap l.from l.invariant.5 f.result f.new.st f.ensures); doc_lt_no_more_docs = gather-below K s.requires.collect_pre l.st l.c l.heap l.from l.invariant.5 f.result f.new.st f.ensures m; t = gather-clear K s.requires.collect_pre l.st l.c l.heap l.from l.invariant.5 f.result f.new.st f.ensures m (min (length f.new.a) (length f.new.b)) (places_same _ _ _ _ (f.auto.a ∙ l.invariant.1) (f.auto.b ∙ l.invariant.2)) w.result w.new.st w.ensures }
 
 pub overflow_add-from : goal.overflow_add-from
 overflow_add-from c = let s = c in
