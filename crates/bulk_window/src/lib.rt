@@ -88,7 +88,8 @@ fn collect_window(
     depth: u32,
     doc_base: u32,
     c: TopScoreDocCollector,
-    heap: &mut [i64]) -> TopScoreDocCollector
+    heap: &mut [i64],
+) -> TopScoreDocCollector
     requires zeros { Zeros sums.old }
     requires window { WindowPre st.old reader.now.postings.now reader.now.positions.now reader.now.norms.now reader.now.ranges.now inverses.now (length a.old) (length b.old) base places depth doc_base c heap.old }
     ensures zeros { Zeros sums.new }
@@ -97,8 +98,7 @@ fn collect_window(
     if places == 0 {
         return c;
     }
-    root_scores(
-        st, reader, inverses, a, b, base, places, sums, depth);
+    root_scores(st, reader, inverses, a, b, base, places, sums, depth);
     collect_places(c, heap, doc_base + base, places, sums)
 }
 
@@ -112,7 +112,8 @@ pub fn collect_windows(
     depth: u32,
     doc_base: u32,
     c: TopScoreDocCollector,
-    heap: &mut [i64]) -> TopScoreDocCollector
+    heap: &mut [i64],
+) -> TopScoreDocCollector
     requires { CollectPre (lent_of reader.now) reader.now.norms.now reader.now.live.now inverses.now (min (length a.old) (length b.old)) st.old depth doc_base c heap.old }
     ensures collect_post { CollectPost (lent_of reader.now) reader.now.norms.now reader.now.live.now inverses.now (min (length a.old) (length b.old)) st.old depth doc_base c heap.old result heap.new }
     ensures collect_end { CollectEnd (lent_of reader.now) reader.now.norms.now reader.now.live.now inverses.now (min (length a.old) (length b.old)) st.old depth st.new }
@@ -125,8 +126,8 @@ pub fn collect_windows(
         let places = node_bits(st, reader, a, b, base, want, depth);
         let next = st[22];
         c = collect_window(
-            st, reader, inverses, a, b, base, places, &mut sums, depth,
-            doc_base, c, heap);
+            st, reader, inverses, a, b, base, places, &mut sums, depth, doc_base, c, heap,
+        );
         base = next_window(base, next);
     }
     c

@@ -26,7 +26,7 @@ loop-place-preserved c =
     let p = c.in-Some.place in
     let n = c.in-Some.ensures.steps in
     let f : ℕ → Float → Float = λ p x. zero_float in
-    let score-is : c.narroc.next.new.self.left ≡ narrow (get_or a.sums.now p nan) = c.narrow.ensures ∙ ap narrow (sum-waits f a.places a.sums.now l.place-iterator.left l.sums l.invariant.sums p n.0) in
+    let score-is : c.narrow.result ≡ narrow (get_or a.sums.now p nan) = c.narrow.ensures ∙ ap narrow (sum-waits f a.places a.sums.now l.place-iterator.left l.sums l.invariant.sums p n.0) in
     record {
       long = c.stepped-c.auto.heap ∙ l.invariant.long;
       sums = adding-step f a.places a.sums.now l.place-iterator.left l.sums l.invariant.sums p n.0 c.next.new.self.left n.1 c.in-Some.place (of_bits binary64 0) refl zero-64;
