@@ -6,6 +6,7 @@ ghost use Rattle.scorer.specs.Calls.{lent};
 ghost use Rattle.bulk_scorer.specs.Collects.{CollectPre, CollectPost, CollectEnd};
 
 use collector::TopScoreDocCollector;
+use leaf_scorer::LeafReader;
 use weight::NODE_STATE_WORDS;
 
 pub mod alone;
@@ -69,8 +70,13 @@ pub fn collect_matches(
             );
         }
     }
-    bulk_window::collect_windows(
-        st, max_doc, postings, positions, norms, ranges, inverses, live, a, b, depth, doc_base, c,
-        heap,
-    )
+    let reader = LeafReader {
+        max_doc,
+        postings,
+        positions,
+        norms,
+        ranges,
+        live,
+    };
+    bulk_window::collect_windows(st, &reader, inverses, a, b, depth, doc_base, c, heap)
 }

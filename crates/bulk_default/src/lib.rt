@@ -7,6 +7,7 @@ ghost use Rattle.scorer.specs.Calls.{lent};
 ghost use Rattle.bulk_default.specs.Collects.{CollectPre, CollectPost, CollectEnd};
 
 use collector::{TopDocs, TopScoreDocCollector};
+use leaf_scorer::LeafReader;
 use walk::{NO_MORE_DOCS, next_match};
 
 // The hits of the tree at the front of the lent heap, whose length is k.
@@ -30,18 +31,22 @@ pub fn collect_matches(
     ensures collect_post { CollectPost (lent max_doc postings.now positions.now ranges.now) norms.now live.now inverses.now (min (length a.old) (length b.old)) st.old depth t heap.old result heap.new }
     ensures collect_end { CollectEnd (lent max_doc postings.now positions.now ranges.now) norms.now live.now inverses.now (min (length a.old) (length b.old)) st.old depth st.new }
 {
+    let reader = LeafReader {
+        max_doc,
+        postings,
+        positions,
+        norms,
+        ranges,
+        live,
+    };
     let mut c = TopScoreDocCollector::new(t as u64);
     let mut from = 0;
     loop {
-        let next = next_match(
-            st, max_doc, postings, positions, ranges, live, a, b, from, depth,
-        );
+        let next = next_match(st, &reader, a, b, from, depth);
         if next == NO_MORE_DOCS {
             return c.top_docs(heap);
         }
-        let s = score::score(
-            st, max_doc, postings, positions, norms, ranges, inverses, a, b, next, depth,
-        );
+        let s = score::score(st, &reader, inverses, a, b, next, depth);
         c = c.stepped(heap, next, s);
         from = next + 1;
     }

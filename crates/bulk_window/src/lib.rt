@@ -2,13 +2,15 @@
 #![tactic(auto)]
 
 ghost use Rattle.std.specs.Prelude.{◌≡◌, ◌+◌, ◌*◌, ◌%◌, ◌≤◌, ◌<◌, length, min};
-ghost use Rattle.leaf_scorer.specs.Calls.{lent};
+ghost use Rattle.leaf_scorer.specs.Calls.{lent_of};
 ghost use Rattle.bulk_scorer.specs.Collects.{CollectPre, CollectPost, CollectEnd};
 ghost use Rattle.bulk_window.specs.Windows.{LiveWord, LiveBits, NextWindow, PlacesPre, PlacesPost, WindowPre, WindowPost, Cleared};
 ghost use Rattle.window_score.specs.Sums.{Zeros};
 
+use bits::SetBits;
 use collector::TopScoreDocCollector;
 use index::wide;
+use leaf_scorer::LeafReader;
 use window_bits::node_bits;
 use window_score::root::root_scores;
 
@@ -65,13 +67,10 @@ fn collect_places(
     ensures cleared { Cleared places sums.old sums.new }
 {
     let mut c = c;
-    let mut left = places;
-    while left != 0 {
-        let place = bits::lowest(left);
-        let at = wide(place);
+    for place in (SetBits { left: places }) {
+        let at = place as usize;
         c = c.stepped(heap, first + place, ieee754::narrow(sums[at]));
         sums[at] = 0.0;
-        left = bits::without_lowest(left);
     }
     c
 }
@@ -79,10 +78,7 @@ fn collect_places(
 // The documents of a window that the tree matches, to the collector with their scores. All sums are 0 before and after.
 fn collect_window(
     st: &mut [u32],
-    postings: &[u32],
-    positions: &[u32],
-    norms: &[u8],
-    ranges: &[u32],
+    reader: &LeafReader<'_>,
     inverses: &[f32],
     a: &mut [i32],
     b: &mut [i32],
@@ -95,29 +91,22 @@ fn collect_window(
     heap: &mut [i64],
 ) -> TopScoreDocCollector
     requires zeros { Zeros sums.old }
-    requires window { WindowPre st.old postings.now positions.now norms.now ranges.now inverses.now (length a.old) (length b.old) base places depth doc_base c heap.old }
+    requires window { WindowPre st.old reader.now.postings.now reader.now.positions.now reader.now.norms.now reader.now.ranges.now inverses.now (length a.old) (length b.old) base places depth doc_base c heap.old }
     ensures zeros { Zeros sums.new }
-    ensures window { WindowPost st.old postings.now positions.now norms.now ranges.now inverses.now (length a.old) (length b.old) base places depth doc_base c heap.old result heap.new st.new }
+    ensures window { WindowPost st.old reader.now.postings.now reader.now.positions.now reader.now.norms.now reader.now.ranges.now inverses.now (length a.old) (length b.old) base places depth doc_base c heap.old result heap.new st.new }
 {
     if places == 0 {
         return c;
     }
-    root_scores(
-        st, postings, positions, norms, ranges, inverses, a, b, base, places, sums, depth,
-    );
+    root_scores(st, reader, inverses, a, b, base, places, sums, depth);
     collect_places(c, heap, doc_base + base, places, sums)
 }
 
 // The live documents that the tree matches to the collector, numbered on from a document base.
 pub fn collect_windows(
     st: &mut [u32],
-    max_doc: u32,
-    postings: &[u32],
-    positions: &[u32],
-    norms: &[u8],
-    ranges: &[u32],
+    reader: &LeafReader<'_>,
     inverses: &[f32],
-    live: &[u64],
     a: &mut [i32],
     b: &mut [i32],
     depth: u32,
@@ -125,20 +114,19 @@ pub fn collect_windows(
     c: TopScoreDocCollector,
     heap: &mut [i64],
 ) -> TopScoreDocCollector
-    requires { CollectPre (lent max_doc postings.now positions.now ranges.now) norms.now live.now inverses.now (min (length a.old) (length b.old)) st.old depth doc_base c heap.old }
-    ensures collect_post { CollectPost (lent max_doc postings.now positions.now ranges.now) norms.now live.now inverses.now (min (length a.old) (length b.old)) st.old depth doc_base c heap.old result heap.new }
-    ensures collect_end { CollectEnd (lent max_doc postings.now positions.now ranges.now) norms.now live.now inverses.now (min (length a.old) (length b.old)) st.old depth st.new }
+    requires { CollectPre (lent_of reader.now) reader.now.norms.now reader.now.live.now inverses.now (min (length a.old) (length b.old)) st.old depth doc_base c heap.old }
+    ensures collect_post { CollectPost (lent_of reader.now) reader.now.norms.now reader.now.live.now inverses.now (min (length a.old) (length b.old)) st.old depth doc_base c heap.old result heap.new }
+    ensures collect_end { CollectEnd (lent_of reader.now) reader.now.norms.now reader.now.live.now inverses.now (min (length a.old) (length b.old)) st.old depth st.new }
 {
     let mut c = c;
     let mut sums = [0.0f64; 64];
     let mut base = 0;
-    while base < max_doc {
-        let want = live_bits(live, base, max_doc);
-        let places = node_bits(st, postings, positions, ranges, a, b, base, want, depth);
+    while base < reader.max_doc {
+        let want = live_bits(reader.live, base, reader.max_doc);
+        let places = node_bits(st, reader, a, b, base, want, depth);
         let next = st[22];
         c = collect_window(
-            st, postings, positions, norms, ranges, inverses, a, b, base, places, &mut sums, depth,
-            doc_base, c, heap,
+            st, reader, inverses, a, b, base, places, &mut sums, depth, doc_base, c, heap,
         );
         base = next_window(base, next);
     }

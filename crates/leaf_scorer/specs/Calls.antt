@@ -5,6 +5,7 @@ use Rattle.meaning.specs.Lent.{Index}
 use Rattle.meaning.specs.First.{First}
 use Rattle.weight.specs.ScorerTree.{Leaf, leaf_matches}
 use Rattle.weight.specs.State.{State, words_of}
+use Rattle.leaf_scorer.specs.declared.LeafReader.{LeafReader}
 use Rattle.weight.specs.Held.{LeafIs}
 use Rattle.weight.specs.Sound.{Lends, LeafSound}
 
@@ -17,6 +18,10 @@ pub record Lent : Type 0 where
 
 abbrev pub lent : ℕ → List ℕ → List ℕ → List ℕ → Lent
 lent n ps qs rs = record { documents = n; postings = ps; positions = qs; ranges = rs }
+
+-- what a reader has
+abbrev pub lent_of : LeafReader → Lent
+lent_of r = lent r.max_doc r.postings.now r.positions.now r.ranges.now
 
 -- so many places are there in both phrase buffers
 pub record RoomIn (places a b : ℕ) : Type 0 where

@@ -5,13 +5,24 @@ ghost use Rattle.std.specs.Prelude.{◌≡◌, ℕ, ◌+◌, ◌*◌, ◌≤◌,
 ghost use Rattle.meaning.specs.Limits.{node_state_words, no_more_docs};
 ghost use Rattle.leaf_scorer.specs.Search.{CursorRead, SearchPre, SearchPost, AnyDocument, FirstSet, RangePre, RangePost};
 ghost use Rattle.leaf_scorer.specs.Phrases.{TermsPre, PassTermsPost, LeapfrogPost, PlaceAt, PlaceRead, GatherPre, GatherPost, FrequencyPre, FrequencyPost, PhrasePre, PhrasePost, PhraseAtPost};
-ghost use Rattle.leaf_scorer.specs.Calls.{lent, LeafPre, LeafPost};
+ghost use Rattle.leaf_scorer.specs.Calls.{lent_of, LeafPre, LeafPost};
 
 use index::wide;
 use run::{document, lower};
 use weight::NODE_STATE_WORDS;
 
 pub const NO_MORE_DOCS: u32 = 2147483647;
+
+// What is read of the index beside a tree's words, and the bitmaps of the order's ranges.
+#[derive(Clone, Copy)]
+pub struct LeafReader<'a> {
+    pub max_doc: u32,
+    pub postings: &'a [u32],
+    pub positions: &'a [u32],
+    pub norms: &'a [u8],
+    pub ranges: &'a [u32],
+    pub live: &'a [u64],
+}
 
 const TERM: u32 = 1;
 
@@ -286,26 +297,23 @@ pub fn phrase_at(
 // A leaf of any kind, asked for a document beyond the one where it stands.
 pub fn seek(
     st: &mut [u32],
-    max_doc: u32,
-    postings: &[u32],
-    positions: &[u32],
-    ranges: &[u32],
+    reader: &LeafReader<'_>,
     a: &mut [i32],
     b: &mut [i32],
     target: u32,
 ) -> u32
-    requires { LeafPre (lent max_doc postings.now positions.now ranges.now) (length a.old) (length b.old) st.old target }
-    ensures { LeafPost (lent max_doc postings.now positions.now ranges.now) st.old target result st.new }
+    requires { LeafPre (lent_of reader.now) (length a.old) (length b.old) st.old target }
+    ensures { LeafPost (lent_of reader.now) st.old target result st.new }
 {
     let kind = st[0];
     if kind == TERM {
-        return search_postings(st, postings, target);
+        return search_postings(st, reader.postings, target);
     }
     if kind == PHRASE {
-        return seek_phrase(st, postings, positions, a, b, target);
+        return seek_phrase(st, reader.postings, reader.positions, a, b, target);
     }
     if kind == RANGE {
-        return seek_range(st, ranges, target);
+        return seek_range(st, reader.ranges, target);
     }
-    everything(max_doc, target)
+    everything(reader.max_doc, target)
 }

@@ -8,6 +8,7 @@ ghost use Rattle.leaf_score.specs.Asked.{ScorePre, ScorePost};
 
 use index::wide;
 use leaf_score::{Node, leaf_score, node_at, term_score};
+use leaf_scorer::LeafReader;
 use weight::NODE_STATE_WORDS;
 
 const TERM: u32 = 1;
@@ -41,19 +42,15 @@ fn child_at(kids: &[u32], at: usize) -> Child
 #[cycle(joined_optional_required_score)]
 pub fn score(
     st: &mut [u32],
-    max_doc: u32,
-    postings: &[u32],
-    positions: &[u32],
-    norms: &[u8],
-    ranges: &[u32],
+    reader: &LeafReader<'_>,
     inverses: &[f32],
     a: &mut [i32],
     b: &mut [i32],
     doc: u32,
     depth: u32,
 ) -> f32
-    requires { ScorePre st.old max_doc postings.now positions.now norms.now ranges.now inverses.now (min (length a.old) (length b.old)) doc depth }
-    ensures { ScorePost st.old max_doc postings.now positions.now norms.now ranges.now inverses.now (min (length a.old) (length b.old)) doc depth result st.new }
+    requires { ScorePre st.old reader.now.max_doc reader.now.postings.now reader.now.positions.now reader.now.norms.now reader.now.ranges.now inverses.now (min (length a.old) (length b.old)) doc depth }
+    ensures { ScorePost st.old reader.now.max_doc reader.now.postings.now reader.now.positions.now reader.now.norms.now reader.now.ranges.now inverses.now (min (length a.old) (length b.old)) doc depth result st.new }
 {
     let n = node_at(st);
     if n.constant == 1 {
@@ -63,11 +60,7 @@ pub fn score(
         joined(
             &mut st[NODE_STATE_WORDS..],
             n,
-            max_doc,
-            postings,
-            positions,
-            norms,
-            ranges,
+            reader,
             inverses,
             a,
             b,
@@ -75,7 +68,16 @@ pub fn score(
             depth - 1,
         )
     } else {
-        leaf_score(st, postings, positions, norms, inverses, a, b, doc)
+        leaf_score(
+            st,
+            reader.postings,
+            reader.positions,
+            reader.norms,
+            inverses,
+            a,
+            b,
+            doc,
+        )
     }
 }
 
@@ -84,45 +86,24 @@ pub fn score(
 fn joined(
     kids: &mut [u32],
     n: Node,
-    max_doc: u32,
-    postings: &[u32],
-    positions: &[u32],
-    norms: &[u8],
-    ranges: &[u32],
+    reader: &LeafReader<'_>,
     inverses: &[f32],
     a: &mut [i32],
     b: &mut [i32],
     doc: u32,
     depth: u32,
 ) -> f32
-    requires { JoinPre kids.old n max_doc postings.now positions.now norms.now ranges.now inverses.now (min (length a.old) (length b.old)) doc depth }
-    ensures { JoinPost kids.old n max_doc postings.now positions.now norms.now ranges.now inverses.now (min (length a.old) (length b.old)) doc depth result kids.new }
+    requires { JoinPre kids.old n reader.now.max_doc reader.now.postings.now reader.now.positions.now reader.now.norms.now reader.now.ranges.now inverses.now (min (length a.old) (length b.old)) doc depth }
+    ensures { JoinPost kids.old n reader.now.max_doc reader.now.postings.now reader.now.positions.now reader.now.norms.now reader.now.ranges.now inverses.now (min (length a.old) (length b.old)) doc depth result kids.new }
 {
     let end = n.required_end;
     let optional_end = n.optional_end;
     if end == optional_end {
-        return ieee754::narrow(required(
-            &mut kids[..end],
-            0.0,
-            max_doc,
-            postings,
-            positions,
-            norms,
-            ranges,
-            inverses,
-            a,
-            b,
-            doc,
-            depth,
-        ));
+        return ieee754::narrow(required(&mut kids[..end], 0.0, reader, inverses, a, b, doc, depth));
     }
     let group = ieee754::narrow(optional(
         &mut kids[end..optional_end],
-        max_doc,
-        postings,
-        positions,
-        norms,
-        ranges,
+        reader,
         inverses,
         a,
         b,
@@ -133,53 +114,14 @@ fn joined(
         return group;
     }
     if n.afterwards == 1 {
-        let sum = required(
-            &mut kids[..end],
-            0.0,
-            max_doc,
-            postings,
-            positions,
-            norms,
-            ranges,
-            inverses,
-            a,
-            b,
-            doc,
-            depth,
-        );
+        let sum = required(&mut kids[..end], 0.0, reader, inverses, a, b, doc, depth);
         let narrowed = ieee754::narrow(sum) as f64;
         return ieee754::narrow(ieee754::add_score(narrowed, group));
     }
     let at = n.group_at;
-    let front = required(
-        &mut kids[..at],
-        0.0,
-        max_doc,
-        postings,
-        positions,
-        norms,
-        ranges,
-        inverses,
-        a,
-        b,
-        doc,
-        depth,
-    );
+    let front = required(&mut kids[..at], 0.0, reader, inverses, a, b, doc, depth);
     let sum = ieee754::add_score(front, group);
-    ieee754::narrow(required(
-        &mut kids[at..end],
-        sum,
-        max_doc,
-        postings,
-        positions,
-        norms,
-        ranges,
-        inverses,
-        a,
-        b,
-        doc,
-        depth,
-    ))
+    ieee754::narrow(required(&mut kids[at..end], sum, reader, inverses, a, b, doc, depth))
 }
 
 // The scores of the Must children, in the order of their parts, added to the sum.
@@ -187,19 +129,15 @@ fn joined(
 fn required(
     kids: &mut [u32],
     start: f64,
-    max_doc: u32,
-    postings: &[u32],
-    positions: &[u32],
-    norms: &[u8],
-    ranges: &[u32],
+    reader: &LeafReader<'_>,
     inverses: &[f32],
     a: &mut [i32],
     b: &mut [i32],
     doc: u32,
     depth: u32,
 ) -> f64
-    requires { RequiredPre kids.old start max_doc postings.now positions.now norms.now ranges.now inverses.now (min (length a.old) (length b.old)) doc depth }
-    ensures { RequiredPost kids.old start max_doc postings.now positions.now norms.now ranges.now inverses.now (min (length a.old) (length b.old)) doc depth result kids.new }
+    requires { RequiredPre kids.old start reader.now.max_doc reader.now.postings.now reader.now.positions.now reader.now.norms.now reader.now.ranges.now inverses.now (min (length a.old) (length b.old)) doc depth }
+    ensures { RequiredPost kids.old start reader.now.max_doc reader.now.postings.now reader.now.positions.now reader.now.norms.now reader.now.ranges.now inverses.now (min (length a.old) (length b.old)) doc depth result kids.new }
 {
     let mut sum = start;
     let mut at = 0;
@@ -208,26 +146,14 @@ fn required(
         if k.kind == TERM {
             let end = at + NODE_STATE_WORDS;
             if k.scores == MUST {
-                let s = term_score(&kids[at..end], postings, norms, inverses, doc);
+                let s = term_score(&kids[at..end], reader.postings, reader.norms, inverses, doc);
                 sum = ieee754::add_score(sum, s);
             }
             at = end;
         } else {
             let end = k.end;
             if k.scores == MUST {
-                let s = score(
-                    &mut kids[at..end],
-                    max_doc,
-                    postings,
-                    positions,
-                    norms,
-                    ranges,
-                    inverses,
-                    a,
-                    b,
-                    doc,
-                    depth,
-                );
+                let s = score(&mut kids[at..end], reader, inverses, a, b, doc, depth);
                 sum = ieee754::add_score(sum, s);
             }
             at = end;
@@ -240,19 +166,15 @@ fn required(
 #[cycle(joined_optional_required_score)]
 fn optional(
     kids: &mut [u32],
-    max_doc: u32,
-    postings: &[u32],
-    positions: &[u32],
-    norms: &[u8],
-    ranges: &[u32],
+    reader: &LeafReader<'_>,
     inverses: &[f32],
     a: &mut [i32],
     b: &mut [i32],
     doc: u32,
     depth: u32,
 ) -> f64
-    requires { OptionalPre kids.old max_doc postings.now positions.now norms.now ranges.now inverses.now (min (length a.old) (length b.old)) doc depth }
-    ensures { OptionalPost kids.old max_doc postings.now positions.now norms.now ranges.now inverses.now (min (length a.old) (length b.old)) doc depth result kids.new }
+    requires { OptionalPre kids.old reader.now.max_doc reader.now.postings.now reader.now.positions.now reader.now.norms.now reader.now.ranges.now inverses.now (min (length a.old) (length b.old)) doc depth }
+    ensures { OptionalPost kids.old reader.now.max_doc reader.now.postings.now reader.now.positions.now reader.now.norms.now reader.now.ranges.now inverses.now (min (length a.old) (length b.old)) doc depth result kids.new }
 {
     let mut sum = 0.0;
     let mut at = 0;
@@ -260,38 +182,15 @@ fn optional(
         let k = child_at(kids, at);
         if k.kind == TERM {
             let end = at + NODE_STATE_WORDS;
-            if scorer::advance_term(&mut kids[at..end], postings, doc) == doc {
-                let s = term_score(&kids[at..end], postings, norms, inverses, doc);
+            if scorer::advance_term(&mut kids[at..end], reader.postings, doc) == doc {
+                let s = term_score(&kids[at..end], reader.postings, reader.norms, inverses, doc);
                 sum = ieee754::add_score(sum, s);
             }
             at = end;
         } else {
             let end = k.end;
-            if scorer::advance(
-                &mut kids[at..end],
-                max_doc,
-                postings,
-                positions,
-                ranges,
-                a,
-                b,
-                doc,
-                depth,
-            ) == doc
-            {
-                let s = score(
-                    &mut kids[at..end],
-                    max_doc,
-                    postings,
-                    positions,
-                    norms,
-                    ranges,
-                    inverses,
-                    a,
-                    b,
-                    doc,
-                    depth,
-                );
+            if scorer::advance(&mut kids[at..end], reader, a, b, doc, depth) == doc {
+                let s = score(&mut kids[at..end], reader, inverses, a, b, doc, depth);
                 sum = ieee754::add_score(sum, s);
             }
             at = end;

@@ -9,7 +9,7 @@ use Rattle.weight.specs.ScorerTree.{Scorer, Scorers, matches, all_match, matchin
 use Rattle.weight.specs.State.{sizes_of}
 use Rattle.weight.specs.Held.{Ok, Oks}
 use Rattle.weight.specs.Sound.{Lends, Sound, Sounds}
-pub use Rattle.leaf_scorer.specs.Calls.{Lent, lent, RoomIn, Passes}
+pub use Rattle.leaf_scorer.specs.Calls.{Lent, lent, lent_of, RoomIn, Passes}
 
 -- the index and the tree of a node's part, asked for documents up to a bound
 pub record NodeHeld (E : Lent) (ix : Index) (places : ℕ) (s : Scorer) (depth scores : ℕ) (st : List ℕ) (b : ℕ) : Type 0 where

@@ -4,10 +4,10 @@
 ghost use Rattle.std.specs.Prelude.{ℕ, ◌+◌, ◌≤◌, ◌<◌, ◌≡◌, length, get_or};
 ghost use Rattle.meaning.specs.Limits.{node_state_words};
 ghost use Rattle.scorer.specs.Calls.{AdvancePre, AdvancePost, TermPre, TermPost, RangePre, RangePost, AskPre, AskPost, PartsPre, ChildAt, ChildRead, Tally, LeastPost, DisjunctionPost, PassPost, LeadPre, StepPost, LeadPost, BooleanPre, BooleanPost, HeadRead, BooleanRead};
-ghost use Rattle.leaf_scorer.specs.Calls.{lent};
+ghost use Rattle.leaf_scorer.specs.Calls.{lent_of};
 
 use index::wide;
-use leaf_scorer::NO_MORE_DOCS;
+use leaf_scorer::{LeafReader, NO_MORE_DOCS};
 use weight::NODE_STATE_WORDS;
 
 const TERM: u32 = 1;
@@ -161,17 +161,14 @@ fn ask_phrase(
 #[cycle(advance_conjunction_disjunction_excluding_lead_least_pass_step)]
 pub fn advance(
     st: &mut [u32],
-    max_doc: u32,
-    postings: &[u32],
-    positions: &[u32],
-    ranges: &[u32],
+    reader: &LeafReader<'_>,
     a: &mut [i32],
     b: &mut [i32],
     target: u32,
     depth: u32,
 ) -> u32
-    requires { AdvancePre (lent max_doc postings.now positions.now ranges.now) (length a.old) (length b.old) st.old target depth }
-    ensures advance_post { AdvancePost (lent max_doc postings.now positions.now ranges.now) st.old target depth result st.new }
+    requires { AdvancePre (lent_of reader.now) (length a.old) (length b.old) st.old target depth }
+    ensures advance_post { AdvancePost (lent_of reader.now) st.old target depth result st.new }
     ensures st_after { get_or st.new 2 0 ≡ result + 1 }
 {
     let h = head_at(st);
@@ -184,10 +181,7 @@ pub fn advance(
         let kids = &mut st[NODE_STATE_WORDS..];
         let d = excluding(
             kids,
-            max_doc,
-            postings,
-            positions,
-            ranges,
+            reader,
             a,
             b,
             n.required,
@@ -199,7 +193,7 @@ pub fn advance(
         st[2] = d + 1;
         d
     } else {
-        let d = leaf_scorer::seek(st, max_doc, postings, positions, ranges, a, b, target);
+        let d = leaf_scorer::seek(st, reader, a, b, target);
         st[2] = d + 1;
         d
     }
@@ -209,10 +203,7 @@ pub fn advance(
 #[cycle(advance_conjunction_disjunction_excluding_lead_least_pass_step)]
 fn excluding(
     kids: &mut [u32],
-    max_doc: u32,
-    postings: &[u32],
-    positions: &[u32],
-    ranges: &[u32],
+    reader: &LeafReader<'_>,
     a: &mut [i32],
     b: &mut [i32],
     required_end: usize,
@@ -221,17 +212,14 @@ fn excluding(
     target: u32,
     depth: u32,
 ) -> u32
-    requires { BooleanPre (lent max_doc postings.now positions.now ranges.now) (length a.old) (length b.old) kids.old required_end optional_end target depth }
-    ensures { BooleanPost (lent max_doc postings.now positions.now ranges.now) kids.old required_end optional_end need target depth result kids.new }
+    requires { BooleanPre (lent_of reader.now) (length a.old) (length b.old) kids.old required_end optional_end target depth }
+    ensures { BooleanPost (lent_of reader.now) kids.old required_end optional_end need target depth result kids.new }
 {
     let mut t = target;
     loop {
         let d = lead(
             &mut kids[..optional_end],
-            max_doc,
-            postings,
-            positions,
-            ranges,
+            reader,
             a,
             b,
             required_end,
@@ -245,17 +233,7 @@ fn excluding(
         if optional_end == kids.len() {
             return d;
         }
-        let x = least(
-            &mut kids[optional_end..],
-            max_doc,
-            postings,
-            positions,
-            ranges,
-            a,
-            b,
-            d,
-            depth,
-        );
+        let x = least(&mut kids[optional_end..], reader, a, b, d, depth);
         if x.doc == d {
             t = d + 1;
         } else {
@@ -268,10 +246,7 @@ fn excluding(
 #[cycle(advance_conjunction_disjunction_excluding_lead_least_pass_step)]
 fn lead(
     kids: &mut [u32],
-    max_doc: u32,
-    postings: &[u32],
-    positions: &[u32],
-    ranges: &[u32],
+    reader: &LeafReader<'_>,
     a: &mut [i32],
     b: &mut [i32],
     required_end: usize,
@@ -279,31 +254,17 @@ fn lead(
     target: u32,
     depth: u32,
 ) -> u32
-    requires { LeadPre (lent max_doc postings.now positions.now ranges.now) (length a.old) (length b.old) kids.old required_end target depth }
-    ensures { LeadPost (lent max_doc postings.now positions.now ranges.now) kids.old required_end need target depth result kids.new }
+    requires { LeadPre (lent_of reader.now) (length a.old) (length b.old) kids.old required_end target depth }
+    ensures { LeadPost (lent_of reader.now) kids.old required_end need target depth result kids.new }
 {
     if required_end == 0 {
         if need == 0 {
             target
         } else {
-            disjunction(
-                kids, max_doc, postings, positions, ranges, a, b, need, target, depth,
-            )
+            disjunction(kids, reader, a, b, need, target, depth)
         }
     } else {
-        conjunction(
-            kids,
-            max_doc,
-            postings,
-            positions,
-            ranges,
-            a,
-            b,
-            required_end,
-            need,
-            target,
-            depth,
-        )
+        conjunction(kids, reader, a, b, required_end, need, target, depth)
     }
 }
 
@@ -311,10 +272,7 @@ fn lead(
 #[cycle(advance_conjunction_disjunction_excluding_lead_least_pass_step)]
 fn conjunction(
     kids: &mut [u32],
-    max_doc: u32,
-    postings: &[u32],
-    positions: &[u32],
-    ranges: &[u32],
+    reader: &LeafReader<'_>,
     a: &mut [i32],
     b: &mut [i32],
     required_end: usize,
@@ -322,24 +280,12 @@ fn conjunction(
     target: u32,
     depth: u32,
 ) -> u32
-    requires { LeadPre (lent max_doc postings.now positions.now ranges.now) (length a.old) (length b.old) kids.old required_end target depth }
-    ensures { LeadPost (lent max_doc postings.now positions.now ranges.now) kids.old required_end need target depth result kids.new }
+    requires { LeadPre (lent_of reader.now) (length a.old) (length b.old) kids.old required_end target depth }
+    ensures { LeadPost (lent_of reader.now) kids.old required_end need target depth result kids.new }
 {
     let mut d = target;
     loop {
-        let e = step(
-            kids,
-            max_doc,
-            postings,
-            positions,
-            ranges,
-            a,
-            b,
-            required_end,
-            need,
-            d,
-            depth,
-        );
+        let e = step(kids, reader, a, b, required_end, need, d, depth);
         if e == d {
             return d;
         }
@@ -351,10 +297,7 @@ fn conjunction(
 #[cycle(advance_conjunction_disjunction_excluding_lead_least_pass_step)]
 fn step(
     kids: &mut [u32],
-    max_doc: u32,
-    postings: &[u32],
-    positions: &[u32],
-    ranges: &[u32],
+    reader: &LeafReader<'_>,
     a: &mut [i32],
     b: &mut [i32],
     required_end: usize,
@@ -362,35 +305,14 @@ fn step(
     target: u32,
     depth: u32,
 ) -> u32
-    requires { LeadPre (lent max_doc postings.now positions.now ranges.now) (length a.old) (length b.old) kids.old required_end target depth }
-    ensures { StepPost (lent max_doc postings.now positions.now ranges.now) kids.old required_end need target depth result kids.new }
+    requires { LeadPre (lent_of reader.now) (length a.old) (length b.old) kids.old required_end target depth }
+    ensures { StepPost (lent_of reader.now) kids.old required_end need target depth result kids.new }
 {
-    let e = pass(
-        &mut kids[..required_end],
-        max_doc,
-        postings,
-        positions,
-        ranges,
-        a,
-        b,
-        target,
-        depth,
-    );
+    let e = pass(&mut kids[..required_end], reader, a, b, target, depth);
     if need == 0 {
         e
     } else {
-        disjunction(
-            &mut kids[required_end..],
-            max_doc,
-            postings,
-            positions,
-            ranges,
-            a,
-            b,
-            need,
-            e,
-            depth,
-        )
+        disjunction(&mut kids[required_end..], reader, a, b, need, e, depth)
     }
 }
 
@@ -398,17 +320,14 @@ fn step(
 #[cycle(advance_conjunction_disjunction_excluding_lead_least_pass_step)]
 fn pass(
     kids: &mut [u32],
-    max_doc: u32,
-    postings: &[u32],
-    positions: &[u32],
-    ranges: &[u32],
+    reader: &LeafReader<'_>,
     a: &mut [i32],
     b: &mut [i32],
     target: u32,
     depth: u32,
 ) -> u32
-    requires { PartsPre (lent max_doc postings.now positions.now ranges.now) (length a.old) (length b.old) kids.old target depth }
-    ensures { PassPost (lent max_doc postings.now positions.now ranges.now) kids.old target depth result kids.new }
+    requires { PartsPre (lent_of reader.now) (length a.old) (length b.old) kids.old target depth }
+    ensures { PassPost (lent_of reader.now) kids.old target depth result kids.new }
 {
     let mut d = target;
     let mut at = 0;
@@ -416,11 +335,11 @@ fn pass(
         let kind = kind_at(kids, at);
         if kind == TERM {
             let end = at + NODE_STATE_WORDS;
-            d = advance_term(&mut kids[at..end], postings, d);
+            d = advance_term(&mut kids[at..end], reader.postings, d);
             at = end;
         } else if kind == RANGE {
             let end = at + NODE_STATE_WORDS;
-            d = advance_range(&mut kids[at..end], ranges, d);
+            d = advance_range(&mut kids[at..end], reader.ranges, d);
             at = end;
         } else {
             let k = child_at(kids, at);
@@ -430,20 +349,18 @@ fn pass(
                 d = cached - 1;
                 at = end;
             } else if kind == PHRASE {
-                d = ask_phrase(&mut kids[at..end], postings, positions, a, b, target, d);
-                at = end;
-            } else {
-                d = advance(
+                d = ask_phrase(
                     &mut kids[at..end],
-                    max_doc,
-                    postings,
-                    positions,
-                    ranges,
+                    reader.postings,
+                    reader.positions,
                     a,
                     b,
+                    target,
                     d,
-                    depth,
                 );
+                at = end;
+            } else {
+                d = advance(&mut kids[at..end], reader, a, b, d, depth);
                 at = end;
             }
         }
@@ -455,23 +372,20 @@ fn pass(
 #[cycle(advance_conjunction_disjunction_excluding_lead_least_pass_step)]
 fn disjunction(
     kids: &mut [u32],
-    max_doc: u32,
-    postings: &[u32],
-    positions: &[u32],
-    ranges: &[u32],
+    reader: &LeafReader<'_>,
     a: &mut [i32],
     b: &mut [i32],
     need: u32,
     target: u32,
     depth: u32,
 ) -> u32
-    requires { (0 < need) × PartsPre (lent max_doc postings.now positions.now ranges.now) (length a.old) (length b.old) kids.old target depth }
-    ensures { DisjunctionPost (lent max_doc postings.now positions.now ranges.now) kids.old need target depth result kids.new }
+    requires { (0 < need) × PartsPre (lent_of reader.now) (length a.old) (length b.old) kids.old target depth }
+    ensures { DisjunctionPost (lent_of reader.now) kids.old need target depth result kids.new }
 {
     let enough = wide(need);
     let mut t = target;
     loop {
-        let x = least(kids, max_doc, postings, positions, ranges, a, b, t, depth);
+        let x = least(kids, reader, a, b, t, depth);
         let d = x.doc;
         if d == NO_MORE_DOCS {
             return d;
@@ -488,17 +402,14 @@ fn disjunction(
 #[cycle(advance_conjunction_disjunction_excluding_lead_least_pass_step)]
 fn least(
     kids: &mut [u32],
-    max_doc: u32,
-    postings: &[u32],
-    positions: &[u32],
-    ranges: &[u32],
+    reader: &LeafReader<'_>,
     a: &mut [i32],
     b: &mut [i32],
     target: u32,
     depth: u32,
 ) -> Standing
-    requires { PartsPre (lent max_doc postings.now positions.now ranges.now) (length a.old) (length b.old) kids.old target depth }
-    ensures { LeastPost (lent max_doc postings.now positions.now ranges.now) kids.old target depth result.doc result.count kids.new }
+    requires { PartsPre (lent_of reader.now) (length a.old) (length b.old) kids.old target depth }
+    ensures { LeastPost (lent_of reader.now) kids.old target depth result.doc result.count kids.new }
 {
     let mut best = NO_MORE_DOCS;
     let mut count = 0;
@@ -506,7 +417,7 @@ fn least(
     while at < kids.len() {
         if kind_at(kids, at) == TERM {
             let end = at + NODE_STATE_WORDS;
-            let d = advance_term(&mut kids[at..end], postings, target);
+            let d = advance_term(&mut kids[at..end], reader.postings, target);
             let x = tally(best, count, d);
             best = x.doc;
             count = x.count;
@@ -521,17 +432,7 @@ fn least(
                 count = x.count;
                 at = end;
             } else {
-                let d = advance(
-                    &mut kids[at..end],
-                    max_doc,
-                    postings,
-                    positions,
-                    ranges,
-                    a,
-                    b,
-                    target,
-                    depth,
-                );
+                let d = advance(&mut kids[at..end], reader, a, b, target, depth);
                 let x = tally(best, count, d);
                 best = x.doc;
                 count = x.count;

@@ -2,8 +2,10 @@
 #![tactic(auto)]
 
 ghost use Rattle.std.specs.Prelude.{min, length};
-ghost use Rattle.scorer.specs.Calls.{lent};
+ghost use Rattle.scorer.specs.Calls.{lent, lent_of};
 ghost use Rattle.walk.specs.Walks.{NextPre, NextPost, ListPre, ListPost};
+
+use leaf_scorer::LeafReader;
 
 // Above every document.
 pub const NO_MORE_DOCS: u32 = 2147483647;
@@ -18,28 +20,22 @@ pub struct Listed {
 // The first live match at or after a document, or NO_MORE_DOCS.
 pub fn next_match(
     st: &mut [u32],
-    max_doc: u32,
-    postings: &[u32],
-    positions: &[u32],
-    ranges: &[u32],
-    live: &[u64],
+    reader: &LeafReader<'_>,
     a: &mut [i32],
     b: &mut [i32],
     from: u32,
     depth: u32,
 ) -> u32
-    requires { NextPre (lent max_doc postings.now positions.now ranges.now) live.now (length a.old) (length b.old) st.old from depth }
-    ensures { NextPost (lent max_doc postings.now positions.now ranges.now) live.now st.old from depth result st.new }
+    requires { NextPre (lent_of reader.now) reader.now.live.now (length a.old) (length b.old) st.old from depth }
+    ensures { NextPost (lent_of reader.now) reader.now.live.now st.old from depth result st.new }
 {
     let mut target = from;
     loop {
-        let d = scorer::advance(
-            st, max_doc, postings, positions, ranges, a, b, target, depth,
-        );
-        if d >= max_doc {
+        let d = scorer::advance(st, reader, a, b, target, depth);
+        if d >= reader.max_doc {
             return NO_MORE_DOCS;
         }
-        if index::live::is_live(live, d) {
+        if index::live::is_live(reader.live, d) {
             return d;
         }
         target = d + 1;
@@ -66,32 +62,25 @@ pub fn list(
     requires { ListPre (lent max_doc postings.now positions.now ranges.now) norms.now live.now inverses.now (min (length a.old) (length b.old)) st.old from depth docs.old bits.old }
     ensures { ListPost (lent max_doc postings.now positions.now ranges.now) norms.now live.now inverses.now (min (length a.old) (length b.old)) st.old from depth docs.old bits.old result st.new docs.new bits.new }
 {
-    let mut next = next_match(
-        st, max_doc, postings, positions, ranges, live, a, b, from, depth,
-    );
+    let reader = LeafReader {
+        max_doc,
+        postings,
+        positions,
+        norms,
+        ranges,
+        live,
+    };
+    let mut next = next_match(st, &reader, a, b, from, depth);
     let mut given = 0;
     while given < docs.len() {
         if next == NO_MORE_DOCS {
             return Listed { given, next };
         }
-        let s = score::score(
-            st, max_doc, postings, positions, norms, ranges, inverses, a, b, next, depth,
-        );
+        let s = score::score(st, &reader, inverses, a, b, next, depth);
         docs[given] = next;
         bits[given] = f32::to_bits(s);
         given += 1;
-        next = next_match(
-            st,
-            max_doc,
-            postings,
-            positions,
-            ranges,
-            live,
-            a,
-            b,
-            next + 1,
-            depth,
-        );
+        next = next_match(st, &reader, a, b, next + 1, depth);
     }
     Listed { given, next }
 }

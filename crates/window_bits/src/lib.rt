@@ -8,7 +8,7 @@ ghost use Rattle.window_leaf.specs.Asks.{BitsPre, BitsPost};
 ghost use Rattle.window_bits.specs.Parts.{PassPre, PassPost, PhrasesPost, PartsPre, OptionalPost, CountPost, AnyPost, ExcludedPost, BooleanPre, BooleanPost, BooleanRead, ChildAt, ChildRead};
 
 use index::wide;
-use leaf_scorer::NO_MORE_DOCS;
+use leaf_scorer::{LeafReader, NO_MORE_DOCS};
 use weight::NODE_STATE_WORDS;
 use window_leaf::{Found, later, leaf_bits, put, sooner, term_bits};
 
@@ -70,25 +70,21 @@ fn child_at(kids: &[u32], at: usize) -> Child
 #[cycle(any_bits_boolean_bits_counted_bits_excluded_bits_node_bits_optional_bits_phrase_bits_required_bits)]
 pub fn node_bits(
     st: &mut [u32],
-    postings: &[u32],
-    positions: &[u32],
-    ranges: &[u32],
+    reader: &LeafReader<'_>,
     a: &mut [i32],
     b: &mut [i32],
     base: u32,
     want: u64,
     depth: u32,
 ) -> u64
-    requires { BitsPre postings.now positions.now ranges.now (length a.old) (length b.old) st.old base want depth }
-    ensures { BitsPost postings.now positions.now ranges.now (length a.old) (length b.old) st.old base want depth result st.new }
+    requires { BitsPre reader.now.postings.now reader.now.positions.now reader.now.ranges.now (length a.old) (length b.old) st.old base want depth }
+    ensures { BitsPost reader.now.postings.now reader.now.positions.now reader.now.ranges.now (length a.old) (length b.old) st.old base want depth result st.new }
 {
     if st[0] == BOOLEAN {
         let n = boolean_at(st);
         let f = boolean_bits(
             &mut st[NODE_STATE_WORDS..],
-            postings,
-            positions,
-            ranges,
+            reader,
             a,
             b,
             n,
@@ -99,16 +95,14 @@ pub fn node_bits(
         put(st, f.bits, f.next);
         return f.bits;
     }
-    leaf_bits(st, postings, positions, ranges, a, b, base, want, depth)
+    leaf_bits(st, reader, a, b, base, want, depth)
 }
 
 // The required children, cheapest first, but for phrases; then the optional, the prohibited, and last the phrases, whose positions cost most.
 #[cycle(any_bits_boolean_bits_counted_bits_excluded_bits_node_bits_optional_bits_phrase_bits_required_bits)]
 fn boolean_bits(
     kids: &mut [u32],
-    postings: &[u32],
-    positions: &[u32],
-    ranges: &[u32],
+    reader: &LeafReader<'_>,
     a: &mut [i32],
     b: &mut [i32],
     n: Boolean,
@@ -116,28 +110,15 @@ fn boolean_bits(
     want: u64,
     depth: u32,
 ) -> Found
-    requires { BooleanPre postings.now positions.now ranges.now (length a.old) (length b.old) kids.old n.required n.optional n.need base want depth }
-    ensures { BooleanPost postings.now positions.now ranges.now (length a.old) (length b.old) kids.old n.required n.optional n.need base want depth result.bits result.next kids.new }
+    requires { BooleanPre reader.now.postings.now reader.now.positions.now reader.now.ranges.now (length a.old) (length b.old) kids.old n.required n.optional n.need base want depth }
+    ensures { BooleanPost reader.now.postings.now reader.now.positions.now reader.now.ranges.now (length a.old) (length b.old) kids.old n.required n.optional n.need base want depth result.bits result.next kids.new }
 {
     let end = n.required;
     let optional_end = n.optional;
-    let r = required_bits(
-        &mut kids[..end],
-        postings,
-        positions,
-        ranges,
-        a,
-        b,
-        false,
-        base,
-        want,
-        depth,
-    );
+    let r = required_bits(&mut kids[..end], reader, a, b, false, base, want, depth);
     let o = optional_bits(
         &mut kids[end..optional_end],
-        postings,
-        positions,
-        ranges,
+        reader,
         a,
         b,
         n.need,
@@ -145,29 +126,8 @@ fn boolean_bits(
         r.bits,
         depth,
     );
-    let w = excluded_bits(
-        &mut kids[optional_end..],
-        postings,
-        positions,
-        ranges,
-        a,
-        b,
-        base,
-        o.bits,
-        depth,
-    );
-    let p = phrase_bits(
-        &mut kids[..end],
-        postings,
-        positions,
-        ranges,
-        a,
-        b,
-        r.skipped,
-        base,
-        w,
-        depth,
-    );
+    let w = excluded_bits(&mut kids[optional_end..], reader, a, b, base, o.bits, depth);
+    let p = phrase_bits(&mut kids[..end], reader, a, b, r.skipped, base, w, depth);
     Found {
         bits: p.bits,
         next: later(later(r.next, o.next), p.next),
@@ -178,9 +138,7 @@ fn boolean_bits(
 #[cycle(any_bits_boolean_bits_counted_bits_excluded_bits_node_bits_optional_bits_phrase_bits_required_bits)]
 fn phrase_bits(
     kids: &mut [u32],
-    postings: &[u32],
-    positions: &[u32],
-    ranges: &[u32],
+    reader: &LeafReader<'_>,
     a: &mut [i32],
     b: &mut [i32],
     skipped: bool,
@@ -188,13 +146,11 @@ fn phrase_bits(
     want: u64,
     depth: u32,
 ) -> Found
-    requires { PassPre postings.now positions.now ranges.now (length a.old) (length b.old) kids.old true base want depth }
-    ensures { PhrasesPost postings.now positions.now ranges.now (length a.old) (length b.old) kids.old skipped base want depth result.bits result.next kids.new }
+    requires { PassPre reader.now.postings.now reader.now.positions.now reader.now.ranges.now (length a.old) (length b.old) kids.old true base want depth }
+    ensures { PhrasesPost reader.now.postings.now reader.now.positions.now reader.now.ranges.now (length a.old) (length b.old) kids.old skipped base want depth result.bits result.next kids.new }
 {
     if skipped {
-        let p = required_bits(
-            kids, postings, positions, ranges, a, b, true, base, want, depth,
-        );
+        let p = required_bits(kids, reader, a, b, true, base, want, depth);
         return Found {
             bits: p.bits,
             next: p.next,
@@ -210,9 +166,7 @@ fn phrase_bits(
 #[cycle(any_bits_boolean_bits_counted_bits_excluded_bits_node_bits_optional_bits_phrase_bits_required_bits)]
 fn required_bits(
     kids: &mut [u32],
-    postings: &[u32],
-    positions: &[u32],
-    ranges: &[u32],
+    reader: &LeafReader<'_>,
     a: &mut [i32],
     b: &mut [i32],
     last: bool,
@@ -220,8 +174,8 @@ fn required_bits(
     want: u64,
     depth: u32,
 ) -> Pass
-    requires { PassPre postings.now positions.now ranges.now (length a.old) (length b.old) kids.old last base want depth }
-    ensures { PassPost postings.now positions.now ranges.now (length a.old) (length b.old) kids.old last base want depth result.bits result.next result.skipped kids.new }
+    requires { PassPre reader.now.postings.now reader.now.positions.now reader.now.ranges.now (length a.old) (length b.old) kids.old last base want depth }
+    ensures { PassPost reader.now.postings.now reader.now.positions.now reader.now.ranges.now (length a.old) (length b.old) kids.old last base want depth result.bits result.next result.skipped kids.new }
 {
     let mut w = want;
     let mut next = base + 64;
@@ -239,19 +193,9 @@ fn required_bits(
         let end = k.end;
         if (k.kind == PHRASE) == last {
             if k.kind == TERM {
-                w = bits::both(w, term_bits(&mut kids[at..end], postings, base));
+                w = bits::both(w, term_bits(&mut kids[at..end], reader.postings, base));
             } else {
-                w = node_bits(
-                    &mut kids[at..end],
-                    postings,
-                    positions,
-                    ranges,
-                    a,
-                    b,
-                    base,
-                    w,
-                    depth,
-                );
+                w = node_bits(&mut kids[at..end], reader, a, b, base, w, depth);
             }
             next = later(next, kids[at + 22]);
         } else {
@@ -270,9 +214,7 @@ fn required_bits(
 #[cycle(any_bits_boolean_bits_counted_bits_excluded_bits_node_bits_optional_bits_phrase_bits_required_bits)]
 fn optional_bits(
     kids: &mut [u32],
-    postings: &[u32],
-    positions: &[u32],
-    ranges: &[u32],
+    reader: &LeafReader<'_>,
     a: &mut [i32],
     b: &mut [i32],
     need: u32,
@@ -280,8 +222,8 @@ fn optional_bits(
     want: u64,
     depth: u32,
 ) -> Found
-    requires { PartsPre postings.now positions.now ranges.now (length a.old) (length b.old) kids.old base want depth }
-    ensures { OptionalPost postings.now positions.now ranges.now (length a.old) (length b.old) kids.old need base want depth result.bits result.next kids.new }
+    requires { PartsPre reader.now.postings.now reader.now.positions.now reader.now.ranges.now (length a.old) (length b.old) kids.old base want depth }
+    ensures { OptionalPost reader.now.postings.now reader.now.positions.now reader.now.ranges.now (length a.old) (length b.old) kids.old need base want depth result.bits result.next kids.new }
 {
     if need == 0 {
         return Found {
@@ -296,7 +238,7 @@ fn optional_bits(
         };
     }
     if need == 1 {
-        return any_bits(kids, postings, positions, ranges, a, b, base, want, depth);
+        return any_bits(kids, reader, a, b, base, want, depth);
     }
     if MOST < need {
         return Found {
@@ -305,18 +247,7 @@ fn optional_bits(
         };
     }
     let mut planes = [0u64; PLANES];
-    let next = counted_bits(
-        kids,
-        postings,
-        positions,
-        ranges,
-        a,
-        b,
-        &mut planes,
-        base,
-        want,
-        depth,
-    );
+    let next = counted_bits(kids, reader, a, b, &mut planes, base, want, depth);
     Found {
         bits: planes::above(&planes, need - 1, want),
         next,
@@ -327,17 +258,15 @@ fn optional_bits(
 #[cycle(any_bits_boolean_bits_counted_bits_excluded_bits_node_bits_optional_bits_phrase_bits_required_bits)]
 fn any_bits(
     kids: &mut [u32],
-    postings: &[u32],
-    positions: &[u32],
-    ranges: &[u32],
+    reader: &LeafReader<'_>,
     a: &mut [i32],
     b: &mut [i32],
     base: u32,
     want: u64,
     depth: u32,
 ) -> Found
-    requires { PartsPre postings.now positions.now ranges.now (length a.old) (length b.old) kids.old base want depth }
-    ensures { AnyPost postings.now positions.now ranges.now (length a.old) (length b.old) kids.old base want depth result.bits result.next kids.new }
+    requires { PartsPre reader.now.postings.now reader.now.positions.now reader.now.ranges.now (length a.old) (length b.old) kids.old base want depth }
+    ensures { AnyPost reader.now.postings.now reader.now.positions.now reader.now.ranges.now (length a.old) (length b.old) kids.old base want depth result.bits result.next kids.new }
 {
     let mut w = 0;
     let mut next = NO_MORE_DOCS;
@@ -348,22 +277,12 @@ fn any_bits(
         if k.kind == TERM {
             w = bits::either(
                 w,
-                bits::both(want, term_bits(&mut kids[at..end], postings, base)),
+                bits::both(want, term_bits(&mut kids[at..end], reader.postings, base)),
             );
         } else {
             w = bits::either(
                 w,
-                node_bits(
-                    &mut kids[at..end],
-                    postings,
-                    positions,
-                    ranges,
-                    a,
-                    b,
-                    base,
-                    want,
-                    depth,
-                ),
+                node_bits(&mut kids[at..end], reader, a, b, base, want, depth),
             );
         }
         next = sooner(next, kids[at + 22]); // the first that any of them may match
@@ -376,9 +295,7 @@ fn any_bits(
 #[cycle(any_bits_boolean_bits_counted_bits_excluded_bits_node_bits_optional_bits_phrase_bits_required_bits)]
 fn counted_bits(
     kids: &mut [u32],
-    postings: &[u32],
-    positions: &[u32],
-    ranges: &[u32],
+    reader: &LeafReader<'_>,
     a: &mut [i32],
     b: &mut [i32],
     planes: &mut [u64],
@@ -387,8 +304,8 @@ fn counted_bits(
     depth: u32,
 ) -> u32
     requires empty { (length planes.old ≡ 8) × ((p : ℕ) → count p planes.old ≡ 0) }
-    requires parts_pre { PartsPre postings.now positions.now ranges.now (length a.old) (length b.old) kids.old base want depth }
-    ensures count_post { CountPost postings.now positions.now ranges.now (length a.old) (length b.old) kids.old base want depth (λ p. count p planes.new) result kids.new }
+    requires parts_pre { PartsPre reader.now.postings.now reader.now.positions.now reader.now.ranges.now (length a.old) (length b.old) kids.old base want depth }
+    ensures count_post { CountPost reader.now.postings.now reader.now.positions.now reader.now.ranges.now (length a.old) (length b.old) kids.old base want depth (λ p. count p planes.new) result kids.new }
     ensures planes_length { length planes.new ≡ 8 }
 {
     let mut next = NO_MORE_DOCS;
@@ -397,21 +314,14 @@ fn counted_bits(
         let k = child_at(kids, at);
         let end = k.end;
         if k.kind == TERM {
-            let _carry = planes::counted(planes, term_bits(&mut kids[at..end], postings, base));
+            let _carry = planes::counted(
+                planes,
+                term_bits(&mut kids[at..end], reader.postings, base),
+            );
         } else {
             let _carry = planes::counted(
                 planes,
-                node_bits(
-                    &mut kids[at..end],
-                    postings,
-                    positions,
-                    ranges,
-                    a,
-                    b,
-                    base,
-                    want,
-                    depth,
-                ),
+                node_bits(&mut kids[at..end], reader, a, b, base, want, depth),
             );
         }
         next = sooner(next, kids[at + 22]);
@@ -424,17 +334,15 @@ fn counted_bits(
 #[cycle(any_bits_boolean_bits_counted_bits_excluded_bits_node_bits_optional_bits_phrase_bits_required_bits)]
 fn excluded_bits(
     kids: &mut [u32],
-    postings: &[u32],
-    positions: &[u32],
-    ranges: &[u32],
+    reader: &LeafReader<'_>,
     a: &mut [i32],
     b: &mut [i32],
     base: u32,
     want: u64,
     depth: u32,
 ) -> u64
-    requires { PartsPre postings.now positions.now ranges.now (length a.old) (length b.old) kids.old base want depth }
-    ensures { ExcludedPost postings.now positions.now ranges.now (length a.old) (length b.old) kids.old base want depth result kids.new }
+    requires { PartsPre reader.now.postings.now reader.now.positions.now reader.now.ranges.now (length a.old) (length b.old) kids.old base want depth }
+    ensures { ExcludedPost reader.now.postings.now reader.now.positions.now reader.now.ranges.now (length a.old) (length b.old) kids.old base want depth result kids.new }
 {
     let mut w = want;
     let mut at = 0;
@@ -445,21 +353,11 @@ fn excluded_bits(
         let k = child_at(kids, at);
         let end = k.end;
         if k.kind == TERM {
-            w = bits::without(w, term_bits(&mut kids[at..end], postings, base));
+            w = bits::without(w, term_bits(&mut kids[at..end], reader.postings, base));
         } else {
             w = bits::without(
                 w,
-                node_bits(
-                    &mut kids[at..end],
-                    postings,
-                    positions,
-                    ranges,
-                    a,
-                    b,
-                    base,
-                    w,
-                    depth,
-                ),
+                node_bits(&mut kids[at..end], reader, a, b, base, w, depth),
             );
         }
         at = end;

@@ -7,7 +7,7 @@ ghost use Rattle.window_leaf.specs.Asks.{TermPre, TermPost, RangePre, RangePost,
 ghost use Rattle.window_leaf.specs.Runs.{PutPre, PutPost, RunPre, RunPost, PartOf, DocumentPre, DocumentPost};
 
 use index::wide;
-use leaf_scorer::NO_MORE_DOCS;
+use leaf_scorer::{LeafReader, NO_MORE_DOCS};
 use window::gathered;
 
 pub mod phrases;
@@ -131,9 +131,7 @@ pub fn range_bits(st: &mut [u32], ranges: &[u32], base: u32) -> u64
 // The wanted documents of the window that a node without children matches.
 pub fn leaf_bits(
     st: &mut [u32],
-    postings: &[u32],
-    positions: &[u32],
-    ranges: &[u32],
+    reader: &LeafReader<'_>,
     a: &mut [i32],
     b: &mut [i32],
     base: u32,
@@ -141,18 +139,18 @@ pub fn leaf_bits(
     depth: u32,
 ) -> u64
     requires kind { get_or st.old 0 0 ≡ 3 → ⊥ }
-    requires bits_pre { BitsPre postings.now positions.now ranges.now (length a.old) (length b.old) st.old base want depth }
-    ensures { BitsPost postings.now positions.now ranges.now (length a.old) (length b.old) st.old base want depth result st.new }
+    requires bits_pre { BitsPre reader.now.postings.now reader.now.positions.now reader.now.ranges.now (length a.old) (length b.old) st.old base want depth }
+    ensures { BitsPost reader.now.postings.now reader.now.positions.now reader.now.ranges.now (length a.old) (length b.old) st.old base want depth result st.new }
 {
     let kind = st[0];
     if kind == TERM {
-        return bits::both(want, term_bits(st, postings, base));
+        return bits::both(want, term_bits(st, reader.postings, base));
     }
     if kind == PHRASE {
-        return phrases::phrase_bits(st, postings, positions, a, b, base, want);
+        return phrases::phrase_bits(st, reader.postings, reader.positions, a, b, base, want);
     }
     if kind == RANGE {
-        return bits::both(want, range_bits(st, ranges, base));
+        return bits::both(want, range_bits(st, reader.ranges, base));
     }
     if kind == EVERYTHING {
         put(st, want, base + 64);

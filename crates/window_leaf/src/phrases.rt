@@ -4,6 +4,7 @@ ghost use Rattle.window_leaf.specs.Asks.{PhrasePre, PhrasePost};
 ghost use Rattle.window_leaf.specs.Phrases.{TermsPre, TermsPost, rank_at, PostingPre, GatherPre, GatherPost, FrequencyPre, FrequencyPost, Noted, PlanesPre, PlanesPost};
 
 use crate::{Found, POSTING, later, put, run_bits};
+use bits::SetBits;
 use index::wide;
 use weight::NODE_STATE_WORDS;
 
@@ -128,12 +129,9 @@ fn planes_of(
     ensures { PlanesPost postings.now positions.now terms.now base candidates result.ones result.twos }
 {
     let mut planes = Planes { ones: 0, twos: 0 };
-    let mut left = candidates;
-    while left != 0 {
-        let place = bits::lowest(left);
+    for place in (SetBits { left: candidates }) {
         let f = frequency_at(terms, postings, positions, a, b, base, place);
         planes = noted(planes, place, f);
-        left = bits::without_lowest(left);
     }
     planes
 }

@@ -5,6 +5,7 @@ ghost use Rattle.window_score.specs.Words.{PlanesRead, PlanedIs};
 ghost use Rattle.meaning.specs.Limits.{node_state_words};
 
 use crate::sums::add_constant;
+use bits::SetBits;
 use ieee754::add_score;
 use index::postings::posting_frequency;
 use index::wide;
@@ -32,14 +33,11 @@ pub fn term_scores(
     }
     let first = n.first + wide(st[19]);
     let bits = bits::joined(st[20], st[21]);
-    let mut left = want;
-    while left != 0 {
-        let place = bits::lowest(left);
+    for place in (SetBits { left: want }) {
         let frequency = posting_frequency(postings, first, wide(bits::rank(bits, place)));
         let s = weighted(norms, inverses, n, frequency, base + place);
-        let at = wide(place);
+        let at = place as usize;
         sums[at] = add_score(sums[at], s);
-        left = bits::without_lowest(left);
     }
 }
 
@@ -87,9 +85,7 @@ pub fn phrase_scores(
 {
     let n = node_at(st);
     let planes = planes_at(st);
-    let mut left = want;
-    while left != 0 {
-        let place = bits::lowest(left);
+    for place in (SetBits { left: want }) {
         let mut frequency = planed(planes, place);
         if frequency == 3 {
             frequency = frequency_at(
@@ -103,8 +99,7 @@ pub fn phrase_scores(
             );
         }
         let s = weighted(norms, inverses, n, frequency, base + place);
-        let at = wide(place);
+        let at = place as usize;
         sums[at] = add_score(sums[at], s);
-        left = bits::without_lowest(left);
     }
 }

@@ -8,6 +8,7 @@ ghost use Rattle.window_score.specs.Words.{JoinedIs, ChildIs, ChildThere};
 ghost use Rattle.window_score.specs.Asked.{ScoresPre, ScoresPost, RequiredPre, RequiredPost, OptionalPre, OptionalPost, BooleanPre, BooleanPost, GroupPre, GroupPost};
 
 use index::wide;
+use leaf_scorer::LeafReader;
 use sums::{add_constant, add_joined, add_narrowed};
 use weight::NODE_STATE_WORDS;
 use window_bits::node_bits;
@@ -73,32 +74,27 @@ fn child_at(kids: &[u32], at: usize) -> Child
 // Which of the wanted documents a child matches; a term is asked without the call of node_bits.
 fn child_bits(
     st: &mut [u32],
-    postings: &[u32],
-    positions: &[u32],
-    ranges: &[u32],
+    reader: &LeafReader<'_>,
     a: &mut [i32],
     b: &mut [i32],
     base: u32,
     want: u64,
     depth: u32,
 ) -> u64
-    requires { BitsPre postings.now positions.now ranges.now (length a.old) (length b.old) st.old base want depth }
-    ensures { BitsPost postings.now positions.now ranges.now (length a.old) (length b.old) st.old base want depth result st.new }
+    requires { BitsPre reader.now.postings.now reader.now.positions.now reader.now.ranges.now (length a.old) (length b.old) st.old base want depth }
+    ensures { BitsPost reader.now.postings.now reader.now.positions.now reader.now.ranges.now (length a.old) (length b.old) st.old base want depth result st.new }
 {
     if st[0] == TERM {
-        return bits::both(want, term_bits(st, postings, base));
+        return bits::both(want, term_bits(st, reader.postings, base));
     }
-    node_bits(st, postings, positions, ranges, a, b, base, want, depth)
+    node_bits(st, reader, a, b, base, want, depth)
 }
 
 // The node's score is added to the sum of each wanted document, all of which it matches.
 #[cycle(boolean_scores_joined_scores_node_scores_optional_scores_required_scores)]
 pub fn node_scores(
     st: &mut [u32],
-    postings: &[u32],
-    positions: &[u32],
-    norms: &[u8],
-    ranges: &[u32],
+    reader: &LeafReader<'_>,
     inverses: &[f32],
     a: &mut [i32],
     b: &mut [i32],
@@ -107,8 +103,8 @@ pub fn node_scores(
     sums: &mut [f64],
     depth: u32,
 )
-    requires { ScoresPre st.old postings.now positions.now norms.now ranges.now inverses.now (length a.old) (length b.old) base want sums.old depth }
-    ensures { ScoresPost st.old postings.now positions.now norms.now ranges.now inverses.now (length a.old) (length b.old) base want sums.old depth st.new sums.new }
+    requires { ScoresPre st.old reader.now.postings.now reader.now.positions.now reader.now.norms.now reader.now.ranges.now inverses.now (length a.old) (length b.old) base want sums.old depth }
+    ensures { ScoresPost st.old reader.now.postings.now reader.now.positions.now reader.now.norms.now reader.now.ranges.now inverses.now (length a.old) (length b.old) base want sums.old depth st.new sums.new }
 {
     let kind = st[0];
     if st[11] == 1 {
@@ -116,12 +112,29 @@ pub fn node_scores(
         return;
     }
     if kind == TERM {
-        leaf::term_scores(st, postings, norms, inverses, base, want, sums);
+        leaf::term_scores(
+            st,
+            reader.postings,
+            reader.norms,
+            inverses,
+            base,
+            want,
+            sums,
+        );
         return;
     }
     if kind == PHRASE {
         leaf::phrase_scores(
-            st, postings, positions, norms, inverses, a, b, base, want, sums,
+            st,
+            reader.postings,
+            reader.positions,
+            reader.norms,
+            inverses,
+            a,
+            b,
+            base,
+            want,
+            sums,
         );
         return;
     }
@@ -130,10 +143,7 @@ pub fn node_scores(
         boolean_scores(
             &mut st[NODE_STATE_WORDS..],
             n,
-            postings,
-            positions,
-            norms,
-            ranges,
+            reader,
             inverses,
             a,
             b,
@@ -152,10 +162,7 @@ pub fn node_scores(
 fn boolean_scores(
     kids: &mut [u32],
     n: Joined,
-    postings: &[u32],
-    positions: &[u32],
-    norms: &[u8],
-    ranges: &[u32],
+    reader: &LeafReader<'_>,
     inverses: &[f32],
     a: &mut [i32],
     b: &mut [i32],
@@ -164,8 +171,8 @@ fn boolean_scores(
     sums: &mut [f64],
     depth: u32,
 )
-    requires { BooleanPre kids.old n postings.now positions.now norms.now ranges.now inverses.now (length a.old) (length b.old) base want sums.old depth }
-    ensures { BooleanPost kids.old n postings.now positions.now norms.now ranges.now inverses.now (length a.old) (length b.old) base want sums.old depth kids.new sums.new }
+    requires { BooleanPre kids.old n reader.now.postings.now reader.now.positions.now reader.now.norms.now reader.now.ranges.now inverses.now (length a.old) (length b.old) base want sums.old depth }
+    ensures { BooleanPost kids.old n reader.now.postings.now reader.now.positions.now reader.now.norms.now reader.now.ranges.now inverses.now (length a.old) (length b.old) base want sums.old depth kids.new sums.new }
 {
     let end = n.required;
     let optional_end = n.optional;
@@ -173,10 +180,7 @@ fn boolean_scores(
         let mut own = [0.0f64; 64];
         required_scores(
             &mut kids[..end],
-            postings,
-            positions,
-            norms,
-            ranges,
+            reader,
             inverses,
             a,
             b,
@@ -192,10 +196,7 @@ fn boolean_scores(
     optional_scores(
         &mut kids[end..optional_end],
         n.need,
-        postings,
-        positions,
-        norms,
-        ranges,
+        reader,
         inverses,
         a,
         b,
@@ -212,10 +213,7 @@ fn boolean_scores(
         &mut kids[..end],
         n,
         &group,
-        postings,
-        positions,
-        norms,
-        ranges,
+        reader,
         inverses,
         a,
         b,
@@ -232,10 +230,7 @@ fn joined_scores(
     kids: &mut [u32],
     n: Joined,
     group: &[f64],
-    postings: &[u32],
-    positions: &[u32],
-    norms: &[u8],
-    ranges: &[u32],
+    reader: &LeafReader<'_>,
     inverses: &[f32],
     a: &mut [i32],
     b: &mut [i32],
@@ -244,24 +239,19 @@ fn joined_scores(
     sums: &mut [f64],
     depth: u32,
 )
-    requires { GroupPre kids.old n group.now postings.now positions.now norms.now ranges.now inverses.now (length a.old) (length b.old) base want sums.old depth }
-    ensures { GroupPost kids.old n group.now postings.now positions.now norms.now ranges.now inverses.now (length a.old) (length b.old) base want sums.old depth kids.new sums.new }
+    requires { GroupPre kids.old n group.now reader.now.postings.now reader.now.positions.now reader.now.norms.now reader.now.ranges.now inverses.now (length a.old) (length b.old) base want sums.old depth }
+    ensures { GroupPost kids.old n group.now reader.now.postings.now reader.now.positions.now reader.now.norms.now reader.now.ranges.now inverses.now (length a.old) (length b.old) base want sums.old depth kids.new sums.new }
 {
     let mut own = [0.0f64; 64];
     if n.afterwards == 1 {
-        required_scores(
-            kids, postings, positions, norms, ranges, inverses, a, b, base, want, &mut own, depth,
-        );
+        required_scores(kids, reader, inverses, a, b, base, want, &mut own, depth);
         add_joined(&own, group, want, sums);
         return;
     }
     let at = n.group_at;
     required_scores(
         &mut kids[..at],
-        postings,
-        positions,
-        norms,
-        ranges,
+        reader,
         inverses,
         a,
         b,
@@ -273,10 +263,7 @@ fn joined_scores(
     add_narrowed(group, want, &mut own);
     required_scores(
         &mut kids[at..],
-        postings,
-        positions,
-        norms,
-        ranges,
+        reader,
         inverses,
         a,
         b,
@@ -292,10 +279,7 @@ fn joined_scores(
 #[cycle(boolean_scores_joined_scores_node_scores_optional_scores_required_scores)]
 fn required_scores(
     kids: &mut [u32],
-    postings: &[u32],
-    positions: &[u32],
-    norms: &[u8],
-    ranges: &[u32],
+    reader: &LeafReader<'_>,
     inverses: &[f32],
     a: &mut [i32],
     b: &mut [i32],
@@ -304,9 +288,11 @@ fn required_scores(
     sums: &mut [f64],
     depth: u32,
 )
-    requires { RequiredPre kids.old postings.now positions.now norms.now ranges.now inverses.now (length a.old) (length b.old) base want sums.old depth }
-    ensures { RequiredPost kids.old postings.now positions.now norms.now ranges.now inverses.now (length a.old) (length b.old) base want sums.old depth kids.new sums.new }
+    requires { RequiredPre kids.old reader.now.postings.now reader.now.positions.now reader.now.norms.now reader.now.ranges.now inverses.now (length a.old) (length b.old) base want sums.old depth }
+    ensures { RequiredPost kids.old reader.now.postings.now reader.now.positions.now reader.now.norms.now reader.now.ranges.now inverses.now (length a.old) (length b.old) base want sums.old depth kids.new sums.new }
 {
+    let postings = reader.postings;
+    let norms = reader.norms;
     let mut at = 0;
     while at < kids.len() {
         let k = child_at(kids, at);
@@ -317,10 +303,7 @@ fn required_scores(
             } else {
                 node_scores(
                     &mut kids[at..end],
-                    postings,
-                    positions,
-                    norms,
-                    ranges,
+                    reader,
                     inverses,
                     a,
                     b,
@@ -340,10 +323,7 @@ fn required_scores(
 fn optional_scores(
     kids: &mut [u32],
     need: u32,
-    postings: &[u32],
-    positions: &[u32],
-    norms: &[u8],
-    ranges: &[u32],
+    reader: &LeafReader<'_>,
     inverses: &[f32],
     a: &mut [i32],
     b: &mut [i32],
@@ -352,25 +332,17 @@ fn optional_scores(
     sums: &mut [f64],
     depth: u32,
 )
-    requires { OptionalPre kids.old need postings.now positions.now norms.now ranges.now inverses.now (length a.old) (length b.old) base want sums.old depth }
-    ensures { OptionalPost kids.old need postings.now positions.now norms.now ranges.now inverses.now (length a.old) (length b.old) base want sums.old depth kids.new sums.new }
+    requires { OptionalPre kids.old need reader.now.postings.now reader.now.positions.now reader.now.norms.now reader.now.ranges.now inverses.now (length a.old) (length b.old) base want sums.old depth }
+    ensures { OptionalPost kids.old need reader.now.postings.now reader.now.positions.now reader.now.norms.now reader.now.ranges.now inverses.now (length a.old) (length b.old) base want sums.old depth kids.new sums.new }
 {
+    let postings = reader.postings;
+    let norms = reader.norms;
     let mut at = 0;
     while at < kids.len() {
         let k = child_at(kids, at);
         let end = k.end;
         let x = if need == 0 {
-            child_bits(
-                &mut kids[at..end],
-                postings,
-                positions,
-                ranges,
-                a,
-                b,
-                base,
-                want,
-                depth,
-            )
+            child_bits(&mut kids[at..end], reader, a, b, base, want, depth)
         } else {
             bits::both(want, k.bits)
         };
@@ -380,10 +352,7 @@ fn optional_scores(
             } else {
                 node_scores(
                     &mut kids[at..end],
-                    postings,
-                    positions,
-                    norms,
-                    ranges,
+                    reader,
                     inverses,
                     a,
                     b,

@@ -4,6 +4,7 @@ ghost use Rattle.window_score.specs.Asked.{RootPre, RootPost, RootPartsPre, Root
 
 use crate::sums::{add_narrowed, join_after};
 use crate::{BOOLEAN, Joined, joined_at, node_scores, optional_scores, required_scores};
+use leaf_scorer::LeafReader;
 use weight::NODE_STATE_WORDS;
 
 // The group, whose sums are given, joins the required sums.
@@ -11,10 +12,7 @@ fn group_scores(
     kids: &mut [u32],
     n: Joined,
     group: &[f64],
-    postings: &[u32],
-    positions: &[u32],
-    norms: &[u8],
-    ranges: &[u32],
+    reader: &LeafReader<'_>,
     inverses: &[f32],
     a: &mut [i32],
     b: &mut [i32],
@@ -23,23 +21,18 @@ fn group_scores(
     sums: &mut [f64],
     depth: u32,
 )
-    requires { RootGroupPre kids.old n group.now postings.now positions.now norms.now ranges.now inverses.now (length a.old) (length b.old) base want sums.old depth }
-    ensures { RootGroupPost kids.old n group.now postings.now positions.now norms.now ranges.now inverses.now (length a.old) (length b.old) base want sums.old depth kids.new sums.new }
+    requires { RootGroupPre kids.old n group.now reader.now.postings.now reader.now.positions.now reader.now.norms.now reader.now.ranges.now inverses.now (length a.old) (length b.old) base want sums.old depth }
+    ensures { RootGroupPost kids.old n group.now reader.now.postings.now reader.now.positions.now reader.now.norms.now reader.now.ranges.now inverses.now (length a.old) (length b.old) base want sums.old depth kids.new sums.new }
 {
     if n.afterwards == 1 {
-        required_scores(
-            kids, postings, positions, norms, ranges, inverses, a, b, base, want, sums, depth,
-        );
+        required_scores(kids, reader, inverses, a, b, base, want, sums, depth);
         join_after(group, want, sums);
         return;
     }
     let at = n.group_at;
     required_scores(
         &mut kids[..at],
-        postings,
-        positions,
-        norms,
-        ranges,
+        reader,
         inverses,
         a,
         b,
@@ -51,10 +44,7 @@ fn group_scores(
     add_narrowed(group, want, sums);
     required_scores(
         &mut kids[at..],
-        postings,
-        positions,
-        norms,
-        ranges,
+        reader,
         inverses,
         a,
         b,
@@ -69,10 +59,7 @@ fn group_scores(
 fn part_scores(
     kids: &mut [u32],
     n: Joined,
-    postings: &[u32],
-    positions: &[u32],
-    norms: &[u8],
-    ranges: &[u32],
+    reader: &LeafReader<'_>,
     inverses: &[f32],
     a: &mut [i32],
     b: &mut [i32],
@@ -81,18 +68,15 @@ fn part_scores(
     sums: &mut [f64],
     depth: u32,
 )
-    requires { RootPartsPre kids.old n postings.now positions.now norms.now ranges.now inverses.now (length a.old) (length b.old) base want sums.old depth }
-    ensures { RootPartsPost kids.old n postings.now positions.now norms.now ranges.now inverses.now (length a.old) (length b.old) base want sums.old depth kids.new sums.new }
+    requires { RootPartsPre kids.old n reader.now.postings.now reader.now.positions.now reader.now.norms.now reader.now.ranges.now inverses.now (length a.old) (length b.old) base want sums.old depth }
+    ensures { RootPartsPost kids.old n reader.now.postings.now reader.now.positions.now reader.now.norms.now reader.now.ranges.now inverses.now (length a.old) (length b.old) base want sums.old depth kids.new sums.new }
 {
     let end = n.required;
     let optional_end = n.optional;
     if end == optional_end {
         required_scores(
             &mut kids[..end],
-            postings,
-            positions,
-            norms,
-            ranges,
+            reader,
             inverses,
             a,
             b,
@@ -107,10 +91,7 @@ fn part_scores(
         optional_scores(
             &mut kids[end..optional_end],
             n.need,
-            postings,
-            positions,
-            norms,
-            ranges,
+            reader,
             inverses,
             a,
             b,
@@ -125,10 +106,7 @@ fn part_scores(
     optional_scores(
         &mut kids[end..optional_end],
         n.need,
-        postings,
-        positions,
-        norms,
-        ranges,
+        reader,
         inverses,
         a,
         b,
@@ -141,10 +119,7 @@ fn part_scores(
         &mut kids[..end],
         n,
         &group,
-        postings,
-        positions,
-        norms,
-        ranges,
+        reader,
         inverses,
         a,
         b,
@@ -158,10 +133,7 @@ fn part_scores(
 // The sum at each wanted place, narrowed, is the tree's score.
 pub fn root_scores(
     st: &mut [u32],
-    postings: &[u32],
-    positions: &[u32],
-    norms: &[u8],
-    ranges: &[u32],
+    reader: &LeafReader<'_>,
     inverses: &[f32],
     a: &mut [i32],
     b: &mut [i32],
@@ -170,8 +142,8 @@ pub fn root_scores(
     sums: &mut [f64],
     depth: u32,
 )
-    requires { RootPre st.old postings.now positions.now norms.now ranges.now inverses.now (length a.old) (length b.old) base want sums.old depth }
-    ensures { RootPost st.old postings.now positions.now norms.now ranges.now inverses.now (length a.old) (length b.old) base want sums.old depth st.new sums.new }
+    requires { RootPre st.old reader.now.postings.now reader.now.positions.now reader.now.norms.now reader.now.ranges.now inverses.now (length a.old) (length b.old) base want sums.old depth }
+    ensures { RootPost st.old reader.now.postings.now reader.now.positions.now reader.now.norms.now reader.now.ranges.now inverses.now (length a.old) (length b.old) base want sums.old depth st.new sums.new }
 {
     if st[0] == BOOLEAN {
         if st[11] != 1 {
@@ -179,10 +151,7 @@ pub fn root_scores(
             part_scores(
                 &mut st[NODE_STATE_WORDS..],
                 n,
-                postings,
-                positions,
-                norms,
-                ranges,
+                reader,
                 inverses,
                 a,
                 b,
@@ -194,7 +163,5 @@ pub fn root_scores(
             return;
         }
     }
-    node_scores(
-        st, postings, positions, norms, ranges, inverses, a, b, base, want, sums, depth,
-    );
+    node_scores(st, reader, inverses, a, b, base, want, sums, depth);
 }

@@ -1,19 +1,17 @@
 // The sums of a window's 64 documents: one more score at each wanted place.
 ghost use Rattle.window_score.specs.Sums.{ConstantPre, ConstantPost, NarrowedPre, NarrowedPost, JoinedPre, JoinedPost, AfterPre, AfterPost};
 
+use bits::SetBits;
 use ieee754::{add_score, narrow};
-use index::wide;
 
 // The same score for each.
 pub fn add_constant(score: f32, want: u64, sums: &mut [f64])
     requires { ConstantPre score sums.old }
     ensures { ConstantPost score want sums.old sums.new }
 {
-    let mut left = want;
-    while left != 0 {
-        let at = wide(bits::lowest(left));
+    for place in (SetBits { left: want }) {
+        let at = place as usize;
         sums[at] = add_score(sums[at], score);
-        left = bits::without_lowest(left);
     }
 }
 
@@ -22,11 +20,9 @@ pub fn add_narrowed(own: &[f64], want: u64, sums: &mut [f64])
     requires { NarrowedPre own.now sums.old }
     ensures { NarrowedPost own.now want sums.old sums.new }
 {
-    let mut left = want;
-    while left != 0 {
-        let at = wide(bits::lowest(left));
+    for place in (SetBits { left: want }) {
+        let at = place as usize;
         sums[at] = add_score(sums[at], narrow(own[at]));
-        left = bits::without_lowest(left);
     }
 }
 
@@ -35,12 +31,10 @@ pub fn add_joined(own: &[f64], group: &[f64], want: u64, sums: &mut [f64])
     requires { JoinedPre own.now group.now sums.old }
     ensures { JoinedPost own.now group.now want sums.old sums.new }
 {
-    let mut left = want;
-    while left != 0 {
-        let at = wide(bits::lowest(left));
+    for place in (SetBits { left: want }) {
+        let at = place as usize;
         let both = add_score(narrow(own[at]) as f64, narrow(group[at]));
         sums[at] = add_score(sums[at], narrow(both));
-        left = bits::without_lowest(left);
     }
 }
 
@@ -49,10 +43,8 @@ pub fn join_after(group: &[f64], want: u64, sums: &mut [f64])
     requires { AfterPre group.now sums.old }
     ensures { AfterPost group.now want sums.old sums.new }
 {
-    let mut left = want;
-    while left != 0 {
-        let at = wide(bits::lowest(left));
+    for place in (SetBits { left: want }) {
+        let at = place as usize;
         sums[at] = add_score(narrow(sums[at]) as f64, narrow(group[at]));
-        left = bits::without_lowest(left);
     }
 }

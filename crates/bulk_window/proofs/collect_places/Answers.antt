@@ -10,36 +10,36 @@ use Rattle.window_score.proofs.Adding.{adding-start, adding-step, adding-done, s
 use Rattle.bulk_window.proofs.Places.{places-start, places-ready, places-take, places-done}
 use Rattle.bulk_window.proofs.collect_places.Goals as goal
 
-pub loop-left-init : goal.loop-left-init
-loop-left-init c = record { long = refl; sums = adding-start (λ p x. zero_float) c.args.places c.args.sums.now c.requires.1; at = places-start c.args.first (λ p. narrow (get_or c.args.sums.now p nan)) c.args.places c.args.c c.args.heap.now }
+pub loop-place-init : goal.loop-place-init
+loop-place-init c = let a = c.args in let e = c.into_iter-place-iterator.ensures.into_iter_gives in rw e (record { long = refl; sums = adding-start (λ p x. zero_float) a.places a.sums.now c.requires.1; at = places-start a.first (λ p. narrow (get_or a.sums.now p nan)) a.places a.c a.heap.now })
 
 pub stepped-c-requires-clause-ready : goal.stepped-c-requires-clause-ready
 stepped-c-requires-clause-ready c =
     let a = c.args in
-    let l = c.loop-left in
-    places-ready a.first (λ p. narrow (get_or a.sums.now p nan)) a.places a.c a.heap.now l.left l.c l.heap l.invariant.at c.requires.2 c.lowest-place.result c.lowest-place.ensures.within c.lowest-place.ensures.set
+    let l = c.loop-place in
+    places-ready a.first (λ p. narrow (get_or a.sums.now p nan)) a.places a.c a.heap.now l.place-iterator.left l.c l.heap l.invariant.at c.requires.2 c.in-Some.place c.in-Some.ensures.steps.0.within c.in-Some.ensures.steps.0.set
 
-pub loop-left-preserved : goal.loop-left-preserved
-loop-left-preserved c =
+pub loop-place-preserved : goal.loop-place-preserved
+loop-place-preserved c =
     let a = c.args in
-    let l = c.loop-left in
-    let p = c.lowest-place.result in
-    let w = c.without_lowest-left in
+    let l = c.loop-place in
+    let p = c.in-Some.place in
+    let n = c.in-Some.ensures.steps in
     let f : ℕ → Float → Float = λ p x. zero_float in
-    let score-is : c.narrow.result ≡ narrow (get_or a.sums.now p nan) = c.narrow.ensures ∙ ap (λ (i : ℕ). narrow (get_or l.sums i nan)) c.wide-at.ensures ∙ ap narrow (sum-waits f a.places a.sums.now l.left l.sums l.invariant.sums p c.lowest-place.ensures) in
+    let score-is : c.narrow.result ≡ narrow (get_or a.sums.now p nan) = c.narrow.ensures ∙ ap narrow (sum-waits f a.places a.sums.now l.place-iterator.left l.sums l.invariant.sums p n.0) in
     record {
       long = c.stepped-c.auto.heap ∙ l.invariant.long;
-      sums = adding-step f a.places a.sums.now l.left l.sums l.invariant.sums p c.lowest-place.ensures w.result (w.ensures.others p c.lowest-place.ensures) c.wide-at.result (of_bits binary64 0) c.wide-at.ensures zero-64;
-      at = places-take a.first (λ p. narrow (get_or a.sums.now p nan)) a.places a.c a.heap.now l.left l.c l.heap l.invariant.at p w.result c.lowest-place.ensures (w.ensures.listed p c.lowest-place.ensures) (w.ensures.others p c.lowest-place.ensures) c.stepped-c.result c.stepped-c.new.heap (subst (λ (z : Float). Extended (record { doc = a.first + p; score = z }) l.c l.heap c.stepped-c.result c.stepped-c.new.heap) score-is c.stepped-c.ensures);
+      sums = adding-step f a.places a.sums.now l.place-iterator.left l.sums l.invariant.sums p n.0 c.next.new.self.left n.1 c.in-Some.place (of_bits binary64 0) refl zero-64;
+      at = places-take a.first (λ p. narrow (get_or a.sums.now p nan)) a.places a.c a.heap.now l.place-iterator.left l.c l.heap l.invariant.at p c.next.new.self.left n.0 n.2 n.1 c.stepped-c.result c.stepped-c.new.heap (subst (λ (z : Float). Extended (record { doc = a.first + p; score = z }) l.c l.heap c.stepped-c.result c.stepped-c.new.heap) score-is c.stepped-c.ensures);
     }
 
 pub returns-clause-collected : goal.returns-clause-collected
 returns-clause-collected c =
     let a = c.args in
-    let l = c.loop-left in
-    λ n h. places-done a.first (λ p. narrow (get_or a.sums.now p nan)) a.places a.c a.heap.now l.left l.c l.heap l.invariant.at c.loop-left-test.false n h
+    let l = c.loop-place in
+    λ n h. places-done a.first (λ p. narrow (get_or a.sums.now p nan)) a.places a.c a.heap.now l.place-iterator.left l.c l.heap l.invariant.at c.in-None.ensures.steps.0 n h
 
 pub returns-clause-cleared : goal.returns-clause-cleared
 returns-clause-cleared c =
-    let l = c.loop-left in
-    record { long = l.invariant.sums.long; at = adding-done (λ p x. zero_float) c.args.places c.args.sums.now l.left l.sums l.invariant.sums c.loop-left-test.false }
+    let l = c.loop-place in
+    record { long = l.invariant.sums.long; at = adding-done (λ p x. zero_float) c.args.places c.args.sums.now l.place-iterator.left l.sums l.invariant.sums c.in-None.ensures.steps.0 }

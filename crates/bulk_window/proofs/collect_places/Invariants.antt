@@ -6,13 +6,10 @@ use Rattle.window_score.proofs.Adding.{Adding}
 use Rattle.bulk_window.proofs.Places.{PlacesAt}
 use Rattle.bulk_window.proofs.collect_places.Given as goal
 
-abbrev pub invariant-loop-left : goal.invariant-loop-left
-invariant-loop-left l =
+abbrev pub invariant-loop-place : goal.invariant-loop-place
+invariant-loop-place l =
     record {
       long : length l.heap ≡ length l.fn.heap;
-      sums : Adding (λ p x. zero_float) l.places l.left l.fn.sums l.sums;
-      at : PlacesAt l.first (λ p. narrow (get_or l.fn.sums p nan)) l.places l.fn.c l.fn.heap l.left l.c l.heap;
+      sums : Adding (λ p x. zero_float) l.places l.place-iterator.left l.fn.sums l.sums;
+      at : PlacesAt l.first (λ p. narrow (get_or l.fn.sums p nan)) l.places l.fn.c l.fn.heap l.place-iterator.left l.c l.heap;
     }
-
-abbrev pub decreases-loop-left : goal.decreases-loop-left
-decreases-loop-left l = l.left

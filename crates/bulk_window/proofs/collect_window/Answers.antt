@@ -18,7 +18,7 @@ use Rattle.bulk_window.proofs.collect_window.Goals as goal
 pub returns-then-places-eq0-clause-window : goal.returns-then-places-eq0-clause-window
 returns-then-places-eq0-clause-window c =
     let a = c.args in
-    λ n ix rooms s scores L N. ((λ m h. places-none (a.doc_base + a.base) (λ p. scorer_score ix s (a.base + p)) a.places m a.c a.heap.now c.if-places-eq0.true), windowed-forget ix a.ranges.now s a.depth scores a.st.now (a.base + 64) a.base (places_of a.places) (a.base + 64) (omega arith) (omega arith) N.held)
+    λ n ix rooms s scores L N. ((λ m h. places-none (a.doc_base + a.base) (λ p. scorer_score ix s (a.base + p)) a.places m a.c a.heap.now c.if-places-eq0.true), windowed-forget ix a.reader.now.ranges.now s a.depth scores a.st.now (a.base + 64) a.base (places_of a.places) (a.base + 64) (omega arith) (omega arith) N.held)
 
 pub root_scores-requires : goal.root_scores-requires
 root_scores-requires c = (c.requires.zeros, c.requires.window.3)
@@ -31,7 +31,7 @@ collect_places-requires c =
       c.requires.window.0,
       post.0.long,
       c.requires.window.2,
-      (λ p h e. (c.requires.window.1 p h e, window-clear r.1 r.0 a.postings.now a.positions.now a.norms.now a.ranges.now a.inverses.now r.2 _ _ r.3 a.depth r.4 a.st.now a.base a.places r.5 r.6 _ c.root_scores.new.sums post.0 p h e)),
+      (λ p h e. (c.requires.window.1 p h e, window-clear r.1 r.0 a.reader.now.postings.now a.reader.now.positions.now a.reader.now.norms.now a.reader.now.ranges.now a.inverses.now r.2 _ _ r.3 a.depth r.4 a.st.now a.base a.places r.5 r.6 _ c.root_scores.new.sums post.0 p h e)),
     )
 
 pub returns-clause-window : goal.returns-clause-window

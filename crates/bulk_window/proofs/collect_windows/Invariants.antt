@@ -11,8 +11,8 @@ invariant-loop-base l =
       whole : l.base % 64 ≡ 0;
       zeros : Zeros l.sums;
       top : l.base ≤ no_more_docs;
-      at : AllAt l.max_doc l.postings l.positions l.norms l.ranges l.live l.inverses (min (length l.fn.a) (length l.fn.b)) l.fn.st l.depth l.doc_base l.fn.c l.fn.heap l.st l.c l.heap l.base;
+      at : AllAt l.reader.max_doc l.reader.postings.now l.reader.positions.now l.reader.norms.now l.reader.ranges.now l.reader.live.now l.inverses (min (length l.fn.a) (length l.fn.b)) l.fn.st l.depth l.doc_base l.fn.c l.fn.heap l.st l.c l.heap l.base;
     }
 
 abbrev pub decreases-loop-base : goal.decreases-loop-base
-decreases-loop-base l = l.max_doc - l.base
+decreases-loop-base l = l.reader.max_doc - l.base

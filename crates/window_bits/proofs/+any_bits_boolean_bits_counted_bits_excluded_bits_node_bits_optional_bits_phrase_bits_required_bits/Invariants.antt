@@ -53,25 +53,25 @@ ExcludedKept postings positions ranges a b kids₀ base want depth kids w at =
     (n : ℕ) (ix : Index) (places : ℕ) (ss : Scorers) → Wanted n base want → PartsKnown (lent n postings positions ranges) ix places ss → AllWindowed ix ranges ss depth kids₀ base base nowhere → ExcludedAt ix ranges depth places base want ss kids w at
 
 abbrev pub invariant-any_bits-loop-at : goal.invariant-any_bits-loop-at
-invariant-any_bits-loop-at l = AnyKept l.postings l.positions l.ranges (length l.fn.a) (length l.fn.b) l.fn.kids l.base l.want l.depth l.kids l.w l.next l.at
+invariant-any_bits-loop-at l = AnyKept l.reader.postings.now l.reader.positions.now l.reader.ranges.now (length l.fn.a) (length l.fn.b) l.fn.kids l.base l.want l.depth l.kids l.w l.next l.at
 
 abbrev pub decreases-any_bits-loop-at : goal.decreases-any_bits-loop-at
 decreases-any_bits-loop-at l = length l.initial.kids - l.at
 
 abbrev pub invariant-counted_bits-loop-at : goal.invariant-counted_bits-loop-at
-invariant-counted_bits-loop-at l = CountKept l.postings l.positions l.ranges (length l.fn.a) (length l.fn.b) l.fn.kids l.base l.want l.depth l.kids l.planes l.next l.at
+invariant-counted_bits-loop-at l = CountKept l.reader.postings.now l.reader.positions.now l.reader.ranges.now (length l.fn.a) (length l.fn.b) l.fn.kids l.base l.want l.depth l.kids l.planes l.next l.at
 
 abbrev pub decreases-counted_bits-loop-at : goal.decreases-counted_bits-loop-at
 decreases-counted_bits-loop-at l = length l.initial.kids - l.at
 
 abbrev pub invariant-excluded_bits-loop-at : goal.invariant-excluded_bits-loop-at
-invariant-excluded_bits-loop-at l = ExcludedKept l.postings l.positions l.ranges (length l.fn.a) (length l.fn.b) l.fn.kids l.base l.want l.depth l.kids l.w l.at
+invariant-excluded_bits-loop-at l = ExcludedKept l.reader.postings.now l.reader.positions.now l.reader.ranges.now (length l.fn.a) (length l.fn.b) l.fn.kids l.base l.want l.depth l.kids l.w l.at
 
 abbrev pub decreases-excluded_bits-loop-at : goal.decreases-excluded_bits-loop-at
 decreases-excluded_bits-loop-at l = length l.initial.kids - l.at
 
 abbrev pub invariant-required_bits-loop-at : goal.invariant-required_bits-loop-at
-invariant-required_bits-loop-at l = PassKept l.postings l.positions l.ranges (length l.fn.a) (length l.fn.b) l.fn.kids l.last l.base l.want l.depth l.kids l.w l.next l.at l.skipped
+invariant-required_bits-loop-at l = PassKept l.reader.postings.now l.reader.positions.now l.reader.ranges.now (length l.fn.a) (length l.fn.b) l.fn.kids l.last l.base l.want l.depth l.kids l.w l.next l.at l.skipped
 
 abbrev pub decreases-required_bits-loop-at : goal.decreases-required_bits-loop-at
 decreases-required_bits-loop-at l = length l.initial.kids - l.at

@@ -27,8 +27,8 @@ decreases-required_scores-loop-at l = length l.kids - l.at
 
 abbrev pub invariant-optional_scores-loop-at : goal.invariant-optional_scores-loop-at
 invariant-optional_scores-loop-at l =
-    (length l.kids ≡ length l.fn.kids) × (length l.a ≡ length l.fn.a) × (length l.b ≡ length l.fn.b) × OptionalAt l.fn.kids l.fn.need l.fn.postings l.fn.positions l.fn.norms l.fn.ranges l.fn.inverses (length l.fn.a) (length l.fn.b) l.fn.base l.fn.want l.fn.sums l.fn.depth l.kids l.at l.sums
+    (length l.kids ≡ length l.fn.kids) × (length l.a ≡ length l.fn.a) × (length l.b ≡ length l.fn.b) × OptionalAt l.fn.kids l.fn.need l.fn.reader.postings.now l.fn.reader.positions.now l.fn.reader.norms.now l.fn.reader.ranges.now l.fn.inverses (length l.fn.a) (length l.fn.b) l.fn.base l.fn.want l.fn.sums l.fn.depth l.kids l.at l.sums
 
 abbrev pub invariant-required_scores-loop-at : goal.invariant-required_scores-loop-at
 invariant-required_scores-loop-at l =
-    (length l.kids ≡ length l.fn.kids) × (length l.a ≡ length l.fn.a) × (length l.b ≡ length l.fn.b) × RequiredAt l.fn.kids l.fn.postings l.fn.positions l.fn.norms l.fn.ranges l.fn.inverses (length l.fn.a) (length l.fn.b) l.fn.base l.fn.want l.fn.sums l.fn.depth l.kids l.at l.sums
+    (length l.kids ≡ length l.fn.kids) × (length l.a ≡ length l.fn.a) × (length l.b ≡ length l.fn.b) × RequiredAt l.fn.kids l.fn.reader.postings.now l.fn.reader.positions.now l.fn.reader.norms.now l.fn.reader.ranges.now l.fn.inverses (length l.fn.a) (length l.fn.b) l.fn.base l.fn.want l.fn.sums l.fn.depth l.kids l.at l.sums

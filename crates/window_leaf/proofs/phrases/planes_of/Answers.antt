@@ -3,23 +3,23 @@ use Rattle.window_words.specs.Windowed.{places_of}
 use Rattle.window_leaf.proofs.PlaneLaws.{noting-start, noting-next, noting-end, left-among}
 use Rattle.window_leaf.proofs.phrases.planes_of.Goals as goal
 
-pub loop-left-init : goal.loop-left-init
-loop-left-init c = (refl, refl, (λ p e. e), (λ ix places f ts h. noting-start))
+pub loop-place-init : goal.loop-place-init
+loop-place-init c = rw c.into_iter-place-iterator.ensures.into_iter_gives (refl, refl, (λ p e. e), (λ ix places f ts h. noting-start))
 
 pub returns : goal.returns
-returns c = λ ix places f ts h. noting-end c.loop-left-test.false (c.loop-left.invariant.3 ix places f ts h)
+returns c = λ ix places f ts h. noting-end c.in-None.ensures.steps.0 (c.loop-place.invariant.3 ix places f ts h)
 
-pub loop-left-preserved : goal.loop-left-preserved
-loop-left-preserved c =
-    let l = c.loop-left in
-    let t = c.lowest-place in
-    let w = c.without_lowest-left in
+pub loop-place-preserved : goal.loop-place-preserved
+loop-place-preserved c =
+    let l = c.loop-place in
+    let t = c.in-Some.place in
+    let w = c.in-Some.ensures.steps in
     let f = c.frequency_at-f in
     let n = c.noted-planes in
-    let others = w.ensures.others t.result t.ensures in
-    let on = l.invariant.2 t.result t.ensures.set in (
+    let others = w.1 in
+    let on = l.invariant.2 t w.0.set in (
       f.auto.a ∙ l.invariant.0,
       f.auto.b ∙ l.invariant.1,
-      left-among c.args.candidates l.left w.result t.result others l.invariant.2,
-      λ ix places k ts h. noting-next (l.invariant.3 ix places k ts h) t.result t.ensures f.result (f.ensures ix places k ts (places_of c.args.candidates) on h) on w.result n.result.ones n.result.twos others n.ensures,
+      left-among c.args.candidates l.place-iterator.left c.next.new.self.left t others l.invariant.2,
+      λ ix places k ts h. noting-next (l.invariant.3 ix places k ts h) t w.0 f.result (f.ensures ix places k ts (places_of c.args.candidates) on h) on c.next.new.self.left n.result.ones n.result.twos others n.ensures,
     )

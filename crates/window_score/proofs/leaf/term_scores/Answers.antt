@@ -1,5 +1,5 @@
 use mathlib.Core.Path.{ap, ◌∙◌}
-use Rattle.std.proofs.Common.{ℕ, ◌+◌, arith, get_or}
+use Rattle.std.proofs.Common.{refl, ℕ, ◌+◌, arith, get_or}
 use lib.Ieee.{Float, nan, binary64, add}
 use Rattle.leaf_score.proofs.Leaves.{Weighs}
 use Rattle.window_score.proofs.Adding.{adding-step, adding-done, place-wanted}
@@ -28,22 +28,22 @@ pub bounds-st-21 : goal.bounds-st-21
 bounds-st-21 c = omega (arith, pre-long c.args.st.now c.args.postings.now c.args.norms.now c.args.inverses.now c.args.base c.args.want c.args.sums.now (λ i. omega (arith, c.type_inv.norms i)) (λ i. omega (arith, c.type_inv.st i)) c.requires)
 
 -- what is known at the place
-at-posting : (c : goal.After-wide-in-loop-left) → TermPlace c.requires.1.5.1 c.requires.1.5.3 c.args.postings.now c.args.norms.now c.args.inverses.now c.node_at-n.result (c.node_at-n.result.first + c.wide.result) c.joined-bits.result c.args.base c.lowest-place.result
+at-posting : (c : goal.After-wide-in-loop-place) → TermPlace c.requires.1.5.1 c.requires.1.5.3 c.args.postings.now c.args.norms.now c.args.inverses.now c.node_at-n.result (c.node_at-n.result.first + c.wide.result) c.joined-bits.result c.args.base c.in-Some.place
 at-posting c =
-    pre-place c.args.st.now c.args.postings.now c.args.norms.now c.args.inverses.now c.args.base c.args.want c.args.sums.now (λ i. omega (arith, c.type_inv.norms i)) (λ i. omega (arith, c.type_inv.st i)) c.requires c.node_at-n.result c.node_at-n.ensures (c.node_at-n.result.first + c.wide.result) c.joined-bits.result (omega (arith, c.wide.ensures)) c.joined-bits.ensures.word c.lowest-place.result c.lowest-place.ensures.within
-    (place-wanted (λ (p : ℕ) (x : Float). add binary64 x (term_score c.node_at-n.result c.args.norms.now c.args.inverses.now c.args.postings.now (c.node_at-n.result.first + c.wide.result) c.joined-bits.result c.args.base p)) c.args.want c.args.sums.now c.loop-left.left c.loop-left.sums c.loop-left.invariant c.lowest-place.result c.lowest-place.ensures)
+    pre-place c.args.st.now c.args.postings.now c.args.norms.now c.args.inverses.now c.args.base c.args.want c.args.sums.now (λ i. omega (arith, c.type_inv.norms i)) (λ i. omega (arith, c.type_inv.st i)) c.requires c.node_at-n.result c.node_at-n.ensures (c.node_at-n.result.first + c.wide.result) c.joined-bits.result (omega (arith, c.wide.ensures)) c.joined-bits.ensures.word c.in-Some.place c.in-Some.ensures.steps.0.within
+    (place-wanted (λ (p : ℕ) (x : Float). add binary64 x (term_score c.node_at-n.result c.args.norms.now c.args.inverses.now c.args.postings.now (c.node_at-n.result.first + c.wide.result) c.joined-bits.result c.args.base p)) c.args.want c.args.sums.now c.loop-place.place-iterator.left c.loop-place.sums c.loop-place.invariant c.in-Some.place c.in-Some.ensures.steps.0)
     c.if-n-eq1.false
 
-at-frequency : (c : goal.After-posting_frequency-frequency) → Weighs c.node_at-n.result c.args.norms.now c.args.inverses.now (c.args.base + c.lowest-place.result) c.posting_frequency-frequency.result
+at-frequency : (c : goal.After-posting_frequency-frequency) → Weighs c.node_at-n.result c.args.norms.now c.args.inverses.now (c.args.base + c.in-Some.place) c.posting_frequency-frequency.result
 at-frequency c =
     place-weighs
-    (pre-place c.args.st.now c.args.postings.now c.args.norms.now c.args.inverses.now c.args.base c.args.want c.args.sums.now (λ i. omega (arith, c.type_inv.norms i)) (λ i. omega (arith, c.type_inv.st i)) c.requires c.node_at-n.result c.node_at-n.ensures (c.node_at-n.result.first + c.wide.result) c.joined-bits.result (omega (arith, c.wide.ensures)) c.joined-bits.ensures.word c.lowest-place.result c.lowest-place.ensures.within
-    (place-wanted (λ (p : ℕ) (x : Float). add binary64 x (term_score c.node_at-n.result c.args.norms.now c.args.inverses.now c.args.postings.now (c.node_at-n.result.first + c.wide.result) c.joined-bits.result c.args.base p)) c.args.want c.args.sums.now c.loop-left.left c.loop-left.sums c.loop-left.invariant c.lowest-place.result c.lowest-place.ensures)
+    (pre-place c.args.st.now c.args.postings.now c.args.norms.now c.args.inverses.now c.args.base c.args.want c.args.sums.now (λ i. omega (arith, c.type_inv.norms i)) (λ i. omega (arith, c.type_inv.st i)) c.requires c.node_at-n.result c.node_at-n.ensures (c.node_at-n.result.first + c.wide.result) c.joined-bits.result (omega (arith, c.wide.ensures)) c.joined-bits.ensures.word c.in-Some.place c.in-Some.ensures.steps.0.within
+    (place-wanted (λ (p : ℕ) (x : Float). add binary64 x (term_score c.node_at-n.result c.args.norms.now c.args.inverses.now c.args.postings.now (c.node_at-n.result.first + c.wide.result) c.joined-bits.result c.args.base p)) c.args.want c.args.sums.now c.loop-place.place-iterator.left c.loop-place.sums c.loop-place.invariant c.in-Some.place c.in-Some.ensures.steps.0)
     c.if-n-eq1.false)
-    c.wide-in-loop-left.result c.posting_frequency-frequency.result (c.wide-in-loop-left.ensures ∙ c.rank.ensures) c.posting_frequency-frequency.ensures
+    c.wide-in-loop-place.result c.posting_frequency-frequency.result (c.wide-in-loop-place.ensures ∙ c.rank.ensures) c.posting_frequency-frequency.ensures
 
 pub posting_frequency-frequency-requires : goal.posting_frequency-frequency-requires
-posting_frequency-frequency-requires c = omega (arith, (at-posting c).there, c.rank.ensures, c.wide-in-loop-left.ensures)
+posting_frequency-frequency-requires c = omega (arith, (at-posting c).there, c.rank.ensures, c.wide-in-loop-place.ensures)
 
 pub weighted-s-requires-clause-frequency_bound : goal.weighted-s-requires-clause-frequency_bound
 weighted-s-requires-clause-frequency_bound c = let q = at-frequency c in (q.frequency-few, (q.number, q.field-few))
@@ -57,27 +57,26 @@ weighted-s-requires-clause-doc_in_bounds_2 c = (at-frequency c).inverse-there
 pub add_score-requires : goal.add_score-requires
 add_score-requires c =
     place-number
-    (pre-place c.args.st.now c.args.postings.now c.args.norms.now c.args.inverses.now c.args.base c.args.want c.args.sums.now (λ i. omega (arith, c.type_inv.norms i)) (λ i. omega (arith, c.type_inv.st i)) c.requires c.node_at-n.result c.node_at-n.ensures (c.node_at-n.result.first + c.wide.result) c.joined-bits.result (omega (arith, c.wide.ensures)) c.joined-bits.ensures.word c.lowest-place.result c.lowest-place.ensures.within
-    (place-wanted (λ (p : ℕ) (x : Float). add binary64 x (term_score c.node_at-n.result c.args.norms.now c.args.inverses.now c.args.postings.now (c.node_at-n.result.first + c.wide.result) c.joined-bits.result c.args.base p)) c.args.want c.args.sums.now c.loop-left.left c.loop-left.sums c.loop-left.invariant c.lowest-place.result c.lowest-place.ensures)
+    (pre-place c.args.st.now c.args.postings.now c.args.norms.now c.args.inverses.now c.args.base c.args.want c.args.sums.now (λ i. omega (arith, c.type_inv.norms i)) (λ i. omega (arith, c.type_inv.st i)) c.requires c.node_at-n.result c.node_at-n.ensures (c.node_at-n.result.first + c.wide.result) c.joined-bits.result (omega (arith, c.wide.ensures)) c.joined-bits.ensures.word c.in-Some.place c.in-Some.ensures.steps.0.within
+    (place-wanted (λ (p : ℕ) (x : Float). add binary64 x (term_score c.node_at-n.result c.args.norms.now c.args.inverses.now c.args.postings.now (c.node_at-n.result.first + c.wide.result) c.joined-bits.result c.args.base p)) c.args.want c.args.sums.now c.loop-place.place-iterator.left c.loop-place.sums c.loop-place.invariant c.in-Some.place c.in-Some.ensures.steps.0)
     c.if-n-eq1.false)
-    c.wide-in-loop-left.result c.posting_frequency-frequency.result (c.wide-in-loop-left.ensures ∙ c.rank.ensures) c.posting_frequency-frequency.ensures c.weighted-s.result c.weighted-s.ensures
+    c.wide-in-loop-place.result c.posting_frequency-frequency.result (c.wide-in-loop-place.ensures ∙ c.rank.ensures) c.posting_frequency-frequency.ensures c.weighted-s.result c.weighted-s.ensures
 
-pub loop-left-preserved : goal.loop-left-preserved
-loop-left-preserved c =
-    let l = c.loop-left in
-    let t = c.lowest-place in
-    let w = c.without_lowest-left in
-    adding-step (λ (p : ℕ) (x : Float). add binary64 x (term_score c.node_at-n.result c.args.norms.now c.args.inverses.now c.args.postings.now (c.node_at-n.result.first + c.wide.result) c.joined-bits.result c.args.base p)) c.args.want c.args.sums.now l.left l.sums l.invariant t.result t.ensures w.result (w.ensures.others t.result t.ensures) c.wide-at.result c.add_score.result c.wide-at.ensures
+pub loop-place-preserved : goal.loop-place-preserved
+loop-place-preserved c =
+    let l = c.loop-place in
+    let n = c.in-Some.ensures.steps in
+    adding-step (λ (p : ℕ) (x : Float). add binary64 x (term_score c.node_at-n.result c.args.norms.now c.args.inverses.now c.args.postings.now (c.node_at-n.result.first + c.wide.result) c.joined-bits.result c.args.base p)) c.args.want c.args.sums.now l.place-iterator.left l.sums l.invariant c.in-Some.place n.0 c.next.new.self.left n.1 c.in-Some.place c.add_score.result refl
     (c.add_score.ensures
-    ∙ ap (add binary64 (get_or l.sums c.wide-at.result nan))
+    ∙ ap (add binary64 (get_or l.sums c.in-Some.place nan))
     (place-score
-    (pre-place c.args.st.now c.args.postings.now c.args.norms.now c.args.inverses.now c.args.base c.args.want c.args.sums.now (λ i. omega (arith, c.type_inv.norms i)) (λ i. omega (arith, c.type_inv.st i)) c.requires c.node_at-n.result c.node_at-n.ensures (c.node_at-n.result.first + c.wide.result) c.joined-bits.result (omega (arith, c.wide.ensures)) c.joined-bits.ensures.word c.lowest-place.result c.lowest-place.ensures.within
-    (place-wanted (λ (p : ℕ) (x : Float). add binary64 x (term_score c.node_at-n.result c.args.norms.now c.args.inverses.now c.args.postings.now (c.node_at-n.result.first + c.wide.result) c.joined-bits.result c.args.base p)) c.args.want c.args.sums.now c.loop-left.left c.loop-left.sums c.loop-left.invariant c.lowest-place.result c.lowest-place.ensures)
+    (pre-place c.args.st.now c.args.postings.now c.args.norms.now c.args.inverses.now c.args.base c.args.want c.args.sums.now (λ i. omega (arith, c.type_inv.norms i)) (λ i. omega (arith, c.type_inv.st i)) c.requires c.node_at-n.result c.node_at-n.ensures (c.node_at-n.result.first + c.wide.result) c.joined-bits.result (omega (arith, c.wide.ensures)) c.joined-bits.ensures.word c.in-Some.place c.in-Some.ensures.steps.0.within
+    (place-wanted (λ (p : ℕ) (x : Float). add binary64 x (term_score c.node_at-n.result c.args.norms.now c.args.inverses.now c.args.postings.now (c.node_at-n.result.first + c.wide.result) c.joined-bits.result c.args.base p)) c.args.want c.args.sums.now c.loop-place.place-iterator.left c.loop-place.sums c.loop-place.invariant c.in-Some.place c.in-Some.ensures.steps.0)
     c.if-n-eq1.false)
-    c.wide-in-loop-left.result c.posting_frequency-frequency.result (c.wide-in-loop-left.ensures ∙ c.rank.ensures) c.posting_frequency-frequency.ensures c.weighted-s.result c.weighted-s.ensures))
+    c.wide-in-loop-place.result c.posting_frequency-frequency.result (c.wide-in-loop-place.ensures ∙ c.rank.ensures) c.posting_frequency-frequency.ensures c.weighted-s.result c.weighted-s.ensures))
 
 pub returns : goal.returns
 returns c =
-    let l = c.loop-left in
+    let l = c.loop-place in
     post-weighted c.args.st.now c.args.postings.now c.args.norms.now c.args.inverses.now c.args.base c.args.want c.args.sums.now (λ i. omega (arith, c.type_inv.norms i)) (λ i. omega (arith, c.type_inv.st i)) c.requires.0 c.node_at-n.result c.node_at-n.ensures l.sums c.if-n-eq1.false (c.node_at-n.result.first + c.wide.result) c.joined-bits.result (omega (arith, c.wide.ensures)) c.joined-bits.ensures.word l.invariant.long
-    (adding-done (λ (p : ℕ) (x : Float). add binary64 x (term_score c.node_at-n.result c.args.norms.now c.args.inverses.now c.args.postings.now (c.node_at-n.result.first + c.wide.result) c.joined-bits.result c.args.base p)) c.args.want c.args.sums.now l.left l.sums l.invariant c.loop-left-test.false)
+    (adding-done (λ (p : ℕ) (x : Float). add binary64 x (term_score c.node_at-n.result c.args.norms.now c.args.inverses.now c.args.postings.now (c.node_at-n.result.first + c.wide.result) c.joined-bits.result c.args.base p)) c.args.want c.args.sums.now l.place-iterator.left l.sums l.invariant c.in-None.ensures.steps.0)

@@ -4,8 +4,5 @@ use Rattle.meaning.specs.Ieee754.{narrow}
 use Rattle.window_score.proofs.Adding.{Adding}
 use Rattle.window_score.proofs.sums.add_joined.Given as goal
 
-abbrev pub invariant-loop-left : goal.invariant-loop-left
-invariant-loop-left l = Adding (λ p x. add binary64 x (narrow (add binary64 (narrow (get_or l.own p nan)) (narrow (get_or l.group p nan))))) l.want l.left l.initial.sums l.sums
-
-abbrev pub decreases-loop-left : goal.decreases-loop-left
-decreases-loop-left l = l.left
+abbrev pub invariant-loop-place : goal.invariant-loop-place
+invariant-loop-place l = Adding (λ p x. add binary64 x (narrow (add binary64 (narrow (get_or l.own p nan)) (narrow (get_or l.group p nan))))) l.want l.place-iterator.left l.initial.sums l.sums

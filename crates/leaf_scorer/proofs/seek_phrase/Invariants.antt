@@ -1,0 +1,17 @@
+use Rattle.leaf_scorer.proofs.Loops.{Lengths, Going}
+use Rattle.weight.specs.State.{State}
+use Rattle.leaf_scorer.specs.Phrases.{PhraseHeld, PhraseMoved}
+use lib.Dec.{ltb}
+use Rattle.meaning.specs.Phrase.{PhraseTerm, phrase_frequency}
+use Rattle.meaning.specs.Lent.{Index}
+use Rattle.meaning.specs.Limits.{no_more_docs}
+use lib.ListN.{length}
+use mathlib.Core.List.{List}
+use Prim.Native.Nat.{ℕ, ◌-◌, ◌≤◌}
+use Rattle.leaf_scorer.proofs.seek_phrase.Given as goal
+
+abbrev pub invariant-loop-target : goal.invariant-loop-target
+invariant-loop-target l = Lengths (length l.st) (length l.initial.st) (length l.a) (length l.initial.a) (length l.b) (length l.initial.b) × (l.t ≤ no_more_docs) × ((ix : Index) (p f : ℕ) (ts : List PhraseTerm) (s : State) (w : List ℕ) → PhraseHeld l.postings l.positions ix p f ts s w l.initial.st l.target → Going (λ d. ltb 0 (phrase_frequency ix ts d)) l.target l.t (PhraseMoved ix f ts s l.st l.t))
+
+abbrev pub decreases-loop-target : goal.decreases-loop-target
+decreases-loop-target l = no_more_docs - l.t
