@@ -6,18 +6,11 @@ ghost use Rattle.std.specs.Prelude.{◌≡◌, ◌≤◌, true, length};
 ghost use Rattle.phrase.specs.Terms.{GoodTerm};
 ghost use Rattle.phrase_vectors.specs.Asked.{Asked};
 
-use phrase::Placed;
 use std::io;
 use std::io::Write;
 
 // Near the largest position and offset.
 const HIGH: u32 = 2_147_483_600;
-
-fn wide(x: u32) -> usize
-    ensures { result ≡ x }
-{
-    x as usize
-}
 
 // Whether a term's positions are there, do not fall and, like its offset, are at most 2147483647.
 fn is_good_term(positions: &[u32], first: usize, freq: usize, offset: u32) -> bool
@@ -33,8 +26,7 @@ fn is_good_term(positions: &[u32], first: usize, freq: usize, offset: u32) -> bo
         return false;
     }
     let mut last = 0;
-    let mut j = 0;
-    while j < freq {
+    for j in 0..freq {
         let position = positions[first + j];
         if position < last {
             return false;
@@ -43,7 +35,6 @@ fn is_good_term(positions: &[u32], first: usize, freq: usize, offset: u32) -> bo
             return false;
         }
         last = position;
-        j += 1;
     }
     true
 }
@@ -58,19 +49,16 @@ fn is_good(positions: &[u32], terms: &[u32], places: usize) -> bool
     if terms.len() % 3 != 0 {
         return false;
     }
-    if wide(terms[1]) > places {
+    if terms[1] as usize > places {
         return false;
     }
-    let mut at = 0;
-    while at < terms.len() {
-        if is_good_term(
+    for at in (0..terms.len()).step_by(3) {
+        if !is_good_term(
             positions,
-            wide(terms[at]),
-            wide(terms[at + 1]),
+            terms[at] as usize,
+            terms[at + 1] as usize,
             terms[at + 2],
         ) {
-            at += 3;
-        } else {
             return false;
         }
     }
@@ -85,22 +73,16 @@ fn print_frequency(out: &mut impl Write, positions: &[u32], terms: &[u32]) -> io
     vectors::print_number(out, phrase::frequency(positions, terms, &mut a, &mut b))
 }
 
-fn print_none(out: &mut impl Write) -> io::Result<()> {
-    write!(out, "none")
-}
-
 // The start that Place answers: any common one is right, and the code gives the least.
 fn print_place(out: &mut impl Write, positions: &[u32], terms: &[u32]) -> io::Result<()>
     requires { Asked positions.now terms.now 8 }
 {
     let mut a = [0i32; 8];
     let mut b = [0i32; 8];
-    let placed = phrase::place(positions, terms, &mut a, &mut b);
-    match placed {
-        Placed::At(start) => vectors::print_signed(out, start)?,
-        Placed::Nothing => print_none(out)?,
+    match phrase::place(positions, terms, &mut a, &mut b) {
+        Some(start) => writeln!(out, "{start}"),
+        None => writeln!(out, "none"),
     }
-    vectors::end_line(out)
 }
 
 fn print_phrase(out: &mut impl Write, positions: &[u32], terms: &[u32]) -> io::Result<()> {
@@ -119,15 +101,13 @@ fn positions_of(base: u32, spread: u32, seed: u64) -> [u32; 40]
     let mut positions = [0u32; 40];
     let mut x = seed;
     let mut position = base;
-    let mut i = 0;
-    while i < 40 {
+    for (i, place) in positions.iter_mut().enumerate() {
         x = vectors::xorshift(x);
         if i % 8 == 0 {
             position = base;
         }
         position = std::num::wrapping_add_u32(position, vectors::below(x, spread));
-        positions[i] = position;
-        i += 1;
+        *place = position;
     }
     positions
 }
@@ -139,14 +119,12 @@ fn terms_of(base: u32, seed: u64) -> [u32; 15]
     let mut terms = [0u32; 15];
     let mut x = seed;
     let mut first = 0;
-    let mut i = 0;
-    while i < 5 {
+    for i in 0..5 {
         x = vectors::xorshift(x);
         terms[3 * i] = first;
         terms[3 * i + 1] = std::num::wrapping_add_u32(1, vectors::below(x, 8));
         terms[3 * i + 2] = std::num::wrapping_add_u32(base, vectors::below(x >> 8, 4));
         first = std::num::wrapping_add_u32(first, 8);
-        i += 1;
     }
     terms
 }
@@ -175,11 +153,9 @@ fn ask_each(
     times: usize,
 ) -> io::Result<()> {
     let mut seed: u64 = 1;
-    let mut i = 0;
-    while i < times {
+    for i in 0..times {
         seed = std::num::wrapping_add_u64(seed, 0x9e37_79b9_7f4a_7c15);
         ask(out, position_base, offset_base, 1 + i % 5, seed)?;
-        i += 1;
     }
     Ok(())
 }

@@ -28,8 +28,7 @@ use Rattle.query.proofs.Whole.{phrase-stands}
 use Rattle.phrase.specs.Terms.{start_lists, Good, Room}
 use Rattle.phrase.specs.Words.{phrase_words}
 use Rattle.phrase.specs.Place.{PlacedIn}
-use Rattle.phrase.specs.declared.Placed as Found
-use Rattle.phrase.specs.declared.Placed.TheVariants as Variant
+use Rattle.std.specs.Prelude as Found
 use Rattle.phrase.proofs.Words.{AllFine, words-starts, words-frequency, words-good, words-room}
 use Rattle.weight.specs.Measured.{Asks}
 use Rattle.weight.specs.ScorerTree.{phrase}
@@ -159,13 +158,13 @@ module _ (ix : Index) (q : List ℕ) (asks : Asks ix q) (r d : ℕ) (here : r < 
         rw are (words-good ix d ts s.2 (each-fine ix asks.accepted d f (starts_needed ix q) s.1 ts s.4), (room n h, room m g))
 
     -- none exactly where the phrase stands nowhere
-    pub found_nothing : (p : Found.Placed) → p ≡ Variant.Nothing → PlacedIn (start_lists ix.positions words) p → PlaceFound ix q r d (pos 0 ∷ pos 0 ∷ [])
+    pub found_nothing : (p : Found.Option ℤ) → p ≡ Found.None → PlacedIn (start_lists ix.positions words) p → PlaceFound ix q r d (pos 0 ∷ pos 0 ∷ [])
     unfolding PlacedIn place_right
     found_nothing p e h =
         let z : common_size (start_lists ix.positions words) ≡ 0 = rw e at h in
         (none, eq-eqb _ 0 (sym (words-frequency ix d (phrase_terms_of q r)) ∙ ap (λ (z : List ℕ). common_size (start_lists ix.positions z)) (sym are) ∙ z), refl)
 
-    pub found_at : (p : Found.Placed) (x s : ℤ) → p ≡ Variant.At s → x ≡ s → PlacedIn (start_lists ix.positions words) p → PlaceFound ix q r d (pos 0 ∷ pos 1 ∷ x ∷ [])
+    pub found_at : (p : Found.Option ℤ) (x s : ℤ) → p ≡ Found.Some s → x ≡ s → PlacedIn (start_lists ix.positions words) p → PlaceFound ix q r d (pos 0 ∷ pos 1 ∷ x ∷ [])
     unfolding PlacedIn place_right stands_at
     found_at p x s e f h = rw f (some s, lt-ltb 0 _ (rw (e, are, words-starts ix d (phrase_terms_of q r)) at h), refl)
 

@@ -83,8 +83,8 @@ fn locate(
     let mut terms: [u32; 96] = [0; 96];
     write_terms(leaves, postings, q, at, document, &mut terms);
     match phrase::place(positions, &terms[..3 * count], a, b) {
-        phrase::Placed::Nothing => Placed::Nothing,
-        phrase::Placed::At(s) => Placed::At(s),
+        None => Placed::Nothing,
+        Some(s) => Placed::At(s),
     }
 }
 

@@ -1,10 +1,6 @@
 -- What the loop has seen is told by `Seen`.
 use Rattle.phrase_vectors.proofs.Checks.{Seen}
-use Rattle.std.proofs.Common.{length, ◌-◌}
 use Rattle.phrase_vectors.proofs.is_good.Given as goal
 
 abbrev pub invariant-loop-at : goal.invariant-loop-at
 invariant-loop-at l = Seen l.positions l.terms l.places l.at
-
-abbrev pub decreases-loop-at : goal.decreases-loop-at
-decreases-loop-at l = length l.terms - l.at

@@ -82,33 +82,33 @@ enum_told c = search rules
 enum-known-s : tie.Need-enum_known-s
 enum-known-s c = search rules
 
-same_length : tie.Need-shape_of-a-in-Nothing
+same_length : tie.Need-shape_of-a-in-None
 same_length c = search rules
 
-same-length-2 : tie.Need-shape_of-b-in-Nothing
+same-length-2 : tie.Need-shape_of-b-in-None
 same-length-2 c = search rules
 
-returns : tie.Need-returns-in-Nothing
+returns : tie.Need-returns-in-None
 unfolding placed_numbers
 returns c =
     let p = c in
     let t = p.before.before.before.before.before.before.before in
     let s = start t.before.before.before in
-    λ ix h. let w = within s ix h in found_nothing ix s.args.q.now h.asks s.args.record_number s.args.document w.1 w.2 _ (words_are t ix h) _ c.in-Nothing.is (rw h.positions-are p.place.ensures)
+    λ ix h. let w = within s ix h in found_nothing ix s.args.q.now h.asks s.args.record_number s.args.document w.1 w.2 _ (words_are t ix h) _ c.in-None.is (rw h.positions-are p.place.ensures)
 
-same-length-3 : tie.Need-shape_of-a-in-At
+same-length-3 : tie.Need-shape_of-a-in-Some
 same-length-3 c = search rules
 
-same-length-4 : tie.Need-shape_of-b-in-At
+same-length-4 : tie.Need-shape_of-b-in-Some
 same-length-4 c = search rules
 
-returns-2 : tie.Need-returns-in-At
+returns-2 : tie.Need-returns-in-Some
 unfolding placed_numbers
 returns-2 c =
     let p = c in
     let t = p.before.before.before.before.before.before.before in
     let s = start t.before.before.before in
-    λ ix h. let w = within s ix h in found_at ix s.args.q.now h.asks s.args.record_number s.args.document w.1 w.2 _ (words_are t ix h) _ _ _ c.in-At.is (to_z-of_z {w = w32} (record { sfits = c.in-At.known_told-1-own.given.0.1 })) (rw h.positions-are p.place.ensures)
+    λ ix h. let w = within s ix h in found_at ix s.args.q.now h.asks s.args.record_number s.args.document w.1 w.2 _ (words_are t ix h) _ _ _ c.in-Some.is (to_z-of_z {w = w32} (record { sfits = c.in-Some.known_told-1-own.given.0.1 })) (rw h.positions-are p.place.ensures)
 
 pub locate_spec : {M : Type 1} → statement M
 locate_spec =
