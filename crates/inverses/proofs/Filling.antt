@@ -1,14 +1,13 @@
 -- The inverses of the fields that a query's records score in, as the code fills them. Assumes nothing.
 use mathlib.Core.Path.{◌≡◌, refl, sym, ◌∙◌, ap, subst}
 use mathlib.Core.Bool.{Bool, true, false, cond, ◌||◌, false≢true}
-use mathlib.Core.List.{List, ◌∷◌, ◌++◌, append_assoc}
+use mathlib.Core.List.{List, ◌++◌, append_assoc}
 use mathlib.Core.Logic.{inl, inr}
-use Prim.Native.Nat.{ℕ, suc, ◌+◌, ◌-◌, ◌*◌, ◌≤◌, ◌<◌}
+use Prim.Native.Nat.{ℕ, ◌+◌, ◌-◌, ◌*◌, ◌≤◌, ◌<◌}
 use native.Mathlib.Omega.{arith}
-use native.Mathlib.Numerals.{add-one}
 use lib.Dec.{eqb}
 use lib.ListN.{length, take, drop, set, get_or, replicate, length-append, length-drop, get_or-replicate, take-append-drop, get_or-append, get_or-eq_default}
-use lib.Seq.{append_snoc, set_at, drop-cons, drop-append-le, drop-drop, length-take-le, get_or-append-add, get_or-take, get_or-drop, get_or-set_same, get_or-set_other}
+use lib.Seq.{drop-append-le, drop-drop, length-take-le, get_or-append-add, get_or-take, get_or-drop, get_or-set_same, get_or-set_other}
 use lib.Ieee.{Float, nan, binary32, of_bits}
 use borrow.Author.Tests.{eq-eqb, ne_eqb, eqb-true, eqb-false}
 use borrow.Rule.Slice.PartMut.{put_mid, post_of, mid_of}
@@ -17,7 +16,7 @@ use Rattle.meaning.specs.Bm25.{length_of, inverse}
 use Rattle.meaning.specs.Limits.{least_average, largest_average}
 use Rattle.meaning.specs.Lent.{Index, field_count, field_average, leaf_field}
 use Rattle.meaning.specs.Query.{record_count, record_kind, record_value}
-use Rattle.meaning.proofs.Below.{list_to-next, length-list_to, get_or-list_to, last-or-below}
+use Rattle.meaning.proofs.Below.{length-list_to, get_or-list_to, last-or-below}
 use Rattle.meaning.proofs.Tests.{cmp}
 use Rattle.query.proofs.Accepted.{term-leaf, phrase-right}
 use Rattle.weight.specs.Measured.{Asks}
@@ -25,16 +24,6 @@ use Rattle.weight.specs.Sound.{FieldTable}
 use Rattle.node_words.specs.Placed.{LeafLent}
 use Rattle.inverses.specs.Inverses.{field_at, has_field}
 use Rattle.node_words.proofs.Norms.{field-here}
-
--- ---- of one field: one entry more in front of what was there
-pub entry_more : (f : ℕ → Float) (before t : List Float) (n : ℕ) (v : Float) → n < length before → t ≡ list_to n f ++ drop n before → v ≡ f n → set t n v ≡ list_to (n + 1) f ++ drop (n + 1) before
-entry_more f before t n v h e is =
-    ap (λ (z : List Float). set z n v) (e ∙ ap (λ (z : List Float). list_to n f ++ z) (drop-cons before n nan h))
-    ∙ set_at (list_to n f) (get_or before n nan) (drop (suc n) before) v n (length-list_to n f)
-    ∙ ap (λ (z : Float). list_to n f ++ z ∷ drop (suc n) before) is
-    ∙ sym (append_snoc (list_to n f) (f n) (drop (suc n) before))
-    ∙ ap (λ (z : List Float). z ++ drop (suc n) before) (sym (list_to-next f n))
-    ∙ ap (λ (z : ℕ). list_to (n + 1) f ++ drop z before) (sym (add-one n))
 
 -- ---- the table with one field's places filled
 module _ (e : ℕ → Float) (t : List Float) (a : ℕ) (room : a + 256 ≤ length t) where

@@ -32,11 +32,7 @@ fn fill_field(average: u32, table: &mut [f32])
     ensures { table.new ≡ list_to 256 (λ n. inverse (of_bits binary32 average) (length_of n)) ++ drop 256 table.old }
 {
     let bm25 = Bm25::new(f32::from_bits(average));
-    let mut n: usize = 0;
-    while n < 256 {
-        table[n] = bm25.cache[n];
-        n += 1;
-    }
+    table[..256].copy_from_slice(&bm25.cache);
 }
 
 // Whether the record at `at` is a Term or a Phrase.
@@ -70,10 +66,8 @@ pub fn fill_inverses(fields: &[u32], leaves: &[u32], q: &[u32], table: &mut [f32
     ensures field_table { (ix : Index) (n : ℕ) → Asks ix q.now → LeafLent ix n fields.now leaves.now → FieldTables ix q.now table.new }
     ensures table_len { length table.new ≡ 4096 }
 {
-    let count = query::record_count(q);
     let mut filled: [bool; 16] = [false; 16];
-    let mut at = 0;
-    while at < count {
+    for at in 0..query::record_count(q) {
         if has_field(q, at) {
             let f = field_at(q, leaves, at) as usize;
             if !filled[f] {
@@ -81,6 +75,5 @@ pub fn fill_inverses(fields: &[u32], leaves: &[u32], q: &[u32], table: &mut [f32
                 filled[f] = true;
             }
         }
-        at += 1;
     }
 }

@@ -52,10 +52,7 @@ pub struct NodeState {
 pub fn held(nodes: usize) -> usize
     ensures { result ≡ held nodes }
 {
-    if nodes < MAX_RECORDS {
-        return nodes;
-    }
-    MAX_RECORDS
+    nodes.min(MAX_RECORDS)
 }
 
 // The record at i to its words.
@@ -158,10 +155,8 @@ pub fn unpack(nodes: &[NodeState], n: usize, words: &mut [u32])
     requires { (n ≤ length nodes.now) × (node_state_words * n ≤ length words.old) }
     ensures { words.new ≡ record_words (take n nodes.now) ++ drop (node_state_words * n) words.old }
 {
-    let mut i = 0;
-    while i < n {
+    for i in 0..n {
         put_node(words, i, nodes[i]);
-        i += 1;
     }
 }
 
@@ -185,9 +180,7 @@ pub fn pack(words: &[u32], n: usize, nodes: &mut [NodeState])
     requires { (n ≤ length nodes.old) × (node_state_words * n ≤ length words.now) }
     ensures { (record_words (take n nodes.new) ≡ take (node_state_words * n) words.now) × (drop n nodes.new ≡ drop n nodes.old) }
 {
-    let mut i = 0;
-    while i < n {
+    for i in 0..n {
         nodes[i] = node_at(words, i);
-        i += 1;
     }
 }

@@ -12,7 +12,7 @@ returns c =
     let n = c.args.n in
     let ns = c.args.nodes.now in
     let upto : c.loop-i.i ≡ n = omega arith in
-    let e : take_nodes w n ns ≡ c.loop-i.nodes = subst (λ (i : ℕ). take_nodes w i ns ≡ c.loop-i.nodes) upto (sym c.loop-i.invariant.taken) in
+    let e : take_nodes w n ns ≡ c.loop-i.nodes = subst (λ (i : ℕ). take_nodes w i ns ≡ c.loop-i.nodes) upto (sym c.loop-i.invariant) in
     subst
     (λ (l : List NodeState). (record_words (take n l) ≡ take (node_state_words * n) w) × (drop n l ≡ drop n ns))
     e

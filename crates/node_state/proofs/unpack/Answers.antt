@@ -8,4 +8,4 @@ returns c =
     let w = c.args.words.now in
     let ns = c.args.nodes.now in
     let upto : c.loop-i.i ≡ c.args.n = omega arith in
-    c.loop-i.invariant.put ∙ ap (λ (i : ℕ). put_all ns i w) upto ∙ all-put ns c.args.n w c.requires.0 c.requires.1
+    c.loop-i.invariant ∙ ap (λ (i : ℕ). put_all ns i w) upto ∙ all-put ns c.args.n w c.requires.0 c.requires.1
