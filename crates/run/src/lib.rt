@@ -33,6 +33,7 @@ impl Postings<'_> {
     }
 
     // By halves, between two places.
+    // Kept: no plainer: the stride is a number, so there is no slice of records for `partition_point`.
     fn halve(self, from: usize, to: usize, target: u32) -> usize
         requires { Between self.words.now self.stride self.first self.count from to target }
         ensures { Lower self.entry.words.now self.entry.stride self.entry.first self.entry.count from target result }
