@@ -3,7 +3,7 @@ use mathlib.Core.Path.{◌≡◌, refl, sym, ap, ◌∙◌}
 use mathlib.Core.Logic.{⊎_elim}
 use mathlib.Core.Bool.{Bool, true, false, not, cond, ◌&&◌, ◌||◌, and-true, false≢true}
 use mathlib.Core.List.{List}
-use Prim.Native.Nat.{ℕ, ◌+◌, ◌-◌, ◌*◌, ◌/◌, ◌%◌, ◌^◌, ◌≤◌, ◌<◌, max, min}
+use Prim.Native.Nat.{ℕ, ◌+◌, ◌-◌, ◌*◌, ◌/◌, ◌%◌, ◌^◌, ◌≤◌, ◌<◌}
 use native.Mathlib.Omega.{arith}
 use native.Mathlib.Nat.{add_comm}
 use lib.Dec.{eqb, leb, ltb}
@@ -21,7 +21,7 @@ use Rattle.ieee754.specs.TotalOrder.{total_key}
 use Rattle.ieee754.proofs.TotalOrder.{total-key, total-key-lt, key-clear, key_set}
 use Rattle.column_keys.specs.Keys.{i64_key, value_key, between, key_at_lower, key_at_upper, number_key, range_key, value_in}
 use Rattle.meaning.proofs.Tests.{cmp, ltb-as-ltb}
-use Rattle.column_keys.proofs.Tests.{leb-as-ltb, leb-as-leb, not-ltb, and-middle}
+use Rattle.column_keys.proofs.Tests.{leb-as-ltb, leb-as-leb, not-ltb}
 
 -- ---- i64: a pattern without the sign bit, and one with it
 i64_of-small : (a : ℕ) → a < 2 ^ 63 → i64_of a ≡ pos a
@@ -191,24 +191,6 @@ module _ (type k : ℕ) (fk : k < 2 ^ 64) where
   unfolding number_key
   numbers-i64 e = rw (eq-eqb type 0 e, le-leb 0 k (omega arith), le-leb k (2 ^ 64 - 1) (omega arith))
 
--- both of two intervals
-leb-max : (a c k : ℕ) → leb (max a c) k ≡ (leb a k && leb c k)
-leb-max a c k =
-    ⊎_elim
-    (λ h. lt-leb (max a c) k (omega arith) ∙ rw (lt-leb a k h))
-    (λ h. ⊎_elim (λ g. lt-leb (max a c) k (omega arith) ∙ rw (le-leb a k h, lt-leb c k g)) (λ g. le-leb (max a c) k (omega arith) ∙ rw (le-leb a k h, le-leb c k g)) (cmp k c))
-    (cmp k a)
-
-leb-min : (b d k : ℕ) → leb k (min b d) ≡ (leb k b && leb k d)
-leb-min b d k =
-    ⊎_elim
-    (λ h. lt-leb k (min b d) (omega arith) ∙ rw (lt-leb k b h))
-    (λ h. ⊎_elim (λ g. lt-leb k (min b d) (omega arith) ∙ rw (le-leb k b h, lt-leb k d g)) (λ g. le-leb k (min b d) (omega arith) ∙ rw (le-leb k b h, le-leb k d g)) (cmp d k))
-    (cmp b k)
-
-pub between-both : (a b c d k : ℕ) → between (max a c) (min b d) k ≡ (between a b k && between c d k)
-between-both a b c d k = rw (leb-max a c k, leb-min b d k) (and-middle (leb a k) (leb c k) (leb k b) (leb k d))
-
 -- ---- a range: the numbers' interval and the ends' in common, where both ends are good, and nothing where one is not
 ends-good : (n g h l u : Bool) → (g && h) ≡ true → (n && (l && u)) ≡ (n && g && h && l && u)
 ends-good false g h l u e = refl
@@ -223,9 +205,8 @@ end-failed true true false l u e = refl
 end-failed true false h l u e = refl
 
 module _ (type kinds lower upper k : ℕ) (g h : Bool) (lower-good : g ≡ end_good (kinds % 3) type lower) (upper-good : h ≡ end_good (kinds / 3) type upper) where
-  pub range-common : (g && h) ≡ true → (a b c d : ℕ) → between a b k ≡ number_key type k → between c d k ≡ (key_at_lower (kinds % 3) (value_key type lower) k && key_at_upper (kinds / 3) (value_key type upper) k) → between (max a c) (min b d) k ≡ range_key type kinds lower upper k
-  range-common good a b c d n e =
-      rw (← lower-good, ← upper-good) (between-both a b c d k ∙ rw (n, e) (ends-good (number_key type k) g h _ _ good))
+  pub range-common : (g && h) ≡ true → (n e : Bool) → n ≡ number_key type k → e ≡ (key_at_lower (kinds % 3) (value_key type lower) k && key_at_upper (kinds / 3) (value_key type upper) k) → (n && e) ≡ range_key type kinds lower upper k
+  range-common good n e is ends = rw (← lower-good, ← upper-good, is, ends) (ends-good (number_key type k) g h _ _ good)
 
   pub range-nothing : (g && h) ≡ false → between 1 0 k ≡ range_key type kinds lower upper k
   range-nothing bad = rw (← lower-good, ← upper-good) (no_key k ∙ end-failed (number_key type k) g h _ _ bad)

@@ -1,7 +1,7 @@
 // The values of a numeric column as numbers in their order, and the keys that a range lets in.
 #![tactic(auto)]
 
-ghost use Rattle.std.specs.Prelude.{ℕ, ◌+◌, ◌/◌, ◌%◌, ◌^◌, ◌≤◌, ◌<◌, max, min, ◌≡◌, ◌&&◌, length};
+ghost use Rattle.std.specs.Prelude.{ℕ, ◌+◌, ◌/◌, ◌%◌, ◌^◌, ◌≤◌, ◌<◌, ◌≡◌, ◌&&◌, length};
 ghost use Rattle.meaning.specs.Lent.{joined};
 ghost use Rattle.meaning.specs.Range.{failed, end_good};
 ghost use Rattle.column_keys.specs.Keys.{i64_key, value_key, between, key_at_lower, key_at_upper, number_key, range_key, value_in};
@@ -20,7 +20,8 @@ fn i64_key(bits: u64) -> u64
     bits ^ 0x8000_0000_0000_0000
 }
 
-// A value's place in the order of its column's type: 0 for i64, 1 for f64.
+// A value's place in the order of its column's type.
+// Kept: the C interface lends words: a type is 0 for i64, and every other number is taken for f64.
 fn value_key(column_type: u32, bits: u64) -> u64
     ensures { result ≡ value_key column_type bits }
 {
@@ -32,69 +33,73 @@ fn value_key(column_type: u32, bits: u64) -> u64
 }
 
 // The keys from one to another, both included; none where `from` is above `to`.
-#[derive(Drop)]
+#[derive(Clone, Copy)]
 pub struct Keys {
     pub from: u64,
     pub to: u64,
+}
+
+impl Keys {
+    const ALL: Keys = Keys {
+        from: 0,
+        to: u64::MAX,
+    };
+
+    const NONE: Keys = Keys { from: 1, to: 0 };
+
+    // Two intervals have in common what begins at the larger start and ends at the smaller end.
+    fn in_common(self, other: Keys) -> Keys
+        ensures { (k : ℕ) → between result.from result.to k ≡ (between self.from self.to k && between other.from other.to k) }
+    {
+        Keys {
+            from: self.from.max(other.from),
+            to: self.to.min(other.to),
+        }
+    }
+
+    // Both tests and no branch.
+    pub fn contains(self, key: u64) -> bool
+        ensures { result ≡ between self.from self.to key }
+    {
+        (self.from <= key) & (key <= self.to)
+    }
 }
 
 // The keys that a lower end lets in: 0 is unbounded, 1 included, 2 excluded; above the largest key lies none.
 fn lower_keys(lower_kind: u32, lower: u64) -> Keys
     ensures { (k : ℕ) → k < 2 ^ 64 → between result.from result.to k ≡ key_at_lower lower_kind lower k }
 {
-    if lower_kind == 0 {
-        Keys {
-            from: 0,
-            to: u64::MAX,
-        }
-    } else if lower_kind == 1 {
-        Keys {
+    match lower_kind {
+        0 => Keys::ALL,
+        1 => Keys {
             from: lower,
-            to: u64::MAX,
-        }
-    } else if lower < u64::MAX {
-        Keys {
+            ..Keys::ALL
+        },
+        _ if lower < u64::MAX => Keys {
             from: lower + 1,
-            to: u64::MAX,
-        }
-    } else {
-        Keys { from: 1, to: 0 }
+            ..Keys::ALL
+        },
+        _ => Keys::NONE,
     }
 }
 
-// The keys that an upper end lets in: 0 is unbounded, 1 included, 2 excluded; below key 0 lies none.
+// The keys that an upper end lets in; below key 0 lies none.
+// Kept: no plainer as one function with the lower end's: each side has its own bound, step and limit.
 fn upper_keys(upper_kind: u32, upper: u64) -> Keys
     ensures { (k : ℕ) → k < 2 ^ 64 → between result.from result.to k ≡ key_at_upper upper_kind upper k }
 {
-    if upper_kind == 0 {
-        Keys {
-            from: 0,
-            to: u64::MAX,
-        }
-    } else if upper_kind == 1 {
-        Keys { from: 0, to: upper }
-    } else if 0 < upper {
-        Keys {
-            from: 0,
+    match upper_kind {
+        0 => Keys::ALL,
+        1 => Keys {
+            to: upper,
+            ..Keys::ALL
+        },
+        _ if 0 < upper => Keys {
             to: upper - 1,
-        }
-    } else {
-        Keys { from: 1, to: 0 }
+            ..Keys::ALL
+        },
+        _ => Keys::NONE,
     }
-}
-
-// Two intervals have in common what begins at the larger start ..
-fn larger(a: u64, b: u64) -> u64
-    ensures { result ≡ max a b }
-{
-    if a < b { b } else { a }
-}
-
-// .. and ends at the smaller end.
-fn smaller(a: u64, b: u64) -> u64
-    ensures { result ≡ min a b }
-{
-    if a < b { a } else { b }
 }
 
 // Both ends at once: the kinds are the lower one's + 3 × the upper one's.
@@ -103,10 +108,7 @@ fn end_keys(column_type: u32, kinds: u32, lower: u64, upper: u64) -> Keys
 {
     let above = lower_keys(kinds % 3, value_key(column_type, lower));
     let below = upper_keys(kinds / 3, value_key(column_type, upper));
-    Keys {
-        from: larger(above.from, below.from),
-        to: smaller(above.to, below.to),
-    }
+    above.in_common(below)
 }
 
 // Whether a pattern is no number of its column: a NaN of either sign, in a column that is not i64.
@@ -133,10 +135,7 @@ fn number_keys(column_type: u32) -> Keys
             to: 0xfff0_0000_0000_0000,
         }
     } else {
-        Keys {
-            from: 0,
-            to: u64::MAX,
-        }
+        Keys::ALL
     }
 }
 
@@ -148,22 +147,17 @@ pub fn range_keys(column_type: u32, kinds: u32, lower: u64, upper: u64) -> Keys
     let lower_good = end_good(kinds % 3, column_type, lower);
     let upper_good = end_good(kinds / 3, column_type, upper);
     if lower_good & upper_good {
-        let numbers = number_keys(column_type);
-        let ends = end_keys(column_type, kinds, lower, upper);
-        Keys {
-            from: larger(numbers.from, ends.from),
-            to: smaller(numbers.to, ends.to),
-        }
+        number_keys(column_type).in_common(end_keys(column_type, kinds, lower, upper))
     } else {
-        Keys { from: 1, to: 0 }
+        Keys::NONE
     }
 }
 
-// Whether the value at this word is there and its key lies between the two: three tests and no branch.
-pub fn value_in(values: &[u32], at: usize, column_type: u32, from: u64, to: u64) -> bool
+// Whether the value at this word is there and its key is one of these: three tests and no branch.
+pub fn value_in(values: &[u32], at: usize, column_type: u32, keys: Keys) -> bool
     requires { at + 3 ≤ length values.now }
-    ensures { result ≡ value_in values.now at column_type from to }
+    ensures { result ≡ value_in values.now at column_type keys.from keys.to }
 {
     let key = value_key(column_type, joined(values[at + 1], values[at + 2]));
-    (values[at] == 1) & ((from <= key) & (key <= to))
+    (values[at] == 1) & keys.contains(key)
 }

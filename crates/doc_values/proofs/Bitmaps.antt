@@ -106,10 +106,6 @@ pub count-few : (n m : ℕ) (p : ℕ → Bool) → count_below m (cut_at n p) �
 count-few n m p = ⊎_elim (λ h. omega (arith, count-le m (cut_at n p))) (λ h. omega (arith, count-cut n m p h, count-le n p)) (cmp m n)
 
 -- ---- a word more
--- its values are those from number d on
-pub word-bits : (n start d word q : ℕ) (f : ℕ → Bool) → d ≡ 32 * word → (ltb q (n - d) && f ((start + 3 * d) + 3 * q)) ≡ (ltb (32 * word + q) n && f (start + 3 * (32 * word + q)))
-word-bits n start d word q f e = ap₂ (λ (a b : Bool). a && b) (⊎_elim (λ l. lt-ltb q (n - d) l ∙ sym (lt-ltb (32 * word + q) n (omega arith))) (λ g. le-ltb q (n - d) g ∙ sym (le-ltb (32 * word + q) n (omega arith))) (cmp q (n - d))) (ap f (omega arith))
-
 module _ (p : ℕ → Bool) (out : List ℕ) (w word : ℕ) (bits : (q : ℕ) → q < 32 → bit q w ≡ p (32 * word + q)) where
   pub bitmap-more : Bitmap p out 0 word → word < length out → Bitmap p (set out word w) 0 (word + 1)
   bitmap-more h l i q g k = ⊎_elim old (λ a. new (omega arith)) (cmp i word)
@@ -132,10 +128,15 @@ module _ (p : ℕ → Bool) (out : List ℕ) (w word : ℕ) (bits : (q : ℕ) �
       turn : (d : ℕ) → d + 32 ≡ 32 + d
       turn d = omega arith
 
--- a word that holds the next of the values that are left
-module _ (n start d word w : ℕ) (f : ℕ → Bool) (e : d ≡ 32 * word) (small : w < 2 ^ 32) (is : (q : ℕ) → q < 32 → bit q w ≡ (ltb q (n - d) && f ((start + 3 * d) + 3 * q))) where
-  pub next-bits : (q : ℕ) → q < 32 → bit q w ≡ cut_at n (λ i. f (start + 3 * i)) (32 * word + q)
-  next-bits q h = is q h ∙ word-bits n start d word q f e
+-- a word that holds the next of the numbers that are left
+module _ (n word w : ℕ) (f : ℕ → Bool) (small : w < 2 ^ 32) (is : (q : ℕ) → q < 32 → bit q w ≡ (ltb q (n - 32 * word) && f (32 * word + q))) where
+  left-below : (q : ℕ) → ltb q (n - 32 * word) ≡ ltb (32 * word + q) n
+  left-below q = ⊎_elim (λ l. lt-ltb q (n - 32 * word) l ∙ sym (lt-ltb (32 * word + q) n (omega arith))) (λ g. le-ltb q (n - 32 * word) g ∙ sym (le-ltb (32 * word + q) n (omega arith))) (cmp q (n - 32 * word))
 
-  pub next-count : (out : List ℕ) (held : ℕ) → held ≡ count_below d (cut_at n (λ i. f (start + 3 * i))) → held + ones w ≡ count_below (d + 32) (cut_at n (λ i. f (start + 3 * i)))
-  next-count out held g = ap (λ (k : ℕ). k + ones w) g ∙ count-word (cut_at n (λ i. f (start + 3 * i))) out w word next-bits small d e
+  pub next-bits : (q : ℕ) → q < 32 → bit q w ≡ cut_at n f (32 * word + q)
+  next-bits q h = is q h ∙ ap (λ (b : Bool). b && f (32 * word + q)) (left-below q)
+
+  pub next-count : (out : List ℕ) (held : ℕ) → held ≡ count_below (32 * word) (cut_at n f) → held + ones w ≡ count_below (32 * (word + 1)) (cut_at n f)
+  next-count out held g =
+      let more : 32 * word + 32 ≡ 32 * (word + 1) = omega arith in
+      ap (λ (k : ℕ). k + ones w) g ∙ count-word (cut_at n f) out w word next-bits small (32 * word) refl ∙ ap (λ (k : ℕ). count_below k (cut_at n f)) more

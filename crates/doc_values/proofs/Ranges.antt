@@ -117,6 +117,7 @@ module _ (n : ℕ) (columns values : List ℕ) (r : NumericRange) (words : (i : 
       ∙ rw (← number-by-key type v (bits_fit d), ← lower-by-key type (r.kinds % 3) r.lower v lower (bits_fit d), ← upper-by-key type (r.kinds / 3) r.upper v upper (bits_fit d)) refl)
       ∙ and-all p (not (failed type v)) (end_good (r.kinds % 3) type r.lower) (end_good (r.kinds / 3) type r.upper) (at_lower (r.kinds % 3) type r.lower v) (at_upper (r.kinds / 3) type r.upper v))
 
-  pub scan-is-range : Keyed → list_below n (λ d. value_in values (3 * (r.column * n) + 3 * d) type from to) ≡ range_documents ix r
-  unfolding range_documents
-  scan-is-range keyed = list_same _ _ n (λ d h. value-as-range keyed d)
+-- what is let in, if it is what the range takes, is the range's list
+pub list-in-range : (ix : Index) (r : NumericRange) (p : ℕ → Bool) → ((d : ℕ) → p d ≡ in_range ix r d) → list_below ix.max_doc p ≡ range_documents ix r
+unfolding range_documents
+list-in-range ix r p h = list_same p (in_range ix r) ix.max_doc (λ d l. h d)

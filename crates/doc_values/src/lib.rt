@@ -1,105 +1,115 @@
 // Numeric columns: the documents whose value lies in a range, by one scan of the column, as a list or as a bitmap.
 #![tactic(auto)]
 
-ghost use Rattle.std.specs.Prelude.{ℕ, ◌+◌, ◌*◌, ◌≤◌, ◌<◌, ◌≡◌, false, cond, ◌&&◌, ltb, length};
+ghost use Rattle.std.specs.Prelude.{ℕ, ◌+◌, ◌*◌, ◌≤◌, ◌<◌, ◌≡◌, false, ◌&&◌, ltb, length};
 ghost use Rattle.meaning.specs.Below.{list_below};
 ghost use Rattle.meaning.specs.Range.{in_range, range_documents};
 ghost use Rattle.meaning.specs.IndexRefusals.{wrong1, wrong6};
 ghost use Rattle.meaning.specs.QueryRefusals.{wrong_range};
 ghost use Rattle.meaning.specs.Entries.{written, columns_only};
-ghost use Rattle.column_keys.specs.Keys.{value_in};
+ghost use Rattle.index.specs.Ranges.{asked};
 ghost use Rattle.bits.specs.Bit.{bit, bitmap_words, Bitmap};
+ghost use Rattle.doc_values.specs.Listed.{listed};
 
-// The documents whose value lies between the keys, to the front of the output; the column begins at word `start`.
-// A branch and no select: a store that is always made would leave the output changed beyond what is listed.
-fn scan(
-    max_doc: u32,
-    values: &[u32],
+use column_keys::Keys;
+use index::columns::NumericRange;
+
+// A range made ready for a scan: the word at which its column's values begin, their type, and the keys that it lets in.
+#[derive(Clone, Copy)]
+struct Ready {
     start: usize,
     column_type: u32,
-    from: u64,
-    to: u64,
-    output: &mut [u32],
-) -> u32
-    requires max_doc_in_bounds { start + 3 * max_doc ≤ length values.now }
+    keys: Keys,
+}
+
+impl Ready {
+    fn new(max_doc: u32, columns: &[u32], values: &[u32], range: NumericRange) -> Ready
+        requires values_value { wrong1 (columns_only max_doc columns.now values.now) ≡ false }
+        requires values_value_2 { wrong6 (columns_only max_doc columns.now values.now) ≡ false }
+        requires range_value { wrong_range (columns_only max_doc columns.now values.now) (asked range) ≡ false }
+        ensures values_there { result.start + 3 * max_doc ≤ length values.now }
+        ensures takes { (d : ℕ) → listed values.now result d ≡ in_range (columns_only max_doc columns.now values.now) (asked range) d }
+    {
+        let at = range.column as usize;
+        let column_type = columns[at];
+        Ready {
+            start: 3 * (at * max_doc as usize),
+            column_type,
+            keys: column_keys::range_keys(column_type, range.kinds, range.lower, range.upper),
+        }
+    }
+
+    // Whether a document's value is let in.
+    fn lists(self, values: &[u32], document: usize) -> bool
+        requires { self.start + 3 * document + 3 ≤ length values.now }
+        ensures { result ≡ listed values.now self document }
+    {
+        column_keys::value_in(
+            values,
+            self.start + 3 * document,
+            self.column_type,
+            self.keys,
+        )
+    }
+}
+
+// The documents that are let in, to the front of the output.
+// A branch and no select: a store that is always made would leave the output changed beyond what is listed.
+fn scan(max_doc: u32, values: &[u32], ready: Ready, output: &mut [u32]) -> u32
+    requires max_doc_in_bounds { ready.start + 3 * max_doc ≤ length values.now }
     requires max_doc_in_bounds_2 { max_doc ≤ length output.old }
-    ensures value { result ≡ length (list_below max_doc (λ d. value_in values.now (start + 3 * d) column_type from to)) }
-    ensures output_after { output.new ≡ written (list_below max_doc (λ d. value_in values.now (start + 3 * d) column_type from to)) output.old }
+    ensures value { result ≡ length (list_below max_doc (listed values.now ready)) }
+    ensures output_after { output.new ≡ written (list_below max_doc (listed values.now ready)) output.old }
 {
-    let n = max_doc as usize;
     let mut held = 0;
-    let mut d = 0;
-    while d < n {
-        if column_keys::value_in(values, start + 3 * d, column_type, from, to) {
-            output[held] = d as u32;
+    for document in 0..max_doc {
+        if ready.lists(values, document as usize) {
+            output[held] = document;
             held += 1;
         }
-        d += 1;
     }
     held as u32
 }
 
-// 1 where it holds.
-fn number(b: bool) -> u32
-    ensures { result ≡ cond b 1 0 }
+// Some documents from the first one on: bit j is whether the j-th of them is let in.
+fn word_of(values: &[u32], ready: Ready, first: usize, count: u32) -> u32
+    requires { (count ≤ 32) × (ready.start + 3 * (first + count) ≤ length values.now) }
+    ensures { (p : ℕ) → bit p result ≡ ltb p count && listed values.now ready (first + p) }
 {
-    if b { 1 } else { 0 }
-}
-
-// Some values, the first of them at word `at`: bit j is whether value j lies between the keys.
-fn word_of(values: &[u32], at: usize, count: u32, column_type: u32, from: u64, to: u64) -> u32
-    requires { (count ≤ 32) × (at + 3 * count ≤ length values.now) }
-    ensures { (p : ℕ) → bit p result ≡ ltb p count && value_in values.now (at + 3 * p) column_type from to }
-{
-    let mut w: u32 = 0;
-    let mut v = at;
-    let mut j: u32 = 0;
-    while j < count {
-        w = w | number(column_keys::value_in(values, v, column_type, from, to)) << j;
-        v += 3;
-        j += 1;
+    let mut w = 0;
+    for j in 0..count {
+        w |= u32::from(ready.lists(values, first + j as usize)) << j;
     }
     w
 }
 
-// The next 32 of the values that are left, or all that are.
-fn next_word(values: &[u32], at: usize, left: usize, column_type: u32, from: u64, to: u64) -> u32
-    requires { at + 3 * left ≤ length values.now }
-    ensures { (p : ℕ) → p < 32 → bit p result ≡ ltb p left && value_in values.now (at + 3 * p) column_type from to }
+// The next 32 of the documents that are left, or all that are.
+fn next_word(values: &[u32], ready: Ready, first: usize, left: usize) -> u32
+    requires { ready.start + 3 * (first + left) ≤ length values.now }
+    ensures { (p : ℕ) → p < 32 → bit p result ≡ ltb p left && listed values.now ready (first + p) }
 {
     if 32 <= left {
-        word_of(values, at, 32, column_type, from, to)
+        word_of(values, ready, first, 32)
     } else {
-        word_of(values, at, left as u32, column_type, from, to)
+        word_of(values, ready, first, left as u32)
     }
 }
 
-// The documents whose value lies between the keys, as a bitmap at the front of the output, and how many there are; no branch on the values.
-fn sift(
-    max_doc: u32,
-    values: &[u32],
-    start: usize,
-    column_type: u32,
-    from: u64,
-    to: u64,
-    output: &mut [u32],
-) -> u32
-    requires max_doc_in_bounds { start + 3 * max_doc ≤ length values.now }
+// The documents that are let in, as a bitmap at the front of the output, and how many there are; no branch on the values.
+fn sift(max_doc: u32, values: &[u32], ready: Ready, output: &mut [u32]) -> u32
+    requires max_doc_in_bounds { ready.start + 3 * max_doc ≤ length values.now }
     requires bitmap_fits { bitmap_words max_doc ≤ length output.old }
-    ensures value { result ≡ length (list_below max_doc (λ d. value_in values.now (start + 3 * d) column_type from to)) }
-    ensures bitmap { Bitmap (λ d. ltb d max_doc && value_in values.now (start + 3 * d) column_type from to) output.new 0 (bitmap_words max_doc) }
+    ensures value { result ≡ length (list_below max_doc (listed values.now ready)) }
+    ensures bitmap { Bitmap (λ d. ltb d max_doc && listed values.now ready d) output.new 0 (bitmap_words max_doc) }
     ensures output_len_unchanged { length output.new ≡ length output.old }
 {
     let n = max_doc as usize;
     let mut held: u32 = 0;
-    let mut word: usize = 0;
-    let mut d: usize = 0;
-    while d < n {
-        let w = next_word(values, start + 3 * d, n - d, column_type, from, to);
+    for word in 0..bits::bitmap_words(max_doc) as usize {
+        let first = 32 * word;
+        let w = next_word(values, ready, first, n - first);
         output[word] = w;
         held += w.count_ones();
-        word += 1;
-        d += 32;
     }
     held
 }
@@ -109,26 +119,18 @@ pub fn range(
     max_doc: u32,
     columns: &[u32],
     values: &[u32],
-    column: u32,
-    kinds: u32,
-    lower: u64,
-    upper: u64,
+    range: NumericRange,
     output: &mut [u32],
 ) -> u32
     requires values_value { wrong1 (columns_only max_doc columns.now values.now) ≡ false }
     requires values_value_2 { wrong6 (columns_only max_doc columns.now values.now) ≡ false }
-    requires upper_value { wrong_range (columns_only max_doc columns.now values.now) (record { column = column; kinds = kinds; lower = lower; upper = upper }) ≡ false }
+    requires range_value { wrong_range (columns_only max_doc columns.now values.now) (asked range) ≡ false }
     requires max_doc_in_bounds { max_doc ≤ length output.old }
-    ensures value { result ≡ length (range_documents (columns_only max_doc columns.now values.now) (record { column = column; kinds = kinds; lower = lower; upper = upper })) }
-    ensures output_after { output.new ≡ written (range_documents (columns_only max_doc columns.now values.now) (record { column = column; kinds = kinds; lower = lower; upper = upper })) output.old }
+    ensures value { result ≡ length (range_documents (columns_only max_doc columns.now values.now) (asked range)) }
+    ensures output_after { output.new ≡ written (range_documents (columns_only max_doc columns.now values.now) (asked range)) output.old }
 {
-    let at = column as usize;
-    let column_type = columns[at];
-    let start = 3 * (at * max_doc as usize);
-    let keys = column_keys::range_keys(column_type, kinds, lower, upper);
-    let from = keys.from;
-    let to = keys.to;
-    scan(max_doc, values, start, column_type, from, to, output)
+    let ready = Ready::new(max_doc, columns, values, range);
+    scan(max_doc, values, ready, output)
 }
 
 // The same documents as a bitmap at the front of a work buffer, of which the words beyond may hold anything; how many there are.
@@ -136,25 +138,17 @@ pub fn range_bitmap(
     max_doc: u32,
     columns: &[u32],
     values: &[u32],
-    column: u32,
-    kinds: u32,
-    lower: u64,
-    upper: u64,
+    range: NumericRange,
     output: &mut [u32],
 ) -> u32
     requires values_value { wrong1 (columns_only max_doc columns.now values.now) ≡ false }
     requires values_value_2 { wrong6 (columns_only max_doc columns.now values.now) ≡ false }
-    requires upper_value { wrong_range (columns_only max_doc columns.now values.now) (record { column = column; kinds = kinds; lower = lower; upper = upper }) ≡ false }
+    requires range_value { wrong_range (columns_only max_doc columns.now values.now) (asked range) ≡ false }
     requires bitmap_fits { bitmap_words max_doc ≤ length output.old }
-    ensures value { result ≡ length (range_documents (columns_only max_doc columns.now values.now) (record { column = column; kinds = kinds; lower = lower; upper = upper })) }
-    ensures bitmap { Bitmap (λ d. ltb d max_doc && in_range (columns_only max_doc columns.now values.now) (record { column = column; kinds = kinds; lower = lower; upper = upper }) d) output.new 0 (bitmap_words max_doc) }
+    ensures value { result ≡ length (range_documents (columns_only max_doc columns.now values.now) (asked range)) }
+    ensures bitmap { Bitmap (λ d. ltb d max_doc && in_range (columns_only max_doc columns.now values.now) (asked range) d) output.new 0 (bitmap_words max_doc) }
     ensures output_len_unchanged { length output.new ≡ length output.old }
 {
-    let at = column as usize;
-    let column_type = columns[at];
-    let start = 3 * (at * max_doc as usize);
-    let keys = column_keys::range_keys(column_type, kinds, lower, upper);
-    let from = keys.from;
-    let to = keys.to;
-    sift(max_doc, values, start, column_type, from, to, output)
+    let ready = Ready::new(max_doc, columns, values, range);
+    sift(max_doc, values, ready, output)
 }

@@ -6,6 +6,7 @@
 ghost use Rattle.std.specs.Prelude.{◌≡◌, ◌<◌, ◌≤◌};
 ghost use Rattle.doc_values_vectors.specs.Columns.{Columns};
 
+use index::columns::NumericRange;
 use std::io;
 use std::io::Write;
 
@@ -96,18 +97,13 @@ fn print_range(
     requires kinds_bound { kinds < 9 }
 {
     let mut output = [0u32; 18];
-    let low = end_of(kinds % 3, lower);
-    let high = end_of(kinds / 3, upper);
-    let n = doc_values::range(
-        max_doc,
-        columns,
-        values,
+    let range = NumericRange {
         column,
         kinds,
-        low,
-        high,
-        &mut output,
-    );
+        lower: end_of(kinds % 3, lower),
+        upper: end_of(kinds / 3, upper),
+    };
+    let n = doc_values::range(max_doc, columns, values, range, &mut output);
     vectors::print_list(out, &output, n)
 }
 

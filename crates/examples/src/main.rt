@@ -3,7 +3,6 @@
 #![tactic(auto)]
 
 use place_entry::Placed;
-use range_entry::Ranged;
 use searcher::page::Paged;
 use searcher::search::Searched;
 use std::io;
@@ -199,8 +198,8 @@ fn range(out: &mut impl Write, kinds: u32, lower: u32, upper: u32) -> io::Result
         &mut output,
     );
     match ranged {
-        Ranged::Refused(n) => print_refused(out, n),
-        Ranged::Listed(n) => vectors::print_list(out, &output, n),
+        Err(refusal) => print_refused(out, refusal.number()),
+        Ok(n) => vectors::print_list(out, &output, n),
     }
 }
 

@@ -1,7 +1,8 @@
 -- The columns' values, one column after the other, as one run of records. Assumes nothing.
-use mathlib.Core.Path.{◌≡◌, sym, ◌∙◌}
-use mathlib.Core.Bool.{true, ◌||◌}
-use Prim.Native.Nat.{ℕ, ◌*◌, ◌/◌, ◌≤◌, ◌<◌}
+use mathlib.Core.Path.{◌≡◌, refl, sym, ap, ◌∙◌}
+use mathlib.Core.Bool.{Bool, true, ◌||◌}
+use mathlib.Core.List.{List, [], ◌∷◌}
+use Prim.Native.Nat.{ℕ, suc, ◌+◌, ◌*◌, ◌/◌, ◌≤◌, ◌<◌}
 use native.Mathlib.Nat.{mul-le-mul}
 use native.Mathlib.Omega.{arith}
 use lib.Dec.{ltb}
@@ -10,12 +11,32 @@ use borrow.Author.Tests.{lt-ltb, le-ltb, eq-eqb, ne_eqb}
 use Rattle.meaning.specs.Below.{any_below}
 use Rattle.meaning.specs.Lent.{Index, column_count, column_type, value_present}
 use Rattle.meaning.specs.IndexRefusals.{wrong6, wrong_column}
-use Rattle.meaning.proofs.Below.{any-or, any-rows}
+use Rattle.std.specs.List.{list_any}
+use Rattle.meaning.proofs.Below.{any-zero, any-like, any-add, any-or, any-rows}
 
 -- a product of two bounded numbers
 pub product_le : (a b m n : ℕ) → a ≤ m → b ≤ n → a * b ≤ m * n
 product_le a b m n h g = mul-le-mul h g
 
+-- ---- some word of a list passes, or the one in some place
+one-more : (i : ℕ) → 1 + i ≡ suc i
+one-more i = omega arith
+
+any-one : (p : ℕ → Bool) → any_below 1 p ≡ p 0
+unfolding any_below
+any-one p = refl
+
+pub any-listed : (test : ℕ → Bool) (xs : List ℕ) → list_any test xs ≡ any_below (length xs) (λ i. test (get_or xs i 0))
+any-listed test [] = sym (any-zero (λ i. test (get_or [] i 0)))
+any-listed test (x ∷ xs) =
+    let P : ℕ → Bool = λ i. test (get_or (x ∷ xs) i 0) in
+    let later : any_below (length xs) (λ i. P (1 + i)) ≡ any_below (length xs) (λ i. test (get_or xs i 0)) = any-like (length xs) _ _ (λ i h. ap P (one-more i)) in
+    ap (λ (b : Bool). test x || b) (any-listed test xs ∙ sym later)
+    ∙ ap (λ (b : Bool). b || any_below (length xs) (λ i. P (1 + i))) (sym (any-one P))
+    ∙ sym (any-add 1 (length xs) P)
+    ∙ ap (λ (m : ℕ). any_below m P) (one-more (length xs))
+
+-- ---- the columns
 module _ (ix : Index) where
   pub columns-many : 8 < column_count ix → true ≡ wrong6 ix
   unfolding wrong6

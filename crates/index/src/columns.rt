@@ -1,38 +1,40 @@
 // Columns, a word each: 0 for i64 values, 1 for f64; and their values, three words each: present 0 or 1, low half, high half.
 ghost use Rattle.std.specs.Prelude.{◌≡◌, false, [], ◌*◌, ◌/◌, ltb, length, get_or};
+ghost use Rattle.std.specs.List.{list_any};
 ghost use Rattle.meaning.specs.Below.{any_below};
 ghost use Rattle.meaning.specs.IndexRefusals.{wrong1, wrong6};
 ghost use Rattle.meaning.specs.QueryRefusals.{wrong_range};
 ghost use Rattle.meaning.specs.Entries.{columns_only};
+ghost use Rattle.index.specs.Ranges.{asked};
 
 use super::wide;
 
 // The limit of document 01.
 const MAX_COLUMNS: usize = 8;
 
+// A range of a column: the lower end's kind + 3 × the upper end's, and both ends as 64-bit patterns.
+#[derive(Clone, Copy)]
+pub struct NumericRange {
+    pub column: u32,
+    pub kinds: u32,
+    pub lower: u64,
+    pub upper: u64,
+}
+
 // A type that is not 0 or 1.
 fn wrong_types(columns: &[u32]) -> bool
-    ensures { result ≡ any_below (length columns.now) (λ c. ltb 1 (get_or columns.now c 0)) }
+    ensures { result ≡ list_any (λ t. ltb 1 t) columns.now }
 {
-    let mut bad = false;
-    let mut c = 0;
-    while c < columns.len() {
-        bad = bad | (columns[c] > 1);
-        c += 1;
-    }
-    bad
+    columns.iter().any(|column_type| *column_type > 1)
 }
 
 // A value whose first word, "present", is not 0 or 1, in one pass over all columns' values without an early exit.
 fn wrong_presence(values: &[u32]) -> bool
     ensures { result ≡ any_below (length values.now / 3) (λ k. ltb 1 (get_or values.now (3 * k) 0)) }
 {
-    let count = values.len() / 3;
     let mut bad = false;
-    let mut k = 0;
-    while k < count {
-        bad = bad | (values[3 * k] > 1);
-        k += 1;
+    for k in 0..values.len() / 3 {
+        bad |= values[3 * k] > 1;
     }
     bad
 }
@@ -52,11 +54,11 @@ pub fn wrong_columns(max_doc: u32, columns: &[u32], values: &[u32]) -> bool
 }
 
 // The Range entry's 8: the column absent, a range kind above 8, or an unbounded value not 0.
-pub fn wrong_range(columns: &[u32], column: u32, kinds: u32, lower: u64, upper: u64) -> bool
-    ensures { result ≡ wrong_range (columns_only 0 columns.now []) (record { column = column; kinds = kinds; lower = lower; upper = upper }) }
+pub fn wrong_range(columns: &[u32], range: NumericRange) -> bool
+    ensures { result ≡ wrong_range (columns_only 0 columns.now []) (asked range) }
 {
-    (wide(column) >= columns.len())
-        | (kinds > 8)
-        | ((kinds % 3 == 0) & (lower != 0))
-        | ((kinds / 3 == 0) & (upper != 0))
+    (wide(range.column) >= columns.len())
+        | (range.kinds > 8)
+        | ((range.kinds % 3 == 0) & (range.lower != 0))
+        | ((range.kinds / 3 == 0) & (range.upper != 0))
 }

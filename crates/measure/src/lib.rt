@@ -14,6 +14,8 @@ ghost use Rattle.bits.specs.Bit.{bitmap_words, Bitmap};
 ghost use Rattle.measure.specs.Measures.{Held, AllMeasured, TreeMeasured, places_of, counts_of};
 ghost use Rattle.measure.specs.Tallied.{tallied, tally_present, tally_cost};
 
+use index::columns::NumericRange;
+
 // Of a tree: the record after it, whether it has a scorer, and its cost, which a tree without a scorer has too.
 #[derive(Clone, Copy)]
 pub struct Measure {
@@ -281,18 +283,13 @@ fn list_range(
     if query::kind(q, at) != 4 {
         return 0;
     }
-    let lower = column_keys::joined(query::value(q, at, 2), query::value(q, at, 3));
-    let upper = column_keys::joined(query::value(q, at, 4), query::value(q, at, 5));
-    doc_values::range_bitmap(
-        max_doc,
-        columns,
-        values,
-        query::value(q, at, 0),
-        query::value(q, at, 1),
-        lower,
-        upper,
-        output,
-    )
+    let range = NumericRange {
+        column: query::value(q, at, 0),
+        kinds: query::value(q, at, 1),
+        lower: column_keys::joined(query::value(q, at, 2), query::value(q, at, 3)),
+        upper: column_keys::joined(query::value(q, at, 4), query::value(q, at, 5)),
+    };
+    doc_values::range_bitmap(max_doc, columns, values, range, output)
 }
 
 // The documents of every Range record as bitmaps, one record's after the other's: where each begins, how many documents it has.

@@ -3,6 +3,7 @@ use mathlib.Core.Path.{◌≡◌, refl, sym, ap, ◌∙◌}
 use mathlib.Core.Bool.{true, false}
 use mathlib.Core.List.{List, []}
 use Prim.Native.Nat.{ℕ, ◌≤◌, ◌<◌}
+use native.Mathlib.Omega.{arith}
 use lib.Dec.{ltb, lit<}
 use lib.ListN.{length}
 use borrow.Author.Tests.{lt-ltb, le-ltb, ltb-false}
@@ -15,9 +16,12 @@ use Rattle.meaning.specs.CallRefusals.{wrong12_range}
 use Rattle.meaning.specs.Entries.{written, Kept, columns_only, range_refusal, range_answer, range_output}
 use Rattle.index.specs.Slices.{lent}
 use Rattle.meaning.proofs.Tests.{true-left, true-right, or_right}
-use Rattle.range_entry.specs.declared.Ranged.TheVariants as Ranged
+use Rattle.std.proofs.Common.{Ok, Err}
+use Rattle.refusal.specs.declared.Refusal.{Refusal}
+use Rattle.refusal.specs.Numbers.{number_of}
+use Rattle.refusal.proofs.Positive.{number-not-0}
 use Rattle.range_entry.specs.Answers.{ranged_numbers}
-use Rattle.meaning.proofs.Lowest.{lowest-here, lowest-past, lowest-zero, answered-refused, answered-accepted, kept_same, kept-accepted}
+use Rattle.meaning.proofs.Lowest.{lowest-here, lowest-past, lowest-zero, answered-refused}
 
 -- a range is wrong by the columns alone
 pub wrong-by-columns : (n : ℕ) (columns values : List ℕ) (r : NumericRange) → wrong_range (columns_only 0 columns []) r ≡ wrong_range (columns_only n columns values) r
@@ -69,28 +73,40 @@ module _ (ix : Index) (r : NumericRange) (work output : ℕ) where
     pub range : wrong_range ix r ≡ false
     pub room : ix.max_doc ≤ output
 
-  pub range-right : (n : ℕ) → n ≡ range_refusal ix r work output → n ≡ 0 → RangeRight
+  pub range-right : 0 ≡ range_refusal ix r work output → RangeRight
   unfolding range_refusal wrong12_range
-  range-right n is z =
-      let a = lowest-zero 1 _ _ (lit< tt) (sym is ∙ z) in
+  range-right is =
+      let a = lowest-zero 1 _ _ (lit< tt) (sym is) in
       let b = lowest-zero 6 _ _ (lit< tt) a.1 in
       let e = lowest-zero 8 _ _ (lit< tt) b.1 in
       let h = lowest-zero 12 _ _ (lit< tt) e.1 in
       record { documents = a.0; columns = b.0; range = e.0; room = ltb-false output ix.max_doc (or_right (ltb work ix.max_doc) (ltb output ix.max_doc) h.0) }
 
 -- ---- the answer: the range as the code has it, with joined halves
-module _ (ix : Index) (x r : NumericRange) (same : x ≡ r) (n : ℕ) (before : List ℕ) (output : List ℕ) (is : n ≡ range_refusal ix x (length before) (length output)) where
-  number_is : n ≡ range_refusal ix r (length before) (length output)
-  number_is = is ∙ ap (λ (z : NumericRange). range_refusal ix z (length before) (length output)) same
+module _ (ix : Index) (x r : NumericRange) (same : x ≡ r) (work output : List ℕ) where
+  module _ (n : Refusal) (is : number_of n ≡ range_refusal ix x (length work) (length output)) where
+    number_is : number_of n ≡ range_refusal ix r (length work) (length output)
+    number_is = is ∙ ap (λ (z : NumericRange). range_refusal ix z (length work) (length output)) same
 
-  abbrev Answer : Rattle.range_entry.specs.declared.Ranged.Ranged → List ℕ → List ℕ → Type 0
-  Answer a work' output' =
-      (ranged_numbers a ≡ range_answer ix r (length before) (length output)) × ((output' ≡ range_output ix r (length before) output) × Kept (range_refusal ix r (length before) (length output)) before work')
+    pub refused-answer : ranged_numbers (Err n) ≡ range_answer ix r (length work) (length output)
+    unfolding ranged_numbers range_answer
+    refused-answer = rw (← number_is) (answered-refused _ _ _ (number-not-0 n))
 
-  pub range-refused : (n ≡ 0 → ⊥) → Answer (Ranged.Refused n) before output
-  unfolding ranged_numbers range_answer range_output
-  range-refused h = rw (← number_is) (answered-refused _ _ n h, (answered-refused _ _ n h, kept_same n before))
+    pub refused-output : output ≡ range_output ix r (length work) output
+    unfolding range_output
+    refused-output = rw (← number_is) (answered-refused _ _ _ (number-not-0 n))
 
-  pub range-done : n ≡ 0 → (m : ℕ) (work' output' : List ℕ) → m ≡ length (range_documents ix x) → output' ≡ written (range_documents ix x) output → Answer (Ranged.Listed m) work' output'
-  unfolding ranged_numbers range_answer range_output
-  range-done z m work' output' e f = rw (← number_is, e, f, same) (answered-accepted _ _ n z, (answered-accepted _ _ n z, kept-accepted n before work' z))
+  module _ (is : 0 ≡ range_refusal ix x (length work) (length output)) where
+    zero_is : 0 ≡ range_refusal ix r (length work) (length output)
+    zero_is = is ∙ ap (λ (z : NumericRange). range_refusal ix z (length work) (length output)) same
+
+    pub done-answer : (m : ℕ) → m ≡ length (range_documents ix x) → ranged_numbers (Ok m) ≡ range_answer ix r (length work) (length output)
+    unfolding ranged_numbers range_answer
+    done-answer m e = rw (← zero_is, e, same) refl
+
+    pub done-output : (output' : List ℕ) → output' ≡ written (range_documents ix x) output → output' ≡ range_output ix r (length work) output
+    unfolding range_output
+    done-output output' f = rw (← zero_is, f, same) refl
+
+    pub done-kept : (work' : List ℕ) → Kept (range_refusal ix r (length work) (length output)) work work'
+    done-kept work' h = absurd (omega (arith, zero_is, h))

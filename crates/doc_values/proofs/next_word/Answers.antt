@@ -1,10 +1,10 @@
-use Rattle.std.proofs.Common.{ap, sym, ◌∙◌, Bool, ◌&&◌, ◌+◌, ◌*◌, arith, lt-ltb}
-use Rattle.column_keys.specs.Keys.{value_in}
+use Rattle.std.proofs.Common.{ap, sym, ◌∙◌, Bool, ◌&&◌, ◌+◌, arith, lt-ltb}
+use Rattle.doc_values.specs.Listed.{listed}
 use Rattle.doc_values.proofs.next_word.Goals as goal
 
 -- all 32 are left
 pub returns-then-left-ge32 : goal.returns-then-left-ge32
-returns-then-left-ge32 c = λ p h. c.word_of.ensures p ∙ ap (λ (b : Bool). b && value_in c.args.values.now (c.args.at + 3 * p) c.args.column_type c.args.from c.args.to) (lt-ltb p 32 h ∙ sym (lt-ltb p c.args.left (omega (arith, c.if-left-ge32.true))))
+returns-then-left-ge32 c = λ p h. c.word_of.ensures p ∙ ap (λ (b : Bool). b && listed c.args.values.now c.args.ready (c.args.first + p)) (lt-ltb p 32 h ∙ sym (lt-ltb p c.args.left (omega (arith, c.if-left-ge32.true))))
 
 pub returns-else-left-ge32 : goal.returns-else-left-ge32
 returns-else-left-ge32 c = λ p h. c.word_of-else-left-ge32.ensures p

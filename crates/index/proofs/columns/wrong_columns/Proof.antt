@@ -1,7 +1,7 @@
 -- `index::columns::wrong_columns` meets its contract. Assumes nothing.
 use Prim.Native.Nat.{◌≤◌}
 use Rattle.index.proofs.Known.{documents-few}
-use Rattle.index.proofs.Values.{product_le, columns-many, columns-length, columns-some}
+use Rattle.index.proofs.Values.{product_le, columns-many, columns-length, columns-some, any-listed}
 use native.Mathlib.Omega.{arith}
 use mathlib.Core.Path.{◌∙◌}
 use borrow.Author.Rules.{rules}
@@ -30,7 +30,7 @@ wrong-presence-requires : tie.Need-wrong_presence-requires
 wrong-presence-requires c κs = search rules
 
 returns-3 : tie.Need-returns
-returns-3 c = let a = c in rw (c.wrong_types.ensures, c.wrong_presence.ensures) (columns-some _ a.if-columns-gt-MAX_COLUMNS.false (c.if-values-columns.false ∙ rw a.wide.ensures))
+returns-3 c = let a = c in rw (c.wrong_types.ensures, any-listed, c.wrong_presence.ensures) (columns-some _ a.if-columns-gt-MAX_COLUMNS.false (c.if-values-columns.false ∙ rw a.wide.ensures))
 
 pub wrong_columns_spec : {M : Type 1} → statement M
 wrong_columns_spec =

@@ -1,0 +1,29 @@
+use Rattle.std.proofs.Common.{sym, ◌∙◌}
+use Rattle.range_entry.proofs.RangeEntry.{limit-alone, wrong-by-columns, range-1, range-6, range-8, range-work, range-output, range-0}
+use Rattle.range_entry.proofs.range_refusal.Goals as goal
+
+pub returns-then-wrong_max_doc : goal.returns-then-wrong_max_doc
+returns-then-wrong_max_doc c = range-1 _ _ _ _ (sym (c.wrong_max_doc.ensures ∙ limit-alone _ _ _) ∙ c.if-wrong_max_doc.true)
+
+pub wrong_columns-requires : goal.wrong_columns-requires
+wrong_columns-requires c = sym (c.wrong_max_doc.ensures ∙ limit-alone _ _ _) ∙ c.if-wrong_max_doc.false
+
+pub returns-then-wrong_columns : goal.returns-then-wrong_columns
+returns-then-wrong_columns c =
+    range-6 _ _ _ _ (sym (c.wrong_max_doc.ensures ∙ limit-alone _ _ _) ∙ c.if-wrong_max_doc.false) (sym c.wrong_columns.ensures ∙ c.if-wrong_columns.true)
+
+pub returns-then-wrong_range : goal.returns-then-wrong_range
+returns-then-wrong_range c =
+    range-8 _ _ _ _ (sym (c.wrong_max_doc.ensures ∙ limit-alone _ _ _) ∙ c.if-wrong_max_doc.false) (sym c.wrong_columns.ensures ∙ c.if-wrong_columns.false) (sym (c.wrong_range.ensures ∙ wrong-by-columns _ _ _ _) ∙ c.if-wrong_range.true)
+
+pub returns-then-work-max_doc : goal.returns-then-work-max_doc
+returns-then-work-max_doc c =
+    range-work _ _ _ _ (sym (c.wrong_max_doc.ensures ∙ limit-alone _ _ _) ∙ c.if-wrong_max_doc.false) (sym c.wrong_columns.ensures ∙ c.if-wrong_columns.false) (sym (c.wrong_range.ensures ∙ wrong-by-columns _ _ _ _) ∙ c.if-wrong_range.false) c.if-work-max_doc.true
+
+pub returns-then-output-max_doc : goal.returns-then-output-max_doc
+returns-then-output-max_doc c =
+    range-output _ _ _ _ (sym (c.wrong_max_doc.ensures ∙ limit-alone _ _ _) ∙ c.if-wrong_max_doc.false) (sym c.wrong_columns.ensures ∙ c.if-wrong_columns.false) (sym (c.wrong_range.ensures ∙ wrong-by-columns _ _ _ _) ∙ c.if-wrong_range.false) c.if-output-max_doc.true
+
+pub returns : goal.returns
+returns c =
+    range-0 _ _ _ _ (sym (c.wrong_max_doc.ensures ∙ limit-alone _ _ _) ∙ c.if-wrong_max_doc.false) (sym c.wrong_columns.ensures ∙ c.if-wrong_columns.false) (sym (c.wrong_range.ensures ∙ wrong-by-columns _ _ _ _) ∙ c.if-wrong_range.false) c.if-work-max_doc.false c.if-output-max_doc.false
