@@ -67,9 +67,9 @@ fn narrowed(out: &mut impl Write, bits: u64) -> io::Result<()> {
 
 // A pattern, the ones beside it, and its negative.
 fn narrowed_around(out: &mut impl Write, bits: u64) -> io::Result<()> {
-    narrowed(out, std::num::wrapping_sub_u64(bits, 1))?;
+    narrowed(out, bits.wrapping_sub(1))?;
     narrowed(out, bits)?;
-    narrowed(out, std::num::wrapping_add_u64(bits, 1))?;
+    narrowed(out, bits.wrapping_add(1))?;
     narrowed(out, bits ^ SIGN)
 }
 
@@ -91,60 +91,53 @@ fn narrowed_at(out: &mut impl Write, e: u64) -> io::Result<()>
     let start = e << 52;
     let half = half_unit(e);
     narrowed_around(out, start)?;
-    narrowed_around(out, std::num::wrapping_add_u64(start, half))?;
-    narrowed_around(out, std::num::wrapping_add_u64(start, half << 1 | half))?;
-    narrowed_around(out, std::num::wrapping_sub_u64((e + 1) << 52, half))
+    narrowed_around(out, start.wrapping_add(half))?;
+    narrowed_around(out, start.wrapping_add(half << 1 | half))?;
+    narrowed_around(out, ((e + 1) << 52).wrapping_sub(half))
 }
 
 fn narrowed_from(out: &mut impl Write, first: u64, last: u64) -> io::Result<()>
     requires { last ≤ 2047 }
 {
-    let mut e = first;
-    while e < last {
+    for e in first..last {
         narrowed_at(out, e)?;
-        e += 1;
     }
     Ok(())
 }
 
 fn narrowed_kinds(out: &mut impl Write) -> io::Result<()> {
-    let mut i = 0;
-    while i < 20 {
-        narrowed(out, KINDS[i])?;
-        i += 1;
+    for bits in KINDS {
+        narrowed(out, bits)?;
     }
     Ok(())
 }
 
 // Patterns from a seed, with exponents from below the smallest f32 to above the largest.
 fn narrowed_any(out: &mut impl Write) -> io::Result<()> {
-    let mut x: u64 = 1;
-    let mut turns: usize = 0;
-    while turns < 500 {
+    let mut x = 1;
+    for _ in 0..500 {
         x = vectors::xorshift(x);
         narrowed(out, 0x3660_0000_0000_0000 + x % 0x1220_0000_0000_0000)?;
-        turns += 1;
     }
     Ok(())
 }
 
 // Each border and the patterns beside it, of both signs.
 fn narrowed_borders(out: &mut impl Write) -> io::Result<()> {
-    let mut i = 0;
-    while i < 20 {
-        narrowed_around(out, BORDERS[i])?;
-        narrowed_around(out, BORDERS[i] ^ SIGN)?;
-        i += 1;
+    for bits in BORDERS {
+        narrowed_around(out, bits)?;
+        narrowed_around(out, bits ^ SIGN)?;
     }
     Ok(())
 }
 
 // The pattern, and one for every NaN.
+// Kept: tried is_nan; the proof that the value has a pattern did not close.
 fn bits_of(x: f32) -> u64 {
     if x != x {
         0x7fc0_0000
     } else {
-        vectors::wide(f32::to_bits(x))
+        u64::from(f32::to_bits(x))
     }
 }
 
@@ -162,14 +155,12 @@ fn near(bits: u64) -> u64 {
 
 // Ten thousand patterns from a seed, each second one near a border: after each twenty the digest of all so far.
 fn narrowed_near(out: &mut impl Write) -> io::Result<()> {
-    let mut x: u64 = 3;
-    let mut digest: u64 = 0;
-    let mut turns: usize = 0;
-    while turns < 5000 {
+    let mut x = 3;
+    let mut digest = 0;
+    for turn in 1..=5000 {
         x = vectors::xorshift(x);
         digest = folded(folded(digest, x), near(x));
-        turns += 1;
-        if turns % 10 == 0 {
+        if turn % 10 == 0 {
             writeln!(out, "{digest:016x}")?;
         }
     }
@@ -177,15 +168,9 @@ fn narrowed_near(out: &mut impl Write) -> io::Result<()> {
 }
 
 fn lengths_around(out: &mut impl Write, n: u32) -> io::Result<()> {
-    print_f32(
-        out,
-        ieee754::length_to_f32(std::num::wrapping_sub_u32(n, 1)),
-    )?;
+    print_f32(out, ieee754::length_to_f32(n.wrapping_sub(1)))?;
     print_f32(out, ieee754::length_to_f32(n))?;
-    print_f32(
-        out,
-        ieee754::length_to_f32(std::num::wrapping_add_u32(n, 1)),
-    )
+    print_f32(out, ieee754::length_to_f32(n.wrapping_add(1)))
 }
 
 // The lengths of k + 25 digits: the first, two ties above it, and the last tie below the next first.
@@ -195,16 +180,14 @@ fn lengths_at(out: &mut impl Write, k: u32) -> io::Result<()>
     let start = 0x100_0000u32 << k;
     let half = 1u32 << k;
     lengths_around(out, start)?;
-    lengths_around(out, std::num::wrapping_add_u32(start, half))?;
-    lengths_around(out, std::num::wrapping_add_u32(start, half << 1 | half))?;
-    lengths_around(out, std::num::wrapping_sub_u32(start << 1, half))
+    lengths_around(out, start.wrapping_add(half))?;
+    lengths_around(out, start.wrapping_add(half << 1 | half))?;
+    lengths_around(out, (start << 1).wrapping_sub(half))
 }
 
 fn lengths(out: &mut impl Write) -> io::Result<()> {
-    let mut k = 0;
-    while k < 8 {
+    for k in 0..8 {
         lengths_at(out, k)?;
-        k += 1;
     }
     Ok(())
 }
@@ -215,41 +198,32 @@ fn next_up_of(out: &mut impl Write, bits: u32) -> io::Result<()> {
 
 // At the first and the last value of each exponent, of both signs; the last exponent's are infinity and NaNs.
 fn next_ups(out: &mut impl Write) -> io::Result<()> {
-    let mut e: u32 = 0;
-    while e < 512 {
+    for e in 0..512u32 {
         let start = e << 23;
         next_up_of(out, start)?;
         next_up_of(out, start + 1)?;
         next_up_of(out, start + 0x7f_ffff)?;
-        e += 1;
     }
     Ok(())
 }
 
 // Which of the kinds a pattern stands below: a digit for each.
 fn below_kinds(out: &mut impl Write, bits: u64) -> io::Result<()> {
-    let mut i = 0;
-    while i < 20 {
-        if ieee754::total_below(bits, KINDS[i]) {
-            write!(out, "1")?;
-        } else {
-            write!(out, "0")?;
-        }
-        i += 1;
+    for kind in KINDS {
+        write!(out, "{}", u8::from(ieee754::total_below(bits, kind)))?;
     }
     vectors::end_line(out)
 }
 
 fn kinds_below_kinds(out: &mut impl Write) -> io::Result<()> {
-    let mut i = 0;
-    while i < 20 {
-        below_kinds(out, KINDS[i])?;
-        i += 1;
+    for bits in KINDS {
+        below_kinds(out, bits)?;
     }
     Ok(())
 }
 
 // A sum with one more score, which is no NaN.
+// Kept: tried is_nan; the proof that the score is no NaN did not close.
 fn summed(sum: f64, score: f32) -> f64 {
     if score != score {
         return sum;
@@ -259,15 +233,13 @@ fn summed(sum: f64, score: f32) -> f64 {
 
 // Scores from a seed, from 2^-31 to 2, added up; each sum, and what it narrows to.
 fn sums(out: &mut impl Write) -> io::Result<()> {
-    let mut sum: f64 = 0.0;
-    let mut x: u64 = 2;
-    let mut turns: usize = 0;
-    while turns < 100 {
+    let mut sum = 0.0;
+    let mut x = 2;
+    for _ in 0..100 {
         x = vectors::xorshift(x);
         sum = summed(sum, f32_of((0x3000_0000 + x % 0x1000_0000) as u32));
         print_f64(out, sum)?;
         print_f32(out, ieee754::narrow(sum))?;
-        turns += 1;
     }
     Ok(())
 }

@@ -55,6 +55,7 @@ pub fn accept(records: TokenRecords, room: Outputs) -> Result<Numbers, Refusal>
 }
 
 // Writes norms, postings, positions and runs, or refuses and leaves them.
+// Kept: the C interface lends four slices.
 pub fn write_index(
     records: TokenRecords,
     norms: &mut [u8],
