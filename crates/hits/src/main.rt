@@ -20,30 +20,28 @@ fn read_file<'a>(rt: &impl Files, name: &str, bytes: &'a mut [u8]) -> &'a [u8] {
 }
 
 fn main(rt: HostRuntime) -> std::io::Result<()> {
-    let mut buffers = [[0u8; 65537]; 10];
-    let [
-        run,
-        fields,
-        leaves,
-        postings,
-        positions,
-        norms,
-        live,
-        columns,
-        values,
-        query,
-    ] = &mut buffers;
+    // Kept: tried one array of ten, taken apart by a pattern; the borrow checker does not cover `main` then.
+    let mut run = [0u8; 65537];
+    let mut fields = [0u8; 65537];
+    let mut leaves = [0u8; 65537];
+    let mut postings = [0u8; 65537];
+    let mut positions = [0u8; 65537];
+    let mut norms = [0u8; 65537];
+    let mut live = [0u8; 65537];
+    let mut columns = [0u8; 65537];
+    let mut values = [0u8; 65537];
+    let mut query = [0u8; 65537];
     let files = Contents {
-        run: read_file(&rt, "run.rec", run),
-        fields: read_file(&rt, "fields.rec", fields),
-        leaves: read_file(&rt, "leaves.rec", leaves),
-        postings: read_file(&rt, "postings.rec", postings),
-        positions: read_file(&rt, "positions.rec", positions),
-        norms: read_file(&rt, "norms.rec", norms),
-        live: read_file(&rt, "live.rec", live),
-        columns: read_file(&rt, "columns.rec", columns),
-        values: read_file(&rt, "values.rec", values),
-        query: read_file(&rt, "query.rec", query),
+        run: read_file(&rt, "run.rec", &mut run),
+        fields: read_file(&rt, "fields.rec", &mut fields),
+        leaves: read_file(&rt, "leaves.rec", &mut leaves),
+        postings: read_file(&rt, "postings.rec", &mut postings),
+        positions: read_file(&rt, "positions.rec", &mut positions),
+        norms: read_file(&rt, "norms.rec", &mut norms),
+        live: read_file(&rt, "live.rec", &mut live),
+        columns: read_file(&rt, "columns.rec", &mut columns),
+        values: read_file(&rt, "values.rec", &mut values),
+        query: read_file(&rt, "query.rec", &mut query),
     };
     let mut out = [0u8; 32768];
     let n = report::report(files, &mut out);

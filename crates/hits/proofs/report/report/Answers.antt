@@ -41,15 +41,15 @@ read_words-h-requires c = quarter _ (sizes-of _ (sym c.taken.ensures ∙ c.if-no
 pub word_at-requires : goal.word_at-requires
 word_at-requires c = let s = sizes-of _ (sym c.taken.ensures ∙ c.if-not-taken.false) in omega (arith, s.run)
 
-pub word_at-requires-2 : goal.word_at-requires-2
-word_at-requires-2 c = let s = sizes-of _ (sym c.taken.ensures ∙ c.if-not-taken.false) in omega (arith, s.run)
+pub word_at-k-requires : goal.word_at-k-requires
+word_at-k-requires c = let s = sizes-of _ (sym c.taken.ensures ∙ c.if-not-taken.false) in omega (arith, s.run)
 
-pub word_at-requires-3 : goal.word_at-requires-3
-word_at-requires-3 c = let s = sizes-of _ (sym c.taken.ensures ∙ c.if-not-taken.false) in omega (arith, s.run)
+pub word_at-t-requires : goal.word_at-t-requires
+word_at-t-requires c = let s = sizes-of _ (sym c.taken.ensures ∙ c.if-not-taken.false) in omega (arith, s.run)
 
 pub returns-clause-out_after : goal.returns-clause-out_after
 returns-clause-out_after c =
     let a = c.args.files in
     let text =
-    taken-files a.run.now a.fields.now a.leaves.now a.postings.now a.positions.now a.norms.now a.live.now a.columns.now a.values.now a.query.now (sym c.taken.ensures ∙ c.if-not-taken.false) c.word_at.result c.word_at-2.result c.word_at-3.result _ _ _ _ _ _ _ _ c.word_at.ensures c.word_at-2.ensures c.word_at-3.ensures c.read_words-a.ensures.words_after c.read_words-b.ensures.words_after c.read_words-c.ensures.words_after c.read_words-d.ensures.words_after c.read_longs-e.ensures.words_after c.read_words-f.ensures.words_after c.read_words-g.ensures.words_after c.read_words-h.ensures.words_after in
+    taken-files a.run.now a.fields.now a.leaves.now a.postings.now a.positions.now a.norms.now a.live.now a.columns.now a.values.now a.query.now (sym c.taken.ensures ∙ c.if-not-taken.false) c.word_at.result c.word_at-k.result c.word_at-t.result _ _ _ _ _ _ _ _ c.word_at.ensures c.word_at-k.ensures c.word_at-t.ensures c.read_words-a.ensures.words_after c.read_words-b.ensures.words_after c.read_words-c.ensures.words_after c.read_words-d.ensures.words_after c.read_longs-e.ensures.words_after c.read_words-f.ensures.words_after c.read_words-g.ensures.words_after c.read_words-h.ensures.words_after in
     c.answer.ensures.holds ∙ text
