@@ -47,5 +47,5 @@ pub fn build(
         measures: &measures,
         listed: &listed,
     };
-    tree::place(states, records, 0, None, 1.0, 0, 16)
+    tree::place(states, &records, 0, None, 1.0, 0, 16)
 }

@@ -30,9 +30,9 @@ fn passed_on(occurrence: u32, boost: f32) -> f32
 
 // The clauses at the records of a list, one part after the other.
 #[cycle(placing)]
-fn place_list(st: &mut [u32], records: Records, list: &[usize], boost: f32, depth: u32) -> usize
-    requires { ListPre (given records.query.now records.max_doc records.fields.now records.leaves.now records.measures.now records.listed.now) list.now boost (length st.old) depth }
-    ensures list_post { ListPost (given records.entry.query.now records.entry.max_doc records.entry.fields.now records.entry.leaves.now records.entry.measures.now records.entry.listed.now) list.now boost (length st.old) depth result st.new }
+fn place_list(st: &mut [u32], records: &Records, list: &[usize], boost: f32, depth: u32) -> usize
+    requires { ListPre (given records.now.query.now records.now.max_doc records.now.fields.now records.now.leaves.now records.now.measures.now records.now.listed.now) list.now boost (length st.old) depth }
+    ensures list_post { ListPost (given records.now.query.now records.now.max_doc records.now.fields.now records.now.leaves.now records.now.measures.now records.now.listed.now) list.now boost (length st.old) depth result st.new }
     ensures st_len_unchanged { length st.new ≡ length st.old }
 {
     let mut used = 0;
@@ -60,9 +60,9 @@ pub struct Required {
 
 // The required clauses of the Boolean at `at`, cheapest first: those that cost no more than the group, then the others.
 #[cycle(placing)]
-fn place_required(st: &mut [u32], records: Records, at: usize, boost: f32, depth: u32) -> Required
-    requires { RequiredPre (given records.query.now records.max_doc records.fields.now records.leaves.now records.measures.now records.listed.now) at boost (length st.old) depth }
-    ensures required_post { RequiredPost (given records.entry.query.now records.entry.max_doc records.entry.fields.now records.entry.leaves.now records.entry.measures.now records.entry.listed.now) at boost (length st.old) depth result.group_at result.end st.new }
+fn place_required(st: &mut [u32], records: &Records, at: usize, boost: f32, depth: u32) -> Required
+    requires { RequiredPre (given records.now.query.now records.now.max_doc records.now.fields.now records.now.leaves.now records.now.measures.now records.now.listed.now) at boost (length st.old) depth }
+    ensures required_post { RequiredPost (given records.now.query.now records.now.max_doc records.now.fields.now records.now.leaves.now records.now.measures.now records.now.listed.now) at boost (length st.old) depth result.group_at result.end st.new }
     ensures st_len_unchanged { length st.new ≡ length st.old }
 {
     let group = group_cost(records.query, records.measures, at);
@@ -81,14 +81,14 @@ fn place_required(st: &mut [u32], records: Records, at: usize, boost: f32, depth
 #[cycle(placing)]
 fn place_others(
     st: &mut [u32],
-    records: Records,
+    records: &Records,
     at: usize,
     occurrence: u32,
     boost: f32,
     depth: u32,
 ) -> usize
-    requires { OthersPre (given records.query.now records.max_doc records.fields.now records.leaves.now records.measures.now records.listed.now) at occurrence boost (length st.old) depth }
-    ensures others_post { OthersPost (given records.entry.query.now records.entry.max_doc records.entry.fields.now records.entry.leaves.now records.entry.measures.now records.entry.listed.now) at occurrence boost (length st.old) depth result st.new }
+    requires { OthersPre (given records.now.query.now records.now.max_doc records.now.fields.now records.now.leaves.now records.now.measures.now records.now.listed.now) at occurrence boost (length st.old) depth }
+    ensures others_post { OthersPost (given records.now.query.now records.now.max_doc records.now.fields.now records.now.leaves.now records.now.measures.now records.now.listed.now) at occurrence boost (length st.old) depth result st.new }
     ensures st_len_unchanged { length st.new ≡ length st.old }
 {
     let mut buffer: [usize; 64] = [0; 64];
@@ -156,16 +156,16 @@ fn put_boolean(
 #[cycle(placing)]
 fn place_boolean(
     st: &mut [u32],
-    records: Records,
+    records: &Records,
     at: usize,
     kept: Option<f32>,
     boost: f32,
     scores: u32,
     depth: u32,
 ) -> usize
-    requires at_value { record_kind records.query.now at ≡ 3 }
-    requires tree_pre { TreePre (given records.query.now records.max_doc records.fields.now records.leaves.now records.measures.now records.listed.now) at (is_some kept) (kept_score kept) boost (length st.old) depth }
-    ensures tree_post { TreePost (given records.entry.query.now records.entry.max_doc records.entry.fields.now records.entry.leaves.now records.entry.measures.now records.entry.listed.now) at (is_some kept) (kept_score kept) boost (length st.old) depth scores result st.new }
+    requires at_value { record_kind records.now.query.now at ≡ 3 }
+    requires tree_pre { TreePre (given records.now.query.now records.now.max_doc records.now.fields.now records.now.leaves.now records.now.measures.now records.now.listed.now) at (is_some kept) (kept_score kept) boost (length st.old) depth }
+    ensures tree_post { TreePost (given records.now.query.now records.now.max_doc records.now.fields.now records.now.leaves.now records.now.measures.now records.now.listed.now) at (is_some kept) (kept_score kept) boost (length st.old) depth scores result st.new }
     ensures st_len_unchanged { length st.new ≡ length st.old }
 {
     if !records.measures[at].present {
@@ -218,15 +218,15 @@ fn joins_afterwards(required: bool, msm: u32) -> bool
 #[cycle(placing)]
 pub fn place(
     st: &mut [u32],
-    records: Records,
+    records: &Records,
     at: usize,
     kept: Option<f32>,
     boost: f32,
     scores: u32,
     depth: u32,
 ) -> usize
-    requires { TreePre (given records.query.now records.max_doc records.fields.now records.leaves.now records.measures.now records.listed.now) at (is_some kept) (kept_score kept) boost (length st.old) depth }
-    ensures tree_post { TreePost (given records.entry.query.now records.entry.max_doc records.entry.fields.now records.entry.leaves.now records.entry.measures.now records.entry.listed.now) at (is_some kept) (kept_score kept) boost (length st.old) depth scores result st.new }
+    requires { TreePre (given records.now.query.now records.now.max_doc records.now.fields.now records.now.leaves.now records.now.measures.now records.now.listed.now) at (is_some kept) (kept_score kept) boost (length st.old) depth }
+    ensures tree_post { TreePost (given records.now.query.now records.now.max_doc records.now.fields.now records.now.leaves.now records.now.measures.now records.now.listed.now) at (is_some kept) (kept_score kept) boost (length st.old) depth scores result st.new }
     ensures st_len_unchanged { length st.new ≡ length st.old }
 {
     match query::kind(records.query, at) {

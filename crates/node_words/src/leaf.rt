@@ -11,15 +11,15 @@ use crate::place::{
 // The tree at `at`, whose kind is none of Boolean, ConstantScore and Boost.
 pub fn place_leaf(
     st: &mut [u32],
-    records: Records,
+    records: &Records,
     at: usize,
     kept: Option<f32>,
     boost: f32,
     scores: u32,
 ) -> usize
-    requires fact { (record_kind records.query.now at ≡ 3 → ⊥) × (record_kind records.query.now at ≡ 6 → ⊥) × (record_kind records.query.now at ≡ 7 → ⊥) }
-    requires by_index { (depth : ℕ) × TreePre (given records.query.now records.max_doc records.fields.now records.leaves.now records.measures.now records.listed.now) at (is_some kept) (kept_score kept) boost (length st.old) depth }
-    ensures by_index_2 { (depth : ℕ) → TreePost (given records.entry.query.now records.entry.max_doc records.entry.fields.now records.entry.leaves.now records.entry.measures.now records.entry.listed.now) at (is_some kept) (kept_score kept) boost (length st.old) depth scores result st.new }
+    requires fact { (record_kind records.now.query.now at ≡ 3 → ⊥) × (record_kind records.now.query.now at ≡ 6 → ⊥) × (record_kind records.now.query.now at ≡ 7 → ⊥) }
+    requires by_index { (depth : ℕ) × TreePre (given records.now.query.now records.now.max_doc records.now.fields.now records.now.leaves.now records.now.measures.now records.now.listed.now) at (is_some kept) (kept_score kept) boost (length st.old) depth }
+    ensures by_index_2 { (depth : ℕ) → TreePost (given records.now.query.now records.now.max_doc records.now.fields.now records.now.leaves.now records.now.measures.now records.now.listed.now) at (is_some kept) (kept_score kept) boost (length st.old) depth scores result st.new }
     ensures st_len_unchanged { length st.new ≡ length st.old }
 {
     let present = records.measures[at].present;

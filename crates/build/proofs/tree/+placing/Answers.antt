@@ -17,7 +17,7 @@ use Rattle.build.proofs.tree.+placing.Goals as goal
 
 pub place-kind-requires : goal.place-kind-requires
 place-kind-requires t c =
-    let E = given c.args.records.query.now c.args.records.max_doc c.args.records.fields.now c.args.records.leaves.now c.args.records.measures.now c.args.records.listed.now in
+    let E = given c.args.records.now.query.now c.args.records.now.max_doc c.args.records.now.fields.now c.args.records.now.leaves.now c.args.records.now.measures.now c.args.records.now.listed.now in
     let at = c.args.at in
     let fixed = is_some c.args.kept in
     let kept = kept_score c.args.kept in
@@ -33,7 +33,7 @@ place-place_boolean-requires t c =
 
 pub place-overflow_sub-depth : goal.place-overflow_sub-depth
 place-overflow_sub-depth t c =
-    let E = given c.args.records.query.now c.args.records.max_doc c.args.records.fields.now c.args.records.leaves.now c.args.records.measures.now c.args.records.listed.now in
+    let E = given c.args.records.now.query.now c.args.records.now.max_doc c.args.records.now.fields.now c.args.records.now.leaves.now c.args.records.now.measures.now c.args.records.now.listed.now in
     let at = c.args.at in
     let fixed = is_some c.args.kept in
     let kept = kept_score c.args.kept in
@@ -45,7 +45,7 @@ place-overflow_sub-depth t c =
 
 pub place-place-requires : goal.place-place-requires
 place-place-requires t c =
-    let E = given c.args.records.query.now c.args.records.max_doc c.args.records.fields.now c.args.records.leaves.now c.args.records.measures.now c.args.records.listed.now in
+    let E = given c.args.records.now.query.now c.args.records.now.max_doc c.args.records.now.fields.now c.args.records.now.leaves.now c.args.records.now.measures.now c.args.records.now.listed.now in
     let at = c.args.at in
     let fixed = is_some c.args.kept in
     let kept = kept_score c.args.kept in
@@ -58,7 +58,7 @@ place-place-requires t c =
 
 pub place-value-requires : goal.place-value-requires
 place-value-requires t c =
-    let E = given c.args.records.query.now c.args.records.max_doc c.args.records.fields.now c.args.records.leaves.now c.args.records.measures.now c.args.records.listed.now in
+    let E = given c.args.records.now.query.now c.args.records.now.max_doc c.args.records.now.fields.now c.args.records.now.leaves.now c.args.records.now.measures.now c.args.records.now.listed.now in
     let at = c.args.at in
     let fixed = is_some c.args.kept in
     let kept = kept_score c.args.kept in
@@ -70,7 +70,7 @@ place-value-requires t c =
 
 pub place-float_from_bits-value : goal.place-float_from_bits-value
 place-float_from_bits-value t c =
-    let E = given c.args.records.query.now c.args.records.max_doc c.args.records.fields.now c.args.records.leaves.now c.args.records.measures.now c.args.records.listed.now in
+    let E = given c.args.records.now.query.now c.args.records.now.max_doc c.args.records.now.fields.now c.args.records.now.leaves.now c.args.records.now.measures.now c.args.records.now.listed.now in
     let at = c.args.at in
     let fixed = is_some c.args.kept in
     let kept = kept_score c.args.kept in
@@ -83,7 +83,7 @@ place-float_from_bits-value t c =
 
 pub place-overflow_sub-depth-in-7 : goal.place-overflow_sub-depth-in-7
 place-overflow_sub-depth-in-7 t c =
-    let E = given c.args.records.query.now c.args.records.max_doc c.args.records.fields.now c.args.records.leaves.now c.args.records.measures.now c.args.records.listed.now in
+    let E = given c.args.records.now.query.now c.args.records.now.max_doc c.args.records.now.fields.now c.args.records.now.leaves.now c.args.records.now.measures.now c.args.records.now.listed.now in
     let at = c.args.at in
     let fixed = is_some c.args.kept in
     let kept = kept_score c.args.kept in
@@ -95,7 +95,7 @@ place-overflow_sub-depth-in-7 t c =
 
 pub place-place-requires-in-7 : goal.place-place-requires-in-7
 place-place-requires-in-7 t c =
-    let E = given c.args.records.query.now c.args.records.max_doc c.args.records.fields.now c.args.records.leaves.now c.args.records.measures.now c.args.records.listed.now in
+    let E = given c.args.records.now.query.now c.args.records.now.max_doc c.args.records.now.fields.now c.args.records.now.leaves.now c.args.records.now.measures.now c.args.records.now.listed.now in
     let at = c.args.at in
     let fixed = is_some c.args.kept in
     let kept = kept_score c.args.kept in
@@ -108,7 +108,7 @@ place-place-requires-in-7 t c =
 
 pub place-returns-in-6-clause-tree_post : goal.place-returns-in-6-clause-tree_post
 place-returns-in-6-clause-tree_post t c =
-    let E = given c.args.records.query.now c.args.records.max_doc c.args.records.fields.now c.args.records.leaves.now c.args.records.measures.now c.args.records.listed.now in
+    let E = given c.args.records.now.query.now c.args.records.now.max_doc c.args.records.now.fields.now c.args.records.now.leaves.now c.args.records.now.measures.now c.args.records.now.listed.now in
     let at = c.args.at in
     let fixed = is_some c.args.kept in
     let kept = kept_score c.args.kept in
@@ -120,7 +120,7 @@ place-returns-in-6-clause-tree_post t c =
 
 pub place-returns-in-7-clause-tree_post : goal.place-returns-in-7-clause-tree_post
 place-returns-in-7-clause-tree_post t c =
-    let E = given c.args.records.query.now c.args.records.max_doc c.args.records.fields.now c.args.records.leaves.now c.args.records.measures.now c.args.records.listed.now in
+    let E = given c.args.records.now.query.now c.args.records.now.max_doc c.args.records.now.fields.now c.args.records.now.leaves.now c.args.records.now.measures.now c.args.records.now.listed.now in
     let at = c.args.at in
     let fixed = is_some c.args.kept in
     let kept = kept_score c.args.kept in
@@ -136,7 +136,7 @@ place-returns-in_default-clause-tree_post t c =
 
 pub place_boolean-bounds-records-at : goal.place_boolean-bounds-records-at
 place_boolean-bounds-records-at t c =
-    let E = given c.args.records.query.now c.args.records.max_doc c.args.records.fields.now c.args.records.leaves.now c.args.records.measures.now c.args.records.listed.now in
+    let E = given c.args.records.now.query.now c.args.records.now.max_doc c.args.records.now.fields.now c.args.records.now.leaves.now c.args.records.now.measures.now c.args.records.now.listed.now in
     let at = c.args.at in
     let fixed = is_some c.args.kept in
     let kept = kept_score c.args.kept in
@@ -146,11 +146,11 @@ place_boolean-bounds-records-at t c =
     let pre = c.requires.tree_pre in
     let kind = c.requires.at_value in
     let here = tree-present E at fixed kept boost words depth pre in
-    omega (arith, here, presents-long c.args.records.measures.now)
+    omega (arith, here, presents-long c.args.records.now.measures.now)
 
 pub place_boolean-place_nothing-requires : goal.place_boolean-place_nothing-requires
 place_boolean-place_nothing-requires t c =
-    let E = given c.args.records.query.now c.args.records.max_doc c.args.records.fields.now c.args.records.leaves.now c.args.records.measures.now c.args.records.listed.now in
+    let E = given c.args.records.now.query.now c.args.records.now.max_doc c.args.records.now.fields.now c.args.records.now.leaves.now c.args.records.now.measures.now c.args.records.now.listed.now in
     let at = c.args.at in
     let fixed = is_some c.args.kept in
     let kept = kept_score c.args.kept in
@@ -163,7 +163,7 @@ place_boolean-place_nothing-requires t c =
 
 pub place_boolean-returns-then-not-records-at-clause-tree_post : goal.place_boolean-returns-then-not-records-at-clause-tree_post
 place_boolean-returns-then-not-records-at-clause-tree_post t c =
-    let E = given c.args.records.query.now c.args.records.max_doc c.args.records.fields.now c.args.records.leaves.now c.args.records.measures.now c.args.records.listed.now in
+    let E = given c.args.records.now.query.now c.args.records.now.max_doc c.args.records.now.fields.now c.args.records.now.leaves.now c.args.records.now.measures.now c.args.records.now.listed.now in
     let at = c.args.at in
     let fixed = is_some c.args.kept in
     let kept = kept_score c.args.kept in
@@ -172,11 +172,11 @@ place_boolean-returns-then-not-records-at-clause-tree_post t c =
     let depth = c.args.depth in
     let pre = c.requires.tree_pre in
     let kind = c.requires.at_value in
-    nothing_placed E at fixed kept boost words depth kind c.args.scores c.place_nothing.result c.place_nothing.new.st (present-at c.args.records.measures.now at ∙ ap (λ (b : Bool). cond b 1 0) c.if-not-records-at.true) c.place_nothing.ensures.placed
+    nothing_placed E at fixed kept boost words depth kind c.args.scores c.place_nothing.result c.place_nothing.new.st (present-at c.args.records.now.measures.now at ∙ ap (λ (b : Bool). cond b 1 0) c.if-not-records-at.true) c.place_nothing.ensures.placed
 
 pub place_boolean-value-msm-requires : goal.place_boolean-value-msm-requires
 place_boolean-value-msm-requires t c =
-    let E = given c.args.records.query.now c.args.records.max_doc c.args.records.fields.now c.args.records.leaves.now c.args.records.measures.now c.args.records.listed.now in
+    let E = given c.args.records.now.query.now c.args.records.now.max_doc c.args.records.now.fields.now c.args.records.now.leaves.now c.args.records.now.measures.now c.args.records.now.listed.now in
     let at = c.args.at in
     let fixed = is_some c.args.kept in
     let kept = kept_score c.args.kept in
@@ -189,7 +189,7 @@ place_boolean-value-msm-requires t c =
 
 pub place_boolean-has_required-required-requires : goal.place_boolean-has_required-required-requires
 place_boolean-has_required-required-requires t c =
-    let E = given c.args.records.query.now c.args.records.max_doc c.args.records.fields.now c.args.records.leaves.now c.args.records.measures.now c.args.records.listed.now in
+    let E = given c.args.records.now.query.now c.args.records.now.max_doc c.args.records.now.fields.now c.args.records.now.leaves.now c.args.records.now.measures.now c.args.records.now.listed.now in
     let at = c.args.at in
     let fixed = is_some c.args.kept in
     let kept = kept_score c.args.kept in
@@ -198,12 +198,12 @@ place_boolean-has_required-required-requires t c =
     let depth = c.args.depth in
     let pre = c.requires.tree_pre in
     let kind = c.requires.at_value in
-    let there : get_or E.presents at 0 ≡ 0 → ⊥ = λ z. not-none (get_or c.args.records.measures.now at no_measure).present c.if-not-records-at.false (sym (present-at c.args.records.measures.now at) ∙ z) in
-    boolean-known E at fixed kept boost words depth kind there c.args.records.measures.now (refl, refl, refl) pre
+    let there : get_or E.presents at 0 ≡ 0 → ⊥ = λ z. not-none (get_or c.args.records.now.measures.now at no_measure).present c.if-not-records-at.false (sym (present-at c.args.records.now.measures.now at) ∙ z) in
+    boolean-known E at fixed kept boost words depth kind there c.args.records.now.measures.now (refl, refl, refl) pre
 
 pub place_boolean-slice_bounds-place_required-count : goal.place_boolean-slice_bounds-place_required-count
 place_boolean-slice_bounds-place_required-count t c =
-    let E = given c.args.records.query.now c.args.records.max_doc c.args.records.fields.now c.args.records.leaves.now c.args.records.measures.now c.args.records.listed.now in
+    let E = given c.args.records.now.query.now c.args.records.now.max_doc c.args.records.now.fields.now c.args.records.now.leaves.now c.args.records.now.measures.now c.args.records.now.listed.now in
     let at = c.args.at in
     let fixed = is_some c.args.kept in
     let kept = kept_score c.args.kept in
@@ -216,7 +216,7 @@ place_boolean-slice_bounds-place_required-count t c =
 
 pub place_boolean-slice_bounds-place_required-start : goal.place_boolean-slice_bounds-place_required-start
 place_boolean-slice_bounds-place_required-start t c =
-    let E = given c.args.records.query.now c.args.records.max_doc c.args.records.fields.now c.args.records.leaves.now c.args.records.measures.now c.args.records.listed.now in
+    let E = given c.args.records.now.query.now c.args.records.now.max_doc c.args.records.now.fields.now c.args.records.now.leaves.now c.args.records.now.measures.now c.args.records.now.listed.now in
     let at = c.args.at in
     let fixed = is_some c.args.kept in
     let kept = kept_score c.args.kept in
@@ -229,7 +229,7 @@ place_boolean-slice_bounds-place_required-start t c =
 
 pub place_boolean-overflow_sub-depth : goal.place_boolean-overflow_sub-depth
 place_boolean-overflow_sub-depth t c =
-    let E = given c.args.records.query.now c.args.records.max_doc c.args.records.fields.now c.args.records.leaves.now c.args.records.measures.now c.args.records.listed.now in
+    let E = given c.args.records.now.query.now c.args.records.now.max_doc c.args.records.now.fields.now c.args.records.now.leaves.now c.args.records.now.measures.now c.args.records.now.listed.now in
     let at = c.args.at in
     let fixed = is_some c.args.kept in
     let kept = kept_score c.args.kept in
@@ -242,7 +242,7 @@ place_boolean-overflow_sub-depth t c =
 
 pub place_boolean-place_required-first-requires : goal.place_boolean-place_required-first-requires
 place_boolean-place_required-first-requires t c =
-    let E = given c.args.records.query.now c.args.records.max_doc c.args.records.fields.now c.args.records.leaves.now c.args.records.measures.now c.args.records.listed.now in
+    let E = given c.args.records.now.query.now c.args.records.now.max_doc c.args.records.now.fields.now c.args.records.now.leaves.now c.args.records.now.measures.now c.args.records.now.listed.now in
     let at = c.args.at in
     let fixed = is_some c.args.kept in
     let kept = kept_score c.args.kept in
@@ -251,14 +251,14 @@ place_boolean-place_required-first-requires t c =
     let depth = c.args.depth in
     let pre = c.requires.tree_pre in
     let kind = c.requires.at_value in
-    let there : get_or E.presents at 0 ≡ 0 → ⊥ = λ z. not-none (get_or c.args.records.measures.now at no_measure).present c.if-not-records-at.false (sym (present-at c.args.records.measures.now at) ∙ z) in
+    let there : get_or E.presents at 0 ≡ 0 → ⊥ = λ z. not-none (get_or c.args.records.now.measures.now at no_measure).present c.if-not-records-at.false (sym (present-at c.args.records.now.measures.now at) ∙ z) in
     let st₀ = c.args.st.now in
     let part₁ = mid_len node_state_words words st₀ (omega arith) in
     (omega (arith, c.decreases, tree-deep E at fixed kept boost words depth pre), boolean-required E at fixed kept boost words depth kind there _ part₁ pre)
 
 pub place_boolean-overflow_add-first : goal.place_boolean-overflow_add-first
 place_boolean-overflow_add-first t c =
-    let E = given c.args.records.query.now c.args.records.max_doc c.args.records.fields.now c.args.records.leaves.now c.args.records.measures.now c.args.records.listed.now in
+    let E = given c.args.records.now.query.now c.args.records.now.max_doc c.args.records.now.fields.now c.args.records.now.leaves.now c.args.records.now.measures.now c.args.records.now.listed.now in
     let at = c.args.at in
     let fixed = is_some c.args.kept in
     let kept = kept_score c.args.kept in
@@ -267,7 +267,7 @@ place_boolean-overflow_add-first t c =
     let depth = c.args.depth in
     let pre = c.requires.tree_pre in
     let kind = c.requires.at_value in
-    let there : get_or E.presents at 0 ≡ 0 → ⊥ = λ z. not-none (get_or c.args.records.measures.now at no_measure).present c.if-not-records-at.false (sym (present-at c.args.records.measures.now at) ∙ z) in
+    let there : get_or E.presents at 0 ≡ 0 → ⊥ = λ z. not-none (get_or c.args.records.now.measures.now at no_measure).present c.if-not-records-at.false (sym (present-at c.args.records.now.measures.now at) ∙ z) in
     let st₀ = c.args.st.now in
     let part₁ = mid_len node_state_words words st₀ (omega arith) in
     let a = c.place_required-first in
@@ -279,7 +279,7 @@ place_boolean-overflow_add-first t c =
 
 pub place_boolean-offset_bounds-st-first : goal.place_boolean-offset_bounds-st-first
 place_boolean-offset_bounds-st-first t c =
-    let E = given c.args.records.query.now c.args.records.max_doc c.args.records.fields.now c.args.records.leaves.now c.args.records.measures.now c.args.records.listed.now in
+    let E = given c.args.records.now.query.now c.args.records.now.max_doc c.args.records.now.fields.now c.args.records.now.leaves.now c.args.records.now.measures.now c.args.records.now.listed.now in
     let at = c.args.at in
     let fixed = is_some c.args.kept in
     let kept = kept_score c.args.kept in
@@ -288,7 +288,7 @@ place_boolean-offset_bounds-st-first t c =
     let depth = c.args.depth in
     let pre = c.requires.tree_pre in
     let kind = c.requires.at_value in
-    let there : get_or E.presents at 0 ≡ 0 → ⊥ = λ z. not-none (get_or c.args.records.measures.now at no_measure).present c.if-not-records-at.false (sym (present-at c.args.records.measures.now at) ∙ z) in
+    let there : get_or E.presents at 0 ≡ 0 → ⊥ = λ z. not-none (get_or c.args.records.now.measures.now at no_measure).present c.if-not-records-at.false (sym (present-at c.args.records.now.measures.now at) ∙ z) in
     let st₀ = c.args.st.now in
     let part₁ = mid_len node_state_words words st₀ (omega arith) in
     let a = c.place_required-first in
@@ -300,7 +300,7 @@ place_boolean-offset_bounds-st-first t c =
 
 pub place_boolean-slice_bounds-place_others-count : goal.place_boolean-slice_bounds-place_others-count
 place_boolean-slice_bounds-place_others-count t c =
-    let E = given c.args.records.query.now c.args.records.max_doc c.args.records.fields.now c.args.records.leaves.now c.args.records.measures.now c.args.records.listed.now in
+    let E = given c.args.records.now.query.now c.args.records.now.max_doc c.args.records.now.fields.now c.args.records.now.leaves.now c.args.records.now.measures.now c.args.records.now.listed.now in
     let at = c.args.at in
     let fixed = is_some c.args.kept in
     let kept = kept_score c.args.kept in
@@ -309,7 +309,7 @@ place_boolean-slice_bounds-place_others-count t c =
     let depth = c.args.depth in
     let pre = c.requires.tree_pre in
     let kind = c.requires.at_value in
-    let there : get_or E.presents at 0 ≡ 0 → ⊥ = λ z. not-none (get_or c.args.records.measures.now at no_measure).present c.if-not-records-at.false (sym (present-at c.args.records.measures.now at) ∙ z) in
+    let there : get_or E.presents at 0 ≡ 0 → ⊥ = λ z. not-none (get_or c.args.records.now.measures.now at no_measure).present c.if-not-records-at.false (sym (present-at c.args.records.now.measures.now at) ∙ z) in
     let st₀ = c.args.st.now in
     let part₁ = mid_len node_state_words words st₀ (omega arith) in
     let a = c.place_required-first in
@@ -321,7 +321,7 @@ place_boolean-slice_bounds-place_others-count t c =
 
 pub place_boolean-slice_bounds-place_others-start : goal.place_boolean-slice_bounds-place_others-start
 place_boolean-slice_bounds-place_others-start t c =
-    let E = given c.args.records.query.now c.args.records.max_doc c.args.records.fields.now c.args.records.leaves.now c.args.records.measures.now c.args.records.listed.now in
+    let E = given c.args.records.now.query.now c.args.records.now.max_doc c.args.records.now.fields.now c.args.records.now.leaves.now c.args.records.now.measures.now c.args.records.now.listed.now in
     let at = c.args.at in
     let fixed = is_some c.args.kept in
     let kept = kept_score c.args.kept in
@@ -330,7 +330,7 @@ place_boolean-slice_bounds-place_others-start t c =
     let depth = c.args.depth in
     let pre = c.requires.tree_pre in
     let kind = c.requires.at_value in
-    let there : get_or E.presents at 0 ≡ 0 → ⊥ = λ z. not-none (get_or c.args.records.measures.now at no_measure).present c.if-not-records-at.false (sym (present-at c.args.records.measures.now at) ∙ z) in
+    let there : get_or E.presents at 0 ≡ 0 → ⊥ = λ z. not-none (get_or c.args.records.now.measures.now at no_measure).present c.if-not-records-at.false (sym (present-at c.args.records.now.measures.now at) ∙ z) in
     let st₀ = c.args.st.now in
     let part₁ = mid_len node_state_words words st₀ (omega arith) in
     let a = c.place_required-first in
@@ -342,7 +342,7 @@ place_boolean-slice_bounds-place_others-start t c =
 
 pub place_boolean-overflow_sub-depth-2 : goal.place_boolean-overflow_sub-depth-2
 place_boolean-overflow_sub-depth-2 t c =
-    let E = given c.args.records.query.now c.args.records.max_doc c.args.records.fields.now c.args.records.leaves.now c.args.records.measures.now c.args.records.listed.now in
+    let E = given c.args.records.now.query.now c.args.records.now.max_doc c.args.records.now.fields.now c.args.records.now.leaves.now c.args.records.now.measures.now c.args.records.now.listed.now in
     let at = c.args.at in
     let fixed = is_some c.args.kept in
     let kept = kept_score c.args.kept in
@@ -355,7 +355,7 @@ place_boolean-overflow_sub-depth-2 t c =
 
 pub place_boolean-place_others-shoulds-requires : goal.place_boolean-place_others-shoulds-requires
 place_boolean-place_others-shoulds-requires t c =
-    let E = given c.args.records.query.now c.args.records.max_doc c.args.records.fields.now c.args.records.leaves.now c.args.records.measures.now c.args.records.listed.now in
+    let E = given c.args.records.now.query.now c.args.records.now.max_doc c.args.records.now.fields.now c.args.records.now.leaves.now c.args.records.now.measures.now c.args.records.now.listed.now in
     let at = c.args.at in
     let fixed = is_some c.args.kept in
     let kept = kept_score c.args.kept in
@@ -364,7 +364,7 @@ place_boolean-place_others-shoulds-requires t c =
     let depth = c.args.depth in
     let pre = c.requires.tree_pre in
     let kind = c.requires.at_value in
-    let there : get_or E.presents at 0 ≡ 0 → ⊥ = λ z. not-none (get_or c.args.records.measures.now at no_measure).present c.if-not-records-at.false (sym (present-at c.args.records.measures.now at) ∙ z) in
+    let there : get_or E.presents at 0 ≡ 0 → ⊥ = λ z. not-none (get_or c.args.records.now.measures.now at no_measure).present c.if-not-records-at.false (sym (present-at c.args.records.now.measures.now at) ∙ z) in
     let st₀ = c.args.st.now in
     let part₁ = mid_len node_state_words words st₀ (omega arith) in
     let a = c.place_required-first in
@@ -376,7 +376,7 @@ place_boolean-place_others-shoulds-requires t c =
 
 pub place_boolean-overflow_add-optional_end : goal.place_boolean-overflow_add-optional_end
 place_boolean-overflow_add-optional_end t c =
-    let E = given c.args.records.query.now c.args.records.max_doc c.args.records.fields.now c.args.records.leaves.now c.args.records.measures.now c.args.records.listed.now in
+    let E = given c.args.records.now.query.now c.args.records.now.max_doc c.args.records.now.fields.now c.args.records.now.leaves.now c.args.records.now.measures.now c.args.records.now.listed.now in
     let at = c.args.at in
     let fixed = is_some c.args.kept in
     let kept = kept_score c.args.kept in
@@ -385,7 +385,7 @@ place_boolean-overflow_add-optional_end t c =
     let depth = c.args.depth in
     let pre = c.requires.tree_pre in
     let kind = c.requires.at_value in
-    let there : get_or E.presents at 0 ≡ 0 → ⊥ = λ z. not-none (get_or c.args.records.measures.now at no_measure).present c.if-not-records-at.false (sym (present-at c.args.records.measures.now at) ∙ z) in
+    let there : get_or E.presents at 0 ≡ 0 → ⊥ = λ z. not-none (get_or c.args.records.now.measures.now at no_measure).present c.if-not-records-at.false (sym (present-at c.args.records.now.measures.now at) ∙ z) in
     let st₀ = c.args.st.now in
     let part₁ = mid_len node_state_words words st₀ (omega arith) in
     let a = c.place_required-first in
@@ -402,7 +402,7 @@ place_boolean-overflow_add-optional_end t c =
 
 pub place_boolean-overflow_add-optional_end-2 : goal.place_boolean-overflow_add-optional_end-2
 place_boolean-overflow_add-optional_end-2 t c =
-    let E = given c.args.records.query.now c.args.records.max_doc c.args.records.fields.now c.args.records.leaves.now c.args.records.measures.now c.args.records.listed.now in
+    let E = given c.args.records.now.query.now c.args.records.now.max_doc c.args.records.now.fields.now c.args.records.now.leaves.now c.args.records.now.measures.now c.args.records.now.listed.now in
     let at = c.args.at in
     let fixed = is_some c.args.kept in
     let kept = kept_score c.args.kept in
@@ -411,7 +411,7 @@ place_boolean-overflow_add-optional_end-2 t c =
     let depth = c.args.depth in
     let pre = c.requires.tree_pre in
     let kind = c.requires.at_value in
-    let there : get_or E.presents at 0 ≡ 0 → ⊥ = λ z. not-none (get_or c.args.records.measures.now at no_measure).present c.if-not-records-at.false (sym (present-at c.args.records.measures.now at) ∙ z) in
+    let there : get_or E.presents at 0 ≡ 0 → ⊥ = λ z. not-none (get_or c.args.records.now.measures.now at no_measure).present c.if-not-records-at.false (sym (present-at c.args.records.now.measures.now at) ∙ z) in
     let st₀ = c.args.st.now in
     let part₁ = mid_len node_state_words words st₀ (omega arith) in
     let a = c.place_required-first in
@@ -428,7 +428,7 @@ place_boolean-overflow_add-optional_end-2 t c =
 
 pub place_boolean-offset_bounds-st-optional_end : goal.place_boolean-offset_bounds-st-optional_end
 place_boolean-offset_bounds-st-optional_end t c =
-    let E = given c.args.records.query.now c.args.records.max_doc c.args.records.fields.now c.args.records.leaves.now c.args.records.measures.now c.args.records.listed.now in
+    let E = given c.args.records.now.query.now c.args.records.now.max_doc c.args.records.now.fields.now c.args.records.now.leaves.now c.args.records.now.measures.now c.args.records.now.listed.now in
     let at = c.args.at in
     let fixed = is_some c.args.kept in
     let kept = kept_score c.args.kept in
@@ -437,7 +437,7 @@ place_boolean-offset_bounds-st-optional_end t c =
     let depth = c.args.depth in
     let pre = c.requires.tree_pre in
     let kind = c.requires.at_value in
-    let there : get_or E.presents at 0 ≡ 0 → ⊥ = λ z. not-none (get_or c.args.records.measures.now at no_measure).present c.if-not-records-at.false (sym (present-at c.args.records.measures.now at) ∙ z) in
+    let there : get_or E.presents at 0 ≡ 0 → ⊥ = λ z. not-none (get_or c.args.records.now.measures.now at no_measure).present c.if-not-records-at.false (sym (present-at c.args.records.now.measures.now at) ∙ z) in
     let st₀ = c.args.st.now in
     let part₁ = mid_len node_state_words words st₀ (omega arith) in
     let a = c.place_required-first in
@@ -454,7 +454,7 @@ place_boolean-offset_bounds-st-optional_end t c =
 
 pub place_boolean-slice_bounds-place_others-count-2 : goal.place_boolean-slice_bounds-place_others-count-2
 place_boolean-slice_bounds-place_others-count-2 t c =
-    let E = given c.args.records.query.now c.args.records.max_doc c.args.records.fields.now c.args.records.leaves.now c.args.records.measures.now c.args.records.listed.now in
+    let E = given c.args.records.now.query.now c.args.records.now.max_doc c.args.records.now.fields.now c.args.records.now.leaves.now c.args.records.now.measures.now c.args.records.now.listed.now in
     let at = c.args.at in
     let fixed = is_some c.args.kept in
     let kept = kept_score c.args.kept in
@@ -463,7 +463,7 @@ place_boolean-slice_bounds-place_others-count-2 t c =
     let depth = c.args.depth in
     let pre = c.requires.tree_pre in
     let kind = c.requires.at_value in
-    let there : get_or E.presents at 0 ≡ 0 → ⊥ = λ z. not-none (get_or c.args.records.measures.now at no_measure).present c.if-not-records-at.false (sym (present-at c.args.records.measures.now at) ∙ z) in
+    let there : get_or E.presents at 0 ≡ 0 → ⊥ = λ z. not-none (get_or c.args.records.now.measures.now at no_measure).present c.if-not-records-at.false (sym (present-at c.args.records.now.measures.now at) ∙ z) in
     let st₀ = c.args.st.now in
     let part₁ = mid_len node_state_words words st₀ (omega arith) in
     let a = c.place_required-first in
@@ -480,7 +480,7 @@ place_boolean-slice_bounds-place_others-count-2 t c =
 
 pub place_boolean-slice_bounds-place_others-start-2 : goal.place_boolean-slice_bounds-place_others-start-2
 place_boolean-slice_bounds-place_others-start-2 t c =
-    let E = given c.args.records.query.now c.args.records.max_doc c.args.records.fields.now c.args.records.leaves.now c.args.records.measures.now c.args.records.listed.now in
+    let E = given c.args.records.now.query.now c.args.records.now.max_doc c.args.records.now.fields.now c.args.records.now.leaves.now c.args.records.now.measures.now c.args.records.now.listed.now in
     let at = c.args.at in
     let fixed = is_some c.args.kept in
     let kept = kept_score c.args.kept in
@@ -489,7 +489,7 @@ place_boolean-slice_bounds-place_others-start-2 t c =
     let depth = c.args.depth in
     let pre = c.requires.tree_pre in
     let kind = c.requires.at_value in
-    let there : get_or E.presents at 0 ≡ 0 → ⊥ = λ z. not-none (get_or c.args.records.measures.now at no_measure).present c.if-not-records-at.false (sym (present-at c.args.records.measures.now at) ∙ z) in
+    let there : get_or E.presents at 0 ≡ 0 → ⊥ = λ z. not-none (get_or c.args.records.now.measures.now at no_measure).present c.if-not-records-at.false (sym (present-at c.args.records.now.measures.now at) ∙ z) in
     let st₀ = c.args.st.now in
     let part₁ = mid_len node_state_words words st₀ (omega arith) in
     let a = c.place_required-first in
@@ -506,7 +506,7 @@ place_boolean-slice_bounds-place_others-start-2 t c =
 
 pub place_boolean-overflow_sub-depth-3 : goal.place_boolean-overflow_sub-depth-3
 place_boolean-overflow_sub-depth-3 t c =
-    let E = given c.args.records.query.now c.args.records.max_doc c.args.records.fields.now c.args.records.leaves.now c.args.records.measures.now c.args.records.listed.now in
+    let E = given c.args.records.now.query.now c.args.records.now.max_doc c.args.records.now.fields.now c.args.records.now.leaves.now c.args.records.now.measures.now c.args.records.now.listed.now in
     let at = c.args.at in
     let fixed = is_some c.args.kept in
     let kept = kept_score c.args.kept in
@@ -519,7 +519,7 @@ place_boolean-overflow_sub-depth-3 t c =
 
 pub place_boolean-place_others-nots-requires : goal.place_boolean-place_others-nots-requires
 place_boolean-place_others-nots-requires t c =
-    let E = given c.args.records.query.now c.args.records.max_doc c.args.records.fields.now c.args.records.leaves.now c.args.records.measures.now c.args.records.listed.now in
+    let E = given c.args.records.now.query.now c.args.records.now.max_doc c.args.records.now.fields.now c.args.records.now.leaves.now c.args.records.now.measures.now c.args.records.now.listed.now in
     let at = c.args.at in
     let fixed = is_some c.args.kept in
     let kept = kept_score c.args.kept in
@@ -528,7 +528,7 @@ place_boolean-place_others-nots-requires t c =
     let depth = c.args.depth in
     let pre = c.requires.tree_pre in
     let kind = c.requires.at_value in
-    let there : get_or E.presents at 0 ≡ 0 → ⊥ = λ z. not-none (get_or c.args.records.measures.now at no_measure).present c.if-not-records-at.false (sym (present-at c.args.records.measures.now at) ∙ z) in
+    let there : get_or E.presents at 0 ≡ 0 → ⊥ = λ z. not-none (get_or c.args.records.now.measures.now at no_measure).present c.if-not-records-at.false (sym (present-at c.args.records.now.measures.now at) ∙ z) in
     let st₀ = c.args.st.now in
     let part₁ = mid_len node_state_words words st₀ (omega arith) in
     let a = c.place_required-first in
@@ -545,7 +545,7 @@ place_boolean-place_others-nots-requires t c =
 
 pub place_boolean-overflow_add-size : goal.place_boolean-overflow_add-size
 place_boolean-overflow_add-size t c =
-    let E = given c.args.records.query.now c.args.records.max_doc c.args.records.fields.now c.args.records.leaves.now c.args.records.measures.now c.args.records.listed.now in
+    let E = given c.args.records.now.query.now c.args.records.now.max_doc c.args.records.now.fields.now c.args.records.now.leaves.now c.args.records.now.measures.now c.args.records.now.listed.now in
     let at = c.args.at in
     let fixed = is_some c.args.kept in
     let kept = kept_score c.args.kept in
@@ -554,7 +554,7 @@ place_boolean-overflow_add-size t c =
     let depth = c.args.depth in
     let pre = c.requires.tree_pre in
     let kind = c.requires.at_value in
-    let there : get_or E.presents at 0 ≡ 0 → ⊥ = λ z. not-none (get_or c.args.records.measures.now at no_measure).present c.if-not-records-at.false (sym (present-at c.args.records.measures.now at) ∙ z) in
+    let there : get_or E.presents at 0 ≡ 0 → ⊥ = λ z. not-none (get_or c.args.records.now.measures.now at no_measure).present c.if-not-records-at.false (sym (present-at c.args.records.now.measures.now at) ∙ z) in
     let st₀ = c.args.st.now in
     let part₁ = mid_len node_state_words words st₀ (omega arith) in
     let a = c.place_required-first in
@@ -571,7 +571,7 @@ place_boolean-overflow_add-size t c =
 
 pub place_boolean-overflow_add-size-2 : goal.place_boolean-overflow_add-size-2
 place_boolean-overflow_add-size-2 t c =
-    let E = given c.args.records.query.now c.args.records.max_doc c.args.records.fields.now c.args.records.leaves.now c.args.records.measures.now c.args.records.listed.now in
+    let E = given c.args.records.now.query.now c.args.records.now.max_doc c.args.records.now.fields.now c.args.records.now.leaves.now c.args.records.now.measures.now c.args.records.now.listed.now in
     let at = c.args.at in
     let fixed = is_some c.args.kept in
     let kept = kept_score c.args.kept in
@@ -580,7 +580,7 @@ place_boolean-overflow_add-size-2 t c =
     let depth = c.args.depth in
     let pre = c.requires.tree_pre in
     let kind = c.requires.at_value in
-    let there : get_or E.presents at 0 ≡ 0 → ⊥ = λ z. not-none (get_or c.args.records.measures.now at no_measure).present c.if-not-records-at.false (sym (present-at c.args.records.measures.now at) ∙ z) in
+    let there : get_or E.presents at 0 ≡ 0 → ⊥ = λ z. not-none (get_or c.args.records.now.measures.now at no_measure).present c.if-not-records-at.false (sym (present-at c.args.records.now.measures.now at) ∙ z) in
     let st₀ = c.args.st.now in
     let part₁ = mid_len node_state_words words st₀ (omega arith) in
     let a = c.place_required-first in
@@ -600,7 +600,7 @@ place_boolean-overflow_add-size-2 t c =
 
 pub place_boolean-put_boolean-requires : goal.place_boolean-put_boolean-requires
 place_boolean-put_boolean-requires t c =
-    let E = given c.args.records.query.now c.args.records.max_doc c.args.records.fields.now c.args.records.leaves.now c.args.records.measures.now c.args.records.listed.now in
+    let E = given c.args.records.now.query.now c.args.records.now.max_doc c.args.records.now.fields.now c.args.records.now.leaves.now c.args.records.now.measures.now c.args.records.now.listed.now in
     let at = c.args.at in
     let fixed = is_some c.args.kept in
     let kept = kept_score c.args.kept in
@@ -609,7 +609,7 @@ place_boolean-put_boolean-requires t c =
     let depth = c.args.depth in
     let pre = c.requires.tree_pre in
     let kind = c.requires.at_value in
-    let there : get_or E.presents at 0 ≡ 0 → ⊥ = λ z. not-none (get_or c.args.records.measures.now at no_measure).present c.if-not-records-at.false (sym (present-at c.args.records.measures.now at) ∙ z) in
+    let there : get_or E.presents at 0 ≡ 0 → ⊥ = λ z. not-none (get_or c.args.records.now.measures.now at no_measure).present c.if-not-records-at.false (sym (present-at c.args.records.now.measures.now at) ∙ z) in
     let st₀ = c.args.st.now in
     let part₁ = mid_len node_state_words words st₀ (omega arith) in
     let a = c.place_required-first in
@@ -632,7 +632,7 @@ place_boolean-put_boolean-requires t c =
 
 pub place_boolean-returns-clause-tree_post : goal.place_boolean-returns-clause-tree_post
 place_boolean-returns-clause-tree_post t c =
-    let E = given c.args.records.query.now c.args.records.max_doc c.args.records.fields.now c.args.records.leaves.now c.args.records.measures.now c.args.records.listed.now in
+    let E = given c.args.records.now.query.now c.args.records.now.max_doc c.args.records.now.fields.now c.args.records.now.leaves.now c.args.records.now.measures.now c.args.records.now.listed.now in
     let at = c.args.at in
     let fixed = is_some c.args.kept in
     let kept = kept_score c.args.kept in
@@ -641,7 +641,7 @@ place_boolean-returns-clause-tree_post t c =
     let depth = c.args.depth in
     let pre = c.requires.tree_pre in
     let kind = c.requires.at_value in
-    let there : get_or E.presents at 0 ≡ 0 → ⊥ = λ z. not-none (get_or c.args.records.measures.now at no_measure).present c.if-not-records-at.false (sym (present-at c.args.records.measures.now at) ∙ z) in
+    let there : get_or E.presents at 0 ≡ 0 → ⊥ = λ z. not-none (get_or c.args.records.now.measures.now at no_measure).present c.if-not-records-at.false (sym (present-at c.args.records.now.measures.now at) ∙ z) in
     let st₀ = c.args.st.now in
     let part₁ = mid_len node_state_words words st₀ (omega arith) in
     let a = c.place_required-first in
@@ -656,15 +656,15 @@ place_boolean-returns-clause-tree_post t c =
     let part₃ = mid_len (node_state_words + (e₁ + e₂)) (length st₂) st₂ (omega arith) ∙ ap (λ (z : ℕ). z - (node_state_words + (e₁ + e₂))) long₂ in
     let d = c.place_others-nots in
     let e₃ = d.result in
-    whole-placed E at fixed kept boost words depth kind there _ part₁ a.result.group_at e₁ a.new.st a.ensures.required_post _ part₂ e₂ b.new.st b.ensures.others_post _ part₃ e₃ d.new.st d.ensures.others_post c.args.records.measures.now (refl, refl, refl) st₀ (post_of node_state_words (words - node_state_words) st₀) (post_of (node_state_words + e₁) (length st₁ - (node_state_words + e₁)) st₁) (post_of (node_state_words + (e₁ + e₂)) (length st₂ - (node_state_words + (e₁ + e₂))) st₂) c.put_boolean.new.st c.args.scores c.shoulds_needed-need.result c.value-msm.result c.has_required-required.result c.joins_afterwards.result refl pre c.put_boolean.ensures.score_fits c.value-msm.ensures c.has_required-required.ensures c.shoulds_needed-need.ensures c.joins_afterwards.ensures c.put_boolean.ensures.written
+    whole-placed E at fixed kept boost words depth kind there _ part₁ a.result.group_at e₁ a.new.st a.ensures.required_post _ part₂ e₂ b.new.st b.ensures.others_post _ part₃ e₃ d.new.st d.ensures.others_post c.args.records.now.measures.now (refl, refl, refl) st₀ (post_of node_state_words (words - node_state_words) st₀) (post_of (node_state_words + e₁) (length st₁ - (node_state_words + e₁)) st₁) (post_of (node_state_words + (e₁ + e₂)) (length st₂ - (node_state_words + (e₁ + e₂))) st₂) c.put_boolean.new.st c.args.scores c.shoulds_needed-need.result c.value-msm.result c.has_required-required.result c.joins_afterwards.result refl pre c.put_boolean.ensures.score_fits c.value-msm.ensures c.has_required-required.ensures c.shoulds_needed-need.ensures c.joins_afterwards.ensures c.put_boolean.ensures.written
 
 pub place_list-loop-at-init : goal.place_list-loop-at-init
 place_list-loop-at-init t c =
-    list-starts (given c.args.records.query.now c.args.records.max_doc c.args.records.fields.now c.args.records.leaves.now c.args.records.measures.now c.args.records.listed.now) c.args.list.now c.args.boost (length c.args.st.now) c.args.depth c.args.st.now
+    list-starts (given c.args.records.now.query.now c.args.records.now.max_doc c.args.records.now.fields.now c.args.records.now.leaves.now c.args.records.now.measures.now c.args.records.now.listed.now) c.args.list.now c.args.boost (length c.args.st.now) c.args.depth c.args.st.now
 
 pub place_list-occurrence-occurrence-requires : goal.place_list-occurrence-occurrence-requires
 place_list-occurrence-occurrence-requires t c =
-    let E = given c.args.records.query.now c.args.records.max_doc c.args.records.fields.now c.args.records.leaves.now c.args.records.measures.now c.args.records.listed.now in
+    let E = given c.args.records.now.query.now c.args.records.now.max_doc c.args.records.now.fields.now c.args.records.now.leaves.now c.args.records.now.measures.now c.args.records.now.listed.now in
     let l = c.loop-at in
     let st₀ = c.args.st.now in
     let list = c.args.list.now in
@@ -674,7 +674,7 @@ place_list-occurrence-occurrence-requires t c =
 
 pub place_list-offset_bounds-st-used : goal.place_list-offset_bounds-st-used
 place_list-offset_bounds-st-used t c =
-    let E = given c.args.records.query.now c.args.records.max_doc c.args.records.fields.now c.args.records.leaves.now c.args.records.measures.now c.args.records.listed.now in
+    let E = given c.args.records.now.query.now c.args.records.now.max_doc c.args.records.now.fields.now c.args.records.now.leaves.now c.args.records.now.measures.now c.args.records.now.listed.now in
     let l = c.loop-at in
     let st₀ = c.args.st.now in
     let list = c.args.list.now in
@@ -685,7 +685,7 @@ place_list-offset_bounds-st-used t c =
 
 pub place_list-slice_bounds-place-count : goal.place_list-slice_bounds-place-count
 place_list-slice_bounds-place-count t c =
-    let E = given c.args.records.query.now c.args.records.max_doc c.args.records.fields.now c.args.records.leaves.now c.args.records.measures.now c.args.records.listed.now in
+    let E = given c.args.records.now.query.now c.args.records.now.max_doc c.args.records.now.fields.now c.args.records.now.leaves.now c.args.records.now.measures.now c.args.records.now.listed.now in
     let l = c.loop-at in
     let st₀ = c.args.st.now in
     let list = c.args.list.now in
@@ -696,7 +696,7 @@ place_list-slice_bounds-place-count t c =
 
 pub place_list-slice_bounds-place-start : goal.place_list-slice_bounds-place-start
 place_list-slice_bounds-place-start t c =
-    let E = given c.args.records.query.now c.args.records.max_doc c.args.records.fields.now c.args.records.leaves.now c.args.records.measures.now c.args.records.listed.now in
+    let E = given c.args.records.now.query.now c.args.records.now.max_doc c.args.records.now.fields.now c.args.records.now.leaves.now c.args.records.now.measures.now c.args.records.now.listed.now in
     let l = c.loop-at in
     let st₀ = c.args.st.now in
     let list = c.args.list.now in
@@ -707,7 +707,7 @@ place_list-slice_bounds-place-start t c =
 
 pub place_list-place-used-requires : goal.place_list-place-used-requires
 place_list-place-used-requires t c =
-    let E = given c.args.records.query.now c.args.records.max_doc c.args.records.fields.now c.args.records.leaves.now c.args.records.measures.now c.args.records.listed.now in
+    let E = given c.args.records.now.query.now c.args.records.now.max_doc c.args.records.now.fields.now c.args.records.now.leaves.now c.args.records.now.measures.now c.args.records.now.listed.now in
     let l = c.loop-at in
     let st₀ = c.args.st.now in
     let list = c.args.list.now in
@@ -717,7 +717,7 @@ place_list-place-used-requires t c =
 
 pub place_list-overflow_add-used : goal.place_list-overflow_add-used
 place_list-overflow_add-used t c =
-    let E = given c.args.records.query.now c.args.records.max_doc c.args.records.fields.now c.args.records.leaves.now c.args.records.measures.now c.args.records.listed.now in
+    let E = given c.args.records.now.query.now c.args.records.now.max_doc c.args.records.now.fields.now c.args.records.now.leaves.now c.args.records.now.measures.now c.args.records.now.listed.now in
     let l = c.loop-at in
     let st₀ = c.args.st.now in
     let list = c.args.list.now in
@@ -728,7 +728,7 @@ place_list-overflow_add-used t c =
 
 pub place_list-loop-at-preserved : goal.place_list-loop-at-preserved
 place_list-loop-at-preserved t c =
-    let E = given c.args.records.query.now c.args.records.max_doc c.args.records.fields.now c.args.records.leaves.now c.args.records.measures.now c.args.records.listed.now in
+    let E = given c.args.records.now.query.now c.args.records.now.max_doc c.args.records.now.fields.now c.args.records.now.leaves.now c.args.records.now.measures.now c.args.records.now.listed.now in
     let l = c.loop-at in
     let st₀ = c.args.st.now in
     let list = c.args.list.now in
@@ -738,7 +738,7 @@ place_list-loop-at-preserved t c =
 
 pub place_list-returns-clause-list_post : goal.place_list-returns-clause-list_post
 place_list-returns-clause-list_post t c =
-    let E = given c.args.records.query.now c.args.records.max_doc c.args.records.fields.now c.args.records.leaves.now c.args.records.measures.now c.args.records.listed.now in
+    let E = given c.args.records.now.query.now c.args.records.now.max_doc c.args.records.now.fields.now c.args.records.now.leaves.now c.args.records.now.measures.now c.args.records.now.listed.now in
     let l = c.loop-at in
     let st₀ = c.args.st.now in
     let list = c.args.list.now in
@@ -748,74 +748,74 @@ place_list-returns-clause-list_post t c =
 
 pub place_others-clauses_of-list-requires : goal.place_others-clauses_of-list-requires
 place_others-clauses_of-list-requires t c =
-    let E = given c.args.records.query.now c.args.records.max_doc c.args.records.fields.now c.args.records.leaves.now c.args.records.measures.now c.args.records.listed.now in
+    let E = given c.args.records.now.query.now c.args.records.now.max_doc c.args.records.now.fields.now c.args.records.now.leaves.now c.args.records.now.measures.now c.args.records.now.listed.now in
     let at = c.args.at in
     let boost = c.args.boost in
     let words = length c.args.st.now in
     let depth = c.args.depth in
-    let ms = c.args.records.measures.now in
+    let ms = c.args.records.now.measures.now in
     others-known E ms (refl, refl, refl) at boost words depth c.args.occurrence c.requires
 
 pub place_others-place_list-requires : goal.place_others-place_list-requires
 place_others-place_list-requires t c =
-    let E = given c.args.records.query.now c.args.records.max_doc c.args.records.fields.now c.args.records.leaves.now c.args.records.measures.now c.args.records.listed.now in
+    let E = given c.args.records.now.query.now c.args.records.now.max_doc c.args.records.now.fields.now c.args.records.now.leaves.now c.args.records.now.measures.now c.args.records.now.listed.now in
     let at = c.args.at in
     let boost = c.args.boost in
     let words = length c.args.st.now in
     let depth = c.args.depth in
-    let ms = c.args.records.measures.now in
+    let ms = c.args.records.now.measures.now in
     (omega (arith, c.decreases), others-listed E ms (refl, refl, refl) at boost words depth c.args.occurrence c.clauses_of-list.result.now c.clauses_of-list.ensures.readies_at c.requires)
 
 pub place_others-returns-clause-others_post : goal.place_others-returns-clause-others_post
 place_others-returns-clause-others_post t c =
-    let E = given c.args.records.query.now c.args.records.max_doc c.args.records.fields.now c.args.records.leaves.now c.args.records.measures.now c.args.records.listed.now in
+    let E = given c.args.records.now.query.now c.args.records.now.max_doc c.args.records.now.fields.now c.args.records.now.leaves.now c.args.records.now.measures.now c.args.records.now.listed.now in
     let at = c.args.at in
     let boost = c.args.boost in
     let words = length c.args.st.now in
     let depth = c.args.depth in
-    let ms = c.args.records.measures.now in
+    let ms = c.args.records.now.measures.now in
     others-placed E ms (refl, refl, refl) at boost words depth c.args.occurrence c.clauses_of-list.result.now c.clauses_of-list.ensures.readies_at c.place_list.result c.place_list.new.st c.place_list.ensures.list_post
 
 pub place_required-group_cost-group-requires : goal.place_required-group_cost-group-requires
 place_required-group_cost-group-requires t c =
-    let E = given c.args.records.query.now c.args.records.max_doc c.args.records.fields.now c.args.records.leaves.now c.args.records.measures.now c.args.records.listed.now in
+    let E = given c.args.records.now.query.now c.args.records.now.max_doc c.args.records.now.fields.now c.args.records.now.leaves.now c.args.records.now.measures.now c.args.records.now.listed.now in
     let at = c.args.at in
     let boost = c.args.boost in
     let words = length c.args.st.now in
     let depth = c.args.depth in
-    let ms = c.args.records.measures.now in
+    let ms = c.args.records.now.measures.now in
     required-known E ms (refl, refl, refl) at boost words depth c.requires
 
 pub place_required-required_clauses-list-requires : goal.place_required-required_clauses-list-requires
 place_required-required_clauses-list-requires t c =
-    let E = given c.args.records.query.now c.args.records.max_doc c.args.records.fields.now c.args.records.leaves.now c.args.records.measures.now c.args.records.listed.now in
+    let E = given c.args.records.now.query.now c.args.records.now.max_doc c.args.records.now.fields.now c.args.records.now.leaves.now c.args.records.now.measures.now c.args.records.now.listed.now in
     let at = c.args.at in
     let boost = c.args.boost in
     let words = length c.args.st.now in
     let depth = c.args.depth in
-    let ms = c.args.records.measures.now in
+    let ms = c.args.records.now.measures.now in
     required-known E ms (refl, refl, refl) at boost words depth c.requires
 
 pub place_required-no_dearer-before-requires : goal.place_required-no_dearer-before-requires
 place_required-no_dearer-before-requires t c =
-    let E = given c.args.records.query.now c.args.records.max_doc c.args.records.fields.now c.args.records.leaves.now c.args.records.measures.now c.args.records.listed.now in
+    let E = given c.args.records.now.query.now c.args.records.now.max_doc c.args.records.now.fields.now c.args.records.now.leaves.now c.args.records.now.measures.now c.args.records.now.listed.now in
     let at = c.args.at in
     let boost = c.args.boost in
     let words = length c.args.st.now in
     let depth = c.args.depth in
-    let ms = c.args.records.measures.now in
+    let ms = c.args.records.now.measures.now in
     let o = c.required_clauses-list in
     let list = o.result.now in
     required-here E ms (refl, refl, refl) at boost words depth list o.ensures.readies_at c.requires
 
 pub place_required-place_list-group_at-requires : goal.place_required-place_list-group_at-requires
 place_required-place_list-group_at-requires t c =
-    let E = given c.args.records.query.now c.args.records.max_doc c.args.records.fields.now c.args.records.leaves.now c.args.records.measures.now c.args.records.listed.now in
+    let E = given c.args.records.now.query.now c.args.records.now.max_doc c.args.records.now.fields.now c.args.records.now.leaves.now c.args.records.now.measures.now c.args.records.now.listed.now in
     let at = c.args.at in
     let boost = c.args.boost in
     let words = length c.args.st.now in
     let depth = c.args.depth in
-    let ms = c.args.records.measures.now in
+    let ms = c.args.records.now.measures.now in
     let o = c.required_clauses-list in
     let list = o.result.now in
     let n = c.no_dearer-before.result in
@@ -823,12 +823,12 @@ place_required-place_list-group_at-requires t c =
 
 pub place_required-offset_bounds-st-group_at : goal.place_required-offset_bounds-st-group_at
 place_required-offset_bounds-st-group_at t c =
-    let E = given c.args.records.query.now c.args.records.max_doc c.args.records.fields.now c.args.records.leaves.now c.args.records.measures.now c.args.records.listed.now in
+    let E = given c.args.records.now.query.now c.args.records.now.max_doc c.args.records.now.fields.now c.args.records.now.leaves.now c.args.records.now.measures.now c.args.records.now.listed.now in
     let at = c.args.at in
     let boost = c.args.boost in
     let words = length c.args.st.now in
     let depth = c.args.depth in
-    let ms = c.args.records.measures.now in
+    let ms = c.args.records.now.measures.now in
     let o = c.required_clauses-list in
     let list = o.result.now in
     let n = c.no_dearer-before.result in
@@ -838,12 +838,12 @@ place_required-offset_bounds-st-group_at t c =
 
 pub place_required-slice_bounds-place_list-count : goal.place_required-slice_bounds-place_list-count
 place_required-slice_bounds-place_list-count t c =
-    let E = given c.args.records.query.now c.args.records.max_doc c.args.records.fields.now c.args.records.leaves.now c.args.records.measures.now c.args.records.listed.now in
+    let E = given c.args.records.now.query.now c.args.records.now.max_doc c.args.records.now.fields.now c.args.records.now.leaves.now c.args.records.now.measures.now c.args.records.now.listed.now in
     let at = c.args.at in
     let boost = c.args.boost in
     let words = length c.args.st.now in
     let depth = c.args.depth in
-    let ms = c.args.records.measures.now in
+    let ms = c.args.records.now.measures.now in
     let o = c.required_clauses-list in
     let list = o.result.now in
     let n = c.no_dearer-before.result in
@@ -852,12 +852,12 @@ place_required-slice_bounds-place_list-count t c =
 
 pub place_required-slice_bounds-place_list-start : goal.place_required-slice_bounds-place_list-start
 place_required-slice_bounds-place_list-start t c =
-    let E = given c.args.records.query.now c.args.records.max_doc c.args.records.fields.now c.args.records.leaves.now c.args.records.measures.now c.args.records.listed.now in
+    let E = given c.args.records.now.query.now c.args.records.now.max_doc c.args.records.now.fields.now c.args.records.now.leaves.now c.args.records.now.measures.now c.args.records.now.listed.now in
     let at = c.args.at in
     let boost = c.args.boost in
     let words = length c.args.st.now in
     let depth = c.args.depth in
-    let ms = c.args.records.measures.now in
+    let ms = c.args.records.now.measures.now in
     let o = c.required_clauses-list in
     let list = o.result.now in
     let n = c.no_dearer-before.result in
@@ -866,12 +866,12 @@ place_required-slice_bounds-place_list-start t c =
 
 pub place_required-place_list-rest-requires : goal.place_required-place_list-rest-requires
 place_required-place_list-rest-requires t c =
-    let E = given c.args.records.query.now c.args.records.max_doc c.args.records.fields.now c.args.records.leaves.now c.args.records.measures.now c.args.records.listed.now in
+    let E = given c.args.records.now.query.now c.args.records.now.max_doc c.args.records.now.fields.now c.args.records.now.leaves.now c.args.records.now.measures.now c.args.records.now.listed.now in
     let at = c.args.at in
     let boost = c.args.boost in
     let words = length c.args.st.now in
     let depth = c.args.depth in
-    let ms = c.args.records.measures.now in
+    let ms = c.args.records.now.measures.now in
     let o = c.required_clauses-list in
     let list = o.result.now in
     let n = c.no_dearer-before.result in
@@ -881,12 +881,12 @@ place_required-place_list-rest-requires t c =
 
 pub place_required-overflow_add-result : goal.place_required-overflow_add-result
 place_required-overflow_add-result t c =
-    let E = given c.args.records.query.now c.args.records.max_doc c.args.records.fields.now c.args.records.leaves.now c.args.records.measures.now c.args.records.listed.now in
+    let E = given c.args.records.now.query.now c.args.records.now.max_doc c.args.records.now.fields.now c.args.records.now.leaves.now c.args.records.now.measures.now c.args.records.now.listed.now in
     let at = c.args.at in
     let boost = c.args.boost in
     let words = length c.args.st.now in
     let depth = c.args.depth in
-    let ms = c.args.records.measures.now in
+    let ms = c.args.records.now.measures.now in
     let o = c.required_clauses-list in
     let list = o.result.now in
     let n = c.no_dearer-before.result in
@@ -897,12 +897,12 @@ place_required-overflow_add-result t c =
 
 pub place_required-returns-clause-required_post : goal.place_required-returns-clause-required_post
 place_required-returns-clause-required_post t c =
-    let E = given c.args.records.query.now c.args.records.max_doc c.args.records.fields.now c.args.records.leaves.now c.args.records.measures.now c.args.records.listed.now in
+    let E = given c.args.records.now.query.now c.args.records.now.max_doc c.args.records.now.fields.now c.args.records.now.leaves.now c.args.records.now.measures.now c.args.records.now.listed.now in
     let at = c.args.at in
     let boost = c.args.boost in
     let words = length c.args.st.now in
     let depth = c.args.depth in
-    let ms = c.args.records.measures.now in
+    let ms = c.args.records.now.measures.now in
     let o = c.required_clauses-list in
     let list = o.result.now in
     let n = c.no_dearer-before.result in

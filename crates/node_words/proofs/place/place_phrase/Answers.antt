@@ -40,4 +40,4 @@ returns-clause-placed c =
     let lo = pt.ensures.st_len_unchanged in
     let mid = same_len_mid node_state_words (length st₀ - node_state_words) st₀ out lo in
     let whole = put_same (words_of (phrase_state size c.value-field.result (bool_byte c.args.fixed) (to_bits binary32 c.args.score) c.args.scores c.norms_word-norms.result)) st₁ st e refl (omega (arith, mid, room)) in
-    λ ix ranges d l. (placed-phrase ix ranges c.args.records.query.now st₀ out post st c.args.at d c.args.scores size c.args.score (to_bits binary32 c.args.score) (score-is c.args.score (subst T (sym c.well_formed.1.1.1.1.0.1) tt) c.requires.at_in_bounds.3) c.args.fixed (bool_byte c.args.fixed) c.value-field.result c.norms_word-norms.result (omega (arith, room)) e (omega (arith, room, whole, mid)) (ap (λ (z : ℕ). node_state_words + node_state_words * z) many) (byte-is c.args.fixed) c.value-field.ensures (c.norms_word-norms.ensures ix l.field-lent) (omega (arith, lo, a, b, room)) (pt.ensures.terms_are ix l))
+    λ ix ranges d l. (placed-phrase ix ranges c.args.records.now.query.now st₀ out post st c.args.at d c.args.scores size c.args.score (to_bits binary32 c.args.score) (score-is c.args.score (subst T (sym c.well_formed.1.1.1.1.0.1) tt) c.requires.at_in_bounds.3) c.args.fixed (bool_byte c.args.fixed) c.value-field.result c.norms_word-norms.result (omega (arith, room)) e (omega (arith, room, whole, mid)) (ap (λ (z : ℕ). node_state_words + node_state_words * z) many) (byte-is c.args.fixed) c.value-field.ensures (c.norms_word-norms.ensures ix l.field-lent) (omega (arith, lo, a, b, room)) (pt.ensures.terms_are ix l))
