@@ -6,7 +6,7 @@ ghost use Rattle.hits.specs.Text.{search_text, hits_text};
 ghost use Rattle.hits_text.specs.Puts.{Put};
 ghost use Rattle.hits_text.specs.Text.{files};
 
-use searcher::search::Searched;
+use index::lent::Lent;
 use weight::NODE_STATE_WORDS;
 
 // Searches with the program's own buffers.
@@ -33,7 +33,7 @@ fn answer(
     let mut b = [0i32; 16384];
     let mut ranges = [0u32; 16384];
     let mut hits = [0i64; 1024];
-    let found = searcher::search::search(
+    let lent = Lent {
         max_doc,
         fields,
         leaves,
@@ -43,18 +43,11 @@ fn answer(
         live,
         columns,
         values,
-        q,
-        k,
-        t,
-        &mut states,
-        &mut a,
-        &mut b,
-        &mut ranges,
-        &mut hits,
-    );
+    };
+    let found = searcher::search::search(&lent, q, k, t, &mut states, &mut a, &mut b, &mut ranges, &mut hits);
     match found {
-        Searched::Refused(n) => hits_text::hit::put_refused(n, out),
-        Searched::Found(top) => {
+        Err(refusal) => hits_text::hit::put_refused(refusal.number(), out),
+        Ok(top) => {
             let held = top.held as usize;
             hits_text::hit::put_found(top.count, top.mark, &hits[..held], out)
         }

@@ -18,9 +18,12 @@ use Rattle.meaning.proofs.Below.{any-zero}
 use Rattle.collector.specs.declared.TopDocs.{TopDocs}
 use Rattle.collector.specs.Collected.{answer}
 use Rattle.collector.proofs.Best.{written-part}
-use Rattle.pick_entry.specs.declared.Picked.{Picked}
+use Rattle.std.proofs.Common.{Ok, Err}
+use Rattle.refusal.specs.declared.Refusal.{Refusal}
+use Rattle.refusal.specs.Numbers.{number_of}
+use Rattle.refusal.proofs.Positive.{number-not-0}
 use Rattle.pick_entry.specs.Answers.{picked_numbers}
-use Rattle.meaning.proofs.Lowest.{lowest-here, lowest-past, lowest-zero, answered-refused, answered-accepted}
+use Rattle.meaning.proofs.Lowest.{lowest-here, lowest-past, lowest-zero, answered-refused}
 
 -- ---- the lists
 module _ (documents scores : List ℕ) where
@@ -79,10 +82,10 @@ module _ (documents scores : List ℕ) where
       pub room : k ≤ places
       pub lists : wrong14 documents scores ≡ false
 
-    pub pick-right : (n : ℕ) → n ≡ pick_refusal documents scores k places → n ≡ 0 → PickRight
+    pub pick-right : 0 ≡ pick_refusal documents scores k places → PickRight
     unfolding pick_refusal wrong11 wrong12_pick
-    pick-right n is z =
-        let a = lowest-zero 11 _ _ (lit< tt) (sym is ∙ z) in
+    pick-right is =
+        let a = lowest-zero 11 _ _ (lit< tt) (sym is) in
         let b = lowest-zero 12 _ _ (lit< tt) a.1 in
         let e = lowest-zero 14 _ _ (lit< tt) b.1 in
         record {
@@ -93,16 +96,20 @@ module _ (documents scores : List ℕ) where
         }
 
   -- ---- the answer
-  module _ (k t n : ℕ) (buffer : List ℤ) (is : n ≡ pick_refusal documents scores k (length buffer)) where
-    abbrev Answer : Picked → List ℤ → Type 0
-    Answer a buffer' = (picked_numbers a ≡ pick_answer documents scores k t (length buffer)) × (buffer' ≡ pick_hits documents scores k buffer)
+  module _ (k t : ℕ) (buffer : List ℤ) where
+    pub refused-answer : (e : Refusal) → number_of e ≡ pick_refusal documents scores k (length buffer) → picked_numbers (Err e) ≡ pick_answer documents scores k t (length buffer)
+    unfolding picked_numbers pick_answer
+    refused-answer e is = rw (← is) (answered-refused _ _ _ (number-not-0 e))
 
-    pub pick-refused : (n ≡ 0 → ⊥) → Answer (Picked.Refused n) buffer
-    unfolding picked_numbers pick_answer pick_hits
-    pick-refused h = rw (← is) (answered-refused _ _ n h, answered-refused _ _ n h)
+    pub refused-hits : (e : Refusal) → number_of e ≡ pick_refusal documents scores k (length buffer) → buffer ≡ pick_hits documents scores k buffer
+    unfolding pick_hits
+    refused-hits e is = rw (← is) (answered-refused _ _ _ (number-not-0 e))
+
+    pub done-answer : 0 ≡ pick_refusal documents scores k (length buffer) → (r : TopDocs) (j : ℕ) → j ≡ k → r ≡ answer j t (picked_list documents scores) → picked_numbers (Ok r) ≡ pick_answer documents scores k t (length buffer)
+    unfolding picked_numbers pick_answer
+    done-answer is r j size e = rw (← is, e, size) refl
 
     -- of the part of the buffer with k places
-    pub pick-done : n ≡ 0 → (j : ℕ) → j ≡ k → k ≤ length buffer → (r : TopDocs) (part : List ℤ) → r ≡ answer j t (picked_list documents scores) → part ≡ written (hits j (picked_list documents scores)) (take k buffer) → Answer (Picked.Found r) (part ++ drop k buffer)
-    unfolding picked_numbers pick_answer pick_hits
-    pick-done z j size room r part e f =
-        rw (← is, e, f, size) (answered-accepted _ _ n z, written-part k (picked_list documents scores) buffer room ∙ answered-accepted _ _ n z)
+    pub done-hits : 0 ≡ pick_refusal documents scores k (length buffer) → k ≤ length buffer → (part : List ℤ) (j : ℕ) → j ≡ k → part ≡ written (hits j (picked_list documents scores)) (take k buffer) → part ++ drop k buffer ≡ pick_hits documents scores k buffer
+    unfolding pick_hits
+    done-hits is room part j size f = rw (← is, f, size) (written-part k (picked_list documents scores) buffer room)

@@ -4,22 +4,28 @@
 // stands; then the lists' words. Norm bytes stand four to a word, live words as two, the low half first.
 #![tactic(auto)]
 
-use searcher::page::Paged;
-use searcher::search::Searched;
+use collector::TopDocs;
+use index::lent::Lent;
+use refusal::Refusal;
 use std::io;
 use std::io::Write;
 use std::rt::Files;
 use vectors::file::{bytes_at, list_at, size, word};
+use walk::Listed;
 use weight::NODE_STATE_WORDS;
 
 fn print_refused(out: &mut impl Write, number: u32) -> io::Result<()> {
     writeln!(out, "refused {number}")
 }
 
-fn print_searched(out: &mut impl Write, searched: Searched, hits: &[i64]) -> io::Result<()> {
+fn print_searched(
+    out: &mut impl Write,
+    searched: Result<TopDocs, Refusal>,
+    hits: &[i64],
+) -> io::Result<()> {
     match searched {
-        Searched::Refused(number) => print_refused(out, number),
-        Searched::Found(top) => vectors::print_hits(out, top.count, top.mark, hits, top.held),
+        Err(refusal) => print_refused(out, refusal.number()),
+        Ok(top) => vectors::print_hits(out, top.count, top.mark, hits, top.held),
     }
 }
 
@@ -44,7 +50,7 @@ fn search(
     let mut b = [-7i32; 64];
     let mut ranges = [0xdead_beefu32; 1024];
     let mut hits = [-1i64; 1024];
-    let searched = searcher::search::search(
+    let lent = Lent {
         max_doc,
         fields,
         leaves,
@@ -54,6 +60,9 @@ fn search(
         live,
         columns,
         values,
+    };
+    let searched = searcher::search::search(
+        &lent,
         q,
         k,
         t,
@@ -68,13 +77,13 @@ fn search(
 
 fn print_paged(
     out: &mut impl Write,
-    paged: Paged,
+    paged: Result<Listed, Refusal>,
     documents: &[u32],
     scores: &[u32],
 ) -> io::Result<()> {
     match paged {
-        Paged::Refused(number) => print_refused(out, number),
-        Paged::Given(page) => vectors::print_page(out, documents, scores, page.given, page.next),
+        Err(refusal) => print_refused(out, refusal.number()),
+        Ok(page) => vectors::print_page(out, documents, scores, page.given, page.next),
     }
 }
 
@@ -99,7 +108,7 @@ fn page(
     let mut a = [-7i32; 64];
     let mut b = [7i32; 64];
     let mut ranges = [0xdead_beefu32; 1024];
-    let paged = searcher::page::page(
+    let lent = Lent {
         max_doc,
         fields,
         leaves,
@@ -109,6 +118,9 @@ fn page(
         live,
         columns,
         values,
+    };
+    let paged = searcher::page::page(
+        &lent,
         q,
         target,
         &mut states,

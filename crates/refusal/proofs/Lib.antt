@@ -1,0 +1,2 @@
+-- The laws that proofs of other crates cite.
+pub mod Positive
