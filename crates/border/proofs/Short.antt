@@ -1,11 +1,11 @@
 -- The border's refusals: with a slice for the answer that is long enough they are the entry's own, and with a shorter one any call is refused, with 12 where no lower number holds. Assumes nothing.
-use mathlib.Core.Path.{◌≡◌, refl, sym}
+use mathlib.Core.Path.{◌≡◌, refl, sym, ◌∙◌}
 use mathlib.Core.Bool.{Bool, true, false, cond, or-true, or-false, ◌||◌}
 use mathlib.Core.List.{List, [], ◌∷◌, ◌++◌}
-use Prim.Native.Nat.{ℕ, ◌≤◌, ◌<◌}
+use Prim.Native.Nat.{ℕ, ◌≤◌, ◌<◌, min}
 use native.Mathlib.Omega.{arith}
 use lib.Dec.{eqb, ltb}
-use borrow.Author.Tests.{lt-ltb, le-ltb, eqb-false, eq-eqb, ne_eqb}
+use borrow.Author.Tests.{lt-ltb, le-ltb, ltb-true, ltb-false, eqb-false, eq-eqb, ne_eqb}
 use Rattle.meaning.specs.Lent.{Index}
 use Rattle.meaning.specs.Refusals.{Condition, ◌when◌, lowest}
 use Rattle.meaning.specs.CallRefusals.{Work, wrong11, wrong12_search, wrong12_page, wrong12_pick, wrong13_page, wrong14}
@@ -25,6 +25,20 @@ short-above n h = rw (lt-ltb 12 n h, or-true (eqb n 0))
 pub short-stays : (n : ℕ) → (n ≡ 0 → ⊥) → n ≤ 12 → short_answer n ≡ n
 unfolding short_answer
 short-stays n h k = rw (ne_eqb n 0 h, le-ltb 12 n k)
+
+-- of a refusal's number, 12 at the most stays
+pub short-least : (n : ℕ) → (n ≡ 0 → ⊥) → min n 12 ≡ short_answer n
+short-least n h = by (ltb 12 n) refl
+  where
+    by : (t : Bool) → ltb 12 n ≡ t → min n 12 ≡ short_answer n
+    by true e =
+        let g : 12 < n = ltb-true 12 n e in
+        let m : min n 12 ≡ 12 = omega (arith, g) in
+        m ∙ sym (short-above n g)
+    by false e =
+        let l : n ≤ 12 = ltb-false 12 n e in
+        let m : min n 12 ≡ n = omega (arith, l) in
+        m ∙ sym (short-stays n h l)
 
 -- a call with a slice that is too short is refused
 pub short-refuses : (n : ℕ) → 0 < short_answer n

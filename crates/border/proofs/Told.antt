@@ -15,9 +15,9 @@ use Rattle.meaning.specs.CallRefusals.{Work}
 use Rattle.meaning.specs.Entries.{answered, written, Kept, search_refusal, search_answer, search_hits, page_of, page_refusal, page_answer, page_documents, page_scores, picked_list, pick_refusal, pick_answer, pick_hits}
 use Rattle.collector.specs.declared.TopDocs.{TopDocs}
 use Rattle.walk.specs.declared.Listed.{Listed}
-use Rattle.searcher.specs.declared.search.Searched.{Searched}
-use Rattle.searcher.specs.declared.page.Paged.{Paged}
-use Rattle.pick_entry.specs.declared.Picked.{Picked}
+use Rattle.std.specs.Prelude.{Result, Ok, Err}
+use Rattle.refusal.specs.declared.Refusal.{Refusal}
+use Rattle.refusal.specs.Numbers.{number_of}
 use Rattle.searcher.specs.Answers.{searched_numbers, paged_numbers}
 use Rattle.pick_entry.specs.Answers.{picked_numbers}
 use Rattle.border.specs.Border.{short_answer, border_search, border_page, border_pick, top_numbers, page_numbers}
@@ -80,15 +80,16 @@ pub pick-written : (documents scores : List ℕ) (k b : ℕ) (heap : List ℤ) �
 unfolding pick_hits
 pick-written documents scores k b heap e = rw e refl
 
-pub pick-told-refused : (documents scores : List ℕ) (k t : ℕ) (heap heap' : List ℤ) (answer : List ℕ) (a : Picked) (n : ℕ) → 3 ≤ length answer → a ≡ Picked.Refused n → picked_numbers a ≡ pick_answer documents scores k t (length heap) → heap' ≡ pick_hits documents scores k heap → PickTold documents scores k t heap answer n heap' answer
+pub pick-told-refused : (documents scores : List ℕ) (k t : ℕ) (heap heap' : List ℤ) (answer : List ℕ) (a : Result TopDocs Refusal) (s : Refusal) (n : ℕ) → 3 ≤ length answer → a ≡ Err s → n ≡ number_of s → picked_numbers a ≡ pick_answer documents scores k t (length heap) → heap' ≡ pick_hits documents scores k heap → PickTold documents scores k t heap answer n heap' answer
 unfolding picked_numbers pick_answer
-pick-told-refused documents scores k t heap heap' answer a n h e f g =
+pick-told-refused documents scores k t heap heap' answer a s n h e m f g =
     let l = pick-long documents scores k (length heap) (length answer) h in
-    let z = refused-number (pick_refusal documents scores k (length heap)) n _ _ (sym (ap picked_numbers e) ∙ f) in
-    let p : 0 < n = rw z.0 z.1 in
-    (z.0 ∙ sym l, (g ∙ pick-written documents scores k _ heap z.0, refused-keeps _ _ answer p))
+    let y = refused-number (pick_refusal documents scores k (length heap)) (number_of s) _ _ (sym (ap picked_numbers e) ∙ f) in
+    let z = m ∙ y.0 in
+    let p : 0 < n = rw z y.1 in
+    (z ∙ sym l, (g ∙ pick-written documents scores k _ heap z, refused-keeps _ _ answer p))
 
-pub pick-told-found : (documents scores : List ℕ) (k t : ℕ) (heap heap' : List ℤ) (answer answer' : List ℕ) (a : Picked) (top : TopDocs) → 3 ≤ length answer → a ≡ Picked.Found top → picked_numbers a ≡ pick_answer documents scores k t (length heap) → heap' ≡ pick_hits documents scores k heap → answer' ≡ written (top.held ∷ top.count ∷ cond top.mark 1 0 ∷ []) answer → PickTold documents scores k t heap answer 0 heap' answer'
+pub pick-told-found : (documents scores : List ℕ) (k t : ℕ) (heap heap' : List ℤ) (answer answer' : List ℕ) (a : Result TopDocs Refusal) (top : TopDocs) → 3 ≤ length answer → a ≡ Ok top → picked_numbers a ≡ pick_answer documents scores k t (length heap) → heap' ≡ pick_hits documents scores k heap → answer' ≡ written (top.held ∷ top.count ∷ cond top.mark 1 0 ∷ []) answer → PickTold documents scores k t heap answer 0 heap' answer'
 unfolding picked_numbers pick_answer
 pick-told-found documents scores k t heap heap' answer answer' a top h e f g w =
     let l = pick-long documents scores k (length heap) (length answer) h in
@@ -113,15 +114,16 @@ pub search-written : (ix : Index) (q : List ℕ) (k : ℕ) (w : Work) (b : ℕ) 
 unfolding search_hits
 search-written ix q k w b heap e = rw e refl
 
-pub search-told-refused : (ix : Index) (q : List ℕ) (k t : ℕ) (w : Work) (heap heap' : List ℤ) (answer states states' : List ℕ) (starts starts' others others' : List ℤ) (ranges ranges' : List ℕ) (a : Searched) (n : ℕ) → 3 ≤ length answer → a ≡ Searched.Refused n → searched_numbers a ≡ search_answer ix q k t w (length heap) → heap' ≡ search_hits ix q k w heap → Kept (search_refusal ix q k w (length heap)) states states' → Kept (search_refusal ix q k w (length heap)) starts starts' → Kept (search_refusal ix q k w (length heap)) others others' → Kept (search_refusal ix q k w (length heap)) ranges ranges' → SearchTold ix q k t w heap answer states starts others ranges n heap' answer states' starts' others' ranges'
+pub search-told-refused : (ix : Index) (q : List ℕ) (k t : ℕ) (w : Work) (heap heap' : List ℤ) (answer states states' : List ℕ) (starts starts' others others' : List ℤ) (ranges ranges' : List ℕ) (a : Result TopDocs Refusal) (s : Refusal) (n : ℕ) → 3 ≤ length answer → a ≡ Err s → n ≡ number_of s → searched_numbers a ≡ search_answer ix q k t w (length heap) → heap' ≡ search_hits ix q k w heap → Kept (search_refusal ix q k w (length heap)) states states' → Kept (search_refusal ix q k w (length heap)) starts starts' → Kept (search_refusal ix q k w (length heap)) others others' → Kept (search_refusal ix q k w (length heap)) ranges ranges' → SearchTold ix q k t w heap answer states starts others ranges n heap' answer states' starts' others' ranges'
 unfolding searched_numbers search_answer
-search-told-refused ix q k t w heap heap' answer states states' starts starts' others others' ranges ranges' a n h e f g ks ka kb kr =
+search-told-refused ix q k t w heap heap' answer states states' starts starts' others others' ranges ranges' a s n h e m f g ks ka kb kr =
     let l = search-long ix q k w (length heap) (length answer) h in
-    let z = refused-number (search_refusal ix q k w (length heap)) n _ _ (sym (ap searched_numbers e) ∙ f) in
-    let p : 0 < n = rw z.0 z.1 in
-    (z.0 ∙ sym l, (g ∙ search-written ix q k w _ heap z.0, (refused-keeps _ _ answer p, (kept_by _ _ states states' z.0 ks, (kept_by _ _ starts starts' z.0 ka, (kept_by _ _ others others' z.0 kb, kept_by _ _ ranges ranges' z.0 kr))))))
+    let y = refused-number (search_refusal ix q k w (length heap)) (number_of s) _ _ (sym (ap searched_numbers e) ∙ f) in
+    let z = m ∙ y.0 in
+    let p : 0 < n = rw z y.1 in
+    (z ∙ sym l, (g ∙ search-written ix q k w _ heap z, (refused-keeps _ _ answer p, (kept_by _ _ states states' z ks, (kept_by _ _ starts starts' z ka, (kept_by _ _ others others' z kb, kept_by _ _ ranges ranges' z kr))))))
 
-pub search-told-found : (ix : Index) (q : List ℕ) (k t : ℕ) (w : Work) (heap heap' : List ℤ) (answer answer' states states' : List ℕ) (starts starts' others others' : List ℤ) (ranges ranges' : List ℕ) (a : Searched) (top : TopDocs) → 3 ≤ length answer → a ≡ Searched.Found top → searched_numbers a ≡ search_answer ix q k t w (length heap) → heap' ≡ search_hits ix q k w heap → answer' ≡ written (top.held ∷ top.count ∷ cond top.mark 1 0 ∷ []) answer → Kept (search_refusal ix q k w (length heap)) states states' → Kept (search_refusal ix q k w (length heap)) starts starts' → Kept (search_refusal ix q k w (length heap)) others others' → Kept (search_refusal ix q k w (length heap)) ranges ranges' → SearchTold ix q k t w heap answer states starts others ranges 0 heap' answer' states' starts' others' ranges'
+pub search-told-found : (ix : Index) (q : List ℕ) (k t : ℕ) (w : Work) (heap heap' : List ℤ) (answer answer' states states' : List ℕ) (starts starts' others others' : List ℤ) (ranges ranges' : List ℕ) (a : Result TopDocs Refusal) (top : TopDocs) → 3 ≤ length answer → a ≡ Ok top → searched_numbers a ≡ search_answer ix q k t w (length heap) → heap' ≡ search_hits ix q k w heap → answer' ≡ written (top.held ∷ top.count ∷ cond top.mark 1 0 ∷ []) answer → Kept (search_refusal ix q k w (length heap)) states states' → Kept (search_refusal ix q k w (length heap)) starts starts' → Kept (search_refusal ix q k w (length heap)) others others' → Kept (search_refusal ix q k w (length heap)) ranges ranges' → SearchTold ix q k t w heap answer states starts others ranges 0 heap' answer' states' starts' others' ranges'
 unfolding searched_numbers search_answer
 search-told-found ix q k t w heap heap' answer answer' states states' starts starts' others others' ranges ranges' a top h e f g v ks ka kb kr =
     let l = search-long ix q k w (length heap) (length answer) h in
@@ -150,15 +152,16 @@ pub scores-written : (ix : Index) (q : List ℕ) (target : ℕ) (w : Work) (b : 
 unfolding page_scores
 scores-written ix q target w b documents scores e = rw e refl
 
-pub page-told-refused : (ix : Index) (q : List ℕ) (target : ℕ) (w : Work) (documents documents' scores scores' answer states states' : List ℕ) (starts starts' others others' : List ℤ) (ranges ranges' : List ℕ) (a : Paged) (n : ℕ) → 2 ≤ length answer → a ≡ Paged.Refused n → paged_numbers a ≡ page_answer ix q target w (length documents) (length scores) → documents' ≡ page_documents ix q target w documents scores → scores' ≡ page_scores ix q target w documents scores → Kept (page_refusal ix q target w (length documents) (length scores)) states states' → Kept (page_refusal ix q target w (length documents) (length scores)) starts starts' → Kept (page_refusal ix q target w (length documents) (length scores)) others others' → Kept (page_refusal ix q target w (length documents) (length scores)) ranges ranges' → PageTold ix q target w documents scores answer states starts others ranges n documents' scores' answer states' starts' others' ranges'
+pub page-told-refused : (ix : Index) (q : List ℕ) (target : ℕ) (w : Work) (documents documents' scores scores' answer states states' : List ℕ) (starts starts' others others' : List ℤ) (ranges ranges' : List ℕ) (a : Result Listed Refusal) (s : Refusal) (n : ℕ) → 2 ≤ length answer → a ≡ Err s → n ≡ number_of s → paged_numbers a ≡ page_answer ix q target w (length documents) (length scores) → documents' ≡ page_documents ix q target w documents scores → scores' ≡ page_scores ix q target w documents scores → Kept (page_refusal ix q target w (length documents) (length scores)) states states' → Kept (page_refusal ix q target w (length documents) (length scores)) starts starts' → Kept (page_refusal ix q target w (length documents) (length scores)) others others' → Kept (page_refusal ix q target w (length documents) (length scores)) ranges ranges' → PageTold ix q target w documents scores answer states starts others ranges n documents' scores' answer states' starts' others' ranges'
 unfolding paged_numbers page_answer
-page-told-refused ix q target w documents documents' scores scores' answer states states' starts starts' others others' ranges ranges' a n h e f g i ks ka kb kr =
+page-told-refused ix q target w documents documents' scores scores' answer states states' starts starts' others others' ranges ranges' a s n h e m f g i ks ka kb kr =
     let l = page-long ix q target w (length documents) (length scores) (length answer) h in
-    let z = refused-number (page_refusal ix q target w (length documents) (length scores)) n _ _ (sym (ap paged_numbers e) ∙ f) in
-    let p : 0 < n = rw z.0 z.1 in
-    (z.0 ∙ sym l, (g ∙ documents-written ix q target w _ documents scores z.0, (i ∙ scores-written ix q target w _ documents scores z.0, (refused-keeps _ _ answer p, (kept_by _ _ states states' z.0 ks, (kept_by _ _ starts starts' z.0 ka, (kept_by _ _ others others' z.0 kb, kept_by _ _ ranges ranges' z.0 kr)))))))
+    let y = refused-number (page_refusal ix q target w (length documents) (length scores)) (number_of s) _ _ (sym (ap paged_numbers e) ∙ f) in
+    let z = m ∙ y.0 in
+    let p : 0 < n = rw z y.1 in
+    (z ∙ sym l, (g ∙ documents-written ix q target w _ documents scores z, (i ∙ scores-written ix q target w _ documents scores z, (refused-keeps _ _ answer p, (kept_by _ _ states states' z ks, (kept_by _ _ starts starts' z ka, (kept_by _ _ others others' z kb, kept_by _ _ ranges ranges' z kr)))))))
 
-pub page-told-given : (ix : Index) (q : List ℕ) (target : ℕ) (w : Work) (documents documents' scores scores' answer states states' : List ℕ) (starts starts' others others' : List ℤ) (ranges ranges' : List ℕ) (a : Paged) (listed : Listed) → 2 ≤ length answer → a ≡ Paged.Given listed → paged_numbers a ≡ page_answer ix q target w (length documents) (length scores) → documents' ≡ page_documents ix q target w documents scores → scores' ≡ page_scores ix q target w documents scores → Kept (page_refusal ix q target w (length documents) (length scores)) states states' → Kept (page_refusal ix q target w (length documents) (length scores)) starts starts' → Kept (page_refusal ix q target w (length documents) (length scores)) others others' → Kept (page_refusal ix q target w (length documents) (length scores)) ranges ranges' → PageTold ix q target w documents scores answer states starts others ranges 0 documents' scores' (set (set answer 0 listed.given) 1 listed.next) states' starts' others' ranges'
+pub page-told-given : (ix : Index) (q : List ℕ) (target : ℕ) (w : Work) (documents documents' scores scores' answer states states' : List ℕ) (starts starts' others others' : List ℤ) (ranges ranges' : List ℕ) (a : Result Listed Refusal) (listed : Listed) → 2 ≤ length answer → a ≡ Ok listed → paged_numbers a ≡ page_answer ix q target w (length documents) (length scores) → documents' ≡ page_documents ix q target w documents scores → scores' ≡ page_scores ix q target w documents scores → Kept (page_refusal ix q target w (length documents) (length scores)) states states' → Kept (page_refusal ix q target w (length documents) (length scores)) starts starts' → Kept (page_refusal ix q target w (length documents) (length scores)) others others' → Kept (page_refusal ix q target w (length documents) (length scores)) ranges ranges' → PageTold ix q target w documents scores answer states starts others ranges 0 documents' scores' (set (set answer 0 listed.given) 1 listed.next) states' starts' others' ranges'
 unfolding paged_numbers page_answer
 page-told-given ix q target w documents documents' scores scores' answer states states' starts starts' others others' ranges ranges' a listed h e f g i ks ka kb kr =
     let l = page-long ix q target w (length documents) (length scores) (length answer) h in

@@ -12,21 +12,22 @@ ghost use Rattle.meaning.specs.Hits.{hits as hits_of};
 ghost use Rattle.meaning.specs.Entries.{written, answered, Kept, page_of, picked_list};
 ghost use Rattle.index.specs.Slices.{lent};
 ghost use Rattle.order_check.specs.Lends.{work};
+ghost use Rattle.refusal.specs.Numbers.{refusal_of};
 ghost use Rattle.border.specs.Border.{short_answer, border_search, border_page, border_pick, top_numbers, page_numbers};
 
 use collector::TopDocs;
+use index::lent::Lent;
+use order_check::Work;
+use refusal::Refusal;
 
 // A slice for the answer that is too short is a buffer too short.
-fn short_answer(refusal: u32) -> u32
-    ensures { result ≡ short_answer refusal }
+fn short_answer(answer: Result<(), Refusal>) -> u32
+    ensures { result ≡ short_answer (refusal_of answer) }
 {
-    if refusal == 0 {
-        return 12;
+    match answer {
+        Ok(()) => Refusal::Buffers.number(),
+        Err(refusal) => refusal.number().min(Refusal::Buffers.number()),
     }
-    if 12 < refusal {
-        return 12;
-    }
-    refusal
 }
 
 // Hits held, count, and 1 for the mark.
@@ -67,32 +68,29 @@ pub fn lot_search(
     ensures kept_3 { Kept result b.old b.new }
     ensures kept_4 { Kept result ranges.old ranges.new }
 {
+    let lent = Lent {
+        max_doc,
+        fields,
+        leaves,
+        postings,
+        positions,
+        norms,
+        live,
+        columns,
+        values,
+    };
     if answer.len() < 3 {
-        return short_answer(order_check::search_refusal(
-            max_doc,
-            fields,
-            leaves,
-            postings,
-            positions,
-            norms,
-            live,
-            columns,
-            values,
-            q,
-            k,
-            states.len(),
-            a.len(),
-            b.len(),
-            ranges.len(),
-            hits.len(),
-        ));
+        let work = Work {
+            states: states.len(),
+            starts: a.len(),
+            other_starts: b.len(),
+            ranges: ranges.len(),
+        };
+        return short_answer(order_check::search_refusal(&lent, q, k, work, hits.len()));
     }
-    match searcher::search::search(
-        max_doc, fields, leaves, postings, positions, norms, live, columns, values, q, k, t,
-        states, a, b, ranges, hits,
-    ) {
-        searcher::search::Searched::Refused(n) => n,
-        searcher::search::Searched::Found(top) => {
+    match searcher::search::search(&lent, q, k, t, states, a, b, ranges, hits) {
+        Err(refusal) => refusal.number(),
+        Ok(top) => {
             write_top_docs(top, answer);
             0
         }
@@ -128,33 +126,36 @@ pub fn lot_page(
     ensures kept_3 { Kept result b.old b.new }
     ensures kept_4 { Kept result ranges.old ranges.new }
 {
+    let lent = Lent {
+        max_doc,
+        fields,
+        leaves,
+        postings,
+        positions,
+        norms,
+        live,
+        columns,
+        values,
+    };
     if answer.len() < 2 {
+        let work = Work {
+            states: states.len(),
+            starts: a.len(),
+            other_starts: b.len(),
+            ranges: ranges.len(),
+        };
         return short_answer(order_check::page_refusal(
-            max_doc,
-            fields,
-            leaves,
-            postings,
-            positions,
-            norms,
-            live,
-            columns,
-            values,
+            &lent,
             q,
             target,
-            states.len(),
-            a.len(),
-            b.len(),
-            ranges.len(),
+            work,
             documents.len(),
             scores.len(),
         ));
     }
-    match searcher::page::page(
-        max_doc, fields, leaves, postings, positions, norms, live, columns, values, q, target,
-        states, a, b, ranges, documents, scores,
-    ) {
-        searcher::page::Paged::Refused(n) => n,
-        searcher::page::Paged::Given(listed) => {
+    match searcher::page::page(&lent, q, target, states, a, b, ranges, documents, scores) {
+        Err(refusal) => refusal.number(),
+        Ok(listed) => {
             answer[0] = listed.given as u64;
             answer[1] = listed.next as u64;
             0
@@ -178,8 +179,8 @@ pub fn lot_pick(
         return short_answer(pick_entry::pick_refusal(documents, scores, k, hits.len()));
     }
     match pick_entry::pick(documents, scores, k, t, hits) {
-        pick_entry::Picked::Refused(n) => n,
-        pick_entry::Picked::Found(top) => {
+        Err(refusal) => refusal.number(),
+        Ok(top) => {
             write_top_docs(top, answer);
             0
         }

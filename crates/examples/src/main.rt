@@ -2,9 +2,8 @@
 // crates/examples/stdout is written from the document's text: a hit is its document and its score's bits.
 #![tactic(auto)]
 
+use index::lent::Lent;
 use place_entry::Placed;
-use searcher::page::Paged;
-use searcher::search::Searched;
 use std::io;
 use std::io::Write;
 use weight::NODE_STATE_WORDS;
@@ -93,16 +92,19 @@ fn search_all(out: &mut impl Write, k: u32) -> io::Result<()> {
     let mut other_starts = [0i32; 0];
     let mut ranges = [0u32; 0];
     let mut hits = [0i64; 1024];
+    let lent = Lent {
+        max_doc: 3,
+        fields: &no_words,
+        leaves: &no_words,
+        postings: &no_words,
+        positions: &no_words,
+        norms: &no_bytes,
+        live: &no_live,
+        columns: &no_words,
+        values: &no_words,
+    };
     let found = searcher::search::search(
-        3,
-        &no_words,
-        &no_words,
-        &no_words,
-        &no_words,
-        &no_bytes,
-        &no_live,
-        &no_words,
-        &no_words,
+        &lent,
         &MATCH_ALL,
         k,
         10,
@@ -113,8 +115,8 @@ fn search_all(out: &mut impl Write, k: u32) -> io::Result<()> {
         &mut hits,
     );
     match found {
-        Searched::Refused(n) => print_refused(out, n),
-        Searched::Found(top) => print_found(out, top, &hits),
+        Err(refusal) => print_refused(out, refusal.number()),
+        Ok(top) => print_found(out, top, &hits),
     }
 }
 
@@ -151,16 +153,19 @@ fn page_all(out: &mut impl Write, target: u32) -> io::Result<()> {
     let mut ranges = [0u32; 0];
     let mut documents = [0u32; 2];
     let mut scores = [0u32; 2];
+    let lent = Lent {
+        max_doc: 3,
+        fields: &no_words,
+        leaves: &no_words,
+        postings: &no_words,
+        positions: &no_words,
+        norms: &no_bytes,
+        live: &no_live,
+        columns: &no_words,
+        values: &no_words,
+    };
     let paged = searcher::page::page(
-        3,
-        &no_words,
-        &no_words,
-        &no_words,
-        &no_words,
-        &no_bytes,
-        &no_live,
-        &no_words,
-        &no_words,
+        &lent,
         &MATCH_ALL,
         target,
         &mut states,
@@ -171,8 +176,8 @@ fn page_all(out: &mut impl Write, target: u32) -> io::Result<()> {
         &mut scores,
     );
     match paged {
-        Paged::Refused(n) => print_refused(out, n),
-        Paged::Given(p) => {
+        Err(refusal) => print_refused(out, refusal.number()),
+        Ok(p) => {
             print_given(out, p.given, &documents, &scores)?;
             print_next(out, p.next)
         }

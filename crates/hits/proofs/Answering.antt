@@ -14,7 +14,9 @@ use Rattle.meaning.specs.Hits.{hits, mark}
 use Rattle.meaning.specs.CallRefusals.{Work}
 use Rattle.meaning.specs.Entries.{written, answered, search_refusal, search_answer, search_hits}
 use Rattle.collector.specs.declared.TopDocs.{TopDocs}
-use Rattle.searcher.specs.declared.search.Searched.{Searched}
+use Rattle.std.specs.Prelude.{Result, Ok, Err}
+use Rattle.refusal.specs.declared.Refusal.{Refusal}
+use Rattle.refusal.specs.Numbers.{number_of}
 use Rattle.searcher.specs.Answers.{searched_numbers}
 use Rattle.hits_text.specs.Text.{found_text, refused_text}
 use Rattle.hits.specs.Text.{list_text, own_work, own_places, search_text}
@@ -59,14 +61,14 @@ module _ (ix : Index) (q : List ℕ) (k t : ℕ) (w : Work) (places : ℕ) (own 
   unfolding search_text
   text-is = ap (λ (r : ℕ). answered r (list_text k t (full_list ix (query_tree q))) refused_text) own-refusal
 
-  pub refused-text : (r : Searched) (n : ℕ) → r ≡ Searched.Refused n → searched_numbers r ≡ search_answer ix q k t w places → refused_text n ≡ search_text ix q k t
+  pub refused-text : (r : Result TopDocs Refusal) (s : Refusal) (n : ℕ) → r ≡ Err s → n ≡ number_of s → searched_numbers r ≡ search_answer ix q k t w places → refused_text n ≡ search_text ix q k t
   unfolding search_answer searched_numbers
-  refused-text r n is numbers =
-      let e : n ∷ [] ≡ search_answer ix q k t w places = ap searched_numbers (sym is) ∙ numbers in
+  refused-text r s n is m numbers =
+      let e : n ∷ [] ≡ search_answer ix q k t w places = ap (λ (i : ℕ). i ∷ []) m ∙ ap searched_numbers (sym is) ∙ numbers in
       let list = full_list ix (query_tree q) in
       refused-number (search_refusal ix q k w places) n (length (hits k list)) (length list) (cond (mark k t (length list)) 1 0) (list_text k t list) e ∙ text-is
 
-  pub found-text : (r : Searched) (top : TopDocs) (buffer after : List ℤ) → length buffer ≡ places → r ≡ Searched.Found top → searched_numbers r ≡ search_answer ix q k t w places → after ≡ search_hits ix q k w buffer → Shown ix q k t top.held top.count top.mark after
+  pub found-text : (r : Result TopDocs Refusal) (top : TopDocs) (buffer after : List ℤ) → length buffer ≡ places → r ≡ Ok top → searched_numbers r ≡ search_answer ix q k t w places → after ≡ search_hits ix q k w buffer → Shown ix q k t top.held top.count top.mark after
   unfolding search_answer search_hits searched_numbers
   found-text r top buffer after long is numbers g =
       let held = top.held in

@@ -1,7 +1,7 @@
 // The text of the ten files.
 ghost use Rattle.std.specs.Prelude.{◌≡◌, ◌≤◌, length, take};
 ghost use Rattle.io.specs.Counts.{IsPrefixLen};
-ghost use Rattle.vectors.specs.Lists.{lent_lists};
+ghost use Rattle.index.specs.IndexOf.{index_of};
 ghost use Rattle.hits.specs.Text.{search_text, hits_text};
 ghost use Rattle.hits_text.specs.Contents.{files_of};
 ghost use Rattle.hits_text.specs.Puts.{Put};
@@ -9,14 +9,13 @@ ghost use Rattle.hits_text.specs.Puts.{Put};
 use hits_text::files::{Contents, taken};
 use hits_text::hit::{put_found, put_refused};
 use hits_text::words::{read_longs, read_words, word_at};
-use searcher::search::Searched;
-use vectors::lists::Index;
+use index::lent::Lent;
 use weight::NODE_STATE_WORDS;
 
 // Searches with the program's own buffers.
-fn answer(index: Index, query: &[u32], k: u32, t: u32, out: &mut [u8]) -> usize
+fn answer(index: Lent, query: &[u32], k: u32, t: u32, out: &mut [u8]) -> usize
     requires { 32768 ≤ length out.old }
-    ensures { Put out.old 0 (search_text (lent_lists index.entry) query.now k t) result out.new }
+    ensures { Put out.old 0 (search_text (index_of index.entry) query.now k t) result out.new }
 {
     let mut states = [0u32; 256 * NODE_STATE_WORDS];
     let mut starts = [0i32; 16384];
@@ -24,15 +23,7 @@ fn answer(index: Index, query: &[u32], k: u32, t: u32, out: &mut [u8]) -> usize
     let mut ranges = [0u32; 16384];
     let mut hits = [0i64; 1024];
     let found = searcher::search::search(
-        index.max_doc,
-        index.fields,
-        index.leaves,
-        index.postings,
-        index.positions,
-        index.norms,
-        index.live,
-        index.columns,
-        index.values,
+        &index,
         query,
         k,
         t,
@@ -43,8 +34,8 @@ fn answer(index: Index, query: &[u32], k: u32, t: u32, out: &mut [u8]) -> usize
         &mut hits,
     );
     match found {
-        Searched::Refused(n) => put_refused(n, out),
-        Searched::Found(top) => {
+        Err(refusal) => put_refused(refusal.number(), out),
+        Ok(top) => {
             let held = top.held as usize;
             put_found(top.count, top.mark, &hits[..held], out)
         }
@@ -75,7 +66,7 @@ pub fn report(files: Contents, out: &mut [u8; 32768]) -> usize
     let f = read_words(files.columns, &mut columns);
     let g = read_words(files.values, &mut values);
     let h = read_words(files.query, &mut query);
-    let index = Index {
+    let index = Lent {
         max_doc: word_at(files.run, 0),
         fields: &fields[..a],
         leaves: &leaves[..b],

@@ -4,6 +4,7 @@
 pub mod columns;
 pub mod fields;
 pub mod leaves;
+pub mod lent;
 pub mod live;
 pub mod norms;
 pub mod postings;

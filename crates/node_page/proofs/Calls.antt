@@ -10,14 +10,18 @@ use Rattle.meaning.specs.Limits.{node_state_words, max_records}
 use Rattle.meaning.specs.Lent.{Index}
 use Rattle.meaning.specs.CallRefusals.{states_needed}
 use Rattle.meaning.specs.Entries.{page_of}
-use Rattle.index.specs.Slices as Slices
+use Rattle.index.specs.declared.lent.Lent.{Lent}
+use Rattle.index.specs.IndexOf.{index_of}
 use Rattle.query.proofs.Whole.{whole}
 use Rattle.weight.specs.Measured.{Asks}
 use Rattle.weight.specs.State.{size_of}
 use Rattle.order_check.proofs.Rooms.{starts-room, ranges-room}
 use Rattle.walk.specs.declared.Listed.{Listed}
 use Rattle.walk.specs.Walks.{PageIs}
-use Rattle.searcher.specs.declared.page.Paged.TheVariants as Paged
+use Rattle.std.specs.Prelude.{Result, Ok, Err}
+use Rattle.refusal.specs.declared.Refusal.{Refusal}
+use Rattle.refusal.specs.Numbers.{number_of}
+use Rattle.order_check.proofs.Answered.{number-above}
 use Rattle.order_check.proofs.CallConditions.{Pages as Lends}
 use Rattle.searcher.proofs.Answering.{page-refused, page-given, page-not-refused}
 use Rattle.node_state.specs.Standing.{Standing, tree_of}
@@ -28,12 +32,12 @@ pub states-few : (ix : Index) (q : List ℕ) → Asks ix q → states_needed q �
 unfolding states_needed
 states-few ix q a = let few = (whole q a.records-right).few-records in omega (arith, few)
 
-module _ (n : ℕ) (fields leaves postings positions norms live columns values q : List ℕ) (target nodes : ℕ) (a b : List ℤ) (ranges documents scores : List ℕ) where
+module _ (r : Lent) (q : List ℕ) (target nodes : ℕ) (a b : List ℤ) (ranges documents scores : List ℕ) where
   abbrev ix : Index
-  ix = Slices.lent n fields leaves postings positions norms live columns values
+  ix = index_of r
 
   module _ (l : Lends ix q target (work_of nodes a b ranges) (length documents) (length scores)) where
-    pub tree-asked : (resume : Bool) (words : List ℕ) → node_state_words * max_records ≤ length words → (resume ≡ true → Standing ix q ranges words target) → TreeAsked ix n fields leaves columns values q resume words ranges target
+    pub tree-asked : (resume : Bool) (words : List ℕ) → node_state_words * max_records ≤ length words → (resume ≡ true → Standing ix q ranges words target) → TreeAsked ix r.max_doc r.fields.now r.leaves.now r.columns.now r.values.now q resume words ranges target
     tree-asked resume words h s = record {
       asks = l.asks;
       leaves-lent = record { field-lent = record { accepted = l.asks.accepted; documents = refl; fields-are = refl }; leaves-are = refl };
@@ -43,7 +47,7 @@ module _ (n : ℕ) (fields leaves postings positions norms live columns values q
       standing = s;
     }
 
-    pub list-asked : (size : ℕ) (ranges' words' : List ℕ) → (size ≡ size_of (tree_of ix q)) × Standing ix q ranges' words' target → ListAsked ix n fields leaves postings positions norms live q ranges' words' (min (length a) (length b)) size target
+    pub list-asked : (size : ℕ) (ranges' words' : List ℕ) → (size ≡ size_of (tree_of ix q)) × Standing ix q ranges' words' target → ListAsked ix r.max_doc r.fields.now r.leaves.now r.postings.now r.positions.now r.norms.now r.live.now q ranges' words' (min (length a) (length b)) size target
     list-asked size ranges' words' s = record {
       asks = l.asks;
       leaves-lent = record { field-lent = record { accepted = l.asks.accepted; documents = refl; fields-are = refl }; leaves-are = refl };
@@ -57,22 +61,22 @@ module _ (n : ℕ) (fields leaves postings positions norms live columns values q
       standing = s.1;
     }
 
-  module _ (r : ℕ) (e : r ≡ refusal_of ix q target nodes a b ranges documents scores) where
-    pub refuses : (r ≡ 0 → ⊥) → (words : List ℕ) → Pages ix q target (work_of nodes a b ranges) documents documents scores scores a a b b ranges ranges words (Paged.Refused r)
-    refuses h words =
-        let p = page-refused ix q target (work_of nodes a b ranges) documents scores r e h in
-        record { numbers = p.0; documents-are = p.1; scores-are = p.2; starts-kept = λ z. refl; other-starts-kept = λ z. refl; ranges-kept = λ z. refl; standing = λ z. absurd (h (e ∙ z)) }
+  pub refuses : (s : Refusal) (o : Result Listed Refusal) → o ≡ Err s → number_of s ≡ refusal_of ix q target nodes a b ranges documents scores → (words : List ℕ) → Pages ix q target (work_of nodes a b ranges) documents documents scores scores a a b b ranges ranges words o
+  refuses s o f e words =
+      let p = page-refused ix q target (work_of nodes a b ranges) documents scores s o f e in
+      record { numbers = p.0; documents-are = p.1; scores-are = p.2; starts-kept = λ z. refl; other-starts-kept = λ z. refl; ranges-kept = λ z. refl; standing = λ z. absurd (number-above s (e ∙ z)) }
 
-    pub gives : r ≡ 0 → (k : Listed) (documents' scores' : List ℕ) (a' b' : List ℤ) (ranges' words' : List ℕ) → PageIs (page_of ix q target (length documents)) documents scores k documents' scores' × Standing ix q ranges' words' k.next
-        → Pages ix q target (work_of nodes a b ranges) documents documents' scores scores' a a' b b' ranges ranges' words' (Paged.Given k)
+  module _ (m : ℕ) (e : m ≡ refusal_of ix q target nodes a b ranges documents scores) where
+    pub gives : m ≡ 0 → (k : Listed) (documents' scores' : List ℕ) (a' b' : List ℤ) (ranges' words' : List ℕ) → PageIs (page_of ix q target (length documents)) documents scores k documents' scores' × Standing ix q ranges' words' k.next
+        → Pages ix q target (work_of nodes a b ranges) documents documents' scores scores' a a' b b' ranges ranges' words' (Ok k)
     gives z k documents' scores' a' b' ranges' words' g =
-        let p = page-given ix q target (work_of nodes a b ranges) documents scores r e z k documents' scores' g.0 in
+        let p = page-given ix q target (work_of nodes a b ranges) documents scores m e z k documents' scores' g.0 in
         record {
           numbers = p.0;
           documents-are = p.1;
           scores-are = p.2;
-          starts-kept = λ h. absurd (page-not-refused ix q target (work_of nodes a b ranges) documents scores r e z h);
-          other-starts-kept = λ h. absurd (page-not-refused ix q target (work_of nodes a b ranges) documents scores r e z h);
-          ranges-kept = λ h. absurd (page-not-refused ix q target (work_of nodes a b ranges) documents scores r e z h);
-          standing = λ h. subst (λ (m : ℕ). Standing ix q ranges' words' m) g.0.next-is g.1;
+          starts-kept = λ h. absurd (page-not-refused ix q target (work_of nodes a b ranges) documents scores m e z h);
+          other-starts-kept = λ h. absurd (page-not-refused ix q target (work_of nodes a b ranges) documents scores m e z h);
+          ranges-kept = λ h. absurd (page-not-refused ix q target (work_of nodes a b ranges) documents scores m e z h);
+          standing = λ h. subst (λ (i : ℕ). Standing ix q ranges' words' i) g.0.next-is g.1;
         }

@@ -13,17 +13,20 @@ use Rattle.meaning.specs.Bm25.{one}
 use Rattle.meaning.specs.Entries.{Kept, answered, page_answer}
 use mathlib.Core.Option.{none}
 use Rattle.weight.specs.State.{size_of}
-use Rattle.weight.specs.Held.{Ok}
+use Rattle.weight.specs.Held as Held
 use Rattle.weight.proofs.Queries.{query-size}
 use Rattle.order_check.proofs.Rooms.{states-room}
-use Rattle.searcher.specs.declared.page.Paged.{Paged}
-use Rattle.searcher.specs.Answers.{paged_numbers}
+use Rattle.std.specs.Prelude.{Result, Ok, Err}
+use Rattle.walk.specs.declared.Listed.{Listed}
+use Rattle.refusal.specs.declared.Refusal.{Refusal}
+use Rattle.refusal.specs.Numbers.{number_of}
+use Rattle.searcher.specs.Answers.{paged_numbers, used}
 use Rattle.order_check.proofs.CallConditions.{page-lends}
 use Rattle.node_state.specs.declared.NodeState.{NodeState}
 use Rattle.node_state.specs.Records.{record_words, held}
 use Rattle.node_state.specs.Standing.{Standing, tree_of}
 use Rattle.node_state.proofs.Turns.{words_append, words-length, words_take}
-use Rattle.node_page.specs.Pages.{Pages, refusal_of, work_of, used}
+use Rattle.node_page.specs.Pages.{Pages, refusal_of, work_of}
 use Rattle.node_page.proofs.Calls.{states-few}
 
 -- the words of the first n records
@@ -36,20 +39,10 @@ same-front : (ix : Index) (q ranges xs ys : List ℕ) (from k : ℕ) → size_of
 same-front ix q ranges xs ys from k h g e s =
     let n = size_of (tree_of ix q) in
     let same : take n xs ≡ take n ys = sym (take-take n k xs h) ∙ ap (take n) e ∙ take-take n k ys h in
-    record { within = omega (arith, h, g); ok = subst (λ (l : List ℕ). Ok ix ranges (tree_of ix q) 16 0 l from) same s.ok }
+    record { within = omega (arith, h, g); ok = subst (λ (l : List ℕ). Held.Ok ix ranges (tree_of ix q) 16 0 l from) same s.ok }
 
 held-words : (m k : ℕ) → k ≡ max_records * node_state_words → node_state_words * held m ≤ k
 held-words m k e = omega (arith, e)
-
-pub used-least : (r : Paged) (m : ℕ) → used r m ≤ m
-unfolding used
-used-least (Paged.Refused x) m = omega arith
-used-least (Paged.Given l) m = omega arith
-
-pub used-words : (r : Paged) (m k : ℕ) → k ≡ max_records * node_state_words → node_state_words * used r m ≤ k
-unfolding used
-used-words (Paged.Refused x) m k e = omega (arith, e)
-used-words (Paged.Given l) m k e = held-words m k e
 
 -- one number alone is a refused call's answer, and several are an accepted one's
 refused-alone : (z x v : ℕ) (vs : List ℕ) → (x ∷ []) ≡ answered z (0 ∷ v ∷ vs) (λ m. m ∷ []) → z ≡ 0 → ⊥
@@ -79,11 +72,11 @@ module _ (ix : Index) (q : List ℕ) (target m : ℕ) (a b : List ℤ) (ranges d
 
   module _ (documents' scores' : List ℕ) (a' b' : List ℤ) (ranges' words' : List ℕ) (ys ns : List NodeState) (l : length ns ≡ m) where
     -- and what stands in the words stands in the records that were read from them
-    pub read_back : (r : Paged) → Pages ix q target (work_of m a b ranges) documents documents' scores scores' a a' b b' ranges ranges' words' r
-        → (record_words (take (used r m) ns) ≡ take (node_state_words * used r m) words') × (drop (used r m) ns ≡ drop (used r m) ys)
+    pub read_back : (r : Result Listed Refusal) → Pages ix q target (work_of m a b ranges) documents documents' scores scores' a a' b b' ranges ranges' words' r
+        → (record_words (take (used r (held m)) ns) ≡ take (node_state_words * used r (held m)) words') × (drop (used r (held m)) ns ≡ drop (used r (held m)) ys)
         → Pages ix q target (work_of m a b ranges) documents documents' scores scores' a a' b b' ranges ranges' (record_words ns) r × Kept (refusal_of ix q target m a b ranges documents scores) ys ns
-    unfolding paged_numbers page_answer used
-    read_back (Paged.Refused x) g p = (
+    unfolding paged_numbers page_answer
+    read_back (Err x) g p = (
       record {
         numbers = g.numbers;
         documents-are = g.documents-are;
@@ -91,11 +84,11 @@ module _ (ix : Index) (q : List ℕ) (target m : ℕ) (a b : List ℤ) (ranges d
         starts-kept = g.starts-kept;
         other-starts-kept = g.other-starts-kept;
         ranges-kept = g.ranges-kept;
-        standing = λ z. absurd (refused-alone _ x _ _ g.numbers z);
+        standing = λ z. absurd (refused-alone _ (number_of x) _ _ g.numbers z);
       },
       λ z. p.1,
     )
-    read_back (Paged.Given k) g p = (
+    read_back (Ok k) g p = (
       record {
         numbers = g.numbers;
         documents-are = g.documents-are;
@@ -112,7 +105,7 @@ module _ (ix : Index) (q : List ℕ) (target m : ℕ) (a b : List ℤ) (ranges d
         record-room ns m l = let e = words-length ns in omega (arith, e, l)
 
     -- the same where the number of records used is told by its equation
-    pub read_back_told : (r : Paged) (i : ℕ) → i ≡ used r m → Pages ix q target (work_of m a b ranges) documents documents' scores scores' a a' b b' ranges ranges' words' r
+    pub read_back_told : (r : Result Listed Refusal) (i : ℕ) → i ≡ used r (held m) → Pages ix q target (work_of m a b ranges) documents documents' scores scores' a a' b b' ranges ranges' words' r
         → (record_words (take i ns) ≡ take (node_state_words * i) words') × (drop i ns ≡ drop i ys)
         → Pages ix q target (work_of m a b ranges) documents documents' scores scores' a a' b b' ranges ranges' (record_words ns) r × Kept (refusal_of ix q target m a b ranges documents scores) ys ns
     read_back_told r i e g p =

@@ -1,5 +1,5 @@
 -- What Page gives on node states as words, and on their records. Assumes nothing: these are definitions.
-use Rattle.std.specs.Prelude.{◌≡◌, Bool, true, List, ℕ, ◌*◌, ◌≤◌, length, ℤ}
+use Rattle.std.specs.Prelude.{◌≡◌, Bool, true, List, ℕ, ◌*◌, ◌≤◌, length, ℤ, Result}
 use Rattle.meaning.specs.Limits.{node_state_words}
 use Rattle.meaning.specs.Lent.{Index}
 use Rattle.meaning.specs.CallRefusals.{Work, states_needed, starts_needed, ranges_needed}
@@ -8,9 +8,9 @@ use Rattle.weight.specs.Measured.{Asks, Columns}
 use Rattle.weight.specs.State.{size_of}
 use Rattle.node_words.specs.Placed.{LeafLent}
 use Rattle.order_check.specs.Lends.{work}
-use Rattle.searcher.specs.declared.page.Paged.{Paged}
+use Rattle.walk.specs.declared.Listed.{Listed}
+use Rattle.refusal.specs.declared.Refusal.{Refusal}
 use Rattle.searcher.specs.Answers.{paged_numbers}
-use Rattle.node_state.specs.Records.{held}
 use Rattle.node_state.specs.Standing.{Standing, tree_of}
 
 -- the work buffers of a call, with so many records of node states
@@ -21,7 +21,7 @@ abbrev pub refusal_of : Index → List ℕ → ℕ → ℕ → List ℤ → List
 refusal_of ix q target nodes a b ranges documents scores = page_refusal ix q target (work_of nodes a b ranges) (length documents) (length scores)
 
 -- Page's answer and its outputs; a refused call leaves the buffers as they were, and an accepted one leaves words from which the walk can go on at the next live match
-pub record Pages (ix : Index) (q : List ℕ) (target : ℕ) (w : Work) (documents documents' scores scores' : List ℕ) (a a' b b' : List ℤ) (ranges ranges' words' : List ℕ) (r : Paged) : Type 0 where
+pub record Pages (ix : Index) (q : List ℕ) (target : ℕ) (w : Work) (documents documents' scores scores' : List ℕ) (a a' b b' : List ℤ) (ranges ranges' words' : List ℕ) (r : Result Listed Refusal) : Type 0 where
   pub numbers : paged_numbers r ≡ page_answer ix q target w (length documents) (length scores)
   pub documents-are : documents' ≡ page_documents ix q target w documents scores
   pub scores-are : scores' ≡ page_scores ix q target w documents scores
@@ -29,11 +29,6 @@ pub record Pages (ix : Index) (q : List ℕ) (target : ℕ) (w : Work) (document
   pub other-starts-kept : Kept (page_refusal ix q target w (length documents) (length scores)) b b'
   pub ranges-kept : Kept (page_refusal ix q target w (length documents) (length scores)) ranges ranges'
   pub standing : page_refusal ix q target w (length documents) (length scores) ≡ 0 → Standing ix q ranges' words' (page_of ix q target (length documents)).next
-
--- how many of some records a call with this answer used
-unfoldable pub used : Paged → ℕ → ℕ
-used (Paged.Refused _) nodes = 0
-used (Paged.Given _) nodes = held nodes
 
 -- an order that is not refused, whose tree is to stand in these words, or stands there
 pub record TreeAsked (ix : Index) (n : ℕ) (fields leaves columns values q : List ℕ) (resume : Bool) (words ranges : List ℕ) (from : ℕ) : Type 0 where

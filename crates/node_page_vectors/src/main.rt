@@ -10,10 +10,12 @@ ghost use Rattle.node_page.specs.Pages.{Pages, work_of};
 ghost use Rattle.node_page_vectors.specs.Next.{next_of};
 ghost use Rattle.meaning.specs.Limits.{no_more_docs};
 
+use index::lent::Lent;
 use node_state::NodeState;
-use searcher::page::Paged;
+use refusal::Refusal;
 use std::io;
 use std::io::Write;
+use walk::Listed;
 
 // One field; leaf 0 in the documents 0, 2 and 3, leaf 1 in 2.
 const FIELDS: [u32; 3] = [0x3f80_0000, 0, 0];
@@ -147,7 +149,7 @@ fn rubbish() -> NodeState {
 // A page, and the records after it.
 #[derive(Clone, Copy)]
 struct Stepped {
-    page: Paged,
+    page: Result<Listed, Refusal>,
     records: [NodeState; 8],
 }
 
@@ -176,9 +178,19 @@ fn step(
     ensures { Pages (lent max_doc fields.now leaves.now postings.now positions.now norms.now live.now columns.now values.now) q.now target (work_of 8 a.old b.old ranges.old) documents.old documents.new scores.old scores.new a.old a.new b.old b.new ranges.old ranges.new (record_words result.records) result.page }
 {
     let mut nodes = records;
+    let lent = Lent {
+        max_doc,
+        fields,
+        leaves,
+        postings,
+        positions,
+        norms,
+        live,
+        columns,
+        values,
+    };
     let r = node_page::page_nodes(
-        max_doc, fields, leaves, postings, positions, norms, live, columns, values, q, target,
-        resume, &mut nodes, a, b, ranges, documents, scores,
+        &lent, q, target, resume, &mut nodes, a, b, ranges, documents, scores,
     );
     Stepped {
         page: r,
@@ -187,36 +199,36 @@ fn step(
 }
 
 // The next match, and none where the call was refused.
-fn next_of(p: Paged) -> u32
+fn next_of(p: Result<Listed, Refusal>) -> u32
     ensures { result ≡ next_of p }
 {
     match p {
-        Paged::Refused(_) => walk::NO_MORE_DOCS,
-        Paged::Given(l) => l.next,
+        Err(_) => walk::NO_MORE_DOCS,
+        Ok(l) => l.next,
     }
 }
 
 fn print_paged(
     out: &mut impl Write,
-    p: Paged,
+    p: Result<Listed, Refusal>,
     documents: &[u32],
     scores: &[u32],
 ) -> io::Result<()> {
     match p {
-        Paged::Refused(number) => {
+        Err(refusal) => {
             write!(out, "refused ")?;
-            vectors::print_number(out, number)?;
+            vectors::print_number(out, refusal.number())?;
             vectors::end_line(out)
         }
-        Paged::Given(l) => vectors::print_page(out, documents, scores, l.given, l.next),
+        Ok(l) => vectors::print_page(out, documents, scores, l.given, l.next),
     }
 }
 
 // The answer's numbers: the refusal's, or 0, how many were given and the next match.
-fn numbers(p: Paged) -> [u64; 3] {
+fn numbers(p: Result<Listed, Refusal>) -> [u64; 3] {
     match p {
-        Paged::Refused(number) => [vectors::wide(number), 0, 0],
-        Paged::Given(l) => [0, l.given as u64, vectors::wide(l.next)],
+        Err(refusal) => [vectors::wide(refusal.number()), 0, 0],
+        Ok(l) => [0, l.given as u64, vectors::wide(l.next)],
     }
 }
 
@@ -253,11 +265,11 @@ fn print_same(
 // A page of one document from the records, the records after it, and the same page from words.
 #[derive(Clone, Copy)]
 struct Turned {
-    page: Paged,
+    page: Result<Listed, Refusal>,
     records: [NodeState; 8],
     documents: [u32; 1],
     scores: [u32; 1],
-    by_words: Paged,
+    by_words: Result<Listed, Refusal>,
     more: [u32; 1],
     more_scores: [u32; 1],
 }
@@ -321,7 +333,7 @@ fn turn(
         &mut documents,
         &mut scores,
     );
-    let p = searcher::page::page(
+    let lent = Lent {
         max_doc,
         fields,
         leaves,
@@ -331,6 +343,9 @@ fn turn(
         live,
         columns,
         values,
+    };
+    let p = searcher::page::page(
+        &lent,
         q,
         target,
         states,

@@ -23,24 +23,21 @@ use Rattle.collector.specs.declared.TopDocs.{TopDocs}
 use Rattle.collector.specs.Collected.{answer}
 use Rattle.query.proofs.Whole.{whole}
 use Rattle.weight.specs.State.{size_of}
-use Rattle.weight.specs.Held.{Ok}
+use Rattle.weight.specs.Held as Held
 use Rattle.node_words.specs.Placed.{Placed}
 use Rattle.order_check.specs.Lends.{work}
 use Rattle.order_check.proofs.Refusing.{order-asks, order-refused}
-use Rattle.searcher.specs.declared.search.Searched.{Searched}
-use Rattle.searcher.specs.Answers.{searched_numbers}
+use Rattle.std.specs.Prelude.{Result, Ok, Err}
+use Rattle.refusal.specs.declared.Refusal.{Refusal}
+use Rattle.refusal.specs.Numbers.{number_of}
+use Rattle.order_check.proofs.Answered.{number-above}
+use Rattle.searcher.specs.Answers.{searched_numbers, used}
 use Rattle.searcher.proofs.Answering.{search-refused, search-not-refused, search-found}
 use Rattle.node_state.specs.declared.NodeState.{NodeState}
 use Rattle.node_state.specs.Records.{record_words, held}
 use Rattle.node_state.specs.Standing.{Standing, tree_of}
 use Rattle.node_state.proofs.Turns.{words_append}
-use Rattle.node_search.specs.Searches.{SearchesWords, Searches, room_of, refusal_of, used}
-
--- a call uses no more states than there are
-pub used-least : (r : Searched) (n : ℕ) → used r n ≤ n
-unfolding used
-used-least (Searched.Refused x) n = omega arith
-used-least (Searched.Found top) n = omega arith
+use Rattle.node_search.specs.Searches.{SearchesWords, Searches, room_of, refusal_of}
 
 -- ---- 12 with the states of the first 256 records is 12 with all
 few-same : (m c : ℕ) → c ≤ max_records → (s : Bool) → ltb (node_state_words * m) (node_state_words * c) ≡ s → ltb (node_state_words * held m) (node_state_words * c) ≡ s
@@ -70,17 +67,17 @@ module _ (ix : Index) (q : List ℕ) (a b ranges m : ℕ) where
 
 -- ---- the tree in the words of records
 -- the loop's words at the front of those that `build` wrote
-pub built-stands : (ix : Index) (q ranges states out : List ℕ) (r from : ℕ) → Placed ix ranges (tree_of ix q) 16 0 r states → length out ≡ length (take r states) → Ok ix ranges (tree_of ix q) 16 0 out from → Standing ix q ranges (out ++ drop r states) from
+pub built-stands : (ix : Index) (q ranges states out : List ℕ) (r from : ℕ) → Placed ix ranges (tree_of ix q) 16 0 r states → length out ≡ length (take r states) → Held.Ok ix ranges (tree_of ix q) 16 0 out from → Standing ix q ranges (out ++ drop r states) from
 built-stands ix q ranges states out r from p l o =
     let long : length out ≡ size_of (tree_of ix q) = l ∙ length-take-le r states p.within ∙ p.size_is in
     let j = length-append out (drop r states) in
     let front = take-append-le (size_of (tree_of ix q)) out (drop r states) (omega (arith, long)) ∙ take_all (size_of (tree_of ix q)) out (omega (arith, long)) in
-    record { within = omega (arith, j, long); ok = subst (λ (w : List ℕ). Ok ix ranges (tree_of ix q) 16 0 w from) (sym front) o }
+    record { within = omega (arith, j, long); ok = subst (λ (w : List ℕ). Held.Ok ix ranges (tree_of ix q) 16 0 w from) (sym front) o }
 
 standing-front : (ix : Index) (q ranges words more : List ℕ) (from : ℕ) → Standing ix q ranges words from → Standing ix q ranges (words ++ more) from
 standing-front ix q ranges words more from s = record {
   within = let l = length-append words more in omega (arith, s.within, l);
-  ok = subst (λ (w : List ℕ). Ok ix ranges (tree_of ix q) 16 0 w from) (sym (take-append-le (size_of (tree_of ix q)) words more s.within)) s.ok;
+  ok = subst (λ (w : List ℕ). Held.Ok ix ranges (tree_of ix q) 16 0 w from) (sym (take-append-le (size_of (tree_of ix q)) words more s.within)) s.ok;
 }
 
 standing-records : (ix : Index) (q ranges words : List ℕ) (from n : ℕ) (nodes : List NodeState) → record_words (take n nodes) ≡ words → Standing ix q ranges words from → Standing ix q ranges (record_words nodes) from
@@ -117,18 +114,18 @@ module _ (ix : Index) (q : List ℕ) (k t : ℕ) (nodes nodes' : List NodeState)
   abbrev pub Packed : ℕ → Type 0
   Packed i = (record_words (take i nodes') ≡ take (node_state_words * i) words') × (drop i nodes' ≡ drop i nodes)
 
-  kept : (r : Searched) → searched_numbers r ≡ search_answer ix q k t (room_of n a b ranges) (length hits) → Packed (used r n) → Kept (refusal_of ix q k n a b ranges hits) nodes nodes'
-  unfolding searched_numbers search_answer used
-  kept (Searched.Refused x) e p = λ z. p.1
-  kept (Searched.Found top) e p = λ z. absurd (found-several _ _ _ _ e z)
+  kept : (r : Result TopDocs Refusal) → searched_numbers r ≡ search_answer ix q k t (room_of n a b ranges) (length hits) → Packed (used r n) → Kept (refusal_of ix q k n a b ranges hits) nodes nodes'
+  unfolding searched_numbers search_answer
+  kept (Err x) e p = λ z. p.1
+  kept (Ok top) e p = λ z. absurd (found-several _ _ _ _ e z)
 
-  copied : (r : Searched) → searched_numbers r ≡ search_answer ix q k t (room_of n a b ranges) (length hits) → Packed (used r n) → refusal_of ix q k n a b ranges hits ≡ 0 → record_words (take n nodes') ≡ take (node_state_words * n) words'
-  unfolding searched_numbers search_answer used
-  copied (Searched.Refused x) e p z = absurd (refused-alone _ x _ _ e z)
-  copied (Searched.Found top) e p z = p.0
+  copied : (r : Result TopDocs Refusal) → searched_numbers r ≡ search_answer ix q k t (room_of n a b ranges) (length hits) → Packed (used r n) → refusal_of ix q k n a b ranges hits ≡ 0 → record_words (take n nodes') ≡ take (node_state_words * n) words'
+  unfolding searched_numbers search_answer
+  copied (Err x) e p z = absurd (refused-alone _ (number_of x) _ _ e z)
+  copied (Ok top) e p z = p.0
 
   -- the records that the call used were read from the words
-  pub on-records : (r : Searched) → SearchesWords ix q k t n words' a a' b b' ranges ranges' hits hits' r → Packed (used r n) → Searches ix q k t nodes nodes' a a' b b' ranges ranges' hits hits' r
+  pub on-records : (r : Result TopDocs Refusal) → SearchesWords ix q k t n words' a a' b b' ranges ranges' hits hits' r → Packed (used r n) → Searches ix q k t nodes nodes' a a' b b' ranges ranges' hits hits' r
   on-records r s p =
       let positive : 0 < refusal_of ix q k (length nodes) a b ranges hits → 0 < refusal_of ix q k n a b ranges hits = λ h. subst (λ (z : ℕ). 0 < z) (sym same) h in
       record {
@@ -142,24 +139,25 @@ module _ (ix : Index) (q : List ℕ) (k t : ℕ) (nodes nodes' : List NodeState)
       }
 
   -- the same where the two numbers are told by their equations
-  pub on-records-told : (r : Searched) (states m : ℕ) → states ≡ n → m ≡ used r states → SearchesWords ix q k t states words' a a' b b' ranges ranges' hits hits' r → Packed m → Searches ix q k t nodes nodes' a a' b b' ranges ranges' hits hits' r
+  pub on-records-told : (r : Result TopDocs Refusal) (states m : ℕ) → states ≡ n → m ≡ used r states → SearchesWords ix q k t states words' a a' b b' ranges ranges' hits hits' r → Packed m → Searches ix q k t nodes nodes' a a' b b' ranges ranges' hits hits' r
   on-records-told r states m e f s p =
       on-records r (subst (λ (i : ℕ). SearchesWords ix q k t i words' a a' b b' ranges ranges' hits hits' r) e s) (subst Packed (f ∙ ap (used r) e) p)
 
 -- ---- the word form, refused or not
-module _ (ix : Index) (q : List ℕ) (k t n : ℕ) (words : List ℕ) (a b : List ℤ) (ranges : List ℕ) (hits : List ℤ) (r : ℕ) (e : r ≡ refusal_of ix q k n a b ranges hits) where
-  pub words-refused : (r ≡ 0 → ⊥) → SearchesWords ix q k t n words a a b b ranges ranges hits hits (Searched.Refused r)
-  words-refused h =
-      let s = search-refused ix q k t (room_of n a b ranges) hits r e h in
-      record { numbers = s.0; found = s.1; starts-kept = λ z. refl; other-starts-kept = λ z. refl; ranges-kept = λ z. refl; standing = λ z. absurd (h (e ∙ z)) }
+module _ (ix : Index) (q : List ℕ) (k t n : ℕ) (words : List ℕ) (a b : List ℤ) (ranges : List ℕ) (hits : List ℤ) where
+  pub words-refused : (s : Refusal) (o : Result TopDocs Refusal) → o ≡ Err s → number_of s ≡ refusal_of ix q k n a b ranges hits → SearchesWords ix q k t n words a a b b ranges ranges hits hits o
+  words-refused s o f e =
+      let p = search-refused ix q k t (room_of n a b ranges) hits s o f e in
+      record { numbers = p.0; found = p.1; starts-kept = λ z. refl; other-starts-kept = λ z. refl; ranges-kept = λ z. refl; standing = λ z. absurd (number-above s (e ∙ z)) }
 
+module _ (ix : Index) (q : List ℕ) (k t n : ℕ) (words : List ℕ) (a b : List ℤ) (ranges : List ℕ) (hits : List ℤ) (r : ℕ) (e : r ≡ refusal_of ix q k n a b ranges hits) where
   -- with the words for `find` at the front
   pub long-front : node_state_words * n ≤ length words → work_short ix q (room_of n a b ranges) ≡ false → work_short ix q (work (length (take (node_state_words * n) words)) (length a) (length b) (length ranges)) ≡ false
   long-front enough h = subst (λ (m : ℕ). work_short ix q (work m (length a) (length b) (length ranges)) ≡ false) (sym (length-take-le (node_state_words * n) words enough)) h
 
   pub words-found : r ≡ 0 → node_state_words * n ≤ length words → k ≤ length hits → (top : TopDocs) (states' : List ℕ) (a' b' : List ℤ) (ranges' : List ℕ) (out : List ℤ) → length states' ≡ length (take (node_state_words * n) words)
       → (top ≡ answer (length (take k hits)) t (full_list ix (query_tree q))) × ((out ≡ written (hits_of (length (take k hits)) (full_list ix (query_tree q))) (take k hits)) × Standing ix q ranges' states' no_more_docs)
-      → SearchesWords ix q k t n (states' ++ drop (node_state_words * n) words) a a' b b' ranges ranges' hits (out ++ drop k hits) (Searched.Found top)
+      → SearchesWords ix q k t n (states' ++ drop (node_state_words * n) words) a a' b b' ranges ranges' hits (out ++ drop k hits) (Ok top)
   words-found z enough room top states' a' b' ranges' out l f =
       let s = search-found ix q k t (room_of n a b ranges) hits r e z room top out (f.0, f.1.0) in
       let long : length states' ≡ node_state_words * n = l ∙ length-take-le (node_state_words * n) words enough in

@@ -9,8 +9,10 @@ ghost use Rattle.index.specs.Slices.{lent};
 ghost use Rattle.order_check.specs.Lends.{work};
 ghost use Rattle.searcher.specs.Answers.{searched_numbers};
 
+use collector::TopDocs;
+use index::lent::Lent;
 use node_state::NodeState;
-use searcher::search::Searched;
+use refusal::Refusal;
 use std::io;
 use std::io::Write;
 use weight::NODE_STATE_WORDS;
@@ -258,16 +260,20 @@ fn untouched_records(nodes: [NodeState; 8]) -> bool {
 }
 
 // A refused call leaves the lent records as they were.
-fn print_records(out: &mut impl Write, s: Searched, untouched: bool) -> io::Result<()> {
+fn print_records(
+    out: &mut impl Write,
+    s: Result<TopDocs, Refusal>,
+    untouched: bool,
+) -> io::Result<()> {
     match s {
-        Searched::Refused(_) => {
+        Err(_) => {
             if untouched {
                 writeln!(out, "records as they were")
             } else {
                 writeln!(out, "records changed")
             }
         }
-        Searched::Found(_) => Ok(()),
+        Ok(_) => Ok(()),
     }
 }
 
@@ -291,24 +297,32 @@ fn search_lent(
     ranges: &mut [u32],
     hits: &mut [i64],
     untouched: &mut bool,
-) -> Searched
+) -> Result<TopDocs, Refusal>
     ensures { (searched_numbers result ≡ search_answer (lent max_doc fields.now leaves.now postings.now positions.now norms.now live.now columns.now values.now) q.now k t (work (node_state_words * 8) (length a.old) (length b.old) (length ranges.old)) (length hits.old))
         × (hits.new ≡ search_hits (lent max_doc fields.now leaves.now postings.now positions.now norms.now live.now columns.now values.now) q.now k (work (node_state_words * 8) (length a.old) (length b.old) (length ranges.old)) hits.old) }
 {
     let mut nodes = records;
-    let r = node_search::search_nodes(
-        max_doc, fields, leaves, postings, positions, norms, live, columns, values, q, k, t,
-        &mut nodes, a, b, ranges, hits,
-    );
+    let lent = Lent {
+        max_doc,
+        fields,
+        leaves,
+        postings,
+        positions,
+        norms,
+        live,
+        columns,
+        values,
+    };
+    let r = node_search::search_nodes(&lent, q, k, t, &mut nodes, a, b, ranges, hits);
     *untouched = untouched_records(nodes);
     r
 }
 
 // The answer's numbers: the refusal's, or 0, the hits held, the count and the mark.
-fn numbers(s: Searched) -> [u64; 4] {
+fn numbers(s: Result<TopDocs, Refusal>) -> [u64; 4] {
     match s {
-        Searched::Refused(number) => [vectors::wide(number), 0, 0, 0],
-        Searched::Found(top) => [0, vectors::wide(top.held), top.count, top.mark as u64],
+        Err(refusal) => [vectors::wide(refusal.number()), 0, 0, 0],
+        Ok(top) => [0, vectors::wide(top.held), top.count, top.mark as u64],
     }
 }
 
@@ -335,14 +349,14 @@ fn same_codes(x: [i64; 3], y: [i64; 3]) -> bool {
     x[2] == y[2]
 }
 
-fn print_answer(out: &mut impl Write, s: Searched, hits: &[i64]) -> io::Result<()> {
+fn print_answer(out: &mut impl Write, s: Result<TopDocs, Refusal>, hits: &[i64]) -> io::Result<()> {
     match s {
-        Searched::Refused(number) => {
+        Err(refusal) => {
             write!(out, "refused ")?;
-            vectors::print_number(out, number)?;
+            vectors::print_number(out, refusal.number())?;
             vectors::end_line(out)
         }
-        Searched::Found(top) => vectors::print_hits(out, top.count, top.mark, hits, top.held),
+        Ok(top) => vectors::print_hits(out, top.count, top.mark, hits, top.held),
     }
 }
 
@@ -356,7 +370,7 @@ fn print_same(out: &mut impl Write, numbers: bool, codes: bool) -> io::Result<()
 }
 
 // An order over the index with k hits wanted and threshold t.
-fn with_words(q: &[u32], k: u32, t: u32, hits: &mut [i64]) -> Searched {
+fn with_words(q: &[u32], k: u32, t: u32, hits: &mut [i64]) -> Result<TopDocs, Refusal> {
     let no_words = [0u32; 0];
     let no_bytes = [0u8; 0];
     let no_live = [0u64; 0];
@@ -364,16 +378,19 @@ fn with_words(q: &[u32], k: u32, t: u32, hits: &mut [i64]) -> Searched {
     let mut starts = [0i32; 0];
     let mut other_starts = [0i32; 0];
     let mut ranges = [0u32; 0];
+    let lent = Lent {
+        max_doc: 4,
+        fields: &FIELDS,
+        leaves: &LEAVES,
+        postings: &POSTINGS,
+        positions: &no_words,
+        norms: &no_bytes,
+        live: &no_live,
+        columns: &no_words,
+        values: &no_words,
+    };
     searcher::search::search(
-        4,
-        &FIELDS,
-        &LEAVES,
-        &POSTINGS,
-        &no_words,
-        &no_bytes,
-        &no_live,
-        &no_words,
-        &no_words,
+        &lent,
         q,
         k,
         t,
@@ -385,7 +402,13 @@ fn with_words(q: &[u32], k: u32, t: u32, hits: &mut [i64]) -> Searched {
     )
 }
 
-fn with_records(q: &[u32], k: u32, t: u32, hits: &mut [i64], untouched: &mut bool) -> Searched {
+fn with_records(
+    q: &[u32],
+    k: u32,
+    t: u32,
+    hits: &mut [i64],
+    untouched: &mut bool,
+) -> Result<TopDocs, Refusal> {
     let no_words = [0u32; 0];
     let no_bytes = [0u8; 0];
     let no_live = [0u64; 0];

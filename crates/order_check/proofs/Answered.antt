@@ -1,5 +1,5 @@
 -- The number of an answer, where it is a refusal and where it is none. Assumes nothing.
-use Rattle.std.proofs.Common.{◌≡◌, ap, sym, ◌∙◌, Result, Ok, Err, arith}
+use Rattle.std.proofs.Common.{ℕ, ◌≡◌, ap, sym, ◌∙◌, Result, Ok, Err, arith}
 use Rattle.refusal.specs.declared.Refusal.{Refusal}
 use Rattle.refusal.specs.Numbers.{number_of, refusal_of}
 
@@ -12,6 +12,9 @@ module _ {T : Type 0} (a : Result T Refusal) where
 
   pub refused : (r : Refusal) → a ≡ Err r → refusal_of a ≡ 0 → ⊥
   refused r e z = number-above r (sym (ap refusal_of e) ∙ z)
+
+  pub number-told : (r : Refusal) (n : ℕ) → a ≡ Err r → refusal_of a ≡ n → number_of r ≡ n
+  number-told r n e f = sym (ap refusal_of e) ∙ f
 
   -- a caller passes the refusal on
   pub passed_on : {U : Type 0} (b : Result U Refusal) (r : Refusal) → a ≡ Err r → b ≡ Err r → refusal_of b ≡ refusal_of a

@@ -6,45 +6,52 @@ ghost use Rattle.meaning.specs.Lent.{Index};
 ghost use Rattle.meaning.specs.Refusals.{lowest};
 ghost use Rattle.meaning.specs.CallRefusals.{starts_short, work_short};
 ghost use Rattle.meaning.specs.Entries.{order_conditions, search_refusal, page_refusal};
-ghost use Rattle.index.specs.Slices.{lent};
+ghost use Rattle.index.specs.IndexOf.{index_of};
 ghost use Rattle.refusal.specs.Numbers.{refusal_of};
-ghost use Rattle.order_check.specs.Lends.{work, QueryLent};
+ghost use Rattle.order_check.specs.Lends.{work, work_of, QueryLent};
 
+use index::lent::Lent;
 use refusal::Refusal;
 
+// The lengths of the work buffers: node states, two phrase buffers, the range buffer.
+#[derive(Clone, Copy)]
+pub struct Work {
+    pub states: usize,
+    pub starts: usize,
+    pub other_starts: usize,
+    pub ranges: usize,
+}
+
 // The first of the refusals 1 to 10 whose condition holds.
-pub fn check_order(
-    max_doc: u32,
-    fields: &[u32],
-    leaves: &[u32],
-    postings: &[u32],
-    positions: &[u32],
-    norms: &[u8],
-    live: &[u64],
-    columns: &[u32],
-    values: &[u32],
-    q: &[u32],
-) -> Result<(), Refusal>
-    ensures { refusal_of result ≡ lowest (order_conditions (lent max_doc fields.now leaves.now postings.now positions.now norms.now live.now columns.now values.now) q.now) }
+pub fn check_order(lent: &Lent, query: &[u32]) -> Result<(), Refusal>
+    ensures { refusal_of result ≡ lowest (order_conditions (index_of lent.now) query.now) }
 {
     index_check::check_index(
-        max_doc, fields, leaves, postings, positions, norms, live, columns, values,
+        lent.max_doc,
+        lent.fields,
+        lent.leaves,
+        lent.postings,
+        lent.positions,
+        lent.norms,
+        lent.live,
+        lent.columns,
+        lent.values,
     )?;
-    query_check::check_query(q, fields, leaves, columns)
+    query_check::check_query(query, lent.fields, lent.leaves, lent.columns)
 }
 
 // Whether a phrase buffer is too short for the query.
 pub fn starts_short(
     leaves: &[u32],
     postings: &[u32],
-    q: &[u32],
+    query: &[u32],
     starts: usize,
     other_starts: usize,
 ) -> bool
-    requires { (ix : Index) × (n : ℕ) × QueryLent ix n leaves.now postings.now q.now }
-    ensures { (ix : Index) (n : ℕ) → QueryLent ix n leaves.now postings.now q.now → result ≡ starts_short ix q.now (work 0 starts other_starts 0) }
+    requires { (ix : Index) × (n : ℕ) × QueryLent ix n leaves.now postings.now query.now }
+    ensures { (ix : Index) (n : ℕ) → QueryLent ix n leaves.now postings.now query.now → result ≡ starts_short ix query.now (work 0 starts other_starts 0) }
 {
-    let needed = query_check::buffers::starts_needed(q, leaves, postings) as usize;
+    let needed = query_check::buffers::starts_needed(query, leaves, postings) as usize;
     if starts < needed {
         return true;
     }
@@ -52,68 +59,37 @@ pub fn starts_short(
 }
 
 // Whether a work buffer is too short for the query.
-pub fn work_short(
-    max_doc: u32,
-    leaves: &[u32],
-    postings: &[u32],
-    q: &[u32],
-    states: usize,
-    starts: usize,
-    other_starts: usize,
-    ranges: usize,
-) -> bool
-    requires { (ix : Index) × QueryLent ix max_doc leaves.now postings.now q.now }
-    ensures { (ix : Index) → QueryLent ix max_doc leaves.now postings.now q.now → result ≡ work_short ix q.now (work states starts other_starts ranges) }
+pub fn work_short(max_doc: u32, leaves: &[u32], postings: &[u32], query: &[u32], work: Work) -> bool
+    requires { (ix : Index) × QueryLent ix max_doc leaves.now postings.now query.now }
+    ensures { (ix : Index) → QueryLent ix max_doc leaves.now postings.now query.now → result ≡ work_short ix query.now (work_of work) }
 {
-    if (states as u64) < query_check::buffers::states_needed(q) {
+    if (work.states as u64) < query_check::buffers::states_needed(query) {
         return true;
     }
-    if starts_short(leaves, postings, q, starts, other_starts) {
+    if starts_short(leaves, postings, query, work.starts, work.other_starts) {
         return true;
     }
-    (ranges as u64) < query_check::buffers::ranges_needed(max_doc, q)
+    (work.ranges as u64) < query_check::buffers::ranges_needed(max_doc, query)
 }
 
 // The first of the refusals 1 to 12 whose condition holds.
 pub fn search_refusal(
-    max_doc: u32,
-    fields: &[u32],
-    leaves: &[u32],
-    postings: &[u32],
-    positions: &[u32],
-    norms: &[u8],
-    live: &[u64],
-    columns: &[u32],
-    values: &[u32],
-    q: &[u32],
+    lent: &Lent,
+    query: &[u32],
     k: u32,
-    states: usize,
-    starts: usize,
-    other_starts: usize,
-    ranges: usize,
+    work: Work,
     places: usize,
 ) -> Result<(), Refusal>
-    ensures { refusal_of result ≡ search_refusal (lent max_doc fields.now leaves.now postings.now positions.now norms.now live.now columns.now values.now) q.now k (work states starts other_starts ranges) places }
+    ensures { refusal_of result ≡ search_refusal (index_of lent.now) query.now k (work_of work) places }
 {
-    check_order(
-        max_doc, fields, leaves, postings, positions, norms, live, columns, values, q,
-    )?;
+    check_order(lent, query)?;
     if k < 1 {
         return Err(Refusal::Hits);
     }
     if 1024 < k {
         return Err(Refusal::Hits);
     }
-    if work_short(
-        max_doc,
-        leaves,
-        postings,
-        q,
-        states,
-        starts,
-        other_starts,
-        ranges,
-    ) {
+    if work_short(lent.max_doc, lent.leaves, lent.postings, query, work) {
         return Err(Refusal::Buffers);
     }
     if places < k as usize {
@@ -124,45 +100,23 @@ pub fn search_refusal(
 
 // The first of the refusals 1 to 10, 12 and 13 whose condition holds.
 pub fn page_refusal(
-    max_doc: u32,
-    fields: &[u32],
-    leaves: &[u32],
-    postings: &[u32],
-    positions: &[u32],
-    norms: &[u8],
-    live: &[u64],
-    columns: &[u32],
-    values: &[u32],
-    q: &[u32],
+    lent: &Lent,
+    query: &[u32],
     target: u32,
-    states: usize,
-    starts: usize,
-    other_starts: usize,
-    ranges: usize,
+    work: Work,
     documents: usize,
     scores: usize,
 ) -> Result<(), Refusal>
-    ensures { refusal_of result ≡ page_refusal (lent max_doc fields.now leaves.now postings.now positions.now norms.now live.now columns.now values.now) q.now target (work states starts other_starts ranges) documents scores }
+    ensures { refusal_of result ≡ page_refusal (index_of lent.now) query.now target (work_of work) documents scores }
 {
-    check_order(
-        max_doc, fields, leaves, postings, positions, norms, live, columns, values, q,
-    )?;
-    if work_short(
-        max_doc,
-        leaves,
-        postings,
-        q,
-        states,
-        starts,
-        other_starts,
-        ranges,
-    ) {
+    check_order(lent, query)?;
+    if work_short(lent.max_doc, lent.leaves, lent.postings, query, work) {
         return Err(Refusal::Buffers);
     }
     if documents != scores {
         return Err(Refusal::Buffers);
     }
-    if max_doc < target {
+    if lent.max_doc < target {
         return Err(Refusal::Target);
     }
     Ok(())

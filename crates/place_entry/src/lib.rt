@@ -13,6 +13,7 @@ ghost use Rattle.place_entry.specs.Answers.{placed_numbers};
 ghost use Rattle.place_entry.specs.Runs.{RunOk, PlaceLent};
 
 use index::leaves::leaf_at;
+use index::lent::Lent;
 use index::postings::{posting_document, posting_frequency, posting_index};
 use index::wide;
 use run::lower;
@@ -43,9 +44,18 @@ fn place_refusal(
 ) -> u32
     ensures { result ≡ place_refusal (lent max_doc fields.now leaves.now postings.now positions.now norms.now live.now columns.now values.now) q.now record_number document (work 0 starts other_starts 0) }
 {
-    match order_check::check_order(
-        max_doc, fields, leaves, postings, positions, norms, live, columns, values, q,
-    ) {
+    let lent = Lent {
+        max_doc,
+        fields,
+        leaves,
+        postings,
+        positions,
+        norms,
+        live,
+        columns,
+        values,
+    };
+    match order_check::check_order(&lent, q) {
         Err(refusal) => return refusal.number(),
         Ok(()) => {}
     }

@@ -16,7 +16,12 @@ ghost use Rattle.refusal.specs.Numbers.{refusal_of};
 use refusal::Refusal;
 
 // The first of the refusals 7 to 10 whose condition holds: each pass goes over the whole query before the next.
-pub fn check_query(q: &[u32], fields: &[u32], leaves: &[u32], columns: &[u32]) -> Result<(), Refusal>
+pub fn check_query(
+    q: &[u32],
+    fields: &[u32],
+    leaves: &[u32],
+    columns: &[u32],
+) -> Result<(), Refusal>
     ensures { (ix : Index) → Lends ix fields.now leaves.now columns.now → refusal_of result ≡ lowest ((7 when wrong7 q.now) ∷ (8 when wrong8 ix q.now) ∷ (9 when wrong9 q.now) ∷ (10 when wrong10 ix q.now) ∷ []) }
 {
     if query::shape::wrong_records(q) {

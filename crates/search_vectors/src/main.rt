@@ -4,35 +4,25 @@
 // stands; then the lists' words. Norm bytes stand four to a word, live words as two, the low half first.
 #![tactic(auto)]
 
-use searcher::page::Paged;
-use searcher::search::Searched;
+use index::lent::Lent;
 use std::io;
 use std::io::Write;
 use std::rt::Files;
 use vectors::file::{bytes_at, first, list};
-use vectors::lists::Index;
 use weight::NODE_STATE_WORDS;
 
 // The most places that a page has.
 const PLACES: usize = 128;
 
 // The hits, in buffers that hold rubbish before.
-fn search(out: &mut impl Write, index: Index, query: &[u32], k: u32, t: u32) -> io::Result<()> {
+fn search(out: &mut impl Write, index: Lent, query: &[u32], k: u32, t: u32) -> io::Result<()> {
     let mut states = [0xdead_beefu32; 256 * NODE_STATE_WORDS];
     let mut starts = [7i32; 64];
     let mut other_starts = [-7i32; 64];
     let mut ranges = [0xdead_beefu32; 1024];
     let mut hits = [-1i64; 1024];
     let searched = searcher::search::search(
-        index.max_doc,
-        index.fields,
-        index.leaves,
-        index.postings,
-        index.positions,
-        index.norms,
-        index.live,
-        index.columns,
-        index.values,
+        &index,
         query,
         k,
         t,
@@ -43,15 +33,15 @@ fn search(out: &mut impl Write, index: Index, query: &[u32], k: u32, t: u32) -> 
         &mut hits,
     );
     match searched {
-        Searched::Refused(number) => writeln!(out, "refused {number}"),
-        Searched::Found(top) => vectors::print_hits(out, top.count, top.mark, &hits, top.held),
+        Err(refusal) => writeln!(out, "refused {refusal}"),
+        Ok(top) => vectors::print_hits(out, top.count, top.mark, &hits, top.held),
     }
 }
 
 // A page into the lent places, for which the work buffers hold rubbish before.
 fn page(
     out: &mut impl Write,
-    index: Index,
+    index: Lent,
     query: &[u32],
     target: u32,
     documents: &mut [u32],
@@ -62,15 +52,7 @@ fn page(
     let mut other_starts = [7i32; 64];
     let mut ranges = [0xdead_beefu32; 1024];
     let paged = searcher::page::page(
-        index.max_doc,
-        index.fields,
-        index.leaves,
-        index.postings,
-        index.positions,
-        index.norms,
-        index.live,
-        index.columns,
-        index.values,
+        &index,
         query,
         target,
         &mut states,
@@ -81,8 +63,8 @@ fn page(
         scores,
     );
     match paged {
-        Paged::Refused(number) => writeln!(out, "refused {number}"),
-        Paged::Given(page) => vectors::print_page(out, documents, scores, page.given, page.next),
+        Err(refusal) => writeln!(out, "refused {refusal}"),
+        Ok(page) => vectors::print_page(out, documents, scores, page.given, page.next),
     }
 }
 
@@ -104,7 +86,7 @@ fn print_case(out: &mut impl Write, file: &[u32], bytes: &[u8], case: [u32; 14])
         query,
     ] = case;
     let mut longs = [0u64; 16];
-    let index = Index {
+    let index = Lent {
         max_doc,
         fields: list(file, fields),
         leaves: list(file, leaves),

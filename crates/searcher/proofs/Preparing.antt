@@ -16,7 +16,8 @@ use Rattle.meaning.specs.Hits.{hits}
 use Rattle.meaning.specs.Pages.{page}
 use Rattle.meaning.specs.Entries.{written, page_of}
 use Rattle.meaning.specs.CallRefusals.{Work, work_short}
-use Rattle.index.specs.Slices as Slices
+use Rattle.index.specs.declared.lent.Lent.{Lent}
+use Rattle.index.specs.IndexOf.{index_of}
 use Rattle.collector.specs.declared.TopDocs.{TopDocs}
 use Rattle.collector.specs.Collected.{answer}
 use Rattle.weight.specs.Measured.{Asks, Columns}
@@ -52,18 +53,18 @@ answer-full ix q k t heap heap' r d = subst (λ (l : List ScoreDoc). (r ≡ answ
 pub page-full : (ix : Index) (q : List ℕ) (target : ℕ) (docs bits docs' bits' : List ℕ) (r : Listed) → PageIs (page target (length docs) (live_scored ix (tree_of ix q))) docs bits r docs' bits' → PageIs (page_of ix q target (length docs)) docs bits r docs' bits'
 page-full ix q target docs bits docs' bits' r d = subst (λ (l : List ScoreDoc). PageIs (page target (length docs) l) docs bits r docs' bits') (walk-is-full ix q) d
 
-module _ (n : ℕ) (fields leaves postings positions norms live columns values q : List ℕ) where
+module _ (l : Lent) (q : List ℕ) where
   abbrev ix : Index
-  ix = Slices.lent n fields leaves postings positions norms live columns values
+  ix = index_of l
 
-  pub leaf-lent : Asks ix q → LeafLent ix n fields leaves
+  pub leaf-lent : Asks ix q → LeafLent ix l.max_doc l.fields.now l.leaves.now
   leaf-lent a = record { field-lent = record { accepted = a.accepted; documents = refl; fields-are = refl }; leaves-are = refl }
 
-  pub columns-lent : Columns ix n columns values
+  pub columns-lent : Columns ix l.max_doc l.columns.now l.values.now
   columns-lent = record { documents = refl; columns-are = refl; values-are = refl }
 
   -- what the two passes give is what a bulk scorer asks for
-  pub root-held : (w : Work) → Asks ix q → work_short ix q w ≡ false → (table : List Float) → FieldTables ix q table → (ranges states : List ℕ) (r : ℕ) → Placed ix ranges (tree_of ix q) 16 0 r states → RootHeld (lent n postings positions ranges) norms live table ix (min w.starts w.other_starts) (tree_of ix q) 16 0 (take r states)
+  pub root-held : (w : Work) → Asks ix q → work_short ix q w ≡ false → (table : List Float) → FieldTables ix q table → (ranges states : List ℕ) (r : ℕ) → Placed ix ranges (tree_of ix q) 16 0 r states → RootHeld (lent l.max_doc l.postings.now l.positions.now ranges) l.norms.now l.live.now table ix (min w.starts w.other_starts) (tree_of ix q) 16 0 (take r states)
   root-held w a e table t ranges states r p = record {
     lends = record { accepted = a.accepted; documents = refl; postings-are = refl; positions-are = refl };
     norms-are = refl;
@@ -77,7 +78,7 @@ module _ (n : ℕ) (fields leaves postings positions norms live columns values q
   }
 
   -- and what the walk asks for
-  pub walk-held : (w : Work) → Asks ix q → work_short ix q w ≡ false → (table : List Float) → FieldTables ix q table → (ranges states : List ℕ) (r : ℕ) → Placed ix ranges (tree_of ix q) 16 0 r states → (from : ℕ) → PageHeld (lent n postings positions ranges) norms live table ix (min w.starts w.other_starts) (tree_of ix q) 16 0 (take r states) from
+  pub walk-held : (w : Work) → Asks ix q → work_short ix q w ≡ false → (table : List Float) → FieldTables ix q table → (ranges states : List ℕ) (r : ℕ) → Placed ix ranges (tree_of ix q) 16 0 r states → (from : ℕ) → PageHeld (lent l.max_doc l.postings.now l.positions.now ranges) l.norms.now l.live.now table ix (min w.starts w.other_starts) (tree_of ix q) 16 0 (take r states) from
   walk-held w a e table t ranges states r p from =
       let H = root-held w a e table t ranges states r p in
       record { lends = H.lends; norms-are = H.norms-are; live-are = H.live-are; scorable = H.scorable; ok = ok-mono ix ranges (tree_of ix q) 16 0 (take r states) 0 from (omega arith) (placed-ok ix ranges (tree_of ix q) 16 0 r states p) }

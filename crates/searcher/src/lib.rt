@@ -4,3 +4,18 @@
 pub mod length;
 pub mod page;
 pub mod search;
+
+ghost use Rattle.std.specs.Prelude.{◌≡◌};
+ghost use Rattle.searcher.specs.Answers.{used};
+
+use refusal::Refusal;
+
+// How many of n records a call used: none where it was refused.
+pub fn used<T>(answer: &Result<T, Refusal>, n: usize) -> usize
+    ensures { result ≡ used answer.now n }
+{
+    match answer {
+        Ok(_) => n,
+        Err(_) => 0,
+    }
+}

@@ -7,13 +7,13 @@ pub bounds-words-1 : goal.bounds-words-1
 bounds-words-1 c =
     let a = c.args in
     let p = c.requires in
-    omega (arith, stands-long p.0 a.q.now a.ranges.now a.words.now p.1 (p.2.standing c.if-resume.true))
+    omega (arith, stands-long p.0 a.query.now a.ranges.now a.words.now p.1 (p.2.standing c.if-resume.true))
 
 pub returns-then-resume : goal.returns-then-resume
 returns-then-resume c =
     let a = c.args in
     record {
-      value = λ ix from t. let on = t.standing c.if-resume.true in (c.wide.ensures ∙ stands-size ix a.q.now a.ranges.now a.words.now from on, on);
+      value = λ ix from t. let on = t.standing c.if-resume.true in (c.wide.ensures ∙ stands-size ix a.query.now a.ranges.now a.words.now from on, on);
       words_len_unchanged = search rules;
     }
 
@@ -27,6 +27,6 @@ returns c =
     let a = c.args in
     let b = c.build in
     record {
-      value = λ ix from t. placed-stands ix a.q.now b.new.ranges b.new.states from b.result (b.ensures.placed ix t.asks t.leaves-lent t.columns-lent);
+      value = λ ix from t. placed-stands ix a.query.now b.new.ranges b.new.states from b.result (b.ensures.placed ix t.asks t.leaves-lent t.columns-lent);
       words_len_unchanged = b.ensures.states_len_unchanged;
     }

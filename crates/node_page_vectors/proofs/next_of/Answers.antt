@@ -3,10 +3,10 @@ use Rattle.std.proofs.Common.{refl}
 use Rattle.node_page_vectors.specs.Next.{next_of}
 use Rattle.node_page_vectors.proofs.next_of.Goals as goal
 
-pub returns-in-Refused : goal.returns-in-Refused
+pub returns-in-Err : goal.returns-in-Err
 unfolding next_of
-returns-in-Refused c = rw c.in-Refused.is refl
+returns-in-Err c = rw c.in-Err.is refl
 
-pub returns-in-Given : goal.returns-in-Given
+pub returns-in-Ok : goal.returns-in-Ok
 unfolding next_of
-returns-in-Given c = rw c.in-Given.is refl
+returns-in-Ok c = rw c.in-Ok.is refl

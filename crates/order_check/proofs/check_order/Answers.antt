@@ -1,6 +1,6 @@
 -- The index's refusal first, else the query's.
 use Rattle.std.proofs.Common.{◌≡◌, ◌∙◌, refl, Err, Ok, rules}
-use Rattle.index.specs.Slices.{lent}
+use Rattle.index.specs.IndexOf.{index_of}
 use Rattle.order_check.proofs.Answered.{answered, refused, passed_on}
 use Rattle.order_check.proofs.Refusing.{order-index, order-query}
 use Rattle.order_check.proofs.check_order.Goals as goal
@@ -11,11 +11,11 @@ returns-in_err-check_index c =
     let r = c.in_err-check_index.field-0.0 in
     let e : c.check_index.result ≡ Err r = search rules in
     let f : c.from_residual.result ≡ Err r = search rules in
-    passed_on _ _ r e f ∙ order-index (lent a.max_doc a.fields.now a.leaves.now a.postings.now a.positions.now a.norms.now a.live.now a.columns.now a.values.now) a.q.now _ c.check_index.ensures (refused _ r e)
+    passed_on _ _ r e f ∙ order-index (index_of a.lent.now) a.query.now _ c.check_index.ensures (refused _ r e)
 
 pub returns : goal.returns
 returns c =
     let a = c.args in
-    let ix = lent a.max_doc a.fields.now a.leaves.now a.postings.now a.positions.now a.norms.now a.live.now a.columns.now a.values.now in
+    let ix = index_of a.lent.now in
     let e : c.check_index.result ≡ Ok c.in_ok-check_index.field-0 = search rules in
-    order-query ix a.q.now _ c.check_index.ensures (answered _ c.in_ok-check_index.field-0 e) _ (c.check_query.ensures ix (record { fields-are = refl; leaves-are = refl; columns-are = refl }))
+    order-query ix a.query.now _ c.check_index.ensures (answered _ c.in_ok-check_index.field-0 e) _ (c.check_query.ensures ix (record { fields-are = refl; leaves-are = refl; columns-are = refl }))

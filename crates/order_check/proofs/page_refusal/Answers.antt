@@ -1,7 +1,7 @@
 -- The order's refusal first, then 12, then 13.
 use Rattle.std.proofs.Common.{◌≡◌, ◌∙◌, refl, Err, Ok, rules, arith}
-use Rattle.index.specs.Slices.{lent}
-use Rattle.order_check.specs.Lends.{work, QueryLent}
+use Rattle.index.specs.IndexOf.{index_of}
+use Rattle.order_check.specs.Lends.{work_of, QueryLent}
 use Rattle.order_check.proofs.Answered.{answered, refused, passed_on}
 use Rattle.order_check.proofs.Refusing.{order-checked}
 use Rattle.order_check.proofs.CallConditions.{page-order, page-short, page-unequal, page-above, page-accepted}
@@ -13,44 +13,44 @@ returns-in_err-check_order c =
     let r = c.in_err-check_order.field-0.0 in
     let e : c.check_order.result ≡ Err r = search rules in
     let f : c.from_residual.result ≡ Err r = search rules in
-    passed_on _ _ r e f ∙ page-order (lent a.max_doc a.fields.now a.leaves.now a.postings.now a.positions.now a.norms.now a.live.now a.columns.now a.values.now) a.q.now a.target (work a.states a.starts a.other_starts a.ranges) a.documents a.scores _ c.check_order.ensures (refused _ r e)
+    passed_on _ _ r e f ∙ page-order (index_of a.lent.now) a.query.now a.target (work_of a.work) a.documents a.scores _ c.check_order.ensures (refused _ r e)
 
 pub work_short-requires : goal.work_short-requires
 work_short-requires c =
     let a = c.args in
-    let ix = lent a.max_doc a.fields.now a.leaves.now a.postings.now a.positions.now a.norms.now a.live.now a.columns.now a.values.now in
+    let ix = index_of a.lent.now in
     let e : c.check_order.result ≡ Ok c.in_ok-check_order.field-0 = search rules in
-    let h : QueryLent ix a.max_doc a.leaves.now a.postings.now a.q.now = record { asks = order-checked ix a.q.now _ c.check_order.ensures (answered _ c.in_ok-check_order.field-0 e); documents = refl; leaves-are = refl; postings-are = refl } in
+    let h : QueryLent ix a.lent.now.max_doc a.lent.now.leaves.now a.lent.now.postings.now a.query.now = record { asks = order-checked ix a.query.now _ c.check_order.ensures (answered _ c.in_ok-check_order.field-0 e); documents = refl; leaves-are = refl; postings-are = refl } in
     (ix, h)
 
 pub returns-then-work_short : goal.returns-then-work_short
 returns-then-work_short c =
     let a = c.args in
-    let ix = lent a.max_doc a.fields.now a.leaves.now a.postings.now a.positions.now a.norms.now a.live.now a.columns.now a.values.now in
+    let ix = index_of a.lent.now in
     let e : c.check_order.result ≡ Ok c.in_ok-check_order.field-0 = search rules in
-    let h : QueryLent ix a.max_doc a.leaves.now a.postings.now a.q.now = record { asks = order-checked ix a.q.now _ c.check_order.ensures (answered _ c.in_ok-check_order.field-0 e); documents = refl; leaves-are = refl; postings-are = refl } in
-    page-short ix a.q.now a.target (work a.states a.starts a.other_starts a.ranges) a.documents a.scores _ c.check_order.ensures (answered _ c.in_ok-check_order.field-0 e) _ (c.work_short.ensures ix h) c.if-work_short.true
+    let h : QueryLent ix a.lent.now.max_doc a.lent.now.leaves.now a.lent.now.postings.now a.query.now = record { asks = order-checked ix a.query.now _ c.check_order.ensures (answered _ c.in_ok-check_order.field-0 e); documents = refl; leaves-are = refl; postings-are = refl } in
+    page-short ix a.query.now a.target (work_of a.work) a.documents a.scores _ c.check_order.ensures (answered _ c.in_ok-check_order.field-0 e) _ (c.work_short.ensures ix h) c.if-work_short.true
 
 pub returns-then-documents-scores : goal.returns-then-documents-scores
 returns-then-documents-scores c =
     let a = c.args in
-    let ix = lent a.max_doc a.fields.now a.leaves.now a.postings.now a.positions.now a.norms.now a.live.now a.columns.now a.values.now in
+    let ix = index_of a.lent.now in
     let e : c.check_order.result ≡ Ok c.in_ok-check_order.field-0 = search rules in
-    let h : QueryLent ix a.max_doc a.leaves.now a.postings.now a.q.now = record { asks = order-checked ix a.q.now _ c.check_order.ensures (answered _ c.in_ok-check_order.field-0 e); documents = refl; leaves-are = refl; postings-are = refl } in
-    page-unequal ix a.q.now a.target (work a.states a.starts a.other_starts a.ranges) a.documents a.scores _ c.check_order.ensures (answered _ c.in_ok-check_order.field-0 e) _ (c.work_short.ensures ix h) c.if-work_short.false c.if-documents-scores.true
+    let h : QueryLent ix a.lent.now.max_doc a.lent.now.leaves.now a.lent.now.postings.now a.query.now = record { asks = order-checked ix a.query.now _ c.check_order.ensures (answered _ c.in_ok-check_order.field-0 e); documents = refl; leaves-are = refl; postings-are = refl } in
+    page-unequal ix a.query.now a.target (work_of a.work) a.documents a.scores _ c.check_order.ensures (answered _ c.in_ok-check_order.field-0 e) _ (c.work_short.ensures ix h) c.if-work_short.false c.if-documents-scores.true
 
-pub returns-then-max_doc-target : goal.returns-then-max_doc-target
-returns-then-max_doc-target c =
+pub returns-then-lent-target : goal.returns-then-lent-target
+returns-then-lent-target c =
     let a = c.args in
-    let ix = lent a.max_doc a.fields.now a.leaves.now a.postings.now a.positions.now a.norms.now a.live.now a.columns.now a.values.now in
+    let ix = index_of a.lent.now in
     let e : c.check_order.result ≡ Ok c.in_ok-check_order.field-0 = search rules in
-    let h : QueryLent ix a.max_doc a.leaves.now a.postings.now a.q.now = record { asks = order-checked ix a.q.now _ c.check_order.ensures (answered _ c.in_ok-check_order.field-0 e); documents = refl; leaves-are = refl; postings-are = refl } in
-    page-above ix a.q.now a.target (work a.states a.starts a.other_starts a.ranges) a.documents a.scores _ c.check_order.ensures (answered _ c.in_ok-check_order.field-0 e) _ (c.work_short.ensures ix h) c.if-work_short.false c.if-documents-scores.false (omega (arith, c.if-max_doc-target.true))
+    let h : QueryLent ix a.lent.now.max_doc a.lent.now.leaves.now a.lent.now.postings.now a.query.now = record { asks = order-checked ix a.query.now _ c.check_order.ensures (answered _ c.in_ok-check_order.field-0 e); documents = refl; leaves-are = refl; postings-are = refl } in
+    page-above ix a.query.now a.target (work_of a.work) a.documents a.scores _ c.check_order.ensures (answered _ c.in_ok-check_order.field-0 e) _ (c.work_short.ensures ix h) c.if-work_short.false c.if-documents-scores.false (omega (arith, c.if-lent-target.true))
 
 pub returns : goal.returns
 returns c =
     let a = c.args in
-    let ix = lent a.max_doc a.fields.now a.leaves.now a.postings.now a.positions.now a.norms.now a.live.now a.columns.now a.values.now in
+    let ix = index_of a.lent.now in
     let e : c.check_order.result ≡ Ok c.in_ok-check_order.field-0 = search rules in
-    let h : QueryLent ix a.max_doc a.leaves.now a.postings.now a.q.now = record { asks = order-checked ix a.q.now _ c.check_order.ensures (answered _ c.in_ok-check_order.field-0 e); documents = refl; leaves-are = refl; postings-are = refl } in
-    page-accepted ix a.q.now a.target (work a.states a.starts a.other_starts a.ranges) a.documents a.scores _ c.check_order.ensures (answered _ c.in_ok-check_order.field-0 e) _ (c.work_short.ensures ix h) c.if-work_short.false c.if-documents-scores.false (omega (arith, c.if-max_doc-target.false))
+    let h : QueryLent ix a.lent.now.max_doc a.lent.now.leaves.now a.lent.now.postings.now a.query.now = record { asks = order-checked ix a.query.now _ c.check_order.ensures (answered _ c.in_ok-check_order.field-0 e); documents = refl; leaves-are = refl; postings-are = refl } in
+    page-accepted ix a.query.now a.target (work_of a.work) a.documents a.scores _ c.check_order.ensures (answered _ c.in_ok-check_order.field-0 e) _ (c.work_short.ensures ix h) c.if-work_short.false c.if-documents-scores.false (omega (arith, c.if-lent-target.false))

@@ -1,7 +1,7 @@
 -- The order's refusal first, then 11, then 12.
 use Rattle.std.proofs.Common.{◌≡◌, ◌∙◌, refl, Err, Ok, rules}
-use Rattle.index.specs.Slices.{lent}
-use Rattle.order_check.specs.Lends.{work, QueryLent}
+use Rattle.index.specs.IndexOf.{index_of}
+use Rattle.order_check.specs.Lends.{work_of, QueryLent}
 use Rattle.order_check.proofs.Answered.{answered, refused, passed_on}
 use Rattle.order_check.proofs.Refusing.{order-checked}
 use Rattle.order_check.proofs.CallConditions.{search-order, search-no-hits, search-many-hits, search-short, search-few-places, search-accepted}
@@ -13,50 +13,50 @@ returns-in_err-check_order c =
     let r = c.in_err-check_order.field-0.0 in
     let e : c.check_order.result ≡ Err r = search rules in
     let f : c.from_residual.result ≡ Err r = search rules in
-    passed_on _ _ r e f ∙ search-order (lent a.max_doc a.fields.now a.leaves.now a.postings.now a.positions.now a.norms.now a.live.now a.columns.now a.values.now) a.q.now a.k (work a.states a.starts a.other_starts a.ranges) a.places _ c.check_order.ensures (refused _ r e)
+    passed_on _ _ r e f ∙ search-order (index_of a.lent.now) a.query.now a.k (work_of a.work) a.places _ c.check_order.ensures (refused _ r e)
 
 pub returns-then-k-lt1 : goal.returns-then-k-lt1
 returns-then-k-lt1 c =
     let a = c.args in
-    let ix = lent a.max_doc a.fields.now a.leaves.now a.postings.now a.positions.now a.norms.now a.live.now a.columns.now a.values.now in
+    let ix = index_of a.lent.now in
     let e : c.check_order.result ≡ Ok c.in_ok-check_order.field-0 = search rules in
-    search-no-hits ix a.q.now a.k (work a.states a.starts a.other_starts a.ranges) a.places _ c.check_order.ensures (answered _ c.in_ok-check_order.field-0 e) c.if-k-lt1.true
+    search-no-hits ix a.query.now a.k (work_of a.work) a.places _ c.check_order.ensures (answered _ c.in_ok-check_order.field-0 e) c.if-k-lt1.true
 
 pub returns-then-k-gt1024 : goal.returns-then-k-gt1024
 returns-then-k-gt1024 c =
     let a = c.args in
-    let ix = lent a.max_doc a.fields.now a.leaves.now a.postings.now a.positions.now a.norms.now a.live.now a.columns.now a.values.now in
+    let ix = index_of a.lent.now in
     let e : c.check_order.result ≡ Ok c.in_ok-check_order.field-0 = search rules in
-    search-many-hits ix a.q.now a.k (work a.states a.starts a.other_starts a.ranges) a.places _ c.check_order.ensures (answered _ c.in_ok-check_order.field-0 e) c.if-k-lt1.false c.if-k-gt1024.true
+    search-many-hits ix a.query.now a.k (work_of a.work) a.places _ c.check_order.ensures (answered _ c.in_ok-check_order.field-0 e) c.if-k-lt1.false c.if-k-gt1024.true
 
 pub work_short-requires : goal.work_short-requires
 work_short-requires c =
     let a = c.args in
-    let ix = lent a.max_doc a.fields.now a.leaves.now a.postings.now a.positions.now a.norms.now a.live.now a.columns.now a.values.now in
+    let ix = index_of a.lent.now in
     let e : c.check_order.result ≡ Ok c.in_ok-check_order.field-0 = search rules in
-    let h : QueryLent ix a.max_doc a.leaves.now a.postings.now a.q.now = record { asks = order-checked ix a.q.now _ c.check_order.ensures (answered _ c.in_ok-check_order.field-0 e); documents = refl; leaves-are = refl; postings-are = refl } in
+    let h : QueryLent ix a.lent.now.max_doc a.lent.now.leaves.now a.lent.now.postings.now a.query.now = record { asks = order-checked ix a.query.now _ c.check_order.ensures (answered _ c.in_ok-check_order.field-0 e); documents = refl; leaves-are = refl; postings-are = refl } in
     (ix, h)
 
 pub returns-then-work_short : goal.returns-then-work_short
 returns-then-work_short c =
     let a = c.args in
-    let ix = lent a.max_doc a.fields.now a.leaves.now a.postings.now a.positions.now a.norms.now a.live.now a.columns.now a.values.now in
+    let ix = index_of a.lent.now in
     let e : c.check_order.result ≡ Ok c.in_ok-check_order.field-0 = search rules in
-    let h : QueryLent ix a.max_doc a.leaves.now a.postings.now a.q.now = record { asks = order-checked ix a.q.now _ c.check_order.ensures (answered _ c.in_ok-check_order.field-0 e); documents = refl; leaves-are = refl; postings-are = refl } in
-    search-short ix a.q.now a.k (work a.states a.starts a.other_starts a.ranges) a.places _ c.check_order.ensures (answered _ c.in_ok-check_order.field-0 e) c.if-k-lt1.false c.if-k-gt1024.false _ (c.work_short.ensures ix h) c.if-work_short.true
+    let h : QueryLent ix a.lent.now.max_doc a.lent.now.leaves.now a.lent.now.postings.now a.query.now = record { asks = order-checked ix a.query.now _ c.check_order.ensures (answered _ c.in_ok-check_order.field-0 e); documents = refl; leaves-are = refl; postings-are = refl } in
+    search-short ix a.query.now a.k (work_of a.work) a.places _ c.check_order.ensures (answered _ c.in_ok-check_order.field-0 e) c.if-k-lt1.false c.if-k-gt1024.false _ (c.work_short.ensures ix h) c.if-work_short.true
 
 pub returns-then-places-k : goal.returns-then-places-k
 returns-then-places-k c =
     let a = c.args in
-    let ix = lent a.max_doc a.fields.now a.leaves.now a.postings.now a.positions.now a.norms.now a.live.now a.columns.now a.values.now in
+    let ix = index_of a.lent.now in
     let e : c.check_order.result ≡ Ok c.in_ok-check_order.field-0 = search rules in
-    let h : QueryLent ix a.max_doc a.leaves.now a.postings.now a.q.now = record { asks = order-checked ix a.q.now _ c.check_order.ensures (answered _ c.in_ok-check_order.field-0 e); documents = refl; leaves-are = refl; postings-are = refl } in
-    search-few-places ix a.q.now a.k (work a.states a.starts a.other_starts a.ranges) a.places _ c.check_order.ensures (answered _ c.in_ok-check_order.field-0 e) c.if-k-lt1.false c.if-k-gt1024.false _ (c.work_short.ensures ix h) c.if-work_short.false c.if-places-k.true
+    let h : QueryLent ix a.lent.now.max_doc a.lent.now.leaves.now a.lent.now.postings.now a.query.now = record { asks = order-checked ix a.query.now _ c.check_order.ensures (answered _ c.in_ok-check_order.field-0 e); documents = refl; leaves-are = refl; postings-are = refl } in
+    search-few-places ix a.query.now a.k (work_of a.work) a.places _ c.check_order.ensures (answered _ c.in_ok-check_order.field-0 e) c.if-k-lt1.false c.if-k-gt1024.false _ (c.work_short.ensures ix h) c.if-work_short.false c.if-places-k.true
 
 pub returns : goal.returns
 returns c =
     let a = c.args in
-    let ix = lent a.max_doc a.fields.now a.leaves.now a.postings.now a.positions.now a.norms.now a.live.now a.columns.now a.values.now in
+    let ix = index_of a.lent.now in
     let e : c.check_order.result ≡ Ok c.in_ok-check_order.field-0 = search rules in
-    let h : QueryLent ix a.max_doc a.leaves.now a.postings.now a.q.now = record { asks = order-checked ix a.q.now _ c.check_order.ensures (answered _ c.in_ok-check_order.field-0 e); documents = refl; leaves-are = refl; postings-are = refl } in
-    search-accepted ix a.q.now a.k (work a.states a.starts a.other_starts a.ranges) a.places _ c.check_order.ensures (answered _ c.in_ok-check_order.field-0 e) c.if-k-lt1.false c.if-k-gt1024.false _ (c.work_short.ensures ix h) c.if-work_short.false c.if-places-k.false
+    let h : QueryLent ix a.lent.now.max_doc a.lent.now.leaves.now a.lent.now.postings.now a.query.now = record { asks = order-checked ix a.query.now _ c.check_order.ensures (answered _ c.in_ok-check_order.field-0 e); documents = refl; leaves-are = refl; postings-are = refl } in
+    search-accepted ix a.query.now a.k (work_of a.work) a.places _ c.check_order.ensures (answered _ c.in_ok-check_order.field-0 e) c.if-k-lt1.false c.if-k-gt1024.false _ (c.work_short.ensures ix h) c.if-work_short.false c.if-places-k.false

@@ -1,30 +1,30 @@
 -- The text of what Search answers with the program's buffers.
 use Rattle.std.proofs.Common.{refl, sym}
 use lib.Seq.{length-take-le}
-use Rattle.vectors.specs.Lists.{lent_lists}
+use Rattle.index.specs.IndexOf.{index_of}
 use Rattle.hits_text.proofs.Putting.{put_same}
 use Rattle.hits.proofs.Answering.{refused-text, found-text}
 use Rattle.hits.proofs.report.answer.Goals as goal
 
 pub slice_bounds-hits-end : goal.slice_bounds-hits-end
 slice_bounds-hits-end c =
-    let index = lent_lists c.args.index in
-    (found-text index c.args.query.now c.args.k c.args.t _ _ refl refl _ c.in-Found.top _ _ refl c.in-Found.is c.search-found.ensures.result_value c.search-found.ensures.hits_after).few
+    let index = index_of c.args.index in
+    (found-text index c.args.query.now c.args.k c.args.t _ _ refl refl _ c.in-Ok.top _ _ refl c.in-Ok.is c.search-found.ensures.result_value c.search-found.ensures.hits_after).few
 
 pub slice_bounds-put_found-end : goal.slice_bounds-put_found-end
 slice_bounds-put_found-end c =
-    let index = lent_lists c.args.index in
-    let shown = found-text index c.args.query.now c.args.k c.args.t _ _ refl refl _ c.in-Found.top _ _ refl c.in-Found.is c.search-found.ensures.result_value c.search-found.ensures.hits_after in
+    let index = index_of c.args.index in
+    let shown = found-text index c.args.query.now c.args.k c.args.t _ _ refl refl _ c.in-Ok.top _ _ refl c.in-Ok.is c.search-found.ensures.result_value c.search-found.ensures.hits_after in
     sym (length-take-le _ _ shown.few)
 
-pub returns-in-Refused : goal.returns-in-Refused
-returns-in-Refused c =
-    let index = lent_lists c.args.index in
-    let text = refused-text index c.args.query.now c.args.k c.args.t _ _ refl refl _ _ c.in-Refused.is c.search-found.ensures.result_value in
+pub returns-in-Err : goal.returns-in-Err
+returns-in-Err c =
+    let index = index_of c.args.index in
+    let text = refused-text index c.args.query.now c.args.k c.args.t _ _ refl refl _ c.in-Err.refusal _ c.in-Err.is c.number.ensures c.search-found.ensures.result_value in
     put_same c.args.out.now 0 _ _ _ _ text c.put_refused.ensures
 
-pub returns-in-Found : goal.returns-in-Found
-returns-in-Found c =
-    let index = lent_lists c.args.index in
-    let shown = found-text index c.args.query.now c.args.k c.args.t _ _ refl refl _ c.in-Found.top _ _ refl c.in-Found.is c.search-found.ensures.result_value c.search-found.ensures.hits_after in
+pub returns-in-Ok : goal.returns-in-Ok
+returns-in-Ok c =
+    let index = index_of c.args.index in
+    let shown = found-text index c.args.query.now c.args.k c.args.t _ _ refl refl _ c.in-Ok.top _ _ refl c.in-Ok.is c.search-found.ensures.result_value c.search-found.ensures.hits_after in
     put_same c.args.out.now 0 _ _ _ _ shown.text c.put_found.ensures

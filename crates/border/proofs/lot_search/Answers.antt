@@ -1,0 +1,32 @@
+-- One law for each way through it, over the entry's own contract.
+use Rattle.std.proofs.Common.{length}
+use Rattle.index.specs.Slices.{lent}
+use Rattle.order_check.specs.Lends.{work}
+use Rattle.border.proofs.Told.{search-told-short, search-told-refused, search-told-found}
+use Rattle.border.proofs.lot_search.Goals as goal
+
+pub returns-then-answer-lt3 : goal.returns-then-answer-lt3
+returns-then-answer-lt3 c =
+    let a = c.args in
+    let ix = lent a.max_doc a.fields.now a.leaves.now a.postings.now a.positions.now a.norms.now a.live.now a.columns.now a.values.now in
+    let w = work (length a.states.now) (length a.a.now) (length a.b.now) (length a.ranges.now) in
+    let t = search-told-short ix a.q.now a.k a.t w a.hits.now a.answer.now a.states.now a.a.now a.b.now a.ranges.now _ _ c.if-answer-lt3.true c.search_refusal.ensures c.short_answer.ensures in
+    record { value = t.0; hits_after = t.1.0; answer_after = t.1.1.0; kept = t.1.1.1.0; kept_2 = t.1.1.1.1.0; kept_3 = t.1.1.1.1.1.0; kept_4 = t.1.1.1.1.1.1 }
+
+pub returns-in-Err : goal.returns-in-Err
+returns-in-Err c =
+    let a = c.args in
+    let ix = lent a.max_doc a.fields.now a.leaves.now a.postings.now a.positions.now a.norms.now a.live.now a.columns.now a.values.now in
+    let w = work (length a.states.now) (length a.a.now) (length a.b.now) (length a.ranges.now) in
+    let p = c.search in
+    let t = search-told-refused ix a.q.now a.k a.t w a.hits.now _ a.answer.now a.states.now _ a.a.now _ a.b.now _ a.ranges.now _ _ c.in-Err.refusal _ c.if-answer-lt3.false c.in-Err.is c.number.ensures p.ensures.result_value p.ensures.hits_after p.ensures.kept p.ensures.kept_2 p.ensures.kept_3 p.ensures.kept_4 in
+    record { value = t.0; hits_after = t.1.0; answer_after = t.1.1.0; kept = t.1.1.1.0; kept_2 = t.1.1.1.1.0; kept_3 = t.1.1.1.1.1.0; kept_4 = t.1.1.1.1.1.1 }
+
+pub returns-in-Ok : goal.returns-in-Ok
+returns-in-Ok c =
+    let a = c.args in
+    let ix = lent a.max_doc a.fields.now a.leaves.now a.postings.now a.positions.now a.norms.now a.live.now a.columns.now a.values.now in
+    let w = work (length a.states.now) (length a.a.now) (length a.b.now) (length a.ranges.now) in
+    let p = c.search in
+    let t = search-told-found ix a.q.now a.k a.t w a.hits.now _ a.answer.now _ a.states.now _ a.a.now _ a.b.now _ a.ranges.now _ _ _ c.if-answer-lt3.false c.in-Ok.is p.ensures.result_value p.ensures.hits_after c.write_top_docs.ensures p.ensures.kept p.ensures.kept_2 p.ensures.kept_3 p.ensures.kept_4 in
+    record { value = t.0; hits_after = t.1.0; answer_after = t.1.1.0; kept = t.1.1.1.0; kept_2 = t.1.1.1.1.0; kept_3 = t.1.1.1.1.1.0; kept_4 = t.1.1.1.1.1.1 }

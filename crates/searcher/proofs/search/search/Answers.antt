@@ -1,0 +1,56 @@
+-- Refused, or with a place for each of k hits.
+use Rattle.std.proofs.Common.{◌≡◌, Ok, Err, length, refl, rules}
+use Rattle.index.specs.IndexOf.{index_of}
+use Rattle.order_check.specs.Lends.{work}
+use Rattle.order_check.proofs.Answered.{answered, number-told}
+use Rattle.order_check.proofs.CallConditions.{search-lends, hits-front}
+use Rattle.searcher.proofs.Answering.{search-not-refused, search-refused, search-found}
+use Rattle.searcher.proofs.search.search.Goals as goal
+
+pub returns-in_err-search_refusal : goal.returns-in_err-search_refusal
+returns-in_err-search_refusal c =
+    let a = c.args in
+    let w = work (length a.states.now) (length a.starts.now) (length a.other_starts.now) (length a.ranges.now) in
+    let s = c.in_err-search_refusal.field-0.0 in
+    let e : c.search_refusal.result ≡ Err s = search rules in
+    let f : c.from_residual.result ≡ Err s = search rules in
+    let r = search-refused (index_of a.lent.now) a.query.now a.k a.t w a.hits.now s _ f (number-told _ s _ e c.search_refusal.ensures) in
+    record { result_value = r.0; hits_after = r.1; kept = λ h. refl; kept_2 = λ h. refl; kept_3 = λ h. refl; kept_4 = λ h. refl }
+
+pub slice_bounds-heap-end : goal.slice_bounds-heap-end
+slice_bounds-heap-end c =
+    let a = c.args in
+    let w = work (length a.states.now) (length a.starts.now) (length a.other_starts.now) (length a.ranges.now) in
+    let e : c.search_refusal.result ≡ Ok c.in_ok-search_refusal.field-0 = search rules in
+    (search-lends (index_of a.lent.now) a.query.now a.k w (length a.hits.now) _ c.search_refusal.ensures (answered _ c.in_ok-search_refusal.field-0 e)).room
+
+pub slice_bounds-heap-end-2 : goal.slice_bounds-heap-end-2
+slice_bounds-heap-end-2 c =
+    let a = c.args in
+    let w = work (length a.states.now) (length a.starts.now) (length a.other_starts.now) (length a.ranges.now) in
+    let e : c.search_refusal.result ≡ Ok c.in_ok-search_refusal.field-0 = search rules in
+    let l = search-lends (index_of a.lent.now) a.query.now a.k w (length a.hits.now) _ c.search_refusal.ensures (answered _ c.in_ok-search_refusal.field-0 e) in
+    (hits-front (index_of a.lent.now) a.query.now a.k w a.hits.now l).0
+
+pub find-requires : goal.find-requires
+find-requires c =
+    let a = c.args in
+    let w = work (length a.states.now) (length a.starts.now) (length a.other_starts.now) (length a.ranges.now) in
+    let e : c.search_refusal.result ≡ Ok c.in_ok-search_refusal.field-0 = search rules in
+    let l = search-lends (index_of a.lent.now) a.query.now a.k w (length a.hits.now) _ c.search_refusal.ensures (answered _ c.in_ok-search_refusal.field-0 e) in
+    let front = hits-front (index_of a.lent.now) a.query.now a.k w a.hits.now l in
+    record { heap_nonzero = (front.1, front.2); asks = (l.asks, l.long) }
+
+pub returns : goal.returns
+returns c =
+    let a = c.args in
+    let ix = index_of a.lent.now in
+    let w = work (length a.states.now) (length a.starts.now) (length a.other_starts.now) (length a.ranges.now) in
+    let e : c.search_refusal.result ≡ Ok c.in_ok-search_refusal.field-0 = search rules in
+    let o = c.search_refusal.ensures in
+    let z = answered _ c.in_ok-search_refusal.field-0 e in
+    let l = search-lends ix a.query.now a.k w (length a.hits.now) _ o z in
+    let f = c.find in
+    let r = search-found ix a.query.now a.k a.t w a.hits.now _ o z l.room f.result f.new.heap (f.ensures.value, f.ensures.heap_after) in
+    let not = search-not-refused ix a.query.now a.k a.t w a.hits.now _ o z in
+    record { result_value = r.0; hits_after = r.1; kept = λ h. absurd (not h); kept_2 = λ h. absurd (not h); kept_3 = λ h. absurd (not h); kept_4 = λ h. absurd (not h) }

@@ -1,2 +1,0 @@
--- What the contracts of programs cite.
-pub mod Lists
