@@ -35,7 +35,7 @@ pub struct Records<'a> {
 const SIZE: u32 = NODE_STATE_WORDS as u32;
 
 // A node's record.
-// Kept: `copy_from_slice` is a call that waits for the words just stored; 1.3 times slower for a buyer's order (measured).
+// Kept: `copy_from_slice` is a call that waits for the words just stored; 1.2 times slower for a buyer's order (measured).
 pub fn put(st: &mut [u32], words: [u32; NODE_STATE_WORDS])
     requires { node_state_words ≤ length st.old }
     ensures { st.new ≡ words ++ drop node_state_words st.old }
