@@ -56,63 +56,6 @@ pub struct Numbers {
     pub positions: usize,
 }
 
-// Token i: out of order, its leaf or document absent, or its position too large.
-fn wrong_token(max_doc: u32, tokens: &[u32], leaf_fields: &[u32], i: usize) -> bool
-    requires { i < token_count tokens.now }
-    ensures { result ≡ wrong_token max_doc leaf_fields.now tokens.now i }
-{
-    let here = token_at(tokens, i);
-    let absent = (wide(here.leaf) >= leaf_fields.len())
-        | (here.document >= max_doc)
-        | (here.position > postings::NO_MORE_DOCS);
-    if i == 0 {
-        return absent;
-    }
-    (here < token_at(tokens, i - 1)) | absent
-}
-
-// Whether a leaf's field has positions.
-fn is_positional(fields: &[u32], leaf_fields: &[u32], leaf: usize) -> bool
-    requires { (leaf < length leaf_fields.now) × (wrong_leaf_field fields.now leaf_fields.now leaf ≡ false) }
-    ensures { result ≡ positional fields.now leaf_fields.now leaf }
-{
-    fields::field_at(fields, wide(leaf_fields[leaf])).positions == 1
-}
-
-// The tokens one after the other, up to the first that is wrong.
-// Kept: with a `for`, over `self`, the loop keeps a count in memory, and the check took 1.16 times as long (measured).
-fn count_tokens(
-    max_doc: u32,
-    fields: &[u32],
-    tokens: &[u32],
-    leaf_fields: &[u32],
-) -> Result<Numbers, Refusal>
-    requires { any_below (length leaf_fields.now) (wrong_leaf_field fields.now leaf_fields.now) ≡ false }
-    ensures wrong { is_err result ≡ any_below (token_count tokens.now) (wrong_token max_doc leaf_fields.now tokens.now) }
-    ensures refusal { IfErr result (λ r. r ≡ Refusal.Tokens) }
-    ensures counts { IfOk result (Counts fields.now leaf_fields.now tokens.now) }
-{
-    let mut postings = 0;
-    let mut positions = 0;
-    let mut i = 0;
-    while i < tokens.len() / 3 {
-        if wrong_token(max_doc, tokens, leaf_fields, i) {
-            return Err(Refusal::Tokens);
-        }
-        if begins_posting(tokens, i) {
-            postings += 1;
-        }
-        if is_positional(fields, leaf_fields, wide(token_at(tokens, i).leaf)) {
-            positions += 1;
-        }
-        i += 1;
-    }
-    Ok(Numbers {
-        postings,
-        positions,
-    })
-}
-
 // N, the field records, the token records, and the field of each leaf.
 #[derive(Clone, Copy)]
 pub struct TokenRecords<'a> {
@@ -123,12 +66,53 @@ pub struct TokenRecords<'a> {
 }
 
 impl TokenRecords<'_> {
+    // Token i: out of order, its leaf or document absent, or its position too large.
+    fn wrong_token(self, i: usize) -> bool
+        requires { i < token_count self.tokens.now }
+        ensures { result ≡ wrong_token self.entry.max_doc self.entry.leaf_fields.now self.entry.tokens.now i }
+    {
+        let here = token_at(self.tokens, i);
+        let absent = (wide(here.leaf) >= self.leaf_fields.len())
+            | (here.document >= self.max_doc)
+            | (here.position > postings::NO_MORE_DOCS);
+        if i == 0 {
+            return absent;
+        }
+        (here < token_at(self.tokens, i - 1)) | absent
+    }
+
     // Whether a leaf's field has positions.
     pub fn is_positional(self, leaf: usize) -> bool
         requires { (leaf < length self.leaf_fields.now) × (wrong_leaf_field self.fields.now self.leaf_fields.now leaf ≡ false) }
         ensures { result ≡ positional self.entry.fields.now self.entry.leaf_fields.now leaf }
     {
-        is_positional(self.fields, self.leaf_fields, leaf)
+        fields::field_at(self.fields, wide(self.leaf_fields[leaf])).positions == 1
+    }
+
+    // The tokens one after the other, up to the first that is wrong.
+    fn count_tokens(self) -> Result<Numbers, Refusal>
+        requires { any_below (length self.leaf_fields.now) (wrong_leaf_field self.fields.now self.leaf_fields.now) ≡ false }
+        ensures wrong { is_err result ≡ any_below (token_count self.entry.tokens.now) (wrong_token self.entry.max_doc self.entry.leaf_fields.now self.entry.tokens.now) }
+        ensures refusal { IfErr result (λ r. r ≡ Refusal.Tokens) }
+        ensures counts { IfOk result (Counts self.entry.fields.now self.entry.leaf_fields.now self.entry.tokens.now) }
+    {
+        let mut postings = 0;
+        let mut positions = 0;
+        for i in 0..self.tokens.len() / 3 {
+            if self.wrong_token(i) {
+                return Err(Refusal::Tokens);
+            }
+            if begins_posting(self.tokens, i) {
+                postings += 1;
+            }
+            if self.is_positional(wide(token_at(self.tokens, i).leaf)) {
+                positions += 1;
+            }
+        }
+        Ok(Numbers {
+            postings,
+            positions,
+        })
     }
 
     // Whether some leaf's field is absent.
@@ -152,6 +136,6 @@ impl TokenRecords<'_> {
         {
             return Err(Refusal::Tokens);
         }
-        count_tokens(self.max_doc, self.fields, self.tokens, self.leaf_fields)
+        self.count_tokens()
     }
 }

@@ -1,35 +1,35 @@
--- `tokens::count_tokens` meets its contract. Assumes nothing.
+-- `TokenRecords::count_tokens` meets its contract. Assumes nothing.
 use Rattle.std.proofs.Common.{◌≡◌, false, sym, ap, ◌∙◌, arith}
-use Rattle.meaning.specs.Tokens.{token_count, token_at, positional}
-use Rattle.meaning.proofs.Below.{any-zero, any-more, any-done, any_some, count-zero, count-one, count_same, count-le}
+use Rattle.meaning.specs.Tokens.{token_at, positional}
+use Rattle.meaning.proofs.Below.{any-zero, any-more, any_some, count-zero, count-one, count_same, count-le}
 use Rattle.tokens.specs.declared.Token.{Token}
 use Rattle.tokens.specs.Counts.{begins_posting}
 use Rattle.tokens.proofs.OneToken.{named-leaf}
-use Rattle.tokens.proofs.count_tokens.Goals.{then-begins_posting, else-begins_posting, then-is_positional, else-is_positional}
-use Rattle.tokens.proofs.count_tokens.Goals as goal
+use Rattle.tokens.proofs.TokenRecords.count_tokens.Goals.{then-begins_posting, else-begins_posting, then-is_positional, else-is_positional}
+use Rattle.tokens.proofs.TokenRecords.count_tokens.Goals as goal
 
 pub loop-i-init : goal.loop-i-init
-loop-i-init c = record { right = any-zero _; postings = sym (count-zero _); positions = sym (count-zero _); within = omega arith }
+loop-i-init c = record { right = any-zero _; postings = sym (count-zero _); positions = sym (count-zero _) }
 
 pub returns-then-wrong_token-clause-wrong : goal.returns-then-wrong_token-clause-wrong
 returns-then-wrong_token-clause-wrong c = sym (any_some _ _ c.loop-i.i (omega arith) (sym c.wrong_token.ensures ∙ c.if-wrong_token.true))
 
 pub overflow_add-postings : goal.overflow_add-postings
-overflow_add-postings c = omega (arith, c.loop-i.invariant.postings, count-le c.loop-i.i (begins_posting c.args.tokens.now))
+overflow_add-postings c = omega (arith, c.loop-i.invariant.postings, count-le c.loop-i.i (begins_posting c.args.self.tokens.now))
 
 pub is_positional-requires : goal.is_positional-requires
 is_positional-requires c =
-    let s = c.args in
+    let s = c.args.self in
     rw (c.wide.ensures, c.token_at.ensures) (named-leaf s.tokens.now c.loop-i.i s.max_doc s.leaf_fields.now s.fields.now _ c.requires c.wrong_token.ensures c.if-wrong_token.false)
 
 pub overflow_add-positions : goal.overflow_add-positions
 overflow_add-positions c =
-    let s = c.args in
+    let s = c.args.self in
     omega (arith, c.loop-i.invariant.positions, count-le c.loop-i.i (λ i. positional s.fields.now s.leaf_fields.now (token_at s.tokens.now i).leaf))
 
 pub loop-i-preserved : goal.loop-i-preserved
 loop-i-preserved c =
-    let s = c.args in
+    let s = c.args.self in
     let v = c.loop-i.invariant in
     let here : c.is_positional.result ≡ positional s.fields.now s.leaf_fields.now (token_at s.tokens.now c.loop-i.i).leaf = c.is_positional.ensures ∙ ap (positional s.fields.now s.leaf_fields.now) (c.wide.ensures ∙ ap (λ (u : Token). u.leaf) c.token_at.ensures) in
     record {
@@ -42,16 +42,4 @@ loop-i-preserved c =
         | then-is_positional w ↦ w.positions-is ∙ count-one _ _ _ v.positions (sym here ∙ w.if-is_positional.true)
         | else-is_positional w ↦ w.positions-is ∙ count_same _ _ _ v.positions (sym here ∙ w.if-is_positional.false)
       ];
-      within = omega arith;
     }
-
-pub returns-clause-wrong : goal.returns-clause-wrong
-returns-clause-wrong c =
-    let v = c.loop-i.invariant in
-    any-done _ _ _ _ (sym v.right) v.within c.loop-i-test.false
-
-pub returns-clause-counts : goal.returns-clause-counts
-returns-clause-counts c =
-    let v = c.loop-i.invariant in
-    let end : c.loop-i.i ≡ token_count c.args.tokens.now = omega (arith, v.within, c.loop-i-test.false) in
-    record { postings = rw (← end) v.postings; positions = rw (← end) v.positions }

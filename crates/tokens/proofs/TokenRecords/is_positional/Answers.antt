@@ -1,8 +1,8 @@
--- `tokens::is_positional` meets its contract. Assumes nothing.
+-- `TokenRecords::is_positional` meets its contract. Assumes nothing.
 use Rattle.std.proofs.Common.{arith}
 use borrow.Author.Tests.{leb-false}
 use Rattle.meaning.specs.TokenRefusals.{wrong_leaf_field}
-use Rattle.tokens.proofs.is_positional.Goals as goal
+use Rattle.tokens.proofs.TokenRecords.is_positional.Goals as goal
 
 pub field_at-requires : goal.field_at-requires
 unfolding wrong_leaf_field

@@ -1,9 +1,0 @@
--- `tokens::wrong_token` meets its contract. Assumes nothing.
-use Rattle.tokens.proofs.OneToken.{wrong_first, wrong-later}
-use Rattle.tokens.proofs.wrong_token.Goals as goal
-
-pub returns-then-i-eq0 : goal.returns-then-i-eq0
-returns-then-i-eq0 c = let s = c.args in rw c.wide.ensures (wrong_first s.tokens.now c.args.i s.max_doc s.leaf_fields.now c.if-i-eq0.true _ c.token_at-here.ensures)
-
-pub returns : goal.returns
-returns c = let s = c.args in rw c.wide.ensures (wrong-later s.tokens.now c.args.i s.max_doc s.leaf_fields.now c.if-i-eq0.false _ _ c.token_at.ensures c.token_at-here.ensures _ c.lt.ensures)
