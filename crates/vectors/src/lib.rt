@@ -25,35 +25,50 @@ pub trait Format: Copy + Drop {
     fn pattern(self) -> Option<u64>;
 }
 
-macro_rules! binary {
-    ($float:ty, $bits:ty, $digits:literal, $sign:literal, $infinity:literal) => {
-        impl Format for $float {
-            type Bits = $bits;
+impl Format for f32 {
+    type Bits = u32;
 
-            const DIGITS: usize = $digits;
+    const DIGITS: usize = 8;
 
-            fn of(bits: $bits) -> $float {
-                if bits % $sign <= $infinity {
-                    <$float>::from_bits(bits)
-                } else {
-                    <$float>::NAN
-                }
-            }
-
-            fn pattern(self) -> Option<u64> {
-                if self.is_nan() {
-                    None
-                } else {
-                    Some(u64::from(self.to_bits()))
-                }
-            }
+    fn of(bits: u32) -> f32 {
+        if bits % 0x8000_0000 <= 0x7f80_0000 {
+            f32::from_bits(bits)
+        } else {
+            f32::NAN
         }
-    };
+    }
+
+    fn pattern(self) -> Option<u64> {
+        if self.is_nan() {
+            None
+        } else {
+            Some(u64::from(self.to_bits()))
+        }
+    }
 }
 
-binary!(f32, u32, 8, 0x8000_0000, 0x7f80_0000);
+// Kept: no plainer: the two differ in four constants, and the gate takes no impl that a macro of the repository wrote.
+impl Format for f64 {
+    type Bits = u64;
 
-binary!(f64, u64, 16, 0x8000_0000_0000_0000, 0x7ff0_0000_0000_0000);
+    const DIGITS: usize = 16;
+
+    fn of(bits: u64) -> f64 {
+        if bits % 0x8000_0000_0000_0000 <= 0x7ff0_0000_0000_0000 {
+            f64::from_bits(bits)
+        } else {
+            f64::NAN
+        }
+    }
+
+    fn pattern(self) -> Option<u64> {
+        if self.is_nan() {
+            None
+        } else {
+            Some(self.to_bits())
+        }
+    }
+}
 
 pub fn f64_of(bits: u64) -> f64 {
     f64::of(bits)
