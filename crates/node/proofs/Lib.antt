@@ -1,0 +1,2 @@
+-- Laws of the kinds of a node's words.
+pub mod KindLaws

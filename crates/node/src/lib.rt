@@ -1,0 +1,102 @@
+// What is read of a node's words: its kind, where a child's part ends, and what a Boolean says of its children.
+#![tactic(auto)]
+
+ghost use Rattle.std.specs.Prelude.{◌≡◌, ◌≤◌, length};
+ghost use Rattle.meaning.specs.Limits.{node_state_words};
+ghost use Rattle.node.specs.Kinds.{kind_of, kind_word};
+ghost use Rattle.node.specs.Words.{ChildThere, ChildIs, BooleanIs};
+
+use index::wide;
+
+// A node's kind stands in the first word of its record. PhraseTerm stands only below a Phrase.
+#[derive(Clone, Copy, Debug, PartialEq, Eq)]
+pub enum NodeKind {
+    Nothing,
+    Term,
+    Phrase,
+    Boolean,
+    Range,
+    Everything,
+    PhraseTerm,
+}
+
+// A word that is no kind's matches nothing.
+impl From<u32> for NodeKind {
+    ghost from_gives = { λ word kind. kind ≡ kind_of word };
+
+    fn from(word: u32) -> Self {
+        match word {
+            1 => NodeKind::Term,
+            2 => NodeKind::Phrase,
+            3 => NodeKind::Boolean,
+            4 => NodeKind::Range,
+            5 => NodeKind::Everything,
+            9 => NodeKind::PhraseTerm,
+            _ => NodeKind::Nothing,
+        }
+    }
+}
+
+impl NodeKind {
+    // The word that a record of this kind begins with.
+    pub fn word(self) -> u32
+        ensures { result ≡ kind_word self }
+    {
+        match self {
+            NodeKind::Nothing => 0,
+            NodeKind::Term => 1,
+            NodeKind::Phrase => 2,
+            NodeKind::Boolean => 3,
+            NodeKind::Range => 4,
+            NodeKind::Everything => 5,
+            NodeKind::PhraseTerm => 9,
+        }
+    }
+}
+
+// Of a child's record: its kind, where its part ends, the document where it stands + 1, and whether it is a Must.
+#[derive(Clone, Copy)]
+pub struct Child {
+    pub kind: NodeKind,
+    pub end: usize,
+    pub cached: u32,
+    pub scores: bool,
+}
+
+// The child whose part begins at `at`.
+pub fn child_at(kids: &[u32], at: usize) -> Child
+    requires { ChildThere kids.now at }
+    ensures { ChildIs kids.now at result }
+{
+    Child {
+        kind: NodeKind::from(kids[at]),
+        end: at + wide(kids[at + 1]),
+        cached: kids[at + 2],
+        scores: kids[at + 15] == 1,
+    }
+}
+
+// Of a Boolean's record: how many of the optional must match, where the required children's parts end and the optional ones', and
+// where the group joins the required sum: after that is narrowed, or at a place among the parts.
+#[derive(Clone, Copy)]
+pub struct Boolean {
+    pub need: u32,
+    pub required_end: usize,
+    pub optional_end: usize,
+    pub afterwards: bool,
+    pub group_at: usize,
+}
+
+// A Boolean's record at the front of its words.
+pub fn boolean_at(st: &[u32]) -> Boolean
+    requires { node_state_words ≤ length st.now }
+    ensures { BooleanIs st.now result }
+{
+    Boolean {
+        need: st[3],
+        required_end: wide(st[4]),
+        optional_end: wide(st[5]),
+        afterwards: st[13] == 1,
+        group_at: wide(st[14]),
+    }
+}
