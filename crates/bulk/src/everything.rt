@@ -3,12 +3,13 @@ ghost use Rattle.std.specs.Prelude.{◌≡◌, List, ℕ, ◌^◌, get_or, Float
 ghost use Rattle.meaning.specs.Lent.{Index};
 ghost use Rattle.ieee754.specs.Nonneg.{AtMost};
 ghost use Rattle.weight.specs.ScorerTree.{everything, Scoring, leaf_score};
-ghost use Rattle.scorer.specs.Calls.{Lent};
+ghost use Rattle.scorer.specs.Calls.{lent_of};
 ghost use Rattle.bulk_scorer.specs.Collects.{CollectPre, CollectPost};
 ghost use Rattle.bulk_term.specs.Postings.{NodeScores};
 
 use collector::TopScoreDocCollector;
 use leaf_score::Node;
+use leaf_scorer::LeafReader;
 
 // The score of each document: what has no frequencies scores 0 by BM25.
 fn one_score(n: Node) -> f32
@@ -24,16 +25,17 @@ fn one_score(n: Node) -> f32
 // The live documents to the collector, numbered on from a document base; the root's words stay as they are.
 pub fn collect_everything(
     st: &[u32],
-    max_doc: u32,
-    live: &[u64],
+    reader: &LeafReader<'_>,
     doc_base: u32,
     c: TopScoreDocCollector,
     heap: &mut [i64],
 ) -> TopScoreDocCollector
-    requires { (E : Lent) × (norms : List ℕ) × (table : List Float) × (places : ℕ) × (depth : ℕ) × (E.documents ≡ max_doc) × (get_or st.now 0 0 ≡ 5) × CollectPre E norms live.now table places st.now depth doc_base c heap.old }
-    ensures { (E : Lent) (norms : List ℕ) (table : List Float) (places depth : ℕ) → E.documents ≡ max_doc → CollectPost E norms live.now table places st.now depth doc_base c heap.old result heap.new }
+    requires { (table : List Float) × (places : ℕ) × (depth : ℕ) × (get_or st.now 0 0 ≡ 5) × CollectPre (lent_of reader.now) reader.now.norms.now reader.now.live.now table places st.now depth doc_base c heap.old }
+    ensures { (table : List Float) (places depth : ℕ) → CollectPost (lent_of reader.now) reader.now.norms.now reader.now.live.now table places st.now depth doc_base c heap.old result heap.new }
 {
     let s = one_score(leaf_score::node_at(st));
+    let max_doc = reader.max_doc;
+    let live = reader.live;
     let mut c = c;
     let mut doc = 0;
     while doc < max_doc {

@@ -2,7 +2,7 @@
 #![tactic(auto)]
 
 ghost use Rattle.std.specs.Prelude.{min, length};
-ghost use Rattle.scorer.specs.Calls.{lent};
+ghost use Rattle.scorer.specs.Calls.{lent_of};
 ghost use Rattle.bulk_scorer.specs.Collects.{CollectPre, CollectPost, CollectEnd};
 
 use collector::TopScoreDocCollector;
@@ -20,13 +20,8 @@ const EVERYTHING: u32 = 5;
 // The live documents that the tree matches to the collector, numbered on from a document base.
 pub fn collect_matches(
     st: &mut [u32],
-    max_doc: u32,
-    postings: &[u32],
-    positions: &[u32],
-    norms: &[u8],
-    ranges: &[u32],
+    reader: &LeafReader<'_>,
     inverses: &[f32],
-    live: &[u64],
     a: &mut [i32],
     b: &mut [i32],
     depth: u32,
@@ -34,26 +29,24 @@ pub fn collect_matches(
     c: TopScoreDocCollector,
     heap: &mut [i64],
 ) -> TopScoreDocCollector
-    requires { CollectPre (lent max_doc postings.now positions.now ranges.now) norms.now live.now inverses.now (min (length a.old) (length b.old)) st.old depth doc_base c heap.old }
-    ensures collect_post { CollectPost (lent max_doc postings.now positions.now ranges.now) norms.now live.now inverses.now (min (length a.old) (length b.old)) st.old depth doc_base c heap.old result heap.new }
-    ensures collect_end { CollectEnd (lent max_doc postings.now positions.now ranges.now) norms.now live.now inverses.now (min (length a.old) (length b.old)) st.old depth st.new }
+    requires { CollectPre (lent_of reader.now) reader.now.norms.now reader.now.live.now inverses.now (min (length a.old) (length b.old)) st.old depth doc_base c heap.old }
+    ensures collect_post { CollectPost (lent_of reader.now) reader.now.norms.now reader.now.live.now inverses.now (min (length a.old) (length b.old)) st.old depth doc_base c heap.old result heap.new }
+    ensures collect_end { CollectEnd (lent_of reader.now) reader.now.norms.now reader.now.live.now inverses.now (min (length a.old) (length b.old)) st.old depth st.new }
 {
     let kind = st[0];
     if kind == TERM {
-        return bulk_term::collect_term(st, postings, norms, inverses, live, doc_base, c, heap);
+        return bulk_term::collect_term(st, reader, inverses, doc_base, c, heap);
     }
     if kind == EVERYTHING {
-        return everything::collect_everything(st, max_doc, live, doc_base, c, heap);
+        return everything::collect_everything(st, reader, doc_base, c, heap);
     }
     if alone::alone(st) {
         let kind = st[NODE_STATE_WORDS];
         if kind == TERM {
             return bulk_term::collect_term(
                 &st[NODE_STATE_WORDS..],
-                postings,
-                norms,
+                reader,
                 inverses,
-                live,
                 doc_base,
                 c,
                 heap,
@@ -62,21 +55,12 @@ pub fn collect_matches(
         if kind == EVERYTHING {
             return everything::collect_everything(
                 &st[NODE_STATE_WORDS..],
-                max_doc,
-                live,
+                reader,
                 doc_base,
                 c,
                 heap,
             );
         }
     }
-    let reader = LeafReader {
-        max_doc,
-        postings,
-        positions,
-        norms,
-        ranges,
-        live,
-    };
-    bulk_window::collect_windows(st, &reader, inverses, a, b, depth, doc_base, c, heap)
+    bulk_window::collect_windows(st, reader, inverses, a, b, depth, doc_base, c, heap)
 }

@@ -3,7 +3,7 @@
 
 ghost use Rattle.std.specs.Prelude.{◌≡◌, ℕ, ◌≤◌, ◌<◌, min, length};
 ghost use Rattle.meaning.specs.Limits.{max_hits};
-ghost use Rattle.scorer.specs.Calls.{lent};
+ghost use Rattle.scorer.specs.Calls.{lent_of};
 ghost use Rattle.bulk_default.specs.Collects.{CollectPre, CollectPost, CollectEnd};
 
 use collector::{TopDocs, TopScoreDocCollector};
@@ -13,13 +13,8 @@ use walk::{NO_MORE_DOCS, next_match};
 // The hits of the tree at the front of the lent heap, whose length is k.
 pub fn collect_matches(
     st: &mut [u32],
-    max_doc: u32,
-    postings: &[u32],
-    positions: &[u32],
-    norms: &[u8],
-    ranges: &[u32],
+    reader: &LeafReader<'_>,
     inverses: &[f32],
-    live: &[u64],
     a: &mut [i32],
     b: &mut [i32],
     t: u32,
@@ -27,26 +22,18 @@ pub fn collect_matches(
     heap: &mut [i64],
 ) -> TopDocs
     requires heap_nonzero { (0 < length heap.old) × (length heap.old ≤ max_hits) }
-    requires collect_pre { CollectPre (lent max_doc postings.now positions.now ranges.now) norms.now live.now inverses.now (min (length a.old) (length b.old)) st.old depth }
-    ensures collect_post { CollectPost (lent max_doc postings.now positions.now ranges.now) norms.now live.now inverses.now (min (length a.old) (length b.old)) st.old depth t heap.old result heap.new }
-    ensures collect_end { CollectEnd (lent max_doc postings.now positions.now ranges.now) norms.now live.now inverses.now (min (length a.old) (length b.old)) st.old depth st.new }
+    requires collect_pre { CollectPre (lent_of reader.now) reader.now.norms.now reader.now.live.now inverses.now (min (length a.old) (length b.old)) st.old depth }
+    ensures collect_post { CollectPost (lent_of reader.now) reader.now.norms.now reader.now.live.now inverses.now (min (length a.old) (length b.old)) st.old depth t heap.old result heap.new }
+    ensures collect_end { CollectEnd (lent_of reader.now) reader.now.norms.now reader.now.live.now inverses.now (min (length a.old) (length b.old)) st.old depth st.new }
 {
-    let reader = LeafReader {
-        max_doc,
-        postings,
-        positions,
-        norms,
-        ranges,
-        live,
-    };
     let mut c = TopScoreDocCollector::new(t as u64);
     let mut from = 0;
     loop {
-        let next = next_match(st, &reader, a, b, from, depth);
+        let next = next_match(st, reader, a, b, from, depth);
         if next == NO_MORE_DOCS {
             return c.top_docs(heap);
         }
-        let s = score::score(st, &reader, inverses, a, b, next, depth);
+        let s = score::score(st, reader, inverses, a, b, next, depth);
         c = c.stepped(heap, next, s);
         from = next + 1;
     }

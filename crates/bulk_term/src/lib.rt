@@ -2,10 +2,11 @@
 #![tactic(auto)]
 
 ghost use Rattle.std.specs.Prelude.{◌≡◌, ℕ, get_or};
-ghost use Rattle.scorer.specs.Calls.{Lent};
+ghost use Rattle.scorer.specs.Calls.{lent_of};
 ghost use Rattle.bulk_scorer.specs.Collects.{CollectPre, CollectPost};
 
 use collector::TopScoreDocCollector;
+use leaf_scorer::LeafReader;
 use posting::posting_score;
 
 pub mod posting;
@@ -13,18 +14,19 @@ pub mod posting;
 // The term's live documents to the collector, numbered on from a document base; its words stay as they are.
 pub fn collect_term(
     st: &[u32],
-    postings: &[u32],
-    norms: &[u8],
+    reader: &LeafReader<'_>,
     inverses: &[f32],
-    live: &[u64],
     doc_base: u32,
     c: TopScoreDocCollector,
     heap: &mut [i64],
 ) -> TopScoreDocCollector
-    requires { (E : Lent) × (places : ℕ) × (depth : ℕ) × (E.postings ≡ postings.now) × (get_or st.now 0 0 ≡ 1) × CollectPre E norms.now live.now inverses.now places st.now depth doc_base c heap.old }
-    ensures { (E : Lent) (places depth : ℕ) → E.postings ≡ postings.now → CollectPost E norms.now live.now inverses.now places st.now depth doc_base c heap.old result heap.new }
+    requires { (places : ℕ) × (depth : ℕ) × (get_or st.now 0 0 ≡ 1) × CollectPre (lent_of reader.now) reader.now.norms.now reader.now.live.now inverses.now places st.now depth doc_base c heap.old }
+    ensures { (places depth : ℕ) → CollectPost (lent_of reader.now) reader.now.norms.now reader.now.live.now inverses.now places st.now depth doc_base c heap.old result heap.new }
 {
     let n = leaf_score::node_at(st);
+    let postings = reader.postings;
+    let norms = reader.norms;
+    let live = reader.live;
     let mut c = c;
     let mut at = 3 * n.first;
     let end = at + 3 * n.number;

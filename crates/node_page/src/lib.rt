@@ -13,6 +13,7 @@ ghost use Rattle.node_state.specs.Standing.{Standing, tree_of};
 ghost use Rattle.node_page.specs.Pages.{Pages, refusal_of, work_of, TreeAsked, ListAsked};
 
 use index::lent::Lent;
+use leaf_scorer::LeafReader;
 use node_state::NodeState;
 use order_check::Work;
 use refusal::Refusal;
@@ -65,15 +66,18 @@ fn list_on(
 {
     let mut inverses: [f32; 4096] = [0.0; 4096];
     inverses::fill_inverses(lent.fields, lent.leaves, query, &mut inverses);
+    let reader = LeafReader {
+        max_doc: lent.max_doc,
+        postings: lent.postings,
+        positions: lent.positions,
+        norms: lent.norms,
+        ranges,
+        live: lent.live,
+    };
     walk::list(
         &mut words[..size],
-        lent.max_doc,
-        lent.postings,
-        lent.positions,
-        lent.norms,
-        ranges,
+        &reader,
         &inverses,
-        lent.live,
         starts,
         other_starts,
         target,

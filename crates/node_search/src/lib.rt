@@ -17,6 +17,7 @@ ghost use Rattle.node_search.specs.Searches.{SearchesWords, Searches};
 
 use collector::{TopDocs, TopScoreDocCollector};
 use index::lent::Lent;
+use leaf_scorer::LeafReader;
 use node_state::NodeState;
 use order_check::Work;
 use refusal::Refusal;
@@ -52,15 +53,18 @@ fn find(
         states,
         ranges,
     );
+    let reader = LeafReader {
+        max_doc: lent.max_doc,
+        postings: lent.postings,
+        positions: lent.positions,
+        norms: lent.norms,
+        ranges,
+        live: lent.live,
+    };
     let collector = bulk::collect_matches(
         &mut states[..size],
-        lent.max_doc,
-        lent.postings,
-        lent.positions,
-        lent.norms,
-        ranges,
+        &reader,
         &inverses,
-        lent.live,
         starts,
         other_starts,
         16,

@@ -10,6 +10,7 @@ ghost use Rattle.order_check.specs.Lends.{work};
 ghost use Rattle.searcher.specs.Answers.{paged_numbers};
 
 use index::lent::Lent;
+use leaf_scorer::LeafReader;
 use order_check::Work;
 use refusal::Refusal;
 use walk::Listed;
@@ -42,15 +43,18 @@ fn list_by(
         states,
         ranges,
     );
+    let reader = LeafReader {
+        max_doc: lent.max_doc,
+        postings: lent.postings,
+        positions: lent.positions,
+        norms: lent.norms,
+        ranges,
+        live: lent.live,
+    };
     walk::list(
         &mut states[..size],
-        lent.max_doc,
-        lent.postings,
-        lent.positions,
-        lent.norms,
-        ranges,
+        &reader,
         inverses,
-        lent.live,
         starts,
         other_starts,
         target, // where the walk begins

@@ -15,6 +15,7 @@ ghost use Rattle.searcher.specs.Answers.{searched_numbers};
 
 use collector::{TopDocs, TopScoreDocCollector};
 use index::lent::Lent;
+use leaf_scorer::LeafReader;
 use order_check::Work;
 use refusal::Refusal;
 
@@ -46,15 +47,18 @@ fn find_by(
         states,
         ranges,
     );
+    let reader = LeafReader {
+        max_doc: lent.max_doc,
+        postings: lent.postings,
+        positions: lent.positions,
+        norms: lent.norms,
+        ranges,
+        live: lent.live,
+    };
     let collector = bulk::collect_matches(
         &mut states[..size],
-        lent.max_doc,
-        lent.postings,
-        lent.positions,
-        lent.norms,
-        ranges,
+        &reader,
         inverses,
-        lent.live,
         starts,
         other_starts,
         16,

@@ -2,7 +2,7 @@
 #![tactic(auto)]
 
 ghost use Rattle.std.specs.Prelude.{min, length};
-ghost use Rattle.scorer.specs.Calls.{lent, lent_of};
+ghost use Rattle.scorer.specs.Calls.{lent_of};
 ghost use Rattle.walk.specs.Walks.{NextPre, NextPost, ListPre, ListPost};
 
 use leaf_scorer::LeafReader;
@@ -45,13 +45,8 @@ pub fn next_match(
 // The first live matches at or after a document with their scores' bits, as many as the outputs have places for.
 pub fn list(
     st: &mut [u32],
-    max_doc: u32,
-    postings: &[u32],
-    positions: &[u32],
-    norms: &[u8],
-    ranges: &[u32],
+    reader: &LeafReader<'_>,
     inverses: &[f32],
-    live: &[u64],
     a: &mut [i32],
     b: &mut [i32],
     from: u32,
@@ -59,28 +54,20 @@ pub fn list(
     docs: &mut [u32],
     bits: &mut [u32],
 ) -> Listed
-    requires { ListPre (lent max_doc postings.now positions.now ranges.now) norms.now live.now inverses.now (min (length a.old) (length b.old)) st.old from depth docs.old bits.old }
-    ensures { ListPost (lent max_doc postings.now positions.now ranges.now) norms.now live.now inverses.now (min (length a.old) (length b.old)) st.old from depth docs.old bits.old result st.new docs.new bits.new }
+    requires { ListPre (lent_of reader.now) reader.now.norms.now reader.now.live.now inverses.now (min (length a.old) (length b.old)) st.old from depth docs.old bits.old }
+    ensures { ListPost (lent_of reader.now) reader.now.norms.now reader.now.live.now inverses.now (min (length a.old) (length b.old)) st.old from depth docs.old bits.old result st.new docs.new bits.new }
 {
-    let reader = LeafReader {
-        max_doc,
-        postings,
-        positions,
-        norms,
-        ranges,
-        live,
-    };
-    let mut next = next_match(st, &reader, a, b, from, depth);
+    let mut next = next_match(st, reader, a, b, from, depth);
     let mut given = 0;
     while given < docs.len() {
         if next == NO_MORE_DOCS {
             return Listed { given, next };
         }
-        let s = score::score(st, &reader, inverses, a, b, next, depth);
+        let s = score::score(st, reader, inverses, a, b, next, depth);
         docs[given] = next;
         bits[given] = f32::to_bits(s);
         given += 1;
-        next = next_match(st, &reader, a, b, next + 1, depth);
+        next = next_match(st, reader, a, b, next + 1, depth);
     }
     Listed { given, next }
 }

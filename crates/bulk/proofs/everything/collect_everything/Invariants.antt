@@ -1,5 +1,6 @@
 -- The live documents before `doc` are collected.
 use Rattle.std.proofs.Common.{◌-◌, ◌≡◌, ◌≤◌, length}
+use Rattle.scorer.specs.Calls.{lent_of}
 use Rattle.bulk.proofs.AnyRoot.{AnysAt}
 use Rattle.bulk.proofs.everything.collect_everything.Given as goal
 
@@ -8,7 +9,7 @@ invariant-loop-doc l =
     record {
       long : length l.heap ≡ length l.fn.heap;
       within : l.doc ≤ l.max_doc;
-      collected : AnysAt l.max_doc l.live l.s l.doc_base l.fn.c l.fn.heap l.c l.heap l.doc;
+      collected : AnysAt (lent_of l.fn.reader.now) l.fn.reader.now.norms.now l.fn.reader.now.live.now l.s l.doc_base l.fn.c l.fn.heap l.c l.heap l.doc;
     }
 
 abbrev pub decreases-loop-doc : goal.decreases-loop-doc
