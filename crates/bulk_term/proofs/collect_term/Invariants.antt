@@ -8,7 +8,7 @@ abbrev pub invariant-loop-at : goal.invariant-loop-at
 invariant-loop-at l =
     record {
       long : length l.heap ≡ length l.fn.heap;
-      passed : TermsAt (lent_of l.fn.reader.now) l.fn.reader.now.norms.now l.fn.reader.now.live.now l.inverses l.n l.doc_base l.fn.c l.fn.heap l.c l.heap l.at;
+      passed : TermsAt (lent_of l.fn.reader) l.fn.reader.norms.now l.fn.reader.live.now l.inverses l.n l.doc_base l.fn.c l.fn.heap l.c l.heap l.at;
     }
 
 abbrev pub decreases-loop-at : goal.decreases-loop-at

@@ -9,7 +9,7 @@ invariant-loop-doc l =
     record {
       long : length l.heap ≡ length l.fn.heap;
       within : l.doc ≤ l.max_doc;
-      collected : AnysAt (lent_of l.fn.reader.now) l.fn.reader.now.norms.now l.fn.reader.now.live.now l.s l.doc_base l.fn.c l.fn.heap l.c l.heap l.doc;
+      collected : AnysAt (lent_of l.fn.reader) l.fn.reader.norms.now l.fn.reader.live.now l.s l.doc_base l.fn.c l.fn.heap l.c l.heap l.doc;
     }
 
 abbrev pub decreases-loop-doc : goal.decreases-loop-doc
