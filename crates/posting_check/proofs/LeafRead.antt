@@ -1,6 +1,6 @@
 -- A leaf and its field, as the code reads them. Assumes nothing.
-use Rattle.std.proofs.Common.{◌≡◌, ℕ, ◌+◌, ◌*◌, ◌≤◌, ◌<◌, Bool, false, eqb, length, ap, ◌∙◌, arith}
-use Rattle.meaning.specs.Lent.{Index, leaf_count, field_count, has_positions, field_positions, leaf_field, leaf_first, leaf_number}
+use Rattle.std.proofs.Common.{◌≡◌, ℕ, ◌+◌, ◌*◌, ◌≤◌, ◌<◌, false, eqb, length, ap, ◌∙◌, arith}
+use Rattle.meaning.specs.Lent.{Index, leaf_count, field_count, has_positions, field_positions, leaf_field}
 use Rattle.meaning.specs.IndexRefusals.{wrong4}
 use Rattle.index.specs.declared.fields.Field.{Field}
 use Rattle.index.specs.declared.leaves.Leaf.{Leaf}

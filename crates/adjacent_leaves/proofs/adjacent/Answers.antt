@@ -1,4 +1,4 @@
-use Rattle.std.proofs.Common.{◌≡◌, ℕ, ◌+◌, ◌/◌, ◌<◌, ◌≤◌, length, sym, ◌∙◌, arith, le-leb}
+use Rattle.std.proofs.Common.{◌+◌, ◌/◌, ◌<◌, length, sym, ◌∙◌, arith, le-leb}
 use borrow.Author.Tests.{lt-leb}
 use Rattle.meaning.proofs.Below.{count-le, count-one, count_same}
 use Rattle.index.specs.IndexOf.{index_of}

@@ -73,7 +73,7 @@ returns c =
     record {
       bounds = (omega (arith, v.1.0, v.1.1), omega (arith, v.1.0, v.1.2));
       right = λ k g h.
-        let p = c.plain_run.ensures c.if-not-plain_run.false in
-        let z : c.args.l + (k - c.args.l) ≡ k = omega arith in
-        subst (λ (x : ℕ). any_below (leaf_number ix x) (wrong_posting ix x) ≡ false) z (leaves-right ix c.args.l m _ _ t v.1.1 _ first fits p.0 (begun-with (index_of c.args.lent.now) c.args.l _ _ c.leaf_at-leaf.ensures c.field_at-field.ensures _ _ c.has_positions.ensures c.is_empty.ensures c.if-has_positions-is_empty.false) p.1 (k - c.args.l) (omega (arith, v.1.0)));
+          let p = c.plain_run.ensures c.if-not-plain_run.false in
+          let z : c.args.l + (k - c.args.l) ≡ k = omega arith in
+          subst (λ (x : ℕ). any_below (leaf_number ix x) (wrong_posting ix x) ≡ false) z (leaves-right ix c.args.l m _ _ t v.1.1 _ first fits p.0 (begun-with (index_of c.args.lent.now) c.args.l _ _ c.leaf_at-leaf.ensures c.field_at-field.ensures _ _ c.has_positions.ensures c.is_empty.ensures c.if-has_positions-is_empty.false) p.1 (k - c.args.l) (omega (arith, v.1.0)));
     }

@@ -1,4 +1,4 @@
-use Rattle.std.proofs.Common.{◌≡◌, true, false, sym, refl, ◌∙◌, arith}
+use Rattle.std.proofs.Common.{true, false, sym, refl, ◌∙◌, arith}
 use Rattle.index.specs.IndexOf.{index_of}
 use Rattle.index.proofs.Words.{leaf_first_lem, leaf-number}
 use Rattle.posting_check.proofs.Runs.{run-way}

@@ -1,4 +1,4 @@
-use Rattle.std.proofs.Common.{◌≤◌, arith}
+use Rattle.std.proofs.Common.{arith}
 use Rattle.index.proofs.Known.{documents-few}
 use Rattle.index.proofs.Values.{product_le, columns-many, columns-length, columns-some, any-listed}
 use Rattle.index.proofs.columns.wrong_columns.Goals as goal
