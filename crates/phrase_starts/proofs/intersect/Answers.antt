@@ -27,17 +27,17 @@ start-s-requires c = (c.requires.0.small c.loop-i.i c.loop-i-test.true, c.requir
 pub loop-i-preserved-then-cand-s : goal.loop-i-preserved-then-cand-s
 loop-i-preserved-then-cand-s c =
     let a = c.args in let l = c.loop-i in
-    passed-candidate a.positions.now a.t a.cands.now (length a.out.now) l.out l.i l.c l.n l.invariant c.requires.1.0 c.loop-i-test.true c.if-c-cands.false c.start-s.result c.start-s.ensures (record { sfits = c.start-s.type_inv }) (record { sfits = c.type_inv.cands l.c }) c.if-cand-s.true
+    passed-candidate a.positions.now a.t a.cands.now (length a.out.now) l.out l.i l.c l.n l.invariant c.requires.1.0 c.loop-i-test.true c.if-c-cands.false c.start-s.result c.start-s.ensures (record { sfits = c.start-s.type_inv }) (record { sfits = c.cand-1.given }) c.if-cand-s.true
 
 pub loop-i-preserved-then-s-cand : goal.loop-i-preserved-then-s-cand
 loop-i-preserved-then-s-cand c =
     let a = c.args in let l = c.loop-i in
-    passed_start a.positions.now a.t a.cands.now (length a.out.now) l.out l.i l.c l.n l.invariant c.requires.1.0 c.loop-i-test.true c.if-c-cands.false c.start-s.result c.start-s.ensures (record { sfits = c.start-s.type_inv }) (record { sfits = c.type_inv.cands l.c }) c.if-s-cand.true
+    passed_start a.positions.now a.t a.cands.now (length a.out.now) l.out l.i l.c l.n l.invariant c.requires.1.0 c.loop-i-test.true c.if-c-cands.false c.start-s.result c.start-s.ensures (record { sfits = c.start-s.type_inv }) (record { sfits = c.cand-1.given }) c.if-s-cand.true
 
 pub loop-i-preserved : goal.loop-i-preserved
 loop-i-preserved c =
     let a = c.args in let l = c.loop-i in
-    met a.positions.now a.t a.cands.now (length a.out.now) l.out l.i l.c l.n l.invariant c.requires.1.0 c.loop-i-test.true c.if-c-cands.false c.start-s.result c.start-s.ensures (record { sfits = c.start-s.type_inv }) (record { sfits = c.type_inv.cands l.c }) c.if-cand-s.false c.if-s-cand.false
+    met a.positions.now a.t a.cands.now (length a.out.now) l.out l.i l.c l.n l.invariant c.requires.1.0 c.loop-i-test.true c.if-c-cands.false c.start-s.result c.start-s.ensures (record { sfits = c.start-s.type_inv }) (record { sfits = c.cand-1.given }) c.if-cand-s.false c.if-s-cand.false
 
 pub returns : goal.returns
 returns c =
