@@ -18,11 +18,6 @@ offset_bounds-lent-last c =
     let ok = leaf-ok (index_of c.args.lent.now) c.requires.leaves_right c.args.l (omega arith) in
     omega (arith, ok.run, c.run_end-last.ensures, c.requires.l_lt_limit, c.well_formed)
 
-pub overflow_sub-last : goal.overflow_sub-last
-overflow_sub-last c =
-    let ok = leaf-ok (index_of c.args.lent.now) c.requires.leaves_right c.args.l (omega arith) in
-    omega (arith, ok.run, c.run_end-last.ensures, c.requires.l_lt_limit, c.well_formed)
-
 pub bounds-lent-last : goal.bounds-lent-last
 bounds-lent-last c =
     let ok = leaf-ok (index_of c.args.lent.now) c.requires.leaves_right c.args.l (omega arith) in
@@ -66,22 +61,11 @@ offset_bounds-lent-last-in-loop-end-3 c =
     let f = followed (index_of c.args.lent.now) c.loop-end.end c.loop-end.last (sym c.follows.ensures ∙ c.if-not-follows.false) in
     omega (arith, c.run_end-last-in-loop-end.ensures, f.some, ok.run, c.well_formed)
 
-pub overflow_sub-last-in-loop-end-2 : goal.overflow_sub-last-in-loop-end-2
-overflow_sub-last-in-loop-end-2 c =
-    let ok = leaf-ok (index_of c.args.lent.now) c.requires.leaves_right c.loop-end.end (omega arith) in
-    let f = followed (index_of c.args.lent.now) c.loop-end.end c.loop-end.last (sym c.follows.ensures ∙ c.if-not-follows.false) in
-    omega (arith, c.run_end-last-in-loop-end.ensures, f.some, ok.run, c.well_formed)
-
 pub bounds-lent-last-in-loop-end-3 : goal.bounds-lent-last-in-loop-end-3
 bounds-lent-last-in-loop-end-3 c =
     let ok = leaf-ok (index_of c.args.lent.now) c.requires.leaves_right c.loop-end.end (omega arith) in
     let f = followed (index_of c.args.lent.now) c.loop-end.end c.loop-end.last (sym c.follows.ensures ∙ c.if-not-follows.false) in
     omega (arith, c.run_end-last-in-loop-end.ensures, f.some, ok.run, c.well_formed)
-
-pub returns-then-lent-last-3 : goal.returns-then-lent-last-3
-returns-then-lent-last-3 c =
-    let v = c.loop-end.invariant in
-    (omega arith, omega arith)
 
 pub loop-end-preserved : goal.loop-end-preserved
 loop-end-preserved c =

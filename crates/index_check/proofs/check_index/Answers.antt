@@ -15,9 +15,6 @@ returns-then-wrong_fields c =
     let ix = index_of c.args.lent.now in
     refused-2 ix (wrong1-of ix ∙ sym c.wrong_max_doc.ensures ∙ c.if-wrong_max_doc.false) (wrong2-of ix ∙ sym c.wrong_fields.ensures ∙ c.if-wrong_fields.true)
 
-pub wrong_lengths-requires : goal.wrong_lengths-requires
-wrong_lengths-requires c = sym c.wrong_fields.ensures ∙ c.if-wrong_fields.false
-
 pub returns-then-wrong_lengths : goal.returns-then-wrong_lengths
 returns-then-wrong_lengths c =
     let ix = index_of c.args.lent.now in

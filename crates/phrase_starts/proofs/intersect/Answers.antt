@@ -21,9 +21,6 @@ returns-then-c-cands c =
     let a = c.args in let l = c.loop-i in
     (omega arith, no-candidate a.positions.now a.t a.cands.now (length a.out.now) l.out l.i l.c l.n l.invariant c.if-c-cands.true)
 
-pub start-s-requires : goal.start-s-requires
-start-s-requires c = (c.requires.0.small c.loop-i.i c.loop-i-test.true, c.requires.0.offset-small)
-
 pub loop-i-preserved-then-cand-s : goal.loop-i-preserved-then-cand-s
 loop-i-preserved-then-cand-s c =
     let a = c.args in let l = c.loop-i in

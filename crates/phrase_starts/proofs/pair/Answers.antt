@@ -22,12 +22,6 @@ returns-then-j-other_freq c =
     let a = c.args in let l = c.loop-i in
     no_second a.positions.now a.s a.t l.i l.j l.n l.invariant c.if-j-other_freq.true
 
-pub start-x-requires : goal.start-x-requires
-start-x-requires c = (c.requires.0.small c.loop-i.i c.loop-i-test.true, c.requires.0.offset-small)
-
-pub start-y-requires : goal.start-y-requires
-start-y-requires c = (c.requires.1.small c.loop-i.j (omega (arith, c.loop-i.invariant.seconds, c.if-j-other_freq.false)), c.requires.1.offset-small)
-
 pub loop-i-preserved-then-x-y : goal.loop-i-preserved-then-x-y
 loop-i-preserved-then-x-y c =
     let a = c.args in let l = c.loop-i in

@@ -8,9 +8,6 @@ returns-then-wrong_records c =
     let q = c.args.q.now in
     λ ix l. lowest-7 (wrong7 q) (wrong8 ix q) (wrong9 q) (wrong10 ix q) (sym c.wrong_records.ensures ∙ c.if-wrong_records.true)
 
-pub wrong_values-requires : goal.wrong_values-requires
-wrong_values-requires c = sym c.wrong_records.ensures ∙ c.if-wrong_records.false
-
 pub returns-then-wrong_values : goal.returns-then-wrong_values
 returns-then-wrong_values c =
     let q = c.args.q.now in
