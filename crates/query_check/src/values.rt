@@ -48,7 +48,9 @@ fn wrong_phrase(q: &[u32], fields: &[u32], leaves: &[u32], at: usize) -> bool
     requires { (at < record_count q.now) × (at + 1 + record_children q.now at ≤ record_count q.now) }
     ensures { result ≡ phrase_wrong fields.now leaves.now q.now at }
 {
-    fields.len() / 3 <= value(q, at, 0) as usize || unused_from(q, at, 1) || other_field(q, leaves, at)
+    fields.len() / 3 <= value(q, at, 0) as usize
+        || unused_from(q, at, 1)
+        || other_field(q, leaves, at)
 }
 
 fn wrong_range_record(q: &[u32], columns: &[u32], at: usize) -> bool
