@@ -2,21 +2,19 @@
 use mathlib.Core.Path.{◌≡◌, refl, sym, ap, subst, ◌∙◌}
 use mathlib.Core.Logic.{⊎_elim}
 use mathlib.Core.Bool.{Bool, true, false, not, ◌&&◌, ◌||◌}
-use mathlib.Core.List.{List, []}
-use Prim.Native.Nat.{ℕ, suc, ◌+◌, ◌-◌, ◌*◌, ◌/◌, ◌<◌}
+use Prim.Native.Nat.{ℕ, suc, ◌+◌, ◌-◌, ◌*◌, ◌<◌}
 use native.Mathlib.Omega.{arith}
 use lib.Dec.{leb, eqb}
-use lib.ListN.{length, get_or}
-use borrow.Author.Tests.{lt-ltb, leb-false, eqb-true, eqb-false, not-true}
-use Rattle.meaning.specs.IndexRefusals.{wrong4}
+use lib.ListN.{get_or}
+use borrow.Author.Tests.{lt-ltb, eqb-true, eqb-false, not-true, not-false}
 use Rattle.meaning.specs.Below.{count_below}
-use Rattle.meaning.specs.Lent.{Index, has_positions, leaf_field, leaf_first, leaf_number, leaf_document}
+use Rattle.meaning.specs.Lent.{Index, has_positions, leaf_field, leaf_first, leaf_number, leaf_document, field_positions}
 use Rattle.meaning.proofs.Tests.{or_left, or_right}
 use Rattle.meaning.proofs.Below.{last-or-below}
-use Rattle.index.specs.Slices.{leaves_only, runs_only}
-use Rattle.index.specs.Accepted.{LeafOk}
-use Rattle.index.proofs.Known.{leaf-ok}
-use Rattle.index.proofs.Parts.{wrong4-of}
+use Rattle.index.specs.declared.fields.Field.{Field}
+use Rattle.index.specs.declared.leaves.Leaf.{Leaf}
+use Rattle.index.specs.Records.{field_of, leaf_of}
+use Rattle.index.proofs.Words.{leaf-field, leaf-number, field-positions}
 use Rattle.posting_positions.proofs.Gaps.{and_left, and_right}
 use Rattle.adjacent_leaves.specs.Together.{Together, border_fall}
 
@@ -33,8 +31,8 @@ module _ (ix : Index) where
   unfolding count_below
   border-none l = refl
 
-  pub together-one : (l last : ℕ) → 0 < leaf_number ix l → last ≡ leaf_first ix l + leaf_number ix l → Together ix l 1 last 0 (leb ix.max_doc (document_at (3 * last - 3)))
-  together-one l last p e =
+  pub together-one : (l last : ℕ) → 0 < leaf_number ix l → last ≡ leaf_first ix l + leaf_number ix l → document_at (3 * last - 3) < ix.max_doc → Together ix l 1 last 0 false
+  together-one l last p e low =
       let z : l ≡ l + 0 = omega arith in
       record {
         some = λ i g. let y : l ≡ l + i = omega arith in subst (λ (k : ℕ). 0 < leaf_number ix k) y p;
@@ -42,7 +40,7 @@ module _ (ix : Index) where
         with = λ i g. absurd (omega arith);
         ends = subst (λ (k : ℕ). last ≡ leaf_first ix k + leaf_number ix k) z e;
         fallen = border-none l;
-        low = λ h i g. let y : l ≡ l + i = omega arith in subst (λ (k : ℕ). leaf_document ix k (leaf_number ix k - 1) < ix.max_doc) y (subst (λ (d : ℕ). d < ix.max_doc) (sym (last-document l last p e)) (leb-false _ _ h));
+        low = λ h i g. let y : l ≡ l + i = omega arith in subst (λ (k : ℕ). leaf_document ix k (leaf_number ix k - 1) < ix.max_doc) y (subst (λ (d : ℕ). d < ix.max_doc) (sym (last-document l last p e)) low);
       }
 
   -- a first document held to the one before
@@ -50,25 +48,26 @@ module _ (ix : Index) where
   border-is l m e last s p g =
       sym (ap (λ (b : Bool). b && leb (document_at (3 * leaf_first ix (l + m))) (document_at (3 * leaf_first ix (l + m) - 3))) (lt-ltb _ _ p) ∙ ap (λ (k : ℕ). leb (document_at (3 * k)) (document_at (3 * k - 3))) (ap (λ (k : ℕ). leaf_first ix k) (sym s) ∙ g))
 
-  module _ (l m last falls : ℕ) (high : Bool) (t : Together ix l m last falls high) (p : 0 < m) (e : ℕ) (s : e ≡ l + m) (g : leaf_first ix e ≡ last) (n : 0 < leaf_number ix e) (q : has_positions ix (leaf_field ix e) ≡ true) where
-    pub together-more : (last' falls' : ℕ) → last' ≡ leaf_first ix e + leaf_number ix e → falls' ≡ count_below (m + 1) (border_fall ix l) → Together ix l (m + 1) last' falls' (high || leb ix.max_doc (document_at (3 * last' - 3)))
-    together-more last' falls' a b =
+  module _ (l m last falls : ℕ) (t : Together ix l m last falls false) (p : 0 < m) (e : ℕ) (s : e ≡ l + m) (g : leaf_first ix e ≡ last) (n : 0 < leaf_number ix e) (q : has_positions ix (leaf_field ix e) ≡ true) where
+    pub together-more : (last' falls' : ℕ) → last' ≡ leaf_first ix e + leaf_number ix e → falls' ≡ count_below (m + 1) (border_fall ix l) → document_at (3 * last' - 3) < ix.max_doc → Together ix l (m + 1) last' falls' false
+    together-more last' falls' a b low =
         record {
           some = λ i k. ⊎_elim (λ (z : i ≡ m). let y : e ≡ l + i = omega arith in subst (λ (x : ℕ). 0 < leaf_number ix x) y n) (λ (z : i < m). t.some i z) (last-or-below i m (omega arith));
           next = λ i k. ⊎_elim (λ (z : suc i ≡ m). let y : e ≡ l + suc i = omega arith in let x : m - 1 ≡ i = omega arith in sym (ap (λ (w : ℕ). leaf_first ix w) y) ∙ g ∙ t.ends ∙ ap (λ (w : ℕ). leaf_first ix (l + w) + leaf_number ix (l + w)) x) (λ (z : suc i < m). t.next i z) (last-or-below (suc i) m (omega arith));
           with = λ i k. ⊎_elim (λ (z : suc i ≡ m). let y : e ≡ l + suc i = omega arith in subst (λ (x : ℕ). has_positions ix (leaf_field ix x) ≡ true) y q) (λ (z : suc i < m). t.with i z) (last-or-below (suc i) m (omega arith));
           ends = let y : e ≡ l + (m + 1 - 1) = omega arith in subst (λ (k : ℕ). last' ≡ leaf_first ix k + leaf_number ix k) y a;
           fallen = b;
-          low = λ h i k. ⊎_elim (λ (z : i ≡ m). let y : e ≡ l + i = omega arith in subst (λ (x : ℕ). leaf_document ix x (leaf_number ix x - 1) < ix.max_doc) y (subst (λ (d : ℕ). d < ix.max_doc) (sym (last-document e last' n a)) (leb-false _ _ (or_right high (leb ix.max_doc (document_at (3 * last' - 3))) h)))) (λ (z : i < m). t.low (or_left high (leb ix.max_doc (document_at (3 * last' - 3))) h) i z) (last-or-below i m (omega arith));
+          low = λ h i k. ⊎_elim (λ (z : i ≡ m). let y : e ≡ l + i = omega arith in subst (λ (x : ℕ). leaf_document ix x (leaf_number ix x - 1) < ix.max_doc) y (subst (λ (d : ℕ). d < ix.max_doc) (sym (last-document e last' n a)) low)) (λ (z : i < m). t.low refl i z) (last-or-below i m (omega arith));
         }
 
--- positions say nothing of it
-pub together-with : (n : ℕ) (fs ls ps qs : List ℕ) (l m last falls : ℕ) (high : Bool) → Together (runs_only n fs ls ps []) l m last falls high → Together (runs_only n fs ls ps qs) l m last falls high
-together-with n fs ls ps qs l m last falls high t = record { some = t.some; next = t.next; with = t.with; ends = t.ends; fallen = t.fallen; low = t.low }
+-- the first leaf and its field, as the code reads them
+module _ (ix : Index) (l : ℕ) (leaf : Leaf) (field : Field) (e : leaf ≡ leaf_of ix l) (g : field ≡ field_of ix leaf.field) (has empty : Bool) (w : has ≡ eqb field.positions 1) (z : empty ≡ eqb leaf.number 0) (h : (not has || empty) ≡ false) where
+  pub begun-some : 0 < leaf_number ix l
+  begun-some = let n : leaf.number ≡ 0 → ⊥ = eqb-false _ _ (sym z ∙ or_right (not has) empty h) in omega (arith, n, leaf-number ix l leaf e)
 
--- what is known of a leaf that is lent
-pub leaf-within : (n : ℕ) (fs ls ps qs : List ℕ) → wrong4 (leaves_only fs ls ps) ≡ false → (k : ℕ) → k < length ls / 4 → LeafOk (runs_only n fs ls ps qs) k
-leaf-within n fs ls ps qs e k h = leaf-ok (runs_only n fs ls ps qs) (wrong4-of (runs_only n fs ls ps qs) ∙ e) k h
+  pub begun-with : has_positions ix (leaf_field ix l) ≡ true
+  begun-with =
+      ap (λ (x : ℕ). eqb x 1) (sym (field-positions ix leaf.field field g ∙ ap (λ (f : ℕ). field_positions ix f) (leaf-field ix l leaf e))) ∙ sym w ∙ not-false _ (or_left (not has) empty h)
 
 -- a leaf whose run begins where the one before ends
 pub record Followed (ix : Index) (k last : ℕ) : Type 0 where

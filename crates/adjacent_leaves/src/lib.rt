@@ -1,11 +1,11 @@
 // Leaves whose runs follow one another, as a writer lays them: whether nothing in them is wrong, where that shows at once.
 #![tactic(auto)]
 
-ghost use Rattle.std.specs.Prelude.{◌≡◌, [], true, false, not, ◌&&◌, ℕ, ◌<◌, ◌≤◌, ◌+◌, ◌-◌, ◌/◌, eqb, length, IfSome};
+ghost use Rattle.std.specs.Prelude.{◌≡◌, true, false, not, ◌&&◌, ℕ, ◌<◌, ◌≤◌, ◌+◌, ◌-◌, ◌/◌, eqb, length, IfSome, IfOk, MatchResult};
 ghost use Rattle.meaning.specs.Below.{any_below};
 ghost use Rattle.meaning.specs.Lent.{has_positions, leaf_field, leaf_first, leaf_number};
 ghost use Rattle.meaning.specs.IndexRefusals.{wrong4, wrong_posting};
-ghost use Rattle.index.specs.Slices.{leaves_only, runs_only};
+ghost use Rattle.index.specs.IndexOf.{index_of};
 ghost use Rattle.posting_positions.specs.Places.{wrong_places};
 ghost use Rattle.posting_rows.specs.Rows.{Over};
 ghost use Rattle.adjacent_leaves.specs.Plain.{Plain};
@@ -13,8 +13,8 @@ ghost use Rattle.adjacent_leaves.specs.Together.{Together};
 
 use index::fields::field_at;
 use index::leaves::leaf_at;
+use index::lent::Lent;
 use index::postings::{LARGEST_FREQUENCY, NO_MORE_DOCS};
-use index::wide;
 use posting_positions::plain_positions;
 use posting_rows::{Tally, gathered};
 
@@ -90,114 +90,82 @@ fn plain_run(run: &[u32], positions: &[u32], falls: usize) -> bool
     fallen == falls
 }
 
-// Leaves up to `end`: where the last run ends, how many first documents are not above the one before, and whether a last
-// document is not below N.
+// Leaves up to `end`: where the last run ends, and how many first documents are not above the one before.
 #[derive(Clone, Copy)]
 pub struct Stretch {
     pub end: usize,
     pub last: usize,
     pub falls: usize,
-    pub high: bool,
 }
 
 // Where a leaf's run ends.
-fn leaf_end(leaves: &[u32], l: usize) -> usize
-    requires { l < length leaves.now / 4 }
-    ensures { result ≡ leaf_first (leaves_only [] leaves.now []) l + leaf_number (leaves_only [] leaves.now []) l }
+fn run_end(lent: &Lent, l: usize) -> usize
+    requires { l < length lent.now.leaves.now / 4 }
+    ensures { result ≡ leaf_first (index_of lent.now) l + leaf_number (index_of lent.now) l }
 {
-    let leaf = leaf_at(leaves, l);
-    leaf.first as usize + leaf.number as usize
+    leaf_at(lent.leaves, l).end()
 }
 
 // Whether the run of leaf l begins at posting `last`, is not empty, and its field has positions.
-fn follows(fields: &[u32], leaves: &[u32], l: usize, last: usize) -> bool
-    requires { (l < length leaves.now / 4) × (leaf_field (leaves_only [] leaves.now []) l < length fields.now / 3) }
-    ensures { result ≡ ((eqb (leaf_first (leaves_only [] leaves.now []) l) last && not (eqb (leaf_number (leaves_only [] leaves.now []) l) 0)) && has_positions (leaves_only fields.now [] []) (leaf_field (leaves_only [] leaves.now []) l)) }
+fn follows(lent: &Lent, l: usize, last: usize) -> bool
+    requires { (l < length lent.now.leaves.now / 4) × (leaf_field (index_of lent.now) l < length lent.now.fields.now / 3) }
+    ensures { result ≡ ((eqb (leaf_first (index_of lent.now) l) last && not (eqb (leaf_number (index_of lent.now) l) 0)) && has_positions (index_of lent.now) (leaf_field (index_of lent.now) l)) }
 {
-    let leaf = leaf_at(leaves, l);
-    let field = field_at(fields, leaf.field as usize);
-    (leaf.first as usize == last) & (leaf.number != 0) & (field.positions == 1)
+    let leaf = leaf_at(lent.leaves, l);
+    let field = field_at(lent.fields, leaf.field as usize);
+    (leaf.first as usize == last) & !leaf.is_empty() & field.has_positions()
 }
 
-// The leaves from l on, below a limit, whose runs follow one another in fields with positions.
-fn adjacent(
-    max_doc: u32,
-    fields: &[u32],
-    leaves: &[u32],
-    postings: &[u32],
-    l: usize,
-    limit: usize,
-) -> Stretch
-    requires postings_value { wrong4 (leaves_only fields.now leaves.now postings.now) ≡ false }
-    requires l_lt_limit { (l < limit) × (limit ≤ length leaves.now / 4) × (0 < leaf_number (leaves_only [] leaves.now []) l) }
-    ensures { (m : ℕ) × ((result.end ≡ l + m) × (0 < m) × (l + m ≤ limit) × Together (runs_only max_doc fields.now leaves.now postings.now []) l m result.last result.falls result.high) }
+// The leaves from l on, below a limit, whose runs follow one another in fields with positions; or, as an error, where they end if
+// a last document is not below N.
+fn adjacent(lent: &Lent, l: usize, limit: usize) -> Result<Stretch, usize>
+    requires leaves_right { wrong4 (index_of lent.now) ≡ false }
+    requires l_lt_limit { (l < limit) × (limit ≤ length lent.now.leaves.now / 4) × (0 < leaf_number (index_of lent.now) l) }
+    ensures { MatchResult result (λ s. (m : ℕ) × ((s.end ≡ l + m) × (0 < m) × (l + m ≤ limit) × Together (index_of lent.now) l m s.last s.falls false)) (λ end. (l < end) × (end ≤ limit)) }
 {
-    let mut last = leaf_end(leaves, l);
-    let mut high = postings[3 * last - 3] >= max_doc;
+    let mut last = run_end(lent, l);
+    if lent.postings[3 * last - 3] >= lent.max_doc {
+        return Err(l + 1);
+    }
     let mut falls: usize = 0;
     for end in l + 1..limit {
-        if !follows(fields, leaves, end, last) {
-            return Stretch {
-                end,
-                last,
-                falls,
-                high,
-            };
+        if !follows(lent, end, last) {
+            return Ok(Stretch { end, last, falls });
         }
-        if postings[3 * last] <= postings[3 * last - 3] {
+        if lent.postings[3 * last] <= lent.postings[3 * last - 3] {
             falls += 1;
         }
-        last = leaf_end(leaves, end);
-        high = high | (postings[3 * last - 3] >= max_doc);
+        last = run_end(lent, end);
+        if lent.postings[3 * last - 3] >= lent.max_doc {
+            return Err(end + 1);
+        }
     }
-    Stretch {
+    Ok(Stretch {
         end: limit,
         last,
         falls,
-        high,
-    }
+    })
 }
 
-// How far the leaves were looked at together, and whether they are plainly right.
-// Kept: no plainer: `end` counts for leaves that are not plainly right too, so it is no Option.
-#[derive(Clone, Copy)]
-pub struct Turn {
-    pub end: usize,
-    pub fine: bool,
-}
-
-// The leaves from l on, below a limit, that can be read together: whether nothing in their runs is wrong. Where that does not
-// show, it may still be so.
-pub fn plain_leaves(
-    max_doc: u32,
-    fields: &[u32],
-    leaves: &[u32],
-    postings: &[u32],
-    positions: &[u32],
-    l: usize,
-    limit: usize,
-) -> Turn
-    requires postings_value { wrong4 (leaves_only fields.now leaves.now postings.now) ≡ false }
-    requires l_lt_limit { (l < limit) × (limit ≤ length leaves.now / 4) }
-    ensures l_lt_end { (l < result.end) × (result.end ≤ limit) }
-    ensures k_value { result.fine ≡ true → (k : ℕ) → l ≤ k → k < result.end → any_below (leaf_number (leaves_only [] leaves.now []) k) (wrong_posting (runs_only max_doc fields.now leaves.now postings.now positions.now) k) ≡ false }
+// The end of those leaves from l on, below a limit, that can be read together: nothing in their runs is wrong. Where that does
+// not show, it is an error, though it may still be so.
+pub fn plain_leaves(lent: &Lent, l: usize, limit: usize) -> Result<usize, usize>
+    requires leaves_right { wrong4 (index_of lent.now) ≡ false }
+    requires l_lt_limit { (l < limit) × (limit ≤ length lent.now.leaves.now / 4) }
+    ensures bounds { MatchResult result (λ end. (l < end) × (end ≤ limit)) (λ end. (l < end) × (end ≤ limit)) }
+    ensures right { IfOk result (λ end. (k : ℕ) → l ≤ k → k < end → any_below (leaf_number (index_of lent.now) k) (wrong_posting (index_of lent.now) k) ≡ false) }
 {
-    let leaf = leaf_at(leaves, l);
-    let field = field_at(fields, wide(leaf.field));
-    if (field.positions != 1) | (leaf.number == 0) {
-        return Turn {
-            end: l + 1,
-            fine: false,
-        };
+    let leaf = leaf_at(lent.leaves, l);
+    let field = field_at(lent.fields, leaf.field as usize);
+    if !field.has_positions() | leaf.is_empty() {
+        return Err(l + 1);
     }
-    let s = adjacent(max_doc, fields, leaves, postings, l, limit);
-    let end = s.end;
-    if s.high {
-        return Turn { end, fine: false };
-    }
-    let from = 3 * wide(leaf.first);
+    let s = adjacent(lent, l, limit)?;
+    let from = 3 * leaf.first as usize;
     let to = 3 * s.last;
-    let run = &postings[from..to];
-    let fine = plain_run(run, positions, s.falls);
-    Turn { end, fine }
+    let run = &lent.postings[from..to];
+    if !plain_run(run, lent.positions, s.falls) {
+        return Err(s.end);
+    }
+    Ok(s.end)
 }

@@ -1,19 +1,13 @@
 -- The three ways out of the checks of fields and of leaves: not whole, too many, or one of them wrong. Assumes nothing.
 use mathlib.Core.Path.{◌≡◌}
 use mathlib.Core.Bool.{Bool, true, ◌||◌}
-use Prim.Native.Nat.{ℕ, ◌%◌, ◌≤◌, ◌<◌}
+use Prim.Native.Nat.{ℕ, ◌%◌, ◌≤◌}
 use lib.Dec.{ltb}
 use lib.ListN.{length}
-use borrow.Author.Tests.{ne_eqb, eq-eqb, lt-ltb, le-ltb}
+use borrow.Author.Tests.{ne_eqb, eq-eqb, le-ltb}
 use Rattle.meaning.specs.Below.{any_below}
 use Rattle.meaning.specs.Lent.{Index, leaf_count, leaf_number}
 use Rattle.meaning.specs.IndexRefusals.{not_whole, wrong5, wrong_posting}
-
-pub not-whole : (words size most count : ℕ) (t : Bool) → (words % size ≡ 0 → ⊥) → true ≡ (not_whole words size || ltb most count || t)
-not-whole words size most count t h = rw (ne_eqb _ _ h)
-
-pub too_many : (words size most count : ℕ) (t : Bool) → words % size ≡ 0 → most < count → true ≡ (not_whole words size || ltb most count || t)
-too_many words size most count t h l = rw (eq-eqb _ _ h, lt-ltb _ _ l)
 
 pub else-some : (words size most count : ℕ) (t : Bool) → words % size ≡ 0 → count ≤ most → t ≡ (not_whole words size || ltb most count || t)
 else-some words size most count t h l = rw (eq-eqb _ _ h, le-ltb _ _ l)

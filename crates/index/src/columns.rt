@@ -7,8 +7,6 @@ ghost use Rattle.meaning.specs.QueryRefusals.{wrong_range};
 ghost use Rattle.meaning.specs.Entries.{columns_only};
 ghost use Rattle.index.specs.Ranges.{asked};
 
-use super::wide;
-
 // The limit of document 01.
 const MAX_COLUMNS: usize = 8;
 
@@ -32,9 +30,10 @@ fn wrong_types(columns: &[u32]) -> bool
 fn wrong_presence(values: &[u32]) -> bool
     ensures { result ≡ any_below (length values.now / 3) (λ k. ltb 1 (get_or values.now (3 * k) 0)) }
 {
+    let (records, _) = values.as_chunks::<3>();
     let mut bad = false;
-    for k in 0..values.len() / 3 {
-        bad |= values[3 * k] > 1;
+    for [present, _, _] in records {
+        bad |= *present > 1;
     }
     bad
 }
@@ -47,7 +46,7 @@ pub fn wrong_columns(max_doc: u32, columns: &[u32], values: &[u32]) -> bool
     if columns.len() > MAX_COLUMNS {
         return true;
     }
-    if values.len() != 3 * (columns.len() * wide(max_doc)) {
+    if values.len() != 3 * (columns.len() * max_doc as usize) {
         return true;
     }
     wrong_types(columns) | wrong_presence(values)
@@ -57,7 +56,7 @@ pub fn wrong_columns(max_doc: u32, columns: &[u32], values: &[u32]) -> bool
 pub fn wrong_range(columns: &[u32], range: NumericRange) -> bool
     ensures { result ≡ wrong_range (columns_only 0 columns.now []) (asked range) }
 {
-    (wide(range.column) >= columns.len())
+    (range.column as usize >= columns.len())
         | (range.kinds > 8)
         | ((range.kinds % 3 == 0) & (range.lower != 0))
         | ((range.kinds / 3 == 0) & (range.upper != 0))

@@ -1,5 +1,5 @@
 // Field records, three words each: average length as f32 bits, norms 0 or 1, positions 0 or 1.
-ghost use Rattle.std.specs.Prelude.{◌≡◌, ◌<◌, ◌/◌, length};
+ghost use Rattle.std.specs.Prelude.{◌≡◌, ◌<◌, ◌/◌, eqb, length};
 ghost use Rattle.meaning.specs.IndexRefusals.{wrong_field, wrong2};
 ghost use Rattle.index.specs.Slices.{fields_only};
 ghost use Rattle.index.specs.Records.{field_of};
@@ -19,6 +19,20 @@ pub struct Field {
     pub average: u32,
     pub norms: u32,
     pub positions: u32,
+}
+
+impl Field {
+    pub fn has_norms(self) -> bool
+        ensures { result ≡ eqb self.norms 1 }
+    {
+        self.norms == 1
+    }
+
+    pub fn has_positions(self) -> bool
+        ensures { result ≡ eqb self.positions 1 }
+    {
+        self.positions == 1
+    }
 }
 
 // Field number f.

@@ -1,5 +1,5 @@
 // Leaf records, four words each: field, first posting, number of postings, idf as f32 bits.
-ghost use Rattle.std.specs.Prelude.{◌≡◌, [], ◌<◌, ◌/◌, length};
+ghost use Rattle.std.specs.Prelude.{◌≡◌, [], ◌<◌, ◌+◌, ◌/◌, eqb, length};
 ghost use Rattle.meaning.specs.IndexRefusals.{wrong_leaf, wrong4};
 ghost use Rattle.index.specs.Slices.{leaves_only};
 ghost use Rattle.index.specs.Records.{leaf_of};
@@ -18,6 +18,21 @@ pub struct Leaf {
     pub first: u32,
     pub number: u32,
     pub idf: u32,
+}
+
+impl Leaf {
+    pub fn is_empty(self) -> bool
+        ensures { result ≡ eqb self.number 0 }
+    {
+        self.number == 0
+    }
+
+    // Where its run ends, which may need more than 32 bits.
+    pub fn end(self) -> usize
+        ensures { result ≡ self.first + self.number }
+    {
+        self.first as usize + self.number as usize
+    }
 }
 
 // Leaf number l.
@@ -39,9 +54,8 @@ fn wrong_leaf(fields: &[u32], leaves: &[u32], postings: &[u32], l: usize) -> boo
     ensures { result ≡ wrong_leaf (leaves_only fields.now leaves.now postings.now) l }
 {
     let leaf = leaf_at(leaves, l);
-    let end = leaf.first as usize + leaf.number as usize;
     (leaf.field as usize >= fields.len() / 3)
-        | (end > postings.len() / 3)
+        | (leaf.end() > postings.len() / 3)
         | (leaf.idf > LARGEST_IDF)
 }
 

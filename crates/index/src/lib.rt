@@ -9,7 +9,7 @@ pub mod live;
 pub mod norms;
 pub mod postings;
 
-ghost use Rattle.std.specs.Prelude.{◌≡◌, [], ℕ, ◌+◌, ◌/◌, ◌<◌, Bool, ◌||◌, ltb, length};
+ghost use Rattle.std.specs.Prelude.{◌≡◌, [], ℕ, ◌/◌, ◌<◌, Bool, ◌||◌, ltb, length};
 ghost use Rattle.meaning.specs.Below.{any_below};
 ghost use Rattle.meaning.specs.IndexRefusals.{not_whole, wrong1};
 ghost use Rattle.index.specs.Slices.{lent};
@@ -22,13 +22,6 @@ pub fn wide(x: u32) -> usize
     ensures { result ≡ x }
 {
     x as usize
-}
-
-// The sum of two words, which may need more than 32 bits.
-pub fn sum(a: u32, b: u32) -> usize
-    ensures { result ≡ a + b }
-{
-    a as usize + b as usize
 }
 
 // 1, N above the limit.

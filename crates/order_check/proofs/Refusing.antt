@@ -1,5 +1,5 @@
 -- The lowest number of an entry over an index and a query: each way out, and what a caller knows where it is 0. Assumes nothing.
-use mathlib.Core.Path.{◌≡◌, sym, subst, ◌∙◌}
+use mathlib.Core.Path.{◌≡◌, refl, sym, subst, ◌∙◌}
 use mathlib.Core.Logic.{⊎_elim}
 use mathlib.Core.Bool.{Bool, true, false}
 use mathlib.Core.List.{List, [], ◌∷◌, ◌++◌}
@@ -13,7 +13,9 @@ use Rattle.meaning.specs.Limits.{max_records}
 use Rattle.meaning.specs.Refusals.{Condition, ◌when◌, lowest}
 use Rattle.meaning.specs.QueryRefusals.{wrong7, wrong8, wrong9, wrong10}
 use Rattle.meaning.specs.Entries.{order_conditions}
+use Rattle.index.specs.IndexOf.{index_of}
 use Rattle.index.specs.Refusal.{index_refusal}
+use Rattle.index.specs.declared.lent.Lent.{Lent}
 use Rattle.index.proofs.Refused.{Numbered, lowest-none, lowest-some, index-accepted, index-refused}
 use Rattle.index.proofs.Accepted.{accepted-checked}
 use Rattle.query.specs.Read.{PhraseRuns}
@@ -115,3 +117,7 @@ module _ (ix : Index) (n : ℕ) (leaves postings q : List ℕ) (h : QueryLent ix
 
   pub query-few : record_count q ≤ max_records
   query-few = (whole q h.asks.records-right).few-records
+
+-- the index and the query that an entry is lent, where none of 1 to 10 holds
+pub order-lent : (l : Lent) (q : List ℕ) (r : ℕ) → r ≡ lowest (order_conditions (index_of l) q) → r ≡ 0 → QueryLent (index_of l) l.max_doc l.leaves.now l.postings.now q
+order-lent l q r o e = record { asks = order-checked (index_of l) q r o e; documents = refl; leaves-are = refl; postings-are = refl }

@@ -26,17 +26,7 @@ pub struct Work {
 pub fn check_order(lent: &Lent, query: &[u32]) -> Result<(), Refusal>
     ensures { refusal_of result ≡ lowest (order_conditions (index_of lent.now) query.now) }
 {
-    index_check::check_index(
-        lent.max_doc,
-        lent.fields,
-        lent.leaves,
-        lent.postings,
-        lent.positions,
-        lent.norms,
-        lent.live,
-        lent.columns,
-        lent.values,
-    )?;
+    index_check::check_index(lent)?;
     query_check::check_query(query, lent.fields, lent.leaves, lent.columns)
 }
 
@@ -59,17 +49,23 @@ pub fn starts_short(
 }
 
 // Whether a work buffer is too short for the query.
-pub fn work_short(max_doc: u32, leaves: &[u32], postings: &[u32], query: &[u32], work: Work) -> bool
-    requires { (ix : Index) × QueryLent ix max_doc leaves.now postings.now query.now }
-    ensures { (ix : Index) → QueryLent ix max_doc leaves.now postings.now query.now → result ≡ work_short ix query.now (work_of work) }
+pub fn work_short(lent: &Lent, query: &[u32], work: Work) -> bool
+    requires { (ix : Index) × QueryLent ix lent.now.max_doc lent.now.leaves.now lent.now.postings.now query.now }
+    ensures { (ix : Index) → QueryLent ix lent.now.max_doc lent.now.leaves.now lent.now.postings.now query.now → result ≡ work_short ix query.now (work_of work) }
 {
     if (work.states as u64) < query_check::buffers::states_needed(query) {
         return true;
     }
-    if starts_short(leaves, postings, query, work.starts, work.other_starts) {
+    if starts_short(
+        lent.leaves,
+        lent.postings,
+        query,
+        work.starts,
+        work.other_starts,
+    ) {
         return true;
     }
-    (work.ranges as u64) < query_check::buffers::ranges_needed(max_doc, query)
+    (work.ranges as u64) < query_check::buffers::ranges_needed(lent.max_doc, query)
 }
 
 // The first of the refusals 1 to 12 whose condition holds.
@@ -89,7 +85,7 @@ pub fn search_refusal(
     if 1024 < k {
         return Err(Refusal::Hits);
     }
-    if work_short(lent.max_doc, lent.leaves, lent.postings, query, work) {
+    if work_short(lent, query, work) {
         return Err(Refusal::Buffers);
     }
     if places < k as usize {
@@ -110,7 +106,7 @@ pub fn page_refusal(
     ensures { refusal_of result ≡ page_refusal (index_of lent.now) query.now target (work_of work) documents scores }
 {
     check_order(lent, query)?;
-    if work_short(lent.max_doc, lent.leaves, lent.postings, query, work) {
+    if work_short(lent, query, work) {
         return Err(Refusal::Buffers);
     }
     if documents != scores {

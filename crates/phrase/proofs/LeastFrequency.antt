@@ -3,10 +3,9 @@ use mathlib.Core.Path.{◌≡◌, sym, subst}
 use mathlib.Core.List.{List}
 use mathlib.Core.Logic.{⊎_elim}
 use Prim.Native.Nat.{ℕ, ◌+◌, ◌%◌, ◌≤◌, ◌<◌}
-use native.Mathlib.Nat.{eq-or-lt_of_le, le_trans, lt_of_lt_of_le, not-suc-le-zero}
+use native.Mathlib.Nat.{eq-or-lt_of_le, le_trans, lt_of_lt_of_le}
 use native.Mathlib.Omega.{arith}
 use lib.ListN.{length, get_or}
-use Rattle.phrase_starts.specs.Terms.{Rarest}
 
 -- of the records before a word, that at `best` is the first with the least frequency
 pub record Passed (ts : List ℕ) (best at : ℕ) : Type 0 where
@@ -21,17 +20,6 @@ pub record Passed (ts : List ℕ) (best at : ℕ) : Type 0 where
 more : (ts : List ℕ) (least at : ℕ) → at % 3 ≡ 0 → ((k : ℕ) → k % 3 ≡ 0 → k < at → least ≤ get_or ts (k + 1) 0) → least ≤ get_or ts (at + 1) 0 → (k : ℕ) → k % 3 ≡ 0 → k < at + 3 → least ≤ get_or ts (k + 1) 0
 more ts least at w b h k e l =
     ⊎_elim (λ q. subst (λ (n : ℕ). least ≤ get_or ts (n + 1) 0) (sym q) h) (λ (p : k < at). b k e p) (eq-or-lt_of_le {n = k} {m = at} (omega (arith, e, w, l)))
-
-pub passed-first : (ts : List ℕ) → 0 < length ts → length ts % 3 ≡ 0 → Passed ts 0 3
-passed-first ts h w =
-    record {
-      whole = omega arith;
-      not-past = omega (arith, h, w);
-      best-whole = omega arith;
-      best-passed = omega arith;
-      below = λ k e l. (let z : k ≡ 0 = omega arith in rw z (omega arith));
-      first = λ k e l. absurd (not-suc-le-zero l);
-    }
 
 module _ (ts : List ℕ) (best at : ℕ) (p : Passed ts best at) (w : length ts % 3 ≡ 0) (h : at < length ts) where
   -- a rarer record takes the place of the best
@@ -56,12 +44,3 @@ module _ (ts : List ℕ) (best at : ℕ) (p : Passed ts best at) (w : length ts 
         below = more ts (get_or ts (best + 1) 0) at p.whole p.below l;
         first = p.first;
       }
-
-pub rarest-of-all : (ts : List ℕ) (best at : ℕ) → Passed ts best at → length ts ≤ at → Rarest ts best
-rarest-of-all ts best at p h =
-    record {
-      record-start = p.best-whole;
-      one-of-them = omega (arith, p.best-passed, p.not-past);
-      least = λ k e q. p.below k e (omega (arith, h, q));
-      first = p.first;
-    }

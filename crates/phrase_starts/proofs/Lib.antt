@@ -3,3 +3,5 @@ pub mod Order
 pub mod Merge
 pub mod Records
 pub mod Size
+pub mod Merged
+pub mod Paired

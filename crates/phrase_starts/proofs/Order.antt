@@ -8,7 +8,7 @@ use native.Mathlib.Omega.{arith}
 use lib.Dec.{T, ltb, le→leb, ltb→lt, nltb→le}
 use lib.IntN.{ℤ, pos, negsuc, sub_ℕ, ◌-ℤ◌}
 use lib.ListN.{length, get_or}
-use lib.Signed.{mag, lt_z, le_z, ◌≤ℤ◌, ◌<ℤ◌, ≤ℤ_refl, <ℤ-≤ℤ_trans, <ℤ_irrefl}
+use lib.Signed.{lt_z, le_z, ◌≤ℤ◌, ◌<ℤ◌, ≤ℤ_refl, <ℤ-≤ℤ_trans, <ℤ_irrefl}
 use mir.Val.{SFits, to_z, of_z}
 use mir.Syntax.{w32}
 use mir.ValLaws.{to_z-of_z}
@@ -34,14 +34,6 @@ difference p zero = go (ltb p 0) (ltb→lt p 0)
     go true h = absurd (not-suc-le-zero (h tt))
     go false h = ap pos (omega arith)
 difference p (suc o) = refl
-
--- it fits an i32
-pub difference-small : (p o : ℕ) → p ≤ 2147483647 → o ≤ 2147483647 → mag (sub_ℕ p o) < 2147483648
-difference-small p o hp ho = go (ltb p o) hp ho
-  where
-    go : (b : Bool) → p ≤ 2147483647 → o ≤ 2147483647 → mag (cond b (negsuc (o - suc p)) (pos (p - o))) < 2147483648
-    go true hp ho = omega (arith, hp, ho)
-    go false hp ho = omega (arith, hp, ho)
 
 -- a later position starts no earlier
 pub difference-rises : (p q o : ℕ) → p ≤ q → sub_ℕ p o ≤ℤ sub_ℕ q o

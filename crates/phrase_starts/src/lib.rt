@@ -58,6 +58,7 @@ pub fn intersect(positions: &[u32], t: Term, cands: &[i32], out: &mut [i32]) -> 
     let mut i = 0;
     let mut c = 0;
     let mut n = 0;
+    // Kept: no plainer: each turn moves one place of two or both, so no iterator drives the loop.
     while i < freq {
         if c == cands.len() {
             return n;
@@ -79,6 +80,8 @@ pub fn intersect(positions: &[u32], t: Term, cands: &[i32], out: &mut [i32]) -> 
 }
 
 // The number of starts that two terms have in common: a merge that uses up one of each with each match.
+// Kept: no plainer: `intersect` is lent one side and writes the matches, `pair` works out both and counts them, so one function
+// for both needs a trait for a side and a closure for a match.
 pub fn pair(positions: &[u32], s: Term, t: Term) -> usize
     requires { GoodTerm positions.now s × GoodTerm positions.now t }
     ensures { result ≡ common_size (starts_of positions.now s ∷ starts_of positions.now t ∷ []) }
@@ -92,6 +95,7 @@ pub fn pair(positions: &[u32], s: Term, t: Term) -> usize
     let mut i = 0;
     let mut j = 0;
     let mut n = 0;
+    // Kept: no plainer: as in `intersect`.
     while i < freq {
         if j == other_freq {
             return n;

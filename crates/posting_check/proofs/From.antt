@@ -3,8 +3,14 @@ use Rattle.std.proofs.Common.{◌≡◌, ℕ, ◌+◌, ◌-◌, ◌<◌, ◌≤�
 use Rattle.std.specs.List.{list_any, range_with_len}
 use Rattle.std.proofs.lemmas.List.FromFn.{length-range_with_len, get_or-range_with_len}
 use Rattle.meaning.specs.Below.{any_below}
+use Rattle.meaning.specs.Lent.{Index, leaf_number}
+use Rattle.meaning.specs.IndexRefusals.{wrong_posting}
 use Rattle.meaning.proofs.Below.{any-add, any-like, any_none}
 use Rattle.index.proofs.Chains.{any-list}
+
+-- something wrong in a leaf's run
+abbrev pub wrong_leaf_run : Index → ℕ → Bool
+wrong_leaf_run ix k = any_below (leaf_number ix k) (wrong_posting ix k)
 
 or-false : (b : Bool) → b ≡ (b || false)
 or-false true = refl

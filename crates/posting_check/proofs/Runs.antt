@@ -76,8 +76,10 @@ module _ (ix : Index) (l : ℕ) (fits : leaf_first ix l + leaf_number ix l ≤ p
   part_of first number = take (3 * first + 3 * number - 3 * first) (drop (3 * first) ix.postings)
 
   module _ (first number : ℕ) (e : first ≡ leaf_first ix l) (g : number ≡ leaf_number ix l) where
-    pub run-flag-with : (r s : Bool) → r ≡ any_below (length (part_of first number) / 3) (wrong_record ix.max_doc true (part_of first number)) → s ≡ any_below (length (part_of first number) / 3) (wrong_places (part_of first number) ix.positions) → has_positions ix (leaf_field ix l) ≡ true → (r || s) ≡ any_below (leaf_number ix l) (wrong_posting ix l)
-    run-flag-with r s a b h = rw (a, b, e, g) (run-with h)
+    run-flag : (has r s : Bool) → has ≡ has_positions ix (leaf_field ix l) → r ≡ any_below (length (part_of first number) / 3) (wrong_record ix.max_doc has (part_of first number)) → s ≡ any_below (length (part_of first number) / 3) (wrong_places (part_of first number) ix.positions) → (r || (has && s)) ≡ any_below (leaf_number ix l) (wrong_posting ix l)
+    run-flag true r s h a b = rw (a, b, e, g) (run-with (sym h))
+    run-flag false r s h a b = rw (or-false, a, e, g) (run-without (sym h))
 
-    pub run-flag-without : (r : Bool) → r ≡ any_below (length (part_of first number) / 3) (wrong_record ix.max_doc false (part_of first number)) → has_positions ix (leaf_field ix l) ≡ false → r ≡ any_below (leaf_number ix l) (wrong_posting ix l)
-    run-flag-without r a h = rw (a, e, g) (run-without h)
+    -- and where it is known how a test came out
+    pub run-way : (has r s : Bool) → has ≡ has_positions ix (leaf_field ix l) → r ≡ any_below (length (part_of first number) / 3) (wrong_record ix.max_doc has (part_of first number)) → s ≡ any_below (length (part_of first number) / 3) (wrong_places (part_of first number) ix.positions) → (has' r' : Bool) → has ≡ has' → r ≡ r' → (r' || (has' && s)) ≡ any_below (leaf_number ix l) (wrong_posting ix l)
+    run-way has r s h a b has' r' c d = ap (λ (x : Bool). x || (has' && s)) (sym d) ∙ ap (λ (x : Bool). r || (x && s)) (sym c) ∙ run-flag has r s h a b

@@ -1,24 +1,25 @@
 // Refusal 5: the posting records of each leaf's run and their positions.
 #![tactic(auto)]
 
-ghost use Rattle.std.specs.Prelude.{◌≡◌, ◌+◌, ◌-◌, ◌/◌, ◌<◌, ◌≤◌, false, [], length};
+ghost use Rattle.std.specs.Prelude.{◌≡◌, ◌+◌, ◌-◌, ◌/◌, ◌<◌, ◌≤◌, false, eqb, length};
 ghost use Rattle.meaning.specs.Below.{any_below};
 ghost use Rattle.meaning.specs.Lent.{leaf_number};
 ghost use Rattle.meaning.specs.IndexRefusals.{wrong4, wrong5, wrong_posting};
-ghost use Rattle.index.specs.Slices.{leaves_only, runs_only};
+ghost use Rattle.index.specs.IndexOf.{index_of};
 ghost use Rattle.posting_check.specs.Runs.{wrong_record};
 
 use adjacent_leaves::plain_leaves;
-use index::fields::field_at;
+use index::fields::{Field, field_at};
 use index::leaves::leaf_at;
+use index::lent::Lent;
 use index::postings::{LARGEST_FREQUENCY, NO_MORE_DOCS};
 use posting_positions::wrong_run_places;
 
 // The records of a run in one pass without a branch. The or of all words shows in its high bits whether one is too large:
 // a document, or its distance above the document before, from 2^31 on; a frequency less 1 from 2^24 on; an index from 1 on.
-fn wrong_records(run: &[u32], max_doc: u32, has_positions: bool) -> bool
+fn wrong_records(run: &[u32], max_doc: u32, field: Field) -> bool
     requires { max_doc ≤ 2147483648 }
-    ensures { result ≡ any_below (length run.now / 3) (wrong_record max_doc has_positions run.now) }
+    ensures { result ≡ any_below (length run.now / 3) (wrong_record max_doc (eqb field.positions 1) run.now) }
 {
     let (records, _) = run.as_chunks::<3>();
     let mut steps: u32 = 0;
@@ -33,83 +34,58 @@ fn wrong_records(run: &[u32], max_doc: u32, has_positions: bool) -> bool
     }
     ((steps > NO_MORE_DOCS) | (floor > max_doc))
         | (frequencies >= LARGEST_FREQUENCY)
-        | ((indexes > 0) & !has_positions)
+        | ((indexes > 0) & !field.has_positions())
 }
 
 // Leaf l's run: its records, and in a field with positions its positions; without, every index is 0.
-fn wrong_run(
-    max_doc: u32,
-    fields: &[u32],
-    leaves: &[u32],
-    postings: &[u32],
-    positions: &[u32],
-    l: usize,
-) -> bool
-    requires max_doc_bound { max_doc ≤ 1048576 }
-    requires postings_value { wrong4 (leaves_only fields.now leaves.now postings.now) ≡ false }
-    requires l_in_bounds { l < length leaves.now / 4 }
-    ensures { result ≡ any_below (leaf_number (leaves_only [] leaves.now []) l) (wrong_posting (runs_only max_doc fields.now leaves.now postings.now positions.now) l) }
+fn wrong_run(lent: &Lent, l: usize) -> bool
+    requires max_doc_bound { lent.now.max_doc ≤ 1048576 }
+    requires leaves_right { wrong4 (index_of lent.now) ≡ false }
+    requires l_in_bounds { l < length lent.now.leaves.now / 4 }
+    ensures { result ≡ any_below (leaf_number (index_of lent.now) l) (wrong_posting (index_of lent.now) l) }
 {
-    let leaf = leaf_at(leaves, l);
-    let field = field_at(fields, leaf.field as usize);
+    let leaf = leaf_at(lent.leaves, l);
+    let field = field_at(lent.fields, leaf.field as usize);
     let from = 3 * leaf.first as usize;
     let to = from + 3 * leaf.number as usize;
-    let run = &postings[from..to];
-    if field.positions == 1 {
-        if wrong_records(run, max_doc, true) {
-            true
-        } else {
-            wrong_run_places(run, positions)
-        }
-    } else {
-        wrong_records(run, max_doc, false)
+    let run = &lent.postings[from..to];
+    if wrong_records(run, lent.max_doc, field) {
+        return true;
     }
+    field.has_positions() && wrong_run_places(run, lent.positions)
 }
 
 // The runs of the leaves from l on, below `end`, one by one.
-fn wrong_runs(
-    max_doc: u32,
-    fields: &[u32],
-    leaves: &[u32],
-    postings: &[u32],
-    positions: &[u32],
-    l: usize,
-    end: usize,
-) -> bool
-    requires max_doc_bound { max_doc ≤ 1048576 }
-    requires postings_value { wrong4 (leaves_only fields.now leaves.now postings.now) ≡ false }
-    requires l_le_end { (l ≤ end) × (end ≤ length leaves.now / 4) }
-    ensures { result ≡ any_below (end - l) (λ i. any_below (leaf_number (leaves_only [] leaves.now []) (l + i)) (wrong_posting (runs_only max_doc fields.now leaves.now postings.now positions.now) (l + i))) }
+fn wrong_runs(lent: &Lent, l: usize, end: usize) -> bool
+    requires max_doc_bound { lent.now.max_doc ≤ 1048576 }
+    requires leaves_right { wrong4 (index_of lent.now) ≡ false }
+    requires l_le_end { (l ≤ end) × (end ≤ length lent.now.leaves.now / 4) }
+    ensures { result ≡ any_below (end - l) (λ i. any_below (leaf_number (index_of lent.now) (l + i)) (wrong_posting (index_of lent.now) (l + i))) }
 {
-    (l..end).any(|k| wrong_run(max_doc, fields, leaves, postings, positions, k))
+    (l..end).any(|k| wrong_run(lent, k))
 }
 
 // 5, the posting words: not whole, or something wrong in a leaf's run. Leaves that are not plainly right are read one by one.
-pub fn wrong_postings(
-    max_doc: u32,
-    fields: &[u32],
-    leaves: &[u32],
-    postings: &[u32],
-    positions: &[u32],
-) -> bool
-    requires max_doc_bound { max_doc ≤ 1048576 }
-    requires postings_value { wrong4 (leaves_only fields.now leaves.now postings.now) ≡ false }
-    ensures { result ≡ wrong5 (runs_only max_doc fields.now leaves.now postings.now positions.now) }
+pub fn wrong_postings(lent: &Lent) -> bool
+    requires max_doc_bound { lent.now.max_doc ≤ 1048576 }
+    requires leaves_right { wrong4 (index_of lent.now) ≡ false }
+    ensures { result ≡ wrong5 (index_of lent.now) }
 {
-    if postings.len() % 3 != 0 {
+    if lent.postings.len() % 3 != 0 {
         return true;
     }
-    let count = leaves.len() / 4;
+    let count = lent.leaves.len() / 4;
     let mut bad = false;
     let mut l = 0;
     // Kept: no plainer: each turn says itself how far it came, so there is no range to go through.
     while l < count {
-        let turn = plain_leaves(max_doc, fields, leaves, postings, positions, l, count);
-        let end = turn.end;
-        if !turn.fine {
-            bad = bad | wrong_runs(max_doc, fields, leaves, postings, positions, l, end);
+        match plain_leaves(lent, l, count) {
+            Ok(end) => l = end,
+            Err(end) => {
+                bad |= wrong_runs(lent, l, end);
+                l = end;
+            }
         }
-        l = end;
     }
     bad
 }

@@ -23,6 +23,26 @@ pub struct Tally {
     pub indexes: u32,
 }
 
+impl Tally {
+    // Rows beside what was gathered before them.
+    fn with_rows(self, l: Lanes) -> Tally
+        requires { (self.ascents + lane_documents l ≤ 4294967295) × (self.advances + lane_indexes l ≤ 4294967295) }
+        ensures { result ≡ joined_of self l }
+    {
+        let rises = l.rises;
+        let apart = l.apart;
+        let all = l.all;
+        Tally {
+            ascents: self.ascents + (rises[0] + rises[3] + rises[6] + rises[9]),
+            advances: self.advances + (rises[2] + rises[5] + rises[8] + rises[11]),
+            apart: self.apart | apart[2] | apart[5] | apart[8] | apart[11],
+            docs: self.docs | all[0] | all[3] | all[6] | all[9],
+            frequencies: self.frequencies | all[1] | all[4] | all[7] | all[10],
+            indexes: self.indexes | all[2] | all[5] | all[8] | all[11],
+        }
+    }
+}
+
 // Every row after the first two records: how often a word is above that of the record before, the or of the distances from
 // where the positions before end, the or of the words. Word for word beside the record before and the word before that.
 fn rows(part: &[u32]) -> Lanes
@@ -75,24 +95,6 @@ fn head(run: &[u32], to: usize) -> Tally
     t
 }
 
-// Rows beside what was gathered before them.
-fn joined(t: Tally, l: Lanes) -> Tally
-    requires { (t.ascents + lane_documents l ≤ 4294967295) × (t.advances + lane_indexes l ≤ 4294967295) }
-    ensures { result ≡ joined_of t l }
-{
-    let rises = l.rises;
-    let apart = l.apart;
-    let all = l.all;
-    Tally {
-        ascents: t.ascents + (rises[0] + rises[3] + rises[6] + rises[9]),
-        advances: t.advances + (rises[2] + rises[5] + rises[8] + rises[11]),
-        apart: t.apart | apart[2] | apart[5] | apart[8] | apart[11],
-        docs: t.docs | all[0] | all[3] | all[6] | all[9],
-        frequencies: t.frequencies | all[1] | all[4] | all[7] | all[10],
-        indexes: t.indexes | all[2] | all[5] | all[8] | all[11],
-    }
-}
-
 // All records of a run of at least two. The rows are taken in two halves: a function that is called twice is compiled by
 // itself, so that each of its arrays stays in three vector registers.
 pub fn gathered(run: &[u32]) -> Tally
@@ -106,6 +108,6 @@ pub fn gathered(run: &[u32]) -> Tally
     let half = 3 * (first + 4 * (lines / 2));
     let back = half - 6;
     let end = 3 * count;
-    let t = joined(head(run, first), rows(&run[start..half]));
-    joined(t, rows(&run[back..end]))
+    let t = head(run, first).with_rows(rows(&run[start..half]));
+    t.with_rows(rows(&run[back..end]))
 }

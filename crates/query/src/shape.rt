@@ -5,7 +5,6 @@ ghost use Rattle.meaning.specs.QueryRefusals.{wrong7};
 ghost use Rattle.query.specs.Inner.{end_of, end_of_clauses, fitting};
 
 use crate::{Kind, children, kind_at, occur_at, occurrence, record_count};
-use index::wide;
 
 // Below a phrase stand PhraseTerms, of occurrence 0 and without children.
 fn is_phrase_term(q: &[u32], at: usize) -> bool
@@ -28,7 +27,7 @@ fn phrase_end(q: &[u32], depth: u32, at: usize) -> Option<usize>
     requires { at < record_count q.now }
     ensures { result ≡ fitting a_phrase q.now at (end_of (decode_phrase q.now depth at)) }
 {
-    let terms = wide(children(q, at));
+    let terms = children(q, at) as usize;
     if terms == 0 || 32 < terms || depth == 0 {
         return None;
     }

@@ -6,7 +6,6 @@ ghost use Rattle.meaning.specs.QueryRefusals.{wrong7, wrong9};
 ghost use Rattle.query.specs.Read.{Boosts};
 ghost use Rattle.query.specs.Inner.{end_below_limit, clauses_below_limit};
 
-use index::wide;
 use query::{Kind, children, kind_at, occur_at, value};
 
 // The record after the tree at `at`, or none where the boost that reaches it, or one below it, goes above 65,536.
@@ -20,7 +19,7 @@ fn tree_below(q: &[u32], depth: u32, at: usize, boost: f32) -> Option<usize>
     }
     match kind_at(q, at)? {
         Kind::Term | Kind::Range | Kind::MatchAll | Kind::MatchNone => Some(at + 1),
-        Kind::Phrase => Some(at + 1 + wide(children(q, at))),
+        Kind::Phrase => Some(at + 1 + children(q, at) as usize),
         Kind::Boolean => clauses_below(q, depth - 1, at, boost),
         Kind::ConstantScore => tree_below(q, depth - 1, at + 1, 0.0),
         Kind::Boost => tree_below(

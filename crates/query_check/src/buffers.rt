@@ -8,7 +8,6 @@ ghost use Rattle.meaning.specs.CallRefusals.{range_records, states_needed, range
 ghost use Rattle.query.specs.Read.{PhraseRuns};
 
 use index::leaves::leaf_at;
-use index::wide;
 use query::{Kind, kind_at, record_count, value};
 use weight::NODE_STATE_WORDS;
 
@@ -59,8 +58,8 @@ fn term_starts(q: &[u32], leaves: &[u32], postings: &[u32], at: usize) -> u32
     if kind_at(q, at) != Some(Kind::PhraseTerm) {
         return 0;
     }
-    let leaf = leaf_at(leaves, wide(value(q, at, 0)));
-    largest_in(postings, wide(leaf.first), wide(leaf.number))
+    let leaf = leaf_at(leaves, value(q, at, 0) as usize);
+    largest_in(postings, leaf.first as usize, leaf.number as usize)
 }
 
 // The largest frequency in the run of a leaf that some PhraseTerm names.

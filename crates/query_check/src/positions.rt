@@ -6,7 +6,7 @@ ghost use Rattle.meaning.specs.QueryRefusals.{wrong10};
 ghost use Rattle.query.specs.Read.{PhraseFields};
 ghost use Rattle.query_check.specs.Inner.{without_positions};
 
-use index::wide;
+use index::fields::field_at;
 use query::{Kind, kind_at, record_count, value};
 
 // A phrase in a field without positions, at `at`.
@@ -17,8 +17,7 @@ fn without_positions(q: &[u32], fields: &[u32], at: usize) -> bool
     if kind_at(q, at) != Some(Kind::Phrase) {
         return false;
     }
-    let field = wide(value(q, at, 0));
-    fields[3 * field + 2] != 1
+    !field_at(fields, value(q, at, 0) as usize).has_positions()
 }
 
 // 10: a phrase in a field without positions.

@@ -9,7 +9,6 @@ ghost use Rattle.query_check.specs.Inner.{term_wrong, phrase_wrong, any_other_fi
 use bits::joined;
 use index::columns::{NumericRange, wrong_range};
 use index::postings::NO_MORE_DOCS;
-use index::wide;
 use query::{Kind, children, kind_at, record_count, value};
 
 // One of the record's six values from the v-th on is not 0.
@@ -24,7 +23,7 @@ fn wrong_term(q: &[u32], leaves: &[u32], at: usize) -> bool
     requires { at < record_count q.now }
     ensures { result ≡ term_wrong leaves.now q.now at }
 {
-    leaves.len() / 4 <= wide(value(q, at, 0)) || unused_from(q, at, 1)
+    leaves.len() / 4 <= value(q, at, 0) as usize || unused_from(q, at, 1)
 }
 
 // Some term of the phrase at `at` names a leaf of another field.
@@ -34,7 +33,7 @@ fn other_field(q: &[u32], leaves: &[u32], at: usize) -> bool
 {
     let field = value(q, at, 0);
     let first = at + 1;
-    (first..first + wide(children(q, at))).any(|term| leaf_field(leaves, value(q, term, 0))
+    (first..first + children(q, at) as usize).any(|term| leaf_field(leaves, value(q, term, 0))
         != field)
 }
 
@@ -42,14 +41,16 @@ fn other_field(q: &[u32], leaves: &[u32], at: usize) -> bool
 fn leaf_field(leaves: &[u32], leaf: u32) -> u32
     ensures { result ≡ get_or leaves.now (4 * leaf) 0 }
 {
-    leaves.get(4 * wide(leaf)).copied().unwrap_or(0)
+    leaves.get(4 * leaf as usize).copied().unwrap_or(0)
 }
 
 fn wrong_phrase(q: &[u32], fields: &[u32], leaves: &[u32], at: usize) -> bool
     requires { (at < record_count q.now) × (at + 1 + record_children q.now at ≤ record_count q.now) }
     ensures { result ≡ phrase_wrong fields.now leaves.now q.now at }
 {
-    fields.len() / 3 <= wide(value(q, at, 0)) || unused_from(q, at, 1) || other_field(q, leaves, at)
+    fields.len() / 3 <= value(q, at, 0) as usize
+        || unused_from(q, at, 1)
+        || other_field(q, leaves, at)
 }
 
 fn wrong_range_record(q: &[u32], columns: &[u32], at: usize) -> bool
@@ -76,7 +77,7 @@ fn wrong_phrase_term(q: &[u32], leaves: &[u32], at: usize) -> bool
     requires { at < record_count q.now }
     ensures { result ≡ phrase_term_wrong leaves.now q.now at }
 {
-    leaves.len() / 4 <= wide(value(q, at, 0))
+    leaves.len() / 4 <= value(q, at, 0) as usize
         || NO_MORE_DOCS < value(q, at, 1)
         || unused_from(q, at, 2)
 }

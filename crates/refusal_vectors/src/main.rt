@@ -4,6 +4,7 @@
 // it stands; then the lists' words. What norm bytes and live words hold is refused by nothing, so they are made here.
 #![tactic(auto)]
 
+use index::lent::Lent;
 use refusal::Refusal;
 use std::io;
 use std::io::Write;
@@ -23,21 +24,19 @@ fn check(file: &[u32], norms: &[u8], live: &[u64], case: [u32; 10]) -> Result<()
         values,
         query,
     ] = case;
-    let fields = list(file, fields);
-    let leaves = list(file, leaves);
-    let columns = list(file, columns);
-    index_check::check_index(
+    let lent = Lent {
         max_doc,
-        fields,
-        leaves,
-        list(file, postings),
-        list(file, positions),
-        first(norms, norm_bytes as usize),
-        first(live, live_words as usize),
-        columns,
-        list(file, values),
-    )?;
-    query_check::check_query(list(file, query), fields, leaves, columns)
+        fields: list(file, fields),
+        leaves: list(file, leaves),
+        postings: list(file, postings),
+        positions: list(file, positions),
+        norms: first(norms, norm_bytes as usize),
+        live: first(live, live_words as usize),
+        columns: list(file, columns),
+        values: list(file, values),
+    };
+    index_check::check_index(&lent)?;
+    query_check::check_query(list(file, query), lent.fields, lent.leaves, lent.columns)
 }
 
 fn print_refusals(

@@ -1,7 +1,7 @@
 -- The index's refusal first, else the query's.
-use Rattle.std.proofs.Common.{◌≡◌, ◌∙◌, refl, Err, Ok, rules}
+use Rattle.std.proofs.Common.{◌≡◌, ◌∙◌, refl, Err, rules}
 use Rattle.index.specs.IndexOf.{index_of}
-use Rattle.order_check.proofs.Answered.{answered, refused, passed_on}
+use Rattle.order_check.proofs.Answered.{refused, passed_on}
 use Rattle.order_check.proofs.Refusing.{order-index, order-query}
 use Rattle.order_check.proofs.check_order.Goals as goal
 
@@ -17,5 +17,4 @@ pub returns : goal.returns
 returns c =
     let a = c.args in
     let ix = index_of a.lent.now in
-    let e : c.check_index.result ≡ Ok c.in_ok-check_index.field-0 = search rules in
-    order-query ix a.query.now _ c.check_index.ensures (answered _ c.in_ok-check_index.field-0 e) _ (c.check_query.ensures ix (record { fields-are = refl; leaves-are = refl; columns-are = refl }))
+    order-query ix a.query.now 0 c.in_ok-check_index.ensures refl _ (c.check_query.ensures ix (record { fields-are = refl; leaves-are = refl; columns-are = refl }))

@@ -1,9 +1,9 @@
 -- The order's refusal first, then 12, then 13.
-use Rattle.std.proofs.Common.{◌≡◌, ◌∙◌, refl, Err, Ok, rules, arith}
+use Rattle.std.proofs.Common.{◌≡◌, ◌∙◌, refl, Err, rules, arith}
 use Rattle.index.specs.IndexOf.{index_of}
-use Rattle.order_check.specs.Lends.{work_of, QueryLent}
-use Rattle.order_check.proofs.Answered.{answered, refused, passed_on}
-use Rattle.order_check.proofs.Refusing.{order-checked}
+use Rattle.order_check.specs.Lends.{work_of}
+use Rattle.order_check.proofs.Answered.{refused, passed_on}
+use Rattle.order_check.proofs.Refusing.{order-lent}
 use Rattle.order_check.proofs.CallConditions.{page-order, page-short, page-unequal, page-above, page-accepted}
 use Rattle.order_check.proofs.page_refusal.Goals as goal
 
@@ -19,38 +19,33 @@ pub work_short-requires : goal.work_short-requires
 work_short-requires c =
     let a = c.args in
     let ix = index_of a.lent.now in
-    let e : c.check_order.result ≡ Ok c.in_ok-check_order.field-0 = search rules in
-    let h : QueryLent ix a.lent.now.max_doc a.lent.now.leaves.now a.lent.now.postings.now a.query.now = record { asks = order-checked ix a.query.now _ c.check_order.ensures (answered _ c.in_ok-check_order.field-0 e); documents = refl; leaves-are = refl; postings-are = refl } in
+    let h = order-lent a.lent.now a.query.now 0 c.in_ok-check_order.ensures refl in
     (ix, h)
 
 pub returns-then-work_short : goal.returns-then-work_short
 returns-then-work_short c =
     let a = c.args in
     let ix = index_of a.lent.now in
-    let e : c.check_order.result ≡ Ok c.in_ok-check_order.field-0 = search rules in
-    let h : QueryLent ix a.lent.now.max_doc a.lent.now.leaves.now a.lent.now.postings.now a.query.now = record { asks = order-checked ix a.query.now _ c.check_order.ensures (answered _ c.in_ok-check_order.field-0 e); documents = refl; leaves-are = refl; postings-are = refl } in
-    page-short ix a.query.now a.target (work_of a.work) a.documents a.scores _ c.check_order.ensures (answered _ c.in_ok-check_order.field-0 e) _ (c.work_short.ensures ix h) c.if-work_short.true
+    let h = order-lent a.lent.now a.query.now 0 c.in_ok-check_order.ensures refl in
+    page-short ix a.query.now a.target (work_of a.work) a.documents a.scores 0 c.in_ok-check_order.ensures refl _ (c.work_short.ensures ix h) c.if-work_short.true
 
 pub returns-then-documents-scores : goal.returns-then-documents-scores
 returns-then-documents-scores c =
     let a = c.args in
     let ix = index_of a.lent.now in
-    let e : c.check_order.result ≡ Ok c.in_ok-check_order.field-0 = search rules in
-    let h : QueryLent ix a.lent.now.max_doc a.lent.now.leaves.now a.lent.now.postings.now a.query.now = record { asks = order-checked ix a.query.now _ c.check_order.ensures (answered _ c.in_ok-check_order.field-0 e); documents = refl; leaves-are = refl; postings-are = refl } in
-    page-unequal ix a.query.now a.target (work_of a.work) a.documents a.scores _ c.check_order.ensures (answered _ c.in_ok-check_order.field-0 e) _ (c.work_short.ensures ix h) c.if-work_short.false c.if-documents-scores.true
+    let h = order-lent a.lent.now a.query.now 0 c.in_ok-check_order.ensures refl in
+    page-unequal ix a.query.now a.target (work_of a.work) a.documents a.scores 0 c.in_ok-check_order.ensures refl _ (c.work_short.ensures ix h) c.if-work_short.false c.if-documents-scores.true
 
 pub returns-then-lent-target : goal.returns-then-lent-target
 returns-then-lent-target c =
     let a = c.args in
     let ix = index_of a.lent.now in
-    let e : c.check_order.result ≡ Ok c.in_ok-check_order.field-0 = search rules in
-    let h : QueryLent ix a.lent.now.max_doc a.lent.now.leaves.now a.lent.now.postings.now a.query.now = record { asks = order-checked ix a.query.now _ c.check_order.ensures (answered _ c.in_ok-check_order.field-0 e); documents = refl; leaves-are = refl; postings-are = refl } in
-    page-above ix a.query.now a.target (work_of a.work) a.documents a.scores _ c.check_order.ensures (answered _ c.in_ok-check_order.field-0 e) _ (c.work_short.ensures ix h) c.if-work_short.false c.if-documents-scores.false (omega (arith, c.if-lent-target.true))
+    let h = order-lent a.lent.now a.query.now 0 c.in_ok-check_order.ensures refl in
+    page-above ix a.query.now a.target (work_of a.work) a.documents a.scores 0 c.in_ok-check_order.ensures refl _ (c.work_short.ensures ix h) c.if-work_short.false c.if-documents-scores.false (omega (arith, c.if-lent-target.true))
 
 pub returns : goal.returns
 returns c =
     let a = c.args in
     let ix = index_of a.lent.now in
-    let e : c.check_order.result ≡ Ok c.in_ok-check_order.field-0 = search rules in
-    let h : QueryLent ix a.lent.now.max_doc a.lent.now.leaves.now a.lent.now.postings.now a.query.now = record { asks = order-checked ix a.query.now _ c.check_order.ensures (answered _ c.in_ok-check_order.field-0 e); documents = refl; leaves-are = refl; postings-are = refl } in
-    page-accepted ix a.query.now a.target (work_of a.work) a.documents a.scores _ c.check_order.ensures (answered _ c.in_ok-check_order.field-0 e) _ (c.work_short.ensures ix h) c.if-work_short.false c.if-documents-scores.false (omega (arith, c.if-lent-target.false))
+    let h = order-lent a.lent.now a.query.now 0 c.in_ok-check_order.ensures refl in
+    page-accepted ix a.query.now a.target (work_of a.work) a.documents a.scores 0 c.in_ok-check_order.ensures refl _ (c.work_short.ensures ix h) c.if-work_short.false c.if-documents-scores.false (omega (arith, c.if-lent-target.false))

@@ -1,9 +1,9 @@
 -- The order's refusal first, then 11, then 12.
-use Rattle.std.proofs.Common.{◌≡◌, ◌∙◌, refl, Err, Ok, rules}
+use Rattle.std.proofs.Common.{◌≡◌, ◌∙◌, refl, Err, rules}
 use Rattle.index.specs.IndexOf.{index_of}
-use Rattle.order_check.specs.Lends.{work_of, QueryLent}
-use Rattle.order_check.proofs.Answered.{answered, refused, passed_on}
-use Rattle.order_check.proofs.Refusing.{order-checked}
+use Rattle.order_check.specs.Lends.{work_of}
+use Rattle.order_check.proofs.Answered.{refused, passed_on}
+use Rattle.order_check.proofs.Refusing.{order-lent}
 use Rattle.order_check.proofs.CallConditions.{search-order, search-no-hits, search-many-hits, search-short, search-few-places, search-accepted}
 use Rattle.order_check.proofs.search_refusal.Goals as goal
 
@@ -19,44 +19,38 @@ pub returns-then-k-lt1 : goal.returns-then-k-lt1
 returns-then-k-lt1 c =
     let a = c.args in
     let ix = index_of a.lent.now in
-    let e : c.check_order.result ≡ Ok c.in_ok-check_order.field-0 = search rules in
-    search-no-hits ix a.query.now a.k (work_of a.work) a.places _ c.check_order.ensures (answered _ c.in_ok-check_order.field-0 e) c.if-k-lt1.true
+    search-no-hits ix a.query.now a.k (work_of a.work) a.places 0 c.in_ok-check_order.ensures refl c.if-k-lt1.true
 
 pub returns-then-k-gt1024 : goal.returns-then-k-gt1024
 returns-then-k-gt1024 c =
     let a = c.args in
     let ix = index_of a.lent.now in
-    let e : c.check_order.result ≡ Ok c.in_ok-check_order.field-0 = search rules in
-    search-many-hits ix a.query.now a.k (work_of a.work) a.places _ c.check_order.ensures (answered _ c.in_ok-check_order.field-0 e) c.if-k-lt1.false c.if-k-gt1024.true
+    search-many-hits ix a.query.now a.k (work_of a.work) a.places 0 c.in_ok-check_order.ensures refl c.if-k-lt1.false c.if-k-gt1024.true
 
 pub work_short-requires : goal.work_short-requires
 work_short-requires c =
     let a = c.args in
     let ix = index_of a.lent.now in
-    let e : c.check_order.result ≡ Ok c.in_ok-check_order.field-0 = search rules in
-    let h : QueryLent ix a.lent.now.max_doc a.lent.now.leaves.now a.lent.now.postings.now a.query.now = record { asks = order-checked ix a.query.now _ c.check_order.ensures (answered _ c.in_ok-check_order.field-0 e); documents = refl; leaves-are = refl; postings-are = refl } in
+    let h = order-lent a.lent.now a.query.now 0 c.in_ok-check_order.ensures refl in
     (ix, h)
 
 pub returns-then-work_short : goal.returns-then-work_short
 returns-then-work_short c =
     let a = c.args in
     let ix = index_of a.lent.now in
-    let e : c.check_order.result ≡ Ok c.in_ok-check_order.field-0 = search rules in
-    let h : QueryLent ix a.lent.now.max_doc a.lent.now.leaves.now a.lent.now.postings.now a.query.now = record { asks = order-checked ix a.query.now _ c.check_order.ensures (answered _ c.in_ok-check_order.field-0 e); documents = refl; leaves-are = refl; postings-are = refl } in
-    search-short ix a.query.now a.k (work_of a.work) a.places _ c.check_order.ensures (answered _ c.in_ok-check_order.field-0 e) c.if-k-lt1.false c.if-k-gt1024.false _ (c.work_short.ensures ix h) c.if-work_short.true
+    let h = order-lent a.lent.now a.query.now 0 c.in_ok-check_order.ensures refl in
+    search-short ix a.query.now a.k (work_of a.work) a.places 0 c.in_ok-check_order.ensures refl c.if-k-lt1.false c.if-k-gt1024.false _ (c.work_short.ensures ix h) c.if-work_short.true
 
 pub returns-then-places-k : goal.returns-then-places-k
 returns-then-places-k c =
     let a = c.args in
     let ix = index_of a.lent.now in
-    let e : c.check_order.result ≡ Ok c.in_ok-check_order.field-0 = search rules in
-    let h : QueryLent ix a.lent.now.max_doc a.lent.now.leaves.now a.lent.now.postings.now a.query.now = record { asks = order-checked ix a.query.now _ c.check_order.ensures (answered _ c.in_ok-check_order.field-0 e); documents = refl; leaves-are = refl; postings-are = refl } in
-    search-few-places ix a.query.now a.k (work_of a.work) a.places _ c.check_order.ensures (answered _ c.in_ok-check_order.field-0 e) c.if-k-lt1.false c.if-k-gt1024.false _ (c.work_short.ensures ix h) c.if-work_short.false c.if-places-k.true
+    let h = order-lent a.lent.now a.query.now 0 c.in_ok-check_order.ensures refl in
+    search-few-places ix a.query.now a.k (work_of a.work) a.places 0 c.in_ok-check_order.ensures refl c.if-k-lt1.false c.if-k-gt1024.false _ (c.work_short.ensures ix h) c.if-work_short.false c.if-places-k.true
 
 pub returns : goal.returns
 returns c =
     let a = c.args in
     let ix = index_of a.lent.now in
-    let e : c.check_order.result ≡ Ok c.in_ok-check_order.field-0 = search rules in
-    let h : QueryLent ix a.lent.now.max_doc a.lent.now.leaves.now a.lent.now.postings.now a.query.now = record { asks = order-checked ix a.query.now _ c.check_order.ensures (answered _ c.in_ok-check_order.field-0 e); documents = refl; leaves-are = refl; postings-are = refl } in
-    search-accepted ix a.query.now a.k (work_of a.work) a.places _ c.check_order.ensures (answered _ c.in_ok-check_order.field-0 e) c.if-k-lt1.false c.if-k-gt1024.false _ (c.work_short.ensures ix h) c.if-work_short.false c.if-places-k.false
+    let h = order-lent a.lent.now a.query.now 0 c.in_ok-check_order.ensures refl in
+    search-accepted ix a.query.now a.k (work_of a.work) a.places 0 c.in_ok-check_order.ensures refl c.if-k-lt1.false c.if-k-gt1024.false _ (c.work_short.ensures ix h) c.if-work_short.false c.if-places-k.false

@@ -9,21 +9,21 @@ pub returns-then-work-states_needed : goal.returns-then-work-states_needed
 returns-then-work-states_needed c = λ ix h. states-short ix c.args.query.now (work_of c.args.work) c.states_needed.result c.states_needed.ensures c.if-work-states_needed.true
 
 pub starts_short-requires : goal.starts_short-requires
-starts_short-requires c = (c.requires.0, c.args.max_doc, c.requires.1)
+starts_short-requires c = (c.requires.0, c.args.lent.now.max_doc, c.requires.1)
 
 pub returns-then-starts_short : goal.returns-then-starts_short
 returns-then-starts_short c = λ ix h.
     let a = c.args in
     let n = c.states_needed in
     let alone = starts-alone ix a.query.now a.work.states a.work.starts a.work.other_starts a.work.ranges in
-    starts-short ix a.query.now (work_of a.work) n.result n.ensures c.if-work-states_needed.false _ (c.starts_short.ensures ix a.max_doc h ∙ alone) c.if-starts_short.true
+    starts-short ix a.query.now (work_of a.work) n.result n.ensures c.if-work-states_needed.false _ (c.starts_short.ensures ix a.lent.now.max_doc h ∙ alone) c.if-starts_short.true
 
 pub ranges_needed-requires : goal.ranges_needed-requires
-ranges_needed-requires c = query-few c.requires.0 c.args.max_doc c.args.leaves.now c.args.postings.now c.args.query.now c.requires.1
+ranges_needed-requires c = query-few c.requires.0 c.args.lent.now.max_doc c.args.lent.now.leaves.now c.args.lent.now.postings.now c.args.query.now c.requires.1
 
 pub returns : goal.returns
 returns c = λ ix h.
     let a = c.args in
     let n = c.states_needed in
     let alone = starts-alone ix a.query.now a.work.states a.work.starts a.work.other_starts a.work.ranges in
-    ranges-short ix a.query.now (work_of a.work) n.result _ n.ensures c.if-work-states_needed.false _ (c.starts_short.ensures ix a.max_doc h ∙ alone) c.if-starts_short.false (c.ranges_needed.ensures ix h.documents)
+    ranges-short ix a.query.now (work_of a.work) n.result _ n.ensures c.if-work-states_needed.false _ (c.starts_short.ensures ix a.lent.now.max_doc h ∙ alone) c.if-starts_short.false (c.ranges_needed.ensures ix h.documents)

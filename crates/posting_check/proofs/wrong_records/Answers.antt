@@ -1,4 +1,4 @@
-use Rattle.std.proofs.Common.{◌≡◌, ℕ, ◌+◌, ◌*◌, ◌/◌, ◌<◌, List, [], length, get_or, ap, ◌∙◌, lit<, add-zero, arith}
+use Rattle.std.proofs.Common.{◌≡◌, ℕ, ◌+◌, ◌*◌, ◌/◌, ◌<◌, List, [], eqb, length, get_or, ap, ◌∙◌, lit<, add-zero, arith}
 use Rattle.meaning.proofs.Below.{any-done}
 use Rattle.index.proofs.Chains.{chunk_word}
 use Rattle.posting_check.proofs.Records.{records-none, records-next, records-all}
@@ -25,4 +25,4 @@ loop-doc-preserved c =
 
 pub returns : goal.returns
 returns c =
-    any-done _ _ _ _ (records-all c.args.max_doc c.requires c.args.run.now c.args.has_positions _ _ _ _ _ c.loop-doc.invariant) (omega (arith, c.as_chunks.ensures.front_len, c.loop-doc.auto.doc-index-end)) (omega (arith, c.as_chunks.ensures.front_len, c.loop-doc-test.false))
+    rw c.has_positions.ensures (any-done _ _ _ _ (records-all c.args.max_doc c.requires c.args.run.now (eqb c.args.field.positions 1) _ _ _ _ _ c.loop-doc.invariant) (omega (arith, c.as_chunks.ensures.front_len, c.loop-doc.auto.doc-index-end)) (omega (arith, c.as_chunks.ensures.front_len, c.loop-doc-test.false)))

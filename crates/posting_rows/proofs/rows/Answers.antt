@@ -1,4 +1,4 @@
-use Rattle.std.proofs.Common.{◌≡◌, ℕ, ◌+◌, ◌-◌, ◌*◌, ◌/◌, ◌<◌, List, [], length, get_or, take, drop, length-take, length-drop, refl, arith}
+use Rattle.std.proofs.Common.{◌≡◌, ◌+◌, ◌-◌, ◌*◌, ◌/◌, ◌<◌, [], length, get_or, take, drop, length-take, length-drop, refl, arith}
 use Rattle.posting_rows.proofs.Filling.{filled_none, filled_next, filled-all, filled_word, row-word, lane_count}
 use Rattle.posting_rows.proofs.rows.Goals as goal
 

@@ -2,5 +2,5 @@ use Rattle.std.proofs.Common.{◌≡◌, ltb, ◌*◌, get_or}
 use Rattle.meaning.specs.Below.{any_below}
 use Rattle.index.proofs.columns.wrong_presence.Given as goal
 
-abbrev pub invariant-loop-k : goal.invariant-loop-k
-invariant-loop-k l = l.bad ≡ any_below l.k (λ j. ltb 1 (get_or l.values (3 * j) 0))
+abbrev pub invariant-loop-present : goal.invariant-loop-present
+invariant-loop-present l = l.bad ≡ any_below l.present-index (λ j. ltb 1 (get_or l.values (3 * j) 0))

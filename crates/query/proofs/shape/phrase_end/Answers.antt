@@ -24,7 +24,7 @@ returns-then-record_count-end c =
 
 pub returns : goal.returns
 returns c =
-    let q = c.args.q.now in let at = c.args.at in let n = c.wide-terms.result in
+    let q = c.args.q.now in let at = c.args.at in let n = c.children-terms.result in
     let same : n ≡ record_children q at = omega arith in
     let all : c.all.result ≡ list_all (is_phrase_term q) (range_with_len (at + 1) n) = all_from_yields_List (is_phrase_term q) _ _ _ c.all.ensures.ran (YieldsList-from_range (at + 1) (at + 1 + n) n (cc) (omega arith)) (λ x b p k. search (rules, tests)) in
     c.then_some.ensures ∙ rw same (fit-yes a_phrase q at _ _ (terms-fit (record_children q at) (omega arith) (omega arith)) (phrase-terms q at c.args.depth (omega arith) (omega arith) c.all.result (all ∙ range-all (is_phrase_term q) (at + 1) n ∙ ap (λ m. not (any_below m (λ j. not (is_phrase_term q (at + 1 + j))))) same)))

@@ -107,7 +107,7 @@ tree_below-returns-in-Term t c =
 
 pub tree_below-returns-in-Phrase : goal.tree_below-returns-in-Phrase
 tree_below-returns-in-Phrase t c =
-    rw (c.wide.ensures, c.children.ensures) (below-phrase c.args.q.now c.args.depth c.args.at _ c.args.boost c.requires.1.1 (limit c.args.boost false c.if-boost.false) (c.in_ok-kind_at.ensures ∙ ap kind_number c.in-Phrase.is))
+    rw c.children.ensures (below-phrase c.args.q.now c.args.depth c.args.at _ c.args.boost c.requires.1.1 (limit c.args.boost false c.if-boost.false) (c.in_ok-kind_at.ensures ∙ ap kind_number c.in-Phrase.is))
 
 pub tree_below-returns-in-Boolean : goal.tree_below-returns-in-Boolean
 tree_below-returns-in-Boolean t c =

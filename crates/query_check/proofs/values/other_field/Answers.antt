@@ -7,7 +7,7 @@ use Rattle.query_check.proofs.values.other_field.Goals as goal
 
 pub returns : goal.returns
 returns c =
-    let q = c.args.q.now in let leaves = c.args.leaves.now in let at = c.args.at in let n = c.wide.result in
+    let q = c.args.q.now in let leaves = c.args.leaves.now in let at = c.args.at in let n = c.children.result in
     let same : n ≡ record_children q at = omega arith in
     let any = any_from_yields_List (λ term. not (eqb (get_or leaves (4 * record_value q term 0) 0) (record_value q at 0))) _ _ c.any.result c.any.ensures.ran (YieldsList-from_range (at + 1) (at + 1 + n) n (cc) (omega arith)) (λ x b p k. search (rules, tests)) in
     any ∙ rw same (range-any (λ term. not (eqb (get_or leaves (4 * record_value q term 0) 0) (record_value q at 0))) (at + 1) (record_children q at))
