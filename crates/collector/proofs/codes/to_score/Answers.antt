@@ -12,22 +12,17 @@ use lib.Ieee.{binary32, of_bits, nan_bits}
 use Rattle.meaning.specs.Ieee754.{sortable_bits}
 use Rattle.meaning.specs.Hits.{to_score}
 use Rattle.collector.proofs.Halves.{high_is, high_fits}
-use Rattle.collector.proofs.codes.to_score.Statement.{statement}
-use Rattle.collector.proofs.codes.to_score.Tie as tie
+use Rattle.collector.proofs.codes.to_score.Goals as goal
 
-high : (c : tie.Start) → to_z w32 (of_z w32 (to_z w64 (of_z w64 (shr_z (to_z w64 (of_z w64 c.args.code)) 4294967296)))) ≡ shr_z c.args.code (2 ^ 32)
+high : (c : goal.Start) → to_z w32 (of_z w32 (to_z w64 (of_z w64 (shr_z (to_z w64 (of_z w64 c.args.code)) 4294967296)))) ≡ shr_z c.args.code (2 ^ 32)
 high c = ap (λ (z : ℤ). to_z w32 (of_z w32 z)) (high_is c.args.code c.ranges.code) ∙ to_z-of_z w32 (shr_z c.args.code (2 ^ 32)) (high_fits c.args.code c.ranges.code)
 
-cast-sortable-int-to-float : tie.Need-overflow_cast-code
-cast-sortable-int-to-float c = subst (SFits w32) (sym (high_is c.args.code c.ranges.code)) (high_fits c.args.code c.ranges.code)
+pub overflow_cast-code : goal.overflow_cast-code
+overflow_cast-code c = subst (SFits w32) (sym (high_is c.args.code c.ranges.code)) (high_fits c.args.code c.ranges.code)
 
-sortable-int-to-float-requires : tie.Need-sortable_int_to_float-requires
-sortable-int-to-float-requires c κs = subst (λ (z : ℤ). T (not (nan_bits binary32 (sortable_bits z)))) (sym (high c)) c.requires
+pub sortable_int_to_float-requires : goal.sortable_int_to_float-requires
+sortable_int_to_float-requires c = subst (λ (z : ℤ). T (not (nan_bits binary32 (sortable_bits z)))) (sym (high c)) c.requires
 
-returns : tie.Need-returns
+pub returns : goal.returns
 unfolding to_score
 returns c = c.sortable_int_to_float.ensures ∙ ap (λ (z : ℤ). of_bits binary32 (sortable_bits z)) (high c.before)
-
-pub to_score_spec : {M : Type 1} → statement M
-to_score_spec =
-    tie.close (tie.spec cast-sortable-int-to-float sortable-int-to-float-requires returns)
