@@ -11,8 +11,8 @@ ghost use Rattle.meaning.specs.Entries.{written};
 ghost use Rattle.index.specs.Slices.{fields_only};
 ghost use Rattle.norm_writer.specs.Lengths.{in_run, length_in, before, norm_bytes, RunOk, RunsOk, cursors_at};
 
-use index::postings::{posting_document, posting_frequency};
 use index::fields;
+use index::postings::{posting_document, posting_frequency};
 use sim::small_float::int_to_byte4;
 
 // So many documents are counted at a time.

@@ -53,6 +53,7 @@ impl Postings<'_> {
     }
 
     // By steps that double, then by halves within the last one.
+    // Kept: no range goes by steps that double: `while` is no less plain.
     fn gallop(self, from: usize, target: u32) -> usize
         requires { from ≤ self.count }
         ensures { Lower self.entry.words.now self.entry.stride self.entry.first self.entry.count from target result }

@@ -1,11 +1,11 @@
 -- One token: the code's tests are those of the definitions, where it is the first and where it is not. Assumes nothing.
-use Rattle.std.proofs.Common.{◌≡◌, refl, sym, ◌∙◌, ap, arith, Bool, true, false, cond, not, ◌&&◌, ◌||◌, List, ℕ, ◌+◌, ◌-◌, ◌/◌, ◌<◌, ◌≤◌, eqb, leb, ltb, length, get_or}
+use Rattle.std.proofs.Common.{◌≡◌, refl, sym, ◌∙◌, arith, Bool, true, false, not, ◌&&◌, ◌||◌, List, ℕ, ◌+◌, ◌-◌, ◌<◌, ◌≤◌, eqb, leb, ltb, length}
 use Rattle.std.proofs.lemmas.Bool.Decides.{nat_tests}
 use Rattle.std.specs.Ordering.{partial_lt}
 use borrow.Author.Tests.{leb-false, lt-ltb, ne_eqb}
 use Rattle.meaning.specs.Below.{any_below, count_below}
 use Rattle.meaning.specs.Limits.{no_more_docs}
-use Rattle.meaning.specs.Tokens.{token_at, not_after, positional}
+use Rattle.meaning.specs.Tokens.{token_at, not_after}
 use Rattle.meaning.specs.TokenRefusals.{wrong_token, wrong_leaf_field}
 use Rattle.meaning.proofs.Tests.{or-4}
 use mir.Val.{bool_byte}
