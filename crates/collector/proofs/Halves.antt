@@ -1,14 +1,14 @@
 -- The arithmetic of codes: sortable bits, the join of two 32-bit halves in one i64, and the way back. Assumes nothing.
-use mathlib.Core.Path.{◌≡◌, refl, sym, ap, ◌∙◌, subst}
+use mathlib.Core.Path.{◌≡◌, refl, sym, ap, ◌∙◌}
 use mathlib.Core.Logic.{◌⊎◌, inl, inr}
 use mathlib.Core.Bool.{Bool, cond}
 use Prim.Native.Nat.{ℕ, suc, ◌+◌, ◌-◌, ◌*◌, ◌/◌, ◌%◌, ◌^◌, ◌≤◌, ◌<◌}
 use native.Mathlib.Decide.{dec_lt}
 use native.Mathlib.Omega.{arith}
 use borrow.Author.Tests.{le-leb, lt-leb, lt-ltb}
-use lib.Bits.{bit_and, bit_or, bit_xor, xor_zero_l, xor_zero_r, or_zero_l, and_comm, and_mask, xor_add_and, xor_comm, or_shifted}
-use lib.IntN.{ℤ, pos, negsuc, neg_ℤ, ◌+ℤ◌, ◌-ℤ◌, ◌*ℤ◌}
-use lib.Signed.{mag, shr_z}
+use lib.Bits.{bit_and, bit_or, bit_xor, xor_zero_r, and_comm, and_mask, xor_add_and, xor_comm, xor_block, or_shifted}
+use lib.IntN.{ℤ, pos, negsuc, neg_ℤ, ◌+ℤ◌, ◌*ℤ◌}
+use lib.Signed.{shr_z}
 use mir.Syntax.{w32, w64}
 use mir.Val.{SFits, of_z, to_z}
 use mir.ValLaws.{to_z_pos, to_z-neg, to_z-of_z}
@@ -28,9 +28,6 @@ xor_ones k a m e h r = sums (bit_xor a m) (bit_and a m) a m (and_comm a m ∙ ap
     sums : (x y a m : ℕ) → y ≡ m → x + y * 2 ≡ a + m → x ≡ a - m
     sums x y a m p q = omega arith
 
-same-mod : (m b : ℕ) → m < b → b ≡ full → m % full ≡ m
-same-mod m b h e = omega arith
-
 -- ---- sortable bits of a pattern
 pub sortable-clear : (b : ℕ) → b < 2 ^ 31 → sortable_int b ≡ pos b
 unfolding sortable_int
@@ -49,73 +46,48 @@ clear-or-set b = elim (dec_lt b (2 ^ 31)) [
 sign_clear : (b : ℕ) → b < 2 ^ 31 → b / half ≡ 0
 sign_clear b h = omega arith
 
-sign_set : (b : ℕ) → 2 ^ 31 ≤ b → b < 2 ^ 32 → b / half ≡ 1
-sign_set b h k = omega arith
+-- ---- an int whose 31 lower bits are turned over where it is negative
+abbrev pub flipped : ℤ → ℤ
+flipped (pos n) = pos n
+flipped (negsuc n) = negsuc (half - 1 - n)
 
-pub sign_fits : (b : ℕ) → b < 2 ^ 32 → SFits w32 (pos 0 -ℤ to_z w32 (b / half))
-sign_fits b k = elim (clear-or-set b) [
-  | inl h ↦ subst (λ (s : ℕ). SFits w32 (pos 0 -ℤ to_z w32 s)) (sym (sign_clear b h)) (record { sfits = omega arith })
-  | inr h ↦ subst (λ (s : ℕ). SFits w32 (pos 0 -ℤ to_z w32 s)) (sym (sign_set b h k)) (record { sfits = omega arith })
+over : (n : ℕ) → n < 2 ^ 31 → bit_xor (full - suc n) 2147483647 ≡ full - suc (half - 1 - n)
+over n h =
+    let whole : full - suc n ≡ 1 * 2 ^ 31 + (half - suc n) = omega arith in
+    let low : bit_xor (half - suc n) 2147483647 ≡ 2147483647 - (half - suc n) =
+    xor_comm (half - suc n) 2147483647 ∙ xor_ones 31 2147483647 (half - suc n) refl (omega arith) (omega arith) in
+    ap (λ (m : ℕ). bit_xor m 2147483647) whole
+    ∙ xor_block 31 1 0 (half - suc n) 2147483647 (omega arith) (omega arith)
+    ∙ omega (arith, low, xor_zero_r 1)
+
+-- what the code of `float_to_sortable_int` and `sortable_bits` computes
+pub turned : (i : ℤ) → SFits w32 i → to_z w32 (bit_xor (of_z w32 i) (bit_and (of_z w32 (shr_z (to_z w32 (of_z w32 i)) half)) 2147483647)) ≡ flipped i
+turned (pos n) f =
+    ap (λ (z : ℤ). to_z w32 (bit_xor n (bit_and (of_z w32 (shr_z z half)) 2147483647))) (to_z_pos w32 n f.sfits)
+    ∙ ap (λ (s : ℕ). to_z w32 (bit_xor n (bit_and s 2147483647))) (sign_clear n f.sfits)
+    ∙ ap (λ (m : ℕ). to_z w32 (bit_xor n m)) (and_mask 0 31) ∙ ap (to_z w32) (xor_zero_r n) ∙ to_z_pos w32 n f.sfits
+turned (negsuc n) f =
+    ap (λ (z : ℤ). to_z w32 (bit_xor (full - suc n) (bit_and (of_z w32 (shr_z z half)) 2147483647))) (to_z-neg w32 n f.sfits)
+    ∙ ap (λ (s : ℕ). to_z w32 (bit_xor (full - suc n) (bit_and (full - suc s) 2147483647))) (sign_clear n f.sfits)
+    ∙ ap (λ (m : ℕ). to_z w32 (bit_xor (full - suc n) m)) (and_mask 4294967295 31)
+    ∙ ap (to_z w32) (over n f.sfits) ∙ to_z-neg w32 (half - 1 - n) (omega arith)
+
+pub flipped-int : (b : ℕ) → b < 2 ^ 32 → flipped (to_z w32 b) ≡ sortable_int b
+flipped-int b k = elim (clear-or-set b) [
+  | inl h ↦ ap flipped (to_z_pos w32 b h) ∙ sym (sortable-clear b h)
+  | inr h ↦
+      let whole : b ≡ full - suc (full - 1 - b) = omega arith in
+      let low : half - 1 - (full - 1 - b) ≡ b % 2 ^ 31 = omega arith in
+      ap (λ (m : ℕ). flipped (to_z w32 m)) whole ∙ ap flipped (to_z-neg w32 (full - 1 - b) (omega arith)) ∙ ap negsuc low ∙ sym (sortable-set b h)
 ]
 
-pub turned : (b : ℕ) → b < 2 ^ 32 → to_z w32 (bit_xor (of_z w32 (pos 0 -ℤ to_z w32 (b / half))) (bit_and b 2147483647)) ≡ sortable_int b
-turned b k =
-    ap (λ (m : ℕ). to_z w32 (bit_xor (of_z w32 (pos 0 -ℤ to_z w32 (b / half))) m)) (and_mask b 31)
-    ∙ elim (clear-or-set b) [
-      | inl h ↦
-          ap (λ (s : ℕ). to_z w32 (bit_xor (of_z w32 (pos 0 -ℤ to_z w32 s)) (b % half))) (sign_clear b h)
-          ∙ ap (to_z w32) (xor_zero_l (b % half) ∙ low-is b h) ∙ to_z_pos w32 b h ∙ sym (sortable-clear b h)
-      | inr h ↦
-          ap (λ (s : ℕ). to_z w32 (bit_xor (of_z w32 (pos 0 -ℤ to_z w32 s)) (b % half))) (sign_set b h k)
-          ∙ ap (to_z w32) (over (b % half) (low-lt b)) ∙ to_z-neg w32 (b % half) (low-lt b) ∙ sym (sortable-set b h)
-    ]
-  where
-    low-is : (b : ℕ) → b < 2 ^ 31 → b % half ≡ b
-    low-is b h = omega arith
-
-    low-lt : (b : ℕ) → b % half < 2 ^ 31
-    low-lt b = omega arith
-
-    over : (m : ℕ) → m < 2 ^ 31 → bit_xor 4294967295 m ≡ 4294967296 - suc m
-    over m h = xor_ones 32 4294967295 m refl (omega arith) (omega arith) ∙ omega arith
-
--- ---- and back
-abbrev pub flag : ℤ → ℕ
-flag (pos n) = 0
-flag (negsuc n) = 1
-
-pub lower-is : (i : ℤ) → SFits w32 i → to_z w32 (bit_xor (of_z w32 i) (of_z w32 (shr_z (to_z w32 (of_z w32 i)) half))) ≡ pos (mag i)
-lower-is (pos n) f =
-    ap (λ (z : ℤ). to_z w32 (bit_xor n (of_z w32 (shr_z z half)))) (to_z_pos w32 n f.sfits)
-    ∙ ap (λ (s : ℕ). to_z w32 (bit_xor n s)) (sign_clear n f.sfits) ∙ ap (to_z w32) (xor_zero_r n) ∙ to_z_pos w32 n f.sfits
-lower-is (negsuc n) f =
-    ap (λ (z : ℤ). to_z w32 (bit_xor (full - suc n) (of_z w32 (shr_z z half)))) (to_z-neg w32 n f.sfits)
-    ∙ ap (λ (s : ℕ). to_z w32 (bit_xor (full - suc n) (full - suc s))) (sign_clear n f.sfits)
-    ∙ ap (to_z w32) (xor_comm (full - suc n) 4294967295 ∙ xor_ones 32 4294967295 (full - suc n) refl (omega arith) (omega arith) ∙ over n f.sfits) ∙ to_z_pos w32 n f.sfits
-  where
-    over : (n : ℕ) → n < 2 ^ 31 → 4294967295 - (full - suc n) ≡ n
-    over n h = omega arith
-
-pub flag_is : (i : ℤ) → SFits w32 i → pos 0 -ℤ to_z w32 (of_z w32 (shr_z (to_z w32 (of_z w32 i)) half)) ≡ pos (flag i)
-flag_is (pos n) f =
-    ap (λ (z : ℤ). pos 0 -ℤ to_z w32 (of_z w32 (shr_z z half))) (to_z_pos w32 n f.sfits)
-    ∙ ap (λ (s : ℕ). pos 0 -ℤ to_z w32 s) (sign_clear n f.sfits)
-flag_is (negsuc n) f =
-    ap (λ (z : ℤ). pos 0 -ℤ to_z w32 (of_z w32 (shr_z z half))) (to_z-neg w32 n f.sfits)
-    ∙ ap (λ (s : ℕ). pos 0 -ℤ to_z w32 (full - suc s)) (sign_clear n f.sfits)
-
-pub flag_one : (i : ℤ) → to_z w32 (of_z w32 (pos (flag i))) ≡ pos (flag i)
-flag_one (pos n) = refl
-flag_one (negsuc n) = refl
-
-pub flag-fits : (i : ℤ) → flag i < 2
-flag-fits (pos n) = omega arith
-flag-fits (negsuc n) = omega arith
-
-pub pattern-is : (i : ℤ) → SFits w32 i → bit_or (flag i * half % full) (mag i) ≡ sortable_bits i
+pub flipped-bits : (i : ℤ) → SFits w32 i → of_z w32 (flipped i) ≡ sortable_bits i
 unfolding sortable_bits
-pattern-is (pos n) f = or_zero_l n
-pattern-is (negsuc n) f = or_shifted 1 31 n f.sfits
+flipped-bits (pos n) f = refl
+flipped-bits (negsuc n) f = whole n f.sfits
+  where
+    whole : (n : ℕ) → n < 2 ^ 31 → full - suc (half - 1 - n) ≡ 2 ^ 31 + n
+    whole n h = omega arith
 
 -- ---- the join of the two halves
 pub code-clear : (n low : ℕ) → pos n *ℤ pos (2 ^ 32) +ℤ pos low ≡ pos (n * full + low)

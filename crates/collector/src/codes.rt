@@ -1,5 +1,4 @@
 // A score and a document as one i64 code: the score's sortable bits above 2147483647 - document.
-// A cast that would lose the sign bit is not there, so the sign is worked out beside the 31 lower bits.
 ghost use Rattle.std.specs.Prelude.{◌≡◌, not, ◌≤◌, ◌^◌, T};
 ghost use Rattle.std.specs.Int.Signed.{shr_z};
 ghost use Rattle.std.specs.Float.{binary32};
@@ -13,18 +12,15 @@ pub fn float_to_sortable_int(f: f32) -> i32
     requires { T (not (is_nan f)) }
     ensures { result ≡ sortable_int (to_bits binary32 f) }
 {
-    let bits = f32::to_bits(f);
-    let sign = 0 - (bits >> 31) as i32;
-    sign ^ ((bits & 0x7fff_ffff) as i32)
+    let bits = f32::to_bits(f).cast_signed();
+    bits ^ ((bits >> 31) & 0x7fff_ffff)
 }
 
 // The pattern that has a sortable int: the way back, and of every int.
 pub fn sortable_bits(i: i32) -> u32
     ensures { result ≡ sortable_bits i }
 {
-    let sign = i >> 31;
-    let lower = (i ^ sign) as u32;
-    (((0 - sign) as u32) << 31) | lower
+    (i ^ ((i >> 31) & 0x7fff_ffff)).cast_unsigned()
 }
 
 // sortableIntToFloat.
@@ -41,7 +37,7 @@ pub fn encode(doc: u32, score: f32) -> i64
     requires doc_le_no_more_docs { doc ≤ no_more_docs }
     ensures { result ≡ code (record { doc = doc; score = score }) }
 {
-    ((float_to_sortable_int(score) as i64) << 32) | ((2147483647 - doc) as i64)
+    (i64::from(float_to_sortable_int(score)) << 32) | i64::from(2147483647 - doc)
 }
 
 pub fn to_score(code: i64) -> f32

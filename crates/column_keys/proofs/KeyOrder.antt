@@ -19,7 +19,11 @@ use Rattle.meaning.specs.Range.{i64_of, value_below, at_lower, at_upper, failed,
 use Rattle.meaning.specs.Ieee754.{total_below}
 use Rattle.ieee754.specs.TotalOrder.{total_key}
 use Rattle.ieee754.proofs.TotalOrder.{total-key, total-key-lt, key-clear, key_set}
-use Rattle.column_keys.specs.Keys.{i64_key, value_key, between, key_at_lower, key_at_upper, number_key, range_key, value_in}
+use Rattle.std.specs.declared.ops.Bound.{Bound}
+use Rattle.std.specs.declared.ops.Bound.TheVariants.{Included, Excluded, Unbounded}
+use Rattle.std.specs.Range.Bound.{bound_map}
+use Rattle.column_keys.specs.declared.column_type.ColumnType.TheVariants.{I64, F64}
+use Rattle.column_keys.specs.Keys.{i64_key, value_key, between, key_at_lower, key_at_upper, number_key, range_key, value_in, type_number, type_of, end_kind, end_value, end_of}
 use Rattle.meaning.proofs.Tests.{cmp, ltb-as-ltb}
 use Rattle.column_keys.proofs.Tests.{leb-as-ltb, leb-as-leb, not-ltb}
 
@@ -198,18 +202,57 @@ ends-good true true true l u e = refl
 ends-good true true false l u e = absurd (false≢true e)
 ends-good true false h l u e = absurd (false≢true e)
 
-end-failed : (n g h l u : Bool) → (g && h) ≡ false → false ≡ (n && g && h && l && u)
-end-failed false g h l u e = refl
-end-failed true true true l u e = absurd (false≢true (sym e))
-end-failed true true false l u e = refl
-end-failed true false h l u e = refl
-
 module _ (type kinds lower upper k : ℕ) (g h : Bool) (lower-good : g ≡ end_good (kinds % 3) type lower) (upper-good : h ≡ end_good (kinds / 3) type upper) where
   pub range-common : (g && h) ≡ true → (n e : Bool) → n ≡ number_key type k → e ≡ (key_at_lower (kinds % 3) (value_key type lower) k && key_at_upper (kinds / 3) (value_key type upper) k) → (n && e) ≡ range_key type kinds lower upper k
   range-common good n e is ends = rw (← lower-good, ← upper-good, is, ends) (ends-good (number_key type k) g h _ _ good)
 
-  pub range-nothing : (g && h) ≡ false → between 1 0 k ≡ range_key type kinds lower upper k
-  range-nothing bad = rw (← lower-good, ← upper-good) (no_key k ∙ end-failed (number_key type k) g h _ _ bad)
+-- ---- the types and ends that the code has, and the numbers that they were read from
+typed : (b : Bool) → eqb (type_number (cond b I64 F64)) 0 ≡ b
+typed true = refl
+typed false = refl
+
+module _ (number : ℕ) where
+  pub range-typed : (kinds lower upper k : ℕ) → range_key (type_number (type_of number)) kinds lower upper k ≡ range_key number kinds lower upper k
+  unfolding number_key value_key
+  range-typed kinds lower upper k = rw (typed (eqb number 0)) refl
+
+  pub value_in-typed : (values : List ℕ) (at from to : ℕ) → value_in values at (type_number (type_of number)) from to ≡ value_in values at number from to
+  unfolding value_in value_key
+  value_in-typed values at from to = rw (typed (eqb number 0)) refl
+
+-- an end of a kind, and its keys
+module _ (type kind x k : ℕ) where
+  abbrev end : Bool → Bool → Bound ℕ
+  end a b = cond a Unbounded (cond b (Included x) (Excluded x))
+
+  pub good-of : (e : Bound ℕ) → e ≡ end_of kind x → end_good (end_kind e) type (end_value e) ≡ end_good kind type x
+  good-of e is = ap (λ (e : Bound ℕ). end_good (end_kind e) type (end_value e)) is ∙ go (eqb kind 0) (eqb kind 1)
+    where
+      go : (a b : Bool) → end_good (end_kind (end a b)) type (end_value (end a b)) ≡ (a || not (failed type x))
+      go true b = refl
+      go false true = refl
+      go false false = refl
+
+  abbrev keyed : Bound ℕ → Bound ℕ
+  keyed e = bound_map (value_key type) e
+
+  pub lower-of : (e d : Bound ℕ) → e ≡ end_of kind x → d ≡ keyed e → key_at_lower (end_kind d) (end_value d) k ≡ key_at_lower kind (value_key type x) k
+  unfolding key_at_lower
+  lower-of e d is keys = ap (λ (d : Bound ℕ). key_at_lower (end_kind d) (end_value d) k) (keys ∙ ap keyed is) ∙ go (eqb kind 0) (eqb kind 1)
+    where
+      go : (a b : Bool) → key_at_lower (end_kind (keyed (end a b))) (end_value (keyed (end a b))) k ≡ cond a true (cond b (leb (value_key type x) k) (ltb (value_key type x) k))
+      go true b = refl
+      go false true = refl
+      go false false = refl
+
+  pub upper-of : (e d : Bound ℕ) → e ≡ end_of kind x → d ≡ keyed e → key_at_upper (end_kind d) (end_value d) k ≡ key_at_upper kind (value_key type x) k
+  unfolding key_at_upper
+  upper-of e d is keys = ap (λ (d : Bound ℕ). key_at_upper (end_kind d) (end_value d) k) (keys ∙ ap keyed is) ∙ go (eqb kind 0) (eqb kind 1)
+    where
+      go : (a b : Bool) → key_at_upper (end_kind (keyed (end a b))) (end_value (keyed (end a b))) k ≡ cond a true (cond b (leb k (value_key type x)) (ltb k (value_key type x)))
+      go true b = refl
+      go false true = refl
+      go false false = refl
 
 -- ---- what is read of a value
 pub value-tested : (values : List ℕ) (at type from to key : ℕ) → key ≡ value_key type (joined (get_or values (at + 1) 0) (get_or values (at + 2) 0)) → (eqb (get_or values at 0) 1 && between from to key) ≡ value_in values at type from to

@@ -1,7 +1,7 @@
 -- Tests of numbers whose facts go together. Assumes nothing.
-use mathlib.Core.Path.{◌≡◌, refl, sym, ◌∙◌}
+use mathlib.Core.Path.{◌≡◌, sym, ◌∙◌}
 use mathlib.Core.Logic.{inl, inr}
-use mathlib.Core.Bool.{Bool, true, false, not, ◌&&◌}
+use mathlib.Core.Bool.{not}
 use Prim.Native.Nat.{ℕ, ◌≤◌, ◌<◌}
 use lib.Dec.{leb, ltb}
 use borrow.Author.Tests.{lt-ltb, le-ltb, le-leb, lt-leb}
@@ -24,10 +24,3 @@ leb-as-leb a b c d f g = elim (cmp b a) as (λ _. leb a b ≡ leb c d) [
   | inl h ↦ lt-leb a b h ∙ sym (lt-leb c d (g h))
   | inr h ↦ le-leb a b h ∙ sym (le-leb c d (f h))
 ]
-
--- two parts of a test regrouped
-pub and-middle : (a b c d : Bool) → (a && b && (c && d)) ≡ (a && c && (b && d))
-and-middle true true c d = refl
-and-middle true false true d = refl
-and-middle true false false d = refl
-and-middle false b c d = refl

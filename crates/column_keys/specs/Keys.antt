@@ -3,6 +3,38 @@ use Rattle.std.specs.Prelude.{Bool, true, cond, ◌&&◌, ◌||◌, List, ℕ, �
 use Rattle.meaning.specs.Lent.{joined}
 use Rattle.meaning.specs.Range.{end_good}
 use Rattle.ieee754.specs.TotalOrder.{total_key}
+use Rattle.std.specs.declared.ops.Bound.{Bound}
+use Rattle.std.specs.declared.ops.Bound.TheVariants.{Included, Excluded, Unbounded}
+use Rattle.column_keys.specs.declared.column_type.ColumnType.{ColumnType}
+use Rattle.column_keys.specs.declared.column_type.ColumnType.TheVariants.{I64, F64}
+
+-- ---- what the code has in place of the numbers of types and kinds
+-- a column's type as its number, 0 for i64 and 1 for f64
+abbrev pub type_number : ColumnType → ℕ
+type_number I64 = 0
+type_number F64 = 1
+
+-- the type that a number is taken for
+abbrev pub type_of : ℕ → ColumnType
+type_of number = cond (eqb number 0) I64 F64
+
+-- the kind of an end: "0 is unbounded, 1 included, 2 excluded"
+abbrev pub end_kind : Bound ℕ → ℕ
+end_kind Unbounded = 0
+end_kind (Included x) = 1
+end_kind (Excluded x) = 2
+
+-- its pattern or key; an unbounded end has none
+abbrev pub end_value : Bound ℕ → ℕ
+end_value Unbounded = 0
+end_value (Included x) = x
+end_value (Excluded x) = x
+
+-- the end of a kind and a pattern
+abbrev pub end_of : ℕ → ℕ → Bound ℕ
+end_of kind x = cond (eqb kind 0) Unbounded (cond (eqb kind 1) (Included x) (Excluded x))
+
+-- ---- keys
 
 -- the number in whose order i64 patterns lie: the sign bit turned over
 unfoldable pub i64_key : ℕ → ℕ

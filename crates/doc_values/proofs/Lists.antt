@@ -2,10 +2,10 @@
 use mathlib.Core.Path.{◌≡◌, refl, sym, ap, ◌∙◌}
 use mathlib.Core.Bool.{Bool, true, false}
 use mathlib.Core.List.{List, [], ◌∷◌, ◌++◌, append_assoc}
-use Prim.Native.Nat.{ℕ, suc, ◌+◌, ◌≤◌, ◌<◌}
+use Prim.Native.Nat.{ℕ, suc, ◌+◌, ◌<◌}
 use native.Mathlib.Numerals.{add-one}
 use native.Mathlib.Omega.{arith}
-use lib.ListN.{length, get_or, drop, set, length-append, length-drop}
+use lib.ListN.{length, get_or, drop, set, length-append}
 use lib.Seq.{drop-cons, set_at}
 use Rattle.meaning.specs.Below.{list_below}
 use Rattle.meaning.specs.Entries.{written}
@@ -21,9 +21,6 @@ written-more xs out d h =
     ∙ set_at xs (get_or out (length xs) 0) (drop (suc (length xs)) out) d (length xs) refl
     ∙ sym (append_assoc xs (d ∷ []) (drop (suc (length xs)) out))
     ∙ ap (λ (n : ℕ). (xs ++ (d ∷ [])) ++ drop n out) size
-
-pub written-length : (xs out : List ℕ) → length xs ≤ length out → length (written xs out) ≡ length out
-written-length xs out h = omega (arith, length-append xs (drop (length xs) out), length-drop (length xs) out)
 
 -- a turn of a scan that has written what it listed below d: it takes d, or leaves it
 module _ (p : ℕ → Bool) (out₀ out : List ℕ) (d held : ℕ) (size : held ≡ length (list_below d p)) (so_far : out ≡ written (list_below d p) out₀) where

@@ -1,28 +1,26 @@
 // The text of the ten files.
-ghost use Rattle.std.specs.Prelude.{◌≡◌, ◌≤◌, length, take};
-ghost use Rattle.io.specs.Counts.{IsPrefixLen};
+ghost use Rattle.std.specs.Prelude.{◌≡◌};
 ghost use Rattle.index.specs.IndexOf.{index_of};
 ghost use Rattle.hits.specs.Text.{search_text, hits_text};
 ghost use Rattle.hits_text.specs.Contents.{files_of};
-ghost use Rattle.hits_text.specs.Puts.{Put};
 
 use hits_text::files::{Contents, taken};
-use hits_text::hit::{put_found, put_refused};
+use hits_text::hit::{found, refused};
+use hits_text::text::Text;
 use hits_text::words::{read_longs, read_words, word_at};
 use index::lent::Lent;
 use weight::NODE_STATE_WORDS;
 
 // Searches with the program's own buffers.
-fn answer(index: Lent, query: &[u32], k: u32, t: u32, out: &mut [u8]) -> usize
-    requires { 32768 ≤ length out.old }
-    ensures { Put out.old 0 (search_text (index_of index.entry) query.now k t) result out.new }
+fn answer(index: Lent, query: &[u32], k: u32, t: u32) -> Text
+    ensures { result.items ≡ search_text (index_of index.entry) query.now k t }
 {
     let mut states = [0u32; 256 * NODE_STATE_WORDS];
     let mut starts = [0i32; 16384];
     let mut other_starts = [0i32; 16384];
     let mut ranges = [0u32; 16384];
     let mut hits = [0i64; 1024];
-    let found = searcher::search::search(
+    let found_hits = searcher::search::search(
         &index,
         query,
         k,
@@ -33,22 +31,21 @@ fn answer(index: Lent, query: &[u32], k: u32, t: u32, out: &mut [u8]) -> usize
         &mut ranges,
         &mut hits,
     );
-    match found {
-        Err(refusal) => put_refused(refusal.number(), out),
+    match found_hits {
+        Err(refusal) => refused(refusal.number()),
         Ok(top) => {
             let held = top.held as usize;
-            put_found(top.count, top.mark, &hits[..held], out)
+            found(top, &hits[..held])
         }
     }
 }
 
 // What the program prints for the bytes that it read of each file.
-pub fn report(files: Contents, out: &mut [u8; 32768]) -> usize
-    ensures prefix_len { IsPrefixLen result out.new }
-    ensures out_after { take result out.new ≡ hits_text (files_of files.entry) }
+pub fn report(files: Contents) -> Text
+    ensures { result.items ≡ hits_text (files_of files.entry) }
 {
     if !taken(files) {
-        return put_refused(0, out);
+        return refused(0);
     }
     let mut fields = [0u32; 16384];
     let mut leaves = [0u32; 16384];
@@ -58,26 +55,18 @@ pub fn report(files: Contents, out: &mut [u8; 32768]) -> usize
     let mut columns = [0u32; 16384];
     let mut values = [0u32; 16384];
     let mut query = [0u32; 16384];
-    let a = read_words(files.fields, &mut fields);
-    let b = read_words(files.leaves, &mut leaves);
-    let c = read_words(files.postings, &mut postings);
-    let d = read_words(files.positions, &mut positions);
-    let e = read_longs(files.live, &mut live);
-    let f = read_words(files.columns, &mut columns);
-    let g = read_words(files.values, &mut values);
-    let h = read_words(files.query, &mut query);
     let index = Lent {
         max_doc: word_at(files.run, 0),
-        fields: &fields[..a],
-        leaves: &leaves[..b],
-        postings: &postings[..c],
-        positions: &positions[..d],
+        fields: read_words(files.fields, &mut fields),
+        leaves: read_words(files.leaves, &mut leaves),
+        postings: read_words(files.postings, &mut postings),
+        positions: read_words(files.positions, &mut positions),
         norms: files.norms,
-        live: &live[..e],
-        columns: &columns[..f],
-        values: &values[..g],
+        live: read_longs(files.live, &mut live),
+        columns: read_words(files.columns, &mut columns),
+        values: read_words(files.values, &mut values),
     };
     let k = word_at(files.run, 1);
     let t = word_at(files.run, 2);
-    answer(index, &query[..h], k, t, out)
+    answer(index, read_words(files.query, &mut query), k, t)
 }

@@ -10,8 +10,6 @@ use lib.IntN.{ℤ, pos}
 use Rattle.meaning.specs.Limits.{no_more_docs}
 use Rattle.meaning.specs.Hits.{to_doc}
 use Rattle.hits_text.specs.Text.{decimal, hex8, score_bits, hit_line, hit_lines}
-use Rattle.hits_text.specs.Puts.{Put}
-use Rattle.hits_text.proofs.Putting.{put_same, put-more}
 use Rattle.hits_text.proofs.Numbers.{decimal-short, length-hex}
 
 pub lines-none : hit_lines [] ≡ []
@@ -46,10 +44,3 @@ line-short c = omega (arith, line-length c, document-short c)
 pub line-is : (c : ℤ) (d b : ℕ) → d ≡ to_doc c → b ≡ score_bits c → decimal d ++ (32 ∷ (hex8 b ++ (10 ∷ []))) ≡ hit_line c
 unfolding hit_line
 line-is c d b e g = ap (λ (n : ℕ). decimal n ++ (32 ∷ (hex8 b ++ (10 ∷ [])))) e ∙ ap (λ (n : ℕ). decimal (to_doc c) ++ (32 ∷ (hex8 n ++ (10 ∷ [])))) g
-
--- a turn of the loop over the codes: one line more in the output
-pub lines_next : (out : List ℕ) (at : ℕ) (cs : List ℤ) (i next r : ℕ) (mid out' : List ℕ) (c : ℤ) → i < length cs → c ≡ get_or cs i (pos 0) → Put out at (hit_lines (take i cs)) next mid → Put mid next (hit_line c) r out' → Put out at (hit_lines (take (i + 1) cs)) r out'
-lines_next out at cs i next r mid out' c h e p q =
-    put_same out at (hit_lines (take i cs) ++ hit_line c) (hit_lines (take (i + 1) cs)) r out'
-    (ap (λ (z : ℤ). hit_lines (take i cs) ++ hit_line z) e ∙ sym (lines_more cs i h))
-    (put-more out at (hit_lines (take i cs)) (hit_line c) next r mid out' p q)

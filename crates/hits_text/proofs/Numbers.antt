@@ -1,5 +1,5 @@
 -- Laws of decimal and hexadecimal digits: the last digit, and how many there are. Assumes nothing.
-use mathlib.Core.Path.{◌≡◌, refl, ap, ◌∙◌}
+use mathlib.Core.Path.{◌≡◌, refl, sym, ap, ◌∙◌}
 use mathlib.Core.Logic.{⊎_elim}
 use mathlib.Core.Bool.{Bool, cond}
 use mathlib.Core.List.{List, [], ◌∷◌, ◌++◌}
@@ -9,6 +9,8 @@ use native.Mathlib.Omega.{arith}
 use lib.Dec.{ltb}
 use lib.ListN.{length, length-append}
 use borrow.Author.Tests.{lt-ltb, le-ltb}
+use Rattle.std.specs.Fmt.{decimal as std_decimal}
+use Rattle.std.proofs.lemmas.Fmt.{decimal_by_steps}
 use Rattle.meaning.proofs.Tests.{cmp}
 use Rattle.hits_text.specs.Text.{digit_of, digits_to, decimal, hex_digits}
 
@@ -46,6 +48,21 @@ decimal-short (suc k) n h =
     (λ s. omega (arith, ap length (decimal-one n s)))
     (λ s. omega (arith, length_more n s, decimal-short k (n / 10) (omega (arith, h, pow-suc 10 (suc k)))))
     (cmp n 10)
+
+-- ---- what std writes for a number
+ten-digit : (d : ℕ) → d < 10 → digit_of d ≡ 48 + d
+ten-digit d h = ap (λ (b : Bool). cond b (48 + d) (87 + d)) (lt-ltb d 10 h)
+
+pub decimal-std : (n : ℕ) → n < 2 ^ 64 → std_decimal n ≡ decimal n
+decimal-std n h = decimal_by_steps (λ (n : ℕ) (ds : List ℕ). ds ≡ decimal n) one more n h
+  where
+    one : (n : ℕ) → n < 10 → (48 + n) ∷ [] ≡ decimal n
+    one n l = ap (λ (d : ℕ). d ∷ []) (sym (ten-digit n l)) ∙ sym (decimal-one n l)
+
+    more : (n : ℕ) (ds : List ℕ) → 10 ≤ n → ds ≡ decimal (n / 10) → ds ++ ((48 + n % 10) ∷ []) ≡ decimal n
+    more n ds g e =
+        ap (λ (l : List ℕ). l ++ ((48 + n % 10) ∷ [])) e
+        ∙ ap (λ (d : ℕ). decimal (n / 10) ++ (d ∷ [])) (sym (ten-digit (n % 10) (omega arith))) ∙ sym (decimal-more n g)
 
 -- ---- hexadecimal digits
 pub length-hex : (k n : ℕ) → length (hex_digits k n) ≡ k

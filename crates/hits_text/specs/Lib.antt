@@ -1,4 +1,3 @@
--- The words of the files and the lines that are printed, and how text is put into an output.
+-- The words of the files and the lines that are printed.
 pub mod Text
-pub mod Puts
 pub mod Contents

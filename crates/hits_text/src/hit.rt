@@ -1,20 +1,18 @@
-// The lines that are printed: hits, which are codes, and the first line.
-ghost use Rattle.std.specs.Prelude.{◌≡◌, ◌+◌, ◌*◌, ◌≤◌, length};
+// What is printed: the first line, and the lines of the hits, which are codes.
+ghost use Rattle.std.specs.Prelude.{◌≡◌, cond, [], ◌∷◌, ◌++◌, ◌+◌, ◌*◌, ◌≤◌, length};
+ghost use Rattle.arrayvec.specs.ArrayVec.{array_vec_len};
 ghost use Rattle.meaning.specs.Hits.{to_doc};
 ghost use Rattle.hits_text.specs.Text.{score_bits, hit_line, hit_lines, found_text, refused_text};
-ghost use Rattle.hits_text.specs.Puts.{Put};
 
-use crate::text::{put_byte, put_decimal, put_hex, put_text};
-use collector::codes::{sortable_bits, to_doc};
+use crate::text::{Text, push_bytes, push_decimal, push_hex};
+use collector::TopDocs;
+use collector::codes::sortable_bits;
 
-// A code's document; 0 where the lower word has no document.
+// A code's document. `to_doc` asks that the lower word has one; here there is 0 where it has none.
 fn document(code: i64) -> u32
     ensures { result ≡ to_doc code }
 {
-    if 2147483647 < code & 0xffff_ffff {
-        return 0;
-    }
-    to_doc(code)
+    2147483647u32.saturating_sub((code & 0xffff_ffff) as u32)
 }
 
 // The bits of a code's score, without a float between: `to_score` asks that they are no NaN's.
@@ -25,48 +23,52 @@ fn score_bits(code: i64) -> u32
 }
 
 // A line is at most 30 bytes long.
-fn put_hit(code: i64, out: &mut [u8], at: usize) -> usize
-    requires { at + 30 ≤ length out.old }
-    ensures put { Put out.old at (hit_line code) result out.new }
-    ensures upper_bound { result ≤ at + 30 }
+fn push_hit(text: &mut Text, code: i64)
+    requires { array_vec_len text.old + 30 ≤ 32768 }
+    ensures { text.new.items ≡ text.old.items ++ hit_line code }
 {
-    let blank = put_decimal(u64::from(document(code)), out, at);
-    let bits = put_byte(b' ', out, blank);
-    let end = put_hex(u64::from(score_bits(code)), 8, out, bits);
-    put_byte(b'\n', out, end)
+    push_decimal(text, u64::from(document(code)));
+    text.push(b' ');
+    push_hex(text, score_bits(code), 8);
+    text.push(b'\n');
 }
 
-fn put_hits(codes: &[i64], out: &mut [u8], at: usize) -> usize
-    requires { at + 30 * length codes.now ≤ length out.old }
-    ensures { Put out.old at (hit_lines codes.now) result out.new }
+fn push_hits(text: &mut Text, codes: &[i64])
+    requires { array_vec_len text.old + 30 * length codes.now ≤ 32768 }
+    ensures { text.new.items ≡ text.old.items ++ hit_lines codes.now }
 {
-    let mut next = at;
     for &code in codes {
-        next = put_hit(code, out, next);
+        push_hit(text, code);
     }
-    next
 }
 
-// What is printed where nothing is refused.
-pub fn put_found(count: u64, marked: bool, codes: &[i64], out: &mut [u8]) -> usize
-    requires { 28 + 30 * length codes.now ≤ length out.old }
-    ensures { Put out.old 0 (found_text count marked codes.now) result out.new }
+// The end of the first line; a count that is a lower bound is marked.
+fn line_end(mark: bool) -> &'static [u8]
+    ensures { result.now ≡ cond mark (43 ∷ 10 ∷ []) (10 ∷ []) }
 {
-    let number = put_text(b"count ", out, 0);
-    let mark = put_decimal(count, out, number);
-    if marked {
-        let end = put_text(b"+\n", out, mark);
-        return put_hits(codes, out, end);
-    }
-    let end = put_byte(b'\n', out, mark);
-    put_hits(codes, out, end)
+    if mark { b"+\n" } else { b"\n" }
 }
 
-pub fn put_refused(number: u32, out: &mut [u8]) -> usize
-    requires { 29 ≤ length out.old }
-    ensures { Put out.old 0 (refused_text number) result out.new }
+// The text where nothing is refused: of at most 1024 hits.
+pub fn found(top: TopDocs, codes: &[i64]) -> Text
+    requires { length codes.now ≤ 1024 }
+    ensures { result.items ≡ found_text top.count top.mark codes.now }
 {
-    let at = put_text(b"refused ", out, 0);
-    let end = put_decimal(u64::from(number), out, at);
-    put_byte(b'\n', out, end)
+    let TopDocs { count, mark, .. } = top;
+    let mut text = Text::new();
+    push_bytes(&mut text, b"count ");
+    push_decimal(&mut text, count);
+    push_bytes(&mut text, line_end(mark));
+    push_hits(&mut text, codes);
+    text
+}
+
+pub fn refused(number: u32) -> Text
+    ensures { result.items ≡ refused_text number }
+{
+    let mut text = Text::new();
+    push_bytes(&mut text, b"refused ");
+    push_decimal(&mut text, u64::from(number));
+    text.push(b'\n');
+    text
 }

@@ -1,6 +1,5 @@
 // The words of a file's bytes.
-ghost use Rattle.std.specs.Prelude.{ℕ, ◌≡◌, ◌+◌, ◌*◌, ◌/◌, ◌≤◌, ◌<◌, length, take, slice_index_or};
-ghost use Rattle.io.specs.Counts.{IsPrefixLen};
+ghost use Rattle.std.specs.Prelude.{ℕ, ◌≡◌, ◌+◌, ◌*◌, ◌/◌, ◌≤◌, ◌<◌, length, slice_index_or};
 ghost use Rattle.hits_text.specs.Text.{word_at, long_at, words_of, longs_of};
 
 // The i-th little-endian word of 32 bits.
@@ -33,11 +32,10 @@ fn fill<W: Copy, F: Fn(usize) -> W>(words: &mut [W], word: F)
     }
 }
 
-// All words, from the front; how many there are.
-pub fn read_words(bytes: &[u8], words: &mut [u32]) -> usize
+// All words of a file, in the front of the buffer.
+pub fn read_words<'a>(bytes: &[u8], words: &'a mut [u32]) -> &'a [u32]
     requires { length bytes.now / 4 ≤ length words.old }
-    ensures prefix_len { IsPrefixLen result words.new }
-    ensures words_after { take result words.new ≡ words_of bytes.now }
+    ensures { result.now ≡ words_of bytes.now }
 {
     let n = bytes.len() / 4;
     let word = |i: usize| -> u32
@@ -45,13 +43,12 @@ pub fn read_words(bytes: &[u8], words: &mut [u32]) -> usize
         ensures { result ≡ word_at bytes.entry.now i }
     { word_at(bytes, i) };
     fill(&mut words[..n], word);
-    n
+    &words[..n]
 }
 
-pub fn read_longs(bytes: &[u8], words: &mut [u64]) -> usize
+pub fn read_longs<'a>(bytes: &[u8], words: &'a mut [u64]) -> &'a [u64]
     requires { length bytes.now / 8 ≤ length words.old }
-    ensures prefix_len { IsPrefixLen result words.new }
-    ensures words_after { take result words.new ≡ longs_of bytes.now }
+    ensures { result.now ≡ longs_of bytes.now }
 {
     let n = bytes.len() / 8;
     let word = |i: usize| -> u64
@@ -59,5 +56,5 @@ pub fn read_longs(bytes: &[u8], words: &mut [u64]) -> usize
         ensures { result ≡ long_at bytes.entry.now i }
     { long_at(bytes, i) };
     fill(&mut words[..n], word);
-    n
+    &words[..n]
 }

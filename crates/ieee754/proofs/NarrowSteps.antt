@@ -4,10 +4,10 @@ use mathlib.Core.Logic.{inl, inr}
 use Prim.Native.Nat.{ℕ, zero, suc, ◌+◌, ◌-◌, ◌*◌, ◌/◌, ◌%◌, ◌^◌, ◌≤◌, ◌<◌, zero-le, compare, Ordering}
 use native.Mathlib.Nat.{le_trans, le_of_eq, le_of_lt, le_antisymm, lt_of_lt_of_le, lt_of_le_of_lt, lt_of_not-le, lt_irrefl, le_of_suc-le-suc, eq-or-lt_of_le, not-le_of_lt, zero-add, mul-one, one-mul, mul_comm, mul_assoc, mul-le-mul_right, mul-pos, mul-lt-mul_of_pos_right, mul-div_cancel, div-one, mod-lt, mod-eq_of_lt, div-add-mod', div-lt_iff_lt-mul, le-div_iff_mul-le, le-add_right, add_comm, add-mul-div_right, add-mul-mod_self_right, mod-le, mul-le-mul}
 use native.Mathlib.Omega.{arith}
-use mathlib.Core.Bool.{Bool, true, false, not, cond}
+use mathlib.Core.Bool.{Bool, true, false, not, cond, false≢true}
 use lib.Dec.{T, not_T, le→leb, ltb, leb, eqb, is_le, compare_is_eq, ltb→lt, lt→ltb, lit≤, lit<, leb→le, nleb→lt, eqb→eq, eqb_refl}
 use lib.Pow.{pow-add, pow_pos, pow_mono, pow-lt, shl_lt, shl-shr, shl_exact}
-use lib.Ieee.{Float, nan, inf, fin, Format, binary32, binary64, low, size, nearest, odd, units, of_fields, of_bits, to_bits, nan_bits, is_nan, fits, neg, div, round}
+use lib.Ieee.{Float, nan, inf, fin, Format, binary32, binary64, low, size, nearest, odd, units, of_fields, of_bits, to_bits, nan_bits, is_nan, fits, neg, round}
 use lib.Ieee.Fits.{odd-fits, round_is}
 use lib.Ieee.Bits.{is_true, is_false, of_bits-to_bits, nan_bits_above, to_bits-lt}
 use lib.Ieee.Digits.{size-lt, size-le}
@@ -603,9 +603,13 @@ module _ (x : Float) (F : T (fits binary64 x)) (N : T (not (is_nan x))) where
   pub signed_is : 2 ^ 63 ≤ b → neg (narrow (of_bits binary64 (b - 2 ^ 63))) ≡ narrow x
   signed_is h = narrow-neg (of_bits binary64 (b - 2 ^ 63)) ∙ ap narrow (bits-neg b h b_lt ∙ is)
 
-zero_by_zero : div binary32 (of_bits binary32 0) (of_bits binary32 0) ≡ nan
-unfolding div of_bits
-zero_by_zero = refl
+nan-pattern : of_bits binary32 0x7fc0_0000 ≡ nan
+unfolding of_bits
+nan-pattern = refl
 
-pub nan_is : (x : Float) → x ≡ nan → div binary32 (of_bits binary32 0) (of_bits binary32 0) ≡ narrow x
-nan_is x h = zero_by_zero ∙ sym (ap narrow h ∙ narrow-nan)
+-- a NaN by its value, where the code's test says so
+pub nan_is : (x : Float) → is_nan x ≡ true → of_bits binary32 0x7fc0_0000 ≡ narrow x
+unfolding is_nan
+nan_is nan e = nan-pattern ∙ sym narrow-nan
+nan_is (inf s) e = absurd (false≢true e)
+nan_is (fin s m x) e = absurd (false≢true e)

@@ -4,12 +4,16 @@ use Prim.Native.Nat.{ℕ, zero, suc, ◌+◌, ◌-◌, ◌*◌, ◌/◌, ◌%◌
 use native.Mathlib.Nat.{le_refl, le_trans, le_of_eq, not-le_of_lt, zero-mul, zero-div, le-add_right}
 use native.Mathlib.Numerals.{add-one}
 use native.Mathlib.Omega.{arith}
-use mathlib.Core.Bool.{Bool, true, false, not}
+use mathlib.Core.Bool.{Bool, true, false, not, cond}
+use mathlib.Core.Logic.{⊎_elim}
 use lib.IntN.{ℤ, pos}
-use lib.Dec.{T, ltb, lt→ltb, ltb→lt, le→leb, lit≤, not_T}
-use lib.Ieee.{Float, nan, inf, fin, binary32, up, down, size, to_bits, of_bits, nan_bits, is_nan, fits, lt, le}
-use lib.Ieee.Bits.{of_bits-to_bits, of_bits-fits, nan_bits_above, to_bits-lt}
+use lib.Dec.{T, eqb, ltb, lt→ltb, ltb→lt, le→leb, lit≤}
+use lib.Ieee.{Float, nan, inf, fin, binary32, up, down, size, to_bits, of_bits, is_nan, fits, lt, le}
+use lib.Ieee.Bits.{of_bits-to_bits, of_bits-fits, to_bits-lt}
+use borrow.Author.Tests.{eqb-true, eqb-false}
+use Rattle.std.specs.Float.{next_up as std_next_up, next_up_by_bits}
 use Rattle.meaning.specs.Ieee754.{zero_float, next_up}
+use Rattle.meaning.proofs.Tests.{cmp, decided}
 use Rattle.ieee754.specs.Nonneg.{nonneg, sign_clear}
 use Rattle.ieee754.proofs.Nonneg.{no_nan, to_bits-units, pattern}
 use Rattle.ieee754.proofs.Patterns.{bits-finite, number-bits, inf-pattern, pattern-infinite, pattern-clear, pattern-back, nonneg-clear, clear-lt, clear-le}
@@ -81,16 +85,6 @@ module _ (x : Float) (F : T (fits binary32 x)) where
       let e : x ≡ fin true 0 (pos 0) = sym (of_bits-to_bits binary32 x F) ∙ ap (of_bits binary32) h ∙ negative-zero in
       sym (ap next_up e ∙ next-of-zero true (pos 0))
 
-  -- a negative pattern less one is no NaN's
-  pub less-number : T (not (is_nan x)) → 0x7f80_0000 < to_bits binary32 x → (to_bits binary32 x ≡ 0x8000_0000 → ⊥) → T (not (nan_bits binary32 (to_bits binary32 x - 1)))
-  less-number N h n =
-      let b = to_bits binary32 x in
-      subst (λ (z : Bool). T (not z)) (sym (nan_bits_above binary32 (b - 1)))
-      (not_T (ltb (255 * 2 ^ 23) ((b - 1) % 2 ^ 31)) (λ t. not-le_of_lt (ltb→lt (255 * 2 ^ 23) ((b - 1) % 2 ^ 31) t) (less b (number-bits binary32 x F N) (to_bits-lt binary32 x F) h n)))
-    where
-      less : (b : ℕ) → b % 2 ^ 31 ≤ 255 * 2 ^ 23 → b < 2 ^ 32 → 0x7f80_0000 < b → (b ≡ 0x8000_0000 → ⊥) → (b - 1) % 2 ^ 31 ≤ 255 * 2 ^ 23
-      less b k l h n = omega (arith, n)
-
 at-negative : (x : Float) → T (fits binary32 x) → T (not (is_nan x)) → 0x7f80_0000 < to_bits binary32 x → (to_bits binary32 x ≡ 0x8000_0000 → ⊥) → of_bits binary32 (to_bits binary32 x - 1) ≡ next_up x
 unfolding next_up is_nan
 at-negative nan F N h n = absurd N
@@ -106,9 +100,51 @@ at-negative (fin true (suc m) e) F N h n = refl
 pub next-negative : (x : Float) → T (fits binary32 x) → T (not (is_nan x)) → 0x7f80_0000 < to_bits binary32 x → (to_bits binary32 x ≡ 0x8000_0000 → ⊥) → of_bits binary32 (to_bits binary32 x - 1) ≡ next_up x
 next-negative x F N h n = at-negative x F N h n
 
-pub next-nan : (x : Float) → x ≡ nan → x ≡ next_up x
-unfolding next_up
-next-nan x h = h ∙ sym (ap next_up h)
+-- ---- std's nextUp, which tests the pattern
+-- three tests one after the other, by what each answer is
+in-turn : (x a c d r : Float) (b i m : ℕ) → (b ≡ i → x ≡ r) → (m ≡ 0 → a ≡ r) → ((b ≡ i → ⊥) → b ≡ m → c ≡ r) → ((m ≡ 0 → ⊥) → (b ≡ m → ⊥) → d ≡ r) → cond (eqb b i) x (cond (eqb m 0) a (cond (eqb b m) c d)) ≡ r
+in-turn x a c d r b i m f g h k =
+    ⊎_elim
+    (λ e. rw e (f (eqb-true b i e)))
+    (λ n. rw n
+    (⊎_elim
+    (λ e. rw e (g (eqb-true m 0 e)))
+    (λ z. rw z
+    (⊎_elim
+    (λ e. rw e (h (eqb-false b i n) (eqb-true b m e)))
+    (λ o. rw o (k (eqb-false m 0 z) (eqb-false b m o)))
+    (decided (eqb b m))))
+    (decided (eqb m 0))))
+    (decided (eqb b i))
+
+number-std : (x : Float) → T (fits binary32 x) → T (not (is_nan x)) → next_up_by_bits binary32 x (to_bits binary32 x) ≡ next_up x
+number-std x F N =
+    let b = to_bits binary32 x in
+    let k : b % 2 ^ 31 ≤ 255 * 2 ^ 23 = number-bits binary32 x F N in
+    let l : b < 2 ^ 32 = to_bits-lt binary32 x F in
+    in-turn x (of_bits binary32 1) (of_bits binary32 (b + 1)) (of_bits binary32 (b - 1)) (next_up x) b 0x7f80_0000 (b % 2 ^ 31)
+    (λ e. next-infinite x F e)
+    (λ z. ⊎_elim
+    (λ (h : b < 2 ^ 31). let e : b ≡ 0 = omega arith in ap (λ (n : ℕ). of_bits binary32 (n + 1)) (sym e) ∙ next-finite x N (omega (arith, e)))
+    (λ (h : 2 ^ 31 ≤ b). next-zero x F (omega (arith, z, h, l)))
+    (cmp b (2 ^ 31)))
+    (λ n e. next-finite x N (below b k n e))
+    (λ z o. next-negative x F N (above b o) (λ e. z (whole b e)))
+  where
+    below : (b : ℕ) → b % 2 ^ 31 ≤ 255 * 2 ^ 23 → (b ≡ 0x7f80_0000 → ⊥) → b ≡ b % 2 ^ 31 → b < 0x7f80_0000
+    below b k n e = omega (arith, k, n, e)
+
+    above : (b : ℕ) → (b ≡ b % 2 ^ 31 → ⊥) → 0x7f80_0000 < b
+    above b o = omega (arith, o)
+
+    whole : (b : ℕ) → b ≡ 0x8000_0000 → b % 2 ^ 31 ≡ 0
+    whole b e = omega (arith, e)
+
+pub next-up-std : (x : Float) → T (fits binary32 x) → std_next_up binary32 x ≡ next_up x
+unfolding is_nan next_up
+next-up-std nan F = refl
+next-up-std (inf s) F = number-std (inf s) F tt
+next-up-std (fin s m e) F = number-std (fin s m e) F tt
 
 -- ---- of a finite x that is not negative: the next pattern, which is the least above
 module _ (x : Float) (F : T (fits binary32 x)) (p : T (nonneg x)) where

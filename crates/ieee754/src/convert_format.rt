@@ -67,8 +67,8 @@ fn in_steps(bits: u64) -> f32
 pub fn narrow_in_steps(x: f64) -> f32
     ensures { result ≡ narrow_in_steps x }
 {
-    if x != x {
-        return 0.0 / 0.0;
+    if x.is_nan() {
+        return f32::NAN;
     }
     let bits = f64::to_bits(x);
     if bits < 0x8000_0000_0000_0000 {

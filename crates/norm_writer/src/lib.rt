@@ -11,8 +11,8 @@ ghost use Rattle.meaning.specs.Entries.{written};
 ghost use Rattle.index.specs.Slices.{fields_only};
 ghost use Rattle.norm_writer.specs.Lengths.{in_run, length_in, before, norm_bytes, RunOk, RunsOk, cursors_at};
 
+use index::fields;
 use index::postings::{posting_document, posting_frequency};
-use index::{fields, wide};
 use sim::small_float::int_to_byte4;
 
 // So many documents are counted at a time.
@@ -34,7 +34,7 @@ fn add_run(
     ensures counts_after { counts.new ≡ list_to (length counts.old) (λ j. get_or counts.old j 0 + in_run postings.now first number (base + j)) }
 {
     for i in from..number {
-        let document = wide(posting_document(postings, first, i));
+        let document = posting_document(postings, first, i) as usize;
         if document - base >= counts.len() {
             return i;
         }
@@ -65,6 +65,7 @@ struct FieldRuns<'a> {
 
 impl FieldRuns<'_> {
     // Adds up the runs of the field's leaves over the window from base on.
+    // Kept: no parallel arrays: a cursor is a leaf's, a count a document's of the window.
     fn add_leaves(self, base: usize, cursors: &mut [usize], counts: &mut [u32])
         requires runs_ok { RunsOk self.leaf_fields.now self.postings.now self.runs.now × (base + length counts.old < 2 ^ 32) }
         requires cursors_value { cursors.old ≡ list_to 512 (cursors_at self.leaf_fields.now self.postings.now self.runs.now self.field base) }
@@ -76,8 +77,8 @@ impl FieldRuns<'_> {
             if *field == self.field {
                 cursors[l] = add_run(
                     self.postings,
-                    wide(self.runs[2 * l]),
-                    wide(self.runs[2 * l + 1]),
+                    self.runs[2 * l] as usize,
+                    self.runs[2 * l + 1] as usize,
                     cursors[l],
                     base,
                     counts,
@@ -127,7 +128,7 @@ pub fn write_norms(
     let mut at = 0;
     for f in 0..fields.len() / 3 {
         if fields::field_at(fields, f).norms == 1 {
-            let end = at + wide(max_doc);
+            let end = at + max_doc as usize;
             let field_runs = FieldRuns {
                 field: f as u32,
                 leaf_fields,

@@ -1,20 +1,12 @@
 -- The search in a run of documents that ascend. Assumes nothing.
-use mathlib.Core.Path.{◌≡◌, ap, subst}
+use mathlib.Core.Path.{◌≡◌, ap}
 use mathlib.Core.Logic.{⊎_elim}
 use mathlib.Core.List.{List}
-use Prim.Native.Nat.{ℕ, zero, suc, ◌+◌, ◌*◌, ◌≤◌, ◌<◌}
-use native.Mathlib.Nat.{eq-or-lt_of_le, mul_comm, mul-suc}
+use Prim.Native.Nat.{ℕ, suc, ◌+◌, ◌≤◌, ◌<◌}
+use native.Mathlib.Nat.{eq-or-lt_of_le}
 use native.Mathlib.Omega.{arith}
 use Rattle.meaning.proofs.Tests.{cmp}
 use Rattle.run.specs.Run.{document_at, Run, Lower}
-
--- a factor above 0 makes no product smaller
-pub factor-le : (k n : ℕ) → 0 < k → n ≤ k * n
-factor-le k n h = subst (λ (i : ℕ). n ≤ i) (mul_comm n k) (below k h)
-  where
-    below : (k : ℕ) → 0 < k → n ≤ n * k
-    below zero h = absurd (omega arith)
-    below (suc k) h = omega (arith, mul-suc n k)
 
 -- a search has come to a place: the documents that it passed are below the target
 pub record Front (words : List ℕ) (stride first count from target low : ℕ) : Type 0 where

@@ -7,6 +7,7 @@ ghost use Rattle.run.specs.Run.{document_at, Run, Lower, Between};
 // So many postings are looked at one after the other before the search takes longer steps.
 const NEAR: usize = 4;
 
+// Kept: no plainer as the method alone: callers hold a run's words and numbers, without the proof that its documents ascend.
 pub fn document(words: &[u32], stride: usize, first: usize, i: usize) -> u32
     requires { (0 < stride) × (stride * (first + i) < length words.now) }
     ensures { result ≡ document_at words.now stride first i }
@@ -52,6 +53,7 @@ impl Postings<'_> {
     }
 
     // By steps that double, then by halves within the last one.
+    // Kept: no range goes by steps that double: `while` is no less plain.
     fn gallop(self, from: usize, target: u32) -> usize
         requires { from ≤ self.count }
         ensures { Lower self.entry.words.now self.entry.stride self.entry.first self.entry.count from target result }

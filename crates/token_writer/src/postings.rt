@@ -32,6 +32,7 @@ fn write_record<const N: usize>(words: &mut [u32], number: usize, values: [u32; 
 }
 
 // A number where the field has positions, else 0.
+// Kept: no plainer: the flag is what the leaf's field is, and each use takes a number by it.
 fn where_positional(positional: bool, number: usize) -> usize
     ensures { result ≡ cond positional number 0 }
 {

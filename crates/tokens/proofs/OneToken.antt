@@ -1,14 +1,15 @@
 -- One token: the code's tests are those of the definitions, where it is the first and where it is not. Assumes nothing.
-use Rattle.std.proofs.Common.{◌≡◌, refl, sym, ◌∙◌, ap, arith, Bool, true, false, cond, not, ◌&&◌, ◌||◌, List, ℕ, ◌+◌, ◌-◌, ◌/◌, ◌<◌, ◌≤◌, eqb, leb, ltb, length, get_or}
+use Rattle.std.proofs.Common.{◌≡◌, refl, sym, ◌∙◌, arith, Bool, true, false, not, ◌&&◌, ◌||◌, List, ℕ, ◌+◌, ◌-◌, ◌<◌, ◌≤◌, eqb, leb, ltb, length}
 use Rattle.std.proofs.lemmas.Bool.Decides.{nat_tests}
 use Rattle.std.specs.Ordering.{partial_lt}
 use borrow.Author.Tests.{leb-false, lt-ltb, ne_eqb}
 use Rattle.meaning.specs.Below.{any_below, count_below}
 use Rattle.meaning.specs.Limits.{no_more_docs}
-use Rattle.meaning.specs.Tokens.{token_at, not_after, positional}
+use Rattle.meaning.specs.Tokens.{token_at, not_after}
 use Rattle.meaning.specs.TokenRefusals.{wrong_token, wrong_leaf_field}
 use Rattle.meaning.proofs.Tests.{or-4}
-use Rattle.meaning.proofs.Below.{none_below}
+use mir.Val.{bool_byte}
+use Rattle.meaning.proofs.Below.{none_below, count-one, count_same}
 use Rattle.tokens.specs.declared.Token.{Token}
 use Rattle.tokens.specs.contracts.TokenPartialOrd.TheImpl.{partial_cmp-value}
 use Rattle.tokens.specs.Records.{token_of}
@@ -23,6 +24,15 @@ earlier a b c d e f = grind (arith, nat_tests)
 or-before : (a b c d : Bool) → (a || (b || c || d)) ≡ (a || b || c || d)
 or-before true b c d = refl
 or-before false b c d = refl
+
+-- one more is counted by its test's number
+pub count-more : (p : ℕ → Bool) (i held : ℕ) → held ≡ count_below i p → (x : ℕ) (b : Bool) → x ≡ bool_byte b → b ≡ p i → held + x ≡ count_below (i + 1) p
+count-more p i held e x true h g = rw h (count-one i p held e (sym g))
+count-more p i held e x false h g = rw h (omega (arith, count_same i p held e (sym g)))
+
+pub byte-le : (x : ℕ) (b : Bool) → x ≡ bool_byte b → x ≤ 1
+byte-le x true e = omega (arith, e)
+byte-le x false e = omega (arith, e)
 
 module _ (ws : List ℕ) (i : ℕ) where
   pub begins-first : i ≡ 0 → true ≡ begins_posting ws i

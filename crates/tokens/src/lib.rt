@@ -1,14 +1,14 @@
 // Token records, three words each: leaf, document, position; what 15 asks of them, and how many postings and positions they fill.
 #![tactic(auto)]
 
-ghost use Rattle.std.specs.Prelude.{◌≡◌, false, ◌<◌, ◌-◌, length, is_err, IfOk, IfErr};
+ghost use Rattle.std.specs.Prelude.{◌≡◌, false, ◌<◌, ◌-◌, length, is_err, IfOk, IfErr, MatchOption};
 ghost use Rattle.meaning.specs.Below.{any_below};
 ghost use Rattle.meaning.specs.Tokens.{token_count, token_at, not_after, positional};
 ghost use Rattle.meaning.specs.TokenRefusals.{wrong_token, wrong_leaf_field, wrong15};
 ghost use Rattle.tokens.specs.Records.{token_of};
 ghost use Rattle.tokens.specs.Counts.{begins_posting, Counts};
 
-use index::{fields, postings, wide};
+use index::{fields, postings};
 use refusal::Refusal;
 
 // The limits of the request: 16,777,216 tokens; of document 01: 512 leaves.
@@ -36,17 +36,25 @@ pub fn token_at(tokens: &[u32], i: usize) -> Token
     }
 }
 
+// The token before token i; none is before the first.
+fn token_before(tokens: &[u32], i: usize) -> Option<Token>
+    requires { i < token_count tokens.now }
+    ensures { MatchOption result (i ≡ 0) (λ before. (0 < i) × (before ≡ token_of tokens.now (i - 1))) }
+{
+    let before = i.checked_sub(1)?;
+    Some(token_at(tokens, before))
+}
+
 // Whether token i begins a posting: it is the first, or another leaf's or document's than the one before.
 fn begins_posting(tokens: &[u32], i: usize) -> bool
     requires { i < token_count tokens.now }
     ensures { result ≡ begins_posting tokens.now i }
 {
-    if i == 0 {
-        return true;
-    }
-    let before = token_at(tokens, i - 1);
     let here = token_at(tokens, i);
-    (here.leaf != before.leaf) | (here.document != before.document)
+    match token_before(tokens, i) {
+        Some(before) => (here.leaf != before.leaf) | (here.document != before.document),
+        None => true,
+    }
 }
 
 // How many postings and positions tokens fill.
@@ -72,13 +80,13 @@ impl TokenRecords<'_> {
         ensures { result ≡ wrong_token self.entry.max_doc self.entry.leaf_fields.now self.entry.tokens.now i }
     {
         let here = token_at(self.tokens, i);
-        let absent = (wide(here.leaf) >= self.leaf_fields.len())
+        let absent = (here.leaf as usize >= self.leaf_fields.len())
             | (here.document >= self.max_doc)
             | (here.position > postings::NO_MORE_DOCS);
-        if i == 0 {
-            return absent;
+        match token_before(self.tokens, i) {
+            Some(before) => (here < before) | absent,
+            None => absent,
         }
-        (here < token_at(self.tokens, i - 1)) | absent
     }
 
     // Whether a leaf's field has positions.
@@ -86,7 +94,7 @@ impl TokenRecords<'_> {
         requires { (leaf < length self.leaf_fields.now) × (wrong_leaf_field self.fields.now self.leaf_fields.now leaf ≡ false) }
         ensures { result ≡ positional self.entry.fields.now self.entry.leaf_fields.now leaf }
     {
-        fields::field_at(self.fields, wide(self.leaf_fields[leaf])).positions == 1
+        fields::field_at(self.fields, self.leaf_fields[leaf] as usize).positions == 1
     }
 
     // The tokens one after the other, up to the first that is wrong.
@@ -102,12 +110,9 @@ impl TokenRecords<'_> {
             if self.wrong_token(i) {
                 return Err(Refusal::Tokens);
             }
-            if begins_posting(self.tokens, i) {
-                postings += 1;
-            }
-            if self.is_positional(wide(token_at(self.tokens, i).leaf)) {
-                positions += 1;
-            }
+            postings += usize::from(begins_posting(self.tokens, i));
+            let leaf = token_at(self.tokens, i).leaf as usize;
+            positions += usize::from(self.is_positional(leaf));
         }
         Ok(Numbers {
             postings,
@@ -120,7 +125,7 @@ impl TokenRecords<'_> {
         ensures { result ≡ any_below (length self.entry.leaf_fields.now) (wrong_leaf_field self.entry.fields.now self.entry.leaf_fields.now) }
     {
         let number = self.fields.len() / 3;
-        self.leaf_fields.iter().any(|f| wide(*f) >= number)
+        self.leaf_fields.iter().any(|f| *f as usize >= number)
     }
 
     // 15, the tokens and the leaves' fields, and how many postings and positions the tokens fill.

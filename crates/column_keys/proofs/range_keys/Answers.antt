@@ -1,14 +1,18 @@
-use Rattle.std.proofs.Common.{◌∙◌}
-use Rattle.column_keys.proofs.KeyOrder.{range-common, range-nothing}
+use Rattle.std.proofs.Common.{ap₂, ◌∙◌, ◌%◌, ◌/◌, ◌&&◌}
+use Rattle.column_keys.specs.Keys.{type_number}
+use Rattle.column_keys.proofs.KeyOrder.{good-of, lower-of, upper-of, range-common}
 use Rattle.column_keys.proofs.range_keys.Goals as goal
 
-pub returns-then-lower_good-upper_good : goal.returns-then-lower_good-upper_good
-returns-then-lower_good-upper_good c = λ k h.
+pub returns-then-takes : goal.returns-then-takes
+returns-then-takes c = λ k h.
     let a = c.args in
-    c.in_common.ensures k
-    ∙ range-common a.column_type a.kinds a.lower a.upper k _ _ c.end_good-lower_good.ensures c.end_good-upper_good.ensures c.if-lower_good-upper_good.true _ _ (c.number_keys.ensures k h) (c.end_keys.ensures k h)
-
-pub returns-else-lower_good-upper_good : goal.returns-else-lower_good-upper_good
-returns-else-lower_good-upper_good c = λ k h.
-    let a = c.args in
-    range-nothing a.column_type a.kinds a.lower a.upper k _ _ c.end_good-lower_good.ensures c.end_good-upper_good.ensures c.if-lower_good-upper_good.false
+    let type = type_number a.column_type in
+    c.in_common-then-takes.ensures k
+    ∙ range-common type a.kinds a.lower a.upper k _ _
+    (c.takes.ensures ∙ good-of type (a.kinds % 3) a.lower k _ c.end_of-from.ensures)
+    (c.takes-2.ensures ∙ good-of type (a.kinds / 3) a.upper k _ c.end_of-to.ensures)
+    c.if-takes.true _ _ (c.number_keys.ensures k h)
+    (c.in_common.ensures k
+    ∙ ap₂ ◌&&◌
+    (c.lower_keys-above.ensures k h ∙ lower-of type (a.kinds % 3) a.lower k _ _ c.end_of-from.ensures c.end_key.ensures)
+    (c.upper_keys-below.ensures k h ∙ upper-of type (a.kinds / 3) a.upper k _ _ c.end_of-to.ensures c.end_key-then-takes.ensures))

@@ -7,20 +7,20 @@ use Rattle.norm_writer.proofs.add_run.Goals as goal
 pub loop-i-init : goal.loop-i-init
 loop-i-init c = let a = c.args in adding-start a.postings.now a.first a.number c.requires.run_ok.0 a.base a.counts.now a.from c.requires.run_ok.1
 
-pub posting_document-requires : goal.posting_document-requires
-posting_document-requires c = omega (arith, c.requires.run_ok.0.room, c.loop-i-test.true)
+pub posting_document-document-requires : goal.posting_document-document-requires
+posting_document-document-requires c = omega (arith, c.requires.run_ok.0.room, c.loop-i-test.true)
 
 pub overflow_sub-document : goal.overflow_sub-document
 overflow_sub-document c =
     let a = c.args in
     let l = c.loop-i in
-    from-base a.postings.now a.first a.number c.requires.run_ok.0 a.base a.counts.now l.i l.counts l.invariant c.loop-i-test.true c.wide-document.result (c.wide-document.ensures ∙ c.posting_document.ensures)
+    from-base a.postings.now a.first a.number c.requires.run_ok.0 a.base a.counts.now l.i l.counts l.invariant c.loop-i-test.true c.posting_document-document.result c.posting_document-document.ensures
 
 pub returns-then-document-base : goal.returns-then-document-base
 returns-then-document-base c =
     let a = c.args in
     let l = c.loop-i in
-    let beyond = beyond-window a.postings.now a.first a.number c.requires.run_ok.0 a.base a.counts.now l.i l.counts l.invariant c.loop-i-test.true c.wide-document.result (c.wide-document.ensures ∙ c.posting_document.ensures) c.if-document-base.true in
+    let beyond = beyond-window a.postings.now a.first a.number c.requires.run_ok.0 a.base a.counts.now l.i l.counts l.invariant c.loop-i-test.true c.posting_document-document.result c.posting_document-document.ensures c.if-document-base.true in
     record { value = cursor-done a.postings.now a.first a.number c.requires.run_ok.0 a.base a.counts.now l.i l.counts l.invariant (λ m. beyond); counts_after = adding-done a.postings.now a.first a.number c.requires.run_ok.0 a.base a.counts.now l.i l.counts l.invariant (λ m. beyond) }
 
 pub posting_frequency-requires : goal.posting_frequency-requires
@@ -30,19 +30,19 @@ pub overflow_sub-counts : goal.overflow_sub-counts
 overflow_sub-counts c =
     let a = c.args in
     let l = c.loop-i in
-    from-base a.postings.now a.first a.number c.requires.run_ok.0 a.base a.counts.now l.i l.counts l.invariant c.loop-i-test.true c.wide-document.result (c.wide-document.ensures ∙ c.posting_document.ensures)
+    from-base a.postings.now a.first a.number c.requires.run_ok.0 a.base a.counts.now l.i l.counts l.invariant c.loop-i-test.true c.posting_document-document.result c.posting_document-document.ensures
 
 pub overflow_add-counts : goal.overflow_add-counts
 overflow_add-counts c =
     let a = c.args in
     let l = c.loop-i in
-    omega (arith, adding-fits a.postings.now a.first a.number c.requires.run_ok.0 a.base a.counts.now l.i l.counts l.invariant c.loop-i-test.true c.wide-document.result (c.wide-document.ensures ∙ c.posting_document.ensures) c.if-document-base.false c.posting_frequency.result c.posting_frequency.ensures c.requires.by_index)
+    omega (arith, adding-fits a.postings.now a.first a.number c.requires.run_ok.0 a.base a.counts.now l.i l.counts l.invariant c.loop-i-test.true c.posting_document-document.result c.posting_document-document.ensures c.if-document-base.false c.posting_frequency.result c.posting_frequency.ensures c.requires.by_index)
 
 pub loop-i-preserved : goal.loop-i-preserved
 loop-i-preserved c =
     let a = c.args in
     let l = c.loop-i in
-    adding-step a.postings.now a.first a.number c.requires.run_ok.0 a.base a.counts.now l.i l.counts l.invariant c.loop-i-test.true c.wide-document.result (c.wide-document.ensures ∙ c.posting_document.ensures) c.if-document-base.false c.posting_frequency.result c.posting_frequency.ensures
+    adding-step a.postings.now a.first a.number c.requires.run_ok.0 a.base a.counts.now l.i l.counts l.invariant c.loop-i-test.true c.posting_document-document.result c.posting_document-document.ensures c.if-document-base.false c.posting_frequency.result c.posting_frequency.ensures
 
 pub returns : goal.returns
 returns c =

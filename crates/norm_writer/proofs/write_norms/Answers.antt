@@ -18,12 +18,12 @@ loop-f-init c = coded-start c.args.max_doc c.args.fields.now c.args.leaf_fields.
 pub overflow_add-end : goal.overflow_add-end
 overflow_add-end c =
     let l = c.loop-f in
-    omega (arith, c.wide.ensures, c.well_formed, norms-long c.args.max_doc c.args.fields.now c.args.leaf_fields.now c.args.postings.now c.args.runs.now c.args.norms.now c.requires.max_doc_in_bounds l.f l.at l.norms l.invariant, room-here c.args.max_doc c.args.fields.now c.args.leaf_fields.now c.args.postings.now c.args.runs.now c.args.norms.now c.requires.max_doc_in_bounds l.f l.at l.norms l.invariant c.loop-f-test.true (eq-eqb _ 1 (sym (ap (λ (r : Field). r.norms) c.field_at.ensures) ∙ c.if-field_at-eq1.true)))
+    omega (arith, c.well_formed, norms-long c.args.max_doc c.args.fields.now c.args.leaf_fields.now c.args.postings.now c.args.runs.now c.args.norms.now c.requires.max_doc_in_bounds l.f l.at l.norms l.invariant, room-here c.args.max_doc c.args.fields.now c.args.leaf_fields.now c.args.postings.now c.args.runs.now c.args.norms.now c.requires.max_doc_in_bounds l.f l.at l.norms l.invariant c.loop-f-test.true (eq-eqb _ 1 (sym (ap (λ (r : Field). r.norms) c.field_at.ensures) ∙ c.if-field_at-eq1.true)))
 
 pub slice_bounds-write_field-end : goal.slice_bounds-write_field-end
 slice_bounds-write_field-end c =
     let l = c.loop-f in
-    let inside : l.at + c.wide.result ≤ length l.norms = omega (arith, c.wide.ensures, room-here c.args.max_doc c.args.fields.now c.args.leaf_fields.now c.args.postings.now c.args.runs.now c.args.norms.now c.requires.max_doc_in_bounds l.f l.at l.norms l.invariant c.loop-f-test.true (eq-eqb _ 1 (sym (ap (λ (r : Field). r.norms) c.field_at.ensures) ∙ c.if-field_at-eq1.true))) in
+    let inside : l.at + c.args.max_doc ≤ length l.norms = omega (arith, room-here c.args.max_doc c.args.fields.now c.args.leaf_fields.now c.args.postings.now c.args.runs.now c.args.norms.now c.requires.max_doc_in_bounds l.f l.at l.norms l.invariant c.loop-f-test.true (eq-eqb _ 1 (sym (ap (λ (r : Field). r.norms) c.field_at.ensures) ∙ c.if-field_at-eq1.true))) in
     inside
 
 pub loop-f-preserved : goal.loop-f-preserved
@@ -32,11 +32,11 @@ loop-f-preserved c =
     elim c.if-field_at-eq1.branch [
       | then-field_at-eq1 w ↦ (
           let f = λ (d : ℕ). int_to_byte4 (length_in c.args.leaf_fields.now c.args.postings.now c.args.runs.now l.f d) in
-          let e = l.at + w.wide.result in
-          let inside : e ≤ length l.norms = omega (arith, w.wide.ensures, room-here c.args.max_doc c.args.fields.now c.args.leaf_fields.now c.args.postings.now c.args.runs.now c.args.norms.now c.requires.max_doc_in_bounds l.f l.at l.norms l.invariant c.loop-f-test.true (eq-eqb _ 1 (sym (ap (λ (r : Field). r.norms) c.field_at.ensures) ∙ w.if-field_at-eq1.true))) in
+          let e = l.at + c.args.max_doc in
+          let inside : e ≤ length l.norms = omega (arith, room-here c.args.max_doc c.args.fields.now c.args.leaf_fields.now c.args.postings.now c.args.runs.now c.args.norms.now c.requires.max_doc_in_bounds l.f l.at l.norms l.invariant c.loop-f-test.true (eq-eqb _ 1 (sym (ap (λ (r : Field). r.norms) c.field_at.ensures) ∙ w.if-field_at-eq1.true))) in
           let size = mid_len l.at e l.norms inside in
-          let number : length (mid_of l.at (e - l.at) l.norms) ≡ c.args.max_doc = omega (arith, size, w.wide.ensures) in
-          coded-with c.args.max_doc c.args.fields.now c.args.leaf_fields.now c.args.postings.now c.args.runs.now c.args.norms.now c.requires.max_doc_in_bounds l.f l.at l.norms l.invariant c.loop-f-test.true (eq-eqb _ 1 (sym (ap (λ (r : Field). r.norms) c.field_at.ensures) ∙ w.if-field_at-eq1.true)) c.if-field_at-eq1.at c.if-field_at-eq1.norms (w.at-is ∙ ap (λ (n : ℕ). l.at + n) w.wide.ensures)
+          let number : length (mid_of l.at (e - l.at) l.norms) ≡ c.args.max_doc = omega (arith, size) in
+          coded-with c.args.max_doc c.args.fields.now c.args.leaf_fields.now c.args.postings.now c.args.runs.now c.args.norms.now c.requires.max_doc_in_bounds l.f l.at l.norms l.invariant c.loop-f-test.true (eq-eqb _ 1 (sym (ap (λ (r : Field). r.norms) c.field_at.ensures) ∙ w.if-field_at-eq1.true)) c.if-field_at-eq1.at c.if-field_at-eq1.norms w.at-is
           (w.norms-is ∙ put-sets l.at e l.norms w.write_field.new.norms (omega (arith, size, w.write_field.auto.norms)) inside ∙ ap (sets l.norms l.at) (w.write_field.ensures ∙ ap (λ (k : ℕ). list_to k f) number)))
       | else-field_at-eq1 w ↦ coded-without c.args.max_doc c.args.fields.now c.args.leaf_fields.now c.args.postings.now c.args.runs.now c.args.norms.now c.requires.max_doc_in_bounds l.f l.at l.norms l.invariant c.loop-f-test.true (ne_eqb _ 1 (λ e. w.if-field_at-eq1.false (ap (λ (r : Field). r.norms) c.field_at.ensures ∙ e))) c.if-field_at-eq1.at c.if-field_at-eq1.norms w.at-is w.norms-is
     ]

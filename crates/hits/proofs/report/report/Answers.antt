@@ -1,7 +1,6 @@
 -- Files that are not taken are refused, and the words of the others are searched.
 use Rattle.std.proofs.Common.{ℕ, ◌/◌, ◌≤◌, sym, ◌∙◌, arith}
 use Rattle.hits_text.specs.Contents.{files_of}
-use Rattle.hits_text.proofs.Putting.{put_front}
 use Rattle.hits.proofs.Taken.{sizes-of, refused-files, taken-files}
 use Rattle.hits.proofs.report.report.Goals as goal
 
@@ -9,34 +8,32 @@ use Rattle.hits.proofs.report.report.Goals as goal
 quarter : (n : ℕ) → n ≤ 65536 → n / 4 ≤ 16384
 quarter n h = omega arith
 
-pub returns-then-not-taken-clause-out_after : goal.returns-then-not-taken-clause-out_after
-returns-then-not-taken-clause-out_after c =
-    put_front c.args.out.now _ c.put_refused.result c.put_refused.new.out c.put_refused.ensures
-    ∙ refused-files (files_of c.args.files) (sym c.taken.ensures ∙ c.if-not-taken.true)
+pub returns-then-not-taken : goal.returns-then-not-taken
+returns-then-not-taken c = c.refused.ensures ∙ refused-files (files_of c.args.files) (sym c.taken.ensures ∙ c.if-not-taken.true)
 
-pub read_words-a-requires : goal.read_words-a-requires
-read_words-a-requires c = quarter _ (sizes-of _ (sym c.taken.ensures ∙ c.if-not-taken.false)).fields
+pub read_words-requires : goal.read_words-requires
+read_words-requires c = quarter _ (sizes-of _ (sym c.taken.ensures ∙ c.if-not-taken.false)).fields
 
-pub read_words-b-requires : goal.read_words-b-requires
-read_words-b-requires c = quarter _ (sizes-of _ (sym c.taken.ensures ∙ c.if-not-taken.false)).leaves
+pub read_words-requires-2 : goal.read_words-requires-2
+read_words-requires-2 c = quarter _ (sizes-of _ (sym c.taken.ensures ∙ c.if-not-taken.false)).leaves
 
-pub read_words-c-requires : goal.read_words-c-requires
-read_words-c-requires c = quarter _ (sizes-of _ (sym c.taken.ensures ∙ c.if-not-taken.false)).postings
+pub read_words-requires-3 : goal.read_words-requires-3
+read_words-requires-3 c = quarter _ (sizes-of _ (sym c.taken.ensures ∙ c.if-not-taken.false)).postings
 
-pub read_words-d-requires : goal.read_words-d-requires
-read_words-d-requires c = quarter _ (sizes-of _ (sym c.taken.ensures ∙ c.if-not-taken.false)).positions
+pub read_words-requires-4 : goal.read_words-requires-4
+read_words-requires-4 c = quarter _ (sizes-of _ (sym c.taken.ensures ∙ c.if-not-taken.false)).positions
 
-pub read_longs-e-requires : goal.read_longs-e-requires
-read_longs-e-requires c = let s = sizes-of _ (sym c.taken.ensures ∙ c.if-not-taken.false) in omega (arith, s.live)
+pub read_longs-requires : goal.read_longs-requires
+read_longs-requires c = let s = sizes-of _ (sym c.taken.ensures ∙ c.if-not-taken.false) in omega (arith, s.live)
 
-pub read_words-f-requires : goal.read_words-f-requires
-read_words-f-requires c = quarter _ (sizes-of _ (sym c.taken.ensures ∙ c.if-not-taken.false)).columns
+pub read_words-requires-5 : goal.read_words-requires-5
+read_words-requires-5 c = quarter _ (sizes-of _ (sym c.taken.ensures ∙ c.if-not-taken.false)).columns
 
-pub read_words-g-requires : goal.read_words-g-requires
-read_words-g-requires c = quarter _ (sizes-of _ (sym c.taken.ensures ∙ c.if-not-taken.false)).values
+pub read_words-requires-6 : goal.read_words-requires-6
+read_words-requires-6 c = quarter _ (sizes-of _ (sym c.taken.ensures ∙ c.if-not-taken.false)).values
 
-pub read_words-h-requires : goal.read_words-h-requires
-read_words-h-requires c = quarter _ (sizes-of _ (sym c.taken.ensures ∙ c.if-not-taken.false)).query
+pub read_words-requires-7 : goal.read_words-requires-7
+read_words-requires-7 c = quarter _ (sizes-of _ (sym c.taken.ensures ∙ c.if-not-taken.false)).query
 
 pub word_at-requires : goal.word_at-requires
 word_at-requires c = let s = sizes-of _ (sym c.taken.ensures ∙ c.if-not-taken.false) in omega (arith, s.run)
@@ -47,9 +44,9 @@ word_at-k-requires c = let s = sizes-of _ (sym c.taken.ensures ∙ c.if-not-take
 pub word_at-t-requires : goal.word_at-t-requires
 word_at-t-requires c = let s = sizes-of _ (sym c.taken.ensures ∙ c.if-not-taken.false) in omega (arith, s.run)
 
-pub returns-clause-out_after : goal.returns-clause-out_after
-returns-clause-out_after c =
+pub returns : goal.returns
+returns c =
     let a = c.args.files in
     let text =
-    taken-files a.run.now a.fields.now a.leaves.now a.postings.now a.positions.now a.norms.now a.live.now a.columns.now a.values.now a.query.now (sym c.taken.ensures ∙ c.if-not-taken.false) c.word_at.result c.word_at-k.result c.word_at-t.result _ _ _ _ _ _ _ _ c.word_at.ensures c.word_at-k.ensures c.word_at-t.ensures c.read_words-a.ensures.words_after c.read_words-b.ensures.words_after c.read_words-c.ensures.words_after c.read_words-d.ensures.words_after c.read_longs-e.ensures.words_after c.read_words-f.ensures.words_after c.read_words-g.ensures.words_after c.read_words-h.ensures.words_after in
-    c.answer.ensures.holds ∙ text
+    taken-files a.run.now a.fields.now a.leaves.now a.postings.now a.positions.now a.norms.now a.live.now a.columns.now a.values.now a.query.now (sym c.taken.ensures ∙ c.if-not-taken.false) c.word_at.result c.word_at-k.result c.word_at-t.result _ _ _ _ _ _ _ _ c.word_at.ensures c.word_at-k.ensures c.word_at-t.ensures c.read_words.ensures c.read_words-2.ensures c.read_words-3.ensures c.read_words-4.ensures c.read_longs.ensures c.read_words-5.ensures c.read_words-6.ensures c.read_words-7.ensures in
+    c.answer.ensures ∙ text

@@ -5,8 +5,8 @@ use Rattle.hits_text.specs.Text.{word_at, words_of}
 use Rattle.hits_text.proofs.Filling.{filled_front}
 use Rattle.hits_text.proofs.words.read_words.Goals as goal
 
-pub returns-clause-words_after : goal.returns-clause-words_after
+pub returns : goal.returns
 unfolding words_of
-returns-clause-words_after c =
+returns c =
     let n = length c.args.bytes.now / 4 in
     filled_front c.fill.new.words (drop n c.args.words.now) n (word_at c.args.bytes.now) (c.fill.auto.words ∙ length-take-le n c.args.words.now c.requires) (λ k d h. search of_calls)

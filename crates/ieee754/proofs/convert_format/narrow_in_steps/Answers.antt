@@ -1,25 +1,23 @@
 -- `narrow_in_steps` meets its contract: `in_steps` rounds the pattern without its sign, and the sign goes through. Assumes nothing.
 use mathlib.Core.Path.{sym, ap, ◌∙◌, subst}
 use Prim.Native.Nat.{◌-◌, ◌^◌}
-use mathlib.Core.Bool.{not}
+use mathlib.Core.Bool.{Bool, not}
 use lib.Dec.{T}
 use lib.Ieee.{binary64, fits, is_nan, neg, of_bits, to_bits}
-use lib.Ieee.Compare.{differs_from_itself}
 use Rattle.ieee754.proofs.NarrowSteps.{plain-le, signed_le, plain-is, signed_is, nan_is}
-use Rattle.ieee754.proofs.Narrowing.{equals_itself}
 use Rattle.ieee754.proofs.InSteps.{in-steps-all}
 use Rattle.ieee754.proofs.convert_format.narrow_in_steps.Goals as goal
 
 -- what is known once the first test failed
-module _ (c : goal.Else-x) where
+module _ (c : goal.Else-is_nan) where
   F : T (fits binary64 c.args.x)
   F = subst T (sym c.well_formed.0.1) tt
 
   N : T (not (is_nan c.args.x))
-  N = equals_itself c.args.x c.if-x.false
+  N = subst (λ (b : Bool). T (not b)) (sym (sym c.is_nan.ensures.value ∙ c.if-is_nan.false)) tt
 
-pub returns-then-x : goal.returns-then-x
-returns-then-x c = nan_is c.args.x (differs_from_itself c.args.x (subst T (sym c.if-x.true) tt)) ∙ sym (in-steps-all c.args.x)
+pub returns-then-is_nan : goal.returns-then-is_nan
+returns-then-is_nan c = nan_is c.args.x (sym c.is_nan.ensures.value ∙ c.if-is_nan.true) ∙ sym (in-steps-all c.args.x)
 
 pub float_to_bits-bits : goal.float_to_bits-bits
 float_to_bits-bits c = N c

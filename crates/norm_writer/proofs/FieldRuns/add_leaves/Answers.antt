@@ -1,5 +1,5 @@
 -- `FieldRuns::add_leaves` meets its contract. Assumes nothing.
-use Rattle.std.proofs.Common.{◌∙◌, length, arith}
+use Rattle.std.proofs.Common.{refl, ◌∙◌, length, arith}
 use Rattle.norm_writer.proofs.Leaves.{added-start, cursors-long, counts-long, run_ok, cursor-here, room-here, added-leaf, added-other, cursors-done, counts-done}
 use Rattle.norm_writer.proofs.FieldRuns.add_leaves.Goals.{then-field-self, else-field-self}
 use Rattle.norm_writer.proofs.FieldRuns.add_leaves.Goals as goal
@@ -27,11 +27,11 @@ add_run-requires c =
     let l = c.loop-l in
     record {
       run_ok = (
-        run_ok s.leaf_fields.now s.postings.now s.runs.now c.requires.runs_ok.0 s.field c.args.base (length c.args.counts.now) l.l l.cursors l.counts l.invariant c.loop-l-test.true c.if-field-self.true c.wide.result c.wide-then-field-self.result c.wide.ensures c.wide-then-field-self.ensures,
-        cursor-here s.leaf_fields.now s.postings.now s.runs.now c.requires.runs_ok.0 s.field c.args.base (length c.args.counts.now) l.l l.cursors l.counts l.invariant c.loop-l-test.true c.if-field-self.true c.wide.result c.wide-then-field-self.result c.wide.ensures c.wide-then-field-self.ensures,
+        run_ok s.leaf_fields.now s.postings.now s.runs.now c.requires.runs_ok.0 s.field c.args.base (length c.args.counts.now) l.l l.cursors l.counts l.invariant c.loop-l-test.true c.if-field-self.true _ _ refl refl,
+        cursor-here s.leaf_fields.now s.postings.now s.runs.now c.requires.runs_ok.0 s.field c.args.base (length c.args.counts.now) l.l l.cursors l.counts l.invariant c.loop-l-test.true c.if-field-self.true _ _ refl refl,
         omega (arith, c.requires.runs_ok.1, counts-long s.leaf_fields.now s.postings.now s.runs.now c.requires.runs_ok.0 s.field c.args.base (length c.args.counts.now) l.l l.cursors l.counts l.invariant),
       );
-      by_index = room-here s.leaf_fields.now s.postings.now s.runs.now c.requires.runs_ok.0 s.field c.args.base (length c.args.counts.now) l.l l.cursors l.counts l.invariant c.loop-l-test.true c.if-field-self.true c.wide.result c.wide-then-field-self.result c.wide.ensures c.wide-then-field-self.ensures;
+      by_index = room-here s.leaf_fields.now s.postings.now s.runs.now c.requires.runs_ok.0 s.field c.args.base (length c.args.counts.now) l.l l.cursors l.counts l.invariant c.loop-l-test.true c.if-field-self.true _ _ refl refl;
     }
 
 pub loop-l-preserved : goal.loop-l-preserved
@@ -39,7 +39,7 @@ loop-l-preserved c =
     let s = c.args.self in
     let l = c.loop-l in
     elim c.if-field-self.branch [
-      | then-field-self w ↦ added-leaf s.leaf_fields.now s.postings.now s.runs.now c.requires.runs_ok.0 s.field c.args.base (length c.args.counts.now) l.l l.cursors l.counts l.invariant c.loop-l-test.true w.if-field-self.true w.wide.result w.wide-then-field-self.result w.wide.ensures w.wide-then-field-self.ensures w.add_run.result c.if-field-self.cursors c.if-field-self.counts w.add_run.ensures.value w.cursors-is (w.counts-is ∙ w.add_run.ensures.counts_after)
+      | then-field-self w ↦ added-leaf s.leaf_fields.now s.postings.now s.runs.now c.requires.runs_ok.0 s.field c.args.base (length c.args.counts.now) l.l l.cursors l.counts l.invariant c.loop-l-test.true w.if-field-self.true _ _ refl refl w.add_run.result c.if-field-self.cursors c.if-field-self.counts w.add_run.ensures.value w.cursors-is (w.counts-is ∙ w.add_run.ensures.counts_after)
       | else-field-self w ↦ added-other s.leaf_fields.now s.postings.now s.runs.now c.requires.runs_ok.0 s.field c.args.base (length c.args.counts.now) l.l l.cursors l.counts l.invariant c.loop-l-test.true w.if-field-self.false c.if-field-self.cursors c.if-field-self.counts w.cursors-is w.counts-is
     ]
 

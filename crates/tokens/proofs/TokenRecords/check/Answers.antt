@@ -1,8 +1,5 @@
 -- `TokenRecords::check` meets its contract: its tests are those of 15, in their order. Assumes nothing.
-use Rattle.std.proofs.Common.{◌≡◌, Bool, true, false, ◌||◌, sym, ◌∙◌, ap}
-use Rattle.meaning.specs.Below.{any_below}
-use Rattle.meaning.specs.Tokens.{token_count}
-use Rattle.meaning.specs.TokenRefusals.{wrong_token, wrong15}
+use Rattle.meaning.specs.TokenRefusals.{wrong15}
 use Rattle.tokens.proofs.TokenRecords.check.Goals as goal
 
 pub returns-then-self-wrong_leaf_fields-clause-wrong :

@@ -1,9 +1,8 @@
 -- `TokenRecords::is_positional` meets its contract. Assumes nothing.
-use Rattle.std.proofs.Common.{arith}
 use borrow.Author.Tests.{leb-false}
 use Rattle.meaning.specs.TokenRefusals.{wrong_leaf_field}
 use Rattle.tokens.proofs.TokenRecords.is_positional.Goals as goal
 
 pub field_at-requires : goal.field_at-requires
 unfolding wrong_leaf_field
-field_at-requires c = rw c.wide.ensures (leb-false _ _ c.requires.1)
+field_at-requires c = leb-false _ _ c.requires.1

@@ -1,0 +1,8 @@
+-- `codes::sortable_bits` meets its contract: the way back turns the same bits. Assumes nothing.
+use Rattle.std.proofs.Common.{ap, ◌∙◌, w32}
+use mir.Val.{of_z}
+use Rattle.collector.proofs.Halves.{turned, flipped-bits}
+use Rattle.collector.proofs.codes.sortable_bits.Goals as goal
+
+pub returns : goal.returns
+returns c = c.cast_unsigned.ensures ∙ ap (of_z w32) (turned c.args.i c.ranges.i) ∙ flipped-bits c.args.i c.ranges.i

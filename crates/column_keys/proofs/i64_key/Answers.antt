@@ -1,5 +1,0 @@
-use Rattle.column_keys.proofs.KeyOrder.{xor-sign}
-use Rattle.column_keys.proofs.i64_key.Goals as goal
-
-pub returns : goal.returns
-returns c = xor-sign c.args.bits c.ranges.bits.fits

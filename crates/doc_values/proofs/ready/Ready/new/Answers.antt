@@ -1,0 +1,34 @@
+use Rattle.std.proofs.Common.{◌<◌, ◌^◌, ◌+◌, ◌*◌, ℕ, ap, ◌∙◌, arith}
+use Rattle.meaning.specs.Lent.{column_type}
+use Rattle.meaning.specs.Entries.{columns_only}
+use Rattle.index.specs.Ranges.{asked}
+use Rattle.column_keys.specs.declared.column_type.ColumnType.{ColumnType}
+use Rattle.column_keys.specs.Keys.{type_number, range_key, value_in}
+use Rattle.column_keys.proofs.KeyOrder.{range-typed, value_in-typed}
+use Rattle.doc_values.proofs.Ranges.{column-there, column_fits, value-as-range}
+use Rattle.doc_values.proofs.ready.Ready.new.Goals as goal
+
+pub bounds-columns-at : goal.bounds-columns-at
+bounds-columns-at c = let a = c.args in column-there (columns_only a.max_doc a.columns.now a.values.now) (asked a.range) c.requires.range_value
+
+pub overflow_mul-result-2 : goal.overflow_mul-result-2
+overflow_mul-result-2 c =
+    let a = c.args in
+    omega (arith, column_fits (columns_only a.max_doc a.columns.now a.values.now) (asked a.range) c.requires.values_value_2 c.requires.range_value, c.well_formed)
+
+pub invariant_of-result : goal.invariant_of-result
+invariant_of-result c = let a = c.args in record { there = column_fits (columns_only a.max_doc a.columns.now a.values.now) (asked a.range) c.requires.values_value_2 c.requires.range_value }
+
+pub returns-clause-takes : goal.returns-clause-takes
+returns-clause-takes c =
+    let a = c.args in
+    let lower : a.range.lower < 2 ^ 64 = omega arith in
+    let upper : a.range.upper < 2 ^ 64 = omega arith in
+    let type = column_type (columns_only a.max_doc a.columns.now a.values.now) a.range.column in
+    let keys = c.range_keys.result in
+    λ d.
+    ap (λ (t : ColumnType). value_in a.values.now (3 * (a.range.column * a.max_doc) + 3 * d) (type_number t) keys.from keys.to) c.from-column_type.ensures
+    ∙ value_in-typed type a.values.now (3 * (a.range.column * a.max_doc) + 3 * d) keys.from keys.to
+    ∙ value-as-range a.max_doc a.columns.now a.values.now (asked a.range) (λ i. (c.type_inv.values i).fits) lower upper keys.from keys.to
+    (λ k h. c.range_keys.ensures k h ∙ ap (λ (t : ColumnType). range_key (type_number t) a.range.kinds a.range.lower a.range.upper k) c.from-column_type.ensures ∙ range-typed type a.range.kinds a.range.lower a.range.upper k)
+    d

@@ -1,0 +1,6 @@
+-- `ieee754::add_score` meets its contract: one addition in binary64. Assumes nothing.
+use Rattle.std.proofs.Common.{refl}
+use Rattle.ieee754.proofs.add_score.Goals as goal
+
+pub returns : goal.returns
+returns c = refl
