@@ -1,14 +1,18 @@
 -- The parts of some children, asked of a window, and those of a Boolean. Assumes nothing: these are definitions.
-use Rattle.std.specs.Prelude.{◌≡◌, ◌⊎◌, Bool, true, false, not, cond, ◌&&◌, ◌||◌, List, [], ◌++◌, ℕ, ◌+◌, ◌≤◌, ◌<◌, leb, ltb, length, get_or}
-use Rattle.meaning.specs.Limits.{no_more_docs, node_state_words}
+use Rattle.std.specs.Prelude.{◌≡◌, ◌⊎◌, Bool, true, false, not, cond, ◌&&◌, ◌||◌, List, [], ◌++◌, ℕ, ◌+◌, ◌≤◌, ◌<◌, leb, ltb}
+use Rattle.meaning.specs.Limits.{no_more_docs}
 use Rattle.meaning.specs.Lent.{Index}
 use Rattle.bits.specs.Bit.{bit}
 use Rattle.weight.specs.ScorerTree.{nothing, term, phrase, range, everything, Scorer, leaf, boolean, Scorers, end, more, matches, all_match, any_matches, matching}
 use Rattle.weight.specs.State.{sizes_of}
 use Rattle.weight.specs.Sound.{Lends, Sounds, nodes_of}
 use Rattle.leaf_scorer.specs.Calls.{Lent, lent, RoomIn}
+use Rattle.node.specs.declared.NodeKind.{NodeKind}
+use Rattle.node.specs.declared.NodeKind.TheVariants.{Nothing, Term, Phrase, Boolean, Range, Everything, PhraseTerm}
 use Rattle.window_words.specs.Windowed.{Places, nowhere, places_of, optional_bound, Windowed, AllWindowed}
 use Rattle.window_leaf.specs.Asks.{Answers, Wanted}
+use Rattle.window_bits.specs.declared.Asks.{Asks}
+use Rattle.window_bits.specs.declared.Asks.TheVariants.{AllButPhrases, Phrases}
 
 -- ---- the required children, which are asked in two passes: first those that are no phrases, then the phrases
 unfoldable pub is_phrase : Scorer → Bool
@@ -28,6 +32,20 @@ asked_by last s = cond last (is_phrase s) (not (is_phrase s))
 
 abbrev pub asked_after : Bool → Scorer → Bool
 asked_after last s = last || not (is_phrase s)
+
+-- which of them a pass asks: the phrases alone, or all others
+abbrev pub phrases_only : Asks → Bool
+phrases_only AllButPhrases = false
+phrases_only Phrases = true
+
+abbrev pub phrase_kind : NodeKind → Bool
+phrase_kind Nothing = false
+phrase_kind Term = false
+phrase_kind Phrase = true
+phrase_kind Boolean = false
+phrase_kind Range = false
+phrase_kind Everything = false
+phrase_kind PhraseTerm = false
 
 -- the children of a kind all match
 unfoldable pub all_of : (Scorer → Bool) → Index → Scorers → ℕ → Bool
@@ -138,17 +156,3 @@ BooleanPre postings positions ranges a b kids required_end optional_end need bas
 abbrev pub BooleanPost : List ℕ → List ℕ → List ℕ → ℕ → ℕ → List ℕ → ℕ → ℕ → ℕ → ℕ → ℕ → ℕ → ℕ → ℕ → List ℕ → Type 0
 BooleanPost postings positions ranges a b kids required_end optional_end need base want depth r next kids' =
     (n : ℕ) (ix : Index) (places : ℕ) (rs os ps : Scorers) → Wanted n base want → BooleanKnown (lent n postings positions ranges) ix places rs os ps → BooleanWindowed ix ranges rs os ps depth required_end optional_end need kids base base nowhere → Answers (takes ix rs os ps need) base (places_of want) r next × BooleanWindowed ix ranges rs os ps depth required_end optional_end need kids' (base + 64) base (places_of r)
-
--- ---- what is read of a record
-pub record BooleanRead (st : List ℕ) (n r o : ℕ) : Type 0 where
-  pub need : n ≡ get_or st 3 0
-  pub required-end : r ≡ get_or st 4 0
-  pub optional-end : o ≡ get_or st 5 0
-
-pub record ChildAt (kids : List ℕ) (at : ℕ) : Type 0 where
-  pub long : node_state_words ≤ get_or kids (at + 1) 0
-  pub fits : at + get_or kids (at + 1) 0 ≤ length kids
-
-pub record ChildRead (kids : List ℕ) (at k e : ℕ) : Type 0 where
-  pub kind : k ≡ get_or kids at 0
-  pub end : e ≡ at + get_or kids (at + 1) 0
