@@ -98,13 +98,16 @@ module _ (score : ℕ → Float) (want : ℕ) (sums sums' : List Float) (A : Add
 pub narrowed-small : (r : ℕ) (from : List Float) (p : ℕ) → r ≤ 256 → Sums r from → p < 64 → AtMost (r * 2 ^ 29) (narrow (get_or from p nan))
 narrowed-small r from p few F l = scores-narrow r (get_or from p nan) few (F.small p l)
 
-pub joined-small : (r t : ℕ) (own group : List Float) (p : ℕ) → r + t ≤ 256 → Sums r own → Sums t group → p < 64 → AtMost ((r + t) * 2 ^ 29) (narrow (add binary64 (narrow (get_or own p nan)) (narrow (get_or group p nan))))
-joined-small r t own group p few O G l =
-    scores-narrow (r + t) (add binary64 (narrow (get_or own p nan)) (narrow (get_or group p nan))) few
-    (scores-add r t (narrow (get_or own p nan)) (narrow (get_or group p nan)) few (narrowed-small r own p (omega arith) O l) (narrowed-small t group p (omega arith) G l))
-
 pub narrowed-number : (r : ℕ) (from : List Float) (p : ℕ) (x : Float) → r ≤ 256 → Sums r from → p < 64 → x ≡ narrow (get_or from p nan) → T (not (is_nan x))
 narrowed-number r from p x few F l e = atmost-number (subst (λ (y : Float). AtMost (r * 2 ^ 29) y) (sym e) (narrowed-small r from p few F l))
 
-pub joined-number : (r t : ℕ) (own group : List Float) (p : ℕ) (x : Float) → r + t ≤ 256 → Sums r own → Sums t group → p < 64 → x ≡ narrow (add binary64 (narrow (get_or own p nan)) (narrow (get_or group p nan))) → T (not (is_nan x))
-joined-number r t own group p x few O G l e = atmost-number (subst (λ (y : Float). AtMost ((r + t) * 2 ^ 29) y) (sym e) (joined-small r t own group p few O G l))
+-- each sum narrowed, and another, narrowed, added to it
+pub after-small : (want r t : ℕ) (sums sums' group : List Float) → At (λ p x. add binary64 (narrow x) (narrow (get_or group p nan))) want sums sums' → length sums' ≡ 64 → r + t ≤ 256 → Sums r sums → Sums t group → Sums (r + t) sums'
+after-small want r t sums sums' group A long few S G =
+    record {
+      long = long;
+      small = λ p l. ⊎_elim
+          (λ (e : bit p want ≡ true). subst (λ (x : Float). AtMost ((r + t) * 2 ^ 29) x) (sym (A.wanted p l e)) (scores-add r t (narrow (get_or sums p nan)) (narrow (get_or group p nan)) few (narrowed-small r sums p (omega (arith, few)) S l) (narrowed-small t group p (omega (arith, few)) G l)))
+          (λ (e : bit p want ≡ false). subst (λ (x : Float). AtMost ((r + t) * 2 ^ 29) x) (sym (A.others p l e)) (scores-more r (r + t) (get_or sums p nan) (omega arith) (S.small p l)))
+          (decided (bit p want));
+    }

@@ -53,17 +53,9 @@ NarrowedPre from sums = (q : ℕ) × (r : ℕ) × RoomFor q r sums × Sums r fro
 abbrev pub NarrowedPost : List Float → ℕ → List Float → List Float → Type 0
 NarrowedPost from want sums sums' = (q r : ℕ) → RoomFor q r sums → Sums r from → Added (λ p. narrow (get_or from p nan)) want sums sums' × Sums (q + r) sums'
 
--- two sums are narrowed, added, narrowed again and added
-abbrev pub JoinedPre : List Float → List Float → List Float → Type 0
-JoinedPre own group sums = (q : ℕ) × (r : ℕ) × (t : ℕ) × RoomFor q (r + t) sums × Sums r own × Sums t group
-
-abbrev pub JoinedPost : List Float → List Float → ℕ → List Float → List Float → Type 0
-JoinedPost own group want sums sums' =
-    (q r t : ℕ) → RoomFor q (r + t) sums → Sums r own → Sums t group → Added (λ p. narrow (add binary64 (narrow (get_or own p nan)) (narrow (get_or group p nan)))) want sums sums' × Sums (q + (r + t)) sums'
-
 -- each sum is narrowed, and another, narrowed, is added to it
 abbrev pub AfterPre : List Float → List Float → Type 0
 AfterPre group sums = (r : ℕ) × (t : ℕ) × RoomFor r t sums × Sums t group
 
 abbrev pub AfterPost : List Float → ℕ → List Float → List Float → Type 0
-AfterPost group want sums sums' = At (λ p x. add binary64 (narrow x) (narrow (get_or group p nan))) want sums sums' × (length sums' ≡ 64)
+AfterPost group want sums sums' = At (λ p x. add binary64 (narrow x) (narrow (get_or group p nan))) want sums sums' × (length sums' ≡ 64) × ((r t : ℕ) → RoomFor r t sums → Sums t group → Sums (r + t) sums')

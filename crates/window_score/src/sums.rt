@@ -1,5 +1,5 @@
 // The sums of a window's 64 documents: one more score at each wanted place.
-ghost use Rattle.window_score.specs.Sums.{ConstantPre, ConstantPost, NarrowedPre, NarrowedPost, JoinedPre, JoinedPost, AfterPre, AfterPost};
+ghost use Rattle.window_score.specs.Sums.{ConstantPre, ConstantPost, NarrowedPre, NarrowedPost, AfterPre, AfterPost};
 
 use bits::SetBits;
 use ieee754::{add_score, narrow};
@@ -23,18 +23,6 @@ pub fn add_narrowed(own: &[f64], want: u64, sums: &mut [f64])
     for place in (SetBits { left: want }) {
         let at = place as usize;
         sums[at] = add_score(sums[at], narrow(own[at]));
-    }
-}
-
-// The required sum and the group's, each narrowed, added and narrowed again.
-pub fn add_joined(own: &[f64], group: &[f64], want: u64, sums: &mut [f64])
-    requires { JoinedPre own.now group.now sums.old }
-    ensures { JoinedPost own.now group.now want sums.old sums.new }
-{
-    for place in (SetBits { left: want }) {
-        let at = place as usize;
-        let both = add_score(narrow(own[at]) as f64, narrow(group[at]));
-        sums[at] = add_score(sums[at], narrow(both));
     }
 }
 

@@ -6,7 +6,7 @@ use lib.Ieee.{Float, nan, binary32, binary64, fits, is_nan, add}
 use lib.Ieee.Fits.{and_i, fits_widens}
 use Rattle.meaning.specs.Ieee754.{narrow}
 use Rattle.ieee754.proofs.Narrowing.{narrow-fits}
-use Rattle.window_score.proofs.Adding.{adding-step, adding-done, sum-waits, narrowed-number}
+use Rattle.window_score.proofs.Adding.{adding-step, adding-done, sum-waits, narrowed-number, after-small}
 use Rattle.window_score.proofs.sums.join_after.Goals as goal
 
 pub float_to_float-narrow : goal.float_to_float-narrow
@@ -36,4 +36,5 @@ loop-place-preserved c =
 pub returns : goal.returns
 returns c =
     let l = c.loop-place in
-    (adding-done (λ (p : ℕ) (x : Float). add binary64 (narrow x) (narrow (get_or c.args.group.now p nan))) c.args.want c.args.sums.now l.place-iterator.left l.sums l.invariant c.in-None.ensures.steps.0, l.invariant.long)
+    let A = adding-done (λ (p : ℕ) (x : Float). add binary64 (narrow x) (narrow (get_or c.args.group.now p nan))) c.args.want c.args.sums.now l.place-iterator.left l.sums l.invariant c.in-None.ensures.steps.0 in
+    (A, l.invariant.long, λ r t R G. after-small c.args.want r t c.args.sums.now l.sums c.args.group.now A l.invariant.long R.0 R.1 G)
