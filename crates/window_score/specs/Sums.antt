@@ -1,7 +1,7 @@
 -- The sums of a window's 64 documents. Assumes nothing: these are definitions.
-use Rattle.std.specs.Prelude.{◌≡◌, true, false, List, ℕ, ◌+◌, ◌*◌, ◌^◌, ◌≤◌, ◌<◌, length, get_or, Float}
+use Rattle.std.specs.Prelude.{◌≡◌, true, false, not, T, List, ℕ, ◌+◌, ◌*◌, ◌^◌, ◌≤◌, ◌<◌, length, get_or, Float}
 use Rattle.std.specs.Float.{nan, binary64}
-use Rattle.std.specs.Float.Ieee.{add}
+use Rattle.std.specs.Float.Ieee.{is_nan, add}
 use Rattle.meaning.specs.Ieee754.{zero_float, sum_from, narrow}
 use Rattle.ieee754.specs.Nonneg.{AtMost}
 use Rattle.bits.specs.Bit.{bit}
@@ -26,6 +26,23 @@ pub record NarrowedIs (score : ℕ → Float) (want : ℕ) (sums sums' : List Fl
 pub record At (f : ℕ → Float → Float) (want : ℕ) (sums sums' : List Float) : Type 0 where
   pub wanted : (p : ℕ) → p < 64 → bit p want ≡ true → get_or sums' p nan ≡ f p (get_or sums p nan)
   pub others : (p : ℕ) → p < 64 → bit p want ≡ false → get_or sums' p nan ≡ get_or sums p nan
+
+-- a function of a sum and its place, by what it asks: it may be called at each wanted place
+abbrev pub ChangePre : (Float → ℕ → Type 0) → ℕ → List Float → Type 0
+ChangePre pre want sums = (length sums ≡ 64) × ((p : ℕ) → p < 64 → bit p want ≡ true → pre (get_or sums p nan) p)
+
+-- .. and by what it answers: that is the sum at each wanted place, and the others stay
+pub record Changed (post : Float → ℕ → Float → Type 0) (want : ℕ) (sums sums' : List Float) : Type 0 where
+  pub long : length sums' ≡ 64
+  pub wanted : (p : ℕ) → p < 64 → bit p want ≡ true → post (get_or sums p nan) p (get_or sums' p nan)
+  pub others : (p : ℕ) → p < 64 → bit p want ≡ false → get_or sums' p nan ≡ get_or sums p nan
+
+-- two sums, each narrowed to a number, added
+abbrev pub BothPre : Float → Float → Type 0
+BothPre required group = T (not (is_nan (narrow required))) × T (not (is_nan (narrow group)))
+
+abbrev pub both_of : Float → Float → Float
+both_of required group = add binary64 (narrow required) (narrow group)
 
 -- one more score added
 abbrev pub Added : (ℕ → Float) → ℕ → List Float → List Float → Type 0
