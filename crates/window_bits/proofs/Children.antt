@@ -72,7 +72,7 @@ pub child-kind : (kids : List ℕ) (at e : ℕ) → ChildThere kids at → e ≡
 child-kind kids at e c h = let z : at + 0 ≡ at = omega arith in get_or-take (e - at) (drop at kids) 0 0 (omega (arith, c.long, h)) ∙ get_or-drop at kids 0 0 ∙ ap (λ (i : ℕ). get_or kids i 0) z
 
 -- ---- what a call asks
-pub bits-pre : {n places a b base want : ℕ} (postings positions ranges : List ℕ) → Called (lent n postings positions ranges) places a b base want → (a' b' w : ℕ) → a' ≡ a → b' ≡ b → ((p : ℕ) → p < 64 → bit p w ≡ true → bit p want ≡ true) → (ix : Index) (q : List ℕ) (depth : ℕ) → (s : Scorer) × (scores : ℕ) × NodeWindowed (lent n postings positions ranges) ix places s depth scores q base → BitsPre postings positions ranges a' b' q base w depth
+pub bits-pre : {n places a b base want : ℕ} (postings positions ranges : List ℕ) → Called (lent n postings positions ranges) places a b base want → (a' b' w : ℕ) → a' ≡ a → b' ≡ b → ((p : ℕ) → p < 64 → bit p w ≡ true → bit p want ≡ true) → (ix : Index) (q : List ℕ) (depth : ℕ) → (s : Scorer) × (scores : ℕ) × NodeWindowed (lent n postings positions ranges) ix places s depth scores q base → BitsPre (lent n postings positions ranges) a' b' q base w depth
 bits-pre {n} {places} {a} {b} {base} {want} postings positions ranges c a' b' w e f within ix q depth h =
     (c.small, (n, ix, places, h.0, h.1, λ p l t. c.wanted p l (within p l t), record { in-a = omega (arith, c.room.in-a, e); in_b = omega (arith, c.room.in_b, f) }, h.2))
 
@@ -80,7 +80,7 @@ pub term-pre : (n : ℕ) (postings positions ranges : List ℕ) (base : ℕ) →
 term-pre n postings positions ranges base small ix places q depth kind h = (small, kind, (lent n postings positions ranges, refl, ix, places, h.0, depth, h.1, h.2))
 
 module _ {ix : Index} {R : List ℕ} {k base places : ℕ} {P Q : Part} (low : Low ix R k base P) {ss : Scorers} {kids : List ℕ} {at : ℕ} (postings positions : List ℕ) (n : ℕ) {a b want : ℕ} (called : Called (lent n postings positions R) places a b base want) (lends : Lends ix n postings positions) (kind : ℕ) (fresh : Fresh ix R k base kind P) (g : Scorers) (zip : Zip (AndKnown ix places P) Q ss g kids at) (l : at < length kids) (e : ℕ) (i : e ≡ at + get_or kids (at + 1) 0) (j : kind ≡ get_or kids at 0) where
-  pub ask-node : (a' b' w : ℕ) → a' ≡ a → b' ≡ b → ((p : ℕ) → p < 64 → bit p w ≡ true → bit p want ≡ true) → BitsPre postings positions R a' b' (take (e - at) (drop at kids)) base w k
+  pub ask-node : (a' b' w : ℕ) → a' ≡ a → b' ≡ b → ((p : ℕ) → p < 64 → bit p w ≡ true → bit p want ≡ true) → BitsPre (lent n postings positions R) a' b' (take (e - at) (drop at kids)) base w k
   ask-node a' b' w f h within = bits-pre postings positions R called a' b' w f h within ix (take (e - at) (drop at kids)) k (child-node low postings positions n lends kind fresh g zip l e i j)
 
   pub ask-term : kind ≡ 1 → TermPre postings (take (e - at) (drop at kids)) base

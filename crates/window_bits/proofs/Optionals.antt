@@ -40,7 +40,7 @@ module _ (ix : Index) (R : List ℕ) (k places base : ℕ) (D : Places) (ss g : 
   walk_there = child-there (unasked-low ix R k base) g zip l
 
   module _ (postings positions : List ℕ) (n : ℕ) {a b want : ℕ} (called : Called (lent n postings positions R) places a b base want) (lends : Lends ix n postings positions) (e : ℕ) (i : e ≡ at + get_or kids (at + 1) 0) where
-    pub walk_node : (a' b' w : ℕ) → a' ≡ a → b' ≡ b → ((p : ℕ) → p < 64 → bit p w ≡ true → bit p want ≡ true) → BitsPre postings positions R a' b' (take (e - at) (drop at kids)) base w k
+    pub walk_node : (a' b' w : ℕ) → a' ≡ a → b' ≡ b → ((p : ℕ) → p < 64 → bit p w ≡ true → bit p want ≡ true) → BitsPre (lent n postings positions R) a' b' (take (e - at) (drop at kids)) base w k
     walk_node = ask-node (unasked-low ix R k base) postings positions n called lends (get_or kids at 0) (unasked-fresh ix R k base (get_or kids at 0)) g zip l e i refl
 
     pub walk_term : get_or kids at 0 ≡ 1 → TermPre postings (take (e - at) (drop at kids)) base

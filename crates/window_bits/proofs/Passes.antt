@@ -194,7 +194,7 @@ module _ (ix : Index) (R : List ℕ) (k places : ℕ) (last : Bool) (base want :
   module _ (e : ℕ) (i : e ≡ at + get_or kids (at + 1) 0) where
     -- what a call of this pass asks
     module _ (postings positions : List ℕ) (n : ℕ) {a b : ℕ} (called : Called (lent n postings positions R) places a b base want) (lends : Lends ix n postings positions) (q : PassAt ix R k places last base want ss kids w next at skip) (l : at < length kids) (kind : ℕ) (j : kind ≡ get_or kids at 0) (h : eqb kind 2 ≡ last) where
-      pub pass-node : (a' b' : ℕ) → a' ≡ a → b' ≡ b → BitsPre postings positions R a' b' (take (e - at) (drop at kids)) base w k
+      pub pass-node : (a' b' : ℕ) → a' ≡ a → b' ≡ b → BitsPre (lent n postings positions R) a' b' (take (e - at) (drop at kids)) base w k
       pass-node a' b' f f' = ask-node (some-low ix R k base (asked_before last) (places_of want)) postings positions n called lends kind (pass-fresh kind h) q.g q.left.zip l e i j a' b' w f f' q.left.within
 
       pub pass-term : kind ≡ 1 → TermPre postings (take (e - at) (drop at kids)) base

@@ -3,6 +3,7 @@
 
 ghost use Rattle.std.specs.Prelude.{◌≡◌, true, cond, not, ℕ, length};
 ghost use Rattle.planes.specs.Counts.{count};
+ghost use Rattle.leaf_scorer.specs.Calls.{lent_of};
 ghost use Rattle.window_leaf.specs.Asks.{BitsPre, BitsPost};
 ghost use Rattle.window_bits.specs.Parts.{PassPre, PassPost, PhrasesPost, PartsPre, OptionalPost, CountPost, AnyPost, ExcludedPost, BooleanPre, BooleanPost, phrase_kind, phrases_only};
 
@@ -54,8 +55,8 @@ pub fn node_bits(
     want: u64,
     depth: u32,
 ) -> u64
-    requires { BitsPre reader.now.postings.now reader.now.positions.now reader.now.ranges.now (length a.old) (length b.old) st.old base want depth }
-    ensures { BitsPost reader.now.postings.now reader.now.positions.now reader.now.ranges.now (length a.old) (length b.old) st.old base want depth result st.new }
+    requires { BitsPre (lent_of reader.now) (length a.old) (length b.old) st.old base want depth }
+    ensures { BitsPost (lent_of reader.now) (length a.old) (length b.old) st.old base want depth result st.new }
 {
     match NodeKind::from(st[0]) {
         NodeKind::Boolean => {
@@ -89,8 +90,8 @@ fn boolean_bits(
     want: u64,
     depth: u32,
 ) -> Found
-    requires { BooleanPre reader.now.postings.now reader.now.positions.now reader.now.ranges.now (length a.old) (length b.old) kids.old n.required_end n.optional_end n.need base want depth }
-    ensures { BooleanPost reader.now.postings.now reader.now.positions.now reader.now.ranges.now (length a.old) (length b.old) kids.old n.required_end n.optional_end n.need base want depth result.bits result.next kids.new }
+    requires { BooleanPre (lent_of reader.now) (length a.old) (length b.old) kids.old n.required_end n.optional_end n.need base want depth }
+    ensures { BooleanPost (lent_of reader.now) (length a.old) (length b.old) kids.old n.required_end n.optional_end n.need base want depth result.bits result.next kids.new }
 {
     let end = n.required_end;
     let optional_end = n.optional_end;
@@ -135,8 +136,8 @@ fn phrase_bits(
     want: u64,
     depth: u32,
 ) -> Found
-    requires { PassPre reader.now.postings.now reader.now.positions.now reader.now.ranges.now (length a.old) (length b.old) kids.old true base want depth }
-    ensures { PhrasesPost reader.now.postings.now reader.now.positions.now reader.now.ranges.now (length a.old) (length b.old) kids.old skipped base want depth result.bits result.next kids.new }
+    requires { PassPre (lent_of reader.now) (length a.old) (length b.old) kids.old true base want depth }
+    ensures { PhrasesPost (lent_of reader.now) (length a.old) (length b.old) kids.old skipped base want depth result.bits result.next kids.new }
 {
     if skipped {
         let p = required_bits(kids, reader, a, b, Asks::Phrases, base, want, depth);
@@ -160,8 +161,8 @@ fn required_bits(
     want: u64,
     depth: u32,
 ) -> Pass
-    requires { PassPre reader.now.postings.now reader.now.positions.now reader.now.ranges.now (length a.old) (length b.old) kids.old (phrases_only asks) base want depth }
-    ensures { PassPost reader.now.postings.now reader.now.positions.now reader.now.ranges.now (length a.old) (length b.old) kids.old (phrases_only asks) base want depth result.found.bits result.found.next result.skipped kids.new }
+    requires { PassPre (lent_of reader.now) (length a.old) (length b.old) kids.old (phrases_only asks) base want depth }
+    ensures { PassPost (lent_of reader.now) (length a.old) (length b.old) kids.old (phrases_only asks) base want depth result.found.bits result.found.next result.skipped kids.new }
 {
     let mut w = want;
     let mut next = base + 64;
@@ -210,8 +211,8 @@ fn optional_bits(
     want: u64,
     depth: u32,
 ) -> Found
-    requires { PartsPre reader.now.postings.now reader.now.positions.now reader.now.ranges.now (length a.old) (length b.old) kids.old base want depth }
-    ensures { OptionalPost reader.now.postings.now reader.now.positions.now reader.now.ranges.now (length a.old) (length b.old) kids.old need base want depth result.bits result.next kids.new }
+    requires { PartsPre (lent_of reader.now) (length a.old) (length b.old) kids.old base want depth }
+    ensures { OptionalPost (lent_of reader.now) (length a.old) (length b.old) kids.old need base want depth result.bits result.next kids.new }
 {
     if need == 0 {
         return Found {
@@ -253,8 +254,8 @@ fn any_bits(
     want: u64,
     depth: u32,
 ) -> Found
-    requires { PartsPre reader.now.postings.now reader.now.positions.now reader.now.ranges.now (length a.old) (length b.old) kids.old base want depth }
-    ensures { AnyPost reader.now.postings.now reader.now.positions.now reader.now.ranges.now (length a.old) (length b.old) kids.old base want depth result.bits result.next kids.new }
+    requires { PartsPre (lent_of reader.now) (length a.old) (length b.old) kids.old base want depth }
+    ensures { AnyPost (lent_of reader.now) (length a.old) (length b.old) kids.old base want depth result.bits result.next kids.new }
 {
     let mut w = 0;
     let mut next = NO_MORE_DOCS;
@@ -296,8 +297,8 @@ fn counted_bits(
     depth: u32,
 ) -> u32
     requires empty { (length planes.old ≡ 8) × ((p : ℕ) → count p planes.old ≡ 0) }
-    requires parts_pre { PartsPre reader.now.postings.now reader.now.positions.now reader.now.ranges.now (length a.old) (length b.old) kids.old base want depth }
-    ensures count_post { CountPost reader.now.postings.now reader.now.positions.now reader.now.ranges.now (length a.old) (length b.old) kids.old base want depth (λ p. count p planes.new) result kids.new }
+    requires parts_pre { PartsPre (lent_of reader.now) (length a.old) (length b.old) kids.old base want depth }
+    ensures count_post { CountPost (lent_of reader.now) (length a.old) (length b.old) kids.old base want depth (λ p. count p planes.new) result kids.new }
     ensures planes_length { length planes.new ≡ 8 }
 {
     let mut next = NO_MORE_DOCS;
@@ -337,8 +338,8 @@ fn excluded_bits(
     want: u64,
     depth: u32,
 ) -> u64
-    requires { PartsPre reader.now.postings.now reader.now.positions.now reader.now.ranges.now (length a.old) (length b.old) kids.old base want depth }
-    ensures { ExcludedPost reader.now.postings.now reader.now.positions.now reader.now.ranges.now (length a.old) (length b.old) kids.old base want depth result kids.new }
+    requires { PartsPre (lent_of reader.now) (length a.old) (length b.old) kids.old base want depth }
+    ensures { ExcludedPost (lent_of reader.now) (length a.old) (length b.old) kids.old base want depth result kids.new }
 {
     let mut w = want;
     let mut at = 0;

@@ -3,6 +3,7 @@
 
 ghost use Rattle.std.specs.Prelude.{◌≡◌, ◌+◌, ◌*◌, ◌≤◌, length, get_or};
 ghost use Rattle.meaning.specs.Limits.{node_state_words};
+ghost use Rattle.leaf_scorer.specs.Calls.{lent_of};
 ghost use Rattle.window_leaf.specs.Asks.{TermPre, TermPost, RangePre, RangePost, BitsPre, BitsPost};
 ghost use Rattle.window_leaf.specs.Runs.{PutPre, PutPost, RunPre, RunPost, PartOf, DocumentPre, DocumentPost};
 
@@ -120,8 +121,8 @@ pub fn leaf_bits(
     depth: u32,
 ) -> u64
     requires kind { get_or st.old 0 0 ≡ 3 → ⊥ }
-    requires bits_pre { BitsPre reader.now.postings.now reader.now.positions.now reader.now.ranges.now (length a.old) (length b.old) st.old base want depth }
-    ensures { BitsPost reader.now.postings.now reader.now.positions.now reader.now.ranges.now (length a.old) (length b.old) st.old base want depth result st.new }
+    requires bits_pre { BitsPre (lent_of reader.now) (length a.old) (length b.old) st.old base want depth }
+    ensures { BitsPost (lent_of reader.now) (length a.old) (length b.old) st.old base want depth result st.new }
 {
     match NodeKind::from(st[0]) {
         NodeKind::Term => bits::both(want, term_bits(st, reader.postings, base)),

@@ -92,6 +92,9 @@ module _ (f : ℕ → Float → Float) (want : ℕ) (sums : List Float) where
     pub place-wanted : (t : ℕ) → LowestBit left t → bit t want ≡ true
     place-wanted = change-wanted post want sums left sums' A
 
+    pub sum-waits : (t : ℕ) → LowestBit left t → get_or sums' t nan ≡ get_or sums t nan
+    sum-waits = change-waits post want sums left sums' A
+
     pub adding-step : (t : ℕ) (L : LowestBit left t) (left' : ℕ) (rest : (q : ℕ) → bit q left' ≡ bit q left && not (eqb q t)) (at : ℕ) (x : Float) → at ≡ t → x ≡ f t (get_or sums' at nan) → Adding f want left' sums (set sums' at x)
     adding-step t L left' rest at x a e = subst (λ (i : ℕ). x ≡ f t (get_or sums' i nan) → Adding f want left' sums (set sums' i x)) (sym a) (changing-step post want sums left sums' A t L left' rest x) e
 

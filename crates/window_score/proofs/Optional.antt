@@ -127,13 +127,13 @@ module _ {kids₀ : List ℕ} {need : ℕ} {postings positions norms ranges : Li
                 held = subst (λ (i : ℕ). Windowed w.1 ranges c.1 depth (cond c.0 1 0) (take (e - at) (drop at kids)) (optional_bound i (base + 64) base) base (λ p. ltb 0 i && bit p want)) none (walk-part c.3 e stop);
               }
 
-          pub optional-ask : Asks kids₀ need postings positions norms ranges table a b base want sums₀ depth → BitsPre postings positions ranges a' b' (take (e - at) (drop at kids)) base want depth
+          pub optional-ask : Asks kids₀ need postings positions norms ranges table a b base want sums₀ depth → BitsPre (lent 0 postings positions ranges) a' b' (take (e - at) (drop at kids)) base want depth
           optional-ask w =
               let c = child w in
               let L = lent-at a' b' want same-a same-b (λ p m i. i) w.5 in
               (L.small, (w.0, w.1, w.2, c.1, cond c.0 1 0, L.wanted, L.room, node w))
 
-          pub optional-asked : (r : ℕ) (ys : List ℕ) → length ys ≡ length (take (e - at) (drop at kids)) → BitsPost postings positions ranges a' b' (take (e - at) (drop at kids)) base want depth r ys → OptionalTaken kids₀ need postings positions norms ranges table a b base want sums₀ depth kids (put kids at e ys) at e r sums
+          pub optional-asked : (r : ℕ) (ys : List ℕ) → length ys ≡ length (take (e - at) (drop at kids)) → BitsPost (lent 0 postings positions ranges) a' b' (take (e - at) (drop at kids)) base want depth r ys → OptionalTaken kids₀ need postings positions norms ranges table a b base want sums₀ depth kids (put kids at e ys) at e r sums
           optional-asked r ys len post w =
               let c = child w in
               let t = walk-there c.3 in

@@ -4,6 +4,7 @@
 ghost use Rattle.std.specs.Prelude.{◌≡◌, ◌+◌, length, get_or};
 ghost use Rattle.node.specs.Words.{ChildThere};
 ghost use Rattle.window_words.specs.Windowed.{joined};
+ghost use Rattle.leaf_scorer.specs.Calls.{lent_of};
 ghost use Rattle.window_leaf.specs.Asks.{BitsPre, BitsPost};
 ghost use Rattle.window_score.specs.Asked.{ScoresPre, ScoresPost, RequiredPre, RequiredPost, OptionalPre, OptionalPost, BooleanPre, BooleanPost, RootPartsPre, RootPartsPost, RootGroupPre, RootGroupPost};
 
@@ -36,8 +37,8 @@ fn child_bits(
     want: u64,
     depth: u32,
 ) -> u64
-    requires { BitsPre reader.now.postings.now reader.now.positions.now reader.now.ranges.now (length a.old) (length b.old) st.old base want depth }
-    ensures { BitsPost reader.now.postings.now reader.now.positions.now reader.now.ranges.now (length a.old) (length b.old) st.old base want depth result st.new }
+    requires { BitsPre (lent_of reader.now) (length a.old) (length b.old) st.old base want depth }
+    ensures { BitsPost (lent_of reader.now) (length a.old) (length b.old) st.old base want depth result st.new }
 {
     match NodeKind::from(st[0]) {
         NodeKind::Term => bits::both(want, term_bits(st, reader.postings, base)),
