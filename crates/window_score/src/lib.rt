@@ -133,7 +133,8 @@ fn boolean_scores(
     add_narrowed(&own, want, sums);
 }
 
-// A Boolean's children, into sums that are 0. Where there are only required ones or only optional ones, they need no other sums.
+// A Boolean's children, into sums that are 0. Where there are only required ones or only optional ones, they need no other sums. Inlined at both calls: one call more for each Boolean of a window costs a deep tree a twentieth.
+#[inline(always)]
 #[cycle(boolean_scores_group_scores_node_scores_optional_scores_part_scores_required_scores)]
 fn part_scores(
     kids: &mut [u32],
