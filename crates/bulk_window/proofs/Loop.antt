@@ -119,10 +119,10 @@ module _ (n : ℕ) (postings positions norms ranges live : List ℕ) (table : Li
         rooms : RoomIn places a b
         rooms = record { in-a = omega (arith, room); in_b = omega (arith, room) }
 
-        pub window-asks : BitsPre postings positions ranges a b st base want depth
+        pub window-asks : BitsPre (lent n postings positions ranges) a b st base want depth
         window-asks = (window-small, (n, ix, places, s, scores, wanted, rooms, node-windowed))
 
-        module _ (a' b' : ℕ) (room' : min a' b' ≡ places) (found next : ℕ) (st' : List ℕ) (next-is : next ≡ get_or st' 22 0) (post : BitsPost postings positions ranges a b st base want depth found st') where
+        module _ (a' b' : ℕ) (room' : min a' b' ≡ places) (found next : ℕ) (st' : List ℕ) (next-is : next ≡ get_or st' 22 0) (post : BitsPost (lent n postings positions ranges) a b st base want depth found st') where
           answer : Answers (matches ix s) base (places_of want) found (get_or st' 22 0) × Windowed ix ranges s depth scores st' (base + 64) base (places_of want)
           answer = post n wanted ix places s scores node-windowed
 
@@ -196,6 +196,6 @@ module _ (n : ℕ) (postings positions norms ranges live : List ℕ) (table : Li
                 }
 
     -- one window more
-    pub loop-step : (a b want : ℕ) → min a b ≡ places → LiveBits live base n want → (a' b' : ℕ) → min a' b' ≡ places → (found next : ℕ) (st' : List ℕ) → next ≡ get_or st' 22 0 → BitsPost postings positions ranges a b st base want depth found st' → (c' : TopScoreDocCollector) (heap' : List ℤ) (st'' : List ℕ) → WindowPost st' postings positions norms ranges table a' b' base found depth doc_base c heap c' heap' st'' → (base' : ℕ) → NextWindow base next base' → AllAt st'' c' heap' base'
+    pub loop-step : (a b want : ℕ) → min a b ≡ places → LiveBits live base n want → (a' b' : ℕ) → min a' b' ≡ places → (found next : ℕ) (st' : List ℕ) → next ≡ get_or st' 22 0 → BitsPost (lent n postings positions ranges) a b st base want depth found st' → (c' : TopScoreDocCollector) (heap' : List ℤ) (st'' : List ℕ) → WindowPost st' postings positions norms ranges table a' b' base found depth doc_base c heap c' heap' st'' → (base' : ℕ) → NextWindow base next base' → AllAt st'' c' heap' base'
     loop-step a b want room live-bits a' b' room' found next st' next-is post c' heap' st'' done base' go ix s scores H =
         window-done ix s scores H a b want room live-bits a' b' room' found next st' next-is post c' heap' st'' done base' go

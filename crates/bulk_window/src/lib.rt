@@ -121,6 +121,7 @@ pub fn collect_windows(
     let mut c = c;
     let mut sums = [0.0f64; 64];
     let mut base = 0;
+    // Kept: no plainer: a window's answer says where the next begins, so there is no range to go through.
     while base < reader.max_doc {
         let want = live_bits(reader.live, base, reader.max_doc);
         let places = node_bits(st, reader, a, b, base, want, depth);

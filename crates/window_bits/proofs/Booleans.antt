@@ -119,10 +119,10 @@ module _ {postings positions R : List ℕ} {a b : ℕ} {kids : List ℕ} {e o ne
   held₁ : SomeWindowed (asked_before false) s.ix R s.rs k (take e kids) base (places_of want)
   held₁ = subst (λ (q : List ℕ). SomeWindowed (asked_before false) s.ix R s.rs k q base (places_of want)) (sym (three-first words₀)) (before-first s.ix R k base s.rs s.held.x (places_of want) s.held.required)
 
-  pub first-pre : RoomIn s.places a b → PassPre postings positions R a b (take e kids) false base want k
+  pub first-pre : RoomIn s.places a b → PassPre (lent s.n postings positions R) a b (take e kids) false base want k
   first-pre h = (s.n, s.ix, s.places, s.rs, called-on postings positions R s.small s.wanted h a b refl refl, s.known.required, held₁)
 
-  module _ (r₁ next₁ : ℕ) (skip : Bool) (x₁ : List ℕ) (m₁ : length x₁ ≡ length (take e kids)) (post₁ : PassPost postings positions R a b (take e kids) false base want k r₁ next₁ skip x₁) (a₁ b₁ : ℕ) (f₁ : a₁ ≡ a) (g₁ : b₁ ≡ b) where
+  module _ (r₁ next₁ : ℕ) (skip : Bool) (x₁ : List ℕ) (m₁ : length x₁ ≡ length (take e kids)) (post₁ : PassPost (lent s.n postings positions R) a b (take e kids) false base want k r₁ next₁ skip x₁) (a₁ b₁ : ℕ) (f₁ : a₁ ≡ a) (g₁ : b₁ ≡ b) where
     done₁ : Answers (all_of (asked_by false) s.ix s.rs) base (places_of want) r₁ next₁ × SomeWindowed (asked_after false) s.ix R s.rs k x₁ base (places_of r₁) × (skip ≡ false → Through false s.rs r₁)
     done₁ = post₁ s.n s.ix s.places s.rs s.wanted s.known.required held₁
 
@@ -143,10 +143,10 @@ module _ {postings positions R : List ℕ} {a b : ℕ} {kids : List ℕ} {e o ne
         let c : ℕ = optional_bound need base base in
         subst (λ (q : List ℕ). AllWindowed s.ix R s.os k q base base nowhere) (sym (three-second words₁)) (all-less s.ix R s.os k s.held.v base base (λ p. ltb 0 need && nowhere p) nowhere (λ p l t. absurd (false≢true t)) (all-mono s.ix R s.os k s.held.v c base (λ p. ltb 0 need && nowhere p) base (bound-same (ltb 0 need) base) s.held.optional))
 
-    pub optional-pre : RoomIn s.places a b → PartsPre postings positions R a₁ b₁ (take (o - e) (drop e (x₁ ++ drop e kids))) base r₁ k
+    pub optional-pre : RoomIn s.places a b → PartsPre (lent s.n postings positions R) a₁ b₁ (take (o - e) (drop e (x₁ ++ drop e kids))) base r₁ k
     optional-pre h = (s.n, s.ix, s.places, s.os, called-on postings positions R s.small wanted₁ h a₁ b₁ f₁ g₁, s.known.optional, held₂)
 
-    module _ (r₂ next₂ : ℕ) (v₂ : List ℕ) (m₂ : length v₂ ≡ length (take (o - e) (drop e (x₁ ++ drop e kids)))) (post₂ : OptionalPost postings positions R a₁ b₁ (take (o - e) (drop e (x₁ ++ drop e kids))) need base r₁ k r₂ next₂ v₂) (a₂ b₂ : ℕ) (f₂ : a₂ ≡ a₁) (g₂ : b₂ ≡ b₁) (kids₂ : List ℕ) (is₂ : kids₂ ≡ take e (x₁ ++ drop e kids) ++ (v₂ ++ drop (o - e) (drop e (x₁ ++ drop e kids)))) where
+    module _ (r₂ next₂ : ℕ) (v₂ : List ℕ) (m₂ : length v₂ ≡ length (take (o - e) (drop e (x₁ ++ drop e kids)))) (post₂ : OptionalPost (lent s.n postings positions R) a₁ b₁ (take (o - e) (drop e (x₁ ++ drop e kids))) need base r₁ k r₂ next₂ v₂) (a₂ b₂ : ℕ) (f₂ : a₂ ≡ a₁) (g₂ : b₂ ≡ b₁) (kids₂ : List ℕ) (is₂ : kids₂ ≡ take e (x₁ ++ drop e kids) ++ (v₂ ++ drop (o - e) (drop e (x₁ ++ drop e kids)))) where
       done₂ : Answers (enough s.ix s.os need) base (places_of r₁) r₂ next₂ × AllWindowed s.ix R s.os k v₂ (optional_bound need (base + 64) base) base (λ p. ltb 0 need && bit p r₂)
       done₂ = post₂ s.n s.ix s.places s.os wanted₁ s.known.optional held₂
 
@@ -162,10 +162,10 @@ module _ {postings positions R : List ℕ} {a b : ℕ} {kids : List ℕ} {e o ne
       held₃ : AllWindowed s.ix R s.ps k (take (length kids₂ - o) (drop o kids₂)) base base nowhere
       held₃ = subst (λ (q : List ℕ). AllWindowed s.ix R s.ps k q base base nowhere) (sym (three-third words₂)) s.held.prohibited
 
-      pub excluded-pre : RoomIn s.places a b → PartsPre postings positions R a₂ b₂ (take (length kids₂ - o) (drop o kids₂)) base r₂ k
+      pub excluded-pre : RoomIn s.places a b → PartsPre (lent s.n postings positions R) a₂ b₂ (take (length kids₂ - o) (drop o kids₂)) base r₂ k
       excluded-pre h = (s.n, s.ix, s.places, s.ps, called-on postings positions R s.small wanted₂ h a₂ b₂ (f₂ ∙ f₁) (g₂ ∙ g₁), s.known.prohibited, held₃)
 
-      module _ (r₃ : ℕ) (z₃ : List ℕ) (post₃ : ExcludedPost postings positions R a₂ b₂ (take (length kids₂ - o) (drop o kids₂)) base r₂ k r₃ z₃) (a₃ b₃ : ℕ) (f₃ : a₃ ≡ a₂) (g₃ : b₃ ≡ b₂) (kids₃ : List ℕ) (is₃ : kids₃ ≡ take o kids₂ ++ (z₃ ++ drop (length kids₂ - o) (drop o kids₂))) where
+      module _ (r₃ : ℕ) (z₃ : List ℕ) (post₃ : ExcludedPost (lent s.n postings positions R) a₂ b₂ (take (length kids₂ - o) (drop o kids₂)) base r₂ k r₃ z₃) (a₃ b₃ : ℕ) (f₃ : a₃ ≡ a₂) (g₃ : b₃ ≡ b₂) (kids₃ : List ℕ) (is₃ : kids₃ ≡ take o kids₂ ++ (z₃ ++ drop (length kids₂ - o) (drop o kids₂))) where
         done₃ : ((p : ℕ) → p < 64 → bit p r₃ ≡ (bit p r₂ && not (any_matches s.ix s.ps (base + p)))) × AllWindowed s.ix R s.ps k z₃ (base + 64) base nowhere
         done₃ = post₃ s.n s.ix s.places s.ps wanted₂ s.known.prohibited held₃
 
@@ -184,10 +184,10 @@ module _ {postings positions R : List ℕ} {a b : ℕ} {kids : List ℕ} {e o ne
         through₄ : skip ≡ false → Through false s.rs r₃
         through₄ h = ⊎_elim (λ none. inl (λ p l. false_from_ne_true (bit p r₃) (λ t. false≢true (sym (none p l) ∙ within₂ p l (within₃ p l t))))) (λ t. inr t) (done₁.2 h)
 
-        pub second-pre : RoomIn s.places a b → PassPre postings positions R a₃ b₃ (take e kids₃) true base r₃ k
+        pub second-pre : RoomIn s.places a b → PassPre (lent s.n postings positions R) a₃ b₃ (take e kids₃) true base r₃ k
         second-pre h = (s.n, s.ix, s.places, s.rs, called-on postings positions R s.small wanted₃ h a₃ b₃ (f₃ ∙ (f₂ ∙ f₁)) (g₃ ∙ (g₂ ∙ g₁)), s.known.required, held₄)
 
-        module _ (r₄ next₄ : ℕ) (x₄ : List ℕ) (m₄ : length x₄ ≡ length (take e kids₃)) (post₄ : PhrasesPost postings positions R a₃ b₃ (take e kids₃) skip base r₃ k r₄ next₄ x₄) (next₃ next : ℕ) (j₃ : next₃ ≡ max next₁ next₂) (j₄ : next ≡ max next₃ next₄) where
+        module _ (r₄ next₄ : ℕ) (x₄ : List ℕ) (m₄ : length x₄ ≡ length (take e kids₃)) (post₄ : PhrasesPost (lent s.n postings positions R) a₃ b₃ (take e kids₃) skip base r₃ k r₄ next₄ x₄) (next₃ next : ℕ) (j₃ : next₃ ≡ max next₁ next₂) (j₄ : next ≡ max next₃ next₄) where
           done₄ : Answers (all_of (asked_by true) s.ix s.rs) base (places_of r₃) r₄ next₄ × SomeWindowed (asked_after true) s.ix R s.rs k x₄ base (places_of r₄)
           done₄ = post₄ s.n s.ix s.places s.rs wanted₃ s.known.required held₄ through₄
 

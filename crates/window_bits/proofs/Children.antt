@@ -7,11 +7,12 @@ use Rattle.bits.specs.Bit.{bit}
 use Rattle.weight.specs.ScorerTree.{Scorer, Scorers, end, more}
 use Rattle.weight.specs.Sound.{Lends, Sound, Sounds, nodes, nodes_of}
 use Rattle.leaf_scorer.specs.Calls.{lent}
+use Rattle.node.specs.Words.{ChildThere}
 use Rattle.window_words.specs.Windowed.{nowhere, places_of, Windowed}
 use Rattle.window_words.proofs.Laws.{windowed-less, windowed-long, windowed-size, windowed-kind, kind_of}
 use Rattle.window_words.proofs.Parts.{Part, Each, Zip, View, zip-none, view, word-at, word-first, part}
 use Rattle.window_leaf.specs.Asks.{everywhere, NodeWindowed, NodeAnswers, BitsPre, TermPre, TermPost}
-use Rattle.window_bits.specs.Parts.{Called, ChildAt}
+use Rattle.window_bits.specs.Parts.{Called}
 
 -- ---- what is known of each child that is left
 pub record Known (ix : Index) (places : ℕ) (s : Scorer) : Type 0 where
@@ -51,14 +52,14 @@ module _ {ix : Index} {R : List ℕ} {k base places : ℕ} {P Q : Part} (low : L
     pub stop-is : (e : ℕ) → e ≡ at + get_or kids (at + 1) 0 → e ≡ at + length v.y
     stop-is e h = h ∙ ap (λ (n : ℕ). at + n) size-read
 
-    pub child-facts : ChildAt kids at
+    pub child-facts : ChildThere kids at
     child-facts = record { long = omega (arith, long, size-read); fits = omega (arith, size-read, v.fits) }
 
     pub child-held : (postings positions : List ℕ) (n : ℕ) → Lends ix n postings positions → (kind : ℕ) → Fresh ix R k base kind P → (e : ℕ) → e ≡ at + get_or kids (at + 1) 0 → kind ≡ get_or kids at 0 → NodeWindowed (lent n postings positions R) ix places s k (cond f 1 0) (take (e - at) (drop at kids)) base
     child-held postings positions n h kind fresh e i j =
         record { lends = h; sound = v.part-is.0.sound; few = omega (arith, v.part-is.0.few); held = subst (λ (y : List ℕ). Windowed ix R s k (cond f 1 0) y base base nowhere) (sym (part v e (stop-is e i))) (fresh.fresh f s v.y (kind-read ∙ sym j) v.part-is.1) }
 
-  pub child-there : (g : Scorers) → Zip (AndKnown ix places P) Q ss g kids at → at < length kids → ChildAt kids at
+  pub child-there : (g : Scorers) → Zip (AndKnown ix places P) Q ss g kids at → at < length kids → ChildThere kids at
   child-there end q l = absurd (omega (arith, zip-none q, l))
   child-there (more f s g) q l = child-facts (view q)
 
@@ -67,11 +68,11 @@ module _ {ix : Index} {R : List ℕ} {k base places : ℕ} {P Q : Part} (low : L
   child-node postings positions n h kind fresh (more f s g) q l e i j = (s, cond f 1 0, child-held (view q) postings positions n h kind fresh e i j)
 
 -- the first word of a child's part is its kind
-pub child-kind : (kids : List ℕ) (at e : ℕ) → ChildAt kids at → e ≡ at + get_or kids (at + 1) 0 → get_or (take (e - at) (drop at kids)) 0 0 ≡ get_or kids at 0
+pub child-kind : (kids : List ℕ) (at e : ℕ) → ChildThere kids at → e ≡ at + get_or kids (at + 1) 0 → get_or (take (e - at) (drop at kids)) 0 0 ≡ get_or kids at 0
 child-kind kids at e c h = let z : at + 0 ≡ at = omega arith in get_or-take (e - at) (drop at kids) 0 0 (omega (arith, c.long, h)) ∙ get_or-drop at kids 0 0 ∙ ap (λ (i : ℕ). get_or kids i 0) z
 
 -- ---- what a call asks
-pub bits-pre : {n places a b base want : ℕ} (postings positions ranges : List ℕ) → Called (lent n postings positions ranges) places a b base want → (a' b' w : ℕ) → a' ≡ a → b' ≡ b → ((p : ℕ) → p < 64 → bit p w ≡ true → bit p want ≡ true) → (ix : Index) (q : List ℕ) (depth : ℕ) → (s : Scorer) × (scores : ℕ) × NodeWindowed (lent n postings positions ranges) ix places s depth scores q base → BitsPre postings positions ranges a' b' q base w depth
+pub bits-pre : {n places a b base want : ℕ} (postings positions ranges : List ℕ) → Called (lent n postings positions ranges) places a b base want → (a' b' w : ℕ) → a' ≡ a → b' ≡ b → ((p : ℕ) → p < 64 → bit p w ≡ true → bit p want ≡ true) → (ix : Index) (q : List ℕ) (depth : ℕ) → (s : Scorer) × (scores : ℕ) × NodeWindowed (lent n postings positions ranges) ix places s depth scores q base → BitsPre (lent n postings positions ranges) a' b' q base w depth
 bits-pre {n} {places} {a} {b} {base} {want} postings positions ranges c a' b' w e f within ix q depth h =
     (c.small, (n, ix, places, h.0, h.1, λ p l t. c.wanted p l (within p l t), record { in-a = omega (arith, c.room.in-a, e); in_b = omega (arith, c.room.in_b, f) }, h.2))
 
@@ -79,7 +80,7 @@ pub term-pre : (n : ℕ) (postings positions ranges : List ℕ) (base : ℕ) →
 term-pre n postings positions ranges base small ix places q depth kind h = (small, kind, (lent n postings positions ranges, refl, ix, places, h.0, depth, h.1, h.2))
 
 module _ {ix : Index} {R : List ℕ} {k base places : ℕ} {P Q : Part} (low : Low ix R k base P) {ss : Scorers} {kids : List ℕ} {at : ℕ} (postings positions : List ℕ) (n : ℕ) {a b want : ℕ} (called : Called (lent n postings positions R) places a b base want) (lends : Lends ix n postings positions) (kind : ℕ) (fresh : Fresh ix R k base kind P) (g : Scorers) (zip : Zip (AndKnown ix places P) Q ss g kids at) (l : at < length kids) (e : ℕ) (i : e ≡ at + get_or kids (at + 1) 0) (j : kind ≡ get_or kids at 0) where
-  pub ask-node : (a' b' w : ℕ) → a' ≡ a → b' ≡ b → ((p : ℕ) → p < 64 → bit p w ≡ true → bit p want ≡ true) → BitsPre postings positions R a' b' (take (e - at) (drop at kids)) base w k
+  pub ask-node : (a' b' w : ℕ) → a' ≡ a → b' ≡ b → ((p : ℕ) → p < 64 → bit p w ≡ true → bit p want ≡ true) → BitsPre (lent n postings positions R) a' b' (take (e - at) (drop at kids)) base w k
   ask-node a' b' w f h within = bits-pre postings positions R called a' b' w f h within ix (take (e - at) (drop at kids)) k (child-node low postings positions n lends kind fresh g zip l e i j)
 
   pub ask-term : kind ≡ 1 → TermPre postings (take (e - at) (drop at kids)) base
@@ -99,5 +100,5 @@ word-back kids ys at e i h l =
     let n : length (take at kids) ≡ at = length-take at kids ∙ omega (arith, h) in
     ap (λ (j : ℕ). get_or (take at kids ++ (ys ++ drop (e - at) (drop at kids))) (j + i) 0) (sym n) ∙ get_or-append-add (take at kids) (ys ++ drop (e - at) (drop at kids)) i 0 ∙ get_or-append ys (drop (e - at) (drop at kids)) 0 i l
 
-pub part-length : (kids : List ℕ) (at e : ℕ) → ChildAt kids at → e ≡ at + get_or kids (at + 1) 0 → node_state_words ≤ length (take (e - at) (drop at kids))
+pub part-length : (kids : List ℕ) (at e : ℕ) → ChildThere kids at → e ≡ at + get_or kids (at + 1) 0 → node_state_words ≤ length (take (e - at) (drop at kids))
 part-length kids at e c h = omega (arith, length-take (e - at) (drop at kids), length-drop at kids, c.long, c.fits, h)

@@ -1,4 +1,5 @@
 -- The laws of the cycle.
+pub mod ByKind
 pub mod Matching
 pub mod Children
 pub mod Passes

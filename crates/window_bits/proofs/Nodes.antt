@@ -15,7 +15,7 @@ use Rattle.window_words.specs.Windowed.{Places, nowhere, places_of, optional_bou
 use Rattle.window_words.proofs.Laws.{all-less, windowed-long, windowed-kind, kind_of}
 use Rattle.window_leaf.specs.Asks.{Answers, Wanted, NodeWindowed}
 use Rattle.window_leaf.specs.Runs.{answered, PutPre, PutPost}
-use Rattle.window_bits.specs.Parts.{Called, BooleanKnown, BooleanWindowed, BooleanRead, BooleanPre, BooleanPost, takes}
+use Rattle.window_bits.specs.Parts.{Called, BooleanKnown, BooleanWindowed, BooleanPre, BooleanPost, takes}
 
 -- ---- a record and what stands behind it
 module _ (S : State) (w st : List ℕ) (is : st ≡ words_of S ++ w) where
@@ -114,7 +114,7 @@ module _ {n : ℕ} {postings positions R : List ℕ} {ix : Index} {places depth 
       let h = held-of ix R c j need rs os ps depth scores st base base nowhere m.held in
       (h.S, w, put-behind h.S (h.x ++ (h.v ++ h.z)) st h.is w)
 
-  module _ (need' r o : ℕ) (read : BooleanRead st need' r o) (c : Option Float) (j : Joining) (need : ℕ) (rs os ps : Scorers) (m : NodeWindowed (lent n postings positions R) ix places (boolean c j need rs os ps) depth scores st base) where
+  module _ (need' r o : ℕ) (need-read : need' ≡ get_or st 3 0) (required-read : r ≡ get_or st 4 0) (optional-read : o ≡ get_or st 5 0) (c : Option Float) (j : Joining) (need : ℕ) (rs os ps : Scorers) (m : NodeWindowed (lent n postings positions R) ix places (boolean c j need rs os ps) depth scores st base) where
     h : Held ix R c j need rs os ps depth scores st base base nowhere
     h = held-of ix R c j need rs os ps depth scores st base base nowhere m.held
 
@@ -122,7 +122,7 @@ module _ {n : ℕ} {postings positions R : List ℕ} {ix : Index} {places depth 
     word i = ap (λ (q : List ℕ). get_or q i 0) h.is
 
     need-same : need' ≡ need
-    need-same = read.need ∙ word 3 ∙ h.boolean-is.need-is
+    need-same = need-read ∙ word 3 ∙ h.boolean-is.need-is
 
     parts : BooleanWindowed ix R rs os ps (depth - 1) r o need' (take (length st - 32) (drop 32 st)) base base nowhere
     parts =
@@ -132,15 +132,15 @@ module _ {n : ℕ} {postings positions R : List ℕ} {ix : Index} {places depth 
           v = h.v;
           z = h.z;
           is = behind-part h.S (h.x ++ (h.v ++ h.z)) st h.is;
-          required-end = read.required-end ∙ word 4 ∙ h.boolean-is.required-end;
-          optional-end = read.optional-end ∙ word 5 ∙ h.boolean-is.optional-end;
+          required-end = required-read ∙ word 4 ∙ h.boolean-is.required-end;
+          optional-end = optional-read ∙ word 5 ∙ h.boolean-is.optional-end;
           required = h.required;
           optional = h.optional;
           prohibited = h.prohibited;
         })
 
     module _ (a b want : ℕ) (wanted : Wanted n base want) where
-      module _ (bits next : ℕ) (w st' : List ℕ) (post : BooleanPost postings positions R a b (take (length st - 32) (drop 32 st)) r o need' base want (depth - 1) bits next w) (put : PutPost (take 32 st ++ (w ++ drop (length st - 32) (drop 32 st))) bits next st') where
+      module _ (bits next : ℕ) (w st' : List ℕ) (post : BooleanPost (lent n postings positions R) a b (take (length st - 32) (drop 32 st)) r o need' base want (depth - 1) bits next w) (put : PutPost (take 32 st ++ (w ++ drop (length st - 32) (drop 32 st))) bits next st') where
         done : Answers (takes ix rs os ps need) base (places_of want) bits next × BooleanWindowed ix R rs os ps (depth - 1) r o need w (base + 64) base (places_of bits)
         done = subst (λ (q : ℕ). Answers (takes ix rs os ps q) base (places_of want) bits next × BooleanWindowed ix R rs os ps (depth - 1) r o q w (base + 64) base (places_of bits)) need-same (post n ix places rs os ps wanted (known-of c j need rs os ps m) parts)
 
@@ -181,11 +181,11 @@ module _ {n : ℕ} {postings positions R : List ℕ} {ix : Index} {places depth 
         boolean-after : Answers (matches ix B) base (places_of want) bits (get_or st' 22 0) × Windowed ix R B depth scores st' (base + 64) base (places_of want)
         boolean-after = (answers, of-held ix R c j need rs os ps depth scores st' (base + 64) base (places_of want) held-after)
 
-  module _ (a b want : ℕ) (need' r o : ℕ) (read : BooleanRead st need' r o) where
-    pub node-pre : Called (lent n postings positions R) places a b base want → (s : Scorer) → NodeWindowed (lent n postings positions R) ix places s depth scores st base → get_or st 0 0 ≡ 3 → BooleanPre postings positions R a b (take (length st - 32) (drop 32 st)) r o need' base want (depth - 1)
+  module _ (a b want : ℕ) (need' r o : ℕ) (need-read : need' ≡ get_or st 3 0) (required-read : r ≡ get_or st 4 0) (optional-read : o ≡ get_or st 5 0) where
+    pub node-pre : Called (lent n postings positions R) places a b base want → (s : Scorer) → NodeWindowed (lent n postings positions R) ix places s depth scores st base → get_or st 0 0 ≡ 3 → BooleanPre (lent n postings positions R) a b (take (length st - 32) (drop 32 st)) r o need' base want (depth - 1)
     node-pre called (leaf l sc) m e = absurd (leaf-not l sc m e)
-    node-pre called (boolean c j need rs os ps) m e = (n, ix, places, rs, os, ps, called, known-of c j need rs os ps m, parts need' r o read c j need rs os ps m)
+    node-pre called (boolean c j need rs os ps) m e = (n, ix, places, rs, os, ps, called, known-of c j need rs os ps m, parts need' r o need-read required-read optional-read c j need rs os ps m)
 
-    pub node-after : Wanted n base want → (s : Scorer) → NodeWindowed (lent n postings positions R) ix places s depth scores st base → get_or st 0 0 ≡ 3 → (bits next : ℕ) (w st' : List ℕ) → BooleanPost postings positions R a b (take (length st - 32) (drop 32 st)) r o need' base want (depth - 1) bits next w → PutPost (take 32 st ++ (w ++ drop (length st - 32) (drop 32 st))) bits next st' → Answers (matches ix s) base (places_of want) bits (get_or st' 22 0) × Windowed ix R s depth scores st' (base + 64) base (places_of want)
+    pub node-after : Wanted n base want → (s : Scorer) → NodeWindowed (lent n postings positions R) ix places s depth scores st base → get_or st 0 0 ≡ 3 → (bits next : ℕ) (w st' : List ℕ) → BooleanPost (lent n postings positions R) a b (take (length st - 32) (drop 32 st)) r o need' base want (depth - 1) bits next w → PutPost (take 32 st ++ (w ++ drop (length st - 32) (drop 32 st))) bits next st' → Answers (matches ix s) base (places_of want) bits (get_or st' 22 0) × Windowed ix R s depth scores st' (base + 64) base (places_of want)
     node-after wanted (leaf l sc) m e bits next w st' post put = absurd (leaf-not l sc m e)
-    node-after wanted (boolean c j need rs os ps) m e bits next w st' post put = boolean-after need' r o read c j need rs os ps m a b want wanted bits next w st' post put
+    node-after wanted (boolean c j need rs os ps) m e bits next w st' post put = boolean-after need' r o need-read required-read optional-read c j need rs os ps m a b want wanted bits next w st' post put

@@ -11,11 +11,12 @@ use Rattle.planes.proofs.Planes.{nothing-carried}
 use Rattle.weight.specs.ScorerTree.{Scorers, end, more, matches, any_matches, matching}
 use Rattle.weight.specs.Sound.{Lends, Sounds, nodes_of}
 use Rattle.leaf_scorer.specs.Calls.{lent}
+use Rattle.node.specs.Words.{ChildThere}
 use Rattle.window_words.specs.Windowed.{Places, nowhere, places_of, optional_bound, AllWindowed}
 use Rattle.window_words.proofs.Laws.{windowed-less, windowed-mono, all-less, all-mono}
 use Rattle.window_words.proofs.Parts.{Asked, all-each, each-all, Zip, zip-start, zip-none, zip-end, view, zip-next}
 use Rattle.window_leaf.specs.Asks.{Answers, NodeAnswers, BitsPre, TermPre}
-use Rattle.window_bits.specs.Parts.{ChildAt, CountsAre, Called, enough}
+use Rattle.window_bits.specs.Parts.{CountsAre, Called, enough}
 use Rattle.window_bits.proofs.Matching.{matching-few, any-one, more-than, too-few}
 use Rattle.window_bits.proofs.Children.{AndKnown, each-known, Low, Fresh, child-there, ask-node, ask-term, stop-is, child-facts, child-held, part-length, word-back}
 
@@ -35,11 +36,11 @@ walk_start ix R k places base D ss kids h n q = zip-start (each-known (Asked ix 
 
 -- what a call asks
 module _ (ix : Index) (R : List ℕ) (k places base : ℕ) (D : Places) (ss g : Scorers) (kids : List ℕ) (at : ℕ) (zip : Walk ix R k places base D ss g kids at) (l : at < length kids) where
-  pub walk_there : ChildAt kids at
+  pub walk_there : ChildThere kids at
   walk_there = child-there (unasked-low ix R k base) g zip l
 
   module _ (postings positions : List ℕ) (n : ℕ) {a b want : ℕ} (called : Called (lent n postings positions R) places a b base want) (lends : Lends ix n postings positions) (e : ℕ) (i : e ≡ at + get_or kids (at + 1) 0) where
-    pub walk_node : (a' b' w : ℕ) → a' ≡ a → b' ≡ b → ((p : ℕ) → p < 64 → bit p w ≡ true → bit p want ≡ true) → BitsPre postings positions R a' b' (take (e - at) (drop at kids)) base w k
+    pub walk_node : (a' b' w : ℕ) → a' ≡ a → b' ≡ b → ((p : ℕ) → p < 64 → bit p w ≡ true → bit p want ≡ true) → BitsPre (lent n postings positions R) a' b' (take (e - at) (drop at kids)) base w k
     walk_node = ask-node (unasked-low ix R k base) postings positions n called lends (get_or kids at 0) (unasked-fresh ix R k base (get_or kids at 0)) g zip l e i refl
 
     pub walk_term : get_or kids at 0 ≡ 1 → TermPre postings (take (e - at) (drop at kids)) base
@@ -87,7 +88,7 @@ module _ (ix : Index) (R : List ℕ) (k places base want : ℕ) (ss : Scorers) (
     one-took (more f x g) s l =
         let v = view s.zip in
         let low = unasked-low ix R k base in
-        let c : ChildAt kids at = child-facts low v in
+        let c : ChildThere kids at = child-facts low v in
         let a = ans ix places x (cond f 1 0) (child-held low v postings positions n lends (get_or kids at 0) (unasked-fresh ix R k base (get_or kids at 0)) e i refl) in
         let next-is : next' ≡ min next (get_or ys 22 0) = j ∙ ap (λ (q : List ℕ). min next (get_or q (at + 22) 0)) is' ∙ ap (min next) (word-back kids ys at e 22 (omega (arith, l)) (omega (arith, m, part-length kids at e c i))) in
         record {
@@ -157,7 +158,7 @@ module _ (ix : Index) (R : List ℕ) (k places base want : ℕ) (ss : Scorers) (
     next-took (more f x g) s l =
         let v = view s.zip in
         let low = unasked-low ix R k base in
-        let c : ChildAt kids at = child-facts low v in
+        let c : ChildThere kids at = child-facts low v in
         let a = ans ix places x (cond f 1 0) (child-held low v postings positions n lends (get_or kids at 0) (unasked-fresh ix R k base (get_or kids at 0)) e i refl) in
         let next-is : next' ≡ min next (get_or ys 22 0) = j ∙ ap (λ (q : List ℕ). min next (get_or q (at + 22) 0)) is' ∙ ap (min next) (word-back kids ys at e 22 (omega (arith, l)) (omega (arith, m, part-length kids at e c i))) in
         let is : (p : ℕ) → p < 64 → bit p want ≡ true → bit p r ≡ matches ix x (base + p) = λ p b t. a.0.bits p b ∙ ap (λ (y : Bool). y && matches ix x (base + p)) (among p b t) in

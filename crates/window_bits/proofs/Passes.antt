@@ -1,7 +1,7 @@
 -- The required children, asked in two passes: the loop of a pass. Assumes nothing.
 use Rattle.std.proofs.Common.{◌≡◌, refl, sym, ap, ◌∙◌, subst₂, inl, inr, ⊎_elim, Bool, true, false, not, cond, ◌&&◌, ◌||◌, List, ◌++◌, ℕ, ◌+◌, ◌-◌, ◌≤◌, ◌<◌, max, eqb, length, get_or, take, drop, arith, le_refl}
 use Rattle.std.proofs.lemmas.Bool.{false≢true, true≢false, not-true, and_parts, and_from, and_left, and_right, cases_lt}
-use mathlib.Core.Bool.{beq, and-true, and_assoc}
+use mathlib.Core.Bool.{and-true, and_assoc}
 use Rattle.meaning.specs.Limits.{no_more_docs}
 use Rattle.meaning.specs.Lent.{Index}
 use Rattle.bits.specs.Bit.{bit}
@@ -9,11 +9,12 @@ use Rattle.bits.proofs.Laws.{bit-zero}
 use Rattle.weight.specs.ScorerTree.{Scorer, Scorers, end, more, matches}
 use Rattle.weight.specs.Sound.{Lends, Sounds, nodes_of}
 use Rattle.leaf_scorer.specs.Calls.{lent}
+use Rattle.node.specs.Words.{ChildThere}
 use Rattle.window_words.specs.Windowed.{Places, nowhere, places_of, Windowed, AllWindowed}
 use Rattle.window_words.proofs.Laws.{windowed-less, windowed-mono, kind_of}
 use Rattle.window_words.proofs.Parts.{Part, Each, all-each, each-all, each-map, Zip, zip-start, zip-none, zip-end, zip-stop, zip-front-map, view, zip-next, zip-skip}
 use Rattle.window_leaf.specs.Asks.{Answers, NodeAnswers, BitsPre, TermPre}
-use Rattle.window_bits.specs.Parts.{is_phrase, asked_before, asked_by, asked_after, all_of, asks_all, Through, SomeWindowed, ChildAt, Called}
+use Rattle.window_bits.specs.Parts.{is_phrase, asked_before, asked_by, asked_after, all_of, asks_all, Through, SomeWindowed, Called}
 use Rattle.window_bits.proofs.Matching.{phrase-kind}
 use Rattle.window_bits.proofs.Children.{AndKnown, each-known, Low, Fresh, child-there, ask-node, ask-term, stop-is, kind-read, child-facts, child-held, part-length, word-back}
 
@@ -113,18 +114,6 @@ module _ (ix : Index) (R : List ℕ) (k base want : ℕ) where
 by-kind : (s : Scorer) (kind : ℕ) (t : Bool) → kind_of s ≡ kind → eqb kind 2 ≡ t → is_phrase s ≡ t
 by-kind s kind t e h = phrase-kind s ∙ ap (λ (n : ℕ). eqb n 2) e ∙ h
 
-pub same-test : (x y : Bool) → beq x y ≡ true → x ≡ y
-same-test true true e = refl
-same-test true false e = absurd (false≢true e)
-same-test false true e = absurd (false≢true e)
-same-test false false e = refl
-
-pub other-test : (x y : Bool) → beq x y ≡ false → x ≡ not y
-other-test true true e = absurd (false≢true (sym e))
-other-test true false e = refl
-other-test false true e = refl
-other-test false false e = absurd (false≢true (sym e))
-
 asked-not-before : (last : Bool) → (last && not last) ≡ false
 asked-not-before true = refl
 asked-not-before false = refl
@@ -199,13 +188,13 @@ module _ (ix : Index) (R : List ℕ) (k places : ℕ) (last : Bool) (base want :
   pub pass-fresh : (kind : ℕ) → eqb kind 2 ≡ last → Fresh ix R k base kind (SomeAsked (asked_before last) ix R k base (places_of want))
   pass-fresh kind h = record { fresh = λ f s y e q. some-fresh ix R k base (asked_before last) (places_of want) f s y (ap (λ (t : Bool). last && not t) (by-kind s kind last e h) ∙ asked-not-before last) q }
 
-  pub pass-there : PassAt ix R k places last base want ss kids w next at skip → at < length kids → ChildAt kids at
+  pub pass-there : PassAt ix R k places last base want ss kids w next at skip → at < length kids → ChildThere kids at
   pass-there q l = child-there (some-low ix R k base (asked_before last) (places_of want)) q.g q.left.zip l
 
   module _ (e : ℕ) (i : e ≡ at + get_or kids (at + 1) 0) where
     -- what a call of this pass asks
     module _ (postings positions : List ℕ) (n : ℕ) {a b : ℕ} (called : Called (lent n postings positions R) places a b base want) (lends : Lends ix n postings positions) (q : PassAt ix R k places last base want ss kids w next at skip) (l : at < length kids) (kind : ℕ) (j : kind ≡ get_or kids at 0) (h : eqb kind 2 ≡ last) where
-      pub pass-node : (a' b' : ℕ) → a' ≡ a → b' ≡ b → BitsPre postings positions R a' b' (take (e - at) (drop at kids)) base w k
+      pub pass-node : (a' b' : ℕ) → a' ≡ a → b' ≡ b → BitsPre (lent n postings positions R) a' b' (take (e - at) (drop at kids)) base w k
       pass-node a' b' f f' = ask-node (some-low ix R k base (asked_before last) (places_of want)) postings positions n called lends kind (pass-fresh kind h) q.g q.left.zip l e i j a' b' w f f' q.left.within
 
       pub pass-term : kind ≡ 1 → TermPre postings (take (e - at) (drop at kids)) base
@@ -244,7 +233,7 @@ module _ (ix : Index) (R : List ℕ) (k places : ℕ) (last : Bool) (base want :
       took (more f x g) s l h =
           let v = view s.zip in
           let low = some-low ix R k base (asked_before last) (places_of want) in
-          let c : ChildAt kids at = child-facts low v in
+          let c : ChildThere kids at = child-facts low v in
           let ph : is_phrase x ≡ last = by-kind x (get_or kids at 0) last (kind-read low v) h in
           let yes : asked_by last x ≡ true = ap (λ (t : Bool). cond last t (not t)) ph ∙ asked_by_lem last in
           let after : asked_after last x ≡ true = ap (λ (t : Bool). last || not t) ph ∙ asked-after last in

@@ -1,14 +1,18 @@
 -- The parts of some children, asked of a window, and those of a Boolean. Assumes nothing: these are definitions.
-use Rattle.std.specs.Prelude.{◌≡◌, ◌⊎◌, Bool, true, false, not, cond, ◌&&◌, ◌||◌, List, [], ◌++◌, ℕ, ◌+◌, ◌≤◌, ◌<◌, leb, ltb, length, get_or}
-use Rattle.meaning.specs.Limits.{no_more_docs, node_state_words}
+use Rattle.std.specs.Prelude.{◌≡◌, ◌⊎◌, Bool, true, false, not, cond, ◌&&◌, ◌||◌, List, [], ◌++◌, ℕ, ◌+◌, ◌≤◌, ◌<◌, leb, ltb}
+use Rattle.meaning.specs.Limits.{no_more_docs}
 use Rattle.meaning.specs.Lent.{Index}
 use Rattle.bits.specs.Bit.{bit}
 use Rattle.weight.specs.ScorerTree.{nothing, term, phrase, range, everything, Scorer, leaf, boolean, Scorers, end, more, matches, all_match, any_matches, matching}
 use Rattle.weight.specs.State.{sizes_of}
 use Rattle.weight.specs.Sound.{Lends, Sounds, nodes_of}
-use Rattle.leaf_scorer.specs.Calls.{Lent, lent, RoomIn}
+use Rattle.leaf_scorer.specs.Calls.{Lent, RoomIn}
+use Rattle.node.specs.declared.NodeKind.{NodeKind}
+use Rattle.node.specs.declared.NodeKind.TheVariants.{Nothing, Term, Phrase, Boolean, Range, Everything, PhraseTerm}
 use Rattle.window_words.specs.Windowed.{Places, nowhere, places_of, optional_bound, Windowed, AllWindowed}
-use Rattle.window_leaf.specs.Asks.{Answers, Wanted}
+use Rattle.window_leaf.specs.Asks.{Answers, Wanted, lent_at}
+use Rattle.window_bits.specs.declared.Asks.{Asks}
+use Rattle.window_bits.specs.declared.Asks.TheVariants.{AllButPhrases, Phrases}
 
 -- ---- the required children, which are asked in two passes: first those that are no phrases, then the phrases
 unfoldable pub is_phrase : Scorer → Bool
@@ -28,6 +32,20 @@ asked_by last s = cond last (is_phrase s) (not (is_phrase s))
 
 abbrev pub asked_after : Bool → Scorer → Bool
 asked_after last s = last || not (is_phrase s)
+
+-- which of them a pass asks: the phrases alone, or all others
+abbrev pub phrases_only : Asks → Bool
+phrases_only AllButPhrases = false
+phrases_only Phrases = true
+
+abbrev pub phrase_kind : NodeKind → Bool
+phrase_kind Nothing = false
+phrase_kind Term = false
+phrase_kind Phrase = true
+phrase_kind Boolean = false
+phrase_kind Range = false
+phrase_kind Everything = false
+phrase_kind PhraseTerm = false
 
 -- the children of a kind all match
 unfoldable pub all_of : (Scorer → Bool) → Index → Scorers → ℕ → Bool
@@ -61,32 +79,32 @@ pub record Called (E : Lent) (places a b base want : ℕ) : Type 0 where
   pub wanted : Wanted E.documents base want
   pub room : RoomIn places a b
 
-abbrev pub PassPre : List ℕ → List ℕ → List ℕ → ℕ → ℕ → List ℕ → Bool → ℕ → ℕ → ℕ → Type 0
-PassPre postings positions ranges a b kids last base want depth =
-    (n : ℕ) × (ix : Index) × (places : ℕ) × (ss : Scorers) × Called (lent n postings positions ranges) places a b base want × PartsKnown (lent n postings positions ranges) ix places ss × SomeWindowed (asked_before last) ix ranges ss depth kids base (places_of want)
+abbrev pub PassPre : Lent → ℕ → ℕ → List ℕ → Bool → ℕ → ℕ → ℕ → Type 0
+PassPre E a b kids last base want depth =
+    (n : ℕ) × (ix : Index) × (places : ℕ) × (ss : Scorers) × Called (lent_at E n) places a b base want × PartsKnown (lent_at E n) ix places ss × SomeWindowed (asked_before last) ix E.ranges ss depth kids base (places_of want)
 
-abbrev pub PassPost : List ℕ → List ℕ → List ℕ → ℕ → ℕ → List ℕ → Bool → ℕ → ℕ → ℕ → ℕ → ℕ → Bool → List ℕ → Type 0
-PassPost postings positions ranges a b kids last base want depth r next skipped kids' =
-    (n : ℕ) (ix : Index) (places : ℕ) (ss : Scorers) → Wanted n base want → PartsKnown (lent n postings positions ranges) ix places ss → SomeWindowed (asked_before last) ix ranges ss depth kids base (places_of want) → Answers (all_of (asked_by last) ix ss) base (places_of want) r next × SomeWindowed (asked_after last) ix ranges ss depth kids' base (places_of r) × (skipped ≡ false → Through last ss r)
+abbrev pub PassPost : Lent → ℕ → ℕ → List ℕ → Bool → ℕ → ℕ → ℕ → ℕ → ℕ → Bool → List ℕ → Type 0
+PassPost E a b kids last base want depth r next skipped kids' =
+    (n : ℕ) (ix : Index) (places : ℕ) (ss : Scorers) → Wanted n base want → PartsKnown (lent_at E n) ix places ss → SomeWindowed (asked_before last) ix E.ranges ss depth kids base (places_of want) → Answers (all_of (asked_by last) ix ss) base (places_of want) r next × SomeWindowed (asked_after last) ix E.ranges ss depth kids' base (places_of r) × (skipped ≡ false → Through last ss r)
 
 -- the second pass, which is not made where the first skipped none
-abbrev pub PhrasesPost : List ℕ → List ℕ → List ℕ → ℕ → ℕ → List ℕ → Bool → ℕ → ℕ → ℕ → ℕ → ℕ → List ℕ → Type 0
-PhrasesPost postings positions ranges a b kids skipped base want depth r next kids' =
-    (n : ℕ) (ix : Index) (places : ℕ) (ss : Scorers) → Wanted n base want → PartsKnown (lent n postings positions ranges) ix places ss → SomeWindowed (asked_before true) ix ranges ss depth kids base (places_of want) → (skipped ≡ false → Through false ss want) → Answers (all_of (asked_by true) ix ss) base (places_of want) r next × SomeWindowed (asked_after true) ix ranges ss depth kids' base (places_of r)
+abbrev pub PhrasesPost : Lent → ℕ → ℕ → List ℕ → Bool → ℕ → ℕ → ℕ → ℕ → ℕ → List ℕ → Type 0
+PhrasesPost E a b kids skipped base want depth r next kids' =
+    (n : ℕ) (ix : Index) (places : ℕ) (ss : Scorers) → Wanted n base want → PartsKnown (lent_at E n) ix places ss → SomeWindowed (asked_before true) ix E.ranges ss depth kids base (places_of want) → (skipped ≡ false → Through false ss want) → Answers (all_of (asked_by true) ix ss) base (places_of want) r next × SomeWindowed (asked_after true) ix E.ranges ss depth kids' base (places_of r)
 
 -- ---- the optional children, of which `need` must match, and the prohibited
-abbrev pub PartsPre : List ℕ → List ℕ → List ℕ → ℕ → ℕ → List ℕ → ℕ → ℕ → ℕ → Type 0
-PartsPre postings positions ranges a b kids base want depth =
-    (n : ℕ) × (ix : Index) × (places : ℕ) × (ss : Scorers) × Called (lent n postings positions ranges) places a b base want × PartsKnown (lent n postings positions ranges) ix places ss × AllWindowed ix ranges ss depth kids base base nowhere
+abbrev pub PartsPre : Lent → ℕ → ℕ → List ℕ → ℕ → ℕ → ℕ → Type 0
+PartsPre E a b kids base want depth =
+    (n : ℕ) × (ix : Index) × (places : ℕ) × (ss : Scorers) × Called (lent_at E n) places a b base want × PartsKnown (lent_at E n) ix places ss × AllWindowed ix E.ranges ss depth kids base base nowhere
 
 -- so many match
 abbrev pub enough : Index → Scorers → ℕ → ℕ → Bool
 enough ix ss need d = leb need (matching ix ss d)
 
 -- where none is needed nothing is asked
-abbrev pub OptionalPost : List ℕ → List ℕ → List ℕ → ℕ → ℕ → List ℕ → ℕ → ℕ → ℕ → ℕ → ℕ → ℕ → List ℕ → Type 0
-OptionalPost postings positions ranges a b kids need base want depth r next kids' =
-    (n : ℕ) (ix : Index) (places : ℕ) (ss : Scorers) → Wanted n base want → PartsKnown (lent n postings positions ranges) ix places ss → AllWindowed ix ranges ss depth kids base base nowhere → Answers (enough ix ss need) base (places_of want) r next × AllWindowed ix ranges ss depth kids' (optional_bound need (base + 64) base) base (λ p. ltb 0 need && bit p r)
+abbrev pub OptionalPost : Lent → ℕ → ℕ → List ℕ → ℕ → ℕ → ℕ → ℕ → ℕ → ℕ → List ℕ → Type 0
+OptionalPost E a b kids need base want depth r next kids' =
+    (n : ℕ) (ix : Index) (places : ℕ) (ss : Scorers) → Wanted n base want → PartsKnown (lent_at E n) ix places ss → AllWindowed ix E.ranges ss depth kids base base nowhere → Answers (enough ix ss need) base (places_of want) r next × AllWindowed ix E.ranges ss depth kids' (optional_bound need (base + 64) base) base (λ p. ltb 0 need && bit p r)
 
 -- the planes' count of those that match, and a document before which none matches after the window
 pub record CountsAre (ix : Index) (ss : Scorers) (base want : ℕ) (count : ℕ → ℕ) (next : ℕ) : Type 0 where
@@ -94,19 +112,19 @@ pub record CountsAre (ix : Index) (ss : Scorers) (base want : ℕ) (count : ℕ 
   pub gap : (d : ℕ) → base + 64 ≤ d → d < next → matching ix ss d ≡ 0
   pub top : next ≤ no_more_docs
 
-abbrev pub CountPost : List ℕ → List ℕ → List ℕ → ℕ → ℕ → List ℕ → ℕ → ℕ → ℕ → (ℕ → ℕ) → ℕ → List ℕ → Type 0
-CountPost postings positions ranges a b kids base want depth count next kids' =
-    (n : ℕ) (ix : Index) (places : ℕ) (ss : Scorers) → Wanted n base want → PartsKnown (lent n postings positions ranges) ix places ss → AllWindowed ix ranges ss depth kids base base nowhere → CountsAre ix ss base want count next × AllWindowed ix ranges ss depth kids' (base + 64) base (places_of want)
+abbrev pub CountPost : Lent → ℕ → ℕ → List ℕ → ℕ → ℕ → ℕ → (ℕ → ℕ) → ℕ → List ℕ → Type 0
+CountPost E a b kids base want depth count next kids' =
+    (n : ℕ) (ix : Index) (places : ℕ) (ss : Scorers) → Wanted n base want → PartsKnown (lent_at E n) ix places ss → AllWindowed ix E.ranges ss depth kids base base nowhere → CountsAre ix ss base want count next × AllWindowed ix E.ranges ss depth kids' (base + 64) base (places_of want)
 
 -- any of them
-abbrev pub AnyPost : List ℕ → List ℕ → List ℕ → ℕ → ℕ → List ℕ → ℕ → ℕ → ℕ → ℕ → ℕ → List ℕ → Type 0
-AnyPost postings positions ranges a b kids base want depth r next kids' =
-    (n : ℕ) (ix : Index) (places : ℕ) (ss : Scorers) → Wanted n base want → PartsKnown (lent n postings positions ranges) ix places ss → AllWindowed ix ranges ss depth kids base base nowhere → Answers (any_matches ix ss) base (places_of want) r next × AllWindowed ix ranges ss depth kids' (base + 64) base (places_of want)
+abbrev pub AnyPost : Lent → ℕ → ℕ → List ℕ → ℕ → ℕ → ℕ → ℕ → ℕ → List ℕ → Type 0
+AnyPost E a b kids base want depth r next kids' =
+    (n : ℕ) (ix : Index) (places : ℕ) (ss : Scorers) → Wanted n base want → PartsKnown (lent_at E n) ix places ss → AllWindowed ix E.ranges ss depth kids base base nowhere → Answers (any_matches ix ss) base (places_of want) r next × AllWindowed ix E.ranges ss depth kids' (base + 64) base (places_of want)
 
 -- the wanted documents that none of the prohibited matches
-abbrev pub ExcludedPost : List ℕ → List ℕ → List ℕ → ℕ → ℕ → List ℕ → ℕ → ℕ → ℕ → ℕ → List ℕ → Type 0
-ExcludedPost postings positions ranges a b kids base want depth r kids' =
-    (n : ℕ) (ix : Index) (places : ℕ) (ss : Scorers) → Wanted n base want → PartsKnown (lent n postings positions ranges) ix places ss → AllWindowed ix ranges ss depth kids base base nowhere → ((p : ℕ) → p < 64 → bit p r ≡ (bit p want && not (any_matches ix ss (base + p)))) × AllWindowed ix ranges ss depth kids' (base + 64) base nowhere
+abbrev pub ExcludedPost : Lent → ℕ → ℕ → List ℕ → ℕ → ℕ → ℕ → ℕ → List ℕ → Type 0
+ExcludedPost E a b kids base want depth r kids' =
+    (n : ℕ) (ix : Index) (places : ℕ) (ss : Scorers) → Wanted n base want → PartsKnown (lent_at E n) ix places ss → AllWindowed ix E.ranges ss depth kids base base nowhere → ((p : ℕ) → p < 64 → bit p r ≡ (bit p want && not (any_matches ix ss (base + p)))) × AllWindowed ix E.ranges ss depth kids' (base + 64) base nowhere
 
 -- ---- a Boolean
 -- the parts of its children, with where the required and the optional end, and the places that were asked
@@ -130,25 +148,11 @@ pub record BooleanKnown (E : Lent) (ix : Index) (places : ℕ) (rs os ps : Score
   pub optional : PartsKnown E ix places os
   pub prohibited : PartsKnown E ix places ps
 
-abbrev pub BooleanPre : List ℕ → List ℕ → List ℕ → ℕ → ℕ → List ℕ → ℕ → ℕ → ℕ → ℕ → ℕ → ℕ → Type 0
-BooleanPre postings positions ranges a b kids required_end optional_end need base want depth =
-    (n : ℕ) × (ix : Index) × (places : ℕ) × (rs : Scorers) × (os : Scorers) × (ps : Scorers) × Called (lent n postings positions ranges) places a b base want × BooleanKnown (lent n postings positions ranges) ix places rs os ps × BooleanWindowed ix ranges rs os ps depth required_end optional_end need kids base base nowhere
+abbrev pub BooleanPre : Lent → ℕ → ℕ → List ℕ → ℕ → ℕ → ℕ → ℕ → ℕ → ℕ → Type 0
+BooleanPre E a b kids required_end optional_end need base want depth =
+    (n : ℕ) × (ix : Index) × (places : ℕ) × (rs : Scorers) × (os : Scorers) × (ps : Scorers) × Called (lent_at E n) places a b base want × BooleanKnown (lent_at E n) ix places rs os ps × BooleanWindowed ix E.ranges rs os ps depth required_end optional_end need kids base base nowhere
 
 -- its answer; what its score needs of the children stands at the documents that it takes
-abbrev pub BooleanPost : List ℕ → List ℕ → List ℕ → ℕ → ℕ → List ℕ → ℕ → ℕ → ℕ → ℕ → ℕ → ℕ → ℕ → ℕ → List ℕ → Type 0
-BooleanPost postings positions ranges a b kids required_end optional_end need base want depth r next kids' =
-    (n : ℕ) (ix : Index) (places : ℕ) (rs os ps : Scorers) → Wanted n base want → BooleanKnown (lent n postings positions ranges) ix places rs os ps → BooleanWindowed ix ranges rs os ps depth required_end optional_end need kids base base nowhere → Answers (takes ix rs os ps need) base (places_of want) r next × BooleanWindowed ix ranges rs os ps depth required_end optional_end need kids' (base + 64) base (places_of r)
-
--- ---- what is read of a record
-pub record BooleanRead (st : List ℕ) (n r o : ℕ) : Type 0 where
-  pub need : n ≡ get_or st 3 0
-  pub required-end : r ≡ get_or st 4 0
-  pub optional-end : o ≡ get_or st 5 0
-
-pub record ChildAt (kids : List ℕ) (at : ℕ) : Type 0 where
-  pub long : node_state_words ≤ get_or kids (at + 1) 0
-  pub fits : at + get_or kids (at + 1) 0 ≤ length kids
-
-pub record ChildRead (kids : List ℕ) (at k e : ℕ) : Type 0 where
-  pub kind : k ≡ get_or kids at 0
-  pub end : e ≡ at + get_or kids (at + 1) 0
+abbrev pub BooleanPost : Lent → ℕ → ℕ → List ℕ → ℕ → ℕ → ℕ → ℕ → ℕ → ℕ → ℕ → ℕ → List ℕ → Type 0
+BooleanPost E a b kids required_end optional_end need base want depth r next kids' =
+    (n : ℕ) (ix : Index) (places : ℕ) (rs os ps : Scorers) → Wanted n base want → BooleanKnown (lent_at E n) ix places rs os ps → BooleanWindowed ix E.ranges rs os ps depth required_end optional_end need kids base base nowhere → Answers (takes ix rs os ps need) base (places_of want) r next × BooleanWindowed ix E.ranges rs os ps depth required_end optional_end need kids' (base + 64) base (places_of r)

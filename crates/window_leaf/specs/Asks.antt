@@ -34,13 +34,17 @@ abbrev pub NodeAnswers : Lent → List ℕ → ℕ → Places → ℕ → ℕ �
 NodeAnswers E st base D depth r st' =
     (ix : Index) (places : ℕ) (s : Scorer) (scores : ℕ) → NodeWindowed E ix places s depth scores st base → Answers (matches ix s) base D r (get_or st' 22 0) × Windowed ix E.ranges s depth scores st' (base + 64) base D
 
-abbrev pub BitsPre : List ℕ → List ℕ → List ℕ → ℕ → ℕ → List ℕ → ℕ → ℕ → ℕ → Type 0
-BitsPre postings positions ranges a b st base want depth =
-    (base + 64 ≤ no_more_docs) × ((n : ℕ) × (ix : Index) × (places : ℕ) × (s : Scorer) × (scores : ℕ) × Wanted n base want × RoomIn places a b × NodeWindowed (lent n postings positions ranges) ix places s depth scores st base)
+-- the same of an index of n documents
+abbrev pub lent_at : Lent → ℕ → Lent
+lent_at E n = lent n E.postings E.positions E.ranges
 
-abbrev pub BitsPost : List ℕ → List ℕ → List ℕ → ℕ → ℕ → List ℕ → ℕ → ℕ → ℕ → ℕ → List ℕ → Type 0
-BitsPost postings positions ranges a b st base want depth r st' =
-    (n : ℕ) → Wanted n base want → NodeAnswers (lent n postings positions ranges) st base (places_of want) depth r st'
+abbrev pub BitsPre : Lent → ℕ → ℕ → List ℕ → ℕ → ℕ → ℕ → Type 0
+BitsPre E a b st base want depth =
+    (base + 64 ≤ no_more_docs) × ((n : ℕ) × (ix : Index) × (places : ℕ) × (s : Scorer) × (scores : ℕ) × Wanted n base want × RoomIn places a b × NodeWindowed (lent_at E n) ix places s depth scores st base)
+
+abbrev pub BitsPost : Lent → ℕ → ℕ → List ℕ → ℕ → ℕ → ℕ → ℕ → List ℕ → Type 0
+BitsPost E a b st base want depth r st' =
+    (n : ℕ) → Wanted n base want → NodeAnswers (lent_at E n) st base (places_of want) depth r st'
 
 -- a node that is a term: it asks nothing of what is lent but the postings
 abbrev pub TermPre : List ℕ → List ℕ → ℕ → Type 0

@@ -1,24 +1,18 @@
 // A node without children, asked which documents of a window of 64 it matches.
 #![tactic(auto)]
 
-ghost use Rattle.std.specs.Prelude.{◌≡◌, ◌+◌, ◌*◌, ◌≤◌, length, get_or, min, max};
+ghost use Rattle.std.specs.Prelude.{◌≡◌, ◌+◌, ◌*◌, ◌≤◌, length, get_or};
 ghost use Rattle.meaning.specs.Limits.{node_state_words};
+ghost use Rattle.leaf_scorer.specs.Calls.{lent_of};
 ghost use Rattle.window_leaf.specs.Asks.{TermPre, TermPost, RangePre, RangePost, BitsPre, BitsPost};
 ghost use Rattle.window_leaf.specs.Runs.{PutPre, PutPost, RunPre, RunPost, PartOf, DocumentPre, DocumentPost};
 
 use index::wide;
 use leaf_scorer::{LeafReader, NO_MORE_DOCS};
+use node::NodeKind;
 use window::gathered;
 
 pub mod phrases;
-
-const TERM: u32 = 1;
-
-const PHRASE: u32 = 2;
-
-const RANGE: u32 = 4;
-
-const EVERYTHING: u32 = 5;
 
 // The words of a posting.
 const POSTING: usize = 3;
@@ -28,18 +22,6 @@ const POSTING: usize = 3;
 pub struct Found {
     pub bits: u64,
     pub next: u32,
-}
-
-pub fn later(a: u32, b: u32) -> u32
-    ensures { result ≡ max a b }
-{
-    if a < b { b } else { a }
-}
-
-pub fn sooner(a: u32, b: u32) -> u32
-    ensures { result ≡ min a b }
-{
-    if a < b { a } else { b }
 }
 
 // Stores an answer in the node's record.
@@ -139,23 +121,22 @@ pub fn leaf_bits(
     depth: u32,
 ) -> u64
     requires kind { get_or st.old 0 0 ≡ 3 → ⊥ }
-    requires bits_pre { BitsPre reader.now.postings.now reader.now.positions.now reader.now.ranges.now (length a.old) (length b.old) st.old base want depth }
-    ensures { BitsPost reader.now.postings.now reader.now.positions.now reader.now.ranges.now (length a.old) (length b.old) st.old base want depth result st.new }
+    requires bits_pre { BitsPre (lent_of reader.now) (length a.old) (length b.old) st.old base want depth }
+    ensures { BitsPost (lent_of reader.now) (length a.old) (length b.old) st.old base want depth result st.new }
 {
-    let kind = st[0];
-    if kind == TERM {
-        return bits::both(want, term_bits(st, reader.postings, base));
+    match NodeKind::from(st[0]) {
+        NodeKind::Term => bits::both(want, term_bits(st, reader.postings, base)),
+        NodeKind::Phrase => {
+            phrases::phrase_bits(st, reader.postings, reader.positions, a, b, base, want)
+        }
+        NodeKind::Range => bits::both(want, range_bits(st, reader.ranges, base)),
+        NodeKind::Everything => {
+            put(st, want, base + 64);
+            want
+        }
+        _ => {
+            put(st, 0, NO_MORE_DOCS);
+            0
+        }
     }
-    if kind == PHRASE {
-        return phrases::phrase_bits(st, reader.postings, reader.positions, a, b, base, want);
-    }
-    if kind == RANGE {
-        return bits::both(want, range_bits(st, reader.ranges, base));
-    }
-    if kind == EVERYTHING {
-        put(st, want, base + 64);
-        return want;
-    }
-    put(st, 0, NO_MORE_DOCS);
-    0
 }

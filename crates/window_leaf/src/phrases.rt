@@ -3,7 +3,7 @@ ghost use Rattle.std.specs.Prelude.{◌≡◌, ◌+◌, ◌*◌, ◌<◌, length
 ghost use Rattle.window_leaf.specs.Asks.{PhrasePre, PhrasePost};
 ghost use Rattle.window_leaf.specs.Phrases.{TermsPre, TermsPost, rank_at, PostingPre, GatherPre, GatherPost, FrequencyPre, FrequencyPost, Noted, PlanesPre, PlanesPost};
 
-use crate::{Found, POSTING, later, put, run_bits};
+use crate::{Found, POSTING, put, run_bits};
 use bits::SetBits;
 use index::wide;
 use weight::NODE_STATE_WORDS;
@@ -25,7 +25,7 @@ pub fn terms_bits(terms: &mut [u32], postings: &[u32], base: u32, want: u64) -> 
         }
         let end = at + NODE_STATE_WORDS;
         w = bits::both(w, run_bits(&mut terms[at..end], postings, POSTING, base));
-        next = later(next, terms[at + 22]);
+        next = next.max(terms[at + 22]);
         at = end;
     }
     Found { bits: w, next }
@@ -100,13 +100,13 @@ fn noted(planes: Planes, place: u32, frequency: u32) -> Planes
     if frequency == 1 {
         return Planes {
             ones: bits::set_bit(planes.ones, place),
-            twos: planes.twos,
+            ..planes
         };
     }
     if frequency == 2 {
         return Planes {
-            ones: planes.ones,
             twos: bits::set_bit(planes.twos, place),
+            ..planes
         };
     }
     Planes {

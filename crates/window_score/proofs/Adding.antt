@@ -18,35 +18,35 @@ use Rattle.meaning.proofs.Tests.{decided}
 use Rattle.bits.specs.Bit.{bit, LowestBit}
 use Rattle.bits.proofs.Laws.{bit-zero}
 use Rattle.leaf_score.proofs.Bounds.{scores-add, scores-narrow, scores-more}
-use Rattle.window_score.specs.Sums.{Sums, At, Added}
+use Rattle.window_score.specs.Sums.{Sums, At, Changed, Added}
 
--- the places in `left` still have their sums, the other wanted ones the new ones
-pub record Adding (f : ℕ → Float → Float) (want left : ℕ) (sums sums' : List Float) : Type 0 where
+-- the places in `left` still have their sums, the other wanted ones what the function answered
+pub record Changing (post : Float → ℕ → Float → Type 0) (want left : ℕ) (sums sums' : List Float) : Type 0 where
   pub long : length sums' ≡ 64
   pub wants : (p : ℕ) → bit p left ≡ true → bit p want ≡ true
   pub waits : (p : ℕ) → bit p left ≡ true → get_or sums' p nan ≡ get_or sums p nan
-  pub done : (p : ℕ) → p < 64 → bit p want ≡ true → bit p left ≡ false → get_or sums' p nan ≡ f p (get_or sums p nan)
+  pub done : (p : ℕ) → p < 64 → bit p want ≡ true → bit p left ≡ false → post (get_or sums p nan) p (get_or sums' p nan)
   pub others : (p : ℕ) → bit p want ≡ false → get_or sums' p nan ≡ get_or sums p nan
 
 both : (a b : Bool) → a && b ≡ true → (a ≡ true) × (b ≡ true)
 both true b e = (refl, e)
 both false b e = absurd (false≢true e)
 
-module _ (f : ℕ → Float → Float) (want : ℕ) (sums : List Float) where
-  pub adding-start : length sums ≡ 64 → Adding f want want sums sums
-  adding-start h = record { long = h; wants = λ p e. e; waits = λ p e. refl; done = λ p l e g. absurd (false≢true (sym g ∙ e)); others = λ p e. refl }
+module _ (post : Float → ℕ → Float → Type 0) (want : ℕ) (sums : List Float) where
+  pub changing-start : length sums ≡ 64 → Changing post want want sums sums
+  changing-start h = record { long = h; wants = λ p e. e; waits = λ p e. refl; done = λ p l e g. absurd (false≢true (sym g ∙ e)); others = λ p e. refl }
 
-  module _ (left : ℕ) (sums' : List Float) (A : Adding f want left sums sums') where
+  module _ (left : ℕ) (sums' : List Float) (A : Changing post want left sums sums') where
     -- the sum at each wanted place is changed
-    pub adding-done : left ≡ 0 → At f want sums sums'
-    adding-done z = record { wanted = λ p l e. A.done p l e (ap (bit p) z ∙ bit-zero p); others = λ p l e. A.others p e }
+    pub changing-done : left ≡ 0 → Changed post want sums sums'
+    changing-done z = record { long = A.long; wanted = λ p l e. A.done p l e (ap (bit p) z ∙ bit-zero p); others = λ p l e. A.others p e }
 
     module _ (t : ℕ) (L : LowestBit left t) where
-      pub place-wanted : bit t want ≡ true
-      place-wanted = A.wants t L.set
+      pub change-wanted : bit t want ≡ true
+      change-wanted = A.wants t L.set
 
-      pub sum-waits : get_or sums' t nan ≡ get_or sums t nan
-      sum-waits = A.waits t L.set
+      pub change-waits : get_or sums' t nan ≡ get_or sums t nan
+      change-waits = A.waits t L.set
 
       module _ (left' : ℕ) (rest : (q : ℕ) → bit q left' ≡ bit q left && not (eqb q t)) where
         was : (p : ℕ) → bit p left' ≡ true → (bit p left ≡ true) × (p ≡ t → ⊥)
@@ -54,28 +54,49 @@ module _ (f : ℕ → Float → Float) (want : ℕ) (sums : List Float) where
             let b = both (bit p left) (not (eqb p t)) (sym (rest p) ∙ e) in
             (b.0, λ q. false≢true (sym (ap not (eq-eqb p t q)) ∙ b.1))
 
-        step : (x : Float) → x ≡ f t (get_or sums' t nan) → Adding f want left' sums (set sums' t x)
-        step x e =
+        -- the sum at the lowest place is changed
+        pub changing-step : (x : Float) → post (get_or sums' t nan) t x → Changing post want left' sums (set sums' t x)
+        changing-step x e =
             record {
               long = length-set sums' t x ∙ A.long;
               wants = λ p h. A.wants p (was p h).0;
               waits = λ p h. get_or-set_other sums' t p x nan (was p h).1 ∙ A.waits p (was p h).0;
               done = λ p l h g. ⊎_elim
-                  (λ (q : p ≡ t). subst (λ (i : ℕ). get_or (set sums' t x) i nan ≡ f i (get_or sums i nan)) (sym q) here)
-                  (λ (q : p ≡ t → ⊥). get_or-set_other sums' t p x nan q ∙ A.done p l h (sym (and-true (bit p left)) ∙ sym (ap (λ (b : Bool). bit p left && not b) (ne_eqb p t q)) ∙ sym (rest p) ∙ g))
+                  (λ (q : p ≡ t). subst (λ (i : ℕ). post (get_or sums i nan) i (get_or (set sums' t x) i nan)) (sym q) here)
+                  (λ (q : p ≡ t → ⊥). subst (post (get_or sums p nan) p) (sym (get_or-set_other sums' t p x nan q)) (A.done p l h (sym (and-true (bit p left)) ∙ sym (ap (λ (b : Bool). bit p left && not b) (ne_eqb p t q)) ∙ sym (rest p) ∙ g)))
                   (cases_eq p t);
-              others = λ p h. get_or-set_other sums' t p x nan (λ (q : p ≡ t). false≢true (sym h ∙ ap (λ (i : ℕ). bit i want) q ∙ place-wanted)) ∙ A.others p h;
+              others = λ p h. get_or-set_other sums' t p x nan (λ (q : p ≡ t). false≢true (sym h ∙ ap (λ (i : ℕ). bit i want) q ∙ change-wanted)) ∙ A.others p h;
             }
           where
             inside : t < length sums'
             inside = omega (arith, L.within, A.long)
 
-            here : get_or (set sums' t x) t nan ≡ f t (get_or sums t nan)
-            here = get_or-set_same sums' t x nan inside ∙ e ∙ ap (f t) sum-waits
+            here : post (get_or sums t nan) t (get_or (set sums' t x) t nan)
+            here = subst (λ (y : Float). post y t (get_or (set sums' t x) t nan)) change-waits (subst (post (get_or sums' t nan) t) (sym (get_or-set_same sums' t x nan inside)) e)
 
-        -- the sum at the lowest place is changed
-        pub adding-step : (at : ℕ) (x : Float) → at ≡ t → x ≡ f t (get_or sums' at nan) → Adding f want left' sums (set sums' at x)
-        adding-step at x a e = subst (λ (i : ℕ). x ≡ f t (get_or sums' i nan) → Adding f want left' sums (set sums' i x)) (sym a) (step x) e
+-- ---- where the new sum is a function of the place and the old sum
+abbrev pub Adding : (ℕ → Float → Float) → ℕ → ℕ → List Float → List Float → Type 0
+Adding f = Changing (λ x p y. y ≡ f p x)
+
+module _ (f : ℕ → Float → Float) (want : ℕ) (sums : List Float) where
+  abbrev post : Float → ℕ → Float → Type 0
+  post x p y = y ≡ f p x
+
+  pub adding-start : length sums ≡ 64 → Adding f want want sums sums
+  adding-start = changing-start post want sums
+
+  module _ (left : ℕ) (sums' : List Float) (A : Adding f want left sums sums') where
+    pub adding-done : left ≡ 0 → At f want sums sums'
+    adding-done z = let C = changing-done post want sums left sums' A z in record { wanted = C.wanted; others = C.others }
+
+    pub place-wanted : (t : ℕ) → LowestBit left t → bit t want ≡ true
+    place-wanted = change-wanted post want sums left sums' A
+
+    pub sum-waits : (t : ℕ) → LowestBit left t → get_or sums' t nan ≡ get_or sums t nan
+    sum-waits = change-waits post want sums left sums' A
+
+    pub adding-step : (t : ℕ) (L : LowestBit left t) (left' : ℕ) (rest : (q : ℕ) → bit q left' ≡ bit q left && not (eqb q t)) (at : ℕ) (x : Float) → at ≡ t → x ≡ f t (get_or sums' at nan) → Adding f want left' sums (set sums' at x)
+    adding-step t L left' rest at x a e = subst (λ (i : ℕ). x ≡ f t (get_or sums' i nan) → Adding f want left' sums (set sums' i x)) (sym a) (changing-step post want sums left sums' A t L left' rest x) e
 
 -- ---- one more score at each
 module _ (score : ℕ → Float) (want : ℕ) (sums sums' : List Float) (A : Added score want sums sums') where
@@ -98,13 +119,16 @@ module _ (score : ℕ → Float) (want : ℕ) (sums sums' : List Float) (A : Add
 pub narrowed-small : (r : ℕ) (from : List Float) (p : ℕ) → r ≤ 256 → Sums r from → p < 64 → AtMost (r * 2 ^ 29) (narrow (get_or from p nan))
 narrowed-small r from p few F l = scores-narrow r (get_or from p nan) few (F.small p l)
 
-pub joined-small : (r t : ℕ) (own group : List Float) (p : ℕ) → r + t ≤ 256 → Sums r own → Sums t group → p < 64 → AtMost ((r + t) * 2 ^ 29) (narrow (add binary64 (narrow (get_or own p nan)) (narrow (get_or group p nan))))
-joined-small r t own group p few O G l =
-    scores-narrow (r + t) (add binary64 (narrow (get_or own p nan)) (narrow (get_or group p nan))) few
-    (scores-add r t (narrow (get_or own p nan)) (narrow (get_or group p nan)) few (narrowed-small r own p (omega arith) O l) (narrowed-small t group p (omega arith) G l))
+pub narrowed-number : (r : ℕ) (from : List Float) (p : ℕ) → r ≤ 256 → Sums r from → p < 64 → T (not (is_nan (narrow (get_or from p nan))))
+narrowed-number r from p few F l = atmost-number (narrowed-small r from p few F l)
 
-pub narrowed-number : (r : ℕ) (from : List Float) (p : ℕ) (x : Float) → r ≤ 256 → Sums r from → p < 64 → x ≡ narrow (get_or from p nan) → T (not (is_nan x))
-narrowed-number r from p x few F l e = atmost-number (subst (λ (y : Float). AtMost (r * 2 ^ 29) y) (sym e) (narrowed-small r from p few F l))
-
-pub joined-number : (r t : ℕ) (own group : List Float) (p : ℕ) (x : Float) → r + t ≤ 256 → Sums r own → Sums t group → p < 64 → x ≡ narrow (add binary64 (narrow (get_or own p nan)) (narrow (get_or group p nan))) → T (not (is_nan x))
-joined-number r t own group p x few O G l e = atmost-number (subst (λ (y : Float). AtMost ((r + t) * 2 ^ 29) y) (sym e) (joined-small r t own group p few O G l))
+-- each sum narrowed, and another, narrowed, added to it
+pub after-small : (want r t : ℕ) (sums sums' group : List Float) → At (λ p x. add binary64 (narrow x) (narrow (get_or group p nan))) want sums sums' → length sums' ≡ 64 → r + t ≤ 256 → Sums r sums → Sums t group → Sums (r + t) sums'
+after-small want r t sums sums' group A long few S G =
+    record {
+      long = long;
+      small = λ p l. ⊎_elim
+          (λ (e : bit p want ≡ true). subst (λ (x : Float). AtMost ((r + t) * 2 ^ 29) x) (sym (A.wanted p l e)) (scores-add r t (narrow (get_or sums p nan)) (narrow (get_or group p nan)) few (narrowed-small r sums p (omega (arith, few)) S l) (narrowed-small t group p (omega (arith, few)) G l)))
+          (λ (e : bit p want ≡ false). subst (λ (x : Float). AtMost ((r + t) * 2 ^ 29) x) (sym (A.others p l e)) (scores-more r (r + t) (get_or sums p nan) (omega arith) (S.small p l)))
+          (decided (bit p want));
+    }

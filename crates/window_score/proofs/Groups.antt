@@ -1,34 +1,41 @@
 -- A Boolean with required children and a group whose sums are given, call by call: the required scores all in one, or before and after the place where the group joins. Assumes nothing.
-use Rattle.std.proofs.Common.{◌≡◌, refl, sym, ap, subst, ◌∙◌, true, List, [], ◌++◌, ℕ, ◌+◌, ◌-◌, ◌*◌, ◌^◌, ◌≤◌, ◌<◌, length, get_or, take, drop, append-nil, length-append, length-take, take_at, drop_at, arith}
+use Rattle.std.proofs.Common.{◌≡◌, refl, sym, ap, subst, ◌∙◌, Bool, true, false, List, [], ◌++◌, ℕ, ◌+◌, ◌-◌, ◌*◌, ◌^◌, ◌≤◌, ◌<◌, length, get_or, take, drop, append-nil, length-append, length-take, take_at, drop_at, arith}
 use Rattle.std.proofs.Math.Seq.{take-length, drop-length}
+use Rattle.std.proofs.lemmas.Bool.{true≢false}
 use Rattle.std.specs.Prelude.{Float}
 use Rattle.std.specs.Float.{nan, binary64}
 use Rattle.std.specs.Float.Ieee.{add}
+use Rattle.meaning.specs.Lent.{Index}
 use Rattle.meaning.specs.Ieee754.{zero_float, narrow, sum_from, narrowed_sum}
 use Rattle.ieee754.specs.Nonneg.{AtMost}
 use Rattle.bits.specs.Bit.{bit}
 use Rattle.weight.specs.ScorerTree.{Scorers, Joining, one_more, afterwards, scoring, required_scores, optional_scores, joined_score}
 use Rattle.weight.specs.State.{sizes_of_first}
 use Rattle.weight.specs.Sound.{nodes_of}
-use Rattle.score.specs.Asked.{JoinsAt, SumIs}
+use Rattle.score.specs.Asked.{SumIs}
 use Rattle.score.proofs.Join.{first_of, rest_of, first-sounds, first-tables, first-nodes, first_matches, group-is, joined-more, joined-after}
 use Rattle.window_words.specs.Windowed.{nowhere, places_of, AllWindowed}
-use Rattle.window_score.specs.declared.Joined.{Joined}
-use Rattle.window_score.specs.Sums.{Sums, Zeros, Added, AddedAll, NarrowedPre, NarrowedPost, JoinedPre, JoinedPost, AfterPre, AfterPost, NarrowedIs}
-use Rattle.window_score.specs.Asked.{RequiredAsked, RequiredPre, RequiredPost, GroupPre, GroupPost, RootGroupPre}
+use Rattle.node.specs.declared.Boolean.{Boolean}
+use Rattle.window_score.specs.Sums.{Sums, Zeros, Added, AddedAll, NarrowedPre, NarrowedPost, AfterPre, AfterPost, NarrowedIs}
+use Rattle.window_score.specs.Asked.{Joins, WindowLent, GroupAsked, RequiredAsked, RequiredPre, RequiredPost, RootGroupPre}
 use Rattle.window_score.proofs.Loops.{put, sums-more}
 use Rattle.window_score.proofs.Required.{lent-at}
 use Rattle.window_score.proofs.Splits.{Split, all-split, all-join, zero-sums}
 
--- which way the group joins
-no-after : (j : Joining) (rs : Scorers) (a b : ℕ) → JoinsAt j rs a b → (a ≡ 1 → ⊥) → (m : ℕ) × (j ≡ one_more m) × (b ≡ sizes_of_first m rs)
-unfolding JoinsAt
-no-after (one_more m) rs a b p h = (m, refl, p.1)
-no-after afterwards rs a b p h = absurd (h p)
+-- the required parts beside q leaves that are summed already, where the group's sums are known
+abbrev pub GroupPre : List ℕ → Boolean → List Float → List ℕ → List ℕ → List ℕ → List ℕ → List Float → ℕ → ℕ → ℕ → ℕ → List Float → ℕ → Type 0
+GroupPre kids node group postings positions norms ranges table a b base want sums depth =
+    (n : ℕ) × (ix : Index) × (places : ℕ) × (j : Joining) × (rs : Scorers) × (os : Scorers) × (q : ℕ) × WindowLent ix n postings positions norms places a b base want × GroupAsked ix ranges table places j rs os node depth kids base want q group × Sums q sums
 
-is-after : (j : Joining) (rs : Scorers) (a b : ℕ) → JoinsAt j rs a b → a ≡ 1 → j ≡ afterwards
-unfolding JoinsAt
-is-after (one_more m) rs a b p h = absurd (omega (arith, p.0, h))
+-- which way the group joins
+no-after : (j : Joining) (rs : Scorers) (a : Bool) (b : ℕ) → Joins j rs a b → a ≡ false → (m : ℕ) × (j ≡ one_more m) × (b ≡ sizes_of_first m rs)
+unfolding Joins
+no-after (one_more m) rs a b p h = (m, refl, p.1)
+no-after afterwards rs a b p h = absurd (true≢false (sym p ∙ h))
+
+is-after : (j : Joining) (rs : Scorers) (a : Bool) (b : ℕ) → Joins j rs a b → a ≡ true → j ≡ afterwards
+unfolding Joins
+is-after (one_more m) rs a b p h = absurd (true≢false (sym h ∙ p.0))
 is-after afterwards rs a b p h = refl
 
 -- another score, the same at the wanted places
@@ -56,15 +63,12 @@ rest-back xs ys kids at l len =
     let none : drop (length (xs ++ r) - at) (drop at (xs ++ r)) ≡ [] = ap (drop (length (xs ++ r) - at)) (drop_at xs r at n) ∙ ap (λ (i : ℕ). drop i r) m ∙ drop-length r in
     ap (λ (t : List ℕ). t ++ (ys ++ drop (length (xs ++ r) - at) (drop at (xs ++ r)))) (take_at xs r at n) ∙ ap (λ (t : List ℕ). xs ++ (ys ++ t)) none ∙ ap (λ (t : List ℕ). xs ++ t) (append-nil ys)
 
-module _ (kids : List ℕ) (node : Joined) (group : List Float) (postings positions norms ranges : List ℕ) (table : List Float) (a b base want : ℕ) (sums : List Float) (depth : ℕ) where
-  abbrev pub Asks : Type 0
-  Asks = GroupPre kids node group postings positions norms ranges table a b base want sums depth
-
-  abbrev goal-score : Asks → ℕ → Float
+module _ {kids : List ℕ} {node : Boolean} {group : List Float} {postings positions norms ranges : List ℕ} {table : List Float} {a b base want : ℕ} {sums : List Float} {depth : ℕ} where
+  abbrev goal-score : GroupPre kids node group postings positions norms ranges table a b base want sums depth → ℕ → Float
   goal-score w p = joined_score w.3 (required_scores w.1 w.4 (base + p)) (narrowed_sum (optional_scores w.1 w.5 (base + p)))
 
   -- the group's score at a wanted place
-  module _ (w : Asks) (p : ℕ) (l : p < 64) (e : bit p want ≡ true) where
+  module _ (w : GroupPre kids node group postings positions norms ranges table a b base want sums depth) (p : ℕ) (l : p < 64) (e : bit p want ≡ true) where
     os-few : nodes_of w.5 ≤ 256
     os-few = let f = w.8.few in omega (arith, f)
 
@@ -76,17 +80,14 @@ module _ (kids : List ℕ) (node : Joined) (group : List Float) (postings positi
 
   module _ (own : List Float) (own-zero : Zeros own) where
     -- ---- the group joins after the required sum is narrowed
-    pub after-ask : Asks → RequiredPre kids postings positions norms ranges table a b base want own depth
+    pub after-ask : GroupPre kids node group postings positions norms ranges table a b base want sums depth → RequiredPre kids postings positions norms ranges table a b base want own depth
     after-ask w = (w.0, w.1, w.2, w.4, 0, w.7, w.8.required, zero-sums own own-zero)
 
     module _ (kids' : List ℕ) (own' : List Float) (post : RequiredPost kids postings positions norms ranges table a b base want own depth kids' own') where
-      after-own : (w : Asks) → AddedAll (λ p. scoring (required_scores w.1 w.4 (base + p))) want own own' × Sums (0 + nodes_of w.4) own' × AllWindowed w.1 ranges w.4 depth kids' (base + 64) (base + 64) nowhere
+      after-own : (w : GroupPre kids node group postings positions norms ranges table a b base want sums depth) → AddedAll (λ p. scoring (required_scores w.1 w.4 (base + p))) want own own' × Sums (0 + nodes_of w.4) own' × AllWindowed w.1 ranges w.4 depth kids' (base + 64) (base + 64) nowhere
       after-own w = post w.0 w.1 w.2 w.4 0 w.7 w.8.required (zero-sums own own-zero)
 
-      pub after-join : Asks → JoinedPre own' group sums
-      after-join w = (w.6, nodes_of w.4, nodes_of w.5, (w.8.few, w.9), sums-more (0 + nodes_of w.4) (nodes_of w.4) own' (omega arith) (after-own w).1, w.8.group-sums)
-
-      after-score : node.afterwards ≡ 1 → (w : Asks) (p : ℕ) → p < 64 → bit p want ≡ true → narrow (add binary64 (narrow (get_or own' p nan)) (narrow (get_or group p nan))) ≡ goal-score w p
+      after-score : node.afterwards ≡ true → (w : GroupPre kids node group postings positions norms ranges table a b base want sums depth) (p : ℕ) → p < 64 → bit p want ≡ true → narrow (add binary64 (narrow (get_or own' p nan)) (narrow (get_or group p nan))) ≡ goal-score w p
       after-score after w p l e =
           let r = after-own w in
           let g = group-at w p l e in
@@ -94,46 +95,38 @@ module _ (kids : List ℕ) (node : Joined) (group : List Float) (postings positi
           (joined-after w.1 (base + p) w.4 w.5 (all-few w p l e) (narrow (get_or group p nan)) g.0 g.1 (get_or own' p nan) (narrow (get_or own' p nan)) two (narrow two) (summed own own' own-zero want (λ i. scoring (required_scores w.1 w.4 (base + i))) r.0 (nodes_of w.4) r.1 p l e) refl refl refl).is
           ∙ ap (λ (i : Joining). joined_score i (required_scores w.1 w.4 (base + p)) (narrowed_sum (optional_scores w.1 w.5 (base + p)))) (sym (is-after w.3 w.4 node.afterwards node.group_at w.8.joins after))
 
-      pub after-done : node.afterwards ≡ 1 → (sums' : List Float) → JoinedPost own' group want sums sums' → GroupPost kids node group postings positions norms ranges table a b base want sums depth kids' sums'
-      unfolding after-join
-      after-done after sums' join n ix places j rs os q L A S =
-          let w : Asks = (n, ix, places, j, rs, os, q, L, A, S) in
-          let J = after-join w in
-          let z = join J.0 J.1 J.2 J.3 J.4 J.5 in
-          (added-as (λ p. narrow (add binary64 (narrow (get_or own' p nan)) (narrow (get_or group p nan)))) (goal-score w) want sums sums' (after-score after w) z.0, z.1, (after-own w).2)
-
-      -- at a root
-      pub after-root-join : Asks → AfterPre group own'
+      pub after-root-join : GroupPre kids node group postings positions norms ranges table a b base want sums depth → AfterPre group own'
       after-root-join w = let f = w.8.few in (nodes_of w.4, nodes_of w.5, (omega (arith, f), sums-more (0 + nodes_of w.4) (nodes_of w.4) own' (omega arith) (after-own w).1), w.8.group-sums)
 
-      pub after-root : node.afterwards ≡ 1 → (own'' : List Float) → AfterPost group want own' own'' → (w : Asks) → NarrowedIs (goal-score w) want own own'' × AllWindowed w.1 ranges w.4 depth kids' (base + 64) (base + 64) nowhere
+      pub after-root : node.afterwards ≡ true → (own'' : List Float) → AfterPost group want own' own'' → (w : GroupPre kids node group postings positions norms ranges table a b base want sums depth) → NarrowedIs (goal-score w) want own own'' × Sums (nodes_of w.4 + nodes_of w.5) own'' × AllWindowed w.1 ranges w.4 depth kids' (base + 64) (base + 64) nowhere
       after-root after own'' join w =
-          (record { long = join.1; wanted = λ p l e. ap narrow (join.0.wanted p l e) ∙ after-score after w p l e; others = λ p l e. join.0.others p l e ∙ (after-own w).0.others p l e }, (after-own w).2)
+          let f = w.8.few in (
+            record { long = join.1; wanted = λ p l e. ap narrow (join.0.wanted p l e) ∙ after-score after w p l e; others = λ p l e. join.0.others p l e ∙ (after-own w).0.others p l e },
+            join.2 (nodes_of w.4) (nodes_of w.5) (omega (arith, f), sums-more (0 + nodes_of w.4) (nodes_of w.4) own' (omega arith) (after-own w).1) w.8.group-sums,
+            (after-own w).2,
+          )
 
     -- ---- the group joins as one more
-    module _ (other : node.afterwards ≡ 1 → ⊥) where
-      abbrev ga : ℕ
-      ga = node.group_at
+    module _ (other : node.afterwards ≡ false) where
+      m-of : (w : GroupPre kids node group postings positions norms ranges table a b base want sums depth) → (m : ℕ) × (w.3 ≡ one_more m) × (node.group_at ≡ sizes_of_first m w.4)
+      m-of w = no-after w.3 w.4 node.afterwards node.group_at w.8.joins other
 
-      m-of : (w : Asks) → (m : ℕ) × (w.3 ≡ one_more m) × (ga ≡ sizes_of_first m w.4)
-      m-of w = no-after w.3 w.4 node.afterwards ga w.8.joins other
-
-      abbrev cut : (w : Asks) → Split w.1 ranges depth (m-of w).0 w.4 kids (base + 64) base (places_of want)
+      abbrev cut : (w : GroupPre kids node group postings positions norms ranges table a b base want sums depth) → Split w.1 ranges depth (m-of w).0 w.4 kids (base + 64) base (places_of want)
       cut w = all-split w.1 ranges depth (m-of w).0 w.4 kids (base + 64) base (places_of want) w.8.required.held
 
-      at-cut : (w : Asks) → length (cut w).x ≡ ga
+      at-cut : (w : GroupPre kids node group postings positions norms ranges table a b base want sums depth) → length (cut w).x ≡ node.group_at
       at-cut w = (cut w).place ∙ sym (m-of w).2
 
-      pub cut-fits : Asks → ga ≤ length kids
+      pub cut-fits : GroupPre kids node group postings positions norms ranges table a b base want sums depth → node.group_at ≤ length kids
       cut-fits w = omega (arith, ap length (cut w).is, length-append (cut w).x (cut w).y, at-cut w)
 
-      front-is : (w : Asks) → take ga kids ≡ (cut w).x
-      front-is w = ap (take ga) (cut w).is ∙ take_at (cut w).x (cut w).y ga (at-cut w)
+      front-is : (w : GroupPre kids node group postings positions norms ranges table a b base want sums depth) → take node.group_at kids ≡ (cut w).x
+      front-is w = ap (take node.group_at) (cut w).is ∙ take_at (cut w).x (cut w).y node.group_at (at-cut w)
 
-      back-is : (w : Asks) → drop ga kids ≡ (cut w).y
-      back-is w = ap (drop ga) (cut w).is ∙ drop_at (cut w).x (cut w).y ga (at-cut w)
+      back-is : (w : GroupPre kids node group postings positions norms ranges table a b base want sums depth) → drop node.group_at kids ≡ (cut w).y
+      back-is w = ap (drop node.group_at) (cut w).is ∙ drop_at (cut w).x (cut w).y node.group_at (at-cut w)
 
-      front-asked : (w : Asks) → RequiredAsked w.1 ranges table w.2 (first_of (m-of w).0 w.4) depth (take ga kids) base want 0
+      front-asked : (w : GroupPre kids node group postings positions norms ranges table a b base want sums depth) → RequiredAsked w.1 ranges table w.2 (first_of (m-of w).0 w.4) depth (take node.group_at kids) base want 0
       front-asked w =
           let m = (m-of w).0 in
           let s = w.8.required.scorables in
@@ -143,25 +136,25 @@ module _ (kids : List ℕ) (node : Joined) (group : List Float) (postings positi
             held = subst (λ (v : List ℕ). AllWindowed w.1 ranges (first_of m w.4) depth v (base + 64) base (places_of want)) (sym (front-is w)) (cut w).first;
           }
 
-      pub front-ask : Asks → RequiredPre (take ga kids) postings positions norms ranges table a b base want own depth
+      pub front-ask : GroupPre kids node group postings positions norms ranges table a b base want sums depth → RequiredPre (take node.group_at kids) postings positions norms ranges table a b base want own depth
       front-ask w = (w.0, w.1, w.2, first_of (m-of w).0 w.4, 0, w.7, front-asked w, zero-sums own own-zero)
 
-      module _ (xs : List ℕ) (own₁ : List Float) (long : length xs ≡ length (take ga kids)) (post₁ : RequiredPost (take ga kids) postings positions norms ranges table a b base want own depth xs own₁) where
-        front-own : (w : Asks) → AddedAll (λ p. scoring (required_scores w.1 (first_of (m-of w).0 w.4) (base + p))) want own own₁ × Sums (0 + nodes_of (first_of (m-of w).0 w.4)) own₁ × AllWindowed w.1 ranges (first_of (m-of w).0 w.4) depth xs (base + 64) (base + 64) nowhere
+      module _ (xs : List ℕ) (own₁ : List Float) (long : length xs ≡ length (take node.group_at kids)) (post₁ : RequiredPost (take node.group_at kids) postings positions norms ranges table a b base want own depth xs own₁) where
+        front-own : (w : GroupPre kids node group postings positions norms ranges table a b base want sums depth) → AddedAll (λ p. scoring (required_scores w.1 (first_of (m-of w).0 w.4) (base + p))) want own own₁ × Sums (0 + nodes_of (first_of (m-of w).0 w.4)) own₁ × AllWindowed w.1 ranges (first_of (m-of w).0 w.4) depth xs (base + 64) (base + 64) nowhere
         front-own w = post₁ w.0 w.1 w.2 (first_of (m-of w).0 w.4) 0 w.7 (front-asked w) (zero-sums own own-zero)
 
-        pub group-add : Asks → NarrowedPre group own₁
+        pub group-add : GroupPre kids node group postings positions norms ranges table a b base want sums depth → NarrowedPre group own₁
         group-add w =
             let F = nodes_of (first_of (m-of w).0 w.4) in
             let f = w.8.few in
             (F, nodes_of w.5, (omega (arith, f, first-nodes (m-of w).0 w.4), sums-more (0 + F) F own₁ (omega arith) (front-own w).1), w.8.group-sums)
 
         module _ (own₂ : List Float) (post₂ : NarrowedPost group want own₁ own₂) where
-          group-own : (w : Asks) → Added (λ p. narrow (get_or group p nan)) want own₁ own₂ × Sums (nodes_of (first_of (m-of w).0 w.4) + nodes_of w.5) own₂
+          group-own : (w : GroupPre kids node group postings positions norms ranges table a b base want sums depth) → Added (λ p. narrow (get_or group p nan)) want own₁ own₂ × Sums (nodes_of (first_of (m-of w).0 w.4) + nodes_of w.5) own₂
           unfolding group-add
           group-own w = let G = group-add w in post₂ G.0 G.1 G.2 G.3
 
-          rest-asked : (w : Asks) → RequiredAsked w.1 ranges table w.2 (rest_of (m-of w).0 w.4) depth (take (length (xs ++ drop ga kids) - ga) (drop ga (xs ++ drop ga kids))) base want (nodes_of (first_of (m-of w).0 w.4) + nodes_of w.5)
+          rest-asked : (w : GroupPre kids node group postings positions norms ranges table a b base want sums depth) → RequiredAsked w.1 ranges table w.2 (rest_of (m-of w).0 w.4) depth (take (length (xs ++ drop node.group_at kids) - node.group_at) (drop node.group_at (xs ++ drop node.group_at kids))) base want (nodes_of (first_of (m-of w).0 w.4) + nodes_of w.5)
           rest-asked w =
               let m = (m-of w).0 in
               let s = w.8.required.scorables in
@@ -169,29 +162,19 @@ module _ (kids : List ℕ) (node : Joined) (group : List Float) (postings positi
               record {
                 scorables = record { sound = (first-sounds w.1 w.2 m w.4 s.sound).1; tables = (first-tables w.1 table m w.4 s.tables).1; few = omega (arith, f, first-nodes m w.4) };
                 match = λ p l e. (first_matches w.1 (base + p) m w.4 (w.8.required.match p l e)).1;
-                held = subst (λ (v : List ℕ). AllWindowed w.1 ranges (rest_of m w.4) depth v (base + 64) base (places_of want)) (sym (rest-part xs kids ga (cut-fits w) long ∙ back-is w)) (cut w).rest;
+                held = subst (λ (v : List ℕ). AllWindowed w.1 ranges (rest_of m w.4) depth v (base + 64) base (places_of want)) (sym (rest-part xs kids node.group_at (cut-fits w) long ∙ back-is w)) (cut w).rest;
               }
 
-          abbrev y : List ℕ
-          y = take (length (xs ++ drop ga kids) - ga) (drop ga (xs ++ drop ga kids))
-
           module _ (a' b' : ℕ) (same-a : a' ≡ a) (same-b : b' ≡ b) where
-            pub rest-ask : Asks → RequiredPre y postings positions norms ranges table a' b' base want own₂ depth
+            pub rest-ask : GroupPre kids node group postings positions norms ranges table a b base want sums depth → RequiredPre (take (length (xs ++ drop node.group_at kids) - node.group_at) (drop node.group_at (xs ++ drop node.group_at kids))) postings positions norms ranges table a' b' base want own₂ depth
             rest-ask w = (w.0, w.1, w.2, rest_of (m-of w).0 w.4, nodes_of (first_of (m-of w).0 w.4) + nodes_of w.5, lent-at a' b' want same-a same-b (λ p l e. e) w.7, rest-asked w, (group-own w).1)
 
-            module _ (ys : List ℕ) (own₃ : List Float) (post₃ : RequiredPost y postings positions norms ranges table a' b' base want own₂ depth ys own₃) where
-              rest-own : (w : Asks) → AddedAll (λ p. scoring (required_scores w.1 (rest_of (m-of w).0 w.4) (base + p))) want own₂ own₃ × Sums (nodes_of (first_of (m-of w).0 w.4) + nodes_of w.5 + nodes_of (rest_of (m-of w).0 w.4)) own₃ × AllWindowed w.1 ranges (rest_of (m-of w).0 w.4) depth ys (base + 64) (base + 64) nowhere
+            module _ (ys : List ℕ) (own₃ : List Float) (post₃ : RequiredPost (take (length (xs ++ drop node.group_at kids) - node.group_at) (drop node.group_at (xs ++ drop node.group_at kids))) postings positions norms ranges table a' b' base want own₂ depth ys own₃) where
+              rest-own : (w : GroupPre kids node group postings positions norms ranges table a b base want sums depth) → AddedAll (λ p. scoring (required_scores w.1 (rest_of (m-of w).0 w.4) (base + p))) want own₂ own₃ × Sums (nodes_of (first_of (m-of w).0 w.4) + nodes_of w.5 + nodes_of (rest_of (m-of w).0 w.4)) own₃ × AllWindowed w.1 ranges (rest_of (m-of w).0 w.4) depth ys (base + 64) (base + 64) nowhere
               unfolding rest-ask
               rest-own w = let R = rest-ask w in post₃ R.0 R.1 R.2 R.3 R.4 R.5 R.6 R.7
 
-              pub own-add : Asks → NarrowedPre own₃ sums
-              own-add w =
-                  let m = (m-of w).0 in
-                  let all = nodes_of (first_of m w.4) + nodes_of w.5 + nodes_of (rest_of m w.4) in
-                  let r = nodes_of w.4 + nodes_of w.5 in
-                  (w.6, r, (w.8.few, w.9), sums-more all r own₃ (omega (arith, first-nodes m w.4)) (rest-own w).1)
-
-              more-score : (w : Asks) (p : ℕ) → p < 64 → bit p want ≡ true → narrow (get_or own₃ p nan) ≡ goal-score w p
+              more-score : (w : GroupPre kids node group postings positions norms ranges table a b base want sums depth) (p : ℕ) → p < 64 → bit p want ≡ true → narrow (get_or own₃ p nan) ≡ goal-score w p
               more-score w p l e =
                   let ix = w.1 in
                   let rs = w.4 in
@@ -206,22 +189,19 @@ module _ (kids : List ℕ) (node : Joined) (group : List Float) (postings positi
                   refl).is
                   ∙ ap (λ (i : Joining). joined_score i (required_scores ix rs (base + p)) (narrowed_sum (optional_scores ix w.5 (base + p)))) (sym m.1)
 
-              more-left : (w : Asks) → AllWindowed w.1 ranges w.4 depth (put (xs ++ drop ga kids) ga (length (xs ++ drop ga kids)) ys) (base + 64) (base + 64) nowhere
-              more-left w = subst (λ (l : List ℕ). AllWindowed w.1 ranges w.4 depth l (base + 64) (base + 64) nowhere) (sym (rest-back xs ys kids ga (cut-fits w) long)) (all-join w.1 ranges depth (m-of w).0 w.4 xs ys (base + 64) (base + 64) nowhere (front-own w).2 (rest-own w).2)
+              more-left : (w : GroupPre kids node group postings positions norms ranges table a b base want sums depth) → AllWindowed w.1 ranges w.4 depth (put (xs ++ drop node.group_at kids) node.group_at (length (xs ++ drop node.group_at kids)) ys) (base + 64) (base + 64) nowhere
+              more-left w = subst (λ (l : List ℕ). AllWindowed w.1 ranges w.4 depth l (base + 64) (base + 64) nowhere) (sym (rest-back xs ys kids node.group_at (cut-fits w) long)) (all-join w.1 ranges depth (m-of w).0 w.4 xs ys (base + 64) (base + 64) nowhere (front-own w).2 (rest-own w).2)
 
-              pub more-done : (sums' : List Float) → NarrowedPost own₃ want sums sums' → GroupPost kids node group postings positions norms ranges table a b base want sums depth (put (xs ++ drop ga kids) ga (length (xs ++ drop ga kids)) ys) sums'
-              unfolding own-add
-              more-done sums' post₄ n ix places j rs os q L A S =
-                  let w : Asks = (n, ix, places, j, rs, os, q, L, A, S) in
-                  let N = own-add w in
-                  let z = post₄ N.0 N.1 N.2 N.3 in
-                  (added-as (λ p. narrow (get_or own₃ p nan)) (goal-score w) want sums sums' (more-score w) z.0, z.1, more-left w)
-
-              -- at a root
-              pub more-root : (w : Asks) → NarrowedIs (goal-score w) want own own₃ × AllWindowed w.1 ranges w.4 depth (put (xs ++ drop ga kids) ga (length (xs ++ drop ga kids)) ys) (base + 64) (base + 64) nowhere
-              more-root w = (record { long = (rest-own w).1.long; wanted = more-score w; others = λ p l e. (rest-own w).0.others p l e ∙ (group-own w).0.others p l e ∙ (front-own w).0.others p l e }, more-left w)
+              pub more-root : (w : GroupPre kids node group postings positions norms ranges table a b base want sums depth) → NarrowedIs (goal-score w) want own own₃ × Sums (nodes_of w.4 + nodes_of w.5) own₃ × AllWindowed w.1 ranges w.4 depth (put (xs ++ drop node.group_at kids) node.group_at (length (xs ++ drop node.group_at kids)) ys) (base + 64) (base + 64) nowhere
+              more-root w =
+                  let m = (m-of w).0 in
+                  let all = nodes_of (first_of m w.4) + nodes_of w.5 + nodes_of (rest_of m w.4) in (
+                    record { long = (rest-own w).1.long; wanted = more-score w; others = λ p l e. (rest-own w).0.others p l e ∙ (group-own w).0.others p l e ∙ (front-own w).0.others p l e },
+                    sums-more all (nodes_of w.4 + nodes_of w.5) own₃ (omega (arith, first-nodes m w.4)) (rest-own w).1,
+                    more-left w,
+                  )
 
 -- ---- at a root, whose sums were 0
-module _ (kids : List ℕ) (node : Joined) (group : List Float) (postings positions norms ranges : List ℕ) (table : List Float) (a b base want : ℕ) (sums : List Float) (depth : ℕ) (w : RootGroupPre kids node group postings positions norms ranges table a b base want sums depth) where
+module _ {kids : List ℕ} {node : Boolean} {group : List Float} {postings positions norms ranges : List ℕ} {table : List Float} {a b base want : ℕ} {sums : List Float} {depth : ℕ} (w : RootGroupPre kids node group postings positions norms ranges table a b base want sums depth) where
   pub root-group-as : GroupPre kids node group postings positions norms ranges table a b base want sums depth
   root-group-as = let r = w.1 in (r.0, r.1, r.2, r.3, r.4, r.5, 0, r.6, r.7, zero-sums sums w.0)

@@ -17,7 +17,7 @@ use Rattle.score.proofs.Sums.{counted, Matched}
 use Rattle.window_words.specs.Windowed.{Places, nowhere, joined, Windowed, AllWindowed}
 use Rattle.window_words.proofs.Laws.{kind_of, windowed-long, windowed-size, windowed-kind, windowed-scores, windowed-bits}
 use Rattle.window_words.proofs.Parts.{Part, Asked, all-each, each-all, Zip, zip-start, zip-none, zip-end, view, word-at, word-first, part-held, zip-next}
-use Rattle.window_score.specs.Words.{ChildThere}
+use Rattle.node.specs.Words.{ChildThere}
 use Rattle.window_score.specs.Sums.{Sums, At, Added}
 
 -- ---- sums

@@ -1,5 +1,5 @@
 -- A node's scores: one that is constant, one that gives 0, and a Boolean, whose children's parts are those behind its record. Assumes nothing.
-use Rattle.std.proofs.Common.{◌≡◌, refl, sym, ap, subst, ◌∙◌, Bool, true, false, not, cond, ◌&&◌, List, ◌++◌, ℕ, ◌+◌, ◌-◌, ◌*◌, ◌^◌, ◌≤◌, ◌<◌, leb, ltb, length, get_or, take, drop, append-nil, le_refl, arith}
+use Rattle.std.proofs.Common.{◌≡◌, refl, sym, ap, subst, ◌∙◌, Bool, true, false, not, cond, ◌&&◌, List, ◌++◌, ℕ, ◌+◌, ◌-◌, ◌*◌, ◌^◌, ◌≤◌, ◌<◌, eqb, leb, ltb, length, get_or, take, drop, append-nil, le_refl, arith}
 use Rattle.std.proofs.Math.Dec.{T}
 use Rattle.std.proofs.Math.Option.{none, some}
 use Rattle.std.proofs.Math.Seq.{take-length, drop-length}
@@ -19,13 +19,12 @@ use Rattle.weight.specs.Held.{FloatIs, ScoringIs, KeptIs, JoiningIs}
 use Rattle.weight.specs.Sound.{Sound, Tables, nodes, nodes_of}
 use Rattle.leaf_score.proofs.Bounds.{scores-more, zero-32}
 use Rattle.leaf_score.proofs.Weights.{float_back, float-number}
-use Rattle.score.specs.Asked.{JoinsAt}
+use Rattle.node.specs.Words.{BooleanIs}
 use Rattle.window_words.specs.Windowed.{Places, nowhere, places_of, required_places, optional_places, optional_bound, Windowed, AllWindowed}
 use Rattle.window_words.proofs.Laws.{kind_of, windowed-ok, windowed-long, windowed-kind, windowed-forget, all-less, all-forget}
-use Rattle.window_score.specs.declared.Joined.{Joined}
-use Rattle.window_score.specs.Words.{JoinedIs}
+use Rattle.node.specs.declared.Boolean.{Boolean}
 use Rattle.window_score.specs.Sums.{ConstantPre, ConstantPost}
-use Rattle.window_score.specs.Asked.{WindowLent, NodeAsked, ScoresPre, ScoresPost, BooleanAsked, BooleanLeft, BooleanPre, BooleanPost, RootPre, RootPost, RootPartsPre, RootPartsPost}
+use Rattle.window_score.specs.Asked.{Joins, NodeAsked, ScoresPre, ScoresPost, BooleanAsked, BooleanLeft, BooleanPre, BooleanPost, RootPre, RootPost, RootPartsPre, RootPartsPost}
 use Rattle.window_score.proofs.Loops.{put, sums-more}
 use Rattle.window_score.proofs.Groups.{added-as}
 use Rattle.window_score.proofs.Splits.{zero-sums}
@@ -78,10 +77,10 @@ weighted-at ix R (boolean none j need rs os ps) k o y b base D p h = ap (λ (w :
 weighted-at ix R (boolean (some c) j need rs os ps) k o y b base D p h = absurd (h (ap (λ (w : List ℕ). get_or w 11 0) p.4 ∙ p.7.kept.0))
 
 -- ---- a Boolean
-joins_at : (j : Joining) (rs : Scorers) (s : State) (a b : ℕ) → a ≡ s.afterwards → b ≡ s.group_at → JoiningIs j rs s → JoinsAt j rs a b
-unfolding JoiningIs JoinsAt
-joins_at (one_more n) rs s a b e f p = (e ∙ p.0, f ∙ p.1)
-joins_at afterwards rs s a b e f p = e ∙ p
+joins_at : (j : Joining) (rs : Scorers) (s : State) (a : Bool) (b : ℕ) → a ≡ eqb s.afterwards 1 → b ≡ s.group_at → JoiningIs j rs s → Joins j rs a b
+unfolding JoiningIs Joins
+joins_at (one_more n) rs s a b e f p = (e ∙ ap (λ (x : ℕ). eqb x 1) p.0, f ∙ p.1)
+joins_at afterwards rs s a b e f p = e ∙ ap (λ (x : ℕ). eqb x 1) p
 
 both-true : (a b : Bool) → a ≡ true → b ≡ true → a && b ≡ true
 both-true a b e h = rw (e, h)
@@ -90,7 +89,7 @@ bound-same : (t : Bool) (b : ℕ) → b ≡ cond t b b
 bound-same true b = refl
 bound-same false b = refl
 
-module _ (ix : Index) (ranges : List ℕ) (table : List Float) (places k o : ℕ) (st : List ℕ) (base want q : ℕ) (n : Joined) (N : JoinedIs st n) where
+module _ (ix : Index) (ranges : List ℕ) (table : List Float) (places k o : ℕ) (st : List ℕ) (base want q : ℕ) (n : Boolean) (N : BooleanIs st n) where
   abbrev kids : List ℕ
   kids = take (length st - node_state_words) (drop node_state_words st)
 
@@ -133,9 +132,9 @@ module _ (ix : Index) (ranges : List ℕ) (table : List Float) (places k o : ℕ
           optional-scorables = record { sound = A.scorable.sound.1; tables = A.scorable.tables.1; few = omega (arith, A.few) };
           few = omega (arith, A.few);
           match = λ i m t. (and_parts (all_match ix rs (base + i)) (not (any_matches ix ps (base + i))) (and_parts (all_match ix rs (base + i) && not (any_matches ix ps (base + i))) (leb need (matching ix os (base + i))) (A.match i m t)).0).0;
-          required-end = N.required-is ∙ ap (λ (l : List ℕ). get_or l 4 0) p.4 ∙ p.7.required-end;
-          optional-end = N.optional-is ∙ ap (λ (l : List ℕ). get_or l 5 0) p.4 ∙ p.7.optional-end;
-          joins = joins_at j rs p.0 n.afterwards n.group_at (N.afterwards-is ∙ ap (λ (l : List ℕ). get_or l 13 0) p.4) (N.group-at-is ∙ ap (λ (l : List ℕ). get_or l 14 0) p.4) p.7.joining;
+          required-end = N.required-end ∙ ap (λ (l : List ℕ). get_or l 4 0) p.4 ∙ p.7.required-end;
+          optional-end = N.optional-end ∙ ap (λ (l : List ℕ). get_or l 5 0) p.4 ∙ p.7.optional-end;
+          joins = joins_at j rs p.0 n.afterwards n.group_at (N.afterwards-is ∙ ap (λ (l : List ℕ). eqb (get_or l 13 0) 1) p.4) (N.group_at ∙ ap (λ (l : List ℕ). get_or l 14 0) p.4) p.7.joining;
           x = p.1;
           v = p.2;
           is = same;
@@ -163,77 +162,68 @@ module _ (ix : Index) (ranges : List ℕ) (table : List Float) (places k o : ℕ
       }
 
 -- ---- the calls
-module _ (st postings positions norms ranges : List ℕ) (table : List Float) (a b base want : ℕ) (sums : List Float) (depth : ℕ) where
-  abbrev pub Asks : Type 0
-  Asks = ScoresPre st postings positions norms ranges table a b base want sums depth
-
-  abbrev Gives : List ℕ → List Float → Type 0
-  Gives st' sums' = ScoresPost st postings positions norms ranges table a b base want sums depth st' sums'
-
-  pub node-long : Asks → node_state_words ≤ length st
+module _ {st postings positions norms ranges : List ℕ} {table : List Float} {a b base want : ℕ} {sums : List Float} {depth : ℕ} where
+  pub node-long : ScoresPre st postings positions norms ranges table a b base want sums depth → node_state_words ≤ length st
   node-long w = windowed-long w.1 ranges w.3 depth w.4 st (base + 64) base (places_of want) w.7.held
 
-  kind : (w : Asks) → get_or st 0 0 ≡ kind_of w.3
+  kind : (w : ScoresPre st postings positions norms ranges table a b base want sums depth) → get_or st 0 0 ≡ kind_of w.3
   kind w = windowed-kind w.1 ranges w.3 depth w.4 st (base + 64) base (places_of want) w.7.held
 
   -- the same score for each document, and the words as they were
-  module _ (score : Float) (each : (w : Asks) → ((d : ℕ) → score ≡ scorer_score w.1 w.3 d) × AtMost (nodes w.3 * 2 ^ 29) score) where
-    each-ask : Asks → ConstantPre score sums
+  module _ (score : Float) (each : (w : ScoresPre st postings positions norms ranges table a b base want sums depth) → ((d : ℕ) → score ≡ scorer_score w.1 w.3 d) × AtMost (nodes w.3 * 2 ^ 29) score) where
+    each-ask : ScoresPre st postings positions norms ranges table a b base want sums depth → ConstantPre score sums
     each-ask w = (w.5, nodes w.3, (w.7.few, w.8), (each w).1)
 
-    each-done : (sums' : List Float) → ConstantPost score want sums sums' → Gives st sums'
+    each-done : (sums' : List Float) → ConstantPost score want sums sums' → ScoresPost st postings positions norms ranges table a b base want sums depth st sums'
     each-done sums' add n ix places S sc q L A s =
-        let w : Asks = (n, ix, places, S, sc, q, L, A, s) in
+        let w : ScoresPre st postings positions norms ranges table a b base want sums depth = (n, ix, places, S, sc, q, L, A, s) in
         let z = add q (nodes S) (A.few, s) (each w).1 in
         (added-as (λ p. score) (λ p. scorer_score ix S (base + p)) want sums sums' (λ p l e. (each w).0 (base + p)) z.0, z.1, windowed-forget ix ranges S depth sc st (base + 64) base (places_of want) (base + 64) (le_refl _) (omega arith) A.held)
 
   module _ (is : get_or st 11 0 ≡ 1) where
-    same : (w : Asks) → Same w.1 w.3 (get_or st 12 0)
+    same : (w : ScoresPre st postings positions norms ranges table a b base want sums depth) → Same w.1 w.3 (get_or st 12 0)
     same w = same-at w.1 ranges w.3 depth w.4 st (base + 64) base (places_of want) w.7.held is
 
-    pub constant-number : Asks → T (not (nan_bits binary32 (get_or st 12 0)))
+    pub constant-number : ScoresPre st postings positions norms ranges table a b base want sums depth → T (not (nan_bits binary32 (get_or st 12 0)))
     constant-number w = (same w).number
 
-    pub constant-ask : Asks → ConstantPre (of_bits binary32 (get_or st 12 0)) sums
+    pub constant-ask : ScoresPre st postings positions norms ranges table a b base want sums depth → ConstantPre (of_bits binary32 (get_or st 12 0)) sums
     constant-ask = each-ask (of_bits binary32 (get_or st 12 0)) (λ w. ((same w).is, (same w).small))
 
-    pub constant-done : (sums' : List Float) → ConstantPost (of_bits binary32 (get_or st 12 0)) want sums sums' → Gives st sums'
+    pub constant-done : (sums' : List Float) → ConstantPost (of_bits binary32 (get_or st 12 0)) want sums sums' → ScoresPost st postings positions norms ranges table a b base want sums depth st sums'
     constant-done = each-done (of_bits binary32 (get_or st 12 0)) (λ w. ((same w).is, (same w).small))
 
   module _ (other : get_or st 11 0 ≡ 1 → ⊥) where
-    pub phrase-weighted : Asks → get_or st 11 0 ≡ 0
+    pub phrase-weighted : ScoresPre st postings positions norms ranges table a b base want sums depth → get_or st 11 0 ≡ 0
     phrase-weighted w = weighted-at w.1 ranges w.3 depth w.4 st (base + 64) base (places_of want) w.7.held other
 
     -- neither a term, a phrase nor a Boolean
     module _ (no-term : get_or st 0 0 ≡ 1 → ⊥) (no-phrase : get_or st 0 0 ≡ 2 → ⊥) (no-boolean : get_or st 0 0 ≡ 3 → ⊥) where
-      zeroed : (w : Asks) → ((d : ℕ) → of_bits binary32 0 ≡ scorer_score w.1 w.3 d) × AtMost (nodes w.3 * 2 ^ 29) (of_bits binary32 0)
+      zeroed : (w : ScoresPre st postings positions norms ranges table a b base want sums depth) → ((d : ℕ) → of_bits binary32 0 ≡ scorer_score w.1 w.3 d) × AtMost (nodes w.3 * 2 ^ 29) (of_bits binary32 0)
       zeroed w =
           let z = zero-at w.1 ranges w.3 depth w.4 st (base + 64) base (places_of want) w.7.held other (λ e. no-term (kind w ∙ e)) (λ e. no-phrase (kind w ∙ e)) (λ e. no-boolean (kind w ∙ e)) in
           ((λ d. zero-32 ∙ z.0 d), subst (λ (x : Float). AtMost (nodes w.3 * 2 ^ 29) x) (sym zero-32) (zero-atmost _))
 
-      pub zero-ask : Asks → ConstantPre (of_bits binary32 0) sums
+      pub zero-ask : ScoresPre st postings positions norms ranges table a b base want sums depth → ConstantPre (of_bits binary32 0) sums
       zero-ask = each-ask (of_bits binary32 0) zeroed
 
-      pub zero-done : (sums' : List Float) → ConstantPost (of_bits binary32 0) want sums sums' → Gives st sums'
+      pub zero-done : (sums' : List Float) → ConstantPost (of_bits binary32 0) want sums sums' → ScoresPost st postings positions norms ranges table a b base want sums depth st sums'
       zero-done = each-done (of_bits binary32 0) zeroed
 
     -- a Boolean
-    module _ (is-boolean : get_or st 0 0 ≡ 3) (n : Joined) (N : JoinedIs st n) where
-      here : (w : Asks) → BooleanAt w.1 ranges table w.2 depth w.4 st base want w.5 n N w.3
+    module _ (is-boolean : get_or st 0 0 ≡ 3) (n : Boolean) (N : BooleanIs st n) where
+      here : (w : ScoresPre st postings positions norms ranges table a b base want sums depth) → BooleanAt w.1 ranges table w.2 depth w.4 st base want w.5 n N w.3
       here w = boolean-at w.1 ranges table w.2 depth w.4 st base want w.5 n N w.3 w.7 (sym (kind w) ∙ is-boolean) other
 
-      pub boolean-deep : Asks → 0 < depth
+      pub boolean-deep : ScoresPre st postings positions norms ranges table a b base want sums depth → 0 < depth
       boolean-deep w = (here w).deep
 
-      abbrev parts : List ℕ
-      parts = take (length st - node_state_words) (drop node_state_words st)
-
-      pub boolean-ask : Asks → BooleanPre parts n postings positions norms ranges table a b base want sums (depth - 1)
+      pub boolean-ask : ScoresPre st postings positions norms ranges table a b base want sums depth → BooleanPre (take (length st - node_state_words) (drop node_state_words st)) n postings positions norms ranges table a b base want sums (depth - 1)
       boolean-ask w = let B = here w in (w.0, w.1, w.2, B.j, B.rs, B.os, B.rest, w.5, w.6, B.asked, w.8)
 
-      pub boolean-done : (kids' : List ℕ) (sums' : List Float) → BooleanPost parts n postings positions norms ranges table a b base want sums (depth - 1) kids' sums' → Gives (put st node_state_words (length st) kids') sums'
+      pub boolean-done : (kids' : List ℕ) (sums' : List Float) → BooleanPost (take (length st - node_state_words) (drop node_state_words st)) n postings positions norms ranges table a b base want sums (depth - 1) kids' sums' → ScoresPost st postings positions norms ranges table a b base want sums depth (put st node_state_words (length st) kids') sums'
       boolean-done kids' sums' post m ix places S sc q L A s =
-          let w : Asks = (m, ix, places, S, sc, q, L, A, s) in
+          let w : ScoresPre st postings positions norms ranges table a b base want sums depth = (m, ix, places, S, sc, q, L, A, s) in
           let B = here w in
           let z = post m ix places B.j B.rs B.os B.rest q L B.asked s in (
             added-as (λ p. joined_score B.j (required_scores ix B.rs (base + p)) (narrowed_sum (optional_scores ix B.os (base + p)))) (λ p. scorer_score ix S (base + p)) want sums sums' (λ p l e. B.score (base + p)) z.0,
@@ -242,38 +232,29 @@ module _ (st postings positions norms ranges : List ℕ) (table : List Float) (a
           )
 
 -- ---- a root, whose sums were 0
-module _ (st postings positions norms ranges : List ℕ) (table : List Float) (a b base want : ℕ) (sums : List Float) (depth : ℕ) where
-  abbrev pub RootAsks : Type 0
-  RootAsks = RootPre st postings positions norms ranges table a b base want sums depth
+root-here : (ix : Index) (ranges : List ℕ) (table : List Float) (places k o : ℕ) (st : List ℕ) (base want : ℕ) (n : Boolean) (N : BooleanIs st n) (S : Scorer) → (get_or st 11 0 ≡ 1 → ⊥) → get_or st 0 0 ≡ 3 → NodeAsked ix ranges table places S k o st base want 0 → BooleanAt ix ranges table places k o st base want 0 n N S
+root-here ix ranges table places k o st base want n N S other is-boolean A =
+    boolean-at ix ranges table places k o st base want 0 n N S A (sym (windowed-kind ix ranges S k o st (base + 64) base (places_of want) A.held) ∙ is-boolean) other
 
-  abbrev RootGives : List ℕ → List Float → Type 0
-  RootGives st' sums' = RootPost st postings positions norms ranges table a b base want sums depth st' sums'
-
-  pub root-as : RootAsks → ScoresPre st postings positions norms ranges table a b base want sums depth
+module _ {st postings positions norms ranges : List ℕ} {table : List Float} {a b base want : ℕ} {sums : List Float} {depth : ℕ} where
+  pub root-as : RootPre st postings positions norms ranges table a b base want sums depth → ScoresPre st postings positions norms ranges table a b base want sums depth
   root-as w = let r = w.1 in (r.0, r.1, r.2, r.3, r.4, 0, r.5, r.6, zero-sums sums w.0)
 
-  pub root-done : RootAsks → (st' : List ℕ) (sums' : List Float) → ScoresPost st postings positions norms ranges table a b base want sums depth st' sums' → RootGives st' sums'
+  pub root-done : RootPre st postings positions norms ranges table a b base want sums depth → (st' : List ℕ) (sums' : List Float) → ScoresPost st postings positions norms ranges table a b base want sums depth st' sums' → RootPost st postings positions norms ranges table a b base want sums depth st' sums'
   root-done w st' sums' post n ix places S sc L A =
       let z = post n ix places S sc 0 L A (zero-sums sums w.0) in
       let W = ok-weighted ix ranges S depth sc st (base + 64) (windowed-ok ix ranges S depth sc st (base + 64) base (places_of want) (omega arith) A.held) in
       (record { long = z.1.long; wanted = λ p l e. sum-narrowed ix L.lends.accepted places S W A.scorable.sound A.scorable.few (base + p) (get_or sums p nan) (w.0.zero p l) (get_or sums' p nan) (z.0.wanted p l e); others = z.0.others }, z.2)
 
-  module _ (other : get_or st 11 0 ≡ 1 → ⊥) (is-boolean : get_or st 0 0 ≡ 3) (n : Joined) (N : JoinedIs st n) where
-    abbrev root-parts : List ℕ
-    root-parts = take (length st - node_state_words) (drop node_state_words st)
+  module _ (other : get_or st 11 0 ≡ 1 → ⊥) (is-boolean : get_or st 0 0 ≡ 3) (n : Boolean) (N : BooleanIs st n) where
+    pub root-deep : RootPre st postings positions norms ranges table a b base want sums depth → 0 < depth
+    root-deep w = let r = w.1 in (root-here r.1 ranges table r.2 depth r.4 st base want n N r.3 other is-boolean r.6).deep
 
-    root-here : (m : ℕ) (ix : Index) (places : ℕ) (S : Scorer) (sc : ℕ) → WindowLent ix m postings positions norms places a b base want → NodeAsked ix ranges table places S depth sc st base want 0 → BooleanAt ix ranges table places depth sc st base want 0 n N S
-    root-here m ix places S sc L A =
-        boolean-at ix ranges table places depth sc st base want 0 n N S A (sym (windowed-kind ix ranges S depth sc st (base + 64) base (places_of want) A.held) ∙ is-boolean) other
+    pub root-ask : RootPre st postings positions norms ranges table a b base want sums depth → RootPartsPre (take (length st - node_state_words) (drop node_state_words st)) n postings positions norms ranges table a b base want sums (depth - 1)
+    root-ask w = let r = w.1 in let B = root-here r.1 ranges table r.2 depth r.4 st base want n N r.3 other is-boolean r.6 in (w.0, (r.0, r.1, r.2, B.j, B.rs, B.os, B.rest, r.5, B.asked))
 
-    pub root-deep : RootAsks → 0 < depth
-    root-deep w = let r = w.1 in (root-here r.0 r.1 r.2 r.3 r.4 r.5 r.6).deep
-
-    pub root-ask : RootAsks → RootPartsPre root-parts n postings positions norms ranges table a b base want sums (depth - 1)
-    root-ask w = let r = w.1 in let B = root-here r.0 r.1 r.2 r.3 r.4 r.5 r.6 in (w.0, (r.0, r.1, r.2, B.j, B.rs, B.os, B.rest, r.5, B.asked))
-
-    pub root-part : (kids' : List ℕ) (sums' : List Float) → RootPartsPost root-parts n postings positions norms ranges table a b base want sums (depth - 1) kids' sums' → RootGives (put st node_state_words (length st) kids') sums'
+    pub root-part : (kids' : List ℕ) (sums' : List Float) → RootPartsPost (take (length st - node_state_words) (drop node_state_words st)) n postings positions norms ranges table a b base want sums (depth - 1) kids' sums' → RootPost st postings positions norms ranges table a b base want sums depth (put st node_state_words (length st) kids') sums'
     root-part kids' sums' post m ix places S sc L A =
-        let B = root-here m ix places S sc L A in
+        let B = root-here ix ranges table places depth sc st base want n N S other is-boolean A in
         let z = post m ix places B.j B.rs B.os B.rest L B.asked in
-        (record { long = z.0.long; wanted = λ p l e. z.0.wanted p l e ∙ B.score (base + p); others = z.0.others }, B.done kids' z.1)
+        (record { long = z.0.long; wanted = λ p l e. z.0.wanted p l e ∙ B.score (base + p); others = z.0.others }, B.done kids' z.2)

@@ -1,20 +1,20 @@
 -- What the scores of a window ask and give, of a node and of the parts of some children. Assumes nothing: these are definitions.
-use Rattle.std.specs.Prelude.{◌≡◌, true, ◌&&◌, List, ◌++◌, ℕ, ◌+◌, ◌≤◌, ◌<◌, ltb, get_or, Float}
+use Rattle.std.specs.Prelude.{◌≡◌, Bool, true, false, ◌&&◌, List, ◌++◌, ℕ, ◌+◌, ◌≤◌, ◌<◌, ltb, get_or, Float}
 use Rattle.std.specs.Float.{nan}
 use Rattle.meaning.specs.Limits.{no_more_docs}
 use Rattle.meaning.specs.Lent.{Index}
 use Rattle.meaning.specs.Ieee754.{zero_float, sum_from, narrowed_sum}
 use Rattle.bits.specs.Bit.{bit}
-use Rattle.weight.specs.ScorerTree.{Scorer, Scorers, Joining, matches, all_match, scorer_score, scoring, required_scores, optional_scores, joined_score}
-use Rattle.weight.specs.State.{sizes_of}
+use Rattle.weight.specs.ScorerTree.{Scorer, Scorers, Joining, one_more, afterwards, matches, all_match, scorer_score, scoring, required_scores, optional_scores, joined_score}
+use Rattle.weight.specs.State.{sizes_of, sizes_of_first}
 use Rattle.weight.specs.Sound.{Lends, nodes, nodes_of}
 use Rattle.leaf_scorer.specs.Calls.{RoomIn}
 use Rattle.leaf_score.specs.Asked.{Scorable}
-use Rattle.score.specs.Asked.{Scorables, JoinsAt}
+use Rattle.node.specs.declared.Boolean.{Boolean}
+use Rattle.score.specs.Asked.{Scorables}
 use Rattle.window_words.specs.Windowed.{nowhere, places_of, optional_bound, Windowed, AllWindowed}
 use Rattle.window_leaf.specs.Asks.{Wanted}
 use Rattle.window_score.specs.Sums.{Sums, Zeros, NarrowedIs, Added, AddedAll}
-use Rattle.window_score.specs.declared.Joined.{Joined}
 
 -- an accepted index whose N, postings, positions and norms are those that are lent, with room for its phrases, and the wanted documents of a window of it
 pub record WindowLent (ix : Index) (n : ℕ) (postings positions norms : List ℕ) (places a b base want : ℕ) : Type 0 where
@@ -85,15 +85,20 @@ abbrev pub OptionalPost : List ℕ → ℕ → List ℕ → List ℕ → List �
 OptionalPost kids need postings positions norms ranges table a b base want sums depth kids' sums' =
     (n : ℕ) (ix : Index) (places : ℕ) (ss : Scorers) (q : ℕ) → WindowLent ix n postings positions norms places a b base want → OptionalAsked ix ranges table places ss need depth kids base want q → Sums q sums → AddedAll (λ p. optional_scores ix ss (base + p)) want sums sums' × Sums (q + nodes_of ss) sums' × AllWindowed ix ranges ss depth kids' (base + 64) (base + 64) nowhere
 
+-- ---- where the group joins, as a Boolean's record has it
+unfoldable pub Joins : Joining → Scorers → Bool → ℕ → Type 0
+Joins (one_more n) rs after at = (after ≡ false) × (at ≡ sizes_of_first n rs)
+Joins afterwards rs after at = after ≡ true
+
 -- ---- a Boolean's children: the required, the optional and the rest, and what is read of its record
-pub record BooleanAsked (ix : Index) (ranges : List ℕ) (table : List Float) (places : ℕ) (j : Joining) (rs os : Scorers) (n : Joined) (depth : ℕ) (rest kids : List ℕ) (base want q : ℕ) : Type 0 where
+pub record BooleanAsked (ix : Index) (ranges : List ℕ) (table : List Float) (places : ℕ) (j : Joining) (rs os : Scorers) (n : Boolean) (depth : ℕ) (rest kids : List ℕ) (base want q : ℕ) : Type 0 where
   pub required-scorables : Scorables ix table places 0 rs
   pub optional-scorables : Scorables ix table places 0 os
   pub few : q + (nodes_of rs + nodes_of os) ≤ 256
   pub match : (p : ℕ) → p < 64 → bit p want ≡ true → all_match ix rs (base + p) ≡ true
-  pub required-end : n.required ≡ sizes_of rs
-  pub optional-end : n.optional ≡ sizes_of rs + sizes_of os
-  pub joins : JoinsAt j rs n.afterwards n.group_at
+  pub required-end : n.required_end ≡ sizes_of rs
+  pub optional-end : n.optional_end ≡ sizes_of rs + sizes_of os
+  pub joins : Joins j rs n.afterwards n.group_at
   pub x : List ℕ
   pub v : List ℕ
   pub is : kids ≡ x ++ (v ++ rest)
@@ -107,29 +112,21 @@ pub record BooleanLeft (ix : Index) (ranges : List ℕ) (rs os : Scorers) (depth
   pub required : AllWindowed ix ranges rs depth x (base + 64) (base + 64) nowhere
   pub optional : AllWindowed ix ranges os depth v (base + 64) (base + 64) nowhere
 
-abbrev pub BooleanPre : List ℕ → Joined → List ℕ → List ℕ → List ℕ → List ℕ → List Float → ℕ → ℕ → ℕ → ℕ → List Float → ℕ → Type 0
+abbrev pub BooleanPre : List ℕ → Boolean → List ℕ → List ℕ → List ℕ → List ℕ → List Float → ℕ → ℕ → ℕ → ℕ → List Float → ℕ → Type 0
 BooleanPre kids node postings positions norms ranges table a b base want sums depth =
     (n : ℕ) × (ix : Index) × (places : ℕ) × (j : Joining) × (rs : Scorers) × (os : Scorers) × (rest : List ℕ) × (q : ℕ) × WindowLent ix n postings positions norms places a b base want × BooleanAsked ix ranges table places j rs os node depth rest kids base want q × Sums q sums
 
-abbrev pub BooleanPost : List ℕ → Joined → List ℕ → List ℕ → List ℕ → List ℕ → List Float → ℕ → ℕ → ℕ → ℕ → List Float → ℕ → List ℕ → List Float → Type 0
+abbrev pub BooleanPost : List ℕ → Boolean → List ℕ → List ℕ → List ℕ → List ℕ → List Float → ℕ → ℕ → ℕ → ℕ → List Float → ℕ → List ℕ → List Float → Type 0
 BooleanPost kids node postings positions norms ranges table a b base want sums depth kids' sums' =
     (n : ℕ) (ix : Index) (places : ℕ) (j : Joining) (rs os : Scorers) (rest : List ℕ) (q : ℕ) → WindowLent ix n postings positions norms places a b base want → BooleanAsked ix ranges table places j rs os node depth rest kids base want q → Sums q sums → Added (λ p. joined_score j (required_scores ix rs (base + p)) (narrowed_sum (optional_scores ix os (base + p)))) want sums sums' × Sums (q + (nodes_of rs + nodes_of os)) sums' × BooleanLeft ix ranges rs os depth rest kids' base
 
 -- the required parts, where the group's sums are known
-pub record GroupAsked (ix : Index) (ranges : List ℕ) (table : List Float) (places : ℕ) (j : Joining) (rs os : Scorers) (n : Joined) (depth : ℕ) (kids : List ℕ) (base want q : ℕ) (group : List Float) : Type 0 where
+pub record GroupAsked (ix : Index) (ranges : List ℕ) (table : List Float) (places : ℕ) (j : Joining) (rs os : Scorers) (n : Boolean) (depth : ℕ) (kids : List ℕ) (base want q : ℕ) (group : List Float) : Type 0 where
   pub required : RequiredAsked ix ranges table places rs depth kids base want 0
   pub few : q + (nodes_of rs + nodes_of os) ≤ 256
-  pub joins : JoinsAt j rs n.afterwards n.group_at
+  pub joins : Joins j rs n.afterwards n.group_at
   pub group-is : (p : ℕ) → p < 64 → bit p want ≡ true → get_or group p nan ≡ sum_from zero_float (optional_scores ix os (base + p))
   pub group-sums : Sums (nodes_of os) group
-
-abbrev pub GroupPre : List ℕ → Joined → List Float → List ℕ → List ℕ → List ℕ → List ℕ → List Float → ℕ → ℕ → ℕ → ℕ → List Float → ℕ → Type 0
-GroupPre kids node group postings positions norms ranges table a b base want sums depth =
-    (n : ℕ) × (ix : Index) × (places : ℕ) × (j : Joining) × (rs : Scorers) × (os : Scorers) × (q : ℕ) × WindowLent ix n postings positions norms places a b base want × GroupAsked ix ranges table places j rs os node depth kids base want q group × Sums q sums
-
-abbrev pub GroupPost : List ℕ → Joined → List Float → List ℕ → List ℕ → List ℕ → List ℕ → List Float → ℕ → ℕ → ℕ → ℕ → List Float → ℕ → List ℕ → List Float → Type 0
-GroupPost kids node group postings positions norms ranges table a b base want sums depth kids' sums' =
-    (n : ℕ) (ix : Index) (places : ℕ) (j : Joining) (rs os : Scorers) (q : ℕ) → WindowLent ix n postings positions norms places a b base want → GroupAsked ix ranges table places j rs os node depth kids base want q group → Sums q sums → Added (λ p. joined_score j (required_scores ix rs (base + p)) (narrowed_sum (optional_scores ix os (base + p)))) want sums sums' × Sums (q + (nodes_of rs + nodes_of os)) sums' × AllWindowed ix ranges rs depth kids' (base + 64) (base + 64) nowhere
 
 -- ---- a root, whose sums are 0 before: after it each, narrowed, is the score
 abbrev pub RootPre : List ℕ → List ℕ → List ℕ → List ℕ → List ℕ → List Float → ℕ → ℕ → ℕ → ℕ → List Float → ℕ → Type 0
@@ -140,20 +137,20 @@ abbrev pub RootPost : List ℕ → List ℕ → List ℕ → List ℕ → List �
 RootPost st postings positions norms ranges table a b base want sums depth st' sums' =
     (n : ℕ) (ix : Index) (places : ℕ) (T : Scorer) (scores : ℕ) → WindowLent ix n postings positions norms places a b base want → NodeAsked ix ranges table places T depth scores st base want 0 → NarrowedIs (λ p. scorer_score ix T (base + p)) want sums sums' × Windowed ix ranges T depth scores st' (base + 64) (base + 64) nowhere
 
--- its children
-abbrev pub RootPartsPre : List ℕ → Joined → List ℕ → List ℕ → List ℕ → List ℕ → List Float → ℕ → ℕ → ℕ → ℕ → List Float → ℕ → Type 0
+-- a Boolean's children, likewise
+abbrev pub RootPartsPre : List ℕ → Boolean → List ℕ → List ℕ → List ℕ → List ℕ → List Float → ℕ → ℕ → ℕ → ℕ → List Float → ℕ → Type 0
 RootPartsPre kids node postings positions norms ranges table a b base want sums depth =
     Zeros sums × ((n : ℕ) × (ix : Index) × (places : ℕ) × (j : Joining) × (rs : Scorers) × (os : Scorers) × (rest : List ℕ) × WindowLent ix n postings positions norms places a b base want × BooleanAsked ix ranges table places j rs os node depth rest kids base want 0)
 
-abbrev pub RootPartsPost : List ℕ → Joined → List ℕ → List ℕ → List ℕ → List ℕ → List Float → ℕ → ℕ → ℕ → ℕ → List Float → ℕ → List ℕ → List Float → Type 0
+abbrev pub RootPartsPost : List ℕ → Boolean → List ℕ → List ℕ → List ℕ → List ℕ → List Float → ℕ → ℕ → ℕ → ℕ → List Float → ℕ → List ℕ → List Float → Type 0
 RootPartsPost kids node postings positions norms ranges table a b base want sums depth kids' sums' =
-    (n : ℕ) (ix : Index) (places : ℕ) (j : Joining) (rs os : Scorers) (rest : List ℕ) → WindowLent ix n postings positions norms places a b base want → BooleanAsked ix ranges table places j rs os node depth rest kids base want 0 → NarrowedIs (λ p. joined_score j (required_scores ix rs (base + p)) (narrowed_sum (optional_scores ix os (base + p)))) want sums sums' × BooleanLeft ix ranges rs os depth rest kids' base
+    (n : ℕ) (ix : Index) (places : ℕ) (j : Joining) (rs os : Scorers) (rest : List ℕ) → WindowLent ix n postings positions norms places a b base want → BooleanAsked ix ranges table places j rs os node depth rest kids base want 0 → NarrowedIs (λ p. joined_score j (required_scores ix rs (base + p)) (narrowed_sum (optional_scores ix os (base + p)))) want sums sums' × Sums (nodes_of rs + nodes_of os) sums' × BooleanLeft ix ranges rs os depth rest kids' base
 
 -- the required ones, where the group's sums are known
-abbrev pub RootGroupPre : List ℕ → Joined → List Float → List ℕ → List ℕ → List ℕ → List ℕ → List Float → ℕ → ℕ → ℕ → ℕ → List Float → ℕ → Type 0
+abbrev pub RootGroupPre : List ℕ → Boolean → List Float → List ℕ → List ℕ → List ℕ → List ℕ → List Float → ℕ → ℕ → ℕ → ℕ → List Float → ℕ → Type 0
 RootGroupPre kids node group postings positions norms ranges table a b base want sums depth =
     Zeros sums × ((n : ℕ) × (ix : Index) × (places : ℕ) × (j : Joining) × (rs : Scorers) × (os : Scorers) × WindowLent ix n postings positions norms places a b base want × GroupAsked ix ranges table places j rs os node depth kids base want 0 group)
 
-abbrev pub RootGroupPost : List ℕ → Joined → List Float → List ℕ → List ℕ → List ℕ → List ℕ → List Float → ℕ → ℕ → ℕ → ℕ → List Float → ℕ → List ℕ → List Float → Type 0
+abbrev pub RootGroupPost : List ℕ → Boolean → List Float → List ℕ → List ℕ → List ℕ → List ℕ → List Float → ℕ → ℕ → ℕ → ℕ → List Float → ℕ → List ℕ → List Float → Type 0
 RootGroupPost kids node group postings positions norms ranges table a b base want sums depth kids' sums' =
-    (n : ℕ) (ix : Index) (places : ℕ) (j : Joining) (rs os : Scorers) → WindowLent ix n postings positions norms places a b base want → GroupAsked ix ranges table places j rs os node depth kids base want 0 group → NarrowedIs (λ p. joined_score j (required_scores ix rs (base + p)) (narrowed_sum (optional_scores ix os (base + p)))) want sums sums' × AllWindowed ix ranges rs depth kids' (base + 64) (base + 64) nowhere
+    (n : ℕ) (ix : Index) (places : ℕ) (j : Joining) (rs os : Scorers) → WindowLent ix n postings positions norms places a b base want → GroupAsked ix ranges table places j rs os node depth kids base want 0 group → NarrowedIs (λ p. joined_score j (required_scores ix rs (base + p)) (narrowed_sum (optional_scores ix os (base + p)))) want sums sums' × Sums (nodes_of rs + nodes_of os) sums' × AllWindowed ix ranges rs depth kids' (base + 64) (base + 64) nowhere

@@ -1,7 +1,7 @@
 -- The sums of a window's 64 documents. Assumes nothing: these are definitions.
-use Rattle.std.specs.Prelude.{◌≡◌, true, false, List, ℕ, ◌+◌, ◌*◌, ◌^◌, ◌≤◌, ◌<◌, length, get_or, Float}
+use Rattle.std.specs.Prelude.{◌≡◌, true, false, not, T, List, ℕ, ◌+◌, ◌*◌, ◌^◌, ◌≤◌, ◌<◌, length, get_or, Float}
 use Rattle.std.specs.Float.{nan, binary64}
-use Rattle.std.specs.Float.Ieee.{add}
+use Rattle.std.specs.Float.Ieee.{is_nan, add}
 use Rattle.meaning.specs.Ieee754.{zero_float, sum_from, narrow}
 use Rattle.ieee754.specs.Nonneg.{AtMost}
 use Rattle.bits.specs.Bit.{bit}
@@ -26,6 +26,23 @@ pub record NarrowedIs (score : ℕ → Float) (want : ℕ) (sums sums' : List Fl
 pub record At (f : ℕ → Float → Float) (want : ℕ) (sums sums' : List Float) : Type 0 where
   pub wanted : (p : ℕ) → p < 64 → bit p want ≡ true → get_or sums' p nan ≡ f p (get_or sums p nan)
   pub others : (p : ℕ) → p < 64 → bit p want ≡ false → get_or sums' p nan ≡ get_or sums p nan
+
+-- a function of a sum and its place, by what it asks: it may be called at each wanted place
+abbrev pub ChangePre : (Float → ℕ → Type 0) → ℕ → List Float → Type 0
+ChangePre pre want sums = (length sums ≡ 64) × ((p : ℕ) → p < 64 → bit p want ≡ true → pre (get_or sums p nan) p)
+
+-- .. and by what it answers: that is the sum at each wanted place, and the others stay
+pub record Changed (post : Float → ℕ → Float → Type 0) (want : ℕ) (sums sums' : List Float) : Type 0 where
+  pub long : length sums' ≡ 64
+  pub wanted : (p : ℕ) → p < 64 → bit p want ≡ true → post (get_or sums p nan) p (get_or sums' p nan)
+  pub others : (p : ℕ) → p < 64 → bit p want ≡ false → get_or sums' p nan ≡ get_or sums p nan
+
+-- two sums, each narrowed to a number, added
+abbrev pub BothPre : Float → Float → Type 0
+BothPre required group = T (not (is_nan (narrow required))) × T (not (is_nan (narrow group)))
+
+abbrev pub both_of : Float → Float → Float
+both_of required group = add binary64 (narrow required) (narrow group)
 
 -- one more score added
 abbrev pub Added : (ℕ → Float) → ℕ → List Float → List Float → Type 0
@@ -53,17 +70,9 @@ NarrowedPre from sums = (q : ℕ) × (r : ℕ) × RoomFor q r sums × Sums r fro
 abbrev pub NarrowedPost : List Float → ℕ → List Float → List Float → Type 0
 NarrowedPost from want sums sums' = (q r : ℕ) → RoomFor q r sums → Sums r from → Added (λ p. narrow (get_or from p nan)) want sums sums' × Sums (q + r) sums'
 
--- two sums are narrowed, added, narrowed again and added
-abbrev pub JoinedPre : List Float → List Float → List Float → Type 0
-JoinedPre own group sums = (q : ℕ) × (r : ℕ) × (t : ℕ) × RoomFor q (r + t) sums × Sums r own × Sums t group
-
-abbrev pub JoinedPost : List Float → List Float → ℕ → List Float → List Float → Type 0
-JoinedPost own group want sums sums' =
-    (q r t : ℕ) → RoomFor q (r + t) sums → Sums r own → Sums t group → Added (λ p. narrow (add binary64 (narrow (get_or own p nan)) (narrow (get_or group p nan)))) want sums sums' × Sums (q + (r + t)) sums'
-
 -- each sum is narrowed, and another, narrowed, is added to it
 abbrev pub AfterPre : List Float → List Float → Type 0
 AfterPre group sums = (r : ℕ) × (t : ℕ) × RoomFor r t sums × Sums t group
 
 abbrev pub AfterPost : List Float → ℕ → List Float → List Float → Type 0
-AfterPost group want sums sums' = At (λ p x. add binary64 (narrow x) (narrow (get_or group p nan))) want sums sums' × (length sums' ≡ 64)
+AfterPost group want sums sums' = At (λ p x. add binary64 (narrow x) (narrow (get_or group p nan))) want sums sums' × (length sums' ≡ 64) × ((r t : ℕ) → RoomFor r t sums → Sums t group → Sums (r + t) sums')

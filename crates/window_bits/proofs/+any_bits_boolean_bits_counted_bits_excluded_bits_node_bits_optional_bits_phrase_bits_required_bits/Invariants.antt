@@ -5,7 +5,7 @@ use Rattle.weight.specs.ScorerTree.{Scorers}
 use Rattle.leaf_scorer.specs.Calls.{lent}
 use Rattle.window_words.specs.Windowed.{nowhere, places_of, AllWindowed}
 use Rattle.window_leaf.specs.Asks.{Wanted}
-use Rattle.window_bits.specs.Parts.{asked_before, SomeWindowed, PartsKnown}
+use Rattle.window_bits.specs.Parts.{asked_before, phrases_only, SomeWindowed, PartsKnown}
 use Rattle.window_bits.proofs.Passes.{PassAt}
 use Rattle.window_bits.proofs.Optionals.{AnyAt, CountAt}
 use Rattle.window_bits.proofs.Prohibited.{ExcludedAt}
@@ -71,7 +71,7 @@ abbrev pub decreases-excluded_bits-loop-at : goal.decreases-excluded_bits-loop-a
 decreases-excluded_bits-loop-at l = length l.initial.kids - l.at
 
 abbrev pub invariant-required_bits-loop-at : goal.invariant-required_bits-loop-at
-invariant-required_bits-loop-at l = PassKept l.reader.postings.now l.reader.positions.now l.reader.ranges.now (length l.fn.a) (length l.fn.b) l.fn.kids l.last l.base l.want l.depth l.kids l.w l.next l.at l.skipped
+invariant-required_bits-loop-at l = PassKept l.reader.postings.now l.reader.positions.now l.reader.ranges.now (length l.fn.a) (length l.fn.b) l.fn.kids (phrases_only l.asks) l.base l.want l.depth l.kids l.w l.next l.at l.skipped
 
 abbrev pub decreases-required_bits-loop-at : goal.decreases-required_bits-loop-at
 decreases-required_bits-loop-at l = length l.initial.kids - l.at

@@ -3,6 +3,8 @@ use Rattle.std.proofs.Common.{refl, ◌+◌, ◌≤◌, length, arith}
 use Rattle.meaning.specs.Limits.{node_state_words}
 use Rattle.weight.specs.ScorerTree.{matches}
 use Rattle.leaf_scorer.specs.Calls.{lent}
+use Rattle.node.specs.declared.NodeKind.TheVariants.{Term}
+use Rattle.node.proofs.Windows.{word-read}
 use Rattle.window_words.specs.Windowed.{nowhere}
 use Rattle.window_words.proofs.Laws.{windowed-long}
 use Rattle.window_leaf.proofs.Nodes.{wanted-answers, wanted-windowed}
@@ -17,10 +19,10 @@ bounds-st-0 c =
 pub term_bits-requires : goal.term_bits-requires
 term_bits-requires c =
     let q = c.requires.1 in
-    (c.requires.0, c.if-st-eq-TERM.true, (lent q.0 c.args.reader.now.postings.now c.args.reader.now.positions.now c.args.reader.now.ranges.now, refl, q.1, q.2, q.3, c.args.depth, q.4, q.7))
+    (c.requires.0, word-read _ Term c.in-Term.ensures refl, (lent q.0 c.args.reader.now.postings.now c.args.reader.now.positions.now c.args.reader.now.ranges.now, refl, q.1, q.2, q.3, c.args.depth, q.4, q.7))
 
-pub returns-then-st-eq-TERM : goal.returns-then-st-eq-TERM
-returns-then-st-eq-TERM c = λ n all ix places s o h.
+pub returns-in-Term : goal.returns-in-Term
+returns-in-Term c = λ n all ix places s o h.
     let E = lent n c.args.reader.now.postings.now c.args.reader.now.positions.now c.args.reader.now.ranges.now in
     let a = c.term_bits.ensures E c.args.depth refl ix places s o h in (
       wanted-answers (matches ix s) c.args.base c.args.want c.term_bits.result _ c.both.result a.0 c.both.ensures,

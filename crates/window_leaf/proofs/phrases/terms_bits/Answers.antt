@@ -28,7 +28,7 @@ loop-at-preserved c =
     let l = c.loop-at in
     let g = c.run_bits in (
       back-length l.terms g.new.st l.at (l.at + node_state_words) g.auto.st ∙ l.invariant.0,
-      λ ix ts h. asking-took (l.invariant.1 ix ts h) c.loop-at-test.true (l.at + node_state_words) refl (omega (arith, c.well_formed)) g.result c.both-w.result c.later-next.result g.new.st g.ensures c.both-w.ensures c.later-next.ensures,
+      λ ix ts h. asking-took (l.invariant.1 ix ts h) c.loop-at-test.true (l.at + node_state_words) refl (omega (arith, c.well_formed)) g.result c.both-w.result c.max-next.result g.new.st g.ensures c.both-w.ensures c.max-next.ensures,
     )
 
 pub returns : goal.returns
