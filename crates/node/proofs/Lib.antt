@@ -1,2 +1,3 @@
 -- Laws of the kinds of a node's words.
 pub mod KindLaws
+pub mod Scorers
