@@ -24,7 +24,7 @@ use Rattle.scorer.specs.Calls.{Lent}
 use Rattle.leaf_score.specs.declared.Node.{Node}
 use Rattle.leaf_score.specs.Words.{NodeIs}
 use Rattle.walk.specs.Walks.{live_match, live_scored, PageHeld}
-use Rattle.leaf_score.proofs.Leaves.{read}
+use Rattle.leaf_score.proofs.Leaves.{read, kind-read}
 use Rattle.leaf_score.proofs.Bounds.{zero-32}
 use Rattle.leaf_score.proofs.Weights.{float_back, float-number}
 use Rattle.bulk_term.specs.Postings.{NodeScores}
@@ -65,10 +65,10 @@ module _ (E : Lent) (norms live : List ℕ) where
     module _ (table : List Float) (places depth : ℕ) (st : List ℕ) (N : NodeIs st n) (k : get_or st 0 0 ≡ 5) where
       pub any-is : (ix : Index) (s : Scorer) (scores : ℕ) → PageHeld E norms live table ix places s depth scores st 0 → AnyIs ix s
       unfolding Ok LeafIs
-      any-is ix (leaf nothing sc) m H = let R = read st H.ok.1 H.ok.0 n H.ok.2 N in absurd (omega (arith, R.kind-is, N.kind-is, H.ok.4.0))
-      any-is ix (leaf (term l) sc) m H = let R = read st H.ok.1 H.ok.0 n H.ok.2 N in absurd (omega (arith, R.kind-is, N.kind-is, H.ok.4.0.kind-is))
-      any-is ix (leaf (phrase f ts) sc) m H = let R = read st H.ok.1 H.ok.0 n H.ok.2 N in absurd (omega (arith, R.kind-is, N.kind-is, H.ok.4.kind-is))
-      any-is ix (leaf (range r) sc) m H = let R = read st H.ok.1 H.ok.0 n H.ok.2 N in absurd (omega (arith, R.kind-is, N.kind-is, H.ok.4.0.kind-is))
+      any-is ix (leaf nothing sc) m H = absurd (omega (arith, kind-read st H.ok.1 H.ok.0 H.ok.2, H.ok.4.0))
+      any-is ix (leaf (term l) sc) m H = absurd (omega (arith, kind-read st H.ok.1 H.ok.0 H.ok.2, H.ok.4.0.kind-is))
+      any-is ix (leaf (phrase f ts) sc) m H = absurd (omega (arith, kind-read st H.ok.1 H.ok.0 H.ok.2, H.ok.4.kind-is))
+      any-is ix (leaf (range r) sc) m H = absurd (omega (arith, kind-read st H.ok.1 H.ok.0 H.ok.2, H.ok.4.0.kind-is))
       any-is ix (leaf everything sc) m H =
           let R = read st H.ok.1 H.ok.0 n H.ok.2 N in
           record {
@@ -79,7 +79,7 @@ module _ (E : Lent) (norms live : List ℕ) where
             live-are = H.live-are;
             scores = node-scores sc H.ok.0 n R.constant-is R.weight_is H.ok.5;
           }
-      any-is ix (boolean c j need rs os ps) m H = let p = H.ok in let R = read st (p.1 ++ (p.2 ++ p.3)) p.0 n p.4 N in absurd (omega (arith, R.kind-is, N.kind-is, p.7.kind-is))
+      any-is ix (boolean c j need rs os ps) m H = let p = H.ok in absurd (omega (arith, kind-read st (p.1 ++ (p.2 ++ p.3)) p.0 p.4, p.7.kind-is))
 
     -- what a call asks, and what is read of its words
     abbrev pub Asked : List ℕ → ℕ → TopScoreDocCollector → List ℤ → Type 0

@@ -2,12 +2,8 @@
 ghost use Rattle.std.specs.Prelude.{◌≡◌, true};
 ghost use Rattle.bulk.specs.Alone.{AloneWords};
 
+use node::{NodeKind, boolean_at};
 use weight::NODE_STATE_WORDS;
-
-const BOOLEAN: u32 = 3;
-
-// As many words as a record has, as word 5 has it.
-const ONE_RECORD: u32 = 32;
 
 // The child's scores word.
 const CHILD_SCORES: usize = NODE_STATE_WORDS + 15;
@@ -19,19 +15,20 @@ pub fn alone(st: &[u32]) -> bool
     if st.len() != 2 * NODE_STATE_WORDS {
         return false;
     }
-    if st[0] != BOOLEAN {
+    if NodeKind::from(st[0]) != NodeKind::Boolean {
         return false;
     }
     if st[11] != 0 {
         return false;
     }
-    if st[5] != ONE_RECORD {
+    let root = boolean_at(st);
+    if root.optional_end != NODE_STATE_WORDS {
         return false;
     }
-    if st[4] == 0 {
-        return st[3] == 1;
+    if root.required_end == 0 {
+        return root.need == 1;
     }
-    if st[3] != 0 {
+    if root.need != 0 {
         return false;
     }
     st[CHILD_SCORES] == 1

@@ -16,10 +16,10 @@ fn one_score(n: Node) -> f32
     requires { (sc : Scoring) × NodeScores sc n }
     ensures { (ix : Index) (sc : Scoring) (doc : ℕ) → NodeScores sc n → (result ≡ leaf_score ix everything sc doc) × AtMost (2 ^ 29) result }
 {
-    if n.constant == 1 {
-        return f32::from_bits(n.weight);
+    match n.constant_score() {
+        Some(score) => score,
+        None => 0.0,
     }
-    0.0
 }
 
 // The live documents to the collector, numbered on from a document base; the root's words stay as they are.
@@ -34,15 +34,11 @@ pub fn collect_everything(
     ensures { (table : List Float) (places depth : ℕ) → CollectPost (lent_of reader.now) reader.now.norms.now reader.now.live.now table places st.now depth doc_base c heap.old result heap.new }
 {
     let s = one_score(leaf_score::node_at(st));
-    let max_doc = reader.max_doc;
-    let live = reader.live;
     let mut c = c;
-    let mut doc = 0;
-    while doc < max_doc {
-        if index::live::is_live(live, doc) {
+    for doc in 0..reader.max_doc {
+        if index::live::is_live(reader.live, doc) {
             c = c.stepped(heap, doc_base + doc, s);
         }
-        doc += 1;
     }
     c
 }

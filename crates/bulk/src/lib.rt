@@ -7,15 +7,11 @@ ghost use Rattle.bulk_scorer.specs.Collects.{CollectPre, CollectPost, CollectEnd
 
 use collector::TopScoreDocCollector;
 use leaf_scorer::LeafReader;
+use node::NodeKind;
 use weight::NODE_STATE_WORDS;
 
 pub mod alone;
 pub mod everything;
-
-// The kinds of a root, or of the only child of one, that have a loop of their own.
-const TERM: u32 = 1;
-
-const EVERYTHING: u32 = 5;
 
 // The live documents that the tree matches to the collector, numbered on from a document base.
 pub fn collect_matches(
@@ -33,33 +29,25 @@ pub fn collect_matches(
     ensures collect_post { CollectPost (lent_of reader.now) reader.now.norms.now reader.now.live.now inverses.now (min (length a.old) (length b.old)) st.old depth doc_base c heap.old result heap.new }
     ensures collect_end { CollectEnd (lent_of reader.now) reader.now.norms.now reader.now.live.now inverses.now (min (length a.old) (length b.old)) st.old depth st.new }
 {
-    let kind = st[0];
-    if kind == TERM {
-        return bulk_term::collect_term(st, reader, inverses, doc_base, c, heap);
-    }
-    if kind == EVERYTHING {
-        return everything::collect_everything(st, reader, doc_base, c, heap);
+    match NodeKind::from(st[0]) {
+        NodeKind::Term => {
+            return bulk_term::collect_term(st, reader, inverses, doc_base, c, heap);
+        }
+        NodeKind::Everything => {
+            return everything::collect_everything(st, reader, doc_base, c, heap);
+        }
+        _ => {}
     }
     if alone::alone(st) {
-        let kind = st[NODE_STATE_WORDS];
-        if kind == TERM {
-            return bulk_term::collect_term(
-                &st[NODE_STATE_WORDS..],
-                reader,
-                inverses,
-                doc_base,
-                c,
-                heap,
-            );
-        }
-        if kind == EVERYTHING {
-            return everything::collect_everything(
-                &st[NODE_STATE_WORDS..],
-                reader,
-                doc_base,
-                c,
-                heap,
-            );
+        let child = &st[NODE_STATE_WORDS..];
+        match NodeKind::from(child[0]) {
+            NodeKind::Term => {
+                return bulk_term::collect_term(child, reader, inverses, doc_base, c, heap);
+            }
+            NodeKind::Everything => {
+                return everything::collect_everything(child, reader, doc_base, c, heap);
+            }
+            _ => {}
         }
     }
     bulk_window::collect_windows(st, reader, inverses, a, b, depth, doc_base, c, heap)

@@ -28,6 +28,7 @@ pub fn collect_matches(
 {
     let mut c = TopScoreDocCollector::new(t as u64);
     let mut from = 0;
+    // Kept: each turn begins where the answer of the one before lies; a loop is plainer than an iterator of such steps.
     loop {
         let next = next_match(st, reader, a, b, from, depth);
         if next == NO_MORE_DOCS {

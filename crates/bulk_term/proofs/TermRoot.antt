@@ -29,7 +29,7 @@ use Rattle.meaning.proofs.Tests.{cmp}
 use Rattle.leaf_score.specs.declared.Node.{Node}
 use Rattle.leaf_score.specs.Words.{NodeIs}
 use Rattle.walk.specs.Walks.{live_match, PageHeld}
-use Rattle.leaf_score.proofs.Leaves.{read}
+use Rattle.leaf_score.proofs.Leaves.{read, kind-read}
 use Rattle.bulk_scorer.specs.Collects.{RootHeld, CollectPre, CollectPost}
 use Rattle.bulk_term.specs.Postings.{NodeScores, PostingAsks}
 use Rattle.bulk_scorer.proofs.LiveMatches.{live_of, live-there, not-match, not_live, is-match}
@@ -62,7 +62,7 @@ module _ (E : Lent) (norms live : List ℕ) (table : List Float) (n : Node) wher
 
     pub term-root : (ix : Index) (s : Scorer) (scores : ℕ) → PageHeld E norms live table ix places s depth scores st 0 → RootIs ix s
     unfolding Ok LeafIs Sound LeafSound Tables
-    term-root ix (leaf nothing sc) m H = let R = read st H.ok.1 H.ok.0 n H.ok.2 N in absurd (omega (arith, R.kind-is, N.kind-is, H.ok.4.0))
+    term-root ix (leaf nothing sc) m H = absurd (omega (arith, kind-read st H.ok.1 H.ok.0 H.ok.2, H.ok.4.0))
     term-root ix (leaf (term l) sc) m H =
         let p = H.ok in
         let R = read st p.1 p.0 n p.2 N in
@@ -85,10 +85,10 @@ module _ (E : Lent) (norms live : List ℕ) (table : List Float) (n : Node) wher
             scores = node-scores sc p.0 n R.constant-is R.weight_is p.5;
           };
         }
-    term-root ix (leaf (phrase f ts) sc) m H = let R = read st H.ok.1 H.ok.0 n H.ok.2 N in absurd (omega (arith, R.kind-is, N.kind-is, H.ok.4.kind-is))
-    term-root ix (leaf (range r) sc) m H = let R = read st H.ok.1 H.ok.0 n H.ok.2 N in absurd (omega (arith, R.kind-is, N.kind-is, H.ok.4.0.kind-is))
-    term-root ix (leaf everything sc) m H = let R = read st H.ok.1 H.ok.0 n H.ok.2 N in absurd (omega (arith, R.kind-is, N.kind-is, H.ok.4.0))
-    term-root ix (boolean c j need rs os ps) m H = let p = H.ok in let R = read st (p.1 ++ (p.2 ++ p.3)) p.0 n p.4 N in absurd (omega (arith, R.kind-is, N.kind-is, p.7.kind-is))
+    term-root ix (leaf (phrase f ts) sc) m H = absurd (omega (arith, kind-read st H.ok.1 H.ok.0 H.ok.2, H.ok.4.kind-is))
+    term-root ix (leaf (range r) sc) m H = absurd (omega (arith, kind-read st H.ok.1 H.ok.0 H.ok.2, H.ok.4.0.kind-is))
+    term-root ix (leaf everything sc) m H = absurd (omega (arith, kind-read st H.ok.1 H.ok.0 H.ok.2, H.ok.4.0))
+    term-root ix (boolean c j need rs os ps) m H = let p = H.ok in absurd (omega (arith, kind-read st (p.1 ++ (p.2 ++ p.3)) p.0 p.4, p.7.kind-is))
 
   -- what a call asks, and what is read of its words
   abbrev pub Asked : List ℕ → ℕ → TopScoreDocCollector → List ℤ → Type 0
@@ -107,26 +107,20 @@ module _ (E : Lent) (norms live : List ℕ) (table : List Float) (n : Node) wher
 
   module _ (doc_base : ℕ) (c₀ : TopScoreDocCollector) (heap₀ : List ℤ) where
     -- the loop stands at posting i: those before it are passed
-    pub record TermAt (ix : Index) (l : ℕ) (sc : Scoring) (c : TopScoreDocCollector) (heap : List ℤ) (at : ℕ) : Type 0 where
-      pub i : ℕ
+    pub record TermAt (ix : Index) (l : ℕ) (sc : Scoring) (c : TopScoreDocCollector) (heap : List ℤ) (i : ℕ) : Type 0 where
       pub from : ℕ
-      pub at-is : at ≡ 3 * (n.first + i)
-      pub within : i ≤ n.number
       pub few : from ≤ ix.max_doc
       pub passed : (j : ℕ) → j < i → leaf_document ix l j < from
       pub ahead : i < n.number → from ≤ leaf_document ix l i
       pub sofar : Sofar ix (leaf (term l) sc) doc_base c₀ heap₀ c heap from
 
     abbrev pub TermsAt : TopScoreDocCollector → List ℤ → ℕ → Type 0
-    TermsAt c heap at = (ix : Index) (l : ℕ) (sc : Scoring) → TermRoot ix l sc → TermAt ix l sc c heap at
+    TermsAt c heap i = (ix : Index) (l : ℕ) (sc : Scoring) → TermRoot ix l sc → TermAt ix l sc c heap i
 
-    pub term-start : (at : ℕ) → at ≡ 3 * n.first → TermsAt c₀ heap₀ at
-    term-start at e ix l sc R =
+    pub term-start : TermsAt c₀ heap₀ 0
+    term-start ix l sc R =
         record {
-          i = 0;
           from = 0;
-          at-is = omega arith;
-          within = omega arith;
           few = omega arith;
           passed = λ j h. absurd (omega arith);
           ahead = λ h. omega arith;
@@ -142,29 +136,29 @@ module _ (E : Lent) (norms live : List ℕ) (table : List Float) (n : Node) wher
     unfolding matches leaf_matches
     other ix l sc d h = not-match ix (leaf (term l) sc) d (ap found (posting-none ix l d h))
 
-    module _ (c : TopScoreDocCollector) (heap : List ℤ) (at : ℕ) (I : TermsAt c heap at) where
-      pub term-done : 3 * (n.first + n.number) ≤ at → (st : List ℕ) → NodeIs st n → get_or st 0 0 ≡ 1 → (places depth : ℕ) → CollectPost E norms live table places st depth doc_base c₀ heap₀ c heap
+    module _ (c : TopScoreDocCollector) (heap : List ℤ) (i : ℕ) (I : TermsAt c heap i) where
+      pub term-done : n.number ≤ i → (st : List ℕ) → NodeIs st n → get_or st 0 0 ≡ 1 → (places depth : ℕ) → CollectPost E norms live table places st depth doc_base c₀ heap₀ c heap
       term-done h st N k places depth ix s scores H =
           let W = term-root places depth st N k ix s scores (root-page E norms live table ix places s depth scores st H) in
           let R = W.root in
           let p = I ix W.l W.sc R in
           rw W.is
           (sofar-done ix (leaf (term W.l) W.sc) doc_base c₀ heap₀ c heap p.from p.sofar E.documents (omega (arith, p.few, H.lends.documents))
-          (λ x a. other ix W.l W.sc x (λ j m e. omega (arith, p.passed j (omega (arith, p.at-is, p.within, R.number_is))))))
+          (λ x a. other ix W.l W.sc x (λ j m e. omega (arith, p.passed j (omega (arith, h, R.number_is))))))
 
-      module _ (below : at < 3 * (n.first + n.number)) (doc : ℕ) (doc-is : doc ≡ get_or E.postings at 0) where
+      module _ (below : i < n.number) (doc : ℕ) (doc-is : doc ≡ get_or E.postings (3 * (n.first + i)) 0) where
         module _ (ix : Index) (l : ℕ) (sc : Scoring) (R : TermRoot ix l sc) where
-          p : TermAt ix l sc c heap at
+          p : TermAt ix l sc c heap i
           p = I ix l sc R
 
-          inside : p.i < leaf_number ix l
-          inside = omega (arith, p.at-is, R.number_is)
+          inside : i < leaf_number ix l
+          inside = omega (arith, below, R.number_is)
 
-          document : doc ≡ leaf_document ix l p.i
-          document = doc-is ∙ ap (λ (w : List ℕ). get_or w at 0) (sym R.postings-are) ∙ ap (λ (j : ℕ). get_or ix.postings j 0) (p.at-is ∙ ap (λ (f : ℕ). 3 * (f + p.i)) R.first-is)
+          document : doc ≡ leaf_document ix l i
+          document = doc-is ∙ ap (λ (w : List ℕ). get_or w (3 * (n.first + i)) 0) (sym R.postings-are) ∙ ap (λ (f : ℕ). get_or ix.postings (3 * (f + i)) 0) R.first-is
 
           pub term-below : doc < ix.max_doc
-          term-below = omega (arith, document, (R.accepted.posting l p.i R.leaf-there inside).document)
+          term-below = omega (arith, document, (R.accepted.posting l i R.leaf-there inside).document)
 
           pub term-small : doc_base + ix.max_doc ≤ no_more_docs → doc_base + doc < no_more_docs
           term-small few = omega (arith, term-below, few)
@@ -178,10 +172,10 @@ module _ (E : Lent) (norms live : List ℕ) (table : List Float) (n : Node) wher
           pub term-ready : Ready doc_base c₀ heap₀ → Ready (doc_base + doc) c heap
           term-ready start = sofar-ready ix (leaf (term l) sc) doc_base c₀ heap₀ c heap p.from p.sofar start (doc_base + doc) (omega (arith, from-here))
 
-          here : posting_at ix l doc ≡ some p.i
-          here = posting-at ix l doc (R.accepted.ascending l R.leaf-there) p.i inside (sym document)
+          here : posting_at ix l doc ≡ some i
+          here = posting-at ix l doc (R.accepted.ascending l R.leaf-there) i inside (sym document)
 
-          pub term_asks : (frequency : ℕ) → frequency ≡ get_or E.postings (at + 1) 0 → PostingAsks ix table norms l sc n frequency doc
+          pub term_asks : (frequency : ℕ) → frequency ≡ get_or E.postings (3 * (n.first + i) + 1) 0 → PostingAsks ix table norms l sc n frequency doc
           term_asks frequency e =
               record {
                 accepted = R.accepted;
@@ -193,31 +187,28 @@ module _ (E : Lent) (norms live : List ℕ) (table : List Float) (n : Node) wher
                 norms-is = R.norms-is;
                 scores = R.scores;
                 match = ap found here;
-                frequency-is = e ∙ ap (λ (w : List ℕ). get_or w (at + 1) 0) (sym R.postings-are) ∙ ap (λ (j : ℕ). get_or ix.postings (j + 1) 0) (p.at-is ∙ ap (λ (f : ℕ). 3 * (f + p.i)) R.first-is) ∙ sym (ap (frequency_of ix l) here);
+                frequency-is = e ∙ ap (λ (w : List ℕ). get_or w (3 * (n.first + i) + 1) 0) (sym R.postings-are) ∙ ap (λ (f : ℕ). get_or ix.postings (3 * (f + i) + 1) 0) R.first-is ∙ sym (ap (frequency_of ix l) here);
               }
 
           -- none is live between the last posting and this one
           between : (x : ℕ) → p.from ≤ x → x < doc → live_match ix (leaf (term l) sc) x ≡ false
           between x a b =
               other ix l sc x
-              (λ j m e. ⊎_elim (λ h. omega (arith, p.passed j h)) (λ h. ⊎_elim (λ q. omega (arith, document, ap (leaf_document ix l) q)) (λ q. omega (arith, document, R.accepted.ascending l R.leaf-there p.i j q m)) (eq-or-lt_of_le h)) (cmp j p.i))
+              (λ j m e. ⊎_elim (λ h. omega (arith, p.passed j h)) (λ h. ⊎_elim (λ q. omega (arith, document, ap (leaf_document ix l) q)) (λ q. omega (arith, document, R.accepted.ascending l R.leaf-there i j q m)) (eq-or-lt_of_le h)) (cmp j i))
 
           -- on to the next posting
-          next-at : (c' : TopScoreDocCollector) (heap' : List ℤ) → Sofar ix (leaf (term l) sc) doc_base c₀ heap₀ c' heap' (doc + 1) → TermAt ix l sc c' heap' (at + 3)
+          next-at : (c' : TopScoreDocCollector) (heap' : List ℤ) → Sofar ix (leaf (term l) sc) doc_base c₀ heap₀ c' heap' (doc + 1) → TermAt ix l sc c' heap' (i + 1)
           next-at c' heap' s =
               record {
-                i = p.i + 1;
                 from = doc + 1;
-                at-is = omega (arith, p.at-is);
-                within = omega (arith, R.number_is, inside);
                 few = omega (arith, term-below);
-                passed = λ j h. ⊎_elim (λ (q : j ≡ p.i). omega (arith, document, ap (leaf_document ix l) q)) (λ (q : suc j ≤ p.i). omega (arith, document, R.accepted.ascending l R.leaf-there j p.i q inside)) (eq-or-lt_of_le {n = j} {m = p.i} (omega arith));
-                ahead = λ h. omega (arith, document, R.accepted.ascending l R.leaf-there p.i (p.i + 1) (omega arith) (omega (arith, R.number_is)));
+                passed = λ j h. ⊎_elim (λ (q : j ≡ i). omega (arith, document, ap (leaf_document ix l) q)) (λ (q : suc j ≤ i). omega (arith, document, R.accepted.ascending l R.leaf-there j i q inside)) (eq-or-lt_of_le {n = j} {m = i} (omega arith));
+                ahead = λ h. omega (arith, document, R.accepted.ascending l R.leaf-there i (i + 1) (omega arith) (omega (arith, R.number_is)));
                 sofar = s;
               }
 
         -- a document that is not live is passed over
-        pub term-pass : is_live (live_only live) doc ≡ false → TermsAt c heap (at + 3)
+        pub term-pass : is_live (live_only live) doc ≡ false → TermsAt c heap (i + 1)
         term-pass e ix l sc R =
             let q = p ix l sc R in
             let dead : live_match ix (leaf (term l) sc) doc ≡ false = not_live ix (leaf (term l) sc) doc (sym (live_of ix live doc R.live-are) ∙ e) in
@@ -225,12 +216,12 @@ module _ (E : Lent) (norms live : List ℕ) (table : List Float) (n : Node) wher
             (sofar-skip ix (leaf (term l) sc) doc_base c₀ heap₀ c heap q.from q.sofar (doc + 1) (omega (arith, from-here ix l sc R))
             (λ x a b. ⊎_elim (λ (z : x ≡ doc). subst (λ (y : ℕ). live_match ix (leaf (term l) sc) y ≡ false) (sym z) dead) (λ (z : suc x ≤ doc). between ix l sc R x a z) (eq-or-lt_of_le {n = x} {m = doc} (omega arith))))
 
-        module _ (frequency : ℕ) (frequency-is : frequency ≡ get_or E.postings (at + 1) 0) (r : Float) (post : (ix : Index) (l : ℕ) (sc : Scoring) → PostingAsks ix table norms l sc n frequency doc → (r ≡ leaf_score ix (term l) sc doc) × AtMost (2 ^ 29) r) where
+        module _ (frequency : ℕ) (frequency-is : frequency ≡ get_or E.postings (3 * (n.first + i) + 1) 0) (r : Float) (post : (ix : Index) (l : ℕ) (sc : Scoring) → PostingAsks ix table norms l sc n frequency doc → (r ≡ leaf_score ix (term l) sc doc) × AtMost (2 ^ 29) r) where
           pub term-clear : (ix : Index) (l : ℕ) (sc : Scoring) → TermRoot ix l sc → T (sign_clear r)
           term-clear ix l sc R = nonneg-clear r (post ix l sc (term_asks ix l sc R frequency frequency-is)).1.sign
 
           -- a live one is collected
-          pub term-take : is_live (live_only live) doc ≡ true → (c' : TopScoreDocCollector) (heap' : List ℤ) → Extended (record { doc = doc_base + doc; score = r }) c heap c' heap' → TermsAt c' heap' (at + 3)
+          pub term-take : is_live (live_only live) doc ≡ true → (c' : TopScoreDocCollector) (heap' : List ℤ) → Extended (record { doc = doc_base + doc; score = r }) c heap c' heap' → TermsAt c' heap' (i + 1)
           unfolding matches leaf_matches scorer_score
           term-take e c' heap' x ix l sc R =
               let q = p ix l sc R in

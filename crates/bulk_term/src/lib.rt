@@ -24,19 +24,14 @@ pub fn collect_term(
     ensures { (places depth : ℕ) → CollectPost (lent_of reader.now) reader.now.norms.now reader.now.live.now inverses.now places st.now depth doc_base c heap.old result heap.new }
 {
     let n = leaf_score::node_at(st);
-    let postings = reader.postings;
-    let norms = reader.norms;
-    let live = reader.live;
+    let from = 3 * n.first;
+    let (postings, _) = reader.postings[from..from + 3 * n.number].as_chunks::<3>();
     let mut c = c;
-    let mut at = 3 * n.first;
-    let end = at + 3 * n.number;
-    while at < end {
-        let doc = postings[at];
-        if index::live::is_live(live, doc) {
-            let s = posting_score(n, norms, inverses, postings[at + 1], doc);
-            c = c.stepped(heap, doc_base + doc, s);
+    for [doc, frequency, _] in postings {
+        if index::live::is_live(reader.live, *doc) {
+            let s = posting_score(n, reader.norms, inverses, *frequency, *doc);
+            c = c.stepped(heap, doc_base + *doc, s);
         }
-        at += 3;
     }
     c
 }

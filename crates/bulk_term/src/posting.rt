@@ -12,8 +12,8 @@ pub fn posting_score(n: Node, norms: &[u8], inverses: &[f32], frequency: u32, do
     requires { (ix : Index) × (l : ℕ) × (sc : Scoring) × PostingAsks ix inverses.now norms.now l sc n frequency doc }
     ensures { (ix : Index) (l : ℕ) (sc : Scoring) → PostingAsks ix inverses.now norms.now l sc n frequency doc → (result ≡ leaf_score ix (term l) sc doc) × AtMost (2 ^ 29) result }
 {
-    if n.constant == 1 {
-        return f32::from_bits(n.weight);
+    match n.constant_score() {
+        Some(score) => score,
+        None => leaf_score::weighted(norms, inverses, n, frequency, doc),
     }
-    leaf_score::weighted(norms, inverses, n, frequency, doc)
 }

@@ -32,35 +32,28 @@ use Rattle.leaf_score.proofs.Weights.{float-number, norm-there, norm-is, inverse
 
 -- the record's words, as they are read
 pub record Read (n : Node) (s : State) : Type 0 where
-  pub kind-is : n.kind ≡ s.kind
-  pub required-end : n.required_end ≡ s.required_end
-  pub optional-end : n.optional_end ≡ s.optional_end
   pub first-is : n.first ≡ s.first
   pub number_is : n.number ≡ s.number
   pub cursor-is : n.cursor ≡ s.cursor
   pub field_is : n.field ≡ s.field
   pub constant-is : n.constant ≡ s.constant
   pub weight_is : n.weight ≡ s.weight
-  pub afterwards-is : n.afterwards ≡ s.afterwards
-  pub group_at : n.group_at ≡ s.group_at
   pub norms-is : n.norms ≡ s.norms
 
 pub read : (st v : List ℕ) (s : State) (n : Node) → st ≡ words_of s ++ v → NodeIs st n → Read n s
 read st v s n e r =
     record {
-      kind-is = r.kind-is ∙ ap (λ (l : List ℕ). get_or l 0 0) e;
-      required-end = r.required-end ∙ ap (λ (l : List ℕ). get_or l 4 0) e;
-      optional-end = r.optional-end ∙ ap (λ (l : List ℕ). get_or l 5 0) e;
       first-is = r.first-is ∙ ap (λ (l : List ℕ). get_or l 6 0) e;
       number_is = r.number_is ∙ ap (λ (l : List ℕ). get_or l 7 0) e;
       cursor-is = r.cursor-is ∙ ap (λ (l : List ℕ). get_or l 8 0) e;
       field_is = r.field_is ∙ ap (λ (l : List ℕ). get_or l 10 0) e;
       constant-is = r.constant-is ∙ ap (λ (l : List ℕ). get_or l 11 0) e;
       weight_is = r.weight_is ∙ ap (λ (l : List ℕ). get_or l 12 0) e;
-      afterwards-is = r.afterwards-is ∙ ap (λ (l : List ℕ). get_or l 13 0) e;
-      group_at = r.group_at ∙ ap (λ (l : List ℕ). get_or l 14 0) e;
       norms-is = r.norms-is ∙ ap (λ (l : List ℕ). get_or l 18 0) e;
     }
+
+pub kind-read : (st v : List ℕ) (s : State) → st ≡ words_of s ++ v → get_or st 0 0 ≡ s.kind
+kind-read st v s e = ap (λ (l : List ℕ). get_or l 0 0) e
 
 pub words_long : (st v : List ℕ) (s : State) → st ≡ words_of s ++ v → node_state_words ≤ length st
 words_long st v s e = omega (arith, ap length e)
@@ -114,6 +107,9 @@ module _ (ix : Index) (max : ℕ) (postings positions norms : List ℕ) (doc : �
     abbrev Asks : Leaf → Type 0
     Asks l = LeafAsks ix ranges table places l w s v doc
 
+    head : get_or st 0 0 ≡ s.kind
+    head = kind-read st v s e
+
     weight-at : FloatIs w s.weight → FloatIs w n.weight
     weight-at x = subst (λ (i : ℕ). FloatIs w i) (sym R.weight_is) x
 
@@ -121,13 +117,13 @@ module _ (ix : Index) (max : ℕ) (postings positions norms : List ℕ) (doc : �
     Done l r st' = (r ≡ leaf_score ix l (weighted w) doc) × AtMost (2 ^ 29) r × LeafKept ix ranges l s doc st'
 
     -- a term
-    pub term-run : (l : Leaf) → Asks l → n.kind ≡ 1 → n.first + n.number ≤ length postings / 3
+    pub term-run : (l : Leaf) → Asks l → get_or st 0 0 ≡ 1 → n.first + n.number ≤ length postings / 3
     unfolding LeafIs LeafSound
-    term-run nothing p k = absurd (omega (arith, R.kind-is, p.words.0))
+    term-run nothing p k = absurd (omega (arith, head, p.words.0))
     term-run (term l) p k = subst (λ (i : List ℕ). n.first + n.number ≤ length i / 3) L.lends.postings-are (omega (arith, (A.leaf l p.sound).run, R.first-is, R.number_is, p.words.0.first-is, p.words.0.number_is))
-    term-run (phrase f ts) p k = absurd (omega (arith, R.kind-is, p.words.kind-is))
-    term-run (range r) p k = absurd (omega (arith, R.kind-is, p.words.0.kind-is))
-    term-run everything p k = absurd (omega (arith, R.kind-is, p.words.0))
+    term-run (phrase f ts) p k = absurd (omega (arith, head, p.words.kind-is))
+    term-run (range r) p k = absurd (omega (arith, head, p.words.0.kind-is))
+    term-run everything p k = absurd (omega (arith, head, p.words.0))
 
     module _ (frequency : ℕ) (h : Scanned postings n.first n.number n.cursor doc frequency) where
       at-term : (l : ℕ) → Asks (term l) → (frequency ≡ frequency_of ix l (posting_at ix l doc)) × (frequency ≤ largest_frequency)
@@ -142,23 +138,23 @@ module _ (ix : Index) (max : ℕ) (postings positions norms : List ℕ) (doc : �
           moved : (ps qs : List ℕ) (f f' m m' c c' : ℕ) → ps ≡ qs → f ≡ f' → m ≡ m' → c ≡ c' → Scanned ps f m c doc frequency → Scanned qs f' m' c' doc frequency
           moved ps qs f f' m m' c c' i j k l x = subst (λ (z : List ℕ). Scanned z f' m' c' doc frequency) i (subst (λ (z : ℕ). Scanned ps z m' c' doc frequency) j (subst (λ (z : ℕ). Scanned ps f z c' doc frequency) k (subst (λ (z : ℕ). Scanned ps f m z doc frequency) l x)))
 
-      pub term-weighs : (l : Leaf) → Asks l → n.kind ≡ 1 → Weighs n norms table doc frequency
+      pub term-weighs : (l : Leaf) → Asks l → get_or st 0 0 ≡ 1 → Weighs n norms table doc frequency
       unfolding LeafIs LeafSound LeafTable
-      term-weighs nothing p k = absurd (omega (arith, R.kind-is, p.words.0))
+      term-weighs nothing p k = absurd (omega (arith, head, p.words.0))
       term-weighs (term l) p k = field-weighs (leaf_field ix l) (A.leaf l p.sound).field p.tables w (weight-at p.weight) (R.field_is ∙ p.words.0.field_is) (R.norms-is ∙ p.words.0.norms-is) frequency (at-term l p).1
-      term-weighs (phrase f ts) p k = absurd (omega (arith, R.kind-is, p.words.kind-is))
-      term-weighs (range r) p k = absurd (omega (arith, R.kind-is, p.words.0.kind-is))
-      term-weighs everything p k = absurd (omega (arith, R.kind-is, p.words.0))
+      term-weighs (phrase f ts) p k = absurd (omega (arith, head, p.words.kind-is))
+      term-weighs (range r) p k = absurd (omega (arith, head, p.words.0.kind-is))
+      term-weighs everything p k = absurd (omega (arith, head, p.words.0))
 
-      pub term-done : (l : Leaf) → Asks l → n.kind ≡ 1 → (r : Float) → r ≡ answer n norms table doc frequency → Done l r st
+      pub term-done : (l : Leaf) → Asks l → get_or st 0 0 ≡ 1 → (r : Float) → r ≡ answer n norms table doc frequency → Done l r st
       unfolding LeafIs LeafSound LeafTable leaf_score
-      term-done nothing p k r q = absurd (omega (arith, R.kind-is, p.words.0))
+      term-done nothing p k r q = absurd (omega (arith, head, p.words.0))
       term-done (term l) p k r q =
           let t = field-answer (leaf_field ix l) (A.leaf l p.sound).field p.tables w (weight-at p.weight) (R.field_is ∙ p.words.0.field_is) (R.norms-is ∙ p.words.0.norms-is) frequency (at-term l p).1 r q in
           (t.0 ∙ ap (λ (i : ℕ). field_score ix (leaf_field ix l) w i doc) (at-term l p).0, t.1, record { s' = s; v' = v; is = e; same = record { cached = refl; constant = refl; weight = refl; scores = refl }; words = p.words })
-      term-done (phrase f ts) p k r q = absurd (omega (arith, R.kind-is, p.words.kind-is))
-      term-done (range i) p k r q = absurd (omega (arith, R.kind-is, p.words.0.kind-is))
-      term-done everything p k r q = absurd (omega (arith, R.kind-is, p.words.0))
+      term-done (phrase f ts) p k r q = absurd (omega (arith, head, p.words.kind-is))
+      term-done (range i) p k r q = absurd (omega (arith, head, p.words.0.kind-is))
+      term-done everything p k r q = absurd (omega (arith, head, p.words.0))
 
     -- a phrase
     pub few-documents : doc < no_more_docs
@@ -167,41 +163,41 @@ module _ (ix : Index) (max : ℕ) (postings positions norms : List ℕ) (doc : �
     held : (f : ℕ) (ts : List PhraseTerm) → LeafSound ix places (phrase f ts) → PhraseIs ix f ts s v doc → PhraseHeld postings positions ix places f ts s v st doc
     held f ts a i = record { accepted = A; postings-are = L.lends.postings-are; positions-are = L.lends.positions-are; sound = a; words = e; is = i }
 
-    pub phrase-asks : (l : Leaf) → Asks l → n.kind ≡ 2 → (f : ℕ) × (ts : List PhraseTerm) × PhraseHeld postings positions ix places f ts s v st doc × (0 < phrase_frequency ix ts doc)
+    pub phrase-asks : (l : Leaf) → Asks l → get_or st 0 0 ≡ 2 → (f : ℕ) × (ts : List PhraseTerm) × PhraseHeld postings positions ix places f ts s v st doc × (0 < phrase_frequency ix ts doc)
     unfolding LeafIs leaf_matches
-    phrase-asks nothing p k = absurd (omega (arith, R.kind-is, p.words.0))
-    phrase-asks (term l) p k = absurd (omega (arith, R.kind-is, p.words.0.kind-is))
+    phrase-asks nothing p k = absurd (omega (arith, head, p.words.0))
+    phrase-asks (term l) p k = absurd (omega (arith, head, p.words.0.kind-is))
     phrase-asks (phrase f ts) p k = (f, ts, held f ts p.sound p.words, ltb-true _ _ p.match)
-    phrase-asks (range r) p k = absurd (omega (arith, R.kind-is, p.words.0.kind-is))
-    phrase-asks everything p k = absurd (omega (arith, R.kind-is, p.words.0))
+    phrase-asks (range r) p k = absurd (omega (arith, head, p.words.0.kind-is))
+    phrase-asks everything p k = absurd (omega (arith, head, p.words.0))
 
     module _ (frequency : ℕ) (st' : List ℕ) (h : FrequencyPost postings positions st doc frequency st') where
-      pub phrase-weighs : (l : Leaf) → Asks l → n.kind ≡ 2 → Weighs n norms table doc frequency
+      pub phrase-weighs : (l : Leaf) → Asks l → get_or st 0 0 ≡ 2 → Weighs n norms table doc frequency
       unfolding LeafIs LeafSound LeafTable leaf_matches
-      phrase-weighs nothing p k = absurd (omega (arith, R.kind-is, p.words.0))
-      phrase-weighs (term l) p k = absurd (omega (arith, R.kind-is, p.words.0.kind-is))
+      phrase-weighs nothing p k = absurd (omega (arith, head, p.words.0))
+      phrase-weighs (term l) p k = absurd (omega (arith, head, p.words.0.kind-is))
       phrase-weighs (phrase f ts) p k =
           let g = h ix places f ts s v (held f ts p.sound p.words) (ltb-true _ _ p.match) in
           field-weighs f p.sound.0 p.tables w (weight-at p.weight) (R.field_is ∙ p.words.field_is) (R.norms-is ∙ p.words.norms-is) frequency (omega (arith, g.0, phrase-frequency-few ix A f places ts doc p.sound.4))
-      phrase-weighs (range r) p k = absurd (omega (arith, R.kind-is, p.words.0.kind-is))
-      phrase-weighs everything p k = absurd (omega (arith, R.kind-is, p.words.0))
+      phrase-weighs (range r) p k = absurd (omega (arith, head, p.words.0.kind-is))
+      phrase-weighs everything p k = absurd (omega (arith, head, p.words.0))
 
-      pub phrase-done : (l : Leaf) → Asks l → n.kind ≡ 2 → (r : Float) → r ≡ answer n norms table doc frequency → Done l r st'
+      pub phrase-done : (l : Leaf) → Asks l → get_or st 0 0 ≡ 2 → (r : Float) → r ≡ answer n norms table doc frequency → Done l r st'
       unfolding LeafIs LeafSound LeafTable leaf_matches leaf_score
-      phrase-done nothing p k r q = absurd (omega (arith, R.kind-is, p.words.0))
-      phrase-done (term l) p k r q = absurd (omega (arith, R.kind-is, p.words.0.kind-is))
+      phrase-done nothing p k r q = absurd (omega (arith, head, p.words.0))
+      phrase-done (term l) p k r q = absurd (omega (arith, head, p.words.0.kind-is))
       phrase-done (phrase f ts) p k r q =
           let g = h ix places f ts s v (held f ts p.sound p.words) (ltb-true _ _ p.match) in
           let t = field-answer f p.sound.0 p.tables w (weight-at p.weight) (R.field_is ∙ p.words.field_is) (R.norms-is ∙ p.words.norms-is) frequency (omega (arith, g.0, phrase-frequency-few ix A f places ts doc p.sound.4)) r q in
           (t.0 ∙ ap (λ (i : ℕ). field_score ix f w i doc) g.0, t.1, record { s' = g.1.0; v' = g.1.1; is = g.1.2; same = g.1.3; words = g.1.4 })
-      phrase-done (range i) p k r q = absurd (omega (arith, R.kind-is, p.words.0.kind-is))
-      phrase-done everything p k r q = absurd (omega (arith, R.kind-is, p.words.0))
+      phrase-done (range i) p k r q = absurd (omega (arith, head, p.words.0.kind-is))
+      phrase-done everything p k r q = absurd (omega (arith, head, p.words.0))
 
     -- what else is there scores 0
-    pub other-done : (l : Leaf) → Asks l → (n.kind ≡ 1 → ⊥) → (n.kind ≡ 2 → ⊥) → (r : Float) → r ≡ zero_float → Done l r st
+    pub other-done : (l : Leaf) → Asks l → (get_or st 0 0 ≡ 1 → ⊥) → (get_or st 0 0 ≡ 2 → ⊥) → (r : Float) → r ≡ zero_float → Done l r st
     unfolding LeafIs leaf_score
     other-done nothing p i j x q = (q, subst (λ (y : Float). AtMost (2 ^ 29) y) (sym q) (zero-atmost _), record { s' = s; v' = v; is = e; same = record { cached = refl; constant = refl; weight = refl; scores = refl }; words = p.words })
-    other-done (term l) p i j x q = absurd (i (R.kind-is ∙ p.words.0.kind-is))
-    other-done (phrase f ts) p i j x q = absurd (j (R.kind-is ∙ p.words.kind-is))
+    other-done (term l) p i j x q = absurd (i (head ∙ p.words.0.kind-is))
+    other-done (phrase f ts) p i j x q = absurd (j (head ∙ p.words.kind-is))
     other-done (range r) p i j x q = (q, subst (λ (y : Float). AtMost (2 ^ 29) y) (sym q) (zero-atmost _), record { s' = s; v' = v; is = e; same = record { cached = refl; constant = refl; weight = refl; scores = refl }; words = p.words })
     other-done everything p i j x q = (q, subst (λ (y : Float). AtMost (2 ^ 29) y) (sym q) (zero-atmost _), record { s' = s; v' = v; is = e; same = record { cached = refl; constant = refl; weight = refl; scores = refl }; words = p.words })

@@ -4,3 +4,4 @@ pub mod Frequencies
 pub mod Weights
 pub mod Leaves
 pub mod Nodes
+pub mod Constants

@@ -8,6 +8,7 @@ use Prim.Native.Nat.{ℕ, ◌+◌, ◌-◌, ◌*◌, ◌^◌, ◌≤◌, ◌<◌
 use native.Mathlib.Nat.{le_refl}
 use native.Mathlib.Omega.{arith}
 use lib.Dec.{T}
+use lib.ListN.{get_or}
 use lib.Ieee.{Float, binary32, nan_bits, of_bits}
 use Rattle.meaning.specs.Lent.{Index}
 use Rattle.ieee754.specs.Nonneg.{AtMost}
@@ -20,7 +21,7 @@ use Rattle.meaning.proofs.Tests.{cmp}
 use Rattle.leaf_score.specs.declared.Node.{Node}
 use Rattle.leaf_score.specs.Words.{NodeIs}
 use Rattle.leaf_score.specs.Asked.{Scorable, ScoreIs, LeafAsks, LeafKept}
-use Rattle.leaf_score.proofs.Leaves.{read}
+use Rattle.leaf_score.proofs.Leaves.{read, kind-read}
 use Rattle.leaf_score.proofs.Weights.{float_back, float-number}
 
 -- a node that matches the document and was asked for none beyond stands at most there
@@ -57,7 +58,7 @@ module _ (ix : Index) (ranges : List ℕ) (table : List Float) (places k doc : �
     pub asks : LeafAsks ix ranges table places l w s v doc
     pub done : (r : Float) (st' : List ℕ) → (r ≡ leaf_score ix l (weighted w) doc) × AtMost (2 ^ 29) r × LeafKept ix ranges l s doc st' → ScoreIs ix T doc r × Ok ix ranges T k sc st' doc
 
-  pub leaf-at : (T : Scorer) (sc : ℕ) → Scorable ix table places T → matches ix T doc ≡ true → Ok ix ranges T k sc st doc → (n.constant ≡ 1 → ⊥) → (n.kind ≡ 3 → ⊥) → LeafAt T sc
+  pub leaf-at : (T : Scorer) (sc : ℕ) → Scorable ix table places T → matches ix T doc ≡ true → Ok ix ranges T k sc st doc → (n.constant ≡ 1 → ⊥) → (get_or st 0 0 ≡ 3 → ⊥) → LeafAt T sc
   unfolding Ok ScoringIs scorer_score nodes matches Sound Tables
   leaf-at (leaf l (constant c)) sc g m p i j = let R = read st p.1 p.0 n p.2 N in absurd (i (R.constant-is ∙ p.5.0))
   leaf-at (leaf l (weighted w)) sc g m p i j =
@@ -86,4 +87,4 @@ module _ (ix : Index) (ranges : List ℕ) (table : List Float) (places k doc : �
               subst (λ (i : ℕ). Rattle.weight.specs.Held.Cache (matches ix (leaf l (weighted w))) doc i) (sym e) c,
             ),
           )
-  leaf-at (boolean c j need rs os ps) sc g m p i h = let R = read st (p.1 ++ (p.2 ++ p.3)) p.0 n p.4 N in absurd (h (R.kind-is ∙ p.7.kind-is))
+  leaf-at (boolean c j need rs os ps) sc g m p i h = absurd (h (kind-read st (p.1 ++ (p.2 ++ p.3)) p.0 p.4 ∙ p.7.kind-is))

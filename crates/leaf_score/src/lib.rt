@@ -7,25 +7,21 @@ ghost use Rattle.std.specs.Float.Ieee.{nan_bits, of_bits, of_int};
 ghost use Rattle.meaning.specs.Limits.{node_state_words};
 ghost use Rattle.meaning.specs.Bm25.{bm25};
 ghost use Rattle.index.specs.Runs.{posting_document, posting_frequency};
-ghost use Rattle.leaf_score.specs.Words.{NodeIs, byte_at};
+ghost use Rattle.leaf_score.specs.Words.{NodeIs, constant_score, byte_at};
 ghost use Rattle.leaf_score.specs.Asked.{LeafPre, LeafPost, FrequencyPre, FrequencyPost, TermPre, TermPost};
 
 use index::wide;
+use node::NodeKind;
 
-// What the score reads of a node's record.
+// What the score reads of a leaf's record.
 #[derive(Clone, Copy)]
 pub struct Node {
-    pub kind: u32,
-    pub required_end: usize,
-    pub optional_end: usize,
     pub first: usize,
     pub number: usize,
     pub cursor: usize,
     pub field: usize,
     pub constant: u32,
     pub weight: u32,
-    pub afterwards: u32,
-    pub group_at: usize,
     pub norms: usize,
 }
 
@@ -34,18 +30,26 @@ pub fn node_at(st: &[u32]) -> Node
     ensures { NodeIs st.now result }
 {
     Node {
-        kind: st[0],
-        required_end: wide(st[4]),
-        optional_end: wide(st[5]),
         first: wide(st[6]),
         number: wide(st[7]),
         cursor: wide(st[8]),
         field: wide(st[10]),
         constant: st[11],
         weight: st[12],
-        afterwards: st[13],
-        group_at: wide(st[14]),
         norms: wide(st[18]),
+    }
+}
+
+impl Node {
+    // The score of every document, where the query says it.
+    pub fn constant_score(self) -> Option<f32>
+        requires { self.constant ≡ 1 → T (not (nan_bits binary32 self.weight)) }
+        ensures { result ≡ constant_score self }
+    {
+        if self.constant == 1 {
+            return Some(f32::from_bits(self.weight));
+        }
+        None
     }
 }
 
@@ -54,12 +58,10 @@ fn term_frequency(postings: &[u32], first: usize, number: usize, cursor: usize, 
     requires { first + number ≤ length postings.now / 3 }
     ensures { (i : ℕ) → cursor ≤ i → i < number → posting_document postings.now first i ≡ doc → ((k : ℕ) → k < i → posting_document postings.now first k ≡ doc → ⊥) → result ≡ posting_frequency postings.now first i }
 {
-    let mut i = cursor;
-    while i < number {
+    for i in cursor..number {
         if index::postings::posting_document(postings, first, i) == doc {
             return index::postings::posting_frequency(postings, first, i);
         }
-        i += 1;
     }
     0
 }
@@ -131,15 +133,17 @@ pub fn leaf_score(
     ensures { (n : ℕ) → LeafPost st.old n postings.now positions.now norms.now inverses.now (min (length a.old) (length b.old)) doc result st.new }
 {
     let n = node_at(st);
-    if n.kind == 1 {
-        let frequency = term_frequency(postings, n.first, n.number, n.cursor, doc);
-        return weighted(norms, inverses, n, frequency, doc);
+    match NodeKind::from(st[0]) {
+        NodeKind::Term => {
+            let frequency = term_frequency(postings, n.first, n.number, n.cursor, doc);
+            weighted(norms, inverses, n, frequency, doc)
+        }
+        NodeKind::Phrase => {
+            let frequency = phrase_frequency(st, postings, positions, a, b, doc);
+            weighted(norms, inverses, n, frequency, doc)
+        }
+        _ => 0.0,
     }
-    if n.kind == 2 {
-        let frequency = phrase_frequency(st, postings, positions, a, b, doc);
-        return weighted(norms, inverses, n, frequency, doc);
-    }
-    0.0
 }
 
 // The score of a term, which is most of them: it is lent little and changes nothing, so that it costs little to call.
@@ -148,9 +152,11 @@ pub fn term_score(st: &[u32], postings: &[u32], norms: &[u8], inverses: &[f32], 
     ensures { TermPost st.now postings.now norms.now inverses.now doc result }
 {
     let n = node_at(st);
-    if n.constant == 1 {
-        return f32::from_bits(n.weight);
+    match n.constant_score() {
+        Some(score) => score,
+        None => {
+            let frequency = term_frequency(postings, n.first, n.number, n.cursor, doc);
+            weighted(norms, inverses, n, frequency, doc)
+        }
     }
-    let frequency = term_frequency(postings, n.first, n.number, n.cursor, doc);
-    weighted(norms, inverses, n, frequency, doc)
 }

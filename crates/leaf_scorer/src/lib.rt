@@ -7,11 +7,11 @@ ghost use Rattle.leaf_scorer.specs.Search.{CursorRead, SearchPre, SearchPost, An
 ghost use Rattle.leaf_scorer.specs.Phrases.{TermsPre, PassTermsPost, LeapfrogPost, PlaceAt, PlaceRead, GatherPre, GatherPost, FrequencyPre, FrequencyPost, PhrasePre, PhrasePost, PhraseAtPost};
 ghost use Rattle.leaf_scorer.specs.Calls.{lent_of, LeafPre, LeafPost};
 
+pub use index::postings::NO_MORE_DOCS;
 use index::wide;
+use node::NodeKind;
 use run::{document, lower};
 use weight::NODE_STATE_WORDS;
-
-pub const NO_MORE_DOCS: u32 = 2147483647;
 
 // What is read of the index beside a tree's words, and the bitmaps of the order's ranges.
 #[derive(Clone, Copy)]
@@ -24,12 +24,6 @@ pub struct LeafReader<'a> {
     pub live: &'a [u64],
 }
 
-const TERM: u32 = 1;
-
-const PHRASE: u32 = 2;
-
-const RANGE: u32 = 4;
-
 // The words of a posting.
 const POSTING: usize = 3;
 
@@ -37,7 +31,7 @@ const POSTING: usize = 3;
 const FOUR_TERMS: usize = 4 * NODE_STATE_WORDS;
 
 // A record's run: its first place, how many documents it has, and how many are passed.
-#[derive(Drop)]
+#[derive(Clone, Copy)]
 pub struct Cursor {
     pub first: usize,
     pub number: usize,
@@ -98,15 +92,13 @@ fn next_set(words: &[u32], first: usize, number: usize, target: u32) -> u32
     requires { (first + number ≤ length words.now) × (32 * number ≤ no_more_docs) }
     ensures { FirstSet words.now first number target result }
 {
-    let mut at = wide(target / 32);
     let mut skip = target % 32;
-    while at < number {
+    for at in wide(target / 32)..number {
         let below = bits::first_bits(skip);
         let w = bits::without(words[first + at] as u64, below);
         if w != 0 {
             return 32 * at as u32 + bits::lowest(w);
         }
-        at += 1;
         skip = 0;
     }
     NO_MORE_DOCS
@@ -131,7 +123,8 @@ fn everything(max_doc: u32, target: u32) -> u32
 }
 
 // Where a pass over the terms of a phrase got, and whether all of them stand there.
-#[derive(Drop)]
+// Kept: the document is there whether or not they all stand at it, so this is no Option.
+#[derive(Clone, Copy)]
 pub struct Pass {
     pub doc: u32,
     pub hit: bool,
@@ -143,8 +136,9 @@ fn pass_terms(terms: &mut [u32], postings: &[u32], target: u32) -> Pass
     ensures { PassTermsPost postings.now terms.old target result.doc result.hit terms.new }
 {
     let mut d = target;
-    let mut last = 0;
+    let mut hit = true;
     let mut at = 0;
+    // Kept: std's chunks_exact_mut and as_chunks_mut don't say what the slice ends as, and the terms are moved in place.
     while at < terms.len() {
         let end = at + NODE_STATE_WORDS;
         let e = search(&mut terms[at..end], postings, POSTING, d);
@@ -152,15 +146,11 @@ fn pass_terms(terms: &mut [u32], postings: &[u32], target: u32) -> Pass
             at = end;
         } else {
             d = e;
-            last = at;
+            hit = at == 0;
             at = end;
         }
     }
-    if last == 0 {
-        Pass { doc: d, hit: true }
-    } else {
-        Pass { doc: d, hit: false }
-    }
+    Pass { doc: d, hit }
 }
 
 // The first document that all terms of a phrase have: passes until they stand at one.
@@ -169,6 +159,7 @@ fn leapfrog(terms: &mut [u32], postings: &[u32], target: u32) -> u32
     ensures { LeapfrogPost postings.now terms.old target result terms.new }
 {
     let mut d = target;
+    // Kept: each turn begins where the answer of the one before lies; a loop is plainer than an iterator of such steps.
     loop {
         let p = pass_terms(terms, postings, d);
         if p.hit {
@@ -179,7 +170,7 @@ fn leapfrog(terms: &mut [u32], postings: &[u32], target: u32) -> u32
 }
 
 // A phrase's term: the word of its posting, and its offset.
-#[derive(Drop)]
+#[derive(Clone, Copy)]
 pub struct Place {
     pub posting: usize,
     pub offset: u32,
@@ -214,7 +205,24 @@ fn gather(terms: &[u32], postings: &[u32], out: &mut [u32]) -> usize
     n
 }
 
-// The frequency of a phrase in the document where its terms stand: at most 32 terms of three words. Most have up to four, and zeroing few words is cheaper.
+// The frequency of a phrase in the document where its terms stand, by way of an array that has room for three words of each.
+fn frequency_in<const WORDS: usize>(
+    terms: &[u32],
+    postings: &[u32],
+    positions: &[u32],
+    a: &mut [i32],
+    b: &mut [i32],
+) -> u32
+    requires pre { FrequencyPre postings.now positions.now terms.now (length a.old) (length b.old) }
+    requires room { (3 * length terms.now ≤ node_state_words * WORDS) × (WORDS ≤ 96) }
+    ensures { FrequencyPost postings.now positions.now terms.now result }
+{
+    let mut words = [0u32; WORDS];
+    let n = gather(terms, postings, &mut words);
+    phrase::frequency(positions, &words[..n], a, b)
+}
+
+// A phrase has at most 32 terms. Most have up to four, and zeroing few words is cheaper.
 fn frequency(
     terms: &[u32],
     postings: &[u32],
@@ -226,13 +234,9 @@ fn frequency(
     ensures { FrequencyPost postings.now positions.now terms.now result }
 {
     if terms.len() <= FOUR_TERMS {
-        let mut few = [0u32; 12];
-        let m = gather(terms, postings, &mut few);
-        return phrase::frequency(positions, &few[..m], a, b);
+        return frequency_in::<12>(terms, postings, positions, a, b);
     }
-    let mut out = [0u32; 96];
-    let n = gather(terms, postings, &mut out);
-    phrase::frequency(positions, &out[..n], a, b)
+    frequency_in::<96>(terms, postings, positions, a, b)
 }
 
 // The first document at or after the target where a phrase stands; its frequency there is stored.
@@ -248,6 +252,7 @@ pub fn seek_phrase(
     ensures { PhrasePost postings.now positions.now st.old target result st.new }
 {
     let mut t = target;
+    // Kept: each turn begins where the answer of the one before lies; a loop is plainer than an iterator of such steps.
     loop {
         let d = leapfrog(&mut st[NODE_STATE_WORDS..], postings, t);
         if d == NO_MORE_DOCS {
@@ -305,15 +310,10 @@ pub fn seek(
     requires { LeafPre (lent_of reader.now) (length a.old) (length b.old) st.old target }
     ensures { LeafPost (lent_of reader.now) st.old target result st.new }
 {
-    let kind = st[0];
-    if kind == TERM {
-        return search_postings(st, reader.postings, target);
+    match NodeKind::from(st[0]) {
+        NodeKind::Term => search_postings(st, reader.postings, target),
+        NodeKind::Phrase => seek_phrase(st, reader.postings, reader.positions, a, b, target),
+        NodeKind::Range => seek_range(st, reader.ranges, target),
+        _ => everything(reader.max_doc, target),
     }
-    if kind == PHRASE {
-        return seek_phrase(st, reader.postings, reader.positions, a, b, target);
-    }
-    if kind == RANGE {
-        return seek_range(st, reader.ranges, target);
-    }
-    everything(reader.max_doc, target)
 }

@@ -1,12 +1,12 @@
 -- The score of a node that is a Boolean. Assumes nothing.
 use mathlib.Core.Path.{◌≡◌, refl, sym, ap, subst, ◌∙◌}
-use mathlib.Core.Bool.{Bool, true, false, not, ◌&&◌, false≢true}
+use mathlib.Core.Bool.{Bool, true, false, not, cond, ◌&&◌, false≢true}
 use mathlib.Core.List.{List, ◌++◌, append-nil}
 use mathlib.Core.Option.{none, some}
 use Prim.Native.Nat.{ℕ, ◌+◌, ◌-◌, ◌*◌, ◌^◌, ◌≤◌, ◌<◌, max}
 use native.Mathlib.Omega.{arith}
-use lib.Dec.{leb}
-use lib.ListN.{length, take, drop}
+use lib.Dec.{leb, eqb}
+use lib.ListN.{get_or, length, take, drop}
 use lib.Seq.{take-length, drop-length}
 use lib.Ieee.{Float}
 use Rattle.meaning.specs.Limits.{node_state_words}
@@ -17,12 +17,14 @@ use Rattle.weight.specs.ScorerTree.{Leaf, nothing, term, phrase, range, everythi
 use Rattle.weight.specs.State.{State, words_of}
 use Rattle.weight.specs.Held.{LeafIs, KeptIs, JoiningIs, Ok, Oks}
 use Rattle.weight.specs.Sound.{Sound, Tables, nodes, nodes_of}
+use Rattle.node.specs.declared.Boolean.{Boolean}
+use Rattle.node.specs.Words.{BooleanIs}
 use Rattle.leaf_score.specs.declared.Node.{Node}
 use Rattle.leaf_score.specs.Words.{NodeIs}
 use Rattle.score.specs.Asked.{JoinAsks, JoinIs, JoinsAt, PartsAre}
 use Rattle.leaf_score.specs.Asked.{Scorable, ScoreIs}
 use Rattle.leaf_score.proofs.Nodes.{at-most-there}
-use Rattle.leaf_score.proofs.Leaves.{read}
+use Rattle.leaf_score.proofs.Leaves.{read, kind-read}
 
 leaf-kind : (ix : Index) (ranges : List ℕ) (l : Leaf) (s : State) (v : List ℕ) (b : ℕ) → LeafIs ix ranges l s v b → s.kind ≡ 3 → ⊥
 unfolding LeafIs
@@ -36,12 +38,12 @@ both : (a b : Bool) → a && b ≡ true → (a ≡ true) × (b ≡ true)
 both true b e = (refl, e)
 both false b e = absurd (false≢true e)
 
-joins_at : (j : Joining) (rs : Scorers) (s : State) (a b : ℕ) → a ≡ s.afterwards → b ≡ s.group_at → JoiningIs j rs s → JoinsAt j rs a b
+joins_at : (j : Joining) (rs : Scorers) (s : State) (a : Bool) (b : ℕ) → a ≡ eqb s.afterwards 1 → b ≡ s.group_at → JoiningIs j rs s → JoinsAt j rs (cond a 1 0) b
 unfolding JoiningIs JoinsAt
-joins_at (one_more n) rs s a b e f p = (e ∙ p.0, f ∙ p.1)
-joins_at afterwards rs s a b e f p = e ∙ p
+joins_at (one_more n) rs s a b e f p = (ap (λ (x : Bool). cond x 1 0) (e ∙ ap (λ (i : ℕ). eqb i 1) p.0), f ∙ p.1)
+joins_at afterwards rs s a b e f p = ap (λ (x : Bool). cond x 1 0) (e ∙ ap (λ (i : ℕ). eqb i 1) p)
 
-module _ (ix : Index) (ranges : List ℕ) (table : List Float) (places k doc : ℕ) (st : List ℕ) (n : Node) (N : NodeIs st n) where
+module _ (ix : Index) (ranges : List ℕ) (table : List Float) (places k doc : ℕ) (st : List ℕ) (n : Node) (N : NodeIs st n) (m : Boolean) (M : BooleanIs st m) where
   -- a Boolean
   pub record NodeAt (T : Scorer) (sc : ℕ) (kids : List ℕ) : Type 0 where
     pub j : Joining
@@ -49,22 +51,21 @@ module _ (ix : Index) (ranges : List ℕ) (table : List Float) (places k doc : �
     pub os : Scorers
     pub rest : List ℕ
     pub deep : 0 < k
-    pub asks : JoinAsks ix table places j rs os n doc
+    pub asks : JoinAsks ix table places j rs os m doc
     pub parts : PartsAre ix ranges rs os (k - 1) doc rest kids
     pub done : (r : Float) (kids' : List ℕ) → length kids' ≡ length kids → JoinIs ix j rs os doc r → PartsAre ix ranges rs os (k - 1) doc rest kids' → ScoreIs ix T doc r × Ok ix ranges T k sc (take node_state_words st ++ (kids' ++ drop (length st - node_state_words) (drop node_state_words st))) doc
 
-  pub node_at : (T : Scorer) (sc : ℕ) → Scorable ix table places T → matches ix T doc ≡ true → Ok ix ranges T k sc st doc → (n.constant ≡ 1 → ⊥) → n.kind ≡ 3 → NodeAt T sc (take (length st - node_state_words) (drop node_state_words st))
+  pub node_at : (T : Scorer) (sc : ℕ) → Scorable ix table places T → matches ix T doc ≡ true → Ok ix ranges T k sc st doc → (n.constant ≡ 1 → ⊥) → get_or st 0 0 ≡ 3 → NodeAt T sc (take (length st - node_state_words) (drop node_state_words st))
   unfolding Ok KeptIs scorer_score nodes matches Sound Tables
-  node_at (leaf l c) sc g m p i h = let R = read st p.1 p.0 n p.2 N in absurd (leaf-kind ix ranges l p.0 p.1 (max doc (p.0.cached - 1)) p.4 (sym R.kind-is ∙ h))
-  node_at (boolean (some c) j need rs os ps) sc g m p i h = let R = read st (p.1 ++ (p.2 ++ p.3)) p.0 n p.4 N in absurd (i (R.constant-is ∙ p.7.kept.0))
-  node_at (boolean none j need rs os ps) sc g m p i h =
-      let R = read st (p.1 ++ (p.2 ++ p.3)) p.0 n p.4 N in
+  node_at (leaf l c) sc g y p i h = absurd (leaf-kind ix ranges l p.0 p.1 (max doc (p.0.cached - 1)) p.4 (sym (kind-read st p.1 p.0 p.2) ∙ h))
+  node_at (boolean (some c) j need rs os ps) sc g y p i h = let R = read st (p.1 ++ (p.2 ++ p.3)) p.0 n p.4 N in absurd (i (R.constant-is ∙ p.7.kept.0))
+  node_at (boolean none j need rs os ps) sc g y p i h =
       let S : Scorer = boolean none j need rs os ps in
-      let b : max doc (p.0.cached - 1) ≡ doc = at-most-there (matches ix S) doc p.0.cached m p.8 in
+      let b : max doc (p.0.cached - 1) ≡ doc = at-most-there (matches ix S) doc p.0.cached y p.8 in
       let w : List ℕ = p.1 ++ (p.2 ++ p.3) in
       let q : length st - node_state_words ≡ length w = omega (arith, ap length p.4) in
       let same : take (length st - node_state_words) (drop node_state_words st) ≡ w = rw (q, p.4, take-length) in
-      let all : all_match ix rs doc ≡ true = (both (all_match ix rs doc) (not (any_matches ix ps doc)) (both (all_match ix rs doc && not (any_matches ix ps doc)) (leb need (matching ix os doc)) m).0).0 in
+      let all : all_match ix rs doc ≡ true = (both (all_match ix rs doc) (not (any_matches ix ps doc)) (both (all_match ix rs doc && not (any_matches ix ps doc)) (leb need (matching ix os doc)) y).0).0 in
       record {
         j = j;
         rs = rs;
@@ -76,9 +77,9 @@ module _ (ix : Index) (ranges : List ℕ) (table : List Float) (places k doc : �
           optional = record { sound = g.sound.1; tables = g.tables.1; few = omega (arith, g.few) };
           few = omega (arith, g.few);
           all = all;
-          required-end = R.required-end ∙ p.7.required-end;
-          optional-end = R.optional-end ∙ p.7.optional-end;
-          joins = joins_at j rs p.0 n.afterwards n.group_at R.afterwards-is R.group_at p.7.joining;
+          required-end = M.required-end ∙ ap (λ (l : List ℕ). get_or l 4 0) p.4 ∙ p.7.required-end;
+          optional-end = M.optional-end ∙ ap (λ (l : List ℕ). get_or l 5 0) p.4 ∙ p.7.optional-end;
+          joins = joins_at j rs p.0 m.afterwards m.group_at (M.afterwards-is ∙ ap (λ (l : List ℕ). eqb (get_or l 13 0) 1) p.4) (M.group_at ∙ ap (λ (l : List ℕ). get_or l 14 0) p.4) p.7.joining;
         };
         parts = record { required = p.1; optional = p.2; is = same; required-ok = subst (λ (x : ℕ). Oks ix ranges rs (k - 1) p.1 x) b p.9; optional-ok = subst (λ (x : ℕ). Oks ix ranges os (k - 1) p.2 x) b p.10 };
         done = λ r kids' len J P. (

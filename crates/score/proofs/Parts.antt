@@ -12,7 +12,7 @@ use Rattle.weight.specs.ScorerTree.{Leaf, nothing, term, phrase, range, everythi
 use Rattle.weight.specs.State.{State, words_of, leaf_size, size_of}
 use Rattle.weight.specs.Held.{LeafIs, Ok, Oks}
 use Rattle.leaf_scorer.proofs.Bounds.{leaf-sizes, ok-length, ok-long}
-use Rattle.score.specs.Words.{ChildThere}
+use Rattle.node.specs.Words.{ChildThere}
 
 -- ---- the kind in the first word of a scorer's part
 unfoldable pub leaf_kind : Leaf → ℕ

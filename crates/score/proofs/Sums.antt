@@ -15,7 +15,7 @@ use Rattle.weight.specs.ScorerTree.{Scorer, Scorers, end, more, matches, all_mat
 use Rattle.weight.specs.State.{size_of}
 use Rattle.weight.specs.Held.{Ok, Oks}
 use Rattle.weight.specs.Sound.{Sounds, TablesOf, nodes, nodes_of}
-use Rattle.score.specs.Words.{ChildThere}
+use Rattle.node.specs.Words.{ChildThere}
 use Rattle.leaf_score.specs.Asked.{Scorable, ScoreIs}
 use Rattle.leaf_score.proofs.Bounds.{scores-add, scores-more}
 use Rattle.score.proofs.Parts.{Zip, zip_start, zip_end, zip-none, zip-next, zip-renewed, kind_word, term-size, ok-kind, view, child-there, part-ok}

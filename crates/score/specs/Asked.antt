@@ -1,5 +1,5 @@
 -- What `score` asks and gives of the parts of some children; what it asks and gives of a node is in `leaf_score`. Assumes nothing: these are definitions.
-use Rattle.std.specs.Prelude.{◌≡◌, true, List, ◌++◌, ℕ, ◌+◌, ◌*◌, ◌^◌, ◌≤◌, Float}
+use Rattle.std.specs.Prelude.{◌≡◌, true, cond, List, ◌++◌, ℕ, ◌+◌, ◌*◌, ◌^◌, ◌≤◌, Float}
 use Rattle.meaning.specs.Lent.{Index}
 use Rattle.meaning.specs.Ieee754.{zero_float, sum_from, narrowed_sum}
 use Rattle.ieee754.specs.Nonneg.{AtMost}
@@ -7,7 +7,8 @@ use Rattle.weight.specs.ScorerTree.{Scorers, Joining, one_more, afterwards, all_
 use Rattle.weight.specs.State.{sizes_of, sizes_of_first}
 use Rattle.weight.specs.Held.{Oks}
 use Rattle.weight.specs.Sound.{Sounds, TablesOf, nodes_of}
-use Rattle.leaf_score.specs.declared.Node.{Node}
+use Rattle.leaf_scorer.specs.declared.LeafReader.{LeafReader}
+use Rattle.node.specs.declared.Boolean.{Boolean}
 use Rattle.leaf_score.specs.Asked.{LentAt}
 
 -- some trees, beside so many nodes that are summed already
@@ -22,22 +23,22 @@ pub record SumIs (x : Float) (xs : List Float) (p : ℕ) (r : Float) : Type 0 wh
   pub small : AtMost (p * 2 ^ 29) r
 
 -- the same of the parts of some children, and of a sum of at most 2^29 for each of p nodes: the required, which all match
-abbrev pub RequiredPre : List ℕ → Float → ℕ → List ℕ → List ℕ → List ℕ → List ℕ → List Float → ℕ → ℕ → ℕ → Type 0
-RequiredPre kids sum n postings positions norms ranges table places doc depth =
-    (ix : Index) × (ss : Scorers) × (p : ℕ) × LentAt ix n postings positions norms doc × Scorables ix table places p ss × (all_match ix ss doc ≡ true) × Oks ix ranges ss depth kids doc × AtMost (p * 2 ^ 29) sum
+abbrev pub RequiredPre : List ℕ → Float → LeafReader → List Float → ℕ → ℕ → ℕ → Type 0
+RequiredPre kids sum reader table places doc depth =
+    (ix : Index) × (ss : Scorers) × (p : ℕ) × LentAt ix reader.max_doc reader.postings.now reader.positions.now reader.norms.now doc × Scorables ix table places p ss × (all_match ix ss doc ≡ true) × Oks ix reader.ranges.now ss depth kids doc × AtMost (p * 2 ^ 29) sum
 
-abbrev pub RequiredPost : List ℕ → Float → ℕ → List ℕ → List ℕ → List ℕ → List ℕ → List Float → ℕ → ℕ → ℕ → Float → List ℕ → Type 0
-RequiredPost kids sum n postings positions norms ranges table places doc depth r kids' =
-    (ix : Index) (ss : Scorers) (p : ℕ) → LentAt ix n postings positions norms doc → Scorables ix table places p ss → all_match ix ss doc ≡ true → Oks ix ranges ss depth kids doc → AtMost (p * 2 ^ 29) sum → SumIs sum (scoring (required_scores ix ss doc)) (p + nodes_of ss) r × Oks ix ranges ss depth kids' doc
+abbrev pub RequiredPost : List ℕ → Float → LeafReader → List Float → ℕ → ℕ → ℕ → Float → List ℕ → Type 0
+RequiredPost kids sum reader table places doc depth r kids' =
+    (ix : Index) (ss : Scorers) (p : ℕ) → LentAt ix reader.max_doc reader.postings.now reader.positions.now reader.norms.now doc → Scorables ix table places p ss → all_match ix ss doc ≡ true → Oks ix reader.ranges.now ss depth kids doc → AtMost (p * 2 ^ 29) sum → SumIs sum (scoring (required_scores ix ss doc)) (p + nodes_of ss) r × Oks ix reader.ranges.now ss depth kids' doc
 
 -- and the optional, which match or do not
-abbrev pub OptionalPre : List ℕ → ℕ → List ℕ → List ℕ → List ℕ → List ℕ → List Float → ℕ → ℕ → ℕ → Type 0
-OptionalPre kids n postings positions norms ranges table places doc depth =
-    (ix : Index) × (ss : Scorers) × LentAt ix n postings positions norms doc × Scorables ix table places 0 ss × Oks ix ranges ss depth kids doc
+abbrev pub OptionalPre : List ℕ → LeafReader → List Float → ℕ → ℕ → ℕ → Type 0
+OptionalPre kids reader table places doc depth =
+    (ix : Index) × (ss : Scorers) × LentAt ix reader.max_doc reader.postings.now reader.positions.now reader.norms.now doc × Scorables ix table places 0 ss × Oks ix reader.ranges.now ss depth kids doc
 
-abbrev pub OptionalPost : List ℕ → ℕ → List ℕ → List ℕ → List ℕ → List ℕ → List Float → ℕ → ℕ → ℕ → Float → List ℕ → Type 0
-OptionalPost kids n postings positions norms ranges table places doc depth r kids' =
-    (ix : Index) (ss : Scorers) → LentAt ix n postings positions norms doc → Scorables ix table places 0 ss → Oks ix ranges ss depth kids doc → SumIs zero_float (optional_scores ix ss doc) (nodes_of ss) r × Oks ix ranges ss depth kids' doc
+abbrev pub OptionalPost : List ℕ → LeafReader → List Float → ℕ → ℕ → ℕ → Float → List ℕ → Type 0
+OptionalPost kids reader table places doc depth r kids' =
+    (ix : Index) (ss : Scorers) → LentAt ix reader.max_doc reader.postings.now reader.positions.now reader.norms.now doc → Scorables ix table places 0 ss → Oks ix reader.ranges.now ss depth kids doc → SumIs zero_float (optional_scores ix ss doc) (nodes_of ss) r × Oks ix reader.ranges.now ss depth kids' doc
 
 -- where the group joins, in the two words of the record
 unfoldable pub JoinsAt : Joining → Scorers → ℕ → ℕ → Type 0
@@ -53,24 +54,24 @@ pub record PartsAre (ix : Index) (ranges : List ℕ) (rs os : Scorers) (depth do
   pub optional-ok : Oks ix ranges os depth optional doc
 
 -- what the score of a Boolean's children asks: its words, its parts, the required all match
-pub record JoinAsks (ix : Index) (table : List Float) (places : ℕ) (j : Joining) (rs os : Scorers) (n : Node) (doc : ℕ) : Type 0 where
+pub record JoinAsks (ix : Index) (table : List Float) (places : ℕ) (j : Joining) (rs os : Scorers) (n : Boolean) (doc : ℕ) : Type 0 where
   pub required : Scorables ix table places 0 rs
   pub optional : Scorables ix table places 0 os
   pub few : nodes_of rs + nodes_of os ≤ 256
   pub all : all_match ix rs doc ≡ true
   pub required-end : n.required_end ≡ sizes_of rs
   pub optional-end : n.optional_end ≡ sizes_of rs + sizes_of os
-  pub joins : JoinsAt j rs n.afterwards n.group_at
+  pub joins : JoinsAt j rs (cond n.afterwards 1 0) n.group_at
 
-abbrev pub JoinPre : List ℕ → Node → ℕ → List ℕ → List ℕ → List ℕ → List ℕ → List Float → ℕ → ℕ → ℕ → Type 0
-JoinPre kids node n postings positions norms ranges table places doc depth =
-    (ix : Index) × (j : Joining) × (rs : Scorers) × (os : Scorers) × (rest : List ℕ) × LentAt ix n postings positions norms doc × JoinAsks ix table places j rs os node doc × PartsAre ix ranges rs os depth doc rest kids
+abbrev pub JoinPre : List ℕ → Boolean → LeafReader → List Float → ℕ → ℕ → ℕ → Type 0
+JoinPre kids node reader table places doc depth =
+    (ix : Index) × (j : Joining) × (rs : Scorers) × (os : Scorers) × (rest : List ℕ) × LentAt ix reader.max_doc reader.postings.now reader.positions.now reader.norms.now doc × JoinAsks ix table places j rs os node doc × PartsAre ix reader.ranges.now rs os depth doc rest kids
 
 -- the joined score, and the parts as good as before
 pub record JoinIs (ix : Index) (j : Joining) (rs os : Scorers) (doc : ℕ) (r : Float) : Type 0 where
   pub is : r ≡ joined_score j (required_scores ix rs doc) (narrowed_sum (optional_scores ix os doc))
   pub small : AtMost ((nodes_of rs + nodes_of os) * 2 ^ 29) r
 
-abbrev pub JoinPost : List ℕ → Node → ℕ → List ℕ → List ℕ → List ℕ → List ℕ → List Float → ℕ → ℕ → ℕ → Float → List ℕ → Type 0
-JoinPost kids node n postings positions norms ranges table places doc depth r kids' =
-    (ix : Index) (j : Joining) (rs os : Scorers) (rest : List ℕ) → LentAt ix n postings positions norms doc → JoinAsks ix table places j rs os node doc → PartsAre ix ranges rs os depth doc rest kids → JoinIs ix j rs os doc r × PartsAre ix ranges rs os depth doc rest kids'
+abbrev pub JoinPost : List ℕ → Boolean → LeafReader → List Float → ℕ → ℕ → ℕ → Float → List ℕ → Type 0
+JoinPost kids node reader table places doc depth r kids' =
+    (ix : Index) (j : Joining) (rs os : Scorers) (rest : List ℕ) → LentAt ix reader.max_doc reader.postings.now reader.positions.now reader.norms.now doc → JoinAsks ix table places j rs os node doc → PartsAre ix reader.ranges.now rs os depth doc rest kids → JoinIs ix j rs os doc r × PartsAre ix reader.ranges.now rs os depth doc rest kids'

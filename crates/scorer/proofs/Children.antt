@@ -13,7 +13,8 @@ use Rattle.meaning.specs.First.{First}
 use Rattle.weight.specs.ScorerTree.{Scorer, Scorers, end, more, matches}
 use Rattle.weight.specs.Held.{Ok, Oks}
 use Rattle.weight.specs.Sound.{Lends, Sound, Sounds}
-use Rattle.scorer.specs.Calls.{NodeHeld, AdvancePost, PartsHeld, ChildAt}
+use Rattle.node.specs.Words.{ChildThere}
+use Rattle.scorer.specs.Calls.{NodeHeld, AdvancePost, PartsHeld}
 use Rattle.leaf_scorer.specs.Calls.{Lent}
 use Rattle.leaf_scorer.proofs.Bounds.{front_long, front-size, ok-mono, oks-mono, ok-front, ok-cached, ok-single}
 
@@ -140,7 +141,7 @@ module _ {E : Lent} {ix : Index} {p k : ℕ} {fs : Scorers} {f : Bool} {T : Scor
       rw s (ok-cached ix E.ranges T k (cond f 1 0) v.y t v.ok t (le_refl _) (rw s at l))
 
 module _ {E : Lent} {ix : Index} {p k : ℕ} {fs : Scorers} {kids : List ℕ} {at t : ℕ} where
-  pub child-facts : (g : Scorers) → Zip E ix p k fs g kids at t → at < length kids → ChildAt kids at
+  pub child-facts : (g : Scorers) → Zip E ix p k fs g kids at t → at < length kids → ChildThere kids at
   child-facts end q l = absurd (omega (arith, zip-none q))
   child-facts (more f T g) q l = record { long = omega (arith, (view q).long, (view q).size); fits = omega (arith, (view q).fits, (view q).size) }
 
@@ -149,11 +150,11 @@ module _ {E : Lent} {ix : Index} {p k : ℕ} {fs : Scorers} {kids : List ℕ} {a
   child-held (more f T g) q l e h = (T, cond f 1 0, held (view q) e h)
 
 -- the first word of a child's part is its kind
-pub child-kind : (kids : List ℕ) (at e : ℕ) → ChildAt kids at → e ≡ at + get_or kids (at + 1) 0 → get_or (take (e - at) (drop at kids)) 0 0 ≡ get_or kids at 0
+pub child-kind : (kids : List ℕ) (at e : ℕ) → ChildThere kids at → e ≡ at + get_or kids (at + 1) 0 → get_or (take (e - at) (drop at kids)) 0 0 ≡ get_or kids at 0
 child-kind kids at e c h = let z : at + 0 ≡ at = omega arith in get_or-take (e - at) (drop at kids) 0 0 (omega (arith, c.long, h)) ∙ get_or-drop at kids 0 0 ∙ ap (λ (i : ℕ). get_or kids i 0) z
 
 -- its third the document where it stands, + 1
-pub child-cached : (kids : List ℕ) (at e : ℕ) → ChildAt kids at → e ≡ at + get_or kids (at + 1) 0 → (c : ℕ) → c ≡ get_or kids (at + 2) 0 → {t : ℕ} → c ≤ t → get_or (take (e - at) (drop at kids)) 2 0 ≤ t
+pub child-cached : (kids : List ℕ) (at e : ℕ) → ChildThere kids at → e ≡ at + get_or kids (at + 1) 0 → (c : ℕ) → c ≡ get_or kids (at + 2) 0 → {t : ℕ} → c ≤ t → get_or (take (e - at) (drop at kids)) 2 0 ≤ t
 child-cached kids at e k h c i l = omega (arith, get_or-take (e - at) (drop at kids) 2 0 (omega (arith, k.long, h)), get_or-drop at kids 2 0)
 
 -- a child whose first word is not that of a phrase or a Boolean: its part is one record

@@ -63,15 +63,6 @@ pub record PartsHeld (E : Lent) (ix : Index) (places : ℕ) (ss : Scorers) (dept
 abbrev pub PartsPre : Lent → ℕ → ℕ → List ℕ → ℕ → ℕ → Type 0
 PartsPre E a b kids target depth = (target ≤ no_more_docs) × ((ix : Index) × (places : ℕ) × (ss : Scorers) × RoomIn places a b × PartsHeld E ix places ss depth kids target)
 
--- what a loop over the parts may read at a place, and what it reads there
-pub record ChildAt (kids : List ℕ) (at : ℕ) : Type 0 where
-  pub long : node_state_words ≤ get_or kids (at + 1) 0
-  pub fits : at + get_or kids (at + 1) 0 ≤ length kids
-
-pub record ChildRead (kids : List ℕ) (at e c : ℕ) : Type 0 where
-  pub end : e ≡ at + get_or kids (at + 1) 0
-  pub cached : c ≡ get_or kids (at + 2) 0
-
 -- the least document and how many stand there, with one document more
 pub record Tally (best n d best' n' : ℕ) : Type 0 where
   pub below : d < best → (best' ≡ d) × (n' ≡ 1)
@@ -133,14 +124,3 @@ takes ix rs os ps need d = leads ix rs os need d && mathlib.Core.Bool.not (ltb 0
 
 abbrev pub BooleanPost : Lent → List ℕ → ℕ → ℕ → ℕ → ℕ → ℕ → ℕ → List ℕ → Type 0
 BooleanPost E kids required_end optional_end need target depth r kids' = (ix : Index) (places : ℕ) (rs os ps : Scorers) → BooleanHeld E ix places rs os ps depth required_end optional_end kids target → First (takes ix rs os ps need) target r × BooleanHeld E ix places rs os ps depth required_end optional_end kids' r
-
--- what advance reads of a node's record
-pub record HeadRead (st : List ℕ) (k c : ℕ) : Type 0 where
-  pub kind : k ≡ get_or st 0 0
-  pub cached : c ≡ get_or st 2 0
-
--- and of a Boolean's
-pub record BooleanRead (st : List ℕ) (n r o : ℕ) : Type 0 where
-  pub need : n ≡ get_or st 3 0
-  pub required-end : r ≡ get_or st 4 0
-  pub optional-end : o ≡ get_or st 5 0

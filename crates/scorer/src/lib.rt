@@ -3,83 +3,16 @@
 
 ghost use Rattle.std.specs.Prelude.{ℕ, ◌+◌, ◌≤◌, ◌<◌, ◌≡◌, length, get_or};
 ghost use Rattle.meaning.specs.Limits.{node_state_words};
-ghost use Rattle.scorer.specs.Calls.{AdvancePre, AdvancePost, TermPre, TermPost, RangePre, RangePost, AskPre, AskPost, PartsPre, ChildAt, ChildRead, Tally, LeastPost, DisjunctionPost, PassPost, LeadPre, StepPost, LeadPost, BooleanPre, BooleanPost, HeadRead, BooleanRead};
+ghost use Rattle.scorer.specs.Calls.{AdvancePre, AdvancePost, TermPre, TermPost, RangePre, RangePost, AskPre, AskPost, PartsPre, Tally, LeastPost, DisjunctionPost, PassPost, LeadPre, StepPost, LeadPost, BooleanPre, BooleanPost};
 ghost use Rattle.leaf_scorer.specs.Calls.{lent_of};
 
 use index::wide;
 use leaf_scorer::{LeafReader, NO_MORE_DOCS};
+use node::{NodeKind, boolean_at, child_at};
 use weight::NODE_STATE_WORDS;
 
-const TERM: u32 = 1;
-
-const PHRASE: u32 = 2;
-
-const RANGE: u32 = 4;
-
-const BOOLEAN: u32 = 3;
-
-// What a loop over parts reads of a child: where its part ends, and the document where it stands, + 1.
-#[derive(Drop)]
-pub struct Child {
-    pub end: usize,
-    pub cached: u32,
-}
-
-pub fn child_at(kids: &[u32], at: usize) -> Child
-    requires { ChildAt kids.now at }
-    ensures { ChildRead kids.now at result.end result.cached }
-{
-    let end = at + wide(kids[at + 1]);
-    Child {
-        end,
-        cached: kids[at + 2],
-    }
-}
-
-// Its kind.
-fn kind_at(kids: &[u32], at: usize) -> u32
-    requires { ChildAt kids.now at }
-    ensures { result ≡ get_or kids.now at 0 }
-{
-    kids[at]
-}
-
-#[derive(Drop)]
-pub struct Head {
-    pub kind: u32,
-    pub cached: u32,
-}
-
-fn head_at(st: &[u32]) -> Head
-    requires { node_state_words ≤ length st.now }
-    ensures { HeadRead st.now result.kind result.cached }
-{
-    Head {
-        kind: st[0],
-        cached: st[2],
-    }
-}
-
-#[derive(Drop)]
-pub struct Boolean {
-    pub need: u32,
-    pub required: usize,
-    pub optional: usize,
-}
-
-fn boolean_at(st: &[u32]) -> Boolean
-    requires { node_state_words ≤ length st.now }
-    ensures { BooleanRead st.now result.need result.required result.optional }
-{
-    Boolean {
-        need: st[3],
-        required: wide(st[4]),
-        optional: wide(st[5]),
-    }
-}
-
 // The least of some documents, and how many of them it is.
-#[derive(Drop)]
+#[derive(Clone, Copy)]
 pub struct Standing {
     pub doc: u32,
     pub count: usize,
@@ -107,8 +40,7 @@ pub fn advance_term(st: &mut [u32], postings: &[u32], target: u32) -> u32
     ensures term_post { TermPost postings.now st.old target result st.new }
     ensures st_after { get_or st.new 2 0 ≡ result + 1 }
 {
-    let h = head_at(st);
-    let cached = h.cached;
+    let cached = st[2];
     if target < cached {
         return cached - 1;
     }
@@ -122,8 +54,7 @@ fn advance_range(st: &mut [u32], ranges: &[u32], target: u32) -> u32
     requires { RangePre ranges.now st.old target }
     ensures { RangePost ranges.now st.old target result st.new }
 {
-    let h = head_at(st);
-    let cached = h.cached;
+    let cached = st[2];
     if target < cached {
         return cached - 1;
     }
@@ -171,31 +102,33 @@ pub fn advance(
     ensures advance_post { AdvancePost (lent_of reader.now) st.old target depth result st.new }
     ensures st_after { get_or st.new 2 0 ≡ result + 1 }
 {
-    let h = head_at(st);
-    let cached = h.cached;
+    let cached = st[2];
     if target < cached {
         return cached - 1;
     }
-    if h.kind == BOOLEAN {
-        let n = boolean_at(st);
-        let kids = &mut st[NODE_STATE_WORDS..];
-        let d = excluding(
-            kids,
-            reader,
-            a,
-            b,
-            n.required,
-            n.optional,
-            n.need,
-            target,
-            depth - 1,
-        );
-        st[2] = d + 1;
-        d
-    } else {
-        let d = leaf_scorer::seek(st, reader, a, b, target);
-        st[2] = d + 1;
-        d
+    match NodeKind::from(st[0]) {
+        NodeKind::Boolean => {
+            let n = boolean_at(st);
+            let kids = &mut st[NODE_STATE_WORDS..];
+            let d = excluding(
+                kids,
+                reader,
+                a,
+                b,
+                n.required_end,
+                n.optional_end,
+                n.need,
+                target,
+                depth - 1,
+            );
+            st[2] = d + 1;
+            d
+        }
+        _ => {
+            let d = leaf_scorer::seek(st, reader, a, b, target);
+            st[2] = d + 1;
+            d
+        }
     }
 }
 
@@ -216,6 +149,7 @@ fn excluding(
     ensures { BooleanPost (lent_of reader.now) kids.old required_end optional_end need target depth result kids.new }
 {
     let mut t = target;
+    // Kept: each turn begins where the answer of the one before lies; a loop is plainer than an iterator of such steps.
     loop {
         let d = lead(
             &mut kids[..optional_end],
@@ -284,6 +218,7 @@ fn conjunction(
     ensures { LeadPost (lent_of reader.now) kids.old required_end need target depth result kids.new }
 {
     let mut d = target;
+    // Kept: each turn begins where the answer of the one before lies; a loop is plainer than an iterator of such steps.
     loop {
         let e = step(kids, reader, a, b, required_end, need, d, depth);
         if e == d {
@@ -331,37 +266,40 @@ fn pass(
 {
     let mut d = target;
     let mut at = 0;
+    // Kept: parts differ in length, each says itself where the next one begins, and std has no iterator over such parts.
     while at < kids.len() {
-        let kind = kind_at(kids, at);
-        if kind == TERM {
-            let end = at + NODE_STATE_WORDS;
-            d = advance_term(&mut kids[at..end], reader.postings, d);
-            at = end;
-        } else if kind == RANGE {
-            let end = at + NODE_STATE_WORDS;
-            d = advance_range(&mut kids[at..end], reader.ranges, d);
-            at = end;
-        } else {
-            let k = child_at(kids, at);
-            let end = k.end;
-            let cached = k.cached;
-            if d < cached {
-                d = cached - 1;
+        let child = child_at(kids, at);
+        match child.kind {
+            NodeKind::Term => {
+                let end = at + NODE_STATE_WORDS;
+                d = advance_term(&mut kids[at..end], reader.postings, d);
                 at = end;
-            } else if kind == PHRASE {
-                d = ask_phrase(
-                    &mut kids[at..end],
-                    reader.postings,
-                    reader.positions,
-                    a,
-                    b,
-                    target,
-                    d,
-                );
+            }
+            NodeKind::Range => {
+                let end = at + NODE_STATE_WORDS;
+                d = advance_range(&mut kids[at..end], reader.ranges, d);
                 at = end;
-            } else {
-                d = advance(&mut kids[at..end], reader, a, b, d, depth);
-                at = end;
+            }
+            _ => {
+                let end = child.end;
+                if d < child.cached {
+                    d = child.cached - 1;
+                    at = end;
+                } else if child.kind == NodeKind::Phrase {
+                    d = ask_phrase(
+                        &mut kids[at..end],
+                        reader.postings,
+                        reader.positions,
+                        a,
+                        b,
+                        target,
+                        d,
+                    );
+                    at = end;
+                } else {
+                    d = advance(&mut kids[at..end], reader, a, b, d, depth);
+                    at = end;
+                }
             }
         }
     }
@@ -384,6 +322,7 @@ fn disjunction(
 {
     let enough = wide(need);
     let mut t = target;
+    // Kept: each turn begins where the answer of the one before lies; a loop is plainer than an iterator of such steps.
     loop {
         let x = least(kids, reader, a, b, t, depth);
         let d = x.doc;
@@ -414,24 +353,26 @@ fn least(
     let mut best = NO_MORE_DOCS;
     let mut count = 0;
     let mut at = 0;
+    // Kept: parts differ in length, each says itself where the next one begins, and std has no iterator over such parts.
     while at < kids.len() {
-        if kind_at(kids, at) == TERM {
-            let end = at + NODE_STATE_WORDS;
-            let d = advance_term(&mut kids[at..end], reader.postings, target);
-            let x = tally(best, count, d);
-            best = x.doc;
-            count = x.count;
-            at = end;
-        } else {
-            let k = child_at(kids, at);
-            let end = k.end;
-            let cached = k.cached;
-            if target < cached {
-                let x = tally(best, count, cached - 1);
+        let child = child_at(kids, at);
+        match child.kind {
+            NodeKind::Term => {
+                let end = at + NODE_STATE_WORDS;
+                let d = advance_term(&mut kids[at..end], reader.postings, target);
+                let x = tally(best, count, d);
                 best = x.doc;
                 count = x.count;
                 at = end;
-            } else {
+            }
+            _ if target < child.cached => {
+                let x = tally(best, count, child.cached - 1);
+                best = x.doc;
+                count = x.count;
+                at = child.end;
+            }
+            _ => {
+                let end = child.end;
                 let d = advance(&mut kids[at..end], reader, a, b, target, depth);
                 let x = tally(best, count, d);
                 best = x.doc;

@@ -8,7 +8,7 @@ ghost use Rattle.walk.specs.Walks.{NextPre, NextPost, ListPre, ListPost};
 use leaf_scorer::LeafReader;
 
 // Above every document.
-pub const NO_MORE_DOCS: u32 = 2147483647;
+pub use index::postings::NO_MORE_DOCS;
 
 // How many were written, and the next live match.
 #[derive(Clone, Copy)]
@@ -30,6 +30,7 @@ pub fn next_match(
     ensures { NextPost (lent_of reader.now) reader.now.live.now st.old from depth result st.new }
 {
     let mut target = from;
+    // Kept: each turn begins where the answer of the one before lies; a loop is plainer than an iterator of such steps.
     loop {
         let d = scorer::advance(st, reader, a, b, target, depth);
         if d >= reader.max_doc {

@@ -1,4 +1,4 @@
-use Rattle.std.proofs.Common.{◌-◌, ℕ, ◌+◌, ◌*◌, ◌≤◌, ◌<◌, ◌≡◌, Bool, false}
+use Rattle.std.proofs.Common.{ℕ, ◌+◌, ◌*◌, ◌≤◌, ◌<◌, ◌≡◌, Bool, false}
 use Rattle.bits.specs.Bit.{Bitmap}
 use Rattle.leaf_scorer.proofs.next_set.Given as goal
 
@@ -6,6 +6,3 @@ use Rattle.leaf_scorer.proofs.next_set.Given as goal
 abbrev pub invariant-loop-at : goal.invariant-loop-at
 invariant-loop-at l =
     (l.skip < 32) × (l.target ≤ 32 * l.at + l.skip) × ((P : ℕ → Bool) → Bitmap P l.words l.first l.number → (d : ℕ) → l.target ≤ d → d < 32 * l.at + l.skip → P d ≡ false)
-
-abbrev pub decreases-loop-at : goal.decreases-loop-at
-decreases-loop-at l = l.number - l.at

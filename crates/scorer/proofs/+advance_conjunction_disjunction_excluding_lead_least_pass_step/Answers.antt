@@ -1,11 +1,13 @@
 -- The answers of the cycle.
 use Prim.Native.Nat.{◌+◌, ◌-◌, ◌<◌}
-use lib.ListN.{length, drop, take}
+use lib.ListN.{length, get_or, drop, take}
 use lib.Dec.{leb}
 use Rattle.meaning.specs.Limits.{no_more_docs, node_state_words}
 use Rattle.weight.specs.ScorerTree.{matching, all_match}
+use Rattle.node.specs.Kinds.{kind_of}
+use Rattle.node.proofs.Scorers.{term-word, phrase-word, range-word, boolean-word, is-phrase}
 use Rattle.leaf_scorer.specs.Calls.{lent_of, lent}
-use mathlib.Core.Path.{refl, sym, ◌∙◌}
+use mathlib.Core.Path.{refl, sym, ap, ◌∙◌}
 use mathlib.Core.List.{◌++◌}
 use native.Mathlib.Omega.{arith}
 use native.Mathlib.Nat.{le_trans}
@@ -101,14 +103,17 @@ step-returns-then-need-eq0 t c = let s = c in let g = c.pass-e in λ ix p rs os 
 pub step-returns-else-need-eq0 : goal.step-returns-else-need-eq0
 step-returns-else-need-eq0 t c = let s = c in let g = c.pass-e in let x = c.disjunction in λ ix p rs os h. let q = g.ensures ix p rs (lead-required h) in let j = lead-passed h g.new.kids g.result q.0.from q.1 in let y = x.ensures ix p os (lead-optional j) in (pass-then {P = all_match ix rs} {Q = λ d. leb s.args.need (matching ix os d)} q.0 y.0, lead-joined j x.new.kids x.result y.0.from y.1)
 
-pub advance-head_at-h-requires : goal.advance-head_at-h-requires
-advance-head_at-h-requires t c = let s = c in let P = s.requires.1 in let l = ok-long P.0 s.args.reader.now.ranges.now P.2 s.args.depth P.3 s.args.st.now s.args.target P.5.ok in l
+pub advance-bounds-st-2 : goal.advance-bounds-st-2
+advance-bounds-st-2 t c = let s = c in let P = s.requires.1 in let l = ok-long P.0 s.args.reader.now.ranges.now P.2 s.args.depth P.3 s.args.st.now s.args.target P.5.ok in omega (arith, l)
+
+pub advance-bounds-st-0 : goal.advance-bounds-st-0
+advance-bounds-st-0 t c = let s = c in let P = s.requires.1 in let l = ok-long P.0 s.args.reader.now.ranges.now P.2 s.args.depth P.3 s.args.st.now s.args.target P.5.ok in omega (arith, l)
 
 pub advance-overflow_sub-result : goal.advance-overflow_sub-result
 advance-overflow_sub-result t c = omega (arith, c.if-target-cached.true)
 
 pub advance-returns-then-target-cached : goal.advance-returns-then-target-cached
-advance-returns-then-target-cached t c = let s = c in let h = c.head_at-h in record { advance_post = (λ ix p T o z. (node-cached (lent_of s.args.reader.now) ix p s.args.depth o s.args.st.now s.args.target h.result.cached h.ensures.cached T z c.if-target-cached.true, z.ok)); st_after = omega (arith, h.ensures.cached, c.if-target-cached.true) }
+advance-returns-then-target-cached t c = let s = c in record { advance_post = (λ ix p T o z. (node-cached (lent_of s.args.reader.now) ix p s.args.depth o s.args.st.now s.args.target (get_or s.args.st.now 2 0) refl T z c.if-target-cached.true, z.ok)); st_after = omega (arith, c.if-target-cached.true) }
 
 pub advance-boolean_at-n-requires : goal.advance-boolean_at-n-requires
 advance-boolean_at-n-requires t c = let s = c in let P = s.requires.1 in let l = ok-long P.0 s.args.reader.now.ranges.now P.2 s.args.depth P.3 s.args.st.now s.args.target P.5.ok in l
@@ -123,31 +128,31 @@ pub advance-slice_bounds-kids-end : goal.advance-slice_bounds-kids-end
 advance-slice_bounds-kids-end t c = let s = c in let P = s.requires.1 in let l = ok-long P.0 s.args.reader.now.ranges.now P.2 s.args.depth P.3 s.args.st.now s.args.target P.5.ok in omega (arith, l)
 
 pub advance-overflow_sub-depth : goal.advance-overflow_sub-depth
-advance-overflow_sub-depth t c = let s = c in let P = s.requires.1 in let h = c.head_at-h in let b = c.boolean_at-n in let n = node-boolean (lent_of s.args.reader.now) P.0 P.1 s.args.depth P.3 s.args.st.now s.args.target h.result.cached h.ensures.cached c.if-target-cached.false h.result.kind h.ensures.kind c.if-h-eq-BOOLEAN.true b.result.need b.ensures.need b.result.required b.result.optional b.ensures.required-end b.ensures.optional-end P.2 P.5 in omega (arith, n.0)
+advance-overflow_sub-depth t c = let s = c in let P = s.requires.1 in let b = c.boolean_at-n in let n = node-boolean (lent_of s.args.reader.now) P.0 P.1 s.args.depth P.3 s.args.st.now s.args.target (get_or s.args.st.now 2 0) refl c.if-target-cached.false (get_or s.args.st.now 0 0) refl (boolean-word _ (sym c.in-Boolean.ensures)) b.result.need b.ensures.need-is b.result.required_end b.result.optional_end b.ensures.required-end b.ensures.optional-end P.2 P.5 in omega (arith, n.0)
 
 pub advance-excluding-d-requires : goal.advance-excluding-d-requires
-advance-excluding-d-requires t c = let s = c in let P = s.requires.1 in let h = c.head_at-h in let b = c.boolean_at-n in let n = node-boolean (lent_of s.args.reader.now) P.0 P.1 s.args.depth P.3 s.args.st.now s.args.target h.result.cached h.ensures.cached c.if-target-cached.false h.result.kind h.ensures.kind c.if-h-eq-BOOLEAN.true b.result.need b.ensures.need b.result.required b.result.optional b.ensures.required-end b.ensures.optional-end P.2 P.5 in (omega (arith, n.0), (s.requires.0, (P.0, P.1, n.1.0, n.1.1, n.1.2, record { in-a = P.4.in-a; in_b = P.4.in_b }, n.1.3)))
+advance-excluding-d-requires t c = let s = c in let P = s.requires.1 in let b = c.boolean_at-n in let n = node-boolean (lent_of s.args.reader.now) P.0 P.1 s.args.depth P.3 s.args.st.now s.args.target (get_or s.args.st.now 2 0) refl c.if-target-cached.false (get_or s.args.st.now 0 0) refl (boolean-word _ (sym c.in-Boolean.ensures)) b.result.need b.ensures.need-is b.result.required_end b.result.optional_end b.ensures.required-end b.ensures.optional-end P.2 P.5 in (omega (arith, n.0), (s.requires.0, (P.0, P.1, n.1.0, n.1.1, n.1.2, record { in-a = P.4.in-a; in_b = P.4.in_b }, n.1.3)))
 
 pub advance-overflow_add-st : goal.advance-overflow_add-st
-advance-overflow_add-st t c = let s = c in let P = s.requires.1 in let h = c.head_at-h in let b = c.boolean_at-n in let x = c.excluding-d in let d = node-joined (lent_of s.args.reader.now) P.0 P.1 s.args.depth P.3 s.args.st.now s.args.target h.result.cached h.ensures.cached c.if-target-cached.false h.result.kind h.ensures.kind c.if-h-eq-BOOLEAN.true b.result.need b.ensures.need b.result.required b.result.optional b.ensures.required-end b.ensures.optional-end x.result x.new.kids x.ensures P.2 P.5 in omega (arith, d.0.top)
+advance-overflow_add-st t c = let s = c in let P = s.requires.1 in let b = c.boolean_at-n in let x = c.excluding-d in let d = node-joined (lent_of s.args.reader.now) P.0 P.1 s.args.depth P.3 s.args.st.now s.args.target (get_or s.args.st.now 2 0) refl c.if-target-cached.false (get_or s.args.st.now 0 0) refl (boolean-word _ (sym c.in-Boolean.ensures)) b.result.need b.ensures.need-is b.result.required_end b.result.optional_end b.ensures.required-end b.ensures.optional-end x.result x.new.kids x.ensures P.2 P.5 in omega (arith, d.0.top)
 
-pub advance-bounds-st-2 : goal.advance-bounds-st-2
-advance-bounds-st-2 t c = let s = c in let P = s.requires.1 in let l = ok-long P.0 s.args.reader.now.ranges.now P.2 s.args.depth P.3 s.args.st.now s.args.target P.5.ok in let x = c.excluding-d in omega (arith, l, back-length s.args.st.now x.new.kids node_state_words (length s.args.st.now) x.auto.kids)
+pub advance-bounds-st-2-in-Boolean : goal.advance-bounds-st-2-in-Boolean
+advance-bounds-st-2-in-Boolean t c = let s = c in let P = s.requires.1 in let l = ok-long P.0 s.args.reader.now.ranges.now P.2 s.args.depth P.3 s.args.st.now s.args.target P.5.ok in let x = c.excluding-d in omega (arith, l, back-length s.args.st.now x.new.kids node_state_words (length s.args.st.now) x.auto.kids)
 
 pub advance-seek-d-requires : goal.advance-seek-d-requires
-advance-seek-d-requires t c = let s = c in let P = s.requires.1 in let h = c.head_at-h in let n = node-leaf (lent_of s.args.reader.now) P.0 P.1 s.args.depth P.3 s.args.st.now s.args.target h.result.cached h.ensures.cached c.if-target-cached.false h.result.kind h.ensures.kind c.if-h-eq-BOOLEAN.false P.2 P.5 in (s.requires.0, (P.0, P.1, n.0, n.1, n.2, record { in-a = P.4.in-a; in_b = P.4.in_b }, n.3))
+advance-seek-d-requires t c = let s = c in let P = s.requires.1 in let n = node-leaf (lent_of s.args.reader.now) P.0 P.1 s.args.depth P.3 s.args.st.now s.args.target (get_or s.args.st.now 2 0) refl c.if-target-cached.false (get_or s.args.st.now 0 0) refl (λ e. c.in_default.not-Boolean (c.from.ensures ∙ ap kind_of e)) P.2 P.5 in (s.requires.0, (P.0, P.1, n.0, n.1, n.2, record { in-a = P.4.in-a; in_b = P.4.in_b }, n.3))
 
-pub advance-overflow_add-st-else-h-eq-BOOLEAN : goal.advance-overflow_add-st-else-h-eq-BOOLEAN
-advance-overflow_add-st-else-h-eq-BOOLEAN t c = let s = c in let P = s.requires.1 in let h = c.head_at-h in let y = c.seek-d in let d = node-sought (lent_of s.args.reader.now) P.0 P.1 s.args.depth P.3 s.args.st.now s.args.target h.result.cached h.ensures.cached c.if-target-cached.false h.result.kind h.ensures.kind s.requires.0 c.if-h-eq-BOOLEAN.false y.result y.new.st y.ensures P.2 P.5 in omega (arith, d.0.top)
+pub advance-overflow_add-st-in_default : goal.advance-overflow_add-st-in_default
+advance-overflow_add-st-in_default t c = let s = c in let P = s.requires.1 in let y = c.seek-d in let d = node-sought (lent_of s.args.reader.now) P.0 P.1 s.args.depth P.3 s.args.st.now s.args.target (get_or s.args.st.now 2 0) refl c.if-target-cached.false (get_or s.args.st.now 0 0) refl s.requires.0 (λ e. c.in_default.not-Boolean (c.from.ensures ∙ ap kind_of e)) y.result y.new.st y.ensures P.2 P.5 in omega (arith, d.0.top)
 
-pub advance-bounds-st-2-else-h-eq-BOOLEAN : goal.advance-bounds-st-2-else-h-eq-BOOLEAN
-advance-bounds-st-2-else-h-eq-BOOLEAN t c = let s = c in let P = s.requires.1 in let l = ok-long P.0 s.args.reader.now.ranges.now P.2 s.args.depth P.3 s.args.st.now s.args.target P.5.ok in let y = c.seek-d in omega (arith, l, y.auto.st)
+pub advance-bounds-st-2-in_default : goal.advance-bounds-st-2-in_default
+advance-bounds-st-2-in_default t c = let s = c in let P = s.requires.1 in let l = ok-long P.0 s.args.reader.now.ranges.now P.2 s.args.depth P.3 s.args.st.now s.args.target P.5.ok in let y = c.seek-d in omega (arith, l, y.auto.st)
 
-pub advance-returns-then-h-eq-BOOLEAN : goal.advance-returns-then-h-eq-BOOLEAN
-advance-returns-then-h-eq-BOOLEAN t c = let s = c in let P = s.requires.1 in let l = ok-long P.0 s.args.reader.now.ranges.now P.2 s.args.depth P.3 s.args.st.now s.args.target P.5.ok in let h = c.head_at-h in let b = c.boolean_at-n in let x = c.excluding-d in record { advance_post = (λ ix p T o z. node-joined (lent_of s.args.reader.now) ix p s.args.depth o s.args.st.now s.args.target h.result.cached h.ensures.cached c.if-target-cached.false h.result.kind h.ensures.kind c.if-h-eq-BOOLEAN.true b.result.need b.ensures.need b.result.required b.result.optional b.ensures.required-end b.ensures.optional-end x.result x.new.kids x.ensures T z); st_after = get_or-set_same (take node_state_words s.args.st.now ++ (x.new.kids ++ drop (length s.args.st.now - node_state_words) (drop node_state_words s.args.st.now))) 2 (x.result + 1) 0 (omega (arith, l, back-length s.args.st.now x.new.kids node_state_words (length s.args.st.now) x.auto.kids)) }
+pub advance-returns-in-Boolean : goal.advance-returns-in-Boolean
+advance-returns-in-Boolean t c = let s = c in let P = s.requires.1 in let l = ok-long P.0 s.args.reader.now.ranges.now P.2 s.args.depth P.3 s.args.st.now s.args.target P.5.ok in let b = c.boolean_at-n in let x = c.excluding-d in record { advance_post = (λ ix p T o z. node-joined (lent_of s.args.reader.now) ix p s.args.depth o s.args.st.now s.args.target (get_or s.args.st.now 2 0) refl c.if-target-cached.false (get_or s.args.st.now 0 0) refl (boolean-word _ (sym c.in-Boolean.ensures)) b.result.need b.ensures.need-is b.result.required_end b.result.optional_end b.ensures.required-end b.ensures.optional-end x.result x.new.kids x.ensures T z); st_after = get_or-set_same (take node_state_words s.args.st.now ++ (x.new.kids ++ drop (length s.args.st.now - node_state_words) (drop node_state_words s.args.st.now))) 2 (x.result + 1) 0 (omega (arith, l, back-length s.args.st.now x.new.kids node_state_words (length s.args.st.now) x.auto.kids)) }
 
-pub advance-returns-else-h-eq-BOOLEAN : goal.advance-returns-else-h-eq-BOOLEAN
-advance-returns-else-h-eq-BOOLEAN t c = let s = c in let P = s.requires.1 in let l = ok-long P.0 s.args.reader.now.ranges.now P.2 s.args.depth P.3 s.args.st.now s.args.target P.5.ok in let h = c.head_at-h in let y = c.seek-d in record { advance_post = (λ ix p T o z. node-sought (lent_of s.args.reader.now) ix p s.args.depth o s.args.st.now s.args.target h.result.cached h.ensures.cached c.if-target-cached.false h.result.kind h.ensures.kind s.requires.0 c.if-h-eq-BOOLEAN.false y.result y.new.st y.ensures T z); st_after = get_or-set_same y.new.st 2 (y.result + 1) 0 (omega (arith, l, y.auto.st)) }
+pub advance-returns-in_default : goal.advance-returns-in_default
+advance-returns-in_default t c = let s = c in let P = s.requires.1 in let l = ok-long P.0 s.args.reader.now.ranges.now P.2 s.args.depth P.3 s.args.st.now s.args.target P.5.ok in let y = c.seek-d in record { advance_post = (λ ix p T o z. node-sought (lent_of s.args.reader.now) ix p s.args.depth o s.args.st.now s.args.target (get_or s.args.st.now 2 0) refl c.if-target-cached.false (get_or s.args.st.now 0 0) refl s.requires.0 (λ e. c.in_default.not-Boolean (c.from.ensures ∙ ap kind_of e)) y.result y.new.st y.ensures T z); st_after = get_or-set_same y.new.st 2 (y.result + 1) 0 (omega (arith, l, y.auto.st)) }
 
 pub excluding-loop-required_end-init : goal.excluding-loop-required_end-init
 excluding-loop-required_end-init t c = let s = c in (record { kids-same = refl; a-same = refl; b-same = refl }, s.requires.0, λ ix p rs os ps h. going_start h)
@@ -197,74 +202,71 @@ excluding-returns-else-x-d t c = let s = c in let a = c.loop-required_end in let
 pub least-loop-at-init : goal.least-loop-at-init
 least-loop-at-init t c = let s = c in (record { kids-same = refl; a-same = refl; b-same = refl }, λ ix p ss h. least_start s.requires.0 h)
 
-pub least-kind_at-requires : goal.least-kind_at-requires
-least-kind_at-requires t c = let s = c in let P = s.requires.1 in let a = c.loop-at in let i = a.invariant.1 P.0 P.1 P.2 P.4 in let l = c.loop-at-test.true in child-facts i.left i.zip l
-
 pub least-overflow_add-end : goal.least-overflow_add-end
-least-overflow_add-end t c = let s = c in let P = s.requires.1 in let a = c.loop-at in let i = a.invariant.1 P.0 P.1 P.2 P.4 in let l = c.loop-at-test.true in let f = child-facts i.left i.zip l in let n = child-term i.left i.zip l (sym c.kind_at.ensures ∙ c.if-kind_at-eq-TERM.true) in omega (arith, f, n, a.invariant.0, s.well_formed)
+least-overflow_add-end t c = let s = c in let P = s.requires.1 in let a = c.loop-at in let i = a.invariant.1 P.0 P.1 P.2 P.4 in let l = c.loop-at-test.true in let f = child-facts i.left i.zip l in let n = child-term i.left i.zip l (term-word _ (sym c.child_at-child.ensures.kind-is ∙ c.in-Term.is)) in omega (arith, f, n, a.invariant.0, s.well_formed)
 
 pub least-offset_bounds-kids-at : goal.least-offset_bounds-kids-at
-least-offset_bounds-kids-at t c = let s = c in let P = s.requires.1 in let a = c.loop-at in let i = a.invariant.1 P.0 P.1 P.2 P.4 in let l = c.loop-at-test.true in let f = child-facts i.left i.zip l in let n = child-term i.left i.zip l (sym c.kind_at.ensures ∙ c.if-kind_at-eq-TERM.true) in omega (arith, f, n, a.invariant.0, s.well_formed)
+least-offset_bounds-kids-at t c = let s = c in let P = s.requires.1 in let a = c.loop-at in let i = a.invariant.1 P.0 P.1 P.2 P.4 in let l = c.loop-at-test.true in let f = child-facts i.left i.zip l in let n = child-term i.left i.zip l (term-word _ (sym c.child_at-child.ensures.kind-is ∙ c.in-Term.is)) in omega (arith, f, n, a.invariant.0, s.well_formed)
 
 pub least-slice_bounds-advance_term-count : goal.least-slice_bounds-advance_term-count
-least-slice_bounds-advance_term-count t c = let s = c in let P = s.requires.1 in let a = c.loop-at in let i = a.invariant.1 P.0 P.1 P.2 P.4 in let l = c.loop-at-test.true in let f = child-facts i.left i.zip l in let n = child-term i.left i.zip l (sym c.kind_at.ensures ∙ c.if-kind_at-eq-TERM.true) in omega (arith, f, n)
+least-slice_bounds-advance_term-count t c = let s = c in let P = s.requires.1 in let a = c.loop-at in let i = a.invariant.1 P.0 P.1 P.2 P.4 in let l = c.loop-at-test.true in let f = child-facts i.left i.zip l in let n = child-term i.left i.zip l (term-word _ (sym c.child_at-child.ensures.kind-is ∙ c.in-Term.is)) in omega (arith, f, n)
 
 pub least-slice_bounds-advance_term-start : goal.least-slice_bounds-advance_term-start
-least-slice_bounds-advance_term-start t c = let s = c in let P = s.requires.1 in let a = c.loop-at in let i = a.invariant.1 P.0 P.1 P.2 P.4 in let l = c.loop-at-test.true in let f = child-facts i.left i.zip l in let n = child-term i.left i.zip l (sym c.kind_at.ensures ∙ c.if-kind_at-eq-TERM.true) in omega (arith, f, n, a.invariant.0, s.well_formed)
+least-slice_bounds-advance_term-start t c = let s = c in let P = s.requires.1 in let a = c.loop-at in let i = a.invariant.1 P.0 P.1 P.2 P.4 in let l = c.loop-at-test.true in let f = child-facts i.left i.zip l in let n = child-term i.left i.zip l (term-word _ (sym c.child_at-child.ensures.kind-is ∙ c.in-Term.is)) in omega (arith, f, n, a.invariant.0, s.well_formed)
 
 pub least-slice_bounds-advance_term-end : goal.least-slice_bounds-advance_term-end
-least-slice_bounds-advance_term-end t c = let s = c in let P = s.requires.1 in let a = c.loop-at in let i = a.invariant.1 P.0 P.1 P.2 P.4 in let l = c.loop-at-test.true in let f = child-facts i.left i.zip l in let n = child-term i.left i.zip l (sym c.kind_at.ensures ∙ c.if-kind_at-eq-TERM.true) in omega (arith, f, n, a.invariant.0, s.well_formed)
+least-slice_bounds-advance_term-end t c = let s = c in let P = s.requires.1 in let a = c.loop-at in let i = a.invariant.1 P.0 P.1 P.2 P.4 in let l = c.loop-at-test.true in let f = child-facts i.left i.zip l in let n = child-term i.left i.zip l (term-word _ (sym c.child_at-child.ensures.kind-is ∙ c.in-Term.is)) in omega (arith, f, n, a.invariant.0, s.well_formed)
 
 pub least-advance_term-d-requires : goal.least-advance_term-d-requires
-least-advance_term-d-requires t c = let s = c in let P = s.requires.1 in let a = c.loop-at in let i = a.invariant.1 P.0 P.1 P.2 P.4 in let l = c.loop-at-test.true in let f = child-facts i.left i.zip l in let v = term-end i.left i.zip l (sym c.kind_at.ensures ∙ c.if-kind_at-eq-TERM.true) in let h = child-held i.left i.zip l (a.at + node_state_words) v in (s.requires.0, child-kind a.kids a.at (a.at + node_state_words) f v ∙ (sym c.kind_at.ensures ∙ c.if-kind_at-eq-TERM.true), (lent_of s.args.reader.now, refl, P.0, P.1, h.0, s.args.depth, h.1, h.2))
+least-advance_term-d-requires t c = let s = c in let P = s.requires.1 in let a = c.loop-at in let i = a.invariant.1 P.0 P.1 P.2 P.4 in let l = c.loop-at-test.true in let f = child-facts i.left i.zip l in let v = term-end i.left i.zip l (term-word _ (sym c.child_at-child.ensures.kind-is ∙ c.in-Term.is)) in let h = child-held i.left i.zip l (a.at + node_state_words) v in (s.requires.0, child-kind a.kids a.at (a.at + node_state_words) f v ∙ (term-word _ (sym c.child_at-child.ensures.kind-is ∙ c.in-Term.is)), (lent_of s.args.reader.now, refl, P.0, P.1, h.0, s.args.depth, h.1, h.2))
 
 pub least-tally-x-requires : goal.least-tally-x-requires
 least-tally-x-requires t c = let s = c in let P = s.requires.1 in let a = c.loop-at in let i = a.invariant.1 P.0 P.1 P.2 P.4 in let l = c.loop-at-test.true in omega (arith, i.few, l, a.invariant.0, s.well_formed)
 
-pub least-loop-at-smaller-then-kind_at-eq-TERM : goal.least-loop-at-smaller-then-kind_at-eq-TERM
-least-loop-at-smaller-then-kind_at-eq-TERM t c = let s = c in let P = s.requires.1 in let a = c.loop-at in let i = a.invariant.1 P.0 P.1 P.2 P.4 in let l = c.loop-at-test.true in let f = child-facts i.left i.zip l in let n = child-term i.left i.zip l (sym c.kind_at.ensures ∙ c.if-kind_at-eq-TERM.true) in let d = c.advance_term-d in omega (arith, f, n, l, back-length a.kids d.new.st a.at (a.at + node_state_words) d.auto.st)
+pub least-loop-at-smaller-in-Term : goal.least-loop-at-smaller-in-Term
+least-loop-at-smaller-in-Term t c = let s = c in let P = s.requires.1 in let a = c.loop-at in let i = a.invariant.1 P.0 P.1 P.2 P.4 in let l = c.loop-at-test.true in let f = child-facts i.left i.zip l in let n = child-term i.left i.zip l (term-word _ (sym c.child_at-child.ensures.kind-is ∙ c.in-Term.is)) in let d = c.advance_term-d in omega (arith, f, n, l, back-length a.kids d.new.st a.at (a.at + node_state_words) d.auto.st)
 
-pub least-loop-at-preserved-then-kind_at-eq-TERM : goal.least-loop-at-preserved-then-kind_at-eq-TERM
-least-loop-at-preserved-then-kind_at-eq-TERM t c = let s = c in let a = c.loop-at in let l = c.loop-at-test.true in let d = c.advance_term-d in let y = c.tally-x in (record { kids-same = back-length a.kids d.new.st a.at (a.at + node_state_words) d.auto.st ∙ a.invariant.0.kids-same; a-same = a.invariant.0.a-same; b-same = a.invariant.0.b-same }, λ ix p ss h. let v = term-end (a.invariant.1 ix p ss h).left (a.invariant.1 ix p ss h).zip l (sym c.kind_at.ensures ∙ c.if-kind_at-eq-TERM.true) in least-took (a.invariant.1 ix p ss h) l (a.at + node_state_words) v d.result y.result.doc y.result.count d.new.st d.auto.st (d.ensures.term_post (lent_of s.args.reader.now) s.args.depth refl) y.ensures)
+pub least-loop-at-preserved-in-Term : goal.least-loop-at-preserved-in-Term
+least-loop-at-preserved-in-Term t c = let s = c in let a = c.loop-at in let l = c.loop-at-test.true in let d = c.advance_term-d in let y = c.tally-x in (record { kids-same = back-length a.kids d.new.st a.at (a.at + node_state_words) d.auto.st ∙ a.invariant.0.kids-same; a-same = a.invariant.0.a-same; b-same = a.invariant.0.b-same }, λ ix p ss h. let v = term-end (a.invariant.1 ix p ss h).left (a.invariant.1 ix p ss h).zip l (term-word _ (sym c.child_at-child.ensures.kind-is ∙ c.in-Term.is)) in least-took (a.invariant.1 ix p ss h) l (a.at + node_state_words) v d.result y.result.doc y.result.count d.new.st d.auto.st (d.ensures.term_post (lent_of s.args.reader.now) s.args.depth refl) y.ensures)
 
-pub least-child_at-k-requires : goal.least-child_at-k-requires
-least-child_at-k-requires t c = let s = c in let P = s.requires.1 in let a = c.loop-at in let i = a.invariant.1 P.0 P.1 P.2 P.4 in let l = c.loop-at-test.true in child-facts i.left i.zip l
+pub least-child_at-child-requires : goal.least-child_at-child-requires
+least-child_at-child-requires t c = let s = c in let P = s.requires.1 in let a = c.loop-at in let i = a.invariant.1 P.0 P.1 P.2 P.4 in let l = c.loop-at-test.true in child-facts i.left i.zip l
 
-pub least-overflow_sub-cached : goal.least-overflow_sub-cached
-least-overflow_sub-cached t c = omega (arith, c.if-target-cached.true)
+pub least-overflow_sub-child : goal.least-overflow_sub-child
+least-overflow_sub-child t c = omega (arith, c.if-target-child.true)
 
-pub least-tally-x-requires-then-target-cached : goal.least-tally-x-requires-then-target-cached
-least-tally-x-requires-then-target-cached t c = let s = c in let P = s.requires.1 in let a = c.loop-at in let i = a.invariant.1 P.0 P.1 P.2 P.4 in let l = c.loop-at-test.true in omega (arith, i.few, l, a.invariant.0, s.well_formed)
+pub least-tally-x-requires-in_default : goal.least-tally-x-requires-in_default
+least-tally-x-requires-in_default t c = let s = c in let P = s.requires.1 in let a = c.loop-at in let i = a.invariant.1 P.0 P.1 P.2 P.4 in let l = c.loop-at-test.true in omega (arith, i.few, l, a.invariant.0, s.well_formed)
 
-pub least-loop-at-smaller-then-target-cached : goal.least-loop-at-smaller-then-target-cached
-least-loop-at-smaller-then-target-cached t c = let s = c in let P = s.requires.1 in let a = c.loop-at in let i = a.invariant.1 P.0 P.1 P.2 P.4 in let l = c.loop-at-test.true in let f = child-facts i.left i.zip l in let k = c.child_at-k in omega (arith, f, k.ensures, l)
+pub least-loop-at-smaller-then-target-child : goal.least-loop-at-smaller-then-target-child
+least-loop-at-smaller-then-target-child t c = let s = c in let P = s.requires.1 in let a = c.loop-at in let i = a.invariant.1 P.0 P.1 P.2 P.4 in let l = c.loop-at-test.true in let f = child-facts i.left i.zip l in let k = c.child_at-child in omega (arith, f, k.ensures.end_is, l)
 
-pub least-loop-at-preserved-then-target-cached : goal.least-loop-at-preserved-then-target-cached
-least-loop-at-preserved-then-target-cached t c = let a = c.loop-at in let l = c.loop-at-test.true in let k = c.child_at-k in let y = c.tally-x-then-target-cached in (a.invariant.0, λ ix p ss h. least_skip (a.invariant.1 ix p ss h) l k.result.end k.ensures.end k.result.cached y.result.doc y.result.count k.ensures.cached c.if-target-cached.true y.ensures)
+pub least-loop-at-preserved-then-target-child : goal.least-loop-at-preserved-then-target-child
+least-loop-at-preserved-then-target-child t c = let a = c.loop-at in let l = c.loop-at-test.true in let k = c.child_at-child in let y = c.tally-x-in_default in (a.invariant.0, λ ix p ss h. least_skip (a.invariant.1 ix p ss h) l k.result.end k.ensures.end_is k.result.cached y.result.doc y.result.count k.ensures.cached-is c.if-target-child.true y.ensures)
 
-pub least-offset_bounds-kids-at-else-target-cached : goal.least-offset_bounds-kids-at-else-target-cached
-least-offset_bounds-kids-at-else-target-cached t c = let s = c in let P = s.requires.1 in let a = c.loop-at in let i = a.invariant.1 P.0 P.1 P.2 P.4 in let l = c.loop-at-test.true in let f = child-facts i.left i.zip l in let k = c.child_at-k in omega (arith, f, a.invariant.0, s.well_formed, k.ensures)
+pub least-offset_bounds-kids-at-in_default-2 : goal.least-offset_bounds-kids-at-in_default-2
+least-offset_bounds-kids-at-in_default-2 t c = let s = c in let P = s.requires.1 in let a = c.loop-at in let i = a.invariant.1 P.0 P.1 P.2 P.4 in let l = c.loop-at-test.true in let f = child-facts i.left i.zip l in let k = c.child_at-child in omega (arith, f, a.invariant.0, s.well_formed, k.ensures.end_is)
 
 pub least-slice_bounds-advance-count : goal.least-slice_bounds-advance-count
-least-slice_bounds-advance-count t c = let s = c in let P = s.requires.1 in let a = c.loop-at in let i = a.invariant.1 P.0 P.1 P.2 P.4 in let l = c.loop-at-test.true in let f = child-facts i.left i.zip l in let k = c.child_at-k in omega (arith, f, k.ensures)
+least-slice_bounds-advance-count t c = let s = c in let P = s.requires.1 in let a = c.loop-at in let i = a.invariant.1 P.0 P.1 P.2 P.4 in let l = c.loop-at-test.true in let f = child-facts i.left i.zip l in let k = c.child_at-child in omega (arith, f, k.ensures.end_is)
 
 pub least-slice_bounds-advance-start : goal.least-slice_bounds-advance-start
-least-slice_bounds-advance-start t c = let s = c in let P = s.requires.1 in let a = c.loop-at in let i = a.invariant.1 P.0 P.1 P.2 P.4 in let l = c.loop-at-test.true in let f = child-facts i.left i.zip l in let k = c.child_at-k in omega (arith, f, a.invariant.0, s.well_formed, k.ensures)
+least-slice_bounds-advance-start t c = let s = c in let P = s.requires.1 in let a = c.loop-at in let i = a.invariant.1 P.0 P.1 P.2 P.4 in let l = c.loop-at-test.true in let f = child-facts i.left i.zip l in let k = c.child_at-child in omega (arith, f, a.invariant.0, s.well_formed, k.ensures.end_is)
 
 pub least-slice_bounds-advance-end : goal.least-slice_bounds-advance-end
-least-slice_bounds-advance-end t c = let s = c in let P = s.requires.1 in let a = c.loop-at in let i = a.invariant.1 P.0 P.1 P.2 P.4 in let l = c.loop-at-test.true in let f = child-facts i.left i.zip l in let k = c.child_at-k in omega (arith, f, a.invariant.0, s.well_formed, k.ensures)
+least-slice_bounds-advance-end t c = let s = c in let P = s.requires.1 in let a = c.loop-at in let i = a.invariant.1 P.0 P.1 P.2 P.4 in let l = c.loop-at-test.true in let f = child-facts i.left i.zip l in let k = c.child_at-child in omega (arith, f, a.invariant.0, s.well_formed, k.ensures.end_is)
 
 pub least-advance-d-requires : goal.least-advance-d-requires
-least-advance-d-requires t c = let s = c in let P = s.requires.1 in let a = c.loop-at in let i = a.invariant.1 P.0 P.1 P.2 P.4 in let l = c.loop-at-test.true in let k = c.child_at-k in let h = child-held i.left i.zip l k.result.end k.ensures.end in (omega arith, (s.requires.0, (P.0, P.1, h.0, h.1, record { in-a = omega (arith, a.invariant.0, P.3); in_b = omega (arith, a.invariant.0, P.3) }, h.2)))
+least-advance-d-requires t c = let s = c in let P = s.requires.1 in let a = c.loop-at in let i = a.invariant.1 P.0 P.1 P.2 P.4 in let l = c.loop-at-test.true in let k = c.child_at-child in let h = child-held i.left i.zip l k.result.end k.ensures.end_is in (omega arith, (s.requires.0, (P.0, P.1, h.0, h.1, record { in-a = omega (arith, a.invariant.0, P.3); in_b = omega (arith, a.invariant.0, P.3) }, h.2)))
 
-pub least-tally-x-requires-else-target-cached : goal.least-tally-x-requires-else-target-cached
-least-tally-x-requires-else-target-cached t c = let s = c in let P = s.requires.1 in let a = c.loop-at in let i = a.invariant.1 P.0 P.1 P.2 P.4 in let l = c.loop-at-test.true in omega (arith, i.few, l, a.invariant.0, s.well_formed)
+pub least-tally-x-requires-in_default-2 : goal.least-tally-x-requires-in_default-2
+least-tally-x-requires-in_default-2 t c = let s = c in let P = s.requires.1 in let a = c.loop-at in let i = a.invariant.1 P.0 P.1 P.2 P.4 in let l = c.loop-at-test.true in omega (arith, i.few, l, a.invariant.0, s.well_formed)
 
 pub least-loop-at-smaller : goal.least-loop-at-smaller
-least-loop-at-smaller t c = let s = c in let P = s.requires.1 in let a = c.loop-at in let i = a.invariant.1 P.0 P.1 P.2 P.4 in let l = c.loop-at-test.true in let f = child-facts i.left i.zip l in let k = c.child_at-k in let d = c.advance-d in omega (arith, f, k.ensures, l, back-length a.kids d.new.st a.at k.result.end d.auto.st)
+least-loop-at-smaller t c = let s = c in let P = s.requires.1 in let a = c.loop-at in let i = a.invariant.1 P.0 P.1 P.2 P.4 in let l = c.loop-at-test.true in let f = child-facts i.left i.zip l in let k = c.child_at-child in let d = c.advance-d in omega (arith, f, k.ensures.end_is, l, back-length a.kids d.new.st a.at k.result.end d.auto.st)
 
 pub least-loop-at-preserved : goal.least-loop-at-preserved
-least-loop-at-preserved t c = let a = c.loop-at in let l = c.loop-at-test.true in let k = c.child_at-k in let d = c.advance-d in let y = c.tally-x-else-target-cached in (record { kids-same = back-length a.kids d.new.st a.at k.result.end d.auto.st ∙ a.invariant.0.kids-same; a-same = d.auto.a ∙ a.invariant.0.a-same; b-same = d.auto.b ∙ a.invariant.0.b-same }, λ ix p ss h. least-took (a.invariant.1 ix p ss h) l k.result.end k.ensures.end d.result y.result.doc y.result.count d.new.st d.auto.st d.ensures.advance_post y.ensures)
+least-loop-at-preserved t c = let a = c.loop-at in let l = c.loop-at-test.true in let k = c.child_at-child in let d = c.advance-d in let y = c.tally-x-in_default-2 in (record { kids-same = back-length a.kids d.new.st a.at k.result.end d.auto.st ∙ a.invariant.0.kids-same; a-same = d.auto.a ∙ a.invariant.0.a-same; b-same = d.auto.b ∙ a.invariant.0.b-same }, λ ix p ss h. least-took (a.invariant.1 ix p ss h) l k.result.end k.ensures.end_is d.result y.result.doc y.result.count d.new.st d.auto.st d.ensures.advance_post y.ensures)
 
 pub least-returns : goal.least-returns
 least-returns t c = let a = c.loop-at in λ ix p ss h. least-end (a.invariant.1 ix p ss h) c.loop-at-test.false
@@ -272,110 +274,107 @@ least-returns t c = let a = c.loop-at in λ ix p ss h. least-end (a.invariant.1 
 pub pass-loop-at-init : goal.pass-loop-at-init
 pass-loop-at-init t c = let s = c in (record { kids-same = refl; a-same = refl; b-same = refl }, λ ix p ss h. pass-start s.requires.0 h)
 
-pub pass-kind_at-kind-requires : goal.pass-kind_at-kind-requires
-pass-kind_at-kind-requires t c = let s = c in let P = s.requires.1 in let a = c.loop-at in let i = a.invariant.1 P.0 P.1 P.2 P.4 in let l = c.loop-at-test.true in child-facts i.left i.zip l
-
 pub pass-overflow_add-end : goal.pass-overflow_add-end
-pass-overflow_add-end t c = let s = c in let P = s.requires.1 in let a = c.loop-at in let i = a.invariant.1 P.0 P.1 P.2 P.4 in let l = c.loop-at-test.true in let f = child-facts i.left i.zip l in let n = child-term i.left i.zip l (sym c.kind_at-kind.ensures ∙ c.if-kind-eq-TERM.true) in omega (arith, f, n, a.invariant.0, s.well_formed)
+pass-overflow_add-end t c = let s = c in let P = s.requires.1 in let a = c.loop-at in let i = a.invariant.1 P.0 P.1 P.2 P.4 in let l = c.loop-at-test.true in let f = child-facts i.left i.zip l in let n = child-term i.left i.zip l (term-word _ (sym c.child_at-child.ensures.kind-is ∙ c.in-Term.is)) in omega (arith, f, n, a.invariant.0, s.well_formed)
 
 pub pass-offset_bounds-kids-at : goal.pass-offset_bounds-kids-at
-pass-offset_bounds-kids-at t c = let s = c in let P = s.requires.1 in let a = c.loop-at in let i = a.invariant.1 P.0 P.1 P.2 P.4 in let l = c.loop-at-test.true in let f = child-facts i.left i.zip l in let n = child-term i.left i.zip l (sym c.kind_at-kind.ensures ∙ c.if-kind-eq-TERM.true) in omega (arith, f, n, a.invariant.0, s.well_formed)
+pass-offset_bounds-kids-at t c = let s = c in let P = s.requires.1 in let a = c.loop-at in let i = a.invariant.1 P.0 P.1 P.2 P.4 in let l = c.loop-at-test.true in let f = child-facts i.left i.zip l in let n = child-term i.left i.zip l (term-word _ (sym c.child_at-child.ensures.kind-is ∙ c.in-Term.is)) in omega (arith, f, n, a.invariant.0, s.well_formed)
 
 pub pass-slice_bounds-advance_term-count : goal.pass-slice_bounds-advance_term-count
-pass-slice_bounds-advance_term-count t c = let s = c in let P = s.requires.1 in let a = c.loop-at in let i = a.invariant.1 P.0 P.1 P.2 P.4 in let l = c.loop-at-test.true in let f = child-facts i.left i.zip l in let n = child-term i.left i.zip l (sym c.kind_at-kind.ensures ∙ c.if-kind-eq-TERM.true) in omega (arith, f, n)
+pass-slice_bounds-advance_term-count t c = let s = c in let P = s.requires.1 in let a = c.loop-at in let i = a.invariant.1 P.0 P.1 P.2 P.4 in let l = c.loop-at-test.true in let f = child-facts i.left i.zip l in let n = child-term i.left i.zip l (term-word _ (sym c.child_at-child.ensures.kind-is ∙ c.in-Term.is)) in omega (arith, f, n)
 
 pub pass-slice_bounds-advance_term-start : goal.pass-slice_bounds-advance_term-start
-pass-slice_bounds-advance_term-start t c = let s = c in let P = s.requires.1 in let a = c.loop-at in let i = a.invariant.1 P.0 P.1 P.2 P.4 in let l = c.loop-at-test.true in let f = child-facts i.left i.zip l in let n = child-term i.left i.zip l (sym c.kind_at-kind.ensures ∙ c.if-kind-eq-TERM.true) in omega (arith, f, n, a.invariant.0, s.well_formed)
+pass-slice_bounds-advance_term-start t c = let s = c in let P = s.requires.1 in let a = c.loop-at in let i = a.invariant.1 P.0 P.1 P.2 P.4 in let l = c.loop-at-test.true in let f = child-facts i.left i.zip l in let n = child-term i.left i.zip l (term-word _ (sym c.child_at-child.ensures.kind-is ∙ c.in-Term.is)) in omega (arith, f, n, a.invariant.0, s.well_formed)
 
 pub pass-slice_bounds-advance_term-end : goal.pass-slice_bounds-advance_term-end
-pass-slice_bounds-advance_term-end t c = let s = c in let P = s.requires.1 in let a = c.loop-at in let i = a.invariant.1 P.0 P.1 P.2 P.4 in let l = c.loop-at-test.true in let f = child-facts i.left i.zip l in let n = child-term i.left i.zip l (sym c.kind_at-kind.ensures ∙ c.if-kind-eq-TERM.true) in omega (arith, f, n, a.invariant.0, s.well_formed)
+pass-slice_bounds-advance_term-end t c = let s = c in let P = s.requires.1 in let a = c.loop-at in let i = a.invariant.1 P.0 P.1 P.2 P.4 in let l = c.loop-at-test.true in let f = child-facts i.left i.zip l in let n = child-term i.left i.zip l (term-word _ (sym c.child_at-child.ensures.kind-is ∙ c.in-Term.is)) in omega (arith, f, n, a.invariant.0, s.well_formed)
 
 pub pass-advance_term-d-requires : goal.pass-advance_term-d-requires
-pass-advance_term-d-requires t c = let s = c in let P = s.requires.1 in let a = c.loop-at in let i = a.invariant.1 P.0 P.1 P.2 P.4 in let l = c.loop-at-test.true in let f = child-facts i.left i.zip l in let v = term-end i.left i.zip l (sym c.kind_at-kind.ensures ∙ c.if-kind-eq-TERM.true) in let h = child-held i.left i.zip l (a.at + node_state_words) v in (i.top, child-kind a.kids a.at (a.at + node_state_words) f v ∙ (sym c.kind_at-kind.ensures ∙ c.if-kind-eq-TERM.true), (lent_of s.args.reader.now, refl, P.0, P.1, h.0, s.args.depth, h.1, h.2))
+pass-advance_term-d-requires t c = let s = c in let P = s.requires.1 in let a = c.loop-at in let i = a.invariant.1 P.0 P.1 P.2 P.4 in let l = c.loop-at-test.true in let f = child-facts i.left i.zip l in let v = term-end i.left i.zip l (term-word _ (sym c.child_at-child.ensures.kind-is ∙ c.in-Term.is)) in let h = child-held i.left i.zip l (a.at + node_state_words) v in (i.top, child-kind a.kids a.at (a.at + node_state_words) f v ∙ (term-word _ (sym c.child_at-child.ensures.kind-is ∙ c.in-Term.is)), (lent_of s.args.reader.now, refl, P.0, P.1, h.0, s.args.depth, h.1, h.2))
 
-pub pass-loop-at-smaller-then-kind-eq-TERM : goal.pass-loop-at-smaller-then-kind-eq-TERM
-pass-loop-at-smaller-then-kind-eq-TERM t c = let s = c in let P = s.requires.1 in let a = c.loop-at in let i = a.invariant.1 P.0 P.1 P.2 P.4 in let l = c.loop-at-test.true in let f = child-facts i.left i.zip l in let n = child-term i.left i.zip l (sym c.kind_at-kind.ensures ∙ c.if-kind-eq-TERM.true) in let d = c.advance_term-d in omega (arith, f, n, l, back-length a.kids d.new.st a.at (a.at + node_state_words) d.auto.st)
+pub pass-loop-at-smaller-in-Term : goal.pass-loop-at-smaller-in-Term
+pass-loop-at-smaller-in-Term t c = let s = c in let P = s.requires.1 in let a = c.loop-at in let i = a.invariant.1 P.0 P.1 P.2 P.4 in let l = c.loop-at-test.true in let f = child-facts i.left i.zip l in let n = child-term i.left i.zip l (term-word _ (sym c.child_at-child.ensures.kind-is ∙ c.in-Term.is)) in let d = c.advance_term-d in omega (arith, f, n, l, back-length a.kids d.new.st a.at (a.at + node_state_words) d.auto.st)
 
-pub pass-loop-at-preserved-then-kind-eq-TERM : goal.pass-loop-at-preserved-then-kind-eq-TERM
-pass-loop-at-preserved-then-kind-eq-TERM t c = let s = c in let a = c.loop-at in let l = c.loop-at-test.true in let d = c.advance_term-d in (record { kids-same = back-length a.kids d.new.st a.at (a.at + node_state_words) d.auto.st ∙ a.invariant.0.kids-same; a-same = a.invariant.0.a-same; b-same = a.invariant.0.b-same }, λ ix p ss h. let v = term-end (a.invariant.1 ix p ss h).left (a.invariant.1 ix p ss h).zip l (sym c.kind_at-kind.ensures ∙ c.if-kind-eq-TERM.true) in pass-took (a.invariant.1 ix p ss h) l (a.at + node_state_words) v d.result d.new.st d.auto.st (d.ensures.term_post (lent_of s.args.reader.now) s.args.depth refl))
+pub pass-loop-at-preserved-in-Term : goal.pass-loop-at-preserved-in-Term
+pass-loop-at-preserved-in-Term t c = let s = c in let a = c.loop-at in let l = c.loop-at-test.true in let d = c.advance_term-d in (record { kids-same = back-length a.kids d.new.st a.at (a.at + node_state_words) d.auto.st ∙ a.invariant.0.kids-same; a-same = a.invariant.0.a-same; b-same = a.invariant.0.b-same }, λ ix p ss h. let v = term-end (a.invariant.1 ix p ss h).left (a.invariant.1 ix p ss h).zip l (term-word _ (sym c.child_at-child.ensures.kind-is ∙ c.in-Term.is)) in pass-took (a.invariant.1 ix p ss h) l (a.at + node_state_words) v d.result d.new.st d.auto.st (d.ensures.term_post (lent_of s.args.reader.now) s.args.depth refl))
 
-pub pass-overflow_add-end-then-kind-eq-RANGE : goal.pass-overflow_add-end-then-kind-eq-RANGE
-pass-overflow_add-end-then-kind-eq-RANGE t c = let s = c in let P = s.requires.1 in let a = c.loop-at in let i = a.invariant.1 P.0 P.1 P.2 P.4 in let l = c.loop-at-test.true in let f = child-facts i.left i.zip l in let n = child-range i.left i.zip l (sym c.kind_at-kind.ensures ∙ c.if-kind-eq-RANGE.true) in omega (arith, f, n, a.invariant.0, s.well_formed)
+pub pass-overflow_add-end-in-Range : goal.pass-overflow_add-end-in-Range
+pass-overflow_add-end-in-Range t c = let s = c in let P = s.requires.1 in let a = c.loop-at in let i = a.invariant.1 P.0 P.1 P.2 P.4 in let l = c.loop-at-test.true in let f = child-facts i.left i.zip l in let n = child-range i.left i.zip l (range-word _ (sym c.child_at-child.ensures.kind-is ∙ c.in-Range.is)) in omega (arith, f, n, a.invariant.0, s.well_formed)
 
-pub pass-offset_bounds-kids-at-then-kind-eq-RANGE : goal.pass-offset_bounds-kids-at-then-kind-eq-RANGE
-pass-offset_bounds-kids-at-then-kind-eq-RANGE t c = let s = c in let P = s.requires.1 in let a = c.loop-at in let i = a.invariant.1 P.0 P.1 P.2 P.4 in let l = c.loop-at-test.true in let f = child-facts i.left i.zip l in let n = child-range i.left i.zip l (sym c.kind_at-kind.ensures ∙ c.if-kind-eq-RANGE.true) in omega (arith, f, n, a.invariant.0, s.well_formed)
+pub pass-offset_bounds-kids-at-in-Range : goal.pass-offset_bounds-kids-at-in-Range
+pass-offset_bounds-kids-at-in-Range t c = let s = c in let P = s.requires.1 in let a = c.loop-at in let i = a.invariant.1 P.0 P.1 P.2 P.4 in let l = c.loop-at-test.true in let f = child-facts i.left i.zip l in let n = child-range i.left i.zip l (range-word _ (sym c.child_at-child.ensures.kind-is ∙ c.in-Range.is)) in omega (arith, f, n, a.invariant.0, s.well_formed)
 
 pub pass-slice_bounds-advance_range-count : goal.pass-slice_bounds-advance_range-count
-pass-slice_bounds-advance_range-count t c = let s = c in let P = s.requires.1 in let a = c.loop-at in let i = a.invariant.1 P.0 P.1 P.2 P.4 in let l = c.loop-at-test.true in let f = child-facts i.left i.zip l in let n = child-range i.left i.zip l (sym c.kind_at-kind.ensures ∙ c.if-kind-eq-RANGE.true) in omega (arith, f, n)
+pass-slice_bounds-advance_range-count t c = let s = c in let P = s.requires.1 in let a = c.loop-at in let i = a.invariant.1 P.0 P.1 P.2 P.4 in let l = c.loop-at-test.true in let f = child-facts i.left i.zip l in let n = child-range i.left i.zip l (range-word _ (sym c.child_at-child.ensures.kind-is ∙ c.in-Range.is)) in omega (arith, f, n)
 
 pub pass-slice_bounds-advance_range-start : goal.pass-slice_bounds-advance_range-start
-pass-slice_bounds-advance_range-start t c = let s = c in let P = s.requires.1 in let a = c.loop-at in let i = a.invariant.1 P.0 P.1 P.2 P.4 in let l = c.loop-at-test.true in let f = child-facts i.left i.zip l in let n = child-range i.left i.zip l (sym c.kind_at-kind.ensures ∙ c.if-kind-eq-RANGE.true) in omega (arith, f, n, a.invariant.0, s.well_formed)
+pass-slice_bounds-advance_range-start t c = let s = c in let P = s.requires.1 in let a = c.loop-at in let i = a.invariant.1 P.0 P.1 P.2 P.4 in let l = c.loop-at-test.true in let f = child-facts i.left i.zip l in let n = child-range i.left i.zip l (range-word _ (sym c.child_at-child.ensures.kind-is ∙ c.in-Range.is)) in omega (arith, f, n, a.invariant.0, s.well_formed)
 
 pub pass-slice_bounds-advance_range-end : goal.pass-slice_bounds-advance_range-end
-pass-slice_bounds-advance_range-end t c = let s = c in let P = s.requires.1 in let a = c.loop-at in let i = a.invariant.1 P.0 P.1 P.2 P.4 in let l = c.loop-at-test.true in let f = child-facts i.left i.zip l in let n = child-range i.left i.zip l (sym c.kind_at-kind.ensures ∙ c.if-kind-eq-RANGE.true) in omega (arith, f, n, a.invariant.0, s.well_formed)
+pass-slice_bounds-advance_range-end t c = let s = c in let P = s.requires.1 in let a = c.loop-at in let i = a.invariant.1 P.0 P.1 P.2 P.4 in let l = c.loop-at-test.true in let f = child-facts i.left i.zip l in let n = child-range i.left i.zip l (range-word _ (sym c.child_at-child.ensures.kind-is ∙ c.in-Range.is)) in omega (arith, f, n, a.invariant.0, s.well_formed)
 
 pub pass-advance_range-d-requires : goal.pass-advance_range-d-requires
-pass-advance_range-d-requires t c = let s = c in let P = s.requires.1 in let a = c.loop-at in let i = a.invariant.1 P.0 P.1 P.2 P.4 in let l = c.loop-at-test.true in let f = child-facts i.left i.zip l in let v = range-end i.left i.zip l (sym c.kind_at-kind.ensures ∙ c.if-kind-eq-RANGE.true) in let h = child-held i.left i.zip l (a.at + node_state_words) v in (i.top, child-kind a.kids a.at (a.at + node_state_words) f v ∙ (sym c.kind_at-kind.ensures ∙ c.if-kind-eq-RANGE.true), (lent_of s.args.reader.now, refl, P.0, P.1, h.0, s.args.depth, h.1, h.2))
+pass-advance_range-d-requires t c = let s = c in let P = s.requires.1 in let a = c.loop-at in let i = a.invariant.1 P.0 P.1 P.2 P.4 in let l = c.loop-at-test.true in let f = child-facts i.left i.zip l in let v = range-end i.left i.zip l (range-word _ (sym c.child_at-child.ensures.kind-is ∙ c.in-Range.is)) in let h = child-held i.left i.zip l (a.at + node_state_words) v in (i.top, child-kind a.kids a.at (a.at + node_state_words) f v ∙ (range-word _ (sym c.child_at-child.ensures.kind-is ∙ c.in-Range.is)), (lent_of s.args.reader.now, refl, P.0, P.1, h.0, s.args.depth, h.1, h.2))
 
-pub pass-loop-at-smaller-then-kind-eq-RANGE : goal.pass-loop-at-smaller-then-kind-eq-RANGE
-pass-loop-at-smaller-then-kind-eq-RANGE t c = let s = c in let P = s.requires.1 in let a = c.loop-at in let i = a.invariant.1 P.0 P.1 P.2 P.4 in let l = c.loop-at-test.true in let f = child-facts i.left i.zip l in let n = child-range i.left i.zip l (sym c.kind_at-kind.ensures ∙ c.if-kind-eq-RANGE.true) in let d = c.advance_range-d in omega (arith, f, n, l, back-length a.kids d.new.st a.at (a.at + node_state_words) d.auto.st)
+pub pass-loop-at-smaller-in-Range : goal.pass-loop-at-smaller-in-Range
+pass-loop-at-smaller-in-Range t c = let s = c in let P = s.requires.1 in let a = c.loop-at in let i = a.invariant.1 P.0 P.1 P.2 P.4 in let l = c.loop-at-test.true in let f = child-facts i.left i.zip l in let n = child-range i.left i.zip l (range-word _ (sym c.child_at-child.ensures.kind-is ∙ c.in-Range.is)) in let d = c.advance_range-d in omega (arith, f, n, l, back-length a.kids d.new.st a.at (a.at + node_state_words) d.auto.st)
 
-pub pass-loop-at-preserved-then-kind-eq-RANGE : goal.pass-loop-at-preserved-then-kind-eq-RANGE
-pass-loop-at-preserved-then-kind-eq-RANGE t c = let s = c in let a = c.loop-at in let l = c.loop-at-test.true in let d = c.advance_range-d in (record { kids-same = back-length a.kids d.new.st a.at (a.at + node_state_words) d.auto.st ∙ a.invariant.0.kids-same; a-same = a.invariant.0.a-same; b-same = a.invariant.0.b-same }, λ ix p ss h. let v = range-end (a.invariant.1 ix p ss h).left (a.invariant.1 ix p ss h).zip l (sym c.kind_at-kind.ensures ∙ c.if-kind-eq-RANGE.true) in pass-took (a.invariant.1 ix p ss h) l (a.at + node_state_words) v d.result d.new.st d.auto.st (d.ensures (lent_of s.args.reader.now) s.args.depth refl))
+pub pass-loop-at-preserved-in-Range : goal.pass-loop-at-preserved-in-Range
+pass-loop-at-preserved-in-Range t c = let s = c in let a = c.loop-at in let l = c.loop-at-test.true in let d = c.advance_range-d in (record { kids-same = back-length a.kids d.new.st a.at (a.at + node_state_words) d.auto.st ∙ a.invariant.0.kids-same; a-same = a.invariant.0.a-same; b-same = a.invariant.0.b-same }, λ ix p ss h. let v = range-end (a.invariant.1 ix p ss h).left (a.invariant.1 ix p ss h).zip l (range-word _ (sym c.child_at-child.ensures.kind-is ∙ c.in-Range.is)) in pass-took (a.invariant.1 ix p ss h) l (a.at + node_state_words) v d.result d.new.st d.auto.st (d.ensures (lent_of s.args.reader.now) s.args.depth refl))
 
-pub pass-child_at-k-requires : goal.pass-child_at-k-requires
-pass-child_at-k-requires t c = let s = c in let P = s.requires.1 in let a = c.loop-at in let i = a.invariant.1 P.0 P.1 P.2 P.4 in let l = c.loop-at-test.true in child-facts i.left i.zip l
+pub pass-child_at-child-requires : goal.pass-child_at-child-requires
+pass-child_at-child-requires t c = let s = c in let P = s.requires.1 in let a = c.loop-at in let i = a.invariant.1 P.0 P.1 P.2 P.4 in let l = c.loop-at-test.true in child-facts i.left i.zip l
 
 pub pass-overflow_sub-d : goal.pass-overflow_sub-d
-pass-overflow_sub-d t c = omega (arith, c.if-d-cached.true)
+pass-overflow_sub-d t c = omega (arith, c.if-d-child.true)
 
-pub pass-loop-at-smaller-then-d-cached : goal.pass-loop-at-smaller-then-d-cached
-pass-loop-at-smaller-then-d-cached t c = let s = c in let P = s.requires.1 in let a = c.loop-at in let i = a.invariant.1 P.0 P.1 P.2 P.4 in let l = c.loop-at-test.true in let f = child-facts i.left i.zip l in let k = c.child_at-k in omega (arith, f, k.ensures, l)
+pub pass-loop-at-smaller-then-d-child : goal.pass-loop-at-smaller-then-d-child
+pass-loop-at-smaller-then-d-child t c = let s = c in let P = s.requires.1 in let a = c.loop-at in let i = a.invariant.1 P.0 P.1 P.2 P.4 in let l = c.loop-at-test.true in let f = child-facts i.left i.zip l in let k = c.child_at-child in omega (arith, f, k.ensures.end_is, l)
 
-pub pass-loop-at-preserved-then-d-cached : goal.pass-loop-at-preserved-then-d-cached
-pass-loop-at-preserved-then-d-cached t c = let a = c.loop-at in let l = c.loop-at-test.true in let k = c.child_at-k in (a.invariant.0, λ ix p ss h. pass-skip (a.invariant.1 ix p ss h) l k.result.end k.ensures.end k.result.cached k.ensures.cached c.if-d-cached.true)
+pub pass-loop-at-preserved-then-d-child : goal.pass-loop-at-preserved-then-d-child
+pass-loop-at-preserved-then-d-child t c = let a = c.loop-at in let l = c.loop-at-test.true in let k = c.child_at-child in (a.invariant.0, λ ix p ss h. pass-skip (a.invariant.1 ix p ss h) l k.result.end k.ensures.end_is k.result.cached k.ensures.cached-is c.if-d-child.true)
 
-pub pass-offset_bounds-kids-at-then-kind-eq-PHRASE : goal.pass-offset_bounds-kids-at-then-kind-eq-PHRASE
-pass-offset_bounds-kids-at-then-kind-eq-PHRASE t c = let s = c in let P = s.requires.1 in let a = c.loop-at in let i = a.invariant.1 P.0 P.1 P.2 P.4 in let l = c.loop-at-test.true in let f = child-facts i.left i.zip l in let k = c.child_at-k in omega (arith, f, a.invariant.0, s.well_formed, k.ensures)
+pub pass-offset_bounds-kids-at-then-eq : goal.pass-offset_bounds-kids-at-then-eq
+pass-offset_bounds-kids-at-then-eq t c = let s = c in let P = s.requires.1 in let a = c.loop-at in let i = a.invariant.1 P.0 P.1 P.2 P.4 in let l = c.loop-at-test.true in let f = child-facts i.left i.zip l in let k = c.child_at-child in omega (arith, f, a.invariant.0, s.well_formed, k.ensures.end_is)
 
 pub pass-slice_bounds-ask_phrase-count : goal.pass-slice_bounds-ask_phrase-count
-pass-slice_bounds-ask_phrase-count t c = let s = c in let P = s.requires.1 in let a = c.loop-at in let i = a.invariant.1 P.0 P.1 P.2 P.4 in let l = c.loop-at-test.true in let f = child-facts i.left i.zip l in let k = c.child_at-k in omega (arith, f, k.ensures)
+pass-slice_bounds-ask_phrase-count t c = let s = c in let P = s.requires.1 in let a = c.loop-at in let i = a.invariant.1 P.0 P.1 P.2 P.4 in let l = c.loop-at-test.true in let f = child-facts i.left i.zip l in let k = c.child_at-child in omega (arith, f, k.ensures.end_is)
 
 pub pass-slice_bounds-ask_phrase-start : goal.pass-slice_bounds-ask_phrase-start
-pass-slice_bounds-ask_phrase-start t c = let s = c in let P = s.requires.1 in let a = c.loop-at in let i = a.invariant.1 P.0 P.1 P.2 P.4 in let l = c.loop-at-test.true in let f = child-facts i.left i.zip l in let k = c.child_at-k in omega (arith, f, a.invariant.0, s.well_formed, k.ensures)
+pass-slice_bounds-ask_phrase-start t c = let s = c in let P = s.requires.1 in let a = c.loop-at in let i = a.invariant.1 P.0 P.1 P.2 P.4 in let l = c.loop-at-test.true in let f = child-facts i.left i.zip l in let k = c.child_at-child in omega (arith, f, a.invariant.0, s.well_formed, k.ensures.end_is)
 
 pub pass-slice_bounds-ask_phrase-end : goal.pass-slice_bounds-ask_phrase-end
-pass-slice_bounds-ask_phrase-end t c = let s = c in let P = s.requires.1 in let a = c.loop-at in let i = a.invariant.1 P.0 P.1 P.2 P.4 in let l = c.loop-at-test.true in let f = child-facts i.left i.zip l in let k = c.child_at-k in omega (arith, f, a.invariant.0, s.well_formed, k.ensures)
+pass-slice_bounds-ask_phrase-end t c = let s = c in let P = s.requires.1 in let a = c.loop-at in let i = a.invariant.1 P.0 P.1 P.2 P.4 in let l = c.loop-at-test.true in let f = child-facts i.left i.zip l in let k = c.child_at-child in omega (arith, f, a.invariant.0, s.well_formed, k.ensures.end_is)
 
 pub pass-ask_phrase-d-requires : goal.pass-ask_phrase-d-requires
-pass-ask_phrase-d-requires t c = let s = c in let P = s.requires.1 in let a = c.loop-at in let i = a.invariant.1 P.0 P.1 P.2 P.4 in let l = c.loop-at-test.true in let f = child-facts i.left i.zip l in let k = c.child_at-k in let h = child-held i.left i.zip l k.result.end k.ensures.end in (i.top, child-kind a.kids a.at k.result.end f k.ensures.end ∙ (sym c.kind_at-kind.ensures ∙ c.if-kind-eq-PHRASE.true), child-cached a.kids a.at k.result.end f k.ensures.end k.result.cached k.ensures.cached c.if-d-cached.false, (lent_of s.args.reader.now, refl, refl, P.0, P.1, h.0, s.args.depth, h.1, record { in-a = omega (arith, a.invariant.0, P.3); in_b = omega (arith, a.invariant.0, P.3) }, h.2))
+pass-ask_phrase-d-requires t c = let s = c in let P = s.requires.1 in let a = c.loop-at in let i = a.invariant.1 P.0 P.1 P.2 P.4 in let l = c.loop-at-test.true in let f = child-facts i.left i.zip l in let k = c.child_at-child in let h = child-held i.left i.zip l k.result.end k.ensures.end_is in (i.top, child-kind a.kids a.at k.result.end f k.ensures.end_is ∙ (phrase-word _ (sym c.child_at-child.ensures.kind-is ∙ is-phrase _ (sym c.eq.ensures ∙ c.if-eq.true))), child-cached a.kids a.at k.result.end f k.ensures.end_is k.result.cached k.ensures.cached-is c.if-d-child.false, (lent_of s.args.reader.now, refl, refl, P.0, P.1, h.0, s.args.depth, h.1, record { in-a = omega (arith, a.invariant.0, P.3); in_b = omega (arith, a.invariant.0, P.3) }, h.2))
 
-pub pass-loop-at-smaller-then-kind-eq-PHRASE : goal.pass-loop-at-smaller-then-kind-eq-PHRASE
-pass-loop-at-smaller-then-kind-eq-PHRASE t c = let s = c in let P = s.requires.1 in let a = c.loop-at in let i = a.invariant.1 P.0 P.1 P.2 P.4 in let l = c.loop-at-test.true in let f = child-facts i.left i.zip l in let k = c.child_at-k in let d = c.ask_phrase-d in omega (arith, f, k.ensures, l, back-length a.kids d.new.st a.at k.result.end d.auto.st)
+pub pass-loop-at-smaller-then-eq : goal.pass-loop-at-smaller-then-eq
+pass-loop-at-smaller-then-eq t c = let s = c in let P = s.requires.1 in let a = c.loop-at in let i = a.invariant.1 P.0 P.1 P.2 P.4 in let l = c.loop-at-test.true in let f = child-facts i.left i.zip l in let k = c.child_at-child in let d = c.ask_phrase-d in omega (arith, f, k.ensures.end_is, l, back-length a.kids d.new.st a.at k.result.end d.auto.st)
 
-pub pass-loop-at-preserved-then-kind-eq-PHRASE : goal.pass-loop-at-preserved-then-kind-eq-PHRASE
-pass-loop-at-preserved-then-kind-eq-PHRASE t c = let s = c in let a = c.loop-at in let l = c.loop-at-test.true in let k = c.child_at-k in let d = c.ask_phrase-d in (record { kids-same = back-length a.kids d.new.st a.at k.result.end d.auto.st ∙ a.invariant.0.kids-same; a-same = d.auto.a ∙ a.invariant.0.a-same; b-same = d.auto.b ∙ a.invariant.0.b-same }, λ ix p ss h. pass-asked (a.invariant.1 ix p ss h) l k.result.end k.ensures.end d.result d.new.st d.auto.st (d.ensures (lent_of s.args.reader.now) s.args.depth refl refl))
+pub pass-loop-at-preserved-then-eq : goal.pass-loop-at-preserved-then-eq
+pass-loop-at-preserved-then-eq t c = let s = c in let a = c.loop-at in let l = c.loop-at-test.true in let k = c.child_at-child in let d = c.ask_phrase-d in (record { kids-same = back-length a.kids d.new.st a.at k.result.end d.auto.st ∙ a.invariant.0.kids-same; a-same = d.auto.a ∙ a.invariant.0.a-same; b-same = d.auto.b ∙ a.invariant.0.b-same }, λ ix p ss h. pass-asked (a.invariant.1 ix p ss h) l k.result.end k.ensures.end_is d.result d.new.st d.auto.st (d.ensures (lent_of s.args.reader.now) s.args.depth refl refl))
 
-pub pass-offset_bounds-kids-at-else-kind-eq-PHRASE : goal.pass-offset_bounds-kids-at-else-kind-eq-PHRASE
-pass-offset_bounds-kids-at-else-kind-eq-PHRASE t c = let s = c in let P = s.requires.1 in let a = c.loop-at in let i = a.invariant.1 P.0 P.1 P.2 P.4 in let l = c.loop-at-test.true in let f = child-facts i.left i.zip l in let k = c.child_at-k in omega (arith, f, a.invariant.0, s.well_formed, k.ensures)
+pub pass-offset_bounds-kids-at-else-eq : goal.pass-offset_bounds-kids-at-else-eq
+pass-offset_bounds-kids-at-else-eq t c = let s = c in let P = s.requires.1 in let a = c.loop-at in let i = a.invariant.1 P.0 P.1 P.2 P.4 in let l = c.loop-at-test.true in let f = child-facts i.left i.zip l in let k = c.child_at-child in omega (arith, f, a.invariant.0, s.well_formed, k.ensures.end_is)
 
 pub pass-slice_bounds-advance-count : goal.pass-slice_bounds-advance-count
-pass-slice_bounds-advance-count t c = let s = c in let P = s.requires.1 in let a = c.loop-at in let i = a.invariant.1 P.0 P.1 P.2 P.4 in let l = c.loop-at-test.true in let f = child-facts i.left i.zip l in let k = c.child_at-k in omega (arith, f, k.ensures)
+pass-slice_bounds-advance-count t c = let s = c in let P = s.requires.1 in let a = c.loop-at in let i = a.invariant.1 P.0 P.1 P.2 P.4 in let l = c.loop-at-test.true in let f = child-facts i.left i.zip l in let k = c.child_at-child in omega (arith, f, k.ensures.end_is)
 
 pub pass-slice_bounds-advance-start : goal.pass-slice_bounds-advance-start
-pass-slice_bounds-advance-start t c = let s = c in let P = s.requires.1 in let a = c.loop-at in let i = a.invariant.1 P.0 P.1 P.2 P.4 in let l = c.loop-at-test.true in let f = child-facts i.left i.zip l in let k = c.child_at-k in omega (arith, f, a.invariant.0, s.well_formed, k.ensures)
+pass-slice_bounds-advance-start t c = let s = c in let P = s.requires.1 in let a = c.loop-at in let i = a.invariant.1 P.0 P.1 P.2 P.4 in let l = c.loop-at-test.true in let f = child-facts i.left i.zip l in let k = c.child_at-child in omega (arith, f, a.invariant.0, s.well_formed, k.ensures.end_is)
 
 pub pass-slice_bounds-advance-end : goal.pass-slice_bounds-advance-end
-pass-slice_bounds-advance-end t c = let s = c in let P = s.requires.1 in let a = c.loop-at in let i = a.invariant.1 P.0 P.1 P.2 P.4 in let l = c.loop-at-test.true in let f = child-facts i.left i.zip l in let k = c.child_at-k in omega (arith, f, a.invariant.0, s.well_formed, k.ensures)
+pass-slice_bounds-advance-end t c = let s = c in let P = s.requires.1 in let a = c.loop-at in let i = a.invariant.1 P.0 P.1 P.2 P.4 in let l = c.loop-at-test.true in let f = child-facts i.left i.zip l in let k = c.child_at-child in omega (arith, f, a.invariant.0, s.well_formed, k.ensures.end_is)
 
 pub pass-advance-d-requires : goal.pass-advance-d-requires
-pass-advance-d-requires t c = let s = c in let P = s.requires.1 in let a = c.loop-at in let i = a.invariant.1 P.0 P.1 P.2 P.4 in let l = c.loop-at-test.true in let k = c.child_at-k in let h = child-held i.left i.zip l k.result.end k.ensures.end in (omega arith, (i.top, (P.0, P.1, h.0, h.1, record { in-a = omega (arith, a.invariant.0, P.3); in_b = omega (arith, a.invariant.0, P.3) }, h.2)))
+pass-advance-d-requires t c = let s = c in let P = s.requires.1 in let a = c.loop-at in let i = a.invariant.1 P.0 P.1 P.2 P.4 in let l = c.loop-at-test.true in let k = c.child_at-child in let h = child-held i.left i.zip l k.result.end k.ensures.end_is in (omega arith, (i.top, (P.0, P.1, h.0, h.1, record { in-a = omega (arith, a.invariant.0, P.3); in_b = omega (arith, a.invariant.0, P.3) }, h.2)))
 
 pub pass-loop-at-smaller : goal.pass-loop-at-smaller
-pass-loop-at-smaller t c = let s = c in let P = s.requires.1 in let a = c.loop-at in let i = a.invariant.1 P.0 P.1 P.2 P.4 in let l = c.loop-at-test.true in let f = child-facts i.left i.zip l in let k = c.child_at-k in let d = c.advance-d in omega (arith, f, k.ensures, l, back-length a.kids d.new.st a.at k.result.end d.auto.st)
+pass-loop-at-smaller t c = let s = c in let P = s.requires.1 in let a = c.loop-at in let i = a.invariant.1 P.0 P.1 P.2 P.4 in let l = c.loop-at-test.true in let f = child-facts i.left i.zip l in let k = c.child_at-child in let d = c.advance-d in omega (arith, f, k.ensures.end_is, l, back-length a.kids d.new.st a.at k.result.end d.auto.st)
 
 pub pass-loop-at-preserved : goal.pass-loop-at-preserved
-pass-loop-at-preserved t c = let a = c.loop-at in let l = c.loop-at-test.true in let k = c.child_at-k in let d = c.advance-d in (record { kids-same = back-length a.kids d.new.st a.at k.result.end d.auto.st ∙ a.invariant.0.kids-same; a-same = d.auto.a ∙ a.invariant.0.a-same; b-same = d.auto.b ∙ a.invariant.0.b-same }, λ ix p ss h. pass-took (a.invariant.1 ix p ss h) l k.result.end k.ensures.end d.result d.new.st d.auto.st d.ensures.advance_post)
+pass-loop-at-preserved t c = let a = c.loop-at in let l = c.loop-at-test.true in let k = c.child_at-child in let d = c.advance-d in (record { kids-same = back-length a.kids d.new.st a.at k.result.end d.auto.st ∙ a.invariant.0.kids-same; a-same = d.auto.a ∙ a.invariant.0.a-same; b-same = d.auto.b ∙ a.invariant.0.b-same }, λ ix p ss h. pass-took (a.invariant.1 ix p ss h) l k.result.end k.ensures.end_is d.result d.new.st d.auto.st d.ensures.advance_post)
 
 pub pass-returns : goal.pass-returns
 pass-returns t c = let a = c.loop-at in λ ix p ss h. pass-end (a.invariant.1 ix p ss h) c.loop-at-test.false

@@ -33,7 +33,7 @@ loop-doc-init c =
     let E = lent_of a.reader.now in
     let norms = a.reader.now.norms.now in
     let live = a.reader.now.live.now in
-    record { long = refl; within = omega arith; collected = any-start E norms live c.one_score-s.result a.doc_base a.c a.heap.now }
+    record { long = refl; collected = any-start E norms live c.one_score-s.result a.doc_base a.c a.heap.now }
 
 pub is_live-requires : goal.is_live-requires
 is_live-requires c =
@@ -93,10 +93,10 @@ loop-doc-preserved c =
     let live = a.reader.now.live.now in
     let l = c.loop-doc in
     let h = c.loop-doc-test.true in
-    let P : TopScoreDocCollector → List ℤ → Type 0 = λ k z. record { long : length z ≡ length a.heap.now; within : l.doc + 1 ≤ E.documents; collected : AnysAt E norms live c.one_score-s.result a.doc_base a.c a.heap.now k z (l.doc + 1) } in
+    let P : TopScoreDocCollector → List ℤ → Type 0 = λ k z. record { long : length z ≡ length a.heap.now; collected : AnysAt E norms live c.one_score-s.result a.doc_base a.c a.heap.now k z (l.doc + 1) } in
     elim c.if-is_live.branch [
-      | then-is_live w ↦ joined P _ _ _ _ w.heap-is w.c-is (record { long = w.stepped-c.auto.heap ∙ l.invariant.long; within = omega (arith, h); collected = any-take E norms live c.one_score-s.result a.doc_base a.c a.heap.now l.c l.heap l.doc l.invariant.collected h (sym c.is_live.ensures ∙ w.if-is_live.true) w.stepped-c.result w.stepped-c.new.heap w.stepped-c.ensures })
-      | else-is_live w ↦ joined P _ _ _ _ w.heap-is w.c-is (record { long = l.invariant.long; within = omega (arith, h); collected = any-pass E norms live c.one_score-s.result a.doc_base a.c a.heap.now l.c l.heap l.doc l.invariant.collected h (sym c.is_live.ensures ∙ w.if-is_live.false) })
+      | then-is_live w ↦ joined P _ _ _ _ w.heap-is w.c-is (record { long = w.stepped-c.auto.heap ∙ l.invariant.long; collected = any-take E norms live c.one_score-s.result a.doc_base a.c a.heap.now l.c l.heap l.doc l.invariant.collected h (sym c.is_live.ensures ∙ w.if-is_live.true) w.stepped-c.result w.stepped-c.new.heap w.stepped-c.ensures })
+      | else-is_live w ↦ joined P _ _ _ _ w.heap-is w.c-is (record { long = l.invariant.long; collected = any-pass E norms live c.one_score-s.result a.doc_base a.c a.heap.now l.c l.heap l.doc l.invariant.collected h (sym c.is_live.ensures ∙ w.if-is_live.false) })
     ]
 
 pub returns : goal.returns
@@ -108,4 +108,4 @@ returns c =
     let l = c.loop-doc in
     λ table places depth ix s scores H.
     let W = any-is E norms live c.node_at.result table places depth a.st.now c.node_at.ensures c.requires.3 ix s scores (root-page E norms live table ix places s depth scores a.st.now H) in
-    any-done E norms live c.one_score-s.result a.doc_base a.c a.heap.now l.c l.heap l.doc l.invariant.collected (omega (arith, c.loop-doc-test.false, l.invariant.within)) ix s W.sc W.is (any-root E norms live c.one_score-s.result c.node_at.result c.one_score-s.ensures ix s W)
+    any-done E norms live c.one_score-s.result a.doc_base a.c a.heap.now l.c l.heap l.doc l.invariant.collected (omega (arith, c.loop-doc-test.false, c.loop-doc.auto.doc-end)) ix s W.sc W.is (any-root E norms live c.one_score-s.result c.node_at.result c.one_score-s.ensures ix s W)

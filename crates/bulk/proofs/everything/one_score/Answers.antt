@@ -1,12 +1,19 @@
 -- `one_score` meets its contract. Assumes nothing.
+use mathlib.Core.Path.{◌≡◌, sym, subst}
+use Prim.Native.Nat.{◌^◌}
+use lib.Ieee.{Float}
+use Rattle.ieee754.specs.Nonneg.{AtMost}
+use Rattle.weight.specs.ScorerTree.{everything, leaf_score}
+use Rattle.leaf_score.proofs.Constants.{constant-some, constant-none}
 use Rattle.bulk.proofs.AnyRoot.{constant_number, constant-score, weighted-zero}
 use Rattle.bulk.proofs.everything.one_score.Goals as goal
 
-pub float_from_bits-result : goal.float_from_bits-result
-float_from_bits-result c = constant_number c.requires.0 c.args.n c.requires.1
+pub constant_score-requires : goal.constant_score-requires
+constant_score-requires c = λ e. constant_number c.requires.0 c.args.n c.requires.1
 
-pub returns-then-n-eq1 : goal.returns-then-n-eq1
-returns-then-n-eq1 c = constant-score c.args.n c.if-n-eq1.true
+pub returns-in-Some : goal.returns-in-Some
+returns-in-Some c = let k = constant-some c.args.n c.in-Some.score c.in-Some.ensures in
+    λ ix sc doc p. subst (λ (z : Float). (z ≡ leaf_score ix everything sc doc) × AtMost (2 ^ 29) z) (sym k.1) (constant-score c.args.n k.0 ix sc doc p)
 
-pub returns : goal.returns
-returns c = weighted-zero c.args.n c.if-n-eq1.false
+pub returns-in-None : goal.returns-in-None
+returns-in-None c = weighted-zero c.args.n (constant-none c.args.n c.in-None.ensures)

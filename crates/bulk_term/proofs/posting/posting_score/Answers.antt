@@ -1,23 +1,30 @@
 -- `posting_score` meets its contract. Assumes nothing.
 use native.Mathlib.Omega.{arith}
+use mathlib.Core.Path.{◌≡◌, sym, subst}
+use Prim.Native.Nat.{◌^◌}
+use lib.Ieee.{Float}
+use Rattle.ieee754.specs.Nonneg.{AtMost}
+use Rattle.weight.specs.ScorerTree.{term, leaf_score}
+use Rattle.leaf_score.proofs.Constants.{constant-some, constant-none}
 use Rattle.bulk_term.proofs.PostingScores.{posting-constant, posting-weighs, posting-weighted}
 use Rattle.bulk_term.proofs.posting.posting_score.Goals as goal
 
-pub float_from_bits-result : goal.float_from_bits-result
-float_from_bits-result c = let s = c in
+pub constant_score-requires : goal.constant_score-requires
+constant_score-requires c = λ e. let s = c in
     let a = s.args in
-    (posting-constant a.norms.now a.inverses.now a.n a.frequency a.doc s.requires.0 s.requires.1 s.requires.2 s.requires.3 c.if-n-eq1.true).0
+    (posting-constant a.norms.now a.inverses.now a.n a.frequency a.doc s.requires.0 s.requires.1 s.requires.2 s.requires.3 e).0
 
-pub returns-then-n-eq1 : goal.returns-then-n-eq1
-returns-then-n-eq1 c = let a = c.args in
-    λ ix l sc p. (posting-constant a.norms.now a.inverses.now a.n a.frequency a.doc ix l sc p c.if-n-eq1.true).1
+pub returns-in-Some : goal.returns-in-Some
+returns-in-Some c = let a = c.args in
+    let k = constant-some a.n c.in-Some.score c.in-Some.ensures in
+    λ ix l sc p. subst (λ (z : Float). (z ≡ leaf_score ix (term l) sc a.doc) × AtMost (2 ^ 29) z) (sym k.1) (posting-constant a.norms.now a.inverses.now a.n a.frequency a.doc ix l sc p k.0).1
 
 pub weighted-requires : goal.weighted-requires
 weighted-requires c = let s = c in
     let a = s.args in
-    let q = posting-weighs a.norms.now a.inverses.now a.n a.frequency a.doc s.requires.0 s.requires.1 (λ i. omega (arith, c.shared_slice_known-1.given i)) s.requires.2 s.requires.3 c.if-n-eq1.false in
+    let q = posting-weighs a.norms.now a.inverses.now a.n a.frequency a.doc s.requires.0 s.requires.1 (λ i. omega (arith, c.shared_slice_known-1.given i)) s.requires.2 s.requires.3 (constant-none a.n c.in-None.ensures) in
     record { frequency_bound = (q.frequency-few, (q.number, q.field-few)); doc_in_bounds = q.byte-there; doc_in_bounds_2 = q.inverse-there }
 
-pub returns : goal.returns
-returns c = let a = c.args in
-    λ ix l sc p. posting-weighted a.norms.now a.inverses.now a.n a.frequency a.doc ix l (λ i. omega (arith, c.shared_slice_known-1.given i)) sc p c.if-n-eq1.false c.weighted.result c.weighted.ensures
+pub returns-in-None : goal.returns-in-None
+returns-in-None c = let a = c.args in
+    λ ix l sc p. posting-weighted a.norms.now a.inverses.now a.n a.frequency a.doc ix l (λ i. omega (arith, c.shared_slice_known-1.given i)) sc p (constant-none a.n c.in-None.ensures) c.weighted.result c.weighted.ensures
