@@ -5,7 +5,7 @@ use mathlib.Core.List.{List, [], ◌∷◌, ◌++◌, append-nil}
 use mathlib.Core.Option.{none, some}
 use Prim.Native.Nat.{ℕ, zero, suc, ◌+◌, ◌-◌, ◌^◌, ◌≤◌, ◌<◌}
 use native.Mathlib.Omega.{arith}
-use lib.Dec.{T, eqb}
+use lib.Dec.{T}
 use lib.ListN.{length, take, get_or, length-append}
 use lib.Seq.{take-append-add, take-append-le, take_all, length-take-le}
 use lib.Ieee.{Float, binary32, of_bits}
@@ -15,14 +15,15 @@ use Rattle.meaning.specs.QueryRefusals.{carries_above}
 use Rattle.meaning.specs.Score.{passed}
 use Rattle.ieee754.specs.Nonneg.{sign_clear, AtMost}
 use Rattle.ieee754.proofs.Bounds.{zero-atmost}
-use Rattle.query.proofs.Inverse.{occur-number, occur_number}
+use Rattle.query.specs.Kinds.{IsOccur}
+use Rattle.measure.proofs.Occurrences.{Read, occur-read}
 use Rattle.weight.specs.Weigh.{Ready, scorers_of, weigh}
 use Rattle.weight.specs.State.{size_of, sizes_of}
 use Rattle.window_words.specs.Windowed.{nowhere, AllWindowed}
 use Rattle.node_words.specs.Placed.{Placed}
 use Rattle.node_words.specs.Prepared.{Records, Prepared, TreeAsked, TreePre, TreePost}
-use Rattle.build.specs.Parts.{PlacedAll, ListPre, ListPost}
-use Rattle.clauses.specs.Clauses.{ReadyAt, ReadiesAt}
+use Rattle.build.specs.Parts.{passed_at, PlacedAll, ListPre, ListPost}
+use Rattle.clauses.specs.Clauses.{ReadOccur, wanted_at, ReadyAt, ReadiesAt}
 use Rattle.build.proofs.BooleanParts.{all-append, sizes-append}
 use Rattle.clauses.proofs.ClauseLaws.{readies-length, readies-here}
 
@@ -113,10 +114,17 @@ module _ (E : Records) (list : List ℕ) (boost : Float) (words depth : ℕ) whe
         subst (λ (zs : List Ready). PlacedAll ix ranges zs depth used st) (take_all i rs (omega (arith, same, h))) (l.placed ix ranges k rs p readies room levels)
 
     -- the clause at the next record: what the code reads of it, and the boost that reaches it
-    module _ (at occurrence : ℕ) (kept x : Float) (there : i < length list) (at-is : at ≡ get_or list i 0) (occurrence-is : occurrence ≡ record_occurrence E.query at) (x-is : (o : Occur) → occur_of occurrence ≡ some o → x ≡ passed o boost) (kept_small : AtMost (2 ^ 29) kept) (clear : T (sign_clear boost)) (all : length st ≡ words) (n : ℕ) (n-is : n ≡ length st - used) where
+    module _ (at : ℕ) (occurrence : ReadOccur) (kept x : Float) (there : i < length list) (at-is : at ≡ get_or list i 0) (occurrence-is : IsOccur (record_occurrence E.query at) occurrence) (x-is : x ≡ passed_at occurrence boost) (kept_small : AtMost (2 ^ 29) kept) (clear : T (sign_clear boost)) (all : length st ≡ words) (n : ℕ) (n-is : n ≡ length st - used) where
+      -- the clause's occurrence is what the code read
+      read : (o : Occur) → occur_of (record_occurrence E.query at) ≡ some o → Read occurrence o
+      read o is = occur-read (record_occurrence E.query at) occurrence o occurrence-is is
+
+      reached : (o : Occur) → occur_of (record_occurrence E.query at) ≡ some o → x ≡ passed o boost
+      reached o is = let r = read o is in x-is ∙ ap (λ (z : ReadOccur). passed_at z boost) r.read-is ∙ ap (λ (z : Occur). passed z boost) r.meant-is
+
       asked : (ix : Index) (ranges : List ℕ) (k : ℕ) (rs : List Ready) → Prepared ix E ranges → (readies : ReadiesAt ix E.query k boost list rs) → sizes_of (scorers_of rs) ≤ words → k ≤ depth → (t : ReadyThere ix E.query k boost at rs i) → TreeAsked ix E.query k at t.ready.tree false kept x n
       asked ix ranges k rs p readies room levels t =
-          let boost-is : x ≡ passed t.one.occur boost = x-is t.one.occur (ap occur_of occurrence-is ∙ t.ready.occur-is) in
+          let boost-is : x ≡ passed t.one.occur boost = reached t.one.occur t.ready.occur-is in
           let placed = l.placed ix ranges k rs p readies room levels in
           let used-is = placed.size_is in
           let more = t.room in
@@ -146,25 +154,16 @@ module _ (E : Records) (list : List ℕ) (boost : Float) (words depth : ℕ) whe
           let before = list-within a in
           omega (arith, part, before, long, n-is)
 
-      pub list-more : (scores r : ℕ) (out post : List ℕ) → scores ≡ cond (eqb occurrence 1) 1 0 → TreePost E at false kept x n depth scores r out → ListAt E list boost words depth (i + 1) (used + r) (take used st ++ (out ++ post))
+      pub list-more : (scores r : ℕ) (out post : List ℕ) → scores ≡ cond (wanted_at is_must occurrence) 1 0 → TreePost E at false kept x n depth scores r out → ListAt E list boost words depth (i + 1) (used + r) (take used st ++ (out ++ post))
       list-more scores r out post s tree = record { placed = one_more }
         where
-          must-is : (n : ℕ) (o : Occur) → occur_of n ≡ some o → eqb n 1 ≡ is_must o
-          must-is n o e = rw (occur-number n o e) (go o)
-            where
-              go : (o : Occur) → eqb (occur_number o) 1 ≡ is_must o
-              go must = refl
-              go should = refl
-              go must_not = refl
-              go filter = refl
-
           one_more : (ix : Index) (ranges : List ℕ) (k : ℕ) (rs : List Ready) → Prepared ix E ranges → ReadiesAt ix E.query k boost list rs → sizes_of (scorers_of rs) ≤ words → k ≤ depth → PlacedAll ix ranges (take (i + 1) rs) depth (used + r) (take used st ++ (out ++ post))
           one_more ix ranges k rs p readies room levels =
               let t = at_there ix k rs readies in
-              let boost-is : x ≡ passed t.one.occur boost = x-is t.one.occur (ap occur_of occurrence-is ∙ t.ready.occur-is) in
+              let boost-is : x ≡ passed t.one.occur boost = reached t.one.occur t.ready.occur-is in
               let placed = tree ix ranges k t.ready.tree p (asked ix ranges k rs p readies room levels t) levels in
               let scorer-is : weigh ix t.ready.tree.tree x none ≡ t.one.scorer = ap (λ (z : Float). weigh ix t.ready.tree.tree z none) boost-is ∙ sym t.ready.scorer-is in
-              let scores-is : scores ≡ cond (is_must t.one.occur) 1 0 = s ∙ ap (λ (z : Bool). cond z 1 0) (must-is occurrence t.one.occur (ap occur_of occurrence-is ∙ t.ready.occur-is)) in
+              let scores-is : scores ≡ cond (is_must t.one.occur) 1 0 = let r = read t.one.occur t.ready.occur-is in s ∙ ap (λ (z : Bool). cond z 1 0) (ap (wanted_at is_must) r.read-is ∙ ap is_must r.meant-is) in
               rw t.next-is (placed-both ix ranges depth (take i rs) (t.one ∷ []) used r st (out ++ post) (l.placed ix ranges k rs p readies room levels) (placed-longer ix ranges depth (t.one ∷ []) r out post (placed_one ix ranges depth t.one r out (rw (scorer-is, scores-is) at placed))))
 
 -- the code's 0.0, for a clause without a score of its own

@@ -18,11 +18,15 @@ use Rattle.ieee754.proofs.Bounds.{zero-atmost}
 use Rattle.query.proofs.Whole.{whole}
 use Rattle.weight.specs.State.{size_of}
 use Rattle.weight.specs.Weigh.{weigh}
-use Rattle.weight.specs.Measured.{Asks, Known, Measured, RangesListed}
+use Rattle.weight.specs.Measured.{Asks, Known, RangesListed}
+use Rattle.measure.specs.declared.Measure.{Measure}
+use Rattle.measure.specs.declared.RangeList.{RangeList}
+use Rattle.measure.specs.Measures.{AllMeasured, nexts_of, presents_of, costs_of, places_of, counts_of}
+use Rattle.measure.proofs.Arrays.{nexts-long, presents-long, costs-long, places-long}
 use Rattle.weight.proofs.Weights.{carried-one}
 use Rattle.weight.proofs.Queries.{query-size}
 use Rattle.node_words.specs.Placed.{LeafLent, Placed}
-use Rattle.node_words.specs.Prepared.{records, Prepared, TreeAsked, TreePre, TreePost}
+use Rattle.node_words.specs.Prepared.{Records, records, Prepared, TreeAsked, TreePre, TreePost}
 
 -- 0.0, of a score that is not kept
 abbrev pub no_score : Float
@@ -41,24 +45,26 @@ known ix q n fields leaves places counts ranges a lent listed =
     record { asks = a; documents = lent.field-lent.documents; leaves-are = lent.leaves-are; counts-are = λ r h k. (listed r h k).count-is }
 
 -- what it finds is what the second goes by
-module _ (q : List ℕ) (n : ℕ) (fields leaves nexts presents costs places counts ranges : List ℕ) (words : ℕ) (nexts-long : length nexts ≡ 256) (presents-long : length presents ≡ 256) (costs-long : length costs ≡ 256) (places-long : length places ≡ 256) (room : states_needed q ≤ words) where
-  module _ (ix : Index) (a : Asks ix q) where
+module _ (q : List ℕ) (n : ℕ) (fields leaves : List ℕ) (ms : List Measure) (ls : List RangeList) (ranges : List ℕ) (words : ℕ) (ms-long : record_count q ≤ length ms) (ls-long : record_count q ≤ length ls) (room : states_needed q ≤ words) where
+  abbrev E : Records
+  E = records q n fields leaves (nexts_of ms) (presents_of ms) (costs_of ms) (places_of ls)
+
+  module _ (ix : Index) (a : Asks ix q) (lent : LeafLent ix n fields leaves) (measured : AllMeasured ix q ms 0) (listed : RangesListed ix q (places_of ls) (counts_of ls) ranges (record_count q)) where
     abbrev root : Decoded
     root = (whole q a.records-right).root
 
-    root-prepared : LeafLent ix n fields leaves → Measured ix q nexts presents costs 0 → RangesListed ix q places counts ranges (record_count q) → Prepared ix (records q n fields leaves nexts presents costs places) ranges
-    root-prepared lent measured listed =
-        let few = few-records ix q a in
+    root-prepared : Prepared ix E ranges
+    root-prepared =
         record {
           asks = a;
           lent = lent;
           measured = measured;
-          counts = counts;
+          counts = counts_of ls;
           listed = listed;
-          nexts-long = omega (arith, few, nexts-long);
-          presents-long = omega (arith, few, presents-long);
-          costs-long = omega (arith, few, costs-long);
-          places-long = omega (arith, few, places-long);
+          nexts-long = omega (arith, ms-long, nexts-long ms);
+          presents-long = omega (arith, ms-long, presents-long ms);
+          costs-long = omega (arith, ms-long, costs-long ms);
+          places-long = omega (arith, ls-long, places-long ls);
         }
 
     root-asked : TreeAsked ix q 16 0 root false no_score one words
@@ -73,9 +79,9 @@ module _ (q : List ℕ) (n : ℕ) (fields leaves nexts presents costs places cou
           room = le_trans (subst (λ (t : Tree). size_of (weigh ix t one none) ≤ states_needed q) w.tree_is (query-size q a.records-right ix one none)) room;
         }
 
-    pub root-pre : LeafLent ix n fields leaves → Measured ix q nexts presents costs 0 → RangesListed ix q places counts ranges (record_count q) → TreePre (records q n fields leaves nexts presents costs places) 0 false no_score one words 16
-    root-pre lent measured listed = (ix, ranges, 16, root, root-prepared lent measured listed, root-asked, le_refl 16)
+    pub root-pre : TreePre E 0 false no_score one words 16
+    root-pre = (ix, ranges, 16, root, root-prepared, root-asked, le_refl 16)
 
-    pub root-placed : (r : ℕ) (states : List ℕ) → LeafLent ix n fields leaves → Measured ix q nexts presents costs 0 → RangesListed ix q places counts ranges (record_count q) → TreePost (records q n fields leaves nexts presents costs places) 0 false no_score one words 16 0 r states → Placed ix ranges (weigh ix (query_tree q) one none) 16 0 r states
-    root-placed r states lent measured listed post =
-        rw (whole q a.records-right).tree_is (post ix ranges 16 root (root-prepared lent measured listed) root-asked (le_refl 16))
+    pub root-placed : (r : ℕ) (states : List ℕ) → TreePost E 0 false no_score one words 16 0 r states → Placed ix ranges (weigh ix (query_tree q) one none) 16 0 r states
+    root-placed r states post =
+        rw (whole q a.records-right).tree_is (post ix ranges 16 root root-prepared root-asked (le_refl 16))

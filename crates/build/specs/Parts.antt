@@ -1,14 +1,23 @@
 -- The parts of a Boolean's clauses, as the second pass is asked for them. Assumes nothing: these are definitions.
-use Rattle.std.specs.Prelude.{◌≡◌, List, ℕ, ◌≤◌, T, length, take, Float}
+use Rattle.std.specs.Prelude.{◌≡◌, Some, None, List, ℕ, ◌≤◌, T, length, take, Float}
+use Rattle.std.specs.Float.{binary32}
+use Rattle.std.specs.Float.Ieee.{of_bits}
 use Rattle.meaning.specs.Lent.{Index}
 use Rattle.meaning.specs.Query.{DecodedClauses}
 use Rattle.meaning.specs.Cost.{costs, disjunction_cost}
+use Rattle.meaning.specs.Score.{passed}
+use Rattle.query.specs.Kinds.{occur_meant}
 use Rattle.ieee754.specs.Nonneg.{sign_clear}
 use Rattle.weight.specs.Weigh.{Ready, scorers_of, up_to_cost}
 use Rattle.weight.specs.State.{sizes_of, sizes_of_first}
 use Rattle.window_words.specs.Windowed.{nowhere, AllWindowed}
-use Rattle.clauses.specs.Clauses.{ClausesAsked, ReadiesAt, required_of, others_of}
+use Rattle.clauses.specs.Clauses.{ReadOccur, ClausesAsked, ReadiesAt, required_of, others_of}
 use Rattle.node_words.specs.Prepared.{Records, Prepared}
+
+-- the boost that reaches a clause, by what the code reads of its record
+abbrev pub passed_at : ReadOccur → Float → Float
+passed_at (Some o) b = passed (occur_meant o) b
+passed_at None b = of_bits binary32 0
 
 -- their parts stand one after the other in the first r words
 pub record PlacedAll (ix : Index) (ranges : List ℕ) (rs : List Ready) (depth r : ℕ) (words : List ℕ) : Type 0 where

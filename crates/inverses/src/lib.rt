@@ -13,6 +13,7 @@ ghost use Rattle.weight.specs.Measured.{Asks};
 ghost use Rattle.node_words.specs.Placed.{LeafLent};
 ghost use Rattle.inverses.specs.Inverses.{field_at, has_field, FieldTables};
 
+use query::{Kind, kind_at, record_count, value};
 use sim::bm25::Bm25;
 
 // All that an order needs to which at most one field is lent; without a field no record asks for any.
@@ -40,11 +41,7 @@ fn has_field(q: &[u32], at: usize) -> bool
     requires { at < record_count q.now }
     ensures { result ≡ has_field q.now at }
 {
-    match query::kind(q, at) {
-        1 => true,
-        2 => true,
-        _ => false,
-    }
+    matches!(kind_at(q, at), Some(Kind::Term | Kind::Phrase))
 }
 
 // The field of the Term or Phrase at `at`.
@@ -52,8 +49,8 @@ fn field_at(q: &[u32], leaves: &[u32], at: usize) -> u32
     requires { (ix : Index) × Asks ix q.now × (ix.leaves ≡ leaves.now) × (at < record_count q.now) × (has_field q.now at ≡ true) }
     ensures { (ix : Index) → ix.leaves ≡ leaves.now → result ≡ field_at ix q.now at }
 {
-    let v = query::value(q, at, 0);
-    if query::kind(q, at) == 1 {
+    let v = value(q, at, 0);
+    if kind_at(q, at) == Some(Kind::Term) {
         leaves[4 * v as usize]
     } else {
         v
@@ -67,7 +64,7 @@ pub fn fill_inverses(fields: &[u32], leaves: &[u32], q: &[u32], table: &mut [f32
     ensures table_len { length table.new ≡ 4096 }
 {
     let mut filled: [bool; 16] = [false; 16];
-    for at in 0..query::record_count(q) {
+    for at in 0..record_count(q) {
         if has_field(q, at) {
             let f = field_at(q, leaves, at) as usize;
             if !filled[f] {

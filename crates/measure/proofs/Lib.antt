@@ -3,3 +3,4 @@ pub mod Arrays
 pub mod Tallies
 pub mod Listing
 pub mod Mapped
+pub mod Occurrences

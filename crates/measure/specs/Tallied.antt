@@ -1,6 +1,8 @@
 -- The tally of a Boolean's clauses, from which it is known whether it has a scorer, and its cost. Assumes nothing: these are definitions.
 use Rattle.std.specs.Prelude.{Bool, true, false, not, cond, ◌&&◌, ℕ, ◌+◌, min, max, eqb, leb, Option, Some, None}
 use Rattle.meaning.specs.Query.{Occur, must, should, must_not, filter}
+use Rattle.query.specs.declared.occurrences.Occur.{Occur as Read}
+use Rattle.query.specs.Kinds.{occur_meant}
 use Rattle.measure.specs.declared.Tally.{Tally}
 
 -- the least of what was found, if anything, and one cost more
@@ -17,6 +19,11 @@ tallied t filter false c = record t { required = true; missing = true }
 tallied t should true c = record t { shoulds = t.shoulds + 1; group = t.group + c }
 tallied t should false c = t
 tallied t must_not p c = t
+
+-- the same by what is read of the clause's record: a number that is no occurrence's counts nothing
+abbrev pub tallied_at : Tally → Option Read → Bool → ℕ → Tally
+tallied_at t (Some o) p c = tallied t (occur_meant o) p c
+tallied_at t None p c = t
 
 -- whether a Boolean has a scorer, from the tally of its clauses
 abbrev pub tally_present : Tally → ℕ → Bool

@@ -4,7 +4,7 @@
 ghost use Rattle.std.specs.Prelude.{◌≡◌, Bool, true, false, cond, not, ◌&&◌, ◌||◌, List, ℕ, ◌+◌, ◌*◌, ◌/◌, ◌≤◌, ◌<◌, max, min, eqb, leb, ltb, length, get_or};
 ghost use Rattle.std.proofs.Math.Option.{some};
 ghost use Rattle.meaning.specs.Lent.{Index, leaf_number};
-ghost use Rattle.meaning.specs.Query.{record_count, record_kind, record_children, record_value, range_of, Occur, must, should, occur_of, Decoded, decode};
+ghost use Rattle.meaning.specs.Query.{record_count, record_kind, record_children, record_value, range_of, must, should, Decoded, decode};
 ghost use Rattle.meaning.specs.Range.{range_documents};
 ghost use Rattle.meaning.specs.CallRefusals.{ranges_needed};
 ghost use Rattle.meaning.specs.Cost.{least};
@@ -12,9 +12,10 @@ ghost use Rattle.weight.specs.Measured.{Asks, Columns, RangesListed, Known, term
 ghost use Rattle.weight.specs.ScorerTree.{range, leaf_matches};
 ghost use Rattle.bits.specs.Bit.{bitmap_words, Bitmap};
 ghost use Rattle.measure.specs.Measures.{Held, AllMeasured, TreeMeasured, places_of, counts_of};
-ghost use Rattle.measure.specs.Tallied.{tallied, tally_present, tally_cost};
+ghost use Rattle.measure.specs.Tallied.{tallied, tallied_at, tally_present, tally_cost};
 
 use index::columns::NumericRange;
+use query::{Kind, Occur, kind_at, occur_at};
 
 // Of a tree: the record after it, whether it has a scorer, and its cost, which a tree without a scorer has too.
 #[derive(Clone, Copy)]
@@ -99,17 +100,16 @@ fn tally_required(t: Tally, m: Measure) -> Tally
     }
 }
 
-fn tally_clause(t: Tally, occurrence: u32, m: Measure) -> Tally
+// A number that is no occurrence's counts nothing.
+fn tally_clause(t: Tally, occurrence: Option<Occur>, m: Measure) -> Tally
     requires { (t.shoulds < 1000) × (t.group + m.cost < 18446744073709551616) }
-    ensures { (o : Occur) → occur_of occurrence ≡ some o → result ≡ tallied t o m.present m.cost }
+    ensures { result ≡ tallied_at t occurrence m.present m.cost }
 {
-    if occurrence == 3 {
-        return t;
+    match occurrence {
+        Some(Occur::Must | Occur::Filter) => tally_required(t, m),
+        Some(Occur::Should) => tally_should(t, m),
+        Some(Occur::MustNot) | None => t,
     }
-    if occurrence == 2 {
-        return tally_should(t, m);
-    }
-    tally_required(t, m)
 }
 
 // How many Shoulds must match: without Must and Filter at least one.
@@ -161,7 +161,7 @@ fn measure_boolean(q: &[u32], measures: &[Measure], at: usize) -> Measure
     let mut next = at + 1;
     for _i in 0..query::children(q, at) {
         let m = measures[next];
-        t = tally_clause(t, query::occurrence(q, next), m);
+        t = tally_clause(t, occur_at(q, next), m);
         next = m.next;
     }
     Measure {
@@ -199,6 +199,17 @@ fn measure_term(q: &[u32], leaves: &[u32], at: usize) -> Measure
     }
 }
 
+// Of a record that matches nothing.
+fn nothing(next: usize) -> Measure
+    ensures { result ≡ record { next = next; present = false; cost = 0 } }
+{
+    Measure {
+        next,
+        present: false,
+        cost: 0,
+    }
+}
+
 // Of the record at `at`, from the measures of those after it; a phrase's term has none of its own.
 fn measure_record(
     q: &[u32],
@@ -212,26 +223,25 @@ fn measure_record(
     requires known { (ix : Index) × Known ix q.now max_doc leaves.now (counts_of listed.now) × AllMeasured ix q.now measures.now (at + 1) }
     ensures { (ix : Index) (k : ℕ) (D : Decoded) → Known ix q.now max_doc leaves.now (counts_of listed.now) → AllMeasured ix q.now measures.now (at + 1) → decode q.now k at ≡ some D → TreeMeasured ix at D result }
 {
-    match query::kind(q, at) {
-        1 => measure_term(q, leaves, at),
-        2 => measure_phrase(q, leaves, at),
-        3 => measure_boolean(q, measures, at),
-        4 => Measure {
+    let Some(kind) = kind_at(q, at) else {
+        return nothing(at + 1);
+    };
+    match kind {
+        Kind::Term => measure_term(q, leaves, at),
+        Kind::Phrase => measure_phrase(q, leaves, at),
+        Kind::Boolean => measure_boolean(q, measures, at),
+        Kind::Range => Measure {
             next: at + 1,
             present: true,
             cost: listed[at].count as u64,
         },
-        5 => Measure {
+        Kind::MatchAll => Measure {
             next: at + 1,
             present: true,
             cost: max_doc as u64,
         },
-        6 | 7 => measures[at + 1],
-        _ => Measure {
-            next: at + 1,
-            present: false,
-            cost: 0,
-        },
+        Kind::ConstantScore | Kind::Boost => measures[at + 1],
+        Kind::MatchNone | Kind::PhraseTerm => nothing(at + 1),
     }
 }
 
@@ -258,7 +268,7 @@ fn range_words(q: &[u32], max_doc: u32, at: usize) -> usize
     requires { at < record_count q.now }
     ensures { result ≡ cond (eqb (record_kind q.now at) 4) (bitmap_words max_doc) 0 }
 {
-    if query::kind(q, at) == 4 {
+    if kind_at(q, at) == Some(Kind::Range) {
         bits::bitmap_words(max_doc) as usize
     } else {
         0
@@ -280,7 +290,7 @@ fn list_range(
     ensures value { (ix : Index) → Asks ix q.now → Columns ix max_doc columns.now values.now → record_kind q.now at ≡ 4 → (result ≡ length (range_documents ix (range_of q.now at))) × Bitmap (leaf_matches ix (range (range_of q.now at))) output.new 0 (bitmap_words max_doc) }
     ensures output_len_unchanged { length output.new ≡ length output.old }
 {
-    if query::kind(q, at) != 4 {
+    if kind_at(q, at) != Some(Kind::Range) {
         return 0;
     }
     let range = NumericRange {

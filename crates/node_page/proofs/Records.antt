@@ -22,7 +22,7 @@ use Rattle.refusal.specs.declared.Refusal.{Refusal}
 use Rattle.refusal.specs.Numbers.{number_of}
 use Rattle.searcher.specs.Answers.{paged_numbers, used}
 use Rattle.order_check.proofs.CallConditions.{page-lends}
-use Rattle.node_state.specs.declared.NodeState.{NodeState}
+use Rattle.node_words.specs.declared.state.NodeState.{NodeState}
 use Rattle.node_state.specs.Records.{record_words, held}
 use Rattle.node_state.specs.Standing.{Standing, tree_of}
 use Rattle.node_state.proofs.Turns.{words_append, words-length, words_take}

@@ -33,7 +33,7 @@ use Rattle.refusal.specs.Numbers.{number_of}
 use Rattle.order_check.proofs.Answered.{number-above}
 use Rattle.searcher.specs.Answers.{searched_numbers, used}
 use Rattle.searcher.proofs.Answering.{search-refused, search-not-refused, search-found}
-use Rattle.node_state.specs.declared.NodeState.{NodeState}
+use Rattle.node_words.specs.declared.state.NodeState.{NodeState}
 use Rattle.node_state.specs.Records.{record_words, held}
 use Rattle.node_state.specs.Standing.{Standing, tree_of}
 use Rattle.node_state.proofs.Turns.{words_append}

@@ -8,7 +8,7 @@ use Rattle.collector.specs.declared.TopDocs.{TopDocs}
 use Rattle.refusal.specs.declared.Refusal.{Refusal}
 use Rattle.order_check.specs.Lends.{work}
 use Rattle.searcher.specs.Answers.{searched_numbers}
-use Rattle.node_state.specs.declared.NodeState.{NodeState}
+use Rattle.node_words.specs.declared.state.NodeState.{NodeState}
 use Rattle.node_state.specs.Records.{record_words}
 use Rattle.node_state.specs.Standing.{Standing}
 

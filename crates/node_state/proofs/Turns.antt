@@ -8,7 +8,7 @@ use lib.ListN.{length, get_or, set, take, drop, length-append, length-drop, leng
 use lib.Seq.{take_all, drop-length, take-suc, take-suc-set, drop-set-lt, take-add, drop-drop, take_at, drop-append-add, length-take-le}
 use Rattle.meaning.specs.Limits.{node_state_words}
 use Rattle.weight.specs.State.{words_of}
-use Rattle.node_state.specs.declared.NodeState.{NodeState}
+use Rattle.node_words.specs.declared.state.NodeState.{NodeState}
 use Rattle.node_state.specs.Records.{state_of, record_words, node_from}
 
 -- the words with a record at i

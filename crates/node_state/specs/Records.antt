@@ -1,13 +1,9 @@
 -- Node states as records, and the words of records. Assumes nothing: these are definitions.
 use Rattle.std.specs.Prelude.{List, [], ◌∷◌, ◌++◌, ℕ, min, get_or}
 use Rattle.meaning.specs.Limits.{max_records}
-use Rattle.weight.specs.State.{State, words_of}
-use Rattle.node_state.specs.declared.NodeState.{NodeState}
-
--- a record as the layout of the words has it
-abbrev pub state_of : NodeState → State
-state_of s =
-    record { kind = s.kind; size = s.size; cached = s.cached; need = s.need; required_end = s.required_end; optional_end = s.optional_end; first = s.first; number = s.number; cursor = s.cursor; offset = s.offset; field = s.field; constant = s.constant; weight = s.weight; afterwards = s.afterwards; group_at = s.group_at; scores = s.scores; frequency_of = s.frequency_of; frequency = s.frequency; norms = s.norms; window_first = s.window_first; window_low = s.window_low; window_high = s.window_high; window_next = s.window_next; ones_low = s.ones_low; ones_high = s.ones_high; twos_low = s.twos_low; twos_high = s.twos_high; spare1 = s.spare1; spare2 = s.spare2; spare3 = s.spare3; spare4 = s.spare4; spare5 = s.spare5 }
+use Rattle.weight.specs.State.{words_of}
+use Rattle.node_words.specs.declared.state.NodeState.{NodeState}
+pub use Rattle.node_words.specs.Words.{state_of}
 
 -- the words of records, one record after the other
 unfoldable pub record_words : List NodeState → List ℕ

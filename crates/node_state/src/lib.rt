@@ -6,47 +6,11 @@ ghost use Rattle.meaning.specs.Limits.{node_state_words};
 ghost use Rattle.weight.specs.State.{words_of};
 ghost use Rattle.node_state.specs.Records.{state_of, record_words, node_from, held};
 
+pub use node_words::state::NodeState;
 use weight::NODE_STATE_WORDS;
 
 // The most query records of an order: as `max_records` in meaning's Limits.
 const MAX_RECORDS: usize = 256;
-
-// One scorer of the tree, or one term of a phrase.
-#[derive(Clone, Copy, PartialEq, Eq)]
-pub struct NodeState {
-    pub kind: u32,
-    pub size: u32,
-    pub cached: u32,
-    pub need: u32,
-    pub required_end: u32,
-    pub optional_end: u32,
-    pub first: u32,
-    pub number: u32,
-    pub cursor: u32,
-    pub offset: u32,
-    pub field: u32,
-    pub constant: u32,
-    pub weight: u32,
-    pub afterwards: u32,
-    pub group_at: u32,
-    pub scores: u32,
-    pub frequency_of: u32,
-    pub frequency: u32,
-    pub norms: u32,
-    pub window_first: u32,
-    pub window_low: u32,
-    pub window_high: u32,
-    pub window_next: u32,
-    pub ones_low: u32,
-    pub ones_high: u32,
-    pub twos_low: u32,
-    pub twos_high: u32,
-    pub spare1: u32,
-    pub spare2: u32,
-    pub spare3: u32,
-    pub spare4: u32,
-    pub spare5: u32,
-}
 
 // How many of so many records a call can need.
 pub fn held(nodes: usize) -> usize
@@ -56,48 +20,12 @@ pub fn held(nodes: usize) -> usize
 }
 
 // The record at i to its words.
-fn put_node(words: &mut [u32], i: usize, s: NodeState)
+fn put_node(words: &mut [u32], i: usize, s: &NodeState)
     requires { node_state_words * i + node_state_words ≤ length words.old }
-    ensures { words.new ≡ take (node_state_words * i) words.old ++ (words_of (state_of s) ++ drop (node_state_words * i + node_state_words) words.old) }
+    ensures { words.new ≡ take (node_state_words * i) words.old ++ (words_of (state_of s.now) ++ drop (node_state_words * i + node_state_words) words.old) }
 {
     let at = NODE_STATE_WORDS * i;
-    node_words::place::put(
-        &mut words[at..],
-        [
-            s.kind,
-            s.size,
-            s.cached,
-            s.need,
-            s.required_end,
-            s.optional_end,
-            s.first,
-            s.number,
-            s.cursor,
-            s.offset,
-            s.field,
-            s.constant,
-            s.weight,
-            s.afterwards,
-            s.group_at,
-            s.scores,
-            s.frequency_of,
-            s.frequency,
-            s.norms,
-            s.window_first,
-            s.window_low,
-            s.window_high,
-            s.window_next,
-            s.ones_low,
-            s.ones_high,
-            s.twos_low,
-            s.twos_high,
-            s.spare1,
-            s.spare2,
-            s.spare3,
-            s.spare4,
-            s.spare5,
-        ],
-    );
+    node_words::place::put(&mut words[at..], s);
 }
 
 // The record of the first words.
@@ -156,7 +84,7 @@ pub fn unpack(nodes: &[NodeState], n: usize, words: &mut [u32])
     ensures { words.new ≡ record_words (take n nodes.now) ++ drop (node_state_words * n) words.old }
 {
     for i in 0..n {
-        put_node(words, i, nodes[i]);
+        put_node(words, i, &nodes[i]);
     }
 }
 

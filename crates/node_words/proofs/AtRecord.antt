@@ -1,12 +1,12 @@
 -- What is known of a record whose tree is to be placed, and of a tree without trees below it. Assumes nothing.
 use mathlib.Core.Path.{◌≡◌, sym, ◌∙◌, ap, subst}
-use mathlib.Core.Bool.{Bool, true, false, cond}
+use mathlib.Core.Bool.{Bool, true, false, cond, false≢true}
 use mathlib.Core.List.{List}
 use Prim.Native.Nat.{ℕ, zero-le, ◌+◌, ◌-◌, ◌*◌, ◌^◌, ◌≤◌, ◌<◌}
 use native.Mathlib.Nat.{le_trans}
 use native.Mathlib.Omega.{arith}
 use lib.Dec.{lit≤}
-use lib.ListN.{get_or}
+use lib.ListN.{length, get_or}
 use lib.Ieee.{Float}
 use Rattle.meaning.specs.Limits.{node_state_words}
 use Rattle.meaning.specs.Lent.{Index}
@@ -14,16 +14,23 @@ use Rattle.meaning.specs.Query.{record_count, record_kind, record_children, rang
 use Rattle.meaning.specs.Scorer.{has_scorer}
 use Rattle.ieee754.specs.Nonneg.{AtMost}
 use Rattle.ieee754.proofs.Bounds.{atmost-more}
-use Rattle.query.proofs.Above.{within-here}
+use Rattle.query.proofs.Above.{within-here, level}
 use Rattle.query.proofs.Inverse.{record-here, range_at, all-at, none-at, kind-is, KindIs, is-term, is-phrase, is-boolean, is-range, is_all, is-constant, is-boost, is_none}
 use Rattle.query.proofs.Whole.{whole}
 use Rattle.sim.proofs.ScoreBounds.{carried-atmost}
 use Rattle.weight.proofs.Standing.{deep}
+use Rattle.weight.proofs.Presence.{absent}
 use Rattle.weight.specs.ScorerTree.{range, everything, constant, leaf}
+use Rattle.weight.specs.Measured.{Asks}
 use Rattle.weight.specs.Weigh.{weigh, no_scorer}
-use Rattle.node_words.specs.Placed.{kept_of}
-use Rattle.node_words.specs.Prepared.{Records, Prepared, TreeAsked}
-use Rattle.node_words.proofs.Weighing.{weigh-range, weigh-all, weigh-none, phrase-room, size-least}
+use Rattle.measure.proofs.Arrays.{same_bool, presents-long, places-long}
+use Rattle.std.specs.Prelude.{Option as Maybe, is_some}
+use Rattle.std.specs.Option.{unwrap_or}
+use Rattle.node_words.proofs.Kept.{kept-or}
+use Rattle.node_words.specs.declared.place.Records.{Records as Lent}
+use Rattle.node_words.specs.Placed.{kept_of, kept_score}
+use Rattle.node_words.specs.Prepared.{Records, given, RecordsLent, Prepared, TreeAsked, TreePre}
+use Rattle.node_words.proofs.Weighing.{weigh-range, weigh-all, weigh-none, term-nothing, phrase-nothing, phrase-room, size-least}
 
 -- a score that is kept, or the boost
 kept_small : (fixed : Bool) (kept boost : Float) → AtMost (2 ^ 29) kept → AtMost (2 ^ 16) boost → AtMost (2 ^ 29) (cond fixed kept boost)
@@ -73,17 +80,76 @@ module _ (ix : Index) (E : Records) (ranges : List ℕ) (k at : ℕ) (D : Decode
       ∙ weigh-all ix boost kept fixed
       ∙ ap (λ (z : Float). leaf everything (constant z)) (sym e)
 
-  -- no other kind is left
-  pub none-weighed : (kind : ℕ) → kind ≡ record_kind E.query at → (kind ≡ 1 → ⊥) → (kind ≡ 2 → ⊥) → (record_kind E.query at ≡ 3 → ⊥) → (kind ≡ 4 → ⊥) → (kind ≡ 5 → ⊥) → (record_kind E.query at ≡ 6 → ⊥) → (record_kind E.query at ≡ 7 → ⊥) → weigh ix D.tree boost (kept_of fixed kept) ≡ no_scorer
-  none-weighed kind e n1 n2 n3 n4 n5 n6 n7 = go (kind-is E.query (k - 1) at D (deep E.query k at D a.decoded))
+  -- where it has no scorer, nothing
+  pub absent-weighed : get_or E.presents at 0 ≡ 0 → (record_kind E.query at ≡ 3 → ⊥) → (record_kind E.query at ≡ 6 → ⊥) → (record_kind E.query at ≡ 7 → ⊥) → weigh ix D.tree boost (kept_of fixed kept) ≡ no_scorer
+  unfolding has_scorer
+  absent-weighed none n3 n6 n7 = go (kind-is E.query (k - 1) at D (deep E.query k at D a.decoded))
     where
+      lacks : has_scorer ix D.tree ≡ false
+      lacks = absent (get_or E.presents at 0) (has_scorer ix D.tree) present-word none
+
       go : KindIs (record_kind E.query at) → weigh ix D.tree boost (kept_of fixed kept) ≡ no_scorer
-      go (is-term h) = absurd (n1 (e ∙ h))
-      go (is-phrase h) = absurd (n2 (e ∙ h))
+      go (is-term h) = term-nothing ix E.query k at D a.decoded h boost kept fixed (get_or E.presents at 0) present-word none
+      go (is-phrase h) = phrase-nothing ix E.query k at D a.decoded h boost kept fixed (get_or E.presents at 0) present-word none
       go (is-boolean h) = absurd (n3 h)
-      go (is-range h) = absurd (n4 (e ∙ h))
-      go (is_all h) = absurd (n5 (e ∙ h))
+      go (is-range h) = absurd (false≢true (sym lacks ∙ ap (has_scorer ix) (range_at E.query (k - 1) at D (deep E.query k at D a.decoded) h).tree_is))
+      go (is_all h) = absurd (false≢true (sym lacks ∙ ap (has_scorer ix) (all-at E.query (k - 1) at D (deep E.query k at D a.decoded) h).tree_is))
       go (is-constant h) = absurd (n6 h)
       go (is-boost h) = absurd (n7 h)
       go (is_none h) =
           ap (λ (t : Tree). weigh ix t boost (kept_of fixed kept)) (none-at E.query (k - 1) at D (deep E.query k at D a.decoded) h).tree_is ∙ weigh-none ix boost fixed kept
+
+  pub scorer-here : (b : Bool) → get_or E.presents at 0 ≡ cond b 1 0 → b ≡ true → has_scorer ix D.tree ≡ true
+  scorer-here b is e = sym (same_bool b (has_scorer ix D.tree) (sym is ∙ present-word)) ∙ e
+
+  -- no other kind is left
+  pub none-weighed : (record_kind E.query at ≡ 1 → ⊥) → (record_kind E.query at ≡ 2 → ⊥) → (record_kind E.query at ≡ 3 → ⊥) → (record_kind E.query at ≡ 4 → ⊥) → (record_kind E.query at ≡ 5 → ⊥) → (record_kind E.query at ≡ 6 → ⊥) → (record_kind E.query at ≡ 7 → ⊥) → weigh ix D.tree boost (kept_of fixed kept) ≡ no_scorer
+  none-weighed n1 n2 n3 n4 n5 n6 n7 = go (kind-is E.query (k - 1) at D (deep E.query k at D a.decoded))
+    where
+      go : KindIs (record_kind E.query at) → weigh ix D.tree boost (kept_of fixed kept) ≡ no_scorer
+      go (is-term h) = absurd (n1 h)
+      go (is-phrase h) = absurd (n2 h)
+      go (is-boolean h) = absurd (n3 h)
+      go (is-range h) = absurd (n4 h)
+      go (is_all h) = absurd (n5 h)
+      go (is-constant h) = absurd (n6 h)
+      go (is-boost h) = absurd (n7 h)
+      go (is_none h) =
+          ap (λ (t : Tree). weigh ix t boost (kept_of fixed kept)) (none-at E.query (k - 1) at D (deep E.query k at D a.decoded) h).tree_is ∙ weigh-none ix boost fixed kept
+
+-- ---- what a call that places the tree at a record knows of it
+pub record TreeHere (r : Lent) (at : ℕ) (kept : Maybe Float) (boost : Float) (words depth : ℕ) : Type 0 where
+  pub here : at < record_count r.query.now
+  pub few : record_count r.query.now ≤ 256
+  pub measured : at < length r.measures.now
+  pub listed : at < length r.listed.now
+  pub room : node_state_words ≤ words
+  pub levels : 1 ≤ depth
+  pub kept-small : AtMost (2 ^ 29) (kept_score kept)
+  pub boost-small : AtMost (2 ^ 16) boost
+  pub score-small : AtMost (2 ^ 29) (unwrap_or kept boost)
+  pub lent : (ix : Index) × Asks ix r.query.now × RecordsLent ix r
+
+pub tree-here : (r : Lent) (at : ℕ) (kept : Maybe Float) (boost : Float) (words depth : ℕ) → TreePre (given r) at (is_some kept) (kept_score kept) boost words depth → TreeHere r at kept boost words depth
+tree-here r at kept boost words depth t =
+    let ix = t.0 in
+    let E = given r in
+    let p = t.4 in
+    let a = t.5 in
+    let here = at_here ix E t.1 t.2 at t.3 (is_some kept) (kept_score kept) boost words p a in
+    let presents = p.presents-long in
+    let places = p.places-long in
+    let deep = level E.query t.2 at t.3 a.decoded in
+    let below = t.6 in
+    record {
+      here = here;
+      few = few-records ix E t.1 t.2 at t.3 (is_some kept) (kept_score kept) boost words p a;
+      measured = omega (arith, here, presents, presents-long r.measures.now);
+      listed = omega (arith, here, places, places-long r.listed.now);
+      room = record-room ix E t.1 t.2 at t.3 (is_some kept) (kept_score kept) boost words p a;
+      levels = omega (arith, deep, below);
+      kept-small = a.kept_small;
+      boost-small = boost-small ix E t.1 t.2 at t.3 (is_some kept) (kept_score kept) boost words p a;
+      score-small = score-small ix E t.1 t.2 at t.3 (is_some kept) (kept_score kept) boost words p a (unwrap_or kept boost) (kept-or kept boost);
+      lent = (ix, p.asks, p.lent);
+    }

@@ -1,6 +1,6 @@
 -- Where a field's norm bytes begin, as the code finds it. Assumes nothing.
 use mathlib.Core.Path.{◌≡◌, sym, ◌∙◌, ap, subst}
-use mathlib.Core.List.{List}
+use mathlib.Core.List.{List, []}
 use Prim.Native.Nat.{ℕ, suc, ◌+◌, ◌*◌, ◌/◌, ◌≤◌, ◌<◌}
 use native.Mathlib.Omega.{arith}
 use native.Mathlib.Nat.{mul-le-mul}
@@ -10,10 +10,14 @@ use lib.ListN.{length, get_or}
 use borrow.Author.Tests.{eq-eqb, ne_eqb}
 use Rattle.meaning.specs.Below.{count_below}
 use Rattle.meaning.specs.Lent.{Index, field_count, field_norms, has_norms, leaf_count, leaf_field, leaf_first, leaf_number}
-use Rattle.index.specs.Slices.{fields_only}
+use Rattle.index.specs.Slices.{fields_only, leaves_only}
+use Rattle.index.specs.Records.{leaf_of}
+use Rattle.index.specs.declared.leaves.Leaf.{Leaf}
 use Rattle.index.proofs.Below.{count-le}
 use Rattle.weight.specs.Held.{norms_word}
-use Rattle.node_words.specs.Placed.{FieldLent, LeafLent}
+use Rattle.node_words.specs.Placed.{FieldLent}
+use Rattle.node_words.specs.declared.place.Records.{Records as Lent}
+use Rattle.node_words.specs.Prepared.{RecordsLent}
 
 pub record FieldHere (fields : List ℕ) (f : ℕ) : Type 0 where
   pub there : f < length fields / 3
@@ -48,22 +52,20 @@ module _ (ix : Index) (n : ℕ) (fields : List ℕ) (f : ℕ) (l : FieldLent ix 
       let product : count_below f (has_norms (fields_only fields)) * n ≤ 16 * 1048576 = mul-le-mul few few-docs in
       omega (arith, is, product)
 
--- ---- a leaf's words
-module _ (ix : Index) (n : ℕ) (fields leaves : List ℕ) (l w : ℕ) (e : LeafLent ix n fields leaves) (same : w ≡ l) where
-  pub leaf-there : l < leaf_count ix → w < length leaves / 4
-  leaf-there h = subst (λ (z : List ℕ). w < length z / 4) e.leaves-are (subst (λ (z : ℕ). z < leaf_count ix) (sym same) h)
+-- ---- the leaf that the code reads
+pub record LeafRead (ix : Index) (l : ℕ) (run : Leaf) : Type 0 where
+  pub field-is : run.field ≡ leaf_field ix l
+  pub first-is : run.first ≡ leaf_first ix l
+  pub number-is : run.number ≡ leaf_number ix l
 
-  word-is : (k : ℕ) → get_or leaves (4 * w + k) 0 ≡ get_or ix.leaves (4 * l + k) 0
-  word-is k = ap (λ (z : ℕ). get_or leaves (4 * z + k) 0) same ∙ ap (λ (z : List ℕ). get_or z (4 * l + k) 0) (sym e.leaves-are)
+module _ (ix : Index) (r : Lent) (l : ℕ) (e : RecordsLent ix r) where
+  pub leaf-there : l < leaf_count ix → l < length r.leaves.now / 4
+  leaf-there h = subst (λ (z : List ℕ). l < length z / 4) e.leaves-are h
 
-  pub field_of : (x : ℕ) → x ≡ get_or leaves (4 * w) 0 → x ≡ leaf_field ix l
-  field_of x f = f ∙ ap (λ (z : ℕ). get_or leaves (4 * z) 0) same ∙ ap (λ (z : List ℕ). get_or z (4 * l) 0) (sym e.leaves-are)
+  pub leaf-read : (run : Leaf) → run ≡ leaf_of (leaves_only [] r.leaves.now []) l → LeafRead ix l run
+  leaf-read run is =
+      let same = is ∙ ap (λ (z : List ℕ). leaf_of (leaves_only [] z []) l) (sym e.leaves-are) in
+      record { field-is = ap Leaf.field same; first-is = ap Leaf.first same; number-is = ap Leaf.number same }
 
-  pub first_of : (x : ℕ) → x ≡ get_or leaves (4 * w + 1) 0 → x ≡ leaf_first ix l
-  first_of x f = f ∙ word-is 1
-
-  pub number_of : (x : ℕ) → x ≡ get_or leaves (4 * w + 2) 0 → x ≡ leaf_number ix l
-  number_of x f = f ∙ word-is 2
-
-  pub field-known : (x : ℕ) → x ≡ get_or leaves (4 * w) 0 → l < leaf_count ix → x < field_count ix
-  field-known x f h = subst (λ (z : ℕ). z < field_count ix) (sym (field_of x f)) (e.field-lent.accepted.leaf l h).field
+  pub field-known : (run : Leaf) → LeafRead ix l run → l < leaf_count ix → run.field < field_count ix
+  field-known run is h = subst (λ (z : ℕ). z < field_count ix) (sym is.field-is) (e.field-lent.accepted.leaf l h).field

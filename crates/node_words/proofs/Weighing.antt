@@ -3,7 +3,7 @@ use mathlib.Core.Path.{◌≡◌, refl, sym, ◌∙◌, ap}
 use mathlib.Core.Bool.{Bool, true, false, cond}
 use mathlib.Core.List.{List}
 use mathlib.Core.Option.{some}
-use Prim.Native.Nat.{ℕ, zero, suc, ◌+◌, ◌-◌, ◌*◌, ◌^◌, ◌≤◌}
+use Prim.Native.Nat.{ℕ, ◌+◌, ◌-◌, ◌*◌, ◌^◌, ◌≤◌}
 use native.Mathlib.Nat.{le_refl}
 use native.Mathlib.Omega.{arith}
 use lib.Dec.{lit≤}
@@ -130,12 +130,6 @@ module _ (ix : Index) (q : List ℕ) (k at : ℕ) (D : Decoded) (e : decode q k 
     where
       not-both : (n : ℕ) → n ≡ 0 → n ≡ 1 → ⊥
       not-both n e f = omega (arith, e, f)
-
--- a word that is 0 or 1
-pub only_one : (x : ℕ) → x ≤ 1 → (x ≡ 0 → ⊥) → x ≡ 1
-only_one zero h n = absurd (n refl)
-only_one (suc zero) h n = refl
-only_one (suc (suc x)) h n = absurd (omega (arith, h))
 
 -- ---- every part has a record
 leaf-least : (l : Leaf) → node_state_words ≤ leaf_size l

@@ -8,8 +8,7 @@ use Rattle.ieee754.specs.Nonneg.{sign_clear, AtMost}
 use Rattle.weight.specs.Weigh.{weigh}
 use Rattle.weight.specs.State.{size_of}
 use Rattle.weight.specs.Measured.{Asks, Measured, RangesListed}
-use Rattle.measure.specs.declared.Measure.{Measure}
-use Rattle.measure.specs.declared.RangeList.{RangeList}
+use Rattle.node_words.specs.declared.place.Records.{Records as Lent}
 use Rattle.measure.specs.Measures.{nexts_of, presents_of, costs_of, places_of}
 use Rattle.node_words.specs.Placed.{LeafLent, kept_of, Placed}
 
@@ -29,8 +28,13 @@ records q n fields leaves nexts presents costs places =
     record { query = q; documents = n; fields = fields; leaves = leaves; nexts = nexts; presents = presents; costs = costs; places = places }
 
 -- as the code has them: one struct of each record's measure, one of each range
-abbrev pub given : List ℕ → ℕ → List ℕ → List ℕ → List Measure → List RangeList → Records
-given q n fields leaves ms ls = records q n fields leaves (nexts_of ms) (presents_of ms) (costs_of ms) (places_of ls)
+abbrev pub given : Lent → Records
+given r =
+    records r.query.now r.max_doc r.fields.now r.leaves.now (nexts_of r.measures.now) (presents_of r.measures.now) (costs_of r.measures.now) (places_of r.listed.now)
+
+-- an accepted index of which this is lent
+abbrev pub RecordsLent : Index → Lent → Type 0
+RecordsLent ix r = LeafLent ix r.max_doc r.fields.now r.leaves.now
 
 -- they are those of an accepted index and query, with the documents of every Range record in this buffer
 pub record Prepared (ix : Index) (E : Records) (ranges : List ℕ) : Type 0 where

@@ -3,3 +3,4 @@
 
 pub mod leaf;
 pub mod place;
+pub mod state;

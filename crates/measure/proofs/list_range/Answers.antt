@@ -1,22 +1,28 @@
-use Rattle.std.proofs.Common.{sym, ap, ◌∙◌, length}
+use Rattle.std.proofs.Common.{◌≡◌, ap, ◌∙◌, length, rules}
+use Rattle.meaning.specs.Query.{record_kind}
 use Rattle.bits.specs.Bit.{bitmap_words}
 use Rattle.measure.proofs.Listing.{range-asks, range_gives, range-bitmap}
 use Rattle.measure.proofs.list_range.Goals as goal
 
-pub returns-then-kind-ne4-clause-value : goal.returns-then-kind-ne4-clause-value
-returns-then-kind-ne4-clause-value c = λ ix a cs kind. absurd (c.if-kind-ne4.true (c.kind.ensures ∙ kind))
-
 pub range_bitmap-requires-clause-values_value : goal.range_bitmap-requires-clause-values_value
-range_bitmap-requires-clause-values_value c = (range-asks c.requires.asks.0 c.args.q.now c.args.columns.now c.args.values.now c.args.max_doc c.args.at c.requires.asks.1 c.requires.asks.2 c.requires.at_bound.0 (sym c.kind.ensures ∙ c.if-kind-ne4.false) c.value.result c.value-2.result c.value-3.result c.value-4.result c.value-5.result c.value-6.result c.joined.result c.joined-2.result c.value.ensures c.value-2.ensures c.value-3.ensures c.value-4.ensures c.value-5.ensures c.value-6.ensures c.joined.ensures c.joined-2.ensures).0
+range_bitmap-requires-clause-values_value c =
+    let kind : record_kind c.args.q.now c.args.at ≡ 4 = search rules in
+    (range-asks c.requires.asks.0 c.args.q.now c.args.columns.now c.args.values.now c.args.max_doc c.args.at c.requires.asks.1 c.requires.asks.2 c.requires.at_bound.0 kind c.value.result c.value-2.result c.value-3.result c.value-4.result c.value-5.result c.value-6.result c.joined.result c.joined-2.result c.value.ensures c.value-2.ensures c.value-3.ensures c.value-4.ensures c.value-5.ensures c.value-6.ensures c.joined.ensures c.joined-2.ensures).0
 
 pub range_bitmap-requires-clause-values_value_2 : goal.range_bitmap-requires-clause-values_value_2
-range_bitmap-requires-clause-values_value_2 c = (range-asks c.requires.asks.0 c.args.q.now c.args.columns.now c.args.values.now c.args.max_doc c.args.at c.requires.asks.1 c.requires.asks.2 c.requires.at_bound.0 (sym c.kind.ensures ∙ c.if-kind-ne4.false) c.value.result c.value-2.result c.value-3.result c.value-4.result c.value-5.result c.value-6.result c.joined.result c.joined-2.result c.value.ensures c.value-2.ensures c.value-3.ensures c.value-4.ensures c.value-5.ensures c.value-6.ensures c.joined.ensures c.joined-2.ensures).1
+range_bitmap-requires-clause-values_value_2 c =
+    let kind : record_kind c.args.q.now c.args.at ≡ 4 = search rules in
+    (range-asks c.requires.asks.0 c.args.q.now c.args.columns.now c.args.values.now c.args.max_doc c.args.at c.requires.asks.1 c.requires.asks.2 c.requires.at_bound.0 kind c.value.result c.value-2.result c.value-3.result c.value-4.result c.value-5.result c.value-6.result c.joined.result c.joined-2.result c.value.ensures c.value-2.ensures c.value-3.ensures c.value-4.ensures c.value-5.ensures c.value-6.ensures c.joined.ensures c.joined-2.ensures).1
 
 pub range_bitmap-requires-clause-range_value : goal.range_bitmap-requires-clause-range_value
-range_bitmap-requires-clause-range_value c = (range-asks c.requires.asks.0 c.args.q.now c.args.columns.now c.args.values.now c.args.max_doc c.args.at c.requires.asks.1 c.requires.asks.2 c.requires.at_bound.0 (sym c.kind.ensures ∙ c.if-kind-ne4.false) c.value.result c.value-2.result c.value-3.result c.value-4.result c.value-5.result c.value-6.result c.joined.result c.joined-2.result c.value.ensures c.value-2.ensures c.value-3.ensures c.value-4.ensures c.value-5.ensures c.value-6.ensures c.joined.ensures c.joined-2.ensures).2
+range_bitmap-requires-clause-range_value c =
+    let kind : record_kind c.args.q.now c.args.at ≡ 4 = search rules in
+    (range-asks c.requires.asks.0 c.args.q.now c.args.columns.now c.args.values.now c.args.max_doc c.args.at c.requires.asks.1 c.requires.asks.2 c.requires.at_bound.0 kind c.value.result c.value-2.result c.value-3.result c.value-4.result c.value-5.result c.value-6.result c.joined.result c.joined-2.result c.value.ensures c.value-2.ensures c.value-3.ensures c.value-4.ensures c.value-5.ensures c.value-6.ensures c.joined.ensures c.joined-2.ensures).2
 
 pub range_bitmap-requires-clause-bitmap_fits : goal.range_bitmap-requires-clause-bitmap_fits
-range_bitmap-requires-clause-bitmap_fits c = c.requires.at_bound.1 (sym c.kind.ensures ∙ c.if-kind-ne4.false)
+range_bitmap-requires-clause-bitmap_fits c =
+    let kind : record_kind c.args.q.now c.args.at ≡ 4 = search rules in
+    c.requires.at_bound.1 kind
 
 pub returns-clause-value : goal.returns-clause-value
 returns-clause-value c =

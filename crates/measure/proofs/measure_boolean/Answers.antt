@@ -1,8 +1,10 @@
 use Rattle.std.proofs.Common.{◌≡◌, ℕ, ◌+◌, ◌-◌, ap, subst, refl, ◌∙◌, get_or, arith}
-use Rattle.meaning.specs.Query.{record_children, occur_of}
+use Rattle.meaning.specs.Query.{record_children}
 use Rattle.weight.proofs.Standing.{clauses-at}
 use Rattle.measure.proofs.Arrays.{no_measure}
 use Rattle.measure.proofs.Tallies.{Left, untallied, left-begins, left-on, one_left, boolean-measured, clauses-in}
+use Rattle.measure.specs.Tallied.{tallied, tallied_at}
+use Rattle.measure.proofs.Occurrences.{occur-read}
 use Rattle.measure.proofs.measure_boolean.Goals as goal
 
 pub loop-i-init : goal.loop-i-init
@@ -29,8 +31,8 @@ bounds-measures-next c =
     let o = one_left a.0 c.args.q.now ks.level c.args.at ks.inside c.args.measures.now (record_children c.args.q.now c.args.at - l._i) l.next l.t ks.few-records ks.few-clauses a.2 (l.invariant a.0 ks.level ks.inside a.2 ks.decoded) (omega arith) in
     omega (arith, o.here, c.requires.held.0.long)
 
-pub occurrence-requires : goal.occurrence-requires
-occurrence-requires c =
+pub occur_at-requires : goal.occur_at-requires
+occur_at-requires c =
     let a = c.requires.asks in
     let l = c.loop-i in
     let ks = clauses-at c.args.q.now c.args.at a.1.records-right c.requires.held.0.here c.requires.held.1 in
@@ -52,7 +54,7 @@ loop-i-preserved c =
     λ ix k C all e. subst
     (λ (z : ℕ). Left ix c.args.q.now k c.args.at z m.next c.tally_clause-t.result C)
     (one-less n l._i)
-    (left-on ix c.args.q.now k c.args.at C c.args.measures.now (n - l._i) l.next l.t c.tally_clause-t.result all (l.invariant ix k C all e) (omega arith) m refl (λ o f. c.tally_clause-t.ensures o (ap occur_of c.occurrence.ensures ∙ f)))
+    (left-on ix c.args.q.now k c.args.at C c.args.measures.now (n - l._i) l.next l.t c.tally_clause-t.result all (l.invariant ix k C all e) (omega arith) m refl (λ o f. let r = occur-read _ _ o c.occur_at.ensures f in c.tally_clause-t.ensures ∙ ap (λ z. tallied_at l.t z m.present m.cost) r.read-is ∙ ap (λ z. tallied l.t z m.present m.cost) r.meant-is))
   where
     one-less : (n i : ℕ) → n - i - 1 ≡ n - (i + 1)
     one-less n i = omega arith

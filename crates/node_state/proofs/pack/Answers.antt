@@ -1,7 +1,7 @@
 -- After the loop the records hold the words.
 use Rattle.std.proofs.Common.{◌≡◌, ◌*◌, ℕ, List, take, drop, arith, subst, sym}
 use Rattle.meaning.specs.Limits.{node_state_words}
-use Rattle.node_state.specs.declared.NodeState.{NodeState}
+use Rattle.node_words.specs.declared.state.NodeState.{NodeState}
 use Rattle.node_state.specs.Records.{record_words}
 use Rattle.node_state.proofs.Turns.{take_nodes, all-taken, rest-stays}
 use Rattle.node_state.proofs.pack.Goals as goal

@@ -8,4 +8,4 @@ use Rattle.node_state.proofs.put_node.Goals as goal
 
 pub returns : goal.returns
 returns c =
-    part-put c.args.words.now c.put.new.st (words_of (state_of c.args.s)) (node_state_words * c.args.i) (omega (arith, c.requires)) c.put.ensures
+    part-put c.args.words.now c.put.new.st (words_of (state_of c.args.s.now)) (node_state_words * c.args.i) (omega (arith, c.requires)) c.put.ensures

@@ -1,199 +1,144 @@
 -- The cycle of calls that places a tree: a tree, a Boolean, its required clauses, its others, and a list of clauses.
-use mir.Val.{bool_byte}
 use borrow.Rule.Slice.PartMut.{put_mid, same_len_mid, mid_len, post_of}
-use Rattle.std.proofs.Common.{◌≡◌, Bool, cond, ℕ, ◌+◌, ◌-◌, refl, sym, ◌∙◌, ap, eqb, length, take, get_or, arith}
+use Rattle.std.proofs.Common.{◌≡◌, ◌≤◌, Bool, List, cond, ℕ, ◌+◌, ◌-◌, refl, sym, ◌∙◌, ap, length, take, get_or, arith, rules}
 use Rattle.std.specs.Prelude.{is_some}
 use Rattle.meaning.specs.Limits.{node_state_words}
+use Rattle.meaning.specs.Query.{is_must}
+use Rattle.query.specs.Kinds.{kind_number, occur_number}
+use Rattle.clauses.specs.Clauses.{wanted_at}
 use Rattle.measure.proofs.Arrays.{no_measure, present-at, presents-long}
 use Rattle.node_words.specs.Placed.{kept_score}
 use Rattle.node_words.specs.Prepared.{given}
-use Rattle.node_words.proofs.Kept.{kept-or, not-none, byte-is}
+use Rattle.node_words.proofs.AtRecord.{TreeHere, tree-here}
+use Rattle.node_words.proofs.Kept.{kept-or, not-none}
 use Rattle.build.proofs.Found.{from-there}
 use Rattle.build.proofs.PlacingLists.{kept-nothing, list-starts, list-here, list-within, list-ends, list-tree, list-fits, list-more}
 use Rattle.build.proofs.PlacingParts.{others-known, others-listed, others-placed, required-known, required-here, required-first, required-within, required-second, required-fits, required-placed}
-use Rattle.build.proofs.PlacingBooleans.{tree-here, tree-room, tree-deep, tree-kept, tree-present, nothing_placed, boolean-known, boolean-required, first_fits, boolean-optional, second_fits, boolean-prohibited, whole-fits, whole-small, group-within, whole-placed}
+use Rattle.build.proofs.PlacingBooleans.{tree-room, tree-deep, tree-kept, nothing_placed, boolean-known, boolean-required, first_fits, boolean-optional, second_fits, boolean-prohibited, whole-fits, whole-small, group-within, whole-placed}
 use Rattle.build.proofs.PlacingBelow.{constant-asked, constant-placed, boost-asked, boost-placed, boost-number-here}
+use Rattle.build.proofs.tree.+placing.Goals.{place-Start, place_boolean-Start, place_boolean-After-place_required-first, place_boolean-After-place_others-shoulds}
 use Rattle.build.proofs.tree.+placing.Goals as goal
 
-pub place-kind-requires : goal.place-kind-requires
-place-kind-requires t c =
-    let E = given c.args.records.now.query.now c.args.records.now.max_doc c.args.records.now.fields.now c.args.records.now.leaves.now c.args.records.now.measures.now c.args.records.now.listed.now in
-    let at = c.args.at in
-    let fixed = is_some c.args.kept in
-    let kept = kept_score c.args.kept in
-    let boost = c.args.boost in
-    let words = length c.args.st.now in
-    let depth = c.args.depth in
-    let pre = c.requires in
-    tree-here E at fixed kept boost words depth pre
+-- ---- a tree
+tree : (t : _) (c : goal.place-Start t) → TreeHere c.args.records.now c.args.at c.args.passed.kept c.args.passed.boost (length c.args.st.now) c.args.depth
+tree t c = tree-here c.args.records.now c.args.at c.args.passed.kept c.args.passed.boost (length c.args.st.now) c.args.depth c.requires
+
+pub place-kind_at-requires : goal.place-kind_at-requires
+place-kind_at-requires t c = (tree t (goal.at.place-kind_at-requires t c).Start).here
 
 pub place-place_boolean-requires : goal.place-place_boolean-requires
 place-place_boolean-requires t c =
-    (omega (arith, c.decreases), (sym c.kind.ensures ∙ c.in-3.is, c.requires))
+    (omega (arith, c.decreases), (c.in-Some-Boolean.ensures ∙ ap kind_number c.in-Some-Boolean.field-0-is, c.requires))
 
 pub place-overflow_sub-depth : goal.place-overflow_sub-depth
-place-overflow_sub-depth t c =
-    let E = given c.args.records.now.query.now c.args.records.now.max_doc c.args.records.now.fields.now c.args.records.now.leaves.now c.args.records.now.measures.now c.args.records.now.listed.now in
-    let at = c.args.at in
-    let fixed = is_some c.args.kept in
-    let kept = kept_score c.args.kept in
-    let boost = c.args.boost in
-    let words = length c.args.st.now in
-    let depth = c.args.depth in
-    let pre = c.requires in
-    tree-deep E at fixed kept boost words depth pre
+place-overflow_sub-depth t c = (tree t (goal.at.place-overflow_sub-depth t c).Start).levels
 
 pub place-place-requires : goal.place-place-requires
 place-place-requires t c =
-    let E = given c.args.records.now.query.now c.args.records.now.max_doc c.args.records.now.fields.now c.args.records.now.leaves.now c.args.records.now.measures.now c.args.records.now.listed.now in
+    let E = given c.args.records.now in
     let at = c.args.at in
-    let fixed = is_some c.args.kept in
-    let kept = kept_score c.args.kept in
-    let boost = c.args.boost in
+    let fixed = is_some c.args.passed.kept in
+    let kept = kept_score c.args.passed.kept in
+    let boost = c.args.passed.boost in
     let words = length c.args.st.now in
     let depth = c.args.depth in
     let pre = c.requires in
-    let kind = sym c.kind.ensures ∙ c.in-6.is in
-    (omega (arith, c.decreases, tree-deep E at fixed kept boost words depth pre), constant-asked E at fixed kept boost words depth kind c.unwrap_or.result (c.unwrap_or.ensures ∙ kept-or c.args.kept boost) pre)
+    let kind = c.in-Some-ConstantScore.ensures ∙ ap kind_number c.in-Some-ConstantScore.field-0-is in
+    (omega (arith, c.decreases, tree-deep E at fixed kept boost words depth pre), constant-asked E at fixed kept boost words depth kind c.unwrap_or.result (c.unwrap_or.ensures ∙ kept-or c.args.passed.kept boost) pre)
 
 pub place-value-requires : goal.place-value-requires
-place-value-requires t c =
-    let E = given c.args.records.now.query.now c.args.records.now.max_doc c.args.records.now.fields.now c.args.records.now.leaves.now c.args.records.now.measures.now c.args.records.now.listed.now in
-    let at = c.args.at in
-    let fixed = is_some c.args.kept in
-    let kept = kept_score c.args.kept in
-    let boost = c.args.boost in
-    let words = length c.args.st.now in
-    let depth = c.args.depth in
-    let pre = c.requires in
-    (tree-here E at fixed kept boost words depth pre, omega arith)
+place-value-requires t c = ((tree t (goal.at.place-value-requires t c).Start).here, omega arith)
 
-pub place-float_from_bits-value : goal.place-float_from_bits-value
-place-float_from_bits-value t c =
-    let E = given c.args.records.now.query.now c.args.records.now.max_doc c.args.records.now.fields.now c.args.records.now.leaves.now c.args.records.now.measures.now c.args.records.now.listed.now in
+pub place-float_from_bits-below : goal.place-float_from_bits-below
+place-float_from_bits-below t c =
+    let E = given c.args.records.now in
     let at = c.args.at in
-    let fixed = is_some c.args.kept in
-    let kept = kept_score c.args.kept in
-    let boost = c.args.boost in
+    let fixed = is_some c.args.passed.kept in
+    let kept = kept_score c.args.passed.kept in
+    let boost = c.args.passed.boost in
     let words = length c.args.st.now in
     let depth = c.args.depth in
     let pre = c.requires in
-    let kind = sym c.kind.ensures ∙ c.in-7.is in
+    let kind = c.in-Some-Boost.ensures ∙ ap kind_number c.in-Some-Boost.field-0-is in
     boost-number-here E at fixed kept boost words depth kind c.value.result c.value.ensures pre
 
-pub place-overflow_sub-depth-in-7 : goal.place-overflow_sub-depth-in-7
-place-overflow_sub-depth-in-7 t c =
-    let E = given c.args.records.now.query.now c.args.records.now.max_doc c.args.records.now.fields.now c.args.records.now.leaves.now c.args.records.now.measures.now c.args.records.now.listed.now in
-    let at = c.args.at in
-    let fixed = is_some c.args.kept in
-    let kept = kept_score c.args.kept in
-    let boost = c.args.boost in
-    let words = length c.args.st.now in
-    let depth = c.args.depth in
-    let pre = c.requires in
-    tree-deep E at fixed kept boost words depth pre
+pub place-overflow_sub-depth-in-Some-Boost : goal.place-overflow_sub-depth-in-Some-Boost
+place-overflow_sub-depth-in-Some-Boost t c = (tree t (goal.at.place-overflow_sub-depth-in-Some-Boost t c).Start).levels
 
-pub place-place-requires-in-7 : goal.place-place-requires-in-7
-place-place-requires-in-7 t c =
-    let E = given c.args.records.now.query.now c.args.records.now.max_doc c.args.records.now.fields.now c.args.records.now.leaves.now c.args.records.now.measures.now c.args.records.now.listed.now in
+pub place-place-requires-in-Some-Boost : goal.place-place-requires-in-Some-Boost
+place-place-requires-in-Some-Boost t c =
+    let E = given c.args.records.now in
     let at = c.args.at in
-    let fixed = is_some c.args.kept in
-    let kept = kept_score c.args.kept in
-    let boost = c.args.boost in
+    let fixed = is_some c.args.passed.kept in
+    let kept = kept_score c.args.passed.kept in
+    let boost = c.args.passed.boost in
     let words = length c.args.st.now in
     let depth = c.args.depth in
     let pre = c.requires in
-    let kind = sym c.kind.ensures ∙ c.in-7.is in
+    let kind = c.in-Some-Boost.ensures ∙ ap kind_number c.in-Some-Boost.field-0-is in
     (omega (arith, c.decreases, tree-deep E at fixed kept boost words depth pre), boost-asked E at fixed kept boost words depth kind c.value.result c.value.ensures pre)
 
-pub place-returns-in-6-clause-tree_post : goal.place-returns-in-6-clause-tree_post
-place-returns-in-6-clause-tree_post t c =
-    let E = given c.args.records.now.query.now c.args.records.now.max_doc c.args.records.now.fields.now c.args.records.now.leaves.now c.args.records.now.measures.now c.args.records.now.listed.now in
+pub place-returns-in-Some-ConstantScore-clause-tree_post : goal.place-returns-in-Some-ConstantScore-clause-tree_post
+place-returns-in-Some-ConstantScore-clause-tree_post t c =
+    let E = given c.args.records.now in
     let at = c.args.at in
-    let fixed = is_some c.args.kept in
-    let kept = kept_score c.args.kept in
-    let boost = c.args.boost in
+    let fixed = is_some c.args.passed.kept in
+    let kept = kept_score c.args.passed.kept in
+    let boost = c.args.passed.boost in
     let words = length c.args.st.now in
     let depth = c.args.depth in
-    let kind = sym c.kind.ensures ∙ c.in-6.is in
-    constant-placed E at fixed kept boost words depth kind c.unwrap_or.result (c.unwrap_or.ensures ∙ kept-or c.args.kept boost) c.args.scores c.place.result c.place.new.st c.place.ensures.tree_post
+    let kind = c.in-Some-ConstantScore.ensures ∙ ap kind_number c.in-Some-ConstantScore.field-0-is in
+    constant-placed E at fixed kept boost words depth kind c.unwrap_or.result (c.unwrap_or.ensures ∙ kept-or c.args.passed.kept boost) c.args.passed.scores c.place.result c.place.new.st c.place.ensures.tree_post
 
-pub place-returns-in-7-clause-tree_post : goal.place-returns-in-7-clause-tree_post
-place-returns-in-7-clause-tree_post t c =
-    let E = given c.args.records.now.query.now c.args.records.now.max_doc c.args.records.now.fields.now c.args.records.now.leaves.now c.args.records.now.measures.now c.args.records.now.listed.now in
+pub place-returns-in-Some-Boost-clause-tree_post : goal.place-returns-in-Some-Boost-clause-tree_post
+place-returns-in-Some-Boost-clause-tree_post t c =
+    let E = given c.args.records.now in
     let at = c.args.at in
-    let fixed = is_some c.args.kept in
-    let kept = kept_score c.args.kept in
-    let boost = c.args.boost in
+    let fixed = is_some c.args.passed.kept in
+    let kept = kept_score c.args.passed.kept in
+    let boost = c.args.passed.boost in
     let words = length c.args.st.now in
     let depth = c.args.depth in
-    let kind = sym c.kind.ensures ∙ c.in-7.is in
-    boost-placed E at fixed kept boost words depth kind c.value.result c.value.ensures c.args.scores c.place-in-7.result c.place-in-7.new.st c.place-in-7.ensures.tree_post
+    let kind = c.in-Some-Boost.ensures ∙ ap kind_number c.in-Some-Boost.field-0-is in
+    boost-placed E at fixed kept boost words depth kind c.value.result c.value.ensures c.args.passed.scores c.place-in-Some-Boost.result c.place-in-Some-Boost.new.st c.place-in-Some-Boost.ensures.tree_post
 
 pub place-returns-in_default-clause-tree_post : goal.place-returns-in_default-clause-tree_post
 place-returns-in_default-clause-tree_post t c =
     c.place_leaf.ensures.by_index_2 c.args.depth
 
+-- ---- a Boolean
+boolean : (t : _) (c : goal.place_boolean-Start t) → TreeHere c.args.records.now c.args.at c.args.passed.kept c.args.passed.boost (length c.args.st.now) c.args.depth
+boolean t c = tree-here c.args.records.now c.args.at c.args.passed.kept c.args.passed.boost (length c.args.st.now) c.args.depth c.requires.tree_pre
+
 pub place_boolean-bounds-records-at : goal.place_boolean-bounds-records-at
-place_boolean-bounds-records-at t c =
-    let E = given c.args.records.now.query.now c.args.records.now.max_doc c.args.records.now.fields.now c.args.records.now.leaves.now c.args.records.now.measures.now c.args.records.now.listed.now in
-    let at = c.args.at in
-    let fixed = is_some c.args.kept in
-    let kept = kept_score c.args.kept in
-    let boost = c.args.boost in
-    let words = length c.args.st.now in
-    let depth = c.args.depth in
-    let pre = c.requires.tree_pre in
-    let kind = c.requires.at_value in
-    let here = tree-present E at fixed kept boost words depth pre in
-    omega (arith, here, presents-long c.args.records.now.measures.now)
+place_boolean-bounds-records-at t c = (boolean t (goal.at.place_boolean-bounds-records-at t c).Start).measured
 
 pub place_boolean-place_nothing-requires : goal.place_boolean-place_nothing-requires
-place_boolean-place_nothing-requires t c =
-    let E = given c.args.records.now.query.now c.args.records.now.max_doc c.args.records.now.fields.now c.args.records.now.leaves.now c.args.records.now.measures.now c.args.records.now.listed.now in
-    let at = c.args.at in
-    let fixed = is_some c.args.kept in
-    let kept = kept_score c.args.kept in
-    let boost = c.args.boost in
-    let words = length c.args.st.now in
-    let depth = c.args.depth in
-    let pre = c.requires.tree_pre in
-    let kind = c.requires.at_value in
-    tree-room E at fixed kept boost words depth pre
+place_boolean-place_nothing-requires t c = (boolean t (goal.at.place_boolean-place_nothing-requires t c).Start).room
 
 pub place_boolean-returns-then-not-records-at-clause-tree_post : goal.place_boolean-returns-then-not-records-at-clause-tree_post
 place_boolean-returns-then-not-records-at-clause-tree_post t c =
-    let E = given c.args.records.now.query.now c.args.records.now.max_doc c.args.records.now.fields.now c.args.records.now.leaves.now c.args.records.now.measures.now c.args.records.now.listed.now in
+    let E = given c.args.records.now in
     let at = c.args.at in
-    let fixed = is_some c.args.kept in
-    let kept = kept_score c.args.kept in
-    let boost = c.args.boost in
+    let fixed = is_some c.args.passed.kept in
+    let kept = kept_score c.args.passed.kept in
+    let boost = c.args.passed.boost in
     let words = length c.args.st.now in
     let depth = c.args.depth in
     let pre = c.requires.tree_pre in
     let kind = c.requires.at_value in
-    nothing_placed E at fixed kept boost words depth kind c.args.scores c.place_nothing.result c.place_nothing.new.st (present-at c.args.records.now.measures.now at ∙ ap (λ (b : Bool). cond b 1 0) c.if-not-records-at.true) c.place_nothing.ensures.placed
+    nothing_placed E at fixed kept boost words depth kind c.args.passed.scores c.place_nothing.result c.place_nothing.new.st (present-at c.args.records.now.measures.now at ∙ ap (λ (b : Bool). cond b 1 0) c.if-not-records-at.true) c.place_nothing.ensures.placed
 
 pub place_boolean-value-msm-requires : goal.place_boolean-value-msm-requires
-place_boolean-value-msm-requires t c =
-    let E = given c.args.records.now.query.now c.args.records.now.max_doc c.args.records.now.fields.now c.args.records.now.leaves.now c.args.records.now.measures.now c.args.records.now.listed.now in
-    let at = c.args.at in
-    let fixed = is_some c.args.kept in
-    let kept = kept_score c.args.kept in
-    let boost = c.args.boost in
-    let words = length c.args.st.now in
-    let depth = c.args.depth in
-    let pre = c.requires.tree_pre in
-    let kind = c.requires.at_value in
-    (tree-here E at fixed kept boost words depth pre, omega arith)
+place_boolean-value-msm-requires t c = ((boolean t (goal.at.place_boolean-value-msm-requires t c).Start).here, omega arith)
 
 pub place_boolean-has_required-required-requires : goal.place_boolean-has_required-required-requires
 place_boolean-has_required-required-requires t c =
-    let E = given c.args.records.now.query.now c.args.records.now.max_doc c.args.records.now.fields.now c.args.records.now.leaves.now c.args.records.now.measures.now c.args.records.now.listed.now in
+    let E = given c.args.records.now in
     let at = c.args.at in
-    let fixed = is_some c.args.kept in
-    let kept = kept_score c.args.kept in
-    let boost = c.args.boost in
+    let fixed = is_some c.args.passed.kept in
+    let kept = kept_score c.args.passed.kept in
+    let boost = c.args.passed.boost in
     let words = length c.args.st.now in
     let depth = c.args.depth in
     let pre = c.requires.tree_pre in
@@ -202,51 +147,21 @@ place_boolean-has_required-required-requires t c =
     boolean-known E at fixed kept boost words depth kind there c.args.records.now.measures.now (refl, refl, refl) pre
 
 pub place_boolean-slice_bounds-place_required-count : goal.place_boolean-slice_bounds-place_required-count
-place_boolean-slice_bounds-place_required-count t c =
-    let E = given c.args.records.now.query.now c.args.records.now.max_doc c.args.records.now.fields.now c.args.records.now.leaves.now c.args.records.now.measures.now c.args.records.now.listed.now in
-    let at = c.args.at in
-    let fixed = is_some c.args.kept in
-    let kept = kept_score c.args.kept in
-    let boost = c.args.boost in
-    let words = length c.args.st.now in
-    let depth = c.args.depth in
-    let pre = c.requires.tree_pre in
-    let kind = c.requires.at_value in
-    tree-room E at fixed kept boost words depth pre
+place_boolean-slice_bounds-place_required-count t c = (boolean t (goal.at.place_boolean-slice_bounds-place_required-count t c).Start).room
 
 pub place_boolean-slice_bounds-place_required-start : goal.place_boolean-slice_bounds-place_required-start
-place_boolean-slice_bounds-place_required-start t c =
-    let E = given c.args.records.now.query.now c.args.records.now.max_doc c.args.records.now.fields.now c.args.records.now.leaves.now c.args.records.now.measures.now c.args.records.now.listed.now in
-    let at = c.args.at in
-    let fixed = is_some c.args.kept in
-    let kept = kept_score c.args.kept in
-    let boost = c.args.boost in
-    let words = length c.args.st.now in
-    let depth = c.args.depth in
-    let pre = c.requires.tree_pre in
-    let kind = c.requires.at_value in
-    tree-room E at fixed kept boost words depth pre
+place_boolean-slice_bounds-place_required-start t c = (boolean t (goal.at.place_boolean-slice_bounds-place_required-start t c).Start).room
 
 pub place_boolean-overflow_sub-depth : goal.place_boolean-overflow_sub-depth
-place_boolean-overflow_sub-depth t c =
-    let E = given c.args.records.now.query.now c.args.records.now.max_doc c.args.records.now.fields.now c.args.records.now.leaves.now c.args.records.now.measures.now c.args.records.now.listed.now in
-    let at = c.args.at in
-    let fixed = is_some c.args.kept in
-    let kept = kept_score c.args.kept in
-    let boost = c.args.boost in
-    let words = length c.args.st.now in
-    let depth = c.args.depth in
-    let pre = c.requires.tree_pre in
-    let kind = c.requires.at_value in
-    tree-deep E at fixed kept boost words depth pre
+place_boolean-overflow_sub-depth t c = (boolean t (goal.at.place_boolean-overflow_sub-depth t c).Start).levels
 
 pub place_boolean-place_required-first-requires : goal.place_boolean-place_required-first-requires
 place_boolean-place_required-first-requires t c =
-    let E = given c.args.records.now.query.now c.args.records.now.max_doc c.args.records.now.fields.now c.args.records.now.leaves.now c.args.records.now.measures.now c.args.records.now.listed.now in
+    let E = given c.args.records.now in
     let at = c.args.at in
-    let fixed = is_some c.args.kept in
-    let kept = kept_score c.args.kept in
-    let boost = c.args.boost in
+    let fixed = is_some c.args.passed.kept in
+    let kept = kept_score c.args.passed.kept in
+    let boost = c.args.passed.boost in
     let words = length c.args.st.now in
     let depth = c.args.depth in
     let pre = c.requires.tree_pre in
@@ -256,110 +171,41 @@ place_boolean-place_required-first-requires t c =
     let part₁ = mid_len node_state_words words st₀ (omega arith) in
     (omega (arith, c.decreases, tree-deep E at fixed kept boost words depth pre), boolean-required E at fixed kept boost words depth kind there _ part₁ pre)
 
-pub place_boolean-overflow_add-first : goal.place_boolean-overflow_add-first
-place_boolean-overflow_add-first t c =
-    let E = given c.args.records.now.query.now c.args.records.now.max_doc c.args.records.now.fields.now c.args.records.now.leaves.now c.args.records.now.measures.now c.args.records.now.listed.now in
-    let at = c.args.at in
-    let fixed = is_some c.args.kept in
-    let kept = kept_score c.args.kept in
-    let boost = c.args.boost in
-    let words = length c.args.st.now in
-    let depth = c.args.depth in
-    let pre = c.requires.tree_pre in
-    let kind = c.requires.at_value in
-    let there : get_or E.presents at 0 ≡ 0 → ⊥ = λ z. not-none (get_or c.args.records.now.measures.now at no_measure).present c.if-not-records-at.false (sym (present-at c.args.records.now.measures.now at) ∙ z) in
-    let st₀ = c.args.st.now in
-    let part₁ = mid_len node_state_words words st₀ (omega arith) in
+-- its required children's parts are there, in words as many as before
+abbrev words₁ : (t : _) → goal.place_boolean-After-place_required-first t → List ℕ
+words₁ t c = put_mid node_state_words (length c.args.st.now - node_state_words) c.args.st.now c.place_required-first.new.st
+
+first : (t : _) (c : goal.place_boolean-After-place_required-first t) → (node_state_words + c.place_required-first.result.end ≤ length c.args.st.now) × (length (words₁ t c) ≡ length c.args.st.now)
+first t c =
+    let there : get_or (given c.args.records.now).presents c.args.at 0 ≡ 0 → ⊥ = λ z. not-none (get_or c.args.records.now.measures.now c.args.at no_measure).present c.if-not-records-at.false (sym (present-at c.args.records.now.measures.now c.args.at) ∙ z) in
     let a = c.place_required-first in
-    let e₁ = a.result.end in
-    let st₁ = put_mid node_state_words (words - node_state_words) st₀ a.new.st in
-    let long₁ = same_len_mid node_state_words (words - node_state_words) st₀ a.new.st a.auto.st in
-    let fits₁ = first_fits E at fixed kept boost words depth kind there _ part₁ a.result.group_at e₁ a.new.st a.ensures.required_post pre in
-    omega (arith, fits₁, c.well_formed)
+    let part₁ = mid_len node_state_words (length c.args.st.now) c.args.st.now (omega arith) in (
+      first_fits (given c.args.records.now) c.args.at (is_some c.args.passed.kept) (kept_score c.args.passed.kept) c.args.passed.boost (length c.args.st.now) c.args.depth c.requires.at_value there _ part₁ a.result.group_at a.result.end a.new.st a.ensures.required_post c.requires.tree_pre,
+      same_len_mid node_state_words (length c.args.st.now - node_state_words) c.args.st.now a.new.st a.auto.st,
+    )
+
+pub place_boolean-overflow_add-first : goal.place_boolean-overflow_add-first
+place_boolean-overflow_add-first t c = omega (arith, (first t (goal.at.place_boolean-overflow_add-first t c).After-place_required-first).0, c.well_formed)
 
 pub place_boolean-offset_bounds-st-first : goal.place_boolean-offset_bounds-st-first
-place_boolean-offset_bounds-st-first t c =
-    let E = given c.args.records.now.query.now c.args.records.now.max_doc c.args.records.now.fields.now c.args.records.now.leaves.now c.args.records.now.measures.now c.args.records.now.listed.now in
-    let at = c.args.at in
-    let fixed = is_some c.args.kept in
-    let kept = kept_score c.args.kept in
-    let boost = c.args.boost in
-    let words = length c.args.st.now in
-    let depth = c.args.depth in
-    let pre = c.requires.tree_pre in
-    let kind = c.requires.at_value in
-    let there : get_or E.presents at 0 ≡ 0 → ⊥ = λ z. not-none (get_or c.args.records.now.measures.now at no_measure).present c.if-not-records-at.false (sym (present-at c.args.records.now.measures.now at) ∙ z) in
-    let st₀ = c.args.st.now in
-    let part₁ = mid_len node_state_words words st₀ (omega arith) in
-    let a = c.place_required-first in
-    let e₁ = a.result.end in
-    let st₁ = put_mid node_state_words (words - node_state_words) st₀ a.new.st in
-    let long₁ = same_len_mid node_state_words (words - node_state_words) st₀ a.new.st a.auto.st in
-    let fits₁ = first_fits E at fixed kept boost words depth kind there _ part₁ a.result.group_at e₁ a.new.st a.ensures.required_post pre in
-    omega (arith, fits₁, c.well_formed)
+place_boolean-offset_bounds-st-first t c = omega (arith, (first t (goal.at.place_boolean-offset_bounds-st-first t c).After-place_required-first).0, c.well_formed)
 
 pub place_boolean-slice_bounds-place_others-count : goal.place_boolean-slice_bounds-place_others-count
-place_boolean-slice_bounds-place_others-count t c =
-    let E = given c.args.records.now.query.now c.args.records.now.max_doc c.args.records.now.fields.now c.args.records.now.leaves.now c.args.records.now.measures.now c.args.records.now.listed.now in
-    let at = c.args.at in
-    let fixed = is_some c.args.kept in
-    let kept = kept_score c.args.kept in
-    let boost = c.args.boost in
-    let words = length c.args.st.now in
-    let depth = c.args.depth in
-    let pre = c.requires.tree_pre in
-    let kind = c.requires.at_value in
-    let there : get_or E.presents at 0 ≡ 0 → ⊥ = λ z. not-none (get_or c.args.records.now.measures.now at no_measure).present c.if-not-records-at.false (sym (present-at c.args.records.now.measures.now at) ∙ z) in
-    let st₀ = c.args.st.now in
-    let part₁ = mid_len node_state_words words st₀ (omega arith) in
-    let a = c.place_required-first in
-    let e₁ = a.result.end in
-    let st₁ = put_mid node_state_words (words - node_state_words) st₀ a.new.st in
-    let long₁ = same_len_mid node_state_words (words - node_state_words) st₀ a.new.st a.auto.st in
-    let fits₁ = first_fits E at fixed kept boost words depth kind there _ part₁ a.result.group_at e₁ a.new.st a.ensures.required_post pre in
-    omega (arith, fits₁, long₁)
+place_boolean-slice_bounds-place_others-count t c = let done = first t (goal.at.place_boolean-slice_bounds-place_others-count t c).After-place_required-first in omega (arith, done.0, done.1)
 
 pub place_boolean-slice_bounds-place_others-start : goal.place_boolean-slice_bounds-place_others-start
-place_boolean-slice_bounds-place_others-start t c =
-    let E = given c.args.records.now.query.now c.args.records.now.max_doc c.args.records.now.fields.now c.args.records.now.leaves.now c.args.records.now.measures.now c.args.records.now.listed.now in
-    let at = c.args.at in
-    let fixed = is_some c.args.kept in
-    let kept = kept_score c.args.kept in
-    let boost = c.args.boost in
-    let words = length c.args.st.now in
-    let depth = c.args.depth in
-    let pre = c.requires.tree_pre in
-    let kind = c.requires.at_value in
-    let there : get_or E.presents at 0 ≡ 0 → ⊥ = λ z. not-none (get_or c.args.records.now.measures.now at no_measure).present c.if-not-records-at.false (sym (present-at c.args.records.now.measures.now at) ∙ z) in
-    let st₀ = c.args.st.now in
-    let part₁ = mid_len node_state_words words st₀ (omega arith) in
-    let a = c.place_required-first in
-    let e₁ = a.result.end in
-    let st₁ = put_mid node_state_words (words - node_state_words) st₀ a.new.st in
-    let long₁ = same_len_mid node_state_words (words - node_state_words) st₀ a.new.st a.auto.st in
-    let fits₁ = first_fits E at fixed kept boost words depth kind there _ part₁ a.result.group_at e₁ a.new.st a.ensures.required_post pre in
-    omega (arith, fits₁, long₁)
+place_boolean-slice_bounds-place_others-start t c = let done = first t (goal.at.place_boolean-slice_bounds-place_others-start t c).After-place_required-first in omega (arith, done.0, done.1)
 
 pub place_boolean-overflow_sub-depth-2 : goal.place_boolean-overflow_sub-depth-2
-place_boolean-overflow_sub-depth-2 t c =
-    let E = given c.args.records.now.query.now c.args.records.now.max_doc c.args.records.now.fields.now c.args.records.now.leaves.now c.args.records.now.measures.now c.args.records.now.listed.now in
-    let at = c.args.at in
-    let fixed = is_some c.args.kept in
-    let kept = kept_score c.args.kept in
-    let boost = c.args.boost in
-    let words = length c.args.st.now in
-    let depth = c.args.depth in
-    let pre = c.requires.tree_pre in
-    let kind = c.requires.at_value in
-    tree-deep E at fixed kept boost words depth pre
+place_boolean-overflow_sub-depth-2 t c = (boolean t (goal.at.place_boolean-overflow_sub-depth-2 t c).Start).levels
 
 pub place_boolean-place_others-shoulds-requires : goal.place_boolean-place_others-shoulds-requires
 place_boolean-place_others-shoulds-requires t c =
-    let E = given c.args.records.now.query.now c.args.records.now.max_doc c.args.records.now.fields.now c.args.records.now.leaves.now c.args.records.now.measures.now c.args.records.now.listed.now in
+    let E = given c.args.records.now in
     let at = c.args.at in
-    let fixed = is_some c.args.kept in
-    let kept = kept_score c.args.kept in
-    let boost = c.args.boost in
+    let fixed = is_some c.args.passed.kept in
+    let kept = kept_score c.args.passed.kept in
+    let boost = c.args.passed.boost in
     let words = length c.args.st.now in
     let depth = c.args.depth in
     let pre = c.requires.tree_pre in
@@ -374,156 +220,54 @@ place_boolean-place_others-shoulds-requires t c =
     let part₂ = mid_len (node_state_words + e₁) (length st₁) st₁ (omega arith) ∙ ap (λ (z : ℕ). z - (node_state_words + e₁)) long₁ in
     (omega (arith, c.decreases, tree-deep E at fixed kept boost words depth pre), boolean-optional E at fixed kept boost words depth kind there _ part₁ a.result.group_at e₁ a.new.st a.ensures.required_post _ part₂ pre)
 
-pub place_boolean-overflow_add-optional_end : goal.place_boolean-overflow_add-optional_end
-place_boolean-overflow_add-optional_end t c =
-    let E = given c.args.records.now.query.now c.args.records.now.max_doc c.args.records.now.fields.now c.args.records.now.leaves.now c.args.records.now.measures.now c.args.records.now.listed.now in
-    let at = c.args.at in
-    let fixed = is_some c.args.kept in
-    let kept = kept_score c.args.kept in
-    let boost = c.args.boost in
-    let words = length c.args.st.now in
-    let depth = c.args.depth in
-    let pre = c.requires.tree_pre in
-    let kind = c.requires.at_value in
-    let there : get_or E.presents at 0 ≡ 0 → ⊥ = λ z. not-none (get_or c.args.records.now.measures.now at no_measure).present c.if-not-records-at.false (sym (present-at c.args.records.now.measures.now at) ∙ z) in
+-- and the optional ones'
+abbrev words₂ : (t : _) → goal.place_boolean-After-place_others-shoulds t → List ℕ
+words₂ t c =
+    let at = node_state_words + c.place_required-first.result.end in
+    let st₁ = put_mid node_state_words (length c.args.st.now - node_state_words) c.args.st.now c.place_required-first.new.st in
+    put_mid at (length st₁ - at) st₁ c.place_others-shoulds.new.st
+
+second : (t : _) (c : goal.place_boolean-After-place_others-shoulds t) → (node_state_words + (c.place_required-first.result.end + c.place_others-shoulds.result) ≤ length c.args.st.now) × (length (words₂ t c) ≡ length c.args.st.now)
+second t c =
+    let there : get_or (given c.args.records.now).presents c.args.at 0 ≡ 0 → ⊥ = λ z. not-none (get_or c.args.records.now.measures.now c.args.at no_measure).present c.if-not-records-at.false (sym (present-at c.args.records.now.measures.now c.args.at) ∙ z) in
     let st₀ = c.args.st.now in
+    let words = length st₀ in
     let part₁ = mid_len node_state_words words st₀ (omega arith) in
     let a = c.place_required-first in
     let e₁ = a.result.end in
     let st₁ = put_mid node_state_words (words - node_state_words) st₀ a.new.st in
     let long₁ = same_len_mid node_state_words (words - node_state_words) st₀ a.new.st a.auto.st in
     let part₂ = mid_len (node_state_words + e₁) (length st₁) st₁ (omega arith) ∙ ap (λ (z : ℕ). z - (node_state_words + e₁)) long₁ in
-    let b = c.place_others-shoulds in
-    let e₂ = b.result in
-    let st₂ = put_mid (node_state_words + e₁) (length st₁ - (node_state_words + e₁)) st₁ b.new.st in
-    let long₂ = same_len_mid (node_state_words + e₁) (length st₁ - (node_state_words + e₁)) st₁ b.new.st b.auto.st ∙ long₁ in
-    let fits₂ = second_fits E at fixed kept boost words depth kind there _ part₁ a.result.group_at e₁ a.new.st a.ensures.required_post _ part₂ e₂ b.new.st b.ensures.others_post pre in
-    omega (arith, fits₂, c.well_formed)
+    let b = c.place_others-shoulds in (
+      second_fits (given c.args.records.now) c.args.at (is_some c.args.passed.kept) (kept_score c.args.passed.kept) c.args.passed.boost words c.args.depth c.requires.at_value there _ part₁ a.result.group_at e₁ a.new.st a.ensures.required_post _ part₂ b.result b.new.st b.ensures.others_post c.requires.tree_pre,
+      same_len_mid (node_state_words + e₁) (length st₁ - (node_state_words + e₁)) st₁ b.new.st b.auto.st ∙ long₁,
+    )
+
+pub place_boolean-overflow_add-optional_end : goal.place_boolean-overflow_add-optional_end
+place_boolean-overflow_add-optional_end t c = omega (arith, (second t (goal.at.place_boolean-overflow_add-optional_end t c).After-place_others-shoulds).0, c.well_formed)
 
 pub place_boolean-overflow_add-optional_end-2 : goal.place_boolean-overflow_add-optional_end-2
-place_boolean-overflow_add-optional_end-2 t c =
-    let E = given c.args.records.now.query.now c.args.records.now.max_doc c.args.records.now.fields.now c.args.records.now.leaves.now c.args.records.now.measures.now c.args.records.now.listed.now in
-    let at = c.args.at in
-    let fixed = is_some c.args.kept in
-    let kept = kept_score c.args.kept in
-    let boost = c.args.boost in
-    let words = length c.args.st.now in
-    let depth = c.args.depth in
-    let pre = c.requires.tree_pre in
-    let kind = c.requires.at_value in
-    let there : get_or E.presents at 0 ≡ 0 → ⊥ = λ z. not-none (get_or c.args.records.now.measures.now at no_measure).present c.if-not-records-at.false (sym (present-at c.args.records.now.measures.now at) ∙ z) in
-    let st₀ = c.args.st.now in
-    let part₁ = mid_len node_state_words words st₀ (omega arith) in
-    let a = c.place_required-first in
-    let e₁ = a.result.end in
-    let st₁ = put_mid node_state_words (words - node_state_words) st₀ a.new.st in
-    let long₁ = same_len_mid node_state_words (words - node_state_words) st₀ a.new.st a.auto.st in
-    let part₂ = mid_len (node_state_words + e₁) (length st₁) st₁ (omega arith) ∙ ap (λ (z : ℕ). z - (node_state_words + e₁)) long₁ in
-    let b = c.place_others-shoulds in
-    let e₂ = b.result in
-    let st₂ = put_mid (node_state_words + e₁) (length st₁ - (node_state_words + e₁)) st₁ b.new.st in
-    let long₂ = same_len_mid (node_state_words + e₁) (length st₁ - (node_state_words + e₁)) st₁ b.new.st b.auto.st ∙ long₁ in
-    let fits₂ = second_fits E at fixed kept boost words depth kind there _ part₁ a.result.group_at e₁ a.new.st a.ensures.required_post _ part₂ e₂ b.new.st b.ensures.others_post pre in
-    omega (arith, fits₂, c.well_formed)
+place_boolean-overflow_add-optional_end-2 t c = omega (arith, (second t (goal.at.place_boolean-overflow_add-optional_end-2 t c).After-place_others-shoulds).0, c.well_formed)
 
 pub place_boolean-offset_bounds-st-optional_end : goal.place_boolean-offset_bounds-st-optional_end
-place_boolean-offset_bounds-st-optional_end t c =
-    let E = given c.args.records.now.query.now c.args.records.now.max_doc c.args.records.now.fields.now c.args.records.now.leaves.now c.args.records.now.measures.now c.args.records.now.listed.now in
-    let at = c.args.at in
-    let fixed = is_some c.args.kept in
-    let kept = kept_score c.args.kept in
-    let boost = c.args.boost in
-    let words = length c.args.st.now in
-    let depth = c.args.depth in
-    let pre = c.requires.tree_pre in
-    let kind = c.requires.at_value in
-    let there : get_or E.presents at 0 ≡ 0 → ⊥ = λ z. not-none (get_or c.args.records.now.measures.now at no_measure).present c.if-not-records-at.false (sym (present-at c.args.records.now.measures.now at) ∙ z) in
-    let st₀ = c.args.st.now in
-    let part₁ = mid_len node_state_words words st₀ (omega arith) in
-    let a = c.place_required-first in
-    let e₁ = a.result.end in
-    let st₁ = put_mid node_state_words (words - node_state_words) st₀ a.new.st in
-    let long₁ = same_len_mid node_state_words (words - node_state_words) st₀ a.new.st a.auto.st in
-    let part₂ = mid_len (node_state_words + e₁) (length st₁) st₁ (omega arith) ∙ ap (λ (z : ℕ). z - (node_state_words + e₁)) long₁ in
-    let b = c.place_others-shoulds in
-    let e₂ = b.result in
-    let st₂ = put_mid (node_state_words + e₁) (length st₁ - (node_state_words + e₁)) st₁ b.new.st in
-    let long₂ = same_len_mid (node_state_words + e₁) (length st₁ - (node_state_words + e₁)) st₁ b.new.st b.auto.st ∙ long₁ in
-    let fits₂ = second_fits E at fixed kept boost words depth kind there _ part₁ a.result.group_at e₁ a.new.st a.ensures.required_post _ part₂ e₂ b.new.st b.ensures.others_post pre in
-    omega (arith, fits₂, c.well_formed)
+place_boolean-offset_bounds-st-optional_end t c = omega (arith, (second t (goal.at.place_boolean-offset_bounds-st-optional_end t c).After-place_others-shoulds).0, c.well_formed)
 
 pub place_boolean-slice_bounds-place_others-count-2 : goal.place_boolean-slice_bounds-place_others-count-2
-place_boolean-slice_bounds-place_others-count-2 t c =
-    let E = given c.args.records.now.query.now c.args.records.now.max_doc c.args.records.now.fields.now c.args.records.now.leaves.now c.args.records.now.measures.now c.args.records.now.listed.now in
-    let at = c.args.at in
-    let fixed = is_some c.args.kept in
-    let kept = kept_score c.args.kept in
-    let boost = c.args.boost in
-    let words = length c.args.st.now in
-    let depth = c.args.depth in
-    let pre = c.requires.tree_pre in
-    let kind = c.requires.at_value in
-    let there : get_or E.presents at 0 ≡ 0 → ⊥ = λ z. not-none (get_or c.args.records.now.measures.now at no_measure).present c.if-not-records-at.false (sym (present-at c.args.records.now.measures.now at) ∙ z) in
-    let st₀ = c.args.st.now in
-    let part₁ = mid_len node_state_words words st₀ (omega arith) in
-    let a = c.place_required-first in
-    let e₁ = a.result.end in
-    let st₁ = put_mid node_state_words (words - node_state_words) st₀ a.new.st in
-    let long₁ = same_len_mid node_state_words (words - node_state_words) st₀ a.new.st a.auto.st in
-    let part₂ = mid_len (node_state_words + e₁) (length st₁) st₁ (omega arith) ∙ ap (λ (z : ℕ). z - (node_state_words + e₁)) long₁ in
-    let b = c.place_others-shoulds in
-    let e₂ = b.result in
-    let st₂ = put_mid (node_state_words + e₁) (length st₁ - (node_state_words + e₁)) st₁ b.new.st in
-    let long₂ = same_len_mid (node_state_words + e₁) (length st₁ - (node_state_words + e₁)) st₁ b.new.st b.auto.st ∙ long₁ in
-    let fits₂ = second_fits E at fixed kept boost words depth kind there _ part₁ a.result.group_at e₁ a.new.st a.ensures.required_post _ part₂ e₂ b.new.st b.ensures.others_post pre in
-    omega (arith, fits₂, long₂)
+place_boolean-slice_bounds-place_others-count-2 t c = let done = second t (goal.at.place_boolean-slice_bounds-place_others-count-2 t c).After-place_others-shoulds in omega (arith, done.0, done.1)
 
 pub place_boolean-slice_bounds-place_others-start-2 : goal.place_boolean-slice_bounds-place_others-start-2
-place_boolean-slice_bounds-place_others-start-2 t c =
-    let E = given c.args.records.now.query.now c.args.records.now.max_doc c.args.records.now.fields.now c.args.records.now.leaves.now c.args.records.now.measures.now c.args.records.now.listed.now in
-    let at = c.args.at in
-    let fixed = is_some c.args.kept in
-    let kept = kept_score c.args.kept in
-    let boost = c.args.boost in
-    let words = length c.args.st.now in
-    let depth = c.args.depth in
-    let pre = c.requires.tree_pre in
-    let kind = c.requires.at_value in
-    let there : get_or E.presents at 0 ≡ 0 → ⊥ = λ z. not-none (get_or c.args.records.now.measures.now at no_measure).present c.if-not-records-at.false (sym (present-at c.args.records.now.measures.now at) ∙ z) in
-    let st₀ = c.args.st.now in
-    let part₁ = mid_len node_state_words words st₀ (omega arith) in
-    let a = c.place_required-first in
-    let e₁ = a.result.end in
-    let st₁ = put_mid node_state_words (words - node_state_words) st₀ a.new.st in
-    let long₁ = same_len_mid node_state_words (words - node_state_words) st₀ a.new.st a.auto.st in
-    let part₂ = mid_len (node_state_words + e₁) (length st₁) st₁ (omega arith) ∙ ap (λ (z : ℕ). z - (node_state_words + e₁)) long₁ in
-    let b = c.place_others-shoulds in
-    let e₂ = b.result in
-    let st₂ = put_mid (node_state_words + e₁) (length st₁ - (node_state_words + e₁)) st₁ b.new.st in
-    let long₂ = same_len_mid (node_state_words + e₁) (length st₁ - (node_state_words + e₁)) st₁ b.new.st b.auto.st ∙ long₁ in
-    let fits₂ = second_fits E at fixed kept boost words depth kind there _ part₁ a.result.group_at e₁ a.new.st a.ensures.required_post _ part₂ e₂ b.new.st b.ensures.others_post pre in
-    omega (arith, fits₂, long₂)
+place_boolean-slice_bounds-place_others-start-2 t c = let done = second t (goal.at.place_boolean-slice_bounds-place_others-start-2 t c).After-place_others-shoulds in omega (arith, done.0, done.1)
 
 pub place_boolean-overflow_sub-depth-3 : goal.place_boolean-overflow_sub-depth-3
-place_boolean-overflow_sub-depth-3 t c =
-    let E = given c.args.records.now.query.now c.args.records.now.max_doc c.args.records.now.fields.now c.args.records.now.leaves.now c.args.records.now.measures.now c.args.records.now.listed.now in
-    let at = c.args.at in
-    let fixed = is_some c.args.kept in
-    let kept = kept_score c.args.kept in
-    let boost = c.args.boost in
-    let words = length c.args.st.now in
-    let depth = c.args.depth in
-    let pre = c.requires.tree_pre in
-    let kind = c.requires.at_value in
-    tree-deep E at fixed kept boost words depth pre
+place_boolean-overflow_sub-depth-3 t c = (boolean t (goal.at.place_boolean-overflow_sub-depth-3 t c).Start).levels
 
 pub place_boolean-place_others-nots-requires : goal.place_boolean-place_others-nots-requires
 place_boolean-place_others-nots-requires t c =
-    let E = given c.args.records.now.query.now c.args.records.now.max_doc c.args.records.now.fields.now c.args.records.now.leaves.now c.args.records.now.measures.now c.args.records.now.listed.now in
+    let E = given c.args.records.now in
     let at = c.args.at in
-    let fixed = is_some c.args.kept in
-    let kept = kept_score c.args.kept in
-    let boost = c.args.boost in
+    let fixed = is_some c.args.passed.kept in
+    let kept = kept_score c.args.passed.kept in
+    let boost = c.args.passed.boost in
     let words = length c.args.st.now in
     let depth = c.args.depth in
     let pre = c.requires.tree_pre in
@@ -545,11 +289,11 @@ place_boolean-place_others-nots-requires t c =
 
 pub place_boolean-overflow_add-size : goal.place_boolean-overflow_add-size
 place_boolean-overflow_add-size t c =
-    let E = given c.args.records.now.query.now c.args.records.now.max_doc c.args.records.now.fields.now c.args.records.now.leaves.now c.args.records.now.measures.now c.args.records.now.listed.now in
+    let E = given c.args.records.now in
     let at = c.args.at in
-    let fixed = is_some c.args.kept in
-    let kept = kept_score c.args.kept in
-    let boost = c.args.boost in
+    let fixed = is_some c.args.passed.kept in
+    let kept = kept_score c.args.passed.kept in
+    let boost = c.args.passed.boost in
     let words = length c.args.st.now in
     let depth = c.args.depth in
     let pre = c.requires.tree_pre in
@@ -571,11 +315,11 @@ place_boolean-overflow_add-size t c =
 
 pub place_boolean-overflow_add-size-2 : goal.place_boolean-overflow_add-size-2
 place_boolean-overflow_add-size-2 t c =
-    let E = given c.args.records.now.query.now c.args.records.now.max_doc c.args.records.now.fields.now c.args.records.now.leaves.now c.args.records.now.measures.now c.args.records.now.listed.now in
+    let E = given c.args.records.now in
     let at = c.args.at in
-    let fixed = is_some c.args.kept in
-    let kept = kept_score c.args.kept in
-    let boost = c.args.boost in
+    let fixed = is_some c.args.passed.kept in
+    let kept = kept_score c.args.passed.kept in
+    let boost = c.args.passed.boost in
     let words = length c.args.st.now in
     let depth = c.args.depth in
     let pre = c.requires.tree_pre in
@@ -600,11 +344,11 @@ place_boolean-overflow_add-size-2 t c =
 
 pub place_boolean-put_boolean-requires : goal.place_boolean-put_boolean-requires
 place_boolean-put_boolean-requires t c =
-    let E = given c.args.records.now.query.now c.args.records.now.max_doc c.args.records.now.fields.now c.args.records.now.leaves.now c.args.records.now.measures.now c.args.records.now.listed.now in
+    let E = given c.args.records.now in
     let at = c.args.at in
-    let fixed = is_some c.args.kept in
-    let kept = kept_score c.args.kept in
-    let boost = c.args.boost in
+    let fixed = is_some c.args.passed.kept in
+    let kept = kept_score c.args.passed.kept in
+    let boost = c.args.passed.boost in
     let words = length c.args.st.now in
     let depth = c.args.depth in
     let pre = c.requires.tree_pre in
@@ -632,11 +376,11 @@ place_boolean-put_boolean-requires t c =
 
 pub place_boolean-returns-clause-tree_post : goal.place_boolean-returns-clause-tree_post
 place_boolean-returns-clause-tree_post t c =
-    let E = given c.args.records.now.query.now c.args.records.now.max_doc c.args.records.now.fields.now c.args.records.now.leaves.now c.args.records.now.measures.now c.args.records.now.listed.now in
+    let E = given c.args.records.now in
     let at = c.args.at in
-    let fixed = is_some c.args.kept in
-    let kept = kept_score c.args.kept in
-    let boost = c.args.boost in
+    let fixed = is_some c.args.passed.kept in
+    let kept = kept_score c.args.passed.kept in
+    let boost = c.args.passed.boost in
     let words = length c.args.st.now in
     let depth = c.args.depth in
     let pre = c.requires.tree_pre in
@@ -656,15 +400,15 @@ place_boolean-returns-clause-tree_post t c =
     let part₃ = mid_len (node_state_words + (e₁ + e₂)) (length st₂) st₂ (omega arith) ∙ ap (λ (z : ℕ). z - (node_state_words + (e₁ + e₂))) long₂ in
     let d = c.place_others-nots in
     let e₃ = d.result in
-    whole-placed E at fixed kept boost words depth kind there _ part₁ a.result.group_at e₁ a.new.st a.ensures.required_post _ part₂ e₂ b.new.st b.ensures.others_post _ part₃ e₃ d.new.st d.ensures.others_post c.args.records.now.measures.now (refl, refl, refl) st₀ (post_of node_state_words (words - node_state_words) st₀) (post_of (node_state_words + e₁) (length st₁ - (node_state_words + e₁)) st₁) (post_of (node_state_words + (e₁ + e₂)) (length st₂ - (node_state_words + (e₁ + e₂))) st₂) c.put_boolean.new.st c.args.scores c.shoulds_needed-need.result c.value-msm.result c.has_required-required.result c.joins_afterwards.result refl pre c.put_boolean.ensures.score_fits c.value-msm.ensures c.has_required-required.ensures c.shoulds_needed-need.ensures c.joins_afterwards.ensures c.put_boolean.ensures.written
+    whole-placed E at fixed kept boost words depth kind there _ part₁ a.result.group_at e₁ a.new.st a.ensures.required_post _ part₂ e₂ b.new.st b.ensures.others_post _ part₃ e₃ d.new.st d.ensures.others_post c.args.records.now.measures.now (refl, refl, refl) st₀ (post_of node_state_words (words - node_state_words) st₀) (post_of (node_state_words + e₁) (length st₁ - (node_state_words + e₁)) st₁) (post_of (node_state_words + (e₁ + e₂)) (length st₂ - (node_state_words + (e₁ + e₂))) st₂) c.put_boolean.new.st c.args.passed.scores c.shoulds_needed-need.result c.value-msm.result c.has_required-required.result c.joins_afterwards-afterwards.result refl pre c.put_boolean.ensures.score_fits c.value-msm.ensures c.has_required-required.ensures c.shoulds_needed-need.ensures c.joins_afterwards-afterwards.ensures c.put_boolean.ensures.written
 
 pub place_list-loop-at-init : goal.place_list-loop-at-init
 place_list-loop-at-init t c =
-    list-starts (given c.args.records.now.query.now c.args.records.now.max_doc c.args.records.now.fields.now c.args.records.now.leaves.now c.args.records.now.measures.now c.args.records.now.listed.now) c.args.list.now c.args.boost (length c.args.st.now) c.args.depth c.args.st.now
+    list-starts (given c.args.records.now) c.args.list.now c.args.boost (length c.args.st.now) c.args.depth c.args.st.now
 
-pub place_list-occurrence-occurrence-requires : goal.place_list-occurrence-occurrence-requires
-place_list-occurrence-occurrence-requires t c =
-    let E = given c.args.records.now.query.now c.args.records.now.max_doc c.args.records.now.fields.now c.args.records.now.leaves.now c.args.records.now.measures.now c.args.records.now.listed.now in
+pub place_list-occur_at-occurrence-requires : goal.place_list-occur_at-occurrence-requires
+place_list-occur_at-occurrence-requires t c =
+    let E = given c.args.records.now in
     let l = c.loop-at in
     let st₀ = c.args.st.now in
     let list = c.args.list.now in
@@ -674,7 +418,7 @@ place_list-occurrence-occurrence-requires t c =
 
 pub place_list-offset_bounds-st-used : goal.place_list-offset_bounds-st-used
 place_list-offset_bounds-st-used t c =
-    let E = given c.args.records.now.query.now c.args.records.now.max_doc c.args.records.now.fields.now c.args.records.now.leaves.now c.args.records.now.measures.now c.args.records.now.listed.now in
+    let E = given c.args.records.now in
     let l = c.loop-at in
     let st₀ = c.args.st.now in
     let list = c.args.list.now in
@@ -685,7 +429,7 @@ place_list-offset_bounds-st-used t c =
 
 pub place_list-slice_bounds-place-count : goal.place_list-slice_bounds-place-count
 place_list-slice_bounds-place-count t c =
-    let E = given c.args.records.now.query.now c.args.records.now.max_doc c.args.records.now.fields.now c.args.records.now.leaves.now c.args.records.now.measures.now c.args.records.now.listed.now in
+    let E = given c.args.records.now in
     let l = c.loop-at in
     let st₀ = c.args.st.now in
     let list = c.args.list.now in
@@ -696,7 +440,7 @@ place_list-slice_bounds-place-count t c =
 
 pub place_list-slice_bounds-place-start : goal.place_list-slice_bounds-place-start
 place_list-slice_bounds-place-start t c =
-    let E = given c.args.records.now.query.now c.args.records.now.max_doc c.args.records.now.fields.now c.args.records.now.leaves.now c.args.records.now.measures.now c.args.records.now.listed.now in
+    let E = given c.args.records.now in
     let l = c.loop-at in
     let st₀ = c.args.st.now in
     let list = c.args.list.now in
@@ -707,38 +451,39 @@ place_list-slice_bounds-place-start t c =
 
 pub place_list-place-used-requires : goal.place_list-place-used-requires
 place_list-place-used-requires t c =
-    let E = given c.args.records.now.query.now c.args.records.now.max_doc c.args.records.now.fields.now c.args.records.now.leaves.now c.args.records.now.measures.now c.args.records.now.listed.now in
+    let E = given c.args.records.now in
     let l = c.loop-at in
     let st₀ = c.args.st.now in
     let list = c.args.list.now in
     let boost = c.args.boost in
     let depth = c.args.depth in
-    (omega (arith, c.decreases), list-tree E list boost (length st₀) depth l.at-index l.used l.st l.invariant _ c.occurrence-occurrence.result _ c.passed_on.result (omega arith) refl c.occurrence-occurrence.ensures c.passed_on.ensures kept-nothing c.requires.6 (omega arith) _ (mid_len l.used (length l.st) l.st (omega arith)) c.requires)
+    (omega (arith, c.decreases), list-tree E list boost (length st₀) depth l.at-index l.used l.st l.invariant _ c.occur_at-occurrence.result _ c.passed_on.result (omega arith) refl c.occur_at-occurrence.ensures c.passed_on.ensures kept-nothing c.requires.6 (omega arith) _ (mid_len l.used (length l.st) l.st (omega arith)) c.requires)
 
 pub place_list-overflow_add-used : goal.place_list-overflow_add-used
 place_list-overflow_add-used t c =
-    let E = given c.args.records.now.query.now c.args.records.now.max_doc c.args.records.now.fields.now c.args.records.now.leaves.now c.args.records.now.measures.now c.args.records.now.listed.now in
+    let E = given c.args.records.now in
     let l = c.loop-at in
     let st₀ = c.args.st.now in
     let list = c.args.list.now in
     let boost = c.args.boost in
     let depth = c.args.depth in
-    let fits = list-fits E list boost (length st₀) depth l.at-index l.used l.st l.invariant _ c.occurrence-occurrence.result _ c.passed_on.result (omega arith) refl c.occurrence-occurrence.ensures c.passed_on.ensures kept-nothing c.requires.6 (omega arith) _ (mid_len l.used (length l.st) l.st (omega arith)) (bool_byte (eqb c.occurrence-occurrence.result 1)) c.place-used.result c.place-used.new.st c.requires c.place-used.auto.st c.place-used.ensures.tree_post in
+    let fits = list-fits E list boost (length st₀) depth l.at-index l.used l.st l.invariant _ c.occur_at-occurrence.result _ c.passed_on.result (omega arith) refl c.occur_at-occurrence.ensures c.passed_on.ensures kept-nothing c.requires.6 (omega arith) _ (mid_len l.used (length l.st) l.st (omega arith)) c.from.result c.place-used.result c.place-used.new.st c.requires c.place-used.auto.st c.place-used.ensures.tree_post in
     omega (arith, fits, c.well_formed)
 
 pub place_list-loop-at-preserved : goal.place_list-loop-at-preserved
 place_list-loop-at-preserved t c =
-    let E = given c.args.records.now.query.now c.args.records.now.max_doc c.args.records.now.fields.now c.args.records.now.leaves.now c.args.records.now.measures.now c.args.records.now.listed.now in
+    let E = given c.args.records.now in
     let l = c.loop-at in
     let st₀ = c.args.st.now in
     let list = c.args.list.now in
     let boost = c.args.boost in
     let depth = c.args.depth in
-    list-more E list boost (length st₀) depth l.at-index l.used l.st l.invariant _ c.occurrence-occurrence.result _ c.passed_on.result (omega arith) refl c.occurrence-occurrence.ensures c.passed_on.ensures kept-nothing c.requires.6 (omega arith) _ (mid_len l.used (length l.st) l.st (omega arith)) (bool_byte (eqb c.occurrence-occurrence.result 1)) c.place-used.result c.place-used.new.st (post_of l.used (length l.st - l.used) l.st) (byte-is (eqb c.occurrence-occurrence.result 1)) c.place-used.ensures.tree_post
+    let scores : c.from.result ≡ cond (wanted_at is_must c.occur_at-occurrence.result) 1 0 = search rules in
+    list-more E list boost (length st₀) depth l.at-index l.used l.st l.invariant _ c.occur_at-occurrence.result _ c.passed_on.result (omega arith) refl c.occur_at-occurrence.ensures c.passed_on.ensures kept-nothing c.requires.6 (omega arith) _ (mid_len l.used (length l.st) l.st (omega arith)) c.from.result c.place-used.result c.place-used.new.st (post_of l.used (length l.st - l.used) l.st) scores c.place-used.ensures.tree_post
 
 pub place_list-returns-clause-list_post : goal.place_list-returns-clause-list_post
 place_list-returns-clause-list_post t c =
-    let E = given c.args.records.now.query.now c.args.records.now.max_doc c.args.records.now.fields.now c.args.records.now.leaves.now c.args.records.now.measures.now c.args.records.now.listed.now in
+    let E = given c.args.records.now in
     let l = c.loop-at in
     let st₀ = c.args.st.now in
     let list = c.args.list.now in
@@ -748,37 +493,37 @@ place_list-returns-clause-list_post t c =
 
 pub place_others-clauses_of-list-requires : goal.place_others-clauses_of-list-requires
 place_others-clauses_of-list-requires t c =
-    let E = given c.args.records.now.query.now c.args.records.now.max_doc c.args.records.now.fields.now c.args.records.now.leaves.now c.args.records.now.measures.now c.args.records.now.listed.now in
+    let E = given c.args.records.now in
     let at = c.args.at in
     let boost = c.args.boost in
     let words = length c.args.st.now in
     let depth = c.args.depth in
     let ms = c.args.records.now.measures.now in
-    others-known E ms (refl, refl, refl) at boost words depth c.args.occurrence c.requires
+    others-known E ms (refl, refl, refl) at boost words depth (occur_number c.args.occurrence) c.requires
 
 pub place_others-place_list-requires : goal.place_others-place_list-requires
 place_others-place_list-requires t c =
-    let E = given c.args.records.now.query.now c.args.records.now.max_doc c.args.records.now.fields.now c.args.records.now.leaves.now c.args.records.now.measures.now c.args.records.now.listed.now in
+    let E = given c.args.records.now in
     let at = c.args.at in
     let boost = c.args.boost in
     let words = length c.args.st.now in
     let depth = c.args.depth in
     let ms = c.args.records.now.measures.now in
-    (omega (arith, c.decreases), others-listed E ms (refl, refl, refl) at boost words depth c.args.occurrence c.clauses_of-list.result.now c.clauses_of-list.ensures.readies_at c.requires)
+    (omega (arith, c.decreases), others-listed E ms (refl, refl, refl) at boost words depth (occur_number c.args.occurrence) c.clauses_of-list.result.now c.clauses_of-list.ensures.readies_at c.requires)
 
 pub place_others-returns-clause-others_post : goal.place_others-returns-clause-others_post
 place_others-returns-clause-others_post t c =
-    let E = given c.args.records.now.query.now c.args.records.now.max_doc c.args.records.now.fields.now c.args.records.now.leaves.now c.args.records.now.measures.now c.args.records.now.listed.now in
+    let E = given c.args.records.now in
     let at = c.args.at in
     let boost = c.args.boost in
     let words = length c.args.st.now in
     let depth = c.args.depth in
     let ms = c.args.records.now.measures.now in
-    others-placed E ms (refl, refl, refl) at boost words depth c.args.occurrence c.clauses_of-list.result.now c.clauses_of-list.ensures.readies_at c.place_list.result c.place_list.new.st c.place_list.ensures.list_post
+    others-placed E ms (refl, refl, refl) at boost words depth (occur_number c.args.occurrence) c.clauses_of-list.result.now c.clauses_of-list.ensures.readies_at c.place_list.result c.place_list.new.st c.place_list.ensures.list_post
 
 pub place_required-group_cost-group-requires : goal.place_required-group_cost-group-requires
 place_required-group_cost-group-requires t c =
-    let E = given c.args.records.now.query.now c.args.records.now.max_doc c.args.records.now.fields.now c.args.records.now.leaves.now c.args.records.now.measures.now c.args.records.now.listed.now in
+    let E = given c.args.records.now in
     let at = c.args.at in
     let boost = c.args.boost in
     let words = length c.args.st.now in
@@ -788,7 +533,7 @@ place_required-group_cost-group-requires t c =
 
 pub place_required-required_clauses-list-requires : goal.place_required-required_clauses-list-requires
 place_required-required_clauses-list-requires t c =
-    let E = given c.args.records.now.query.now c.args.records.now.max_doc c.args.records.now.fields.now c.args.records.now.leaves.now c.args.records.now.measures.now c.args.records.now.listed.now in
+    let E = given c.args.records.now in
     let at = c.args.at in
     let boost = c.args.boost in
     let words = length c.args.st.now in
@@ -798,7 +543,7 @@ place_required-required_clauses-list-requires t c =
 
 pub place_required-no_dearer-before-requires : goal.place_required-no_dearer-before-requires
 place_required-no_dearer-before-requires t c =
-    let E = given c.args.records.now.query.now c.args.records.now.max_doc c.args.records.now.fields.now c.args.records.now.leaves.now c.args.records.now.measures.now c.args.records.now.listed.now in
+    let E = given c.args.records.now in
     let at = c.args.at in
     let boost = c.args.boost in
     let words = length c.args.st.now in
@@ -810,7 +555,7 @@ place_required-no_dearer-before-requires t c =
 
 pub place_required-place_list-group_at-requires : goal.place_required-place_list-group_at-requires
 place_required-place_list-group_at-requires t c =
-    let E = given c.args.records.now.query.now c.args.records.now.max_doc c.args.records.now.fields.now c.args.records.now.leaves.now c.args.records.now.measures.now c.args.records.now.listed.now in
+    let E = given c.args.records.now in
     let at = c.args.at in
     let boost = c.args.boost in
     let words = length c.args.st.now in
@@ -823,7 +568,7 @@ place_required-place_list-group_at-requires t c =
 
 pub place_required-offset_bounds-st-group_at : goal.place_required-offset_bounds-st-group_at
 place_required-offset_bounds-st-group_at t c =
-    let E = given c.args.records.now.query.now c.args.records.now.max_doc c.args.records.now.fields.now c.args.records.now.leaves.now c.args.records.now.measures.now c.args.records.now.listed.now in
+    let E = given c.args.records.now in
     let at = c.args.at in
     let boost = c.args.boost in
     let words = length c.args.st.now in
@@ -838,7 +583,7 @@ place_required-offset_bounds-st-group_at t c =
 
 pub place_required-slice_bounds-place_list-count : goal.place_required-slice_bounds-place_list-count
 place_required-slice_bounds-place_list-count t c =
-    let E = given c.args.records.now.query.now c.args.records.now.max_doc c.args.records.now.fields.now c.args.records.now.leaves.now c.args.records.now.measures.now c.args.records.now.listed.now in
+    let E = given c.args.records.now in
     let at = c.args.at in
     let boost = c.args.boost in
     let words = length c.args.st.now in
@@ -852,7 +597,7 @@ place_required-slice_bounds-place_list-count t c =
 
 pub place_required-slice_bounds-place_list-start : goal.place_required-slice_bounds-place_list-start
 place_required-slice_bounds-place_list-start t c =
-    let E = given c.args.records.now.query.now c.args.records.now.max_doc c.args.records.now.fields.now c.args.records.now.leaves.now c.args.records.now.measures.now c.args.records.now.listed.now in
+    let E = given c.args.records.now in
     let at = c.args.at in
     let boost = c.args.boost in
     let words = length c.args.st.now in
@@ -866,7 +611,7 @@ place_required-slice_bounds-place_list-start t c =
 
 pub place_required-place_list-rest-requires : goal.place_required-place_list-rest-requires
 place_required-place_list-rest-requires t c =
-    let E = given c.args.records.now.query.now c.args.records.now.max_doc c.args.records.now.fields.now c.args.records.now.leaves.now c.args.records.now.measures.now c.args.records.now.listed.now in
+    let E = given c.args.records.now in
     let at = c.args.at in
     let boost = c.args.boost in
     let words = length c.args.st.now in
@@ -881,7 +626,7 @@ place_required-place_list-rest-requires t c =
 
 pub place_required-overflow_add-result : goal.place_required-overflow_add-result
 place_required-overflow_add-result t c =
-    let E = given c.args.records.now.query.now c.args.records.now.max_doc c.args.records.now.fields.now c.args.records.now.leaves.now c.args.records.now.measures.now c.args.records.now.listed.now in
+    let E = given c.args.records.now in
     let at = c.args.at in
     let boost = c.args.boost in
     let words = length c.args.st.now in
@@ -897,7 +642,7 @@ place_required-overflow_add-result t c =
 
 pub place_required-returns-clause-required_post : goal.place_required-returns-clause-required_post
 place_required-returns-clause-required_post t c =
-    let E = given c.args.records.now.query.now c.args.records.now.max_doc c.args.records.now.fields.now c.args.records.now.leaves.now c.args.records.now.measures.now c.args.records.now.listed.now in
+    let E = given c.args.records.now in
     let at = c.args.at in
     let boost = c.args.boost in
     let words = length c.args.st.now in

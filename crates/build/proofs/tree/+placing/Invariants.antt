@@ -21,4 +21,4 @@ decreases-place_required l = l.depth * 4 + 3
 
 abbrev pub invariant-place_list-loop-at : goal.invariant-place_list-loop-at
 invariant-place_list-loop-at l =
-    ListAt (given l.records.query.now l.records.max_doc l.records.fields.now l.records.leaves.now l.records.measures.now l.records.listed.now) l.list l.boost (length l.initial.st) l.depth l.at-index l.used l.st
+    ListAt (given l.records) l.list l.boost (length l.initial.st) l.depth l.at-index l.used l.st

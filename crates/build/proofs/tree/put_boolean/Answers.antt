@@ -1,19 +1,21 @@
 use lib.Dec.{T}
 use lib.Ieee.{Float, is_nan, fits, binary32}
-use mathlib.Core.Bool.{not}
-use mathlib.Core.Path.{sym, ◌∙◌, subst}
+use Rattle.std.proofs.Common.{◌≡◌, cond, not, sym, ◌∙◌, subst, rules}
+use Rattle.std.specs.Prelude.{is_some}
 use Rattle.ieee754.proofs.Bounds.{atmost-number}
-use Rattle.node_words.proofs.Kept.{unwrap-zero, byte-is}
+use Rattle.node_words.proofs.Kept.{unwrap-zero}
 use Rattle.build.proofs.tree.put_boolean.Goals as goal
 
-pub float_to_bits-bits : goal.float_to_bits-bits
-float_to_bits-bits c =
-    subst (λ (z : Float). T (not (is_nan z))) (sym (c.unwrap_or-bits.ensures ∙ unwrap-zero c.args.kept)) (atmost-number c.requires.5)
+pub float_to_bits-unwrap_or : goal.float_to_bits-unwrap_or
+float_to_bits-unwrap_or c =
+    subst (λ (z : Float). T (not (is_nan z))) (sym (c.unwrap_or.ensures ∙ unwrap-zero c.args.kept)) (atmost-number c.requires.5)
 
 pub returns-clause-written : goal.returns-clause-written
 returns-clause-written c =
-    rw (byte-is c.is_some.result, c.is_some.ensures, byte-is c.args.afterwards, c.unwrap_or-bits.ensures, unwrap-zero c.args.kept) at c.put.ensures
+    let constant : c.from.result ≡ cond (is_some c.args.kept) 1 0 = search rules in
+    let after : c.from-2.result ≡ cond c.args.afterwards 1 0 = search rules in
+    rw (c.word.ensures, constant, after, c.unwrap_or.ensures, unwrap-zero c.args.kept) at c.put.ensures
 
 pub returns-clause-score_fits : goal.returns-clause-score_fits
 returns-clause-score_fits c =
-    subst (λ (z : Float). T (fits binary32 z)) (c.unwrap_or-bits.ensures ∙ unwrap-zero c.args.kept) (subst T (sym c.unwrap_or-bits.type_inv) tt)
+    subst (λ (z : Float). T (fits binary32 z)) (c.unwrap_or.ensures ∙ unwrap-zero c.args.kept) (subst T (sym c.unwrap_or.type_inv) tt)
