@@ -8,7 +8,9 @@ ghost use Rattle.meaning.specs.CallRefusals.{wrong14};
 use collector::codes;
 use std::io;
 use std::io::Write;
-use vectors::{f32_of, print_f32};
+use vectors::Format;
+use vectors::numbers::{Seeds, Sequence, below, xorshift};
+use vectors::print::Pattern;
 
 // Scores in rising order, from 0 to plus infinity.
 const SCORES: [u32; 8] = [
@@ -50,8 +52,7 @@ fn is_good(documents: &[u32], scores: &[u32]) -> bool
         return false;
     }
     let mut least = 0;
-    let mut i = 0;
-    while i < documents.len() {
+    for i in 0..documents.len() {
         let document = documents[i];
         if document < least {
             return false;
@@ -63,7 +64,6 @@ fn is_good(documents: &[u32], scores: &[u32]) -> bool
             return false;
         }
         least = document + 1;
-        i += 1;
     }
     true
 }
@@ -94,147 +94,130 @@ fn pick(out: &mut impl Write, documents: &[u32], scores: &[u32], k: usize, t: u3
     }
 }
 
-// So many documents, each above the one before by 1 to 3, and zeros after them.
-fn documents_of(base: u32, n: usize, seed: u64) -> [u32; 150]
-    requires { n ≤ 150 }
-    ensures { 150 ≡ length result }
-{
-    let mut documents = [0u32; 150];
-    let mut x = seed;
-    let mut document = base;
-    let mut i = 0;
-    while i < n {
-        x = vectors::xorshift(x);
-        documents[i] = document;
-        document = std::num::wrapping_add_u32(
-            document,
-            std::num::wrapping_add_u32(1, vectors::below(x, 3)),
-        );
-        i += 1;
-    }
-    documents
+// How the scores of a list go.
+#[derive(Clone, Copy)]
+enum Order {
+    // One of the eight: rising or falling twelve at a time, one of two, or any.
+    RisingTwelve,
+    FallingTwelve,
+    OneOfTwo,
+    OneOfEight,
+    // Rising all along, falling all along, or any that is not negative.
+    Rising,
+    Falling,
+    Any,
 }
 
-// Which of the scores the i-th one is: rising or falling twelve at a time, one of two, or any.
-fn place_of(order: u32, i: usize, x: u64) -> usize
-    requires { i < 150 }
-{
-    match order {
-        0 => i * 2 / 3 % 8,
-        1 => 7 - i * 2 / 3 % 8,
-        2 => 3 + (x % 2) as usize,
-        _ => (x % 8) as usize,
-    }
-}
+const ORDERS: [Order; 7] = [
+    Order::RisingTwelve,
+    Order::FallingTwelve,
+    Order::OneOfTwo,
+    Order::OneOfEight,
+    Order::Rising,
+    Order::Falling,
+    Order::Any,
+];
 
-// The i-th score: one of the eight, rising all along, falling all along, or any that is not negative.
-fn score_of(order: u32, i: usize, x: u64) -> u32
-    requires { i < 150 }
-{
-    match order {
-        4 => 0x3f80_0000 + i as u32,
-        5 => 0x3f80_0000 + (150 - i) as u32,
-        6 => (x % 0x7f80_0001) as u32,
-        _ => SCORES[place_of(order, i, x) % 8],
+impl Order {
+    // The i-th score, where a sequence's number is x.
+    fn score(self, i: usize, x: u64) -> u32
+        requires { i < 150 }
+    {
+        match self {
+            Order::RisingTwelve => SCORES[i * 2 / 3 % 8],
+            Order::FallingTwelve => SCORES[7 - i * 2 / 3 % 8],
+            Order::OneOfTwo => SCORES[3 + (x % 2) as usize],
+            Order::OneOfEight => SCORES[(x % 8) as usize],
+            Order::Rising => 0x3f80_0000 + i as u32,
+            Order::Falling => 0x3f80_0000 + (150 - i) as u32,
+            Order::Any => (x % 0x7f80_0001) as u32,
+        }
     }
 }
 
-fn scores_of(order: u32, n: usize, seed: u64) -> [u32; 150]
-    requires { n ≤ 150 }
-    ensures { 150 ≡ length result }
-{
-    let mut scores = [0u32; 150];
-    let mut x = seed;
-    let mut i = 0;
-    while i < n {
-        x = vectors::xorshift(x);
-        scores[i] = score_of(order, i, x);
-        i += 1;
-    }
-    scores
-}
-
-// n documents and scores from a seed.
-fn ask(
-    out: &mut impl Write,
+// Lists to pick from: where the documents begin, and how the scores go.
+#[derive(Clone, Copy)]
+struct Lists {
     base: u32,
-    order: u32,
-    n: usize,
-    k: usize,
-    t: u32,
-    seed: u64,
-) -> io::Result<()>
-    requires n_bound { n ≤ 150 }
-    requires k_nonzero { (0 < k) × (k ≤ 40) }
-{
-    let documents = documents_of(base, n, seed);
-    let scores = scores_of(order, n, seed ^ 0x5555_5555_5555_5555);
-    pick(out, &documents[..n], &scores[..n], k, t)
+    order: Order,
 }
 
-// Lists of 0 to 12 documents in each order, k from 1 to 6, and thresholds from 0 to 13.
-fn ask_each(out: &mut impl Write, base: u32, order: u32, times: usize) -> io::Result<()> {
-    let mut seed: u64 = 1;
-    let mut i = 0;
-    while i < times {
-        seed = std::num::wrapping_add_u64(seed, 0x9e37_79b9_7f4a_7c15);
-        ask(
-            out,
-            base,
-            order,
-            i % 13,
-            1 + i / 13 % 6,
-            vectors::below(seed, 14),
-            seed,
-        )?;
-        i += 1;
+impl Lists {
+    // Documents, each above the one before by 1 to 3.
+    fn documents(self, seed: u64) -> [u32; 150]
+        ensures { 150 ≡ length result }
+    {
+        let mut documents = [0u32; 150];
+        let mut x = seed;
+        let mut document = self.base;
+        for place in documents.iter_mut() {
+            x = xorshift(x);
+            *place = document;
+            document = document.wrapping_add(1 + below(x, 3));
+        }
+        documents
     }
-    Ok(())
+
+    fn scores(self, seed: u64) -> [u32; 150]
+        ensures { 150 ≡ length result }
+    {
+        let mut scores = [0u32; 150];
+        let mut x = seed;
+        for (i, place) in scores.iter_mut().enumerate() {
+            x = xorshift(x);
+            *place = self.order.score(i, x);
+        }
+        scores
+    }
+
+    // n documents and scores from a seed.
+    fn ask(self, out: &mut impl Write, seed: u64, n: usize, k: usize, t: u32) -> io::Result<()>
+        requires n_bound { n ≤ 150 }
+        requires k_nonzero { (0 < k) × (k ≤ 40) }
+    {
+        let documents = self.documents(seed);
+        let scores = self.scores(seed ^ 0x5555_5555_5555_5555);
+        pick(out, &documents[..n], &scores[..n], k, t)
+    }
+
+    // Lists of 0 to 12 documents, k from 1 to 6, and thresholds from 0 to 13.
+    fn ask_each(self, out: &mut impl Write, times: usize) -> io::Result<()> {
+        for (i, seed) in (0..times).zip(Seeds(1)) {
+            self.ask(out, seed, i % 13, 1 + i / 13 % 6, below(seed, 14))?;
+        }
+        Ok(())
+    }
+
+    // Lists of up to 150 documents, k from 7 to 40, and thresholds from 0 to 159.
+    fn ask_long(self, out: &mut impl Write) -> io::Result<()> {
+        for (i, seed) in (0..6).zip(Seeds(2)) {
+            self.ask(
+                out,
+                seed,
+                length_of(i, seed),
+                7 + i % 6 * 33 / 5,
+                below(seed, 160),
+            )?;
+        }
+        Ok(())
+    }
 }
 
 fn length_of(i: usize, seed: u64) -> usize
     ensures { result ≤ 150 }
 {
     if i % 2 == 0 {
-        return 150;
+        150
+    } else {
+        12 + below(seed >> 32, 138) as usize
     }
-    12 + vectors::below(seed >> 32, 138) as usize
-}
-
-// Lists of up to 150 documents, k from 7 to 40, and thresholds from 0 to 159.
-fn ask_long(out: &mut impl Write, base: u32, order: u32) -> io::Result<()> {
-    let mut seed: u64 = 2;
-    let mut i = 0;
-    while i < 6 {
-        seed = std::num::wrapping_add_u64(seed, 0x9e37_79b9_7f4a_7c15);
-        ask(
-            out,
-            base,
-            order,
-            length_of(i, seed),
-            7 + 33 * i / 5,
-            vectors::below(seed, 160),
-            seed,
-        )?;
-        i += 1;
-    }
-    Ok(())
 }
 
 fn ask_orders(out: &mut impl Write) -> io::Result<()> {
-    let mut order = 0;
-    while order < 7 {
-        ask_long(out, 0, order)?;
-        order += 1;
+    for order in ORDERS {
+        Lists { base: 0, order }.ask_long(out)?;
     }
     Ok(())
-}
-
-// A code: its upper word, which has the sign, and its lower word.
-fn print_halves(out: &mut impl Write, code: i64) -> io::Result<()> {
-    vectors::print_signed(out, (code >> 32) as i32)?;
-    write!(out, " ")?;
-    vectors::print_number(out, (code & 0xffff_ffff) as u32)
 }
 
 // A score's sortable int, and the score back from it.
@@ -242,41 +225,39 @@ fn print_sortable(out: &mut impl Write, score: f32) -> io::Result<()>
     requires { T (not (is_nan score)) }
 {
     let int = codes::float_to_sortable_int(score);
-    vectors::print_signed(out, int)?;
-    write!(out, " ")?;
-    print_f32(out, codes::sortable_int_to_float(int))
+    let back = codes::sortable_int_to_float(int);
+    writeln!(out, "{int} {}", Pattern(back))
 }
 
-// The code of a document and its score, and both back from it.
+// The code of a document and its score, as its upper word, which has the sign, and its lower word; and both back from it.
 fn print_coded(out: &mut impl Write, score: f32, document: u32) -> io::Result<()>
     requires t { T (not (is_nan score)) }
     requires document_bound { document ≤ 2147483647 }
 {
     let code = codes::encode(document, score);
-    print_halves(out, code)?;
-    vectors::print_number(out, codes::to_doc(code))?;
-    print_f32(out, codes::to_score(code))
+    let high = (code >> 32) as i32;
+    let low = (code & 0xffff_ffff) as u32;
+    let doc = codes::to_doc(code);
+    let back = codes::to_score(code);
+    writeln!(out, "{high} {low} {doc} {}", Pattern(back))
 }
 
 // A score alone, then with the first and the last documents.
 fn print_pattern(out: &mut impl Write, score: f32) -> io::Result<()> {
-    if score != score {
+    if score.is_nan() {
         return writeln!(out, "nan");
     }
     print_sortable(out, score)?;
-    print_coded(out, score, 0)?;
-    print_coded(out, score, 1)?;
-    print_coded(out, score, 2147483646)?;
-    print_coded(out, score, 2147483647)
+    for document in [0, 1, 2147483646, 2147483647] {
+        print_coded(out, score, document)?;
+    }
+    Ok(())
 }
 
 fn codes_of_patterns(out: &mut impl Write) -> io::Result<()> {
-    let mut i = 0;
-    while i < 16 {
-        let bits = PATTERNS[i];
-        print_pattern(out, f32_of(bits))?;
-        print_pattern(out, f32_of(bits ^ 0x8000_0000))?;
-        i += 1;
+    for bits in PATTERNS {
+        print_pattern(out, f32::of(bits))?;
+        print_pattern(out, f32::of(bits ^ 0x8000_0000))?;
     }
     Ok(())
 }
@@ -284,7 +265,7 @@ fn codes_of_patterns(out: &mut impl Write) -> io::Result<()> {
 fn print_any(out: &mut impl Write, score: f32, document: u32) -> io::Result<()>
     requires { document ≤ 2147483647 }
 {
-    if score != score {
+    if score.is_nan() {
         return writeln!(out, "nan");
     }
     print_sortable(out, score)?;
@@ -293,25 +274,29 @@ fn print_any(out: &mut impl Write, score: f32, document: u32) -> io::Result<()>
 
 // Patterns and documents from a seed.
 fn codes_of_any(out: &mut impl Write) -> io::Result<()> {
-    let mut x: u64 = 3;
-    let mut turns: usize = 0;
-    while turns < 128 {
-        x = vectors::xorshift(x);
-        print_any(out, f32_of((x % 0x1_0000_0000) as u32), (x >> 33) as u32)?;
-        turns += 1;
+    for x in Sequence(3).take(128) {
+        print_any(out, f32::of((x % 0x1_0000_0000) as u32), (x >> 33) as u32)?;
     }
     Ok(())
 }
 
 fn main(rt: HostRuntime) -> io::Result<()> {
     let mut out = io::writer(&rt);
-    ask_each(&mut out, 0, 0, 156)?;
-    ask_each(&mut out, 0, 1, 156)?;
-    ask_each(&mut out, 0, 2, 312)?;
-    ask_each(&mut out, 0, 3, 312)?;
-    ask_each(&mut out, 2_147_483_610, 3, 78)?;
+    for (base, order, times) in [
+        (0, Order::RisingTwelve, 156),
+        (0, Order::FallingTwelve, 156),
+        (0, Order::OneOfTwo, 312),
+        (0, Order::OneOfEight, 312),
+        (2_147_483_610, Order::OneOfEight, 78),
+    ] {
+        Lists { base, order }.ask_each(&mut out, times)?;
+    }
     ask_orders(&mut out)?;
-    ask_long(&mut out, 2_147_483_190, 3)?;
+    let last = Lists {
+        base: 2_147_483_190,
+        order: Order::OneOfEight,
+    };
+    last.ask_long(&mut out)?;
     codes_of_patterns(&mut out)?;
     codes_of_any(&mut out)?;
     out.flush()

@@ -3,12 +3,14 @@
 // (harness, `record`).
 #![tactic(auto)]
 
-ghost use Rattle.std.specs.Prelude.{◌≡◌, ◌<◌, ◌≤◌};
+ghost use Rattle.std.specs.Prelude.{◌≡◌, ◌<◌};
 ghost use Rattle.doc_values_vectors.specs.Columns.{Columns};
 
 use index::columns::NumericRange;
 use std::io;
 use std::io::Write;
+use vectors::file::first;
+use vectors::print::List;
 
 // Values: present or not, the low half and the high half. As i64 the least, the largest and others around 0; as f64 zeros,
 // subnormals, ones, infinities and NaNs of both signs. Two are absent, one of them with a pattern.
@@ -83,112 +85,88 @@ fn end_of(kind: u32, end: u64) -> u64
     if kind == 0 { 0 } else { end }
 }
 
-fn print_range(
-    out: &mut impl Write,
-    max_doc: u32,
-    columns: &[u32],
-    values: &[u32],
-    column: u32,
-    kinds: u32,
-    lower: u64,
-    upper: u64,
-) -> io::Result<()>
-    requires columns { Columns max_doc columns.now values.now column }
-    requires kinds_bound { kinds < 9 }
-{
-    let mut output = [0u32; 18];
-    let range = NumericRange {
-        column,
-        kinds,
-        lower: end_of(kinds % 3, lower),
-        upper: end_of(kinds / 3, upper),
-    };
-    let n = doc_values::range(max_doc, columns, values, range, &mut output);
-    vectors::print_list(out, &output, n)
+// Whether both ends are bounded.
+fn is_bounded(kinds: u32) -> bool {
+    kinds % 3 != 0 && kinds >= 3
 }
 
-// Whether a kind is asked for two ends: those with an unbounded end for equal ones only.
-fn is_asked(kinds: u32, equal: bool) -> bool {
-    if equal {
-        return true;
-    }
-    if kinds % 3 == 0 {
-        return false;
-    }
-    kinds >= 3
+// A column of an index that is not refused.
+#[derive(Clone, Copy)]
+struct Column<'a> {
+    max_doc: u32,
+    columns: &'a [u32],
+    values: &'a [u32],
+    column: u32,
+    ghost right: { Columns max_doc columns.now values.now column },
 }
 
-fn print_kinds(
-    out: &mut impl Write,
-    max_doc: u32,
-    columns: &[u32],
-    values: &[u32],
-    column: u32,
-    i: usize,
-    j: usize,
-) -> io::Result<()>
-    requires columns { Columns max_doc columns.now values.now column }
-    requires i_bound { i < 18 }
-    requires j_bound { j < 18 }
-{
-    let lower = end_at(i);
-    let upper = end_at(j);
-    let mut kinds: u32 = 0;
-    while kinds < 9 {
-        if is_asked(kinds, i == j) {
-            print_range(out, max_doc, columns, values, column, kinds, lower, upper)?;
+impl Column<'_> {
+    fn print_range(self, out: &mut impl Write, kinds: u32, lower: u64, upper: u64) -> io::Result<()>
+        requires { kinds < 9 }
+    {
+        let mut output = [0u32; 18];
+        let range = NumericRange {
+            column: self.column,
+            kinds,
+            lower: end_of(kinds % 3, lower),
+            upper: end_of(kinds / 3, upper),
+        };
+        let n = doc_values::range(self.max_doc, self.columns, self.values, range, &mut output);
+        writeln!(out, "{}", List(first(&output, n as usize)))
+    }
+
+    // Between two ends, by every kind; by those with an unbounded end only where both ends are one value's.
+    fn print_kinds(self, out: &mut impl Write, i: usize, j: usize) -> io::Result<()>
+        requires i_bound { i < 18 }
+        requires j_bound { j < 18 }
+    {
+        let lower = end_at(i);
+        let upper = end_at(j);
+        for kinds in 0..9 {
+            if i == j || is_bounded(kinds) {
+                self.print_range(out, kinds, lower, upper)?;
+            }
         }
-        kinds += 1;
+        Ok(())
     }
-    Ok(())
+
+    fn print_from(self, out: &mut impl Write, i: usize) -> io::Result<()>
+        requires { i < 18 }
+    {
+        for j in 0..18 {
+            self.print_kinds(out, i, j)?;
+        }
+        Ok(())
+    }
+
+    fn print(self, out: &mut impl Write) -> io::Result<()> {
+        for i in 0..18 {
+            self.print_from(out, i)?;
+        }
+        Ok(())
+    }
 }
 
-fn print_from(
-    out: &mut impl Write,
-    max_doc: u32,
-    columns: &[u32],
-    values: &[u32],
-    column: u32,
-    i: usize,
-) -> io::Result<()>
-    requires columns { Columns max_doc columns.now values.now column }
-    requires i_bound { i < 18 }
+// The column at a place among some, over all the values.
+fn print_column(out: &mut impl Write, max_doc: u32, columns: &[u32], column: u32) -> io::Result<()>
+    requires { Columns max_doc columns.now VALUES column }
 {
-    let mut j = 0;
-    while j < 18 {
-        print_kinds(out, max_doc, columns, values, column, i, j)?;
-        j += 1;
-    }
-    Ok(())
-}
-
-fn print_column(
-    out: &mut impl Write,
-    max_doc: u32,
-    columns: &[u32],
-    values: &[u32],
-    column: u32,
-) -> io::Result<()>
-    requires { Columns max_doc columns.now values.now column }
-{
-    let mut i = 0;
-    while i < 18 {
-        print_from(out, max_doc, columns, values, column, i)?;
-        i += 1;
-    }
-    Ok(())
+    let column = Column {
+        max_doc,
+        columns,
+        values: &VALUES,
+        column,
+    };
+    column.print(out)
 }
 
 // The values as one column of eighteen documents, of either type, and as three columns of six.
 fn main(rt: HostRuntime) -> io::Result<()> {
     let mut out = io::writer(&rt);
-    let i64s = [0u32];
-    let f64s = [1u32];
-    let three = [0u32, 1, 0];
-    print_column(&mut out, 18, &i64s, &VALUES, 0)?;
-    print_column(&mut out, 18, &f64s, &VALUES, 0)?;
-    print_column(&mut out, 6, &three, &VALUES, 0)?;
-    print_column(&mut out, 6, &three, &VALUES, 1)?;
-    print_column(&mut out, 6, &three, &VALUES, 2)?;
+    print_column(&mut out, 18, &[0], 0)?;
+    print_column(&mut out, 18, &[1], 0)?;
+    print_column(&mut out, 6, &[0, 1, 0], 0)?;
+    print_column(&mut out, 6, &[0, 1, 0], 1)?;
+    print_column(&mut out, 6, &[0, 1, 0], 2)?;
     out.flush()
 }

@@ -2,10 +2,16 @@
 // crates/examples/stdout is written from the document's text: a hit is its document and its score's bits.
 #![tactic(auto)]
 
+use collector::TopDocs;
+use index::columns::NumericRange;
 use index::lent::Lent;
-use place_entry::Placed;
+use range_entry::Columns;
 use std::io;
 use std::io::Write;
+use vectors::file::first;
+use vectors::lists::EMPTY;
+use vectors::print::List;
+use walk::Listed;
 use weight::NODE_STATE_WORDS;
 
 // A query of one record, MatchAll.
@@ -44,10 +50,6 @@ const ONE_TERM: [u32; 18] = [2, 0, 1, 0, 0, 0, 0, 0, 0, 9, 0, 0, 2, 1, 0, 0, 0, 
 // A column of i64 values: 17, 18, 18, absent.
 const VALUES: [u32; 12] = [1, 17, 0, 1, 18, 0, 1, 18, 0, 0, 0, 0];
 
-fn print_refused(out: &mut impl Write, number: u32) -> io::Result<()> {
-    writeln!(out, "refused {number}")
-}
-
 // A document and its score's bits.
 fn print_scored(out: &mut impl Write, document: u64, bits: u64) -> io::Result<()> {
     write!(out, " {document} {bits:08x}")
@@ -66,27 +68,21 @@ fn print_hit(out: &mut impl Write, code: i64) -> io::Result<()> {
 }
 
 // The count, its mark, and the hits.
-fn print_found(out: &mut impl Write, top: collector::TopDocs, hits: &[i64]) -> io::Result<()> {
-    write!(out, "count {}", top.count)?;
-    if top.mark {
-        write!(out, "+")?;
+fn print_found(out: &mut impl Write, top: TopDocs, hits: &[i64]) -> io::Result<()> {
+    write!(
+        out,
+        "count {}{}",
+        top.count,
+        if top.mark { "+" } else { "" }
+    )?;
+    for code in hits.iter().take(top.held as usize) {
+        print_hit(out, *code)?;
     }
-    let held = top.held as usize;
-    let mut i = 0;
-    while i < hits.len() {
-        if i < held {
-            print_hit(out, hits[i])?;
-        }
-        i += 1;
-    }
-    vectors::end_line(out)
+    writeln!(out)
 }
 
 // MatchAll over three documents.
 fn search_all(out: &mut impl Write, k: u32) -> io::Result<()> {
-    let no_words = [0u32; 0];
-    let no_bytes = [0u8; 0];
-    let no_live = [0u64; 0];
     let mut states = [0u32; NODE_STATE_WORDS];
     let mut starts = [0i32; 0];
     let mut other_starts = [0i32; 0];
@@ -94,14 +90,7 @@ fn search_all(out: &mut impl Write, k: u32) -> io::Result<()> {
     let mut hits = [0i64; 1024];
     let lent = Lent {
         max_doc: 3,
-        fields: &no_words,
-        leaves: &no_words,
-        postings: &no_words,
-        positions: &no_words,
-        norms: &no_bytes,
-        live: &no_live,
-        columns: &no_words,
-        values: &no_words,
+        ..EMPTY
     };
     let found = searcher::search::search(
         &lent,
@@ -115,38 +104,26 @@ fn search_all(out: &mut impl Write, k: u32) -> io::Result<()> {
         &mut hits,
     );
     match found {
-        Err(refusal) => print_refused(out, refusal.number()),
+        Err(refusal) => writeln!(out, "refused {refusal}"),
         Ok(top) => print_found(out, top, &hits),
     }
 }
 
-fn print_given(
+// A page: each document with its score's bits, and the next match.
+fn print_listed(
     out: &mut impl Write,
-    given: usize,
+    listed: Listed,
     documents: &[u32],
     scores: &[u32],
 ) -> io::Result<()> {
-    let mut i = 0;
-    while i < documents.len() {
-        if i < given {
-            if i < scores.len() {
-                print_scored(out, vectors::wide(documents[i]), vectors::wide(scores[i]))?;
-            }
-        }
-        i += 1;
+    for (document, bits) in documents.iter().zip(scores).take(listed.given) {
+        print_scored(out, u64::from(*document), u64::from(*bits))?;
     }
-    Ok(())
-}
-
-fn print_next(out: &mut impl Write, next: u32) -> io::Result<()> {
-    writeln!(out, " next {next}")
+    writeln!(out, " next {}", listed.next)
 }
 
 // The same, from a target, to two places.
 fn page_all(out: &mut impl Write, target: u32) -> io::Result<()> {
-    let no_words = [0u32; 0];
-    let no_bytes = [0u8; 0];
-    let no_live = [0u64; 0];
     let mut states = [0u32; NODE_STATE_WORDS];
     let mut starts = [0i32; 0];
     let mut other_starts = [0i32; 0];
@@ -155,14 +132,7 @@ fn page_all(out: &mut impl Write, target: u32) -> io::Result<()> {
     let mut scores = [0u32; 2];
     let lent = Lent {
         max_doc: 3,
-        fields: &no_words,
-        leaves: &no_words,
-        postings: &no_words,
-        positions: &no_words,
-        norms: &no_bytes,
-        live: &no_live,
-        columns: &no_words,
-        values: &no_words,
+        ..EMPTY
     };
     let paged = searcher::page::page(
         &lent,
@@ -176,35 +146,29 @@ fn page_all(out: &mut impl Write, target: u32) -> io::Result<()> {
         &mut scores,
     );
     match paged {
-        Err(refusal) => print_refused(out, refusal.number()),
-        Ok(p) => {
-            print_given(out, p.given, &documents, &scores)?;
-            print_next(out, p.next)
-        }
+        Err(refusal) => writeln!(out, "refused {refusal}"),
+        Ok(listed) => print_listed(out, listed, &documents, &scores),
     }
 }
 
 // Documents of the column between two ends.
-fn range(out: &mut impl Write, kinds: u32, lower: u32, upper: u32) -> io::Result<()> {
-    let columns = [0u32; 1];
+fn range(out: &mut impl Write, kinds: u32, lower: u64, upper: u64) -> io::Result<()> {
     let mut work = [0u32; 4];
     let mut output = [0u32; 4];
-    let ranged = range_entry::range(
-        4,
-        &columns,
-        &VALUES,
-        0,
+    let lent = Columns {
+        max_doc: 4,
+        columns: &[0],
+        values: &VALUES,
+    };
+    let range = NumericRange {
+        column: 0,
         kinds,
         lower,
-        0,
         upper,
-        0,
-        &mut work,
-        &mut output,
-    );
-    match ranged {
-        Err(refusal) => print_refused(out, refusal.number()),
-        Ok(n) => vectors::print_list(out, &output, n),
+    };
+    match range_entry::range(&lent, range, &mut work, &mut output) {
+        Err(refusal) => writeln!(out, "refused {refusal}"),
+        Ok(n) => writeln!(out, "{}", List(first(&output, n as usize))),
     }
 }
 
@@ -214,48 +178,35 @@ fn pick(out: &mut impl Write) -> io::Result<()> {
     let scores: [u32; 3] = [0x3f80_0000, 0x4000_0000, 0x3f80_0000];
     let mut hits = [0i64; 2];
     match pick_entry::pick(&documents, &scores, 2, 10, &mut hits) {
-        Err(refusal) => print_refused(out, refusal.number()),
+        Err(refusal) => writeln!(out, "refused {refusal}"),
         Ok(top) => print_found(out, top, &hits),
-    }
-}
-
-fn print_placed(out: &mut impl Write, placed: Placed) -> io::Result<()> {
-    match placed {
-        Placed::Refused(n) => print_refused(out, n),
-        Placed::Nothing => { writeln!(out, "none") }
-        Placed::At(s) => {
-            vectors::print_signed(out, s)?;
-            vectors::end_line(out)
-        }
     }
 }
 
 // Where the phrase at the query's first record stands in a document of two.
 fn place(out: &mut impl Write, query: &[u32], document: u32) -> io::Result<()> {
-    let no_words = [0u32; 0];
-    let no_bytes = [0u8; 0];
-    let no_live = [0u64; 0];
     let mut starts = [0i32; 3];
     let mut other_starts = [0i32; 3];
-    print_placed(
-        out,
-        place_entry::place(
-            2,
-            &FIELDS,
-            &LEAVES,
-            &POSTINGS,
-            &POSITIONS,
-            &no_bytes,
-            &no_live,
-            &no_words,
-            &no_words,
-            query,
-            0,
-            document,
-            &mut starts,
-            &mut other_starts,
-        ),
-    )
+    let lent = Lent {
+        max_doc: 2,
+        fields: &FIELDS,
+        leaves: &LEAVES,
+        postings: &POSTINGS,
+        positions: &POSITIONS,
+        ..EMPTY
+    };
+    match place_entry::place(&lent, query, 0, document, &mut starts, &mut other_starts) {
+        Err(refusal) => writeln!(out, "refused {refusal}"),
+        Ok(None) => writeln!(out, "none"),
+        Ok(Some(start)) => writeln!(out, "{start}"),
+    }
+}
+
+fn print_lengths(out: &mut impl Write) -> io::Result<()> {
+    for byte in [0, 23, 24, 41, 255] {
+        write!(out, "{} ", searcher::length::length(byte))?;
+    }
+    writeln!(out)
 }
 
 fn main(rt: HostRuntime) -> io::Result<()> {
@@ -285,11 +236,6 @@ fn main(rt: HostRuntime) -> io::Result<()> {
     place(&mut out, &ONE_TERM, 0)?;
     place(&mut out, &TWO_TERMS, 1)?;
     writeln!(out, "bytes 0, 23, 24, 41, 255")?;
-    vectors::print_number(&mut out, searcher::length::length(0))?;
-    vectors::print_number(&mut out, searcher::length::length(23))?;
-    vectors::print_number(&mut out, searcher::length::length(24))?;
-    vectors::print_number(&mut out, searcher::length::length(41))?;
-    vectors::print_number(&mut out, searcher::length::length(255))?;
-    vectors::end_line(&mut out)?;
+    print_lengths(&mut out)?;
     out.flush()
 }

@@ -6,7 +6,9 @@ ghost use Rattle.std.specs.Prelude.{◌<◌, ◌≤◌};
 
 use std::io;
 use std::io::Write;
-use vectors::{f32_of, f64_of, print_f32, print_f64};
+use vectors::Format;
+use vectors::numbers::{Sequence, xorshift};
+use vectors::print::Pattern;
 
 // The sign's bit of a binary64 pattern.
 const SIGN: u64 = 0x8000_0000_0000_0000;
@@ -62,7 +64,7 @@ const BORDERS: [u64; 20] = [
 ];
 
 fn narrowed(out: &mut impl Write, bits: u64) -> io::Result<()> {
-    print_f32(out, ieee754::narrow(f64_of(bits)))
+    writeln!(out, "{}", Pattern(ieee754::narrow(f64::of(bits))))
 }
 
 // A pattern, the ones beside it, and its negative.
@@ -114,9 +116,7 @@ fn narrowed_kinds(out: &mut impl Write) -> io::Result<()> {
 
 // Patterns from a seed, with exponents from below the smallest f32 to above the largest.
 fn narrowed_any(out: &mut impl Write) -> io::Result<()> {
-    let mut x = 1;
-    for _ in 0..500 {
-        x = vectors::xorshift(x);
+    for x in Sequence(1).take(500) {
         narrowed(out, 0x3660_0000_0000_0000 + x % 0x1220_0000_0000_0000)?;
     }
     Ok(())
@@ -132,18 +132,13 @@ fn narrowed_borders(out: &mut impl Write) -> io::Result<()> {
 }
 
 // The pattern, and one for every NaN.
-// Kept: tried is_nan; the proof that the value has a pattern did not close.
 fn bits_of(x: f32) -> u64 {
-    if x != x {
-        0x7fc0_0000
-    } else {
-        u64::from(f32::to_bits(x))
-    }
+    x.pattern().unwrap_or(0x7fc0_0000)
 }
 
 // A digest with one more narrowed value in it.
 fn folded(digest: u64, bits: u64) -> u64 {
-    vectors::xorshift(digest ^ bits_of(ieee754::narrow(f64_of(bits))))
+    xorshift(digest ^ bits_of(ieee754::narrow(f64::of(bits))))
 }
 
 // The sign and the digits of a pattern, with an exponent from −152 to −124 or from 126 to 129.
@@ -155,10 +150,8 @@ fn near(bits: u64) -> u64 {
 
 // Ten thousand patterns from a seed, each second one near a border: after each twenty the digest of all so far.
 fn narrowed_near(out: &mut impl Write) -> io::Result<()> {
-    let mut x = 3;
     let mut digest = 0;
-    for turn in 1..=5000 {
-        x = vectors::xorshift(x);
+    for (turn, x) in (1..=5000).zip(Sequence(3)) {
         digest = folded(folded(digest, x), near(x));
         if turn % 10 == 0 {
             writeln!(out, "{digest:016x}")?;
@@ -168,9 +161,17 @@ fn narrowed_near(out: &mut impl Write) -> io::Result<()> {
 }
 
 fn lengths_around(out: &mut impl Write, n: u32) -> io::Result<()> {
-    print_f32(out, ieee754::length_to_f32(n.wrapping_sub(1)))?;
-    print_f32(out, ieee754::length_to_f32(n))?;
-    print_f32(out, ieee754::length_to_f32(n.wrapping_add(1)))
+    writeln!(
+        out,
+        "{}",
+        Pattern(ieee754::length_to_f32(n.wrapping_sub(1)))
+    )?;
+    writeln!(out, "{}", Pattern(ieee754::length_to_f32(n)))?;
+    writeln!(
+        out,
+        "{}",
+        Pattern(ieee754::length_to_f32(n.wrapping_add(1)))
+    )
 }
 
 // The lengths of k + 25 digits: the first, two ties above it, and the last tie below the next first.
@@ -193,7 +194,7 @@ fn lengths(out: &mut impl Write) -> io::Result<()> {
 }
 
 fn next_up_of(out: &mut impl Write, bits: u32) -> io::Result<()> {
-    print_f32(out, ieee754::next_up(f32_of(bits)))
+    writeln!(out, "{}", Pattern(ieee754::next_up(f32::of(bits))))
 }
 
 // At the first and the last value of each exponent, of both signs; the last exponent's are infinity and NaNs.
@@ -212,7 +213,7 @@ fn below_kinds(out: &mut impl Write, bits: u64) -> io::Result<()> {
     for kind in KINDS {
         write!(out, "{}", u8::from(ieee754::total_below(bits, kind)))?;
     }
-    vectors::end_line(out)
+    writeln!(out)
 }
 
 fn kinds_below_kinds(out: &mut impl Write) -> io::Result<()> {
@@ -223,23 +224,21 @@ fn kinds_below_kinds(out: &mut impl Write) -> io::Result<()> {
 }
 
 // A sum with one more score, which is no NaN.
-// Kept: tried is_nan; the proof that the score is no NaN did not close.
 fn summed(sum: f64, score: f32) -> f64 {
-    if score != score {
-        return sum;
+    if score.is_nan() {
+        sum
+    } else {
+        ieee754::add_score(sum, score)
     }
-    ieee754::add_score(sum, score)
 }
 
 // Scores from a seed, from 2^-31 to 2, added up; each sum, and what it narrows to.
 fn sums(out: &mut impl Write) -> io::Result<()> {
     let mut sum = 0.0;
-    let mut x = 2;
-    for _ in 0..100 {
-        x = vectors::xorshift(x);
-        sum = summed(sum, f32_of((0x3000_0000 + x % 0x1000_0000) as u32));
-        print_f64(out, sum)?;
-        print_f32(out, ieee754::narrow(sum))?;
+    for x in Sequence(2).take(100) {
+        sum = summed(sum, f32::of((0x3000_0000 + x % 0x1000_0000) as u32));
+        writeln!(out, "{}", Pattern(sum))?;
+        writeln!(out, "{}", Pattern(ieee754::narrow(sum)))?;
     }
     Ok(())
 }

@@ -8,6 +8,7 @@ ghost use Rattle.phrase_vectors.specs.Asked.{Asked};
 
 use std::io;
 use std::io::Write;
+use vectors::numbers::{Seeds, below, xorshift};
 
 // Near the largest position and offset.
 const HIGH: u32 = 2_147_483_600;
@@ -70,7 +71,8 @@ fn print_frequency(out: &mut impl Write, positions: &[u32], terms: &[u32]) -> io
 {
     let mut a = [0i32; 8];
     let mut b = [0i32; 8];
-    vectors::print_number(out, phrase::frequency(positions, terms, &mut a, &mut b))
+    let frequency = phrase::frequency(positions, terms, &mut a, &mut b);
+    write!(out, "{frequency} ")
 }
 
 // The start that Place answers: any common one is right, and the code gives the least.
@@ -102,11 +104,11 @@ fn positions_of(base: u32, spread: u32, seed: u64) -> [u32; 40]
     let mut x = seed;
     let mut position = base;
     for (i, place) in positions.iter_mut().enumerate() {
-        x = vectors::xorshift(x);
+        x = xorshift(x);
         if i % 8 == 0 {
             position = base;
         }
-        position = std::num::wrapping_add_u32(position, vectors::below(x, spread));
+        position = position.wrapping_add(below(x, spread));
         *place = position;
     }
     positions
@@ -118,13 +120,11 @@ fn terms_of(base: u32, seed: u64) -> [u32; 15]
 {
     let mut terms = [0u32; 15];
     let mut x = seed;
-    let mut first = 0;
     for i in 0..5 {
-        x = vectors::xorshift(x);
-        terms[3 * i] = first;
-        terms[3 * i + 1] = std::num::wrapping_add_u32(1, vectors::below(x, 8));
-        terms[3 * i + 2] = std::num::wrapping_add_u32(base, vectors::below(x >> 8, 4));
-        first = std::num::wrapping_add_u32(first, 8);
+        x = xorshift(x);
+        terms[3 * i] = 8 * i as u32;
+        terms[3 * i + 1] = 1 + below(x, 8);
+        terms[3 * i + 2] = base.wrapping_add(below(x >> 8, 4));
     }
     terms
 }
@@ -139,7 +139,7 @@ fn ask(
 ) -> io::Result<()>
     requires { number ≤ 5 }
 {
-    let positions = positions_of(position_base, 2 + vectors::below(seed, 2), seed);
+    let positions = positions_of(position_base, 2 + below(seed, 2), seed);
     let terms = terms_of(offset_base, seed ^ 0x5555_5555_5555_5555);
     let end = 3 * number;
     print_phrase(out, &positions, &terms[..end])
@@ -152,9 +152,7 @@ fn ask_each(
     offset_base: u32,
     times: usize,
 ) -> io::Result<()> {
-    let mut seed: u64 = 1;
-    for i in 0..times {
-        seed = std::num::wrapping_add_u64(seed, 0x9e37_79b9_7f4a_7c15);
+    for (i, seed) in (0..times).zip(Seeds(1)) {
         ask(out, position_base, offset_base, 1 + i % 5, seed)?;
     }
     Ok(())

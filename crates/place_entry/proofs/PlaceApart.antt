@@ -1,4 +1,4 @@
--- A refusal with number 0 is never a right answer of Place: where nothing stands, only Nothing is. Assumes nothing.
+-- A refusal with number 0 is never a right answer of Place: where nothing stands, only None is. Assumes nothing.
 use mathlib.Core.Path.{◌≡◌, ap}
 use mathlib.Core.List.{List, [], ◌∷◌}
 use mathlib.Core.Option.{Option, none, some}
@@ -9,8 +9,6 @@ use lib.ListN.{length}
 use Rattle.meaning.specs.Lent.{Index}
 use Rattle.meaning.specs.CallRefusals.{Work}
 use Rattle.meaning.specs.Entries.{answered, place_refusal, start_numbers, PlaceFound, PlaceAnswer}
-use Rattle.place_entry.specs.declared.Placed.TheVariants as Placed
-use Rattle.place_entry.specs.Answers.{placed_numbers}
 
 -- a list's first number where it is not below 0
 first : List ℤ → ℕ
@@ -19,8 +17,8 @@ first (pos n ∷ xs) = n
 first (negsuc n ∷ xs) = 0
 
 module _ (ix : Index) (q : List ℕ) (r d : ℕ) (w : Work) where
-  pub never-refused-0 : PlaceAnswer ix q r d w (placed_numbers (Placed.Refused 0)) → ⊥
-  unfolding PlaceAnswer placed_numbers first
+  pub never-refused-0 : PlaceAnswer ix q r d w (pos 0 ∷ []) → ⊥
+  unfolding PlaceAnswer first
   never-refused-0 h = go (place_refusal ix q r d w) h
     where
       longer : (start : Option ℤ) → (pos 0 ∷ []) ≡ start_numbers start → ⊥

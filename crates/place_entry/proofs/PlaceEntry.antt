@@ -1,6 +1,6 @@
 -- The Place entry: its lowest number, and what it finds. Assumes nothing.
 use mathlib.Core.Path.{◌≡◌, refl, sym, ap, ◌∙◌}
-use mathlib.Core.Bool.{Bool, true, false, not, ◌&&◌, ◌||◌}
+use mathlib.Core.Bool.{Bool, true, false, not, ◌&&◌}
 use mathlib.Core.List.{List, [], ◌∷◌}
 use mathlib.Core.Option.{Option, none, some}
 use Prim.Native.Nat.{ℕ, zero, suc, ◌-◌, ◌≤◌, ◌<◌}
@@ -9,7 +9,7 @@ use native.Mathlib.Omega.{arith}
 use lib.Dec.{eqb, leb, ltb, lit<}
 use lib.IntN.{ℤ, pos}
 use lib.ListN.{length}
-use borrow.Author.Tests.{lt-ltb, le-ltb, ltb-false, le-leb, lt-leb, leb-false, eq-eqb, ne_eqb, eqb-true, not-false}
+use borrow.Author.Tests.{lt-ltb, le-ltb, ltb-false, leb-false, eq-eqb, eqb-true, not-false}
 use Rattle.meaning.specs.Limits.{no_more_docs}
 use Rattle.meaning.specs.Lent.{Index, has_positions, leaf_field, leaf_number, leaf_document, leaf_frequency, leaf_position}
 use Rattle.meaning.specs.Postings.{posting_at, frequency_of}
@@ -18,8 +18,8 @@ use Rattle.meaning.specs.Query.{record_count, record_kind, record_value, phrase_
 use Rattle.meaning.specs.Refusals.{Condition, ◌when◌, lowest}
 use Rattle.meaning.specs.IndexRefusals.{wrong_position, wrong_positions}
 use Rattle.meaning.specs.CallRefusals.{Work, largest_in, starts_needed, starts_short, wrong13_place}
-use Rattle.meaning.specs.Entries.{order_conditions, Kept, answered, place_refusal, place_right, PlaceFound, PlaceAnswer}
-use Rattle.meaning.proofs.Tests.{true-left, true-right, or_left, or_right, or-3}
+use Rattle.meaning.specs.Entries.{order_conditions, answered, place_refusal, place_right, PlaceFound, PlaceAnswer}
+use Rattle.meaning.proofs.Tests.{or_left, or_right, or-3}
 use Rattle.meaning.proofs.Below.{any_none, largest-at}
 use Rattle.index.specs.Accepted.{Accepted, PostingOk}
 use Rattle.index.proofs.PostingAt.{posting-is}
@@ -29,17 +29,20 @@ use Rattle.phrase.specs.Terms.{start_lists, Good, Room}
 use Rattle.phrase.specs.Words.{phrase_words}
 use Rattle.phrase.specs.Place.{PlacedIn}
 use Rattle.std.specs.Prelude as Found
+use Rattle.std.specs.Prelude.{None, Some, Result, Ok, Err}
 use Rattle.phrase.proofs.Words.{AllFine, words-starts, words-frequency, words-good, words-room}
 use Rattle.weight.specs.Measured.{Asks}
 use Rattle.weight.specs.ScorerTree.{phrase}
 use Rattle.weight.specs.Sound.{EachTerm, LeafSound}
 use Rattle.weight.proofs.Sounds.{TreeSound}
 use Rattle.weight.proofs.Queries.{tree-sound}
-use Rattle.place_entry.specs.declared.Placed.{Placed}
+use Rattle.refusal.specs.declared.Refusal.{Refusal}
+use Rattle.refusal.specs.Numbers.{number_of}
 use Rattle.order_check.specs.Lends.{work}
+use Rattle.order_check.proofs.Answered.{number-above}
 use Rattle.place_entry.specs.Answers.{placed_numbers}
+use Rattle.place_entry.specs.Runs.{PlaceLent}
 use Rattle.order_check.proofs.Refusing.{first_holds, second_holds, neither-holds, neither-held, order-asks, order-refused, order-passed, order-accepted}
-use Rattle.meaning.proofs.Lowest.{kept_same, kept-accepted}
 
 -- ---- each way out
 module _ (ix : Index) (q : List ℕ) (r d : ℕ) (w : Work) where
@@ -52,43 +55,25 @@ module _ (ix : Index) (q : List ℕ) (r d : ℕ) (w : Work) where
     place-order h = order-refused ix q behind n o h
 
     module _ (z : n ≡ 0) where
-      pub order-fine : Asks ix q
-      order-fine = order-asks ix q (sym o ∙ z)
-
       passed : (m : ℕ) → m ≡ lowest behind → m ≡ place_refusal ix q r d w
       unfolding place_refusal
       passed = order-passed ix q behind (sym o ∙ z)
 
-      pub place_short : (b : Bool) → b ≡ starts_short ix q w → b ≡ true → 12 ≡ place_refusal ix q r d w
-      place_short b e h = passed 12 (first_holds 12 13 _ _ (sym e ∙ h))
+      module _ (b : Bool) (e : b ≡ starts_short ix q w) where
+        pub place_short : b ≡ true → 12 ≡ place_refusal ix q r d w
+        place_short f = passed 12 (first_holds 12 13 _ _ (sym e ∙ f))
 
-      module _ (b : Bool) (e : b ≡ starts_short ix q w) (f : b ≡ false) where
-        long : starts_short ix q w ≡ false
-        long = sym e ∙ f
+        module _ (f : b ≡ false) (p : Bool) (g : p ≡ wrong13_place ix q r d) where
+          pub place-outside : p ≡ true → 13 ≡ place_refusal ix q r d w
+          place-outside h = passed 13 (second_holds 12 13 _ _ (sym e ∙ f) (sym g ∙ h))
 
-        outside : wrong13_place ix q r d ≡ true → 13 ≡ place_refusal ix q r d w
-        outside h = passed 13 (second_holds 12 13 _ _ long h)
-
-        pub place-document : ix.max_doc ≤ d → 13 ≡ place_refusal ix q r d w
-        unfolding wrong13_place
-        place-document h = outside (true-left _ _ (true-left _ _ (le-leb ix.max_doc d h)))
-
-        pub place-record : record_count q ≤ r → 13 ≡ place_refusal ix q r d w
-        unfolding wrong13_place
-        place-record h = outside (true-left _ _ (true-right (leb ix.max_doc d) _ (le-leb (record_count q) r h)))
-
-        pub place-kind : (record_kind q r ≡ 2 → ⊥) → 13 ≡ place_refusal ix q r d w
-        unfolding wrong13_place
-        place-kind h = outside (true-right (leb ix.max_doc d || leb (record_count q) r) _ (rw (ne_eqb (record_kind q r) 2 h)))
-
-        pub place-0 : d < ix.max_doc → r < record_count q → record_kind q r ≡ 2 → 0 ≡ place_refusal ix q r d w
-        unfolding wrong13_place
-        place-0 h g k = passed 0 (neither-holds 12 13 _ _ long (rw (lt-leb ix.max_doc d h, lt-leb (record_count q) r g, eq-eqb (record_kind q r) 2 k)))
+          pub place-accepted : p ≡ false → 0 ≡ place_refusal ix q r d w
+          place-accepted h = passed 0 (neither-holds 12 13 _ _ (sym e ∙ f) (sym g ∙ h))
 
   -- ---- what a call that is not refused knows
-  pub place-asked : (n : ℕ) → n ≡ place_refusal ix q r d w → n ≡ 0 → Asks ix q × (starts_short ix q w ≡ false) × (wrong13_place ix q r d ≡ false)
+  asked : (n : ℕ) → n ≡ place_refusal ix q r d w → n ≡ 0 → Asks ix q × (starts_short ix q w ≡ false) × (wrong13_place ix q r d ≡ false)
   unfolding place_refusal
-  place-asked n e z =
+  asked n e z =
       let a = order-accepted ix q behind (sym e ∙ z) in
       let b = neither-held 12 13 _ _ (lit< tt) (lit< tt) a.1 in
       (order-asks ix q a.0, b.0, b.1)
@@ -102,6 +87,12 @@ module _ (ix : Index) (q : List ℕ) (r d : ℕ) (w : Work) where
   pub starts-long : starts_short ix q w ≡ false → (starts_needed ix q ≤ w.starts) × (starts_needed ix q ≤ w.other_starts)
   unfolding starts_short
   starts-long e = (ltb-false _ _ (or_left (ltb w.starts (starts_needed ix q)) _ e), ltb-false _ _ (or_right (ltb w.starts (starts_needed ix q)) _ e))
+
+-- a buffer may be another of the same length by the time that the work begins
+pub place-lends : (ix : Index) (q : List ℕ) (r d starts other_starts n : ℕ) → n ≡ place_refusal ix q r d (work 0 starts other_starts 0) → n ≡ 0 → (s : ℕ) → s ≡ starts → PlaceLent ix q r d s other_starts
+place-lends ix q r d starts other_starts n e z s same =
+    let a = asked ix q r d (work 0 starts other_starts 0) n e z in
+    rw same record { asks = a.0; long = a.1; there = a.2 }
 
 -- ---- the words of a phrase are what `phrase::place` asks
 and-false : (b : Bool) → (b && false) ≡ false
@@ -158,33 +149,29 @@ module _ (ix : Index) (q : List ℕ) (asks : Asks ix q) (r d : ℕ) (here : r < 
         rw are (words-good ix d ts s.2 (each-fine ix asks.accepted d f (starts_needed ix q) s.1 ts s.4), (room n h, room m g))
 
     -- none exactly where the phrase stands nowhere
-    pub found_nothing : (p : Found.Option ℤ) → p ≡ Found.None → PlacedIn (start_lists ix.positions words) p → PlaceFound ix q r d (pos 0 ∷ pos 0 ∷ [])
-    unfolding PlacedIn place_right
-    found_nothing p e h =
-        let z : common_size (start_lists ix.positions words) ≡ 0 = rw e at h in
-        (none, eq-eqb _ 0 (sym (words-frequency ix d (phrase_terms_of q r)) ∙ ap (λ (z : List ℕ). common_size (start_lists ix.positions z)) (sym are) ∙ z), refl)
-
-    pub found_at : (p : Found.Option ℤ) (x s : ℤ) → p ≡ Found.Some s → x ≡ s → PlacedIn (start_lists ix.positions words) p → PlaceFound ix q r d (pos 0 ∷ pos 1 ∷ x ∷ [])
-    unfolding PlacedIn place_right stands_at
-    found_at p x s e f h = rw f (some s, lt-ltb 0 _ (rw (e, are, words-starts ix d (phrase_terms_of q r)) at h), refl)
+    pub found : (start : Found.Option ℤ) → PlacedIn (start_lists ix.positions words) start → PlaceFound ix q r d (placed_numbers (Ok start))
+    unfolding PlacedIn place_right stands_at placed_numbers
+    found None h =
+        (none, eq-eqb _ 0 (sym (words-frequency ix d (phrase_terms_of q r)) ∙ ap (λ (z : List ℕ). common_size (start_lists ix.positions z)) (sym are) ∙ h), refl)
+    found (Some s) h = (some s, lt-ltb 0 _ (rw (are, words-starts ix d (phrase_terms_of q r)) at h), refl)
 
 -- ---- the answer
-module _ (ix : Index) (q : List ℕ) (r d n : ℕ) (a b : List ℤ) where
+module _ (ix : Index) (q : List ℕ) (r d starts other_starts : ℕ) where
   abbrev room : Work
-  room = work 0 (length a) (length b) 0
+  room = work 0 starts other_starts 0
 
-  abbrev Answer : Placed → List ℤ → List ℤ → Type 0
-  Answer x a' b' = PlaceAnswer ix q r d room (placed_numbers x) × (Kept (place_refusal ix q r d room) a a' × Kept (place_refusal ix q r d room) b b')
+  pub place-refused : (s : Refusal) (a : Result (Found.Option ℤ) Refusal) → a ≡ Err s → number_of s ≡ place_refusal ix q r d room → PlaceAnswer ix q r d room (placed_numbers a)
+  unfolding placed_numbers PlaceAnswer
+  place-refused s a f e = rw (f, ← e) (refused (number_of s) (number-above s))
+    where
+      refused : (m : ℕ) → (m ≡ 0 → ⊥) → answered m (PlaceFound ix q r d (pos m ∷ [])) (λ k. (pos m ∷ []) ≡ (pos k ∷ []))
+      refused zero h = absurd (h refl)
+      refused (suc m) h = refl
 
-  module _ (is : n ≡ place_refusal ix q r d room) where
-    pub place-refused : (n ≡ 0 → ⊥) → Answer (Placed.Refused n) a b
-    unfolding placed_numbers PlaceAnswer
-    place-refused h = (rw (← is) (refused n h), (kept_same _ a, kept_same _ b))
-      where
-        refused : (m : ℕ) → (m ≡ 0 → ⊥) → answered m (PlaceFound ix q r d (pos m ∷ [])) (λ k. (pos m ∷ []) ≡ (pos k ∷ []))
-        refused zero h = absurd (h refl)
-        refused (suc m) h = refl
-
-    pub place-done : n ≡ 0 → (x : Placed) (a' b' : List ℤ) → PlaceFound ix q r d (placed_numbers x) → Answer x a' b'
+  module _ (n : ℕ) (is : n ≡ place_refusal ix q r d room) (z : n ≡ 0) where
+    pub place-given : (start : Found.Option ℤ) → PlaceFound ix q r d (placed_numbers (Ok start)) → PlaceAnswer ix q r d room (placed_numbers (Ok start))
     unfolding PlaceAnswer
-    place-done z x a' b' h = (rw (← is, z) h, (kept-accepted _ a a' (sym is ∙ z), kept-accepted _ b b' (sym is ∙ z)))
+    place-given start h = rw (← is, z) h
+
+    pub place-not-refused : 0 < place_refusal ix q r d room → ⊥
+    place-not-refused h = omega (arith, is, z, h)

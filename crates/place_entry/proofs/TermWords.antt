@@ -2,7 +2,7 @@
 use mathlib.Core.Path.{◌≡◌, refl, sym, ap, subst, ◌∙◌}
 use mathlib.Core.Logic.{⊎_elim}
 use mathlib.Core.List.{List, [], ◌∷◌, ◌++◌, append_assoc}
-use mathlib.Core.Option.{Option, none, some}
+use mathlib.Core.Option.{none, some}
 use Prim.Native.Nat.{ℕ, suc, ◌+◌, ◌*◌, ◌/◌, ◌≤◌, ◌<◌}
 use native.Mathlib.Nat.{eq-or-lt_of_le}
 use native.Mathlib.Omega.{arith}
@@ -10,71 +10,58 @@ use lib.ListN.{length, get_or, take, set, length-set}
 use lib.Seq.{take-suc-set}
 use Rattle.meaning.specs.Below.{list_to}
 use Rattle.meaning.specs.Phrase.{PhraseTerm}
-use Rattle.meaning.specs.Query.{record_count, record_kind, record_children, record_value}
-use Rattle.meaning.specs.Lent.{Index, leaf_count}
+use Rattle.meaning.specs.Query.{record_count, record_kind, record_children, record_value, phrase_terms_of}
+use Rattle.meaning.specs.Lent.{Index, leaf_count, leaf_first, leaf_number}
 use Rattle.meaning.specs.Postings.{posting_at, frequency_of}
 use Rattle.meaning.proofs.Tests.{cmp}
 use Rattle.meaning.proofs.Below.{list_to-next}
-use Rattle.index.specs.Slices.{leaves_only}
 use Rattle.index.proofs.PostingAt.{posting-at, posting-none}
 use Rattle.run.specs.Run.{document_at, Run, Lower}
 use Rattle.phrase.specs.Words.{first_of, phrase_words}
 use Rattle.weight.proofs.Measures.{TermsHere, terms-here}
-use Rattle.order_check.specs.Lends.{QueryLent}
+use Rattle.weight.specs.Measured.{Asks}
 use Rattle.place_entry.specs.Runs.{RunOk}
 
 -- ---- the search for a leaf's posting
-module _ (leaves postings : List ℕ) (l d f n : ℕ) (run : RunOk (leaves_only [] leaves postings) l) (first : f ≡ get_or leaves (4 * l + 1) 0) (number : n ≡ get_or leaves (4 * l + 2) 0) where
-  abbrev index : Index
-  index = leaves_only [] leaves postings
-
-  rises : (i j : ℕ) → i < j → j < n → document_at postings 3 f i < document_at postings 3 f j
+module _ (ix : Index) (l d f n : ℕ) (run : RunOk ix l) (first : f ≡ leaf_first ix l) (number : n ≡ leaf_number ix l) where
+  rises : (i j : ℕ) → i < j → j < n → document_at ix.postings 3 f i < document_at ix.postings 3 f j
   rises = rw (first, number) run.ascending
 
-  pub run-asked : length postings < 9223372036854775808 → Run postings 3 f n × (0 ≤ n)
+  pub run-asked : length ix.postings < 9223372036854775808 → Run ix.postings 3 f n × (0 ≤ n)
   run-asked size =
       let w = run.words in (
         record { step = omega arith; few = omega (arith, w, number, size); within = λ i g. omega (arith, w, first, number, g); ascending = rises },
         omega arith,
       )
 
-  pub posting-there : (i : ℕ) → i < n → f + i < length postings / 3
+  pub posting-there : (i : ℕ) → i < n → f + i < length ix.postings / 3
   posting-there i g = let w = run.words in omega (arith, w, first, number, g)
 
   -- what the words of its posting say
   abbrev Says : ℕ → ℕ → Type 0
-  Says x y = (x ≡ first_of index l (posting_at index l d)) × (y ≡ frequency_of index l (posting_at index l d))
+  Says x y = (x ≡ first_of ix l (posting_at ix l d)) × (y ≡ frequency_of ix l (posting_at ix l d))
 
-  pub posting-hit : (i x y : ℕ) → i < n → document_at postings 3 f i ≡ d → x ≡ get_or postings (3 * (f + i) + 2) 0 → y ≡ get_or postings (3 * (f + i) + 1) 0 → Says x y
+  pub posting-hit : (i x y : ℕ) → i < n → document_at ix.postings 3 f i ≡ d → x ≡ get_or ix.postings (3 * (f + i) + 2) 0 → y ≡ get_or ix.postings (3 * (f + i) + 1) 0 → Says x y
   posting-hit i x y g e a b =
-      let at : posting_at index l d ≡ some i = posting-at index l d run.ascending i (omega (arith, number, g)) (ap (λ (z : ℕ). document_at postings 3 z i) (sym first) ∙ e) in
+      let at : posting_at ix l d ≡ some i = posting-at ix l d run.ascending i (omega (arith, number, g)) (ap (λ (z : ℕ). document_at ix.postings 3 z i) (sym first) ∙ e) in
       rw (at, ← first) (a, b)
 
-  absent : ((i : ℕ) → i < n → document_at postings 3 f i ≡ d → ⊥) → Says 0 0
+  absent : ((i : ℕ) → i < n → document_at ix.postings 3 f i ≡ d → ⊥) → Says 0 0
   absent h =
-      let at : posting_at index l d ≡ none = posting-none index l d (λ i g e. h i (omega (arith, number, g)) (ap (λ (z : ℕ). document_at postings 3 z i) first ∙ e)) in
+      let at : posting_at ix l d ≡ none = posting-none ix l d (λ i g e. h i (omega (arith, number, g)) (ap (λ (z : ℕ). document_at ix.postings 3 z i) first ∙ e)) in
       rw at (refl, refl)
 
-  pub posting-over : (i : ℕ) → Lower postings 3 f n 0 d i → n ≤ i → Says 0 0
+  pub posting-over : (i : ℕ) → Lower ix.postings 3 f n 0 d i → n ≤ i → Says 0 0
   posting-over i p g = absent (λ k h e. omega (arith, p.passed k (omega arith) (omega (arith, h, g)), e))
 
-  pub posting-missed : (i : ℕ) → Lower postings 3 f n 0 d i → i < n → (document_at postings 3 f i ≡ d → ⊥) → Says 0 0
-  posting-missed i p g ne = absent (λ k h e. ⊎_elim (λ (u : k < i). omega (arith, p.passed k (omega arith) u, e)) (λ (u : i ≤ k). ⊎_elim (λ (s : i ≡ k). ne (ap (document_at postings 3 f) s ∙ e)) (λ (s : i < k). omega (arith, rises i k s h, p.stops g, e)) (eq-or-lt_of_le u)) (cmp k i))
+  pub posting-missed : (i : ℕ) → Lower ix.postings 3 f n 0 d i → i < n → (document_at ix.postings 3 f i ≡ d → ⊥) → Says 0 0
+  posting-missed i p g ne = absent (λ k h e. ⊎_elim (λ (u : k < i). omega (arith, p.passed k (omega arith) u, e)) (λ (u : i ≤ k). ⊎_elim (λ (s : i ≡ k). ne (ap (document_at ix.postings 3 f) s ∙ e)) (λ (s : i < k). omega (arith, rises i k s h, p.stops g, e)) (eq-or-lt_of_le u)) (cmp k i))
 
 -- ---- the words of a phrase's terms
 words_more : (ix : Index) (d : ℕ) (ts : List PhraseTerm) (t : PhraseTerm) → phrase_words ix d (ts ++ (t ∷ [])) ≡ phrase_words ix d ts ++ (first_of ix t.leaf (posting_at ix t.leaf d) ∷ frequency_of ix t.leaf (posting_at ix t.leaf d) ∷ t.offset ∷ [])
 unfolding phrase_words
 words_more ix d [] t = refl
 words_more ix d (s ∷ ts) t = rw (words_more ix d ts t)
-
--- a posting's words are those of the leaves and postings alone
-first_alone : (ix : Index) (l : ℕ) (p : Option ℕ) → first_of (leaves_only [] ix.leaves ix.postings) l p ≡ first_of ix l p
-first_alone ix l none = refl
-first_alone ix l (some i) = refl
-
-frequency-alone : (ix : Index) (l : ℕ) (p : Option ℕ) → frequency_of (leaves_only [] ix.leaves ix.postings) l p ≡ frequency_of ix l p
-frequency-alone ix l none = refl
-frequency-alone ix l (some i) = refl
 
 take-three : (out : List ℕ) (n a b c : ℕ) → n + 2 < length out → take (n + 3) (set (set (set out n a) (n + 1) b) (n + 2) c) ≡ take n out ++ (a ∷ b ∷ c ∷ [])
 take-three out n a b c h =
@@ -89,35 +76,33 @@ take-three out n a b c h =
     ∙ append_assoc (take n out ++ (a ∷ [])) (b ∷ []) (c ∷ [])
     ∙ append_assoc (take n out) (a ∷ []) (b ∷ c ∷ []))
 
-module _ {ix : Index} {n : ℕ} {leaves postings q : List ℕ} (lends : QueryLent ix n leaves postings q) where
+abbrev pub term_at : List ℕ → ℕ → ℕ → PhraseTerm
+term_at q at j = record { leaf = record_value q (at + 1 + j) 0; offset = record_value q (at + 1 + j) 1 }
+
+-- as many words as there are terms, however their number is said
+pub words-counted : (n m : ℕ) → n ≡ m → (terms words : List ℕ) → take (3 * m) terms ≡ words → take (3 * n) terms ≡ words
+words-counted n m e terms words h = rw e h
+
+module _ (ix : Index) (q : List ℕ) (at d : ℕ) where
+  pub terms-none : (terms : List ℕ) → take (3 * 0) terms ≡ phrase_words ix d (list_to 0 (term_at q at))
+  unfolding list_to phrase_words
+  terms-none terms = refl
+
+  pub terms-all : (terms : List ℕ) (j : ℕ) → j ≡ record_children q at → take (3 * j) terms ≡ phrase_words ix d (list_to j (term_at q at)) → take (3 * record_children q at) terms ≡ phrase_words ix d (phrase_terms_of q at)
+  terms-all terms j e h = rw (← e) h
+
+module _ {ix : Index} {q : List ℕ} (asks : Asks ix q) where
   module _ (at : ℕ) (here : at < record_count q) (kind : record_kind q at ≡ 2) where
     -- its terms' records and leaves are there
-    pub phrase-here : TermsHere q leaves at
-    phrase-here = terms-here ix q leaves at lends.asks.records-right lends.asks.values-right here kind lends.leaves-are
+    pub phrase-here : TermsHere q ix.leaves at
+    phrase-here = terms-here ix q ix.leaves at asks.records-right asks.values-right here kind refl
 
-    pub term-run : (j l : ℕ) → j < record_children q at → l ≡ record_value q (at + 1 + j) 0 → RunOk (leaves_only [] leaves postings) l
+    pub term-run : (j l : ℕ) → j < record_children q at → l ≡ record_value q (at + 1 + j) 0 → RunOk ix l
     term-run j l h e =
-        let there : l < leaf_count ix = subst (λ (z : List ℕ). l < length z / 4) (sym lends.leaves-are) (subst (λ (z : ℕ). z < length leaves / 4) (sym e) (phrase-here.leaves-there j h)) in
-        rw (← lends.leaves-are, ← lends.postings-are)
-        (record { there = there; words = (lends.asks.accepted.leaf l there).words; ascending = lends.asks.accepted.ascending l there })
+        let there : l < leaf_count ix = subst (λ (z : ℕ). z < leaf_count ix) (sym e) (phrase-here.leaves-there j h) in
+        record { there = there; words = (asks.accepted.leaf l there).words; ascending = asks.accepted.ascending l there }
 
-    -- in a turn of the loop that writes their words
-    pub term-here : (count j : ℕ) → count ≡ record_children q at → j < count → (j < record_children q at) × (j < 32) × (at + 1 + j < record_count q)
-    term-here count j e h =
-        let t = phrase-here in
-        let room = t.room in
-        let few = t.few-terms in
-        (omega (arith, e, h), omega (arith, e, h, few), omega (arith, e, h, room))
-
-  abbrev term_at : ℕ → ℕ → PhraseTerm
-  term_at at j = record { leaf = record_value q (at + 1 + j) 0; offset = record_value q (at + 1 + j) 1 }
-
-  pub terms-none : (at d : ℕ) (terms : List ℕ) → take (3 * 0) terms ≡ phrase_words ix d (list_to 0 (term_at at))
-  unfolding list_to phrase_words
-  terms-none at d terms = refl
-
-  pub terms-more : (at d j l x y z : ℕ) (terms : List ℕ) → take (3 * j) terms ≡ phrase_words ix d (list_to j (term_at at)) → 3 * j + 2 < length terms → l ≡ record_value q (at + 1 + j) 0 → (x ≡ first_of (leaves_only [] leaves postings) l (posting_at (leaves_only [] leaves postings) l d)) × (y ≡ frequency_of (leaves_only [] leaves postings) l (posting_at (leaves_only [] leaves postings) l d)) → z ≡ record_value q (at + 1 + j) 1 → take (3 * (j + 1)) (set (set (set terms (3 * j) x) (3 * j + 1) y) (3 * j + 2) z) ≡ phrase_words ix d (list_to (j + 1) (term_at at))
-  terms-more at d j l x y z terms e h le xy ze =
+  pub terms-more : (at d j l x y z : ℕ) (terms : List ℕ) → take (3 * j) terms ≡ phrase_words ix d (list_to j (term_at q at)) → 3 * j + 2 < length terms → l ≡ record_value q (at + 1 + j) 0 → x ≡ first_of ix l (posting_at ix l d) → y ≡ frequency_of ix l (posting_at ix l d) → z ≡ record_value q (at + 1 + j) 1 → take (3 * (j + 1)) (set (set (set terms (3 * j) x) (3 * j + 1) y) (3 * j + 2) z) ≡ phrase_words ix d (list_to (j + 1) (term_at q at))
+  terms-more at d j l x y z terms e h le xe ye ze =
       let three : 3 * (j + 1) ≡ 3 * j + 3 = omega arith in
-      let own = rw (← lends.leaves-are, ← lends.postings-are) at xy in
-      rw (three, take-three terms (3 * j) x y z h, list_to-next (term_at at) j, words_more ix d (list_to j (term_at at)) (term_at at j), e, own.0 ∙ first_alone ix l (posting_at ix l d), own.1 ∙ frequency-alone ix l (posting_at ix l d), le, ze)
+      rw (three, take-three terms (3 * j) x y z h, list_to-next (term_at q at) j, words_more ix d (list_to j (term_at q at)) (term_at q at j), e, xe, ye, le, ze)

@@ -12,11 +12,8 @@ pub record RunOk (ix : Index) (l : ℕ) : Type 0 where
   pub words : 3 * (leaf_first ix l + leaf_number ix l) ≤ length ix.postings
   pub ascending : Ascending ix l
 
--- an accepted index and query, whose leaves, postings and positions are those lent; a phrase and a document that are there, and phrase buffers that are long enough
-pub record PlaceLent (ix : Index) (leaves postings positions q : List ℕ) (r d starts other_starts : ℕ) : Type 0 where
+-- an accepted index and query, a phrase and a document that are there, and phrase buffers that are long enough
+pub record PlaceLent (ix : Index) (q : List ℕ) (r d starts other_starts : ℕ) : Type 0 where
   pub asks : Asks ix q
-  pub leaves-are : ix.leaves ≡ leaves
-  pub postings-are : ix.postings ≡ postings
-  pub positions-are : ix.positions ≡ positions
   pub long : starts_short ix q (work 0 starts other_starts 0) ≡ false
   pub there : wrong13_place ix q r d ≡ false

@@ -1,13 +1,15 @@
 // Place: a start at which a phrase of the order stands in a document.
 #![tactic(auto)]
 
-ghost use Rattle.std.specs.Prelude.{◌≡◌, [], ℕ, ◌+◌, ◌*◌, ◌/◌, ◌≤◌, ◌<◌, length, take};
-ghost use Rattle.meaning.specs.Lent.{Index};
+ghost use Rattle.std.specs.Prelude.{◌≡◌, ◌*◌, ◌≤◌, ◌<◌, length, take, Ok};
 ghost use Rattle.meaning.specs.Query.{record_count, record_kind, record_children, phrase_terms_of};
+ghost use Rattle.meaning.specs.CallRefusals.{wrong13_place};
 ghost use Rattle.meaning.specs.Entries.{Kept, place_refusal, PlaceFound, PlaceAnswer};
 ghost use Rattle.meaning.specs.Postings.{posting_at, frequency_of};
-ghost use Rattle.index.specs.Slices.{lent, leaves_only};
-ghost use Rattle.order_check.specs.Lends.{work, QueryLent};
+ghost use Rattle.index.specs.IndexOf.{index_of};
+ghost use Rattle.weight.specs.Measured.{Asks};
+ghost use Rattle.refusal.specs.Numbers.{refusal_of};
+ghost use Rattle.order_check.specs.Lends.{work};
 ghost use Rattle.phrase.specs.Words.{first_of, phrase_words};
 ghost use Rattle.place_entry.specs.Answers.{placed_numbers};
 ghost use Rattle.place_entry.specs.Runs.{RunOk, PlaceLent};
@@ -15,104 +17,78 @@ ghost use Rattle.place_entry.specs.Runs.{RunOk, PlaceLent};
 use index::leaves::leaf_at;
 use index::lent::Lent;
 use index::postings::{posting_document, posting_frequency, posting_index};
-use index::wide;
+use query::Kind;
+use refusal::Refusal;
 use run::lower;
 
-#[derive(Drop)]
-pub enum Placed {
-    Refused(u32),
-    Nothing,
-    At(i32),
+// 13: no such document, no such record, or one that is no phrase.
+#[tactic(auto, unfolding(meaning::specs::CallRefusals::wrong13_place))]
+fn wrong_place(lent: &Lent, q: &[u32], record_number: u32, document: u32) -> bool
+    ensures { result ≡ wrong13_place (index_of lent.now) q.now record_number document }
+{
+    let at = record_number as usize;
+    lent.max_doc <= document
+        || query::record_count(q) <= at
+        || query::kind_at(q, at) != Some(Kind::Phrase)
 }
 
-// The lowest number of 1 to 10, 12 and 13 whose condition holds, and 0 where none does.
+// The lowest of 1 to 10, 12 and 13 whose condition holds.
 fn place_refusal(
-    max_doc: u32,
-    fields: &[u32],
-    leaves: &[u32],
-    postings: &[u32],
-    positions: &[u32],
-    norms: &[u8],
-    live: &[u64],
-    columns: &[u32],
-    values: &[u32],
+    lent: &Lent,
     q: &[u32],
     record_number: u32,
     document: u32,
     starts: usize,
     other_starts: usize,
-) -> u32
-    ensures { result ≡ place_refusal (lent max_doc fields.now leaves.now postings.now positions.now norms.now live.now columns.now values.now) q.now record_number document (work 0 starts other_starts 0) }
+) -> Result<(), Refusal>
+    ensures { refusal_of result ≡ place_refusal (index_of lent.now) q.now record_number document (work 0 starts other_starts 0) }
 {
-    let lent = Lent {
-        max_doc,
-        fields,
-        leaves,
-        postings,
-        positions,
-        norms,
-        live,
-        columns,
-        values,
-    };
-    match order_check::check_order(&lent, q) {
-        Err(refusal) => return refusal.number(),
-        Ok(()) => {}
+    order_check::check_order(lent, q)?;
+    if order_check::starts_short(lent.leaves, lent.postings, q, starts, other_starts) {
+        return Err(Refusal::Buffers);
     }
-    if order_check::starts_short(leaves, postings, q, starts, other_starts) {
-        return 12;
+    if wrong_place(lent, q, record_number, document) {
+        return Err(Refusal::Target);
     }
-    if max_doc <= document {
-        return 13;
-    }
-    if query::record_count(q) <= record_number as usize {
-        return 13;
-    }
-    if query::kind(q, record_number as usize) != 2 {
-        return 13;
-    }
-    0
+    Ok(())
 }
 
-// The work of a call that is not refused: never Refused.
+// The work of a call that is not refused.
 fn locate(
-    leaves: &[u32],
-    postings: &[u32],
-    positions: &[u32],
+    lent: &Lent,
     q: &[u32],
     record_number: u32,
     document: u32,
-    a: &mut [i32],
-    b: &mut [i32],
-) -> Placed
-    requires { (ix : Index) × PlaceLent ix leaves.now postings.now positions.now q.now record_number document (length a.old) (length b.old) }
-    ensures { (ix : Index) → PlaceLent ix leaves.now postings.now positions.now q.now record_number document (length a.old) (length b.old) → PlaceFound ix q.now record_number document (placed_numbers result) }
+    starts: &mut [i32],
+    other_starts: &mut [i32],
+) -> Option<i32>
+    requires { PlaceLent (index_of lent.now) q.now record_number document (length starts.old) (length other_starts.old) }
+    ensures { PlaceFound (index_of lent.now) q.now record_number document (placed_numbers (Ok result)) }
 {
     let at = record_number as usize;
     let count = query::children(q, at) as usize;
-    let mut terms: [u32; 96] = [0; 96];
-    write_terms(leaves, postings, q, at, document, &mut terms);
-    match phrase::place(positions, &terms[..3 * count], a, b) {
-        None => Placed::Nothing,
-        Some(s) => Placed::At(s),
-    }
+    let mut terms = [0u32; 96];
+    write_terms(lent, q, at, document, &mut terms);
+    phrase::place(lent.positions, &terms[..3 * count], starts, other_starts)
 }
 
 // Where a term's positions in a document begin, and how many there are.
-#[derive(Drop)]
+#[derive(Clone, Copy)]
 pub struct Occurrences {
     pub first: u32,
     pub frequency: u32,
 }
 
 // Those of a leaf, 0 and 0 without a posting: a search by halves in its run.
-fn occurrences_in(leaves: &[u32], postings: &[u32], l: usize, document: u32) -> Occurrences
-    requires { RunOk (leaves_only [] leaves.now postings.now) l }
-    ensures { (result.first ≡ first_of (leaves_only [] leaves.now postings.now) l (posting_at (leaves_only [] leaves.now postings.now) l document)) × (result.frequency ≡ frequency_of (leaves_only [] leaves.now postings.now) l (posting_at (leaves_only [] leaves.now postings.now) l document)) }
+fn occurrences_in(lent: &Lent, l: usize, document: u32) -> Occurrences
+    requires { RunOk (index_of lent.now) l }
+    ensures first { result.first ≡ first_of (index_of lent.now) l (posting_at (index_of lent.now) l document) }
+    ensures frequency { result.frequency ≡ frequency_of (index_of lent.now) l (posting_at (index_of lent.now) l document) }
 {
-    let leaf = leaf_at(leaves, l);
-    let first = wide(leaf.first);
-    let number = wide(leaf.number);
+    let postings = lent.postings;
+    let leaf = leaf_at(lent.leaves, l);
+    let first = leaf.first as usize;
+    let number = leaf.number as usize;
     let i = lower(postings, 3, first, number, 0, document);
     if i < number {
         if posting_document(postings, first, i) == document {
@@ -129,79 +105,43 @@ fn occurrences_in(leaves: &[u32], postings: &[u32], l: usize, document: u32) -> 
 }
 
 // The three words of each term of the phrase at `at` in a document: where its positions begin, how many there are, its offset.
-fn write_terms(
-    leaves: &[u32],
-    postings: &[u32],
-    q: &[u32],
-    at: usize,
-    document: u32,
-    terms: &mut [u32],
-)
-    requires at_bound { (at < record_count q.now) × (record_kind q.now at ≡ 2) × (length terms.old ≡ 96) }
-    requires by_index { (ix : Index) × (n : ℕ) × QueryLent ix n leaves.now postings.now q.now }
-    ensures terms_after { (ix : Index) (n : ℕ) → QueryLent ix n leaves.now postings.now q.now → take (3 * record_children q.now at) terms.new ≡ phrase_words ix document (phrase_terms_of q.now at) }
-    ensures terms_len { length terms.new ≡ 96 }
+fn write_terms(lent: &Lent, q: &[u32], at: usize, document: u32, terms: &mut [u32; 96])
+    requires asks { Asks (index_of lent.now) q.now }
+    requires phrase { (at < record_count q.now) × (record_kind q.now at ≡ 2) }
+    ensures { take (3 * record_children q.now at) terms.new ≡ phrase_words (index_of lent.now) document (phrase_terms_of q.now at) }
 {
-    let count = wide(query::children(q, at));
-    let mut j = 0;
-    while j < count {
+    for j in 0..query::children(q, at) as usize {
         let term = at + 1 + j;
-        let o = occurrences_in(leaves, postings, wide(query::value(q, term, 0)), document);
-        terms[3 * j] = o.first;
-        terms[3 * j + 1] = o.frequency;
-        terms[3 * j + 2] = query::value(q, term, 1);
-        j += 1;
+        let leaf = query::value(q, term, 0) as usize;
+        let found = occurrences_in(lent, leaf, document);
+        let place = 3 * j;
+        terms[place] = found.first;
+        terms[place + 1] = found.frequency;
+        terms[place + 2] = query::value(q, term, 1);
     }
 }
 
 // A start at which the phrase at the record stands in the document, live or not; any one.
 pub fn place(
-    max_doc: u32,
-    fields: &[u32],
-    leaves: &[u32],
-    postings: &[u32],
-    positions: &[u32],
-    norms: &[u8],
-    live: &[u64],
-    columns: &[u32],
-    values: &[u32],
+    lent: &Lent,
     q: &[u32],
     record_number: u32,
     document: u32,
-    a: &mut [i32],
-    b: &mut [i32],
-) -> Placed
-    ensures place_answer { PlaceAnswer (lent max_doc fields.now leaves.now postings.now positions.now norms.now live.now columns.now values.now) q.now record_number document (work 0 (length a.old) (length b.old) 0) (placed_numbers result) }
-    ensures kept { Kept (place_refusal (lent max_doc fields.now leaves.now postings.now positions.now norms.now live.now columns.now values.now) q.now record_number document (work 0 (length a.old) (length b.old) 0)) a.old a.new }
-    ensures kept_2 { Kept (place_refusal (lent max_doc fields.now leaves.now postings.now positions.now norms.now live.now columns.now values.now) q.now record_number document (work 0 (length a.old) (length b.old) 0)) b.old b.new }
+    starts: &mut [i32],
+    other_starts: &mut [i32],
+) -> Result<Option<i32>, Refusal>
+    ensures place_answer { PlaceAnswer (index_of lent.now) q.now record_number document (work 0 (length starts.old) (length other_starts.old) 0) (placed_numbers result) }
+    ensures kept { Kept (place_refusal (index_of lent.now) q.now record_number document (work 0 (length starts.old) (length other_starts.old) 0)) starts.old starts.new }
+    ensures kept_2 { Kept (place_refusal (index_of lent.now) q.now record_number document (work 0 (length starts.old) (length other_starts.old) 0)) other_starts.old other_starts.new }
 {
-    let refusal = place_refusal(
-        max_doc,
-        fields,
-        leaves,
-        postings,
-        positions,
-        norms,
-        live,
-        columns,
-        values,
+    place_refusal(
+        lent,
         q,
         record_number,
         document,
-        a.len(),
-        b.len(),
-    );
-    if refusal != 0 {
-        return Placed::Refused(refusal);
-    }
-    locate(
-        leaves,
-        postings,
-        positions,
-        q,
-        record_number,
-        document,
-        a,
-        b,
-    )
+        starts.len(),
+        other_starts.len(),
+    )?;
+    let start = locate(lent, q, record_number, document, starts, other_starts);
+    Ok(start)
 }

@@ -1,5 +1,5 @@
 -- The Range entry: its lowest number, and its answer. Assumes nothing.
-use mathlib.Core.Path.{◌≡◌, refl, sym, ap, ◌∙◌}
+use mathlib.Core.Path.{◌≡◌, refl, sym}
 use mathlib.Core.Bool.{true, false}
 use mathlib.Core.List.{List, []}
 use Prim.Native.Nat.{ℕ, ◌≤◌, ◌<◌}
@@ -82,31 +82,25 @@ module _ (ix : Index) (r : NumericRange) (work output : ℕ) where
       let h = lowest-zero 12 _ _ (lit< tt) e.1 in
       record { documents = a.0; columns = b.0; range = e.0; room = ltb-false output ix.max_doc (or_right (ltb work ix.max_doc) (ltb output ix.max_doc) h.0) }
 
--- ---- the answer: the range as the code has it, with joined halves
-module _ (ix : Index) (x r : NumericRange) (same : x ≡ r) (work output : List ℕ) where
-  module _ (n : Refusal) (is : number_of n ≡ range_refusal ix x (length work) (length output)) where
-    number_is : number_of n ≡ range_refusal ix r (length work) (length output)
-    number_is = is ∙ ap (λ (z : NumericRange). range_refusal ix z (length work) (length output)) same
-
+-- ---- the answer
+module _ (ix : Index) (r : NumericRange) (work output : List ℕ) where
+  module _ (n : Refusal) (is : number_of n ≡ range_refusal ix r (length work) (length output)) where
     pub refused-answer : ranged_numbers (Err n) ≡ range_answer ix r (length work) (length output)
     unfolding ranged_numbers range_answer
-    refused-answer = rw (← number_is) (answered-refused _ _ _ (number-not-0 n))
+    refused-answer = rw (← is) (answered-refused _ _ _ (number-not-0 n))
 
     pub refused-output : output ≡ range_output ix r (length work) output
     unfolding range_output
-    refused-output = rw (← number_is) (answered-refused _ _ _ (number-not-0 n))
+    refused-output = rw (← is) (answered-refused _ _ _ (number-not-0 n))
 
-  module _ (is : 0 ≡ range_refusal ix x (length work) (length output)) where
-    zero_is : 0 ≡ range_refusal ix r (length work) (length output)
-    zero_is = is ∙ ap (λ (z : NumericRange). range_refusal ix z (length work) (length output)) same
-
-    pub done-answer : (m : ℕ) → m ≡ length (range_documents ix x) → ranged_numbers (Ok m) ≡ range_answer ix r (length work) (length output)
+  module _ (is : 0 ≡ range_refusal ix r (length work) (length output)) where
+    pub done-answer : (m : ℕ) → m ≡ length (range_documents ix r) → ranged_numbers (Ok m) ≡ range_answer ix r (length work) (length output)
     unfolding ranged_numbers range_answer
-    done-answer m e = rw (← zero_is, e, same) refl
+    done-answer m e = rw (← is, e) refl
 
-    pub done-output : (output' : List ℕ) → output' ≡ written (range_documents ix x) output → output' ≡ range_output ix r (length work) output
+    pub done-output : (output' : List ℕ) → output' ≡ written (range_documents ix r) output → output' ≡ range_output ix r (length work) output
     unfolding range_output
-    done-output output' f = rw (← zero_is, f, same) refl
+    done-output output' f = rw (← is, f) refl
 
     pub done-kept : (work' : List ℕ) → Kept (range_refusal ix r (length work) (length output)) work work'
-    done-kept work' h = absurd (omega (arith, zero_is, h))
+    done-kept work' h = absurd (omega (arith, is, h))

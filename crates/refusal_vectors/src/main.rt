@@ -8,7 +8,7 @@ use index::lent::Lent;
 use refusal::Refusal;
 use std::io;
 use std::io::Write;
-use vectors::file::{first, list};
+use vectors::file::{first, list, read_bytes, read_words, records};
 
 // Checks a case's index, then its query; its norm bytes and live words are the first of the given ones.
 fn check(file: &[u32], norms: &[u8], live: &[u64], case: [u32; 10]) -> Result<(), Refusal> {
@@ -39,18 +39,11 @@ fn check(file: &[u32], norms: &[u8], live: &[u64], case: [u32; 10]) -> Result<()
     query_check::check_query(list(file, query), lent.fields, lent.leaves, lent.columns)
 }
 
-fn print_refusals(
-    out: &mut impl Write,
-    file: &[u32],
-    norms: &[u8],
-    live: &[u64],
-) -> io::Result<()> {
-    let Some((number, words)) = file.split_first() else {
-        return Ok(());
-    };
-    let (cases, _) = words.as_chunks::<10>();
-    for case in first(cases, *number as usize) {
-        match check(file, norms, live, *case) {
+fn print_refusals(out: &mut impl Write, file: &[u32]) -> io::Result<()> {
+    let norms = [255u8; 65_553];
+    let live = [0xffff_ffff_ffff_ffffu64; 16_385];
+    for case in records::<10>(file) {
+        match check(file, &norms, &live, *case) {
             Ok(()) => writeln!(out, "0")?,
             Err(refusal) => writeln!(out, "{refusal}")?,
         }
@@ -58,17 +51,12 @@ fn print_refusals(
     Ok(())
 }
 
-fn print_all(out: &mut impl Write, bytes: &[u8]) -> io::Result<()> {
-    let norms = [255u8; 65_553];
-    let live = [0xffff_ffff_ffff_ffffu64; 16_385];
-    let mut file = [0u32; 65_536];
-    vectors::file::read_words(bytes, &mut file);
-    print_refusals(out, &file, &norms, &live)
-}
-
 fn main(rt: HostRuntime) -> io::Result<()> {
     let mut out = io::writer(&rt);
     let mut bytes = [0u8; 262_144];
-    let n = vectors::file::read_bytes(&rt, "cases.rec", &mut bytes)?;
-    print_all(&mut out, &bytes[..n])
+    let mut file = [0u32; 65_536];
+    let n = read_bytes(&rt, "cases.rec", &mut bytes)?;
+    read_words(&bytes[..n], &mut file);
+    print_refusals(&mut out, &file)?;
+    out.flush()
 }

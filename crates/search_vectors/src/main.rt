@@ -8,7 +8,7 @@ use index::lent::Lent;
 use std::io;
 use std::io::Write;
 use std::rt::Files;
-use vectors::file::{bytes_at, first, list};
+use vectors::file::{bytes_at, list, read_bytes, read_long_words, read_words, records};
 use weight::NODE_STATE_WORDS;
 
 // The most places that a page has.
@@ -93,7 +93,7 @@ fn print_case(out: &mut impl Write, file: &[u32], bytes: &[u8], case: [u32; 14])
         postings: list(file, postings),
         positions: list(file, positions),
         norms: bytes_at(bytes, norms),
-        live: vectors::file::read_long_words(list(file, live), &mut longs),
+        live: read_long_words(list(file, live), &mut longs),
         columns: list(file, columns),
         values: list(file, values),
     };
@@ -115,23 +115,15 @@ fn print_case(out: &mut impl Write, file: &[u32], bytes: &[u8], case: [u32; 14])
     )
 }
 
-fn print_cases(out: &mut impl Write, file: &[u32], bytes: &[u8]) -> io::Result<()> {
-    let Some((number, words)) = file.split_first() else {
-        return Ok(());
-    };
-    let (cases, _) = words.as_chunks::<14>();
-    for case in first(cases, *number as usize) {
-        print_case(out, file, bytes, *case)?;
-    }
-    Ok(())
-}
-
 fn print_file(out: &mut impl Write, rt: &(impl Files + Eprint), path: &str) -> io::Result<()> {
     let mut bytes = [0u8; 65_536];
     let mut file = [0u32; 16_384];
-    vectors::file::read_bytes(rt, path, &mut bytes)?;
-    vectors::file::read_words(&bytes, &mut file);
-    print_cases(out, &file, &bytes)
+    read_bytes(rt, path, &mut bytes)?;
+    read_words(&bytes, &mut file);
+    for case in records::<14>(&file) {
+        print_case(out, &file, &bytes, *case)?;
+    }
+    Ok(())
 }
 
 fn main(rt: HostRuntime) -> io::Result<()> {

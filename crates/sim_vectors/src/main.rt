@@ -6,9 +6,12 @@ ghost use Rattle.std.specs.Prelude.{◌<◌};
 
 use sim::bm25::Bm25;
 use sim::small_float::{byte4_to_int, int_to_byte4, int4_to_long, long_to_int4};
-use std::io;
+use std::fmt::{Display, Formatter};
 use std::io::Write;
-use vectors::{f32_of, print_f32};
+use std::{fmt, io};
+use vectors::Format;
+use vectors::numbers::Sequence;
+use vectors::print::Pattern;
 
 // Averages as f32 bits: 1, the next one, 3.7, 17.25, 123456.79 and 2^24.
 const AVERAGES: [u32; 6] = [
@@ -29,23 +32,28 @@ const FREQUENCIES: [u32; 4] = [1, 2, 7, 16_777_216];
 
 const NORMS: [u8; 8] = [0, 1, 2, 24, 41, 128, 224, 255];
 
-// The code of a length that has one.
-fn print_code(out: &mut impl Write, length: u32) -> io::Result<()> {
-    if length <= 2147483647 {
-        write!(out, "{} ", int_to_byte4(length))
-    } else {
-        write!(out, "- ")
+// The code of a length, `-` where it has none.
+#[derive(Clone, Copy)]
+struct Code(u32);
+
+impl Display for Code {
+    fn fmt<W: fmt::Write>(&self, f: &mut Formatter<W>) -> fmt::Result {
+        if self.0 <= 2147483647 {
+            write!(f, "{}", int_to_byte4(self.0))
+        } else {
+            write!(f, "-")
+        }
     }
 }
 
 // A byte's length, its code and those of the lengths beside it, and the length as an f32.
 fn decoded(out: &mut impl Write, norm: u8) -> io::Result<()> {
     let length = byte4_to_int(norm);
-    vectors::print_number(out, length)?;
-    print_code(out, length.wrapping_sub(1))?;
-    print_code(out, length)?;
-    print_code(out, length.wrapping_add(1))?;
-    print_f32(out, ieee754::length_to_f32(length))
+    let below = Code(length.wrapping_sub(1));
+    let here = Code(length);
+    let above = Code(length.wrapping_add(1));
+    let value = Pattern(ieee754::length_to_f32(length));
+    writeln!(out, "{length} {below} {here} {above} {value}")
 }
 
 fn all_decoded(out: &mut impl Write) -> io::Result<()> {
@@ -58,15 +66,14 @@ fn all_decoded(out: &mut impl Write) -> io::Result<()> {
 // The codes of the lengths up to 1023, and of the last length.
 fn codes(out: &mut impl Write) -> io::Result<()> {
     for length in 0..1024 {
-        print_code(out, length)?;
+        write!(out, "{} ", Code(length))?;
     }
-    print_code(out, 2147483647)?;
-    vectors::end_line(out)
+    writeln!(out, "{} ", Code(2147483647))
 }
 
 fn print_inverses(out: &mut impl Write, cache: &[f32; 256]) -> io::Result<()> {
     for inverse in cache {
-        print_f32(out, *inverse)?;
+        writeln!(out, "{}", Pattern(*inverse))?;
     }
     Ok(())
 }
@@ -83,7 +90,11 @@ fn norm_scores(
     frequency: f32,
 ) -> io::Result<()> {
     for norm in NORMS {
-        print_f32(out, Bm25::score(weight, frequency, inverse_of(cache, norm)))?;
+        writeln!(
+            out,
+            "{}",
+            Pattern(Bm25::score(weight, frequency, inverse_of(cache, norm)))
+        )?;
     }
     Ok(())
 }
@@ -98,14 +109,14 @@ fn weight_scores(out: &mut impl Write, cache: &[f32; 256], weight: f32) -> io::R
 
 fn print_scores(out: &mut impl Write, cache: &[f32; 256]) -> io::Result<()> {
     for (boost, idf) in BOOSTS.iter().zip(&IDFS) {
-        weight_scores(out, cache, Bm25::weight(f32_of(*boost), f32_of(*idf)))?;
+        weight_scores(out, cache, Bm25::weight(f32::of(*boost), f32::of(*idf)))?;
     }
     Ok(())
 }
 
 fn at_averages(out: &mut impl Write) -> io::Result<()> {
     for average in AVERAGES {
-        let bm25 = Bm25::new(f32_of(average));
+        let bm25 = Bm25::new(f32::of(average));
         print_inverses(out, &bm25.cache)?;
         print_scores(out, &bm25.cache)?;
     }
@@ -133,18 +144,16 @@ fn all_four_bits(out: &mut impl Write) -> io::Result<()> {
 // The code of a number, and the number that the code stands for.
 fn there_and_back(out: &mut impl Write, number: u64) -> io::Result<()> {
     let code = long_to_int4(number);
-    vectors::print_number(out, code)?;
+    write!(out, "{code} ")?;
     if code < 496 {
         write!(out, "{} ", int4_to_long(code))?;
     }
-    vectors::end_line(out)
+    writeln!(out)
 }
 
 // Numbers from a seed, of each length in turn.
 fn any_four_bits(out: &mut impl Write) -> io::Result<()> {
-    let mut x = 4;
-    for turn in 0..256u64 {
-        x = vectors::xorshift(x);
+    for (turn, x) in (0..256u64).zip(Sequence(4)) {
         there_and_back(out, x >> (turn % 64))?;
     }
     Ok(())

@@ -1,16 +1,9 @@
 // A file of little-endian words: the words, and the lists that a place in it names.
-ghost use Rattle.std.specs.Prelude.{◌≡◌, ◌≤◌, length, take, IfOk, MatchResult};
+ghost use Rattle.std.specs.Prelude.{◌≡◌, ◌<◌, ◌≤◌, length, take, get_or, IfOk, MatchResult};
 
 use std::io::Read;
 use std::rt::Files;
 use std::{fs, io};
-
-// A word's number as a length.
-pub fn size(x: u32) -> usize
-    ensures { result ≡ x }
-{
-    x as usize
-}
 
 // How many bytes of the file stand at the front of the buffer. One that cannot be opened is told of on standard error, and has none.
 pub fn read_bytes(rt: &(impl Files + Eprint), path: &str, bytes: &mut [u8]) -> io::Result<usize>
@@ -32,6 +25,8 @@ pub fn read_all(file: &mut impl Read, bytes: &mut [u8]) -> Result<usize, usize>
     ensures { MatchResult result (λ n. n ≤ length bytes.new) (λ n. n ≤ length bytes.new) }
 {
     let mut done = 0;
+
+    // Kept: no plainer: std has no read that fills a buffer and says how far it came before an error.
     while done < bytes.len() {
         match file.read(&mut bytes[done..]) {
             Ok(0) => break,
@@ -50,14 +45,6 @@ pub fn read_words(bytes: &[u8], words: &mut [u32]) {
     }
 }
 
-// The i-th word from a place on, 0 where the file has ended.
-pub fn word(file: &[u32], at: usize, i: usize) -> u32 {
-    file.get(at..)
-        .and_then(|case| case.get(i))
-        .copied()
-        .unwrap_or(0)
-}
-
 // The list that stands at `place`, its first word + 65,536 × its length; none where it isn't within the file.
 pub fn list(file: &[u32], place: u32) -> &[u32] {
     let first = (place % 65536) as usize;
@@ -65,9 +52,16 @@ pub fn list(file: &[u32], place: u32) -> &[u32] {
     file.get(first..end).unwrap_or(&[])
 }
 
-// The list whose place is the i-th word from a place on.
-pub fn list_at(file: &[u32], at: usize, i: usize) -> &[u32] {
-    list(file, word(file, at, i))
+// The records of N words that a file begins with, behind their number.
+pub fn records<const N: usize>(file: &[u32]) -> &[[u32; N]]
+    requires { 0 < N }
+    ensures { length result.now ≤ get_or file.now 0 0 }
+{
+    let Some((number, words)) = file.split_first() else {
+        return &[];
+    };
+    let (records, _) = words.as_chunks::<N>();
+    first(records, *number as usize)
 }
 
 // The bytes that stand at `place`, their first word + 65,536 × their number; none where they aren't within the file.

@@ -1,13 +1,12 @@
-// What the programs of vectors share: values from patterns, what a value or a list prints as, and numbers from a seed.
+// What the programs of vectors share: values from patterns, files of words, what values and answers print as, numbers from a seed.
 #![tactic(auto)]
 
 pub mod file;
 pub mod lists;
+pub mod numbers;
 pub mod print;
 
-ghost use Rattle.std.specs.Prelude.{◌≤◌};
-
-use print::{Code, Mark, Pattern};
+use print::{Code, Mark};
 use std::io;
 use std::io::Write;
 
@@ -70,26 +69,9 @@ impl Format for f64 {
     }
 }
 
-pub fn f64_of(bits: u64) -> f64 {
-    f64::of(bits)
-}
-
-pub fn f32_of(bits: u32) -> f32 {
-    f32::of(bits)
-}
-
 // A word's number as a u64.
 pub fn wide(x: u32) -> u64 {
     u64::from(x)
-}
-
-// The pattern, or `nan`, on a line of its own.
-pub fn print_f32(out: &mut impl Write, x: f32) -> io::Result<()> {
-    writeln!(out, "{}", Pattern(x))
-}
-
-pub fn print_f64(out: &mut impl Write, x: f64) -> io::Result<()> {
-    writeln!(out, "{}", Pattern(x))
 }
 
 // A number and a space.
@@ -98,6 +80,7 @@ pub fn print_number(out: &mut impl Write, n: u32) -> io::Result<()> {
 }
 
 // The count, its mark, and the codes of the best hits.
+// Kept: no plainer: `mark` is a part of the answer that is printed, no switch.
 pub fn print_hits(
     out: &mut impl Write,
     count: u64,
@@ -127,50 +110,6 @@ pub fn print_page(
     writeln!(out, "next {next}")
 }
 
-// A signed number.
-pub fn print_signed(out: &mut impl Write, n: i32) -> io::Result<()> {
-    write!(out, "{n}")
-}
-
 pub fn end_line(out: &mut impl Write) -> io::Result<()> {
     writeln!(out)
-}
-
-// The first n numbers of a list, or all of it, on one line.
-pub fn print_list(out: &mut impl Write, list: &[u32], n: u32) -> io::Result<()> {
-    for number in list.iter().take(n as usize) {
-        write!(out, "{number} ")?;
-    }
-    end_line(out)
-}
-
-// Marsaglia's xorshift: the next number of a sequence that began with one other than 0.
-pub fn xorshift(x: u64) -> u64 {
-    let a = x ^ (x << 13);
-    let b = a ^ (a >> 7);
-    b ^ (b << 17)
-}
-
-// The numbers of xorshift's sequence after one other than 0.
-#[derive(Clone, Copy)]
-pub struct Sequence(pub u64);
-
-impl Iterator for Sequence {
-    type Item = u64;
-
-    fn next(&mut self) -> Option<u64> {
-        self.0 = xorshift(self.0);
-        Some(self.0)
-    }
-}
-
-// What a number leaves, divided by `end`; 0 where that is 0.
-pub fn below(x: u64, end: u32) -> u32
-    ensures { result ≤ end }
-{
-    if end == 0 {
-        0
-    } else {
-        (x % u64::from(end)) as u32
-    }
 }

@@ -1,4 +1,4 @@
-// How the programs print a float, a code and a mark.
+// How the programs print a float, a code, a mark and a list.
 use crate::Format;
 use std::fmt;
 use std::fmt::{Display, Formatter};
@@ -36,5 +36,18 @@ pub struct Mark(pub bool);
 impl Display for Mark {
     fn fmt<W: fmt::Write>(&self, f: &mut Formatter<W>) -> fmt::Result {
         write!(f, "{}", if self.0 { '+' } else { '=' })
+    }
+}
+
+// The items of a list, a space behind each.
+#[derive(Clone, Copy)]
+pub struct List<'a, T>(pub &'a [T]);
+
+impl<T: Display> Display for List<'_, T> {
+    fn fmt<W: fmt::Write>(&self, f: &mut Formatter<W>) -> fmt::Result {
+        for item in self.0 {
+            write!(f, "{item} ")?;
+        }
+        Ok(())
     }
 }

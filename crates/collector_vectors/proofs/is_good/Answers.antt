@@ -1,10 +1,11 @@
 -- Each place is one more of `Seen`.
+use Rattle.std.proofs.Common.{arith}
 use Rattle.collector_vectors.proofs.Checks.{next-seen, all_seen}
 use Rattle.collector_vectors.proofs.is_good.Goals as goal
 
 pub loop-i-preserved : goal.loop-i-preserved
 loop-i-preserved c =
-    next-seen c.loop-i.invariant c.loop-i-test.true c.if-document-least.false c.if-document-ge2147483647.false c.if-scores-i-gt2139095040.false
+    next-seen c.loop-i.invariant (omega arith) c.if-document-least.false c.if-document-ge2147483647.false c.if-scores-i-gt2139095040.false
 
 pub returns : goal.returns
-returns c = λ e. all_seen c.loop-i.invariant c.loop-i-test.false
+returns c = λ e. all_seen c.loop-i.invariant (omega arith)

@@ -1,10 +1,6 @@
--- `collector_vectors::is_good` meets its contract: what its loop has seen is told by `Seen`.
+-- What its loop has seen is told by `Seen`.
 use Rattle.collector_vectors.proofs.Checks.{Seen}
-use Rattle.std.proofs.Common.{length, ◌-◌}
 use Rattle.collector_vectors.proofs.is_good.Given as goal
 
 abbrev pub invariant-loop-i : goal.invariant-loop-i
 invariant-loop-i l = Seen l.documents l.scores l.least l.i
-
-abbrev pub decreases-loop-i : goal.decreases-loop-i
-decreases-loop-i l = length l.documents - l.i

@@ -9,13 +9,13 @@ use Rattle.meaning.specs.Hits.{low_word}
 use Rattle.collector.proofs.Ranked.{code-low, code-number}
 use Rattle.collector_vectors.proofs.print_coded.Goals as goal
 
-pub to_doc-requires : goal.to_doc-requires
-to_doc-requires g c =
+pub to_doc-doc-requires : goal.to_doc-doc-requires
+to_doc-doc-requires g c =
     let encoded = to_z-of_z w64 c.encode-code.result (record { sfits = c.encode-code.type_inv }) ∙ c.encode-code.ensures in
     subst (λ (z : ℤ). low_word z ≤ no_more_docs) (sym encoded) (code-low (record { doc = c.args.document; score = c.args.score }))
 
-pub to_score-requires : goal.to_score-requires
-to_score-requires g c =
+pub to_score-back-requires : goal.to_score-back-requires
+to_score-back-requires g c =
     let encoded = to_z-of_z w64 c.encode-code.result (record { sfits = c.encode-code.type_inv }) ∙ c.encode-code.ensures in
     let fits-score = subst T (sym c.well_formed.1.0.1) tt in
     subst (λ (z : ℤ). T (not (nan_bits binary32 (sortable_bits (shr_z z (2 ^ 32)))))) (sym encoded)

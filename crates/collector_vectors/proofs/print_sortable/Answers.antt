@@ -7,8 +7,8 @@ use Rattle.meaning.specs.Ieee754.{sortable_bits}
 use Rattle.collector.proofs.Ranked.{sortable-back}
 use Rattle.collector_vectors.proofs.print_sortable.Goals as goal
 
-pub sortable_int_to_float-requires : goal.sortable_int_to_float-requires
-sortable_int_to_float-requires g c =
+pub sortable_int_to_float-back-requires : goal.sortable_int_to_float-back-requires
+sortable_int_to_float-back-requires g c =
     let int = c.float_to_sortable_int-int in
     let fits-score = subst T (sym c.well_formed.1.0.1) tt in
     let bits = to_bits binary32 c.args.score in

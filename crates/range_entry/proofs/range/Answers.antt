@@ -1,21 +1,18 @@
-use Rattle.std.proofs.Common.{◌≡◌, Result, Err, rules, ap₂, ℕ}
+use Rattle.std.proofs.Common.{◌≡◌, Result, Err, rules, ℕ}
 use Rattle.refusal.specs.declared.Refusal.{Refusal}
-use Rattle.meaning.specs.Range.{NumericRange}
+use Rattle.index.specs.Ranges.{asked}
+use Rattle.range_entry.specs.ColumnsOf.{columns_of}
 use Rattle.range_entry.proofs.RangeEntry.{range-right, refused-answer, refused-output, done-answer, done-output, done-kept}
 use Rattle.range_entry.proofs.range.Goals as goal
-
--- the ends are the joined halves
-abbrev range-of : ℕ → ℕ → ℕ → ℕ → NumericRange
-range-of column kinds lower upper = record { column = column; kinds = kinds; lower = lower; upper = upper }
 
 pub returns-in_err-range_refusal-clause-result_value : goal.returns-in_err-range_refusal-clause-result_value
 returns-in_err-range_refusal-clause-result_value c =
     let r : Result ℕ Refusal = Err c.in_err-range_refusal.field-0.0 in
     let e : c.from_residual.result ≡ r = search rules in
-    rw e (refused-answer _ _ _ (ap₂ (range-of c.args.column c.args.kinds) c.joined.ensures c.joined-2.ensures) _ _ _ c.in_err-range_refusal.ensures)
+    rw e (refused-answer _ _ _ _ _ c.in_err-range_refusal.ensures)
 
 pub returns-in_err-range_refusal-clause-output_after : goal.returns-in_err-range_refusal-clause-output_after
-returns-in_err-range_refusal-clause-output_after c = refused-output _ _ _ (ap₂ (range-of c.args.column c.args.kinds) c.joined.ensures c.joined-2.ensures) _ _ _ c.in_err-range_refusal.ensures
+returns-in_err-range_refusal-clause-output_after c = refused-output _ _ _ _ _ c.in_err-range_refusal.ensures
 
 pub range-requires-clause-values_value : goal.range-requires-clause-values_value
 range-requires-clause-values_value c = (range-right _ _ _ _ c.in_ok-range_refusal.ensures).documents
@@ -30,10 +27,10 @@ pub range-requires-clause-max_doc_in_bounds : goal.range-requires-clause-max_doc
 range-requires-clause-max_doc_in_bounds c = (range-right _ _ _ _ c.in_ok-range_refusal.ensures).room
 
 pub returns-clause-result_value : goal.returns-clause-result_value
-returns-clause-result_value c = done-answer _ _ _ (ap₂ (range-of c.args.column c.args.kinds) c.joined.ensures c.joined-2.ensures) c.args.work.now c.args.output.now c.in_ok-range_refusal.ensures _ c.range.ensures.value
+returns-clause-result_value c = done-answer (columns_of c.args.lent.now) (asked c.args.range) c.args.work.now c.args.output.now c.in_ok-range_refusal.ensures _ c.range.ensures.value
 
 pub returns-clause-output_after : goal.returns-clause-output_after
-returns-clause-output_after c = done-output _ _ _ (ap₂ (range-of c.args.column c.args.kinds) c.joined.ensures c.joined-2.ensures) c.args.work.now _ c.in_ok-range_refusal.ensures _ c.range.ensures.output_after
+returns-clause-output_after c = done-output (columns_of c.args.lent.now) (asked c.args.range) c.args.work.now _ c.in_ok-range_refusal.ensures _ c.range.ensures.output_after
 
 pub returns-clause-kept : goal.returns-clause-kept
-returns-clause-kept c = done-kept _ _ _ (ap₂ (range-of c.args.column c.args.kinds) c.joined.ensures c.joined-2.ensures) c.args.work.now c.args.output.now c.in_ok-range_refusal.ensures _
+returns-clause-kept c = done-kept (columns_of c.args.lent.now) (asked c.args.range) c.args.work.now c.args.output.now c.in_ok-range_refusal.ensures _

@@ -16,14 +16,14 @@ pub returns-then-wrong_range : goal.returns-then-wrong_range
 returns-then-wrong_range c =
     range-8 _ _ _ _ (sym (c.wrong_max_doc.ensures ∙ limit-alone _ _ _) ∙ c.if-wrong_max_doc.false) (sym c.wrong_columns.ensures ∙ c.if-wrong_columns.false) (sym (c.wrong_range.ensures ∙ wrong-by-columns _ _ _ _) ∙ c.if-wrong_range.true)
 
-pub returns-then-work-max_doc : goal.returns-then-work-max_doc
-returns-then-work-max_doc c =
-    range-work _ _ _ _ (sym (c.wrong_max_doc.ensures ∙ limit-alone _ _ _) ∙ c.if-wrong_max_doc.false) (sym c.wrong_columns.ensures ∙ c.if-wrong_columns.false) (sym (c.wrong_range.ensures ∙ wrong-by-columns _ _ _ _) ∙ c.if-wrong_range.false) c.if-work-max_doc.true
+pub returns-then-work-needed : goal.returns-then-work-needed
+returns-then-work-needed c =
+    range-work _ _ _ _ (sym (c.wrong_max_doc.ensures ∙ limit-alone _ _ _) ∙ c.if-wrong_max_doc.false) (sym c.wrong_columns.ensures ∙ c.if-wrong_columns.false) (sym (c.wrong_range.ensures ∙ wrong-by-columns _ _ _ _) ∙ c.if-wrong_range.false) c.if-work-needed.true
 
-pub returns-then-output-max_doc : goal.returns-then-output-max_doc
-returns-then-output-max_doc c =
-    range-output _ _ _ _ (sym (c.wrong_max_doc.ensures ∙ limit-alone _ _ _) ∙ c.if-wrong_max_doc.false) (sym c.wrong_columns.ensures ∙ c.if-wrong_columns.false) (sym (c.wrong_range.ensures ∙ wrong-by-columns _ _ _ _) ∙ c.if-wrong_range.false) c.if-output-max_doc.true
+pub returns-then-output-needed : goal.returns-then-output-needed
+returns-then-output-needed c =
+    range-output _ _ _ _ (sym (c.wrong_max_doc.ensures ∙ limit-alone _ _ _) ∙ c.if-wrong_max_doc.false) (sym c.wrong_columns.ensures ∙ c.if-wrong_columns.false) (sym (c.wrong_range.ensures ∙ wrong-by-columns _ _ _ _) ∙ c.if-wrong_range.false) c.if-output-needed.true
 
 pub returns : goal.returns
 returns c =
-    range-0 _ _ _ _ (sym (c.wrong_max_doc.ensures ∙ limit-alone _ _ _) ∙ c.if-wrong_max_doc.false) (sym c.wrong_columns.ensures ∙ c.if-wrong_columns.false) (sym (c.wrong_range.ensures ∙ wrong-by-columns _ _ _ _) ∙ c.if-wrong_range.false) c.if-work-max_doc.false c.if-output-max_doc.false
+    range-0 _ _ _ _ (sym (c.wrong_max_doc.ensures ∙ limit-alone _ _ _) ∙ c.if-wrong_max_doc.false) (sym c.wrong_columns.ensures ∙ c.if-wrong_columns.false) (sym (c.wrong_range.ensures ∙ wrong-by-columns _ _ _ _) ∙ c.if-wrong_range.false) c.if-work-needed.false c.if-output-needed.false

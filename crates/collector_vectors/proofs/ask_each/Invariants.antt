@@ -1,6 +1,0 @@
--- Its loop counts up to a number.
-use Rattle.std.proofs.Common.{◌-◌}
-use Rattle.collector_vectors.proofs.ask_each.Given as goal
-
-abbrev pub decreases-loop-i : goal.decreases-loop-i
-decreases-loop-i g l = l.times - l.i

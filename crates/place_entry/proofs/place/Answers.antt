@@ -1,0 +1,38 @@
+-- Refused, or what the work finds.
+use Rattle.std.proofs.Common.{◌≡◌, Ok, Err, rules}
+use Rattle.index.specs.IndexOf.{index_of}
+use Rattle.order_check.proofs.Answered.{answered, number-told}
+use Rattle.place_entry.proofs.PlaceEntry.{place-refused, place-lends, place-given, place-not-refused}
+use Rattle.place_entry.proofs.place.Goals as goal
+
+pub returns-in_err-place_refusal-clause-place_answer : goal.returns-in_err-place_refusal-clause-place_answer
+returns-in_err-place_refusal-clause-place_answer c =
+    let a = c.args in
+    let s = c.in_err-place_refusal.field-0.0 in
+    let e : c.place_refusal.result ≡ Err s = search rules in
+    let f : c.from_residual.result ≡ Err s = search rules in
+    place-refused (index_of a.lent.now) a.q.now a.record_number a.document _ _ s _ f (number-told _ s _ e c.place_refusal.ensures)
+
+pub locate-start-requires : goal.locate-start-requires
+locate-start-requires c =
+    let a = c.args in
+    let e : c.place_refusal.result ≡ Ok c.in_ok-place_refusal.field-0 = search rules in
+    place-lends (index_of a.lent.now) a.q.now a.record_number a.document _ _ _ c.place_refusal.ensures (answered _ c.in_ok-place_refusal.field-0 e) _ (search rules)
+
+pub returns-clause-place_answer : goal.returns-clause-place_answer
+returns-clause-place_answer c =
+    let a = c.args in
+    let e : c.place_refusal.result ≡ Ok c.in_ok-place_refusal.field-0 = search rules in
+    place-given (index_of a.lent.now) a.q.now a.record_number a.document _ _ _ c.place_refusal.ensures (answered _ c.in_ok-place_refusal.field-0 e) c.locate-start.result c.locate-start.ensures
+
+pub returns-clause-kept : goal.returns-clause-kept
+returns-clause-kept c = λ h.
+    let a = c.args in
+    let e : c.place_refusal.result ≡ Ok c.in_ok-place_refusal.field-0 = search rules in
+    absurd (place-not-refused (index_of a.lent.now) a.q.now a.record_number a.document _ _ _ c.place_refusal.ensures (answered _ c.in_ok-place_refusal.field-0 e) h)
+
+pub returns-clause-kept_2 : goal.returns-clause-kept_2
+returns-clause-kept_2 c = λ h.
+    let a = c.args in
+    let e : c.place_refusal.result ≡ Ok c.in_ok-place_refusal.field-0 = search rules in
+    absurd (place-not-refused (index_of a.lent.now) a.q.now a.record_number a.document _ _ _ c.place_refusal.ensures (answered _ c.in_ok-place_refusal.field-0 e) h)
