@@ -4,6 +4,7 @@
 
 use index::lent::Lent;
 use place_entry::Placed;
+use searcher::buffers::Buffers;
 use std::io;
 use std::io::Write;
 use weight::NODE_STATE_WORDS;
@@ -103,18 +104,13 @@ fn search_all(out: &mut impl Write, k: u32) -> io::Result<()> {
         columns: &no_words,
         values: &no_words,
     };
-    let found = searcher::search::search(
-        &lent,
-        &MATCH_ALL,
-        k,
-        10,
-        &mut states,
-        &mut starts,
-        &mut other_starts,
-        &mut ranges,
-        &mut hits,
-    );
-    match found {
+    let mut buffers = Buffers {
+        states: &mut states,
+        starts: &mut starts,
+        other_starts: &mut other_starts,
+        ranges: &mut ranges,
+    };
+    match searcher::search::search(&lent, &MATCH_ALL, k, 10, &mut buffers, &mut hits) {
         Err(refusal) => print_refused(out, refusal.number()),
         Ok(top) => print_found(out, top, &hits),
     }
@@ -164,14 +160,17 @@ fn page_all(out: &mut impl Write, target: u32) -> io::Result<()> {
         columns: &no_words,
         values: &no_words,
     };
+    let mut buffers = Buffers {
+        states: &mut states,
+        starts: &mut starts,
+        other_starts: &mut other_starts,
+        ranges: &mut ranges,
+    };
     let paged = searcher::page::page(
         &lent,
         &MATCH_ALL,
         target,
-        &mut states,
-        &mut starts,
-        &mut other_starts,
-        &mut ranges,
+        &mut buffers,
         &mut documents,
         &mut scores,
     );

@@ -44,6 +44,5 @@ fn main(rt: HostRuntime) -> std::io::Result<()> {
         query: read_file(&rt, "query.rec", &mut query),
     };
     let mut out = [0u8; 32768];
-    let n = report::report(files, &mut out);
-    std::io::writer(&rt).write_all(&out[..n])
+    std::io::writer(&rt).write_all(report::report(files, &mut out))
 }

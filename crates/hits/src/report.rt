@@ -1,54 +1,52 @@
 // The text of the ten files.
-ghost use Rattle.std.specs.Prelude.{◌≡◌, ◌≤◌, length, take};
-ghost use Rattle.io.specs.Counts.{IsPrefixLen};
+ghost use Rattle.std.specs.Prelude.{◌≡◌, ◌≤◌, length};
 ghost use Rattle.index.specs.IndexOf.{index_of};
 ghost use Rattle.hits.specs.Text.{search_text, hits_text};
 ghost use Rattle.hits_text.specs.Contents.{files_of};
-ghost use Rattle.hits_text.specs.Puts.{Put};
 
 use hits_text::files::{Contents, taken};
 use hits_text::hit::{put_found, put_refused};
 use hits_text::words::{read_longs, read_words, word_at};
 use index::lent::Lent;
+use searcher::buffers::Buffers;
 use weight::NODE_STATE_WORDS;
 
 // Searches with the program's own buffers.
-fn answer(index: Lent, query: &[u32], k: u32, t: u32, out: &mut [u8]) -> usize
+fn answer<'a>(index: Lent, query: &[u32], k: u32, t: u32, out: &'a mut [u8]) -> &'a [u8]
     requires { 32768 ≤ length out.old }
-    ensures { Put out.old 0 (search_text (index_of index.entry) query.now k t) result out.new }
+    ensures { result.now ≡ search_text (index_of index.entry) query.now k t }
 {
     let mut states = [0u32; 256 * NODE_STATE_WORDS];
     let mut starts = [0i32; 16384];
     let mut other_starts = [0i32; 16384];
     let mut ranges = [0u32; 16384];
     let mut hits = [0i64; 1024];
-    let found = searcher::search::search(
-        &index,
-        query,
-        k,
-        t,
-        &mut states,
-        &mut starts,
-        &mut other_starts,
-        &mut ranges,
-        &mut hits,
-    );
-    match found {
-        Err(refusal) => put_refused(refusal.number(), out),
+    let mut buffers = Buffers {
+        states: &mut states,
+        starts: &mut starts,
+        other_starts: &mut other_starts,
+        ranges: &mut ranges,
+    };
+    match searcher::search::search(&index, query, k, t, &mut buffers, &mut hits) {
+        Err(refusal) => {
+            let end = put_refused(refusal.number(), out);
+            &out[..end]
+        }
         Ok(top) => {
             let held = top.held as usize;
-            put_found(top.count, top.mark, &hits[..held], out)
+            let end = put_found(top.count, top.mark, &hits[..held], out);
+            &out[..end]
         }
     }
 }
 
 // What the program prints for the bytes that it read of each file.
-pub fn report(files: Contents, out: &mut [u8; 32768]) -> usize
-    ensures prefix_len { IsPrefixLen result out.new }
-    ensures out_after { take result out.new ≡ hits_text (files_of files.entry) }
+pub fn report<'a>(files: Contents, out: &'a mut [u8; 32768]) -> &'a [u8]
+    ensures { result.now ≡ hits_text (files_of files.entry) }
 {
     if !taken(files) {
-        return put_refused(0, out);
+        let end = put_refused(0, out);
+        return &out[..end];
     }
     let mut fields = [0u32; 16384];
     let mut leaves = [0u32; 16384];

@@ -1,7 +1,7 @@
 -- Files that are not taken are refused, and the words of the others are searched.
 use Rattle.std.proofs.Common.{ℕ, ◌/◌, ◌≤◌, sym, ◌∙◌, arith}
 use Rattle.hits_text.specs.Contents.{files_of}
-use Rattle.hits_text.proofs.Putting.{put_front}
+use Rattle.hits_text.proofs.Putting.{put_front, put-room}
 use Rattle.hits.proofs.Taken.{sizes-of, refused-files, taken-files}
 use Rattle.hits.proofs.report.report.Goals as goal
 
@@ -9,9 +9,12 @@ use Rattle.hits.proofs.report.report.Goals as goal
 quarter : (n : ℕ) → n ≤ 65536 → n / 4 ≤ 16384
 quarter n h = omega arith
 
-pub returns-then-not-taken-clause-out_after : goal.returns-then-not-taken-clause-out_after
-returns-then-not-taken-clause-out_after c =
-    put_front c.args.out.now _ c.put_refused.result c.put_refused.new.out c.put_refused.ensures
+pub slice_bounds-returns-end : goal.slice_bounds-returns-end
+slice_bounds-returns-end c = put-room c.args.out.now _ c.put_refused-end.result c.put_refused-end.new.out c.put_refused-end.ensures
+
+pub returns-then-not-taken : goal.returns-then-not-taken
+returns-then-not-taken c =
+    put_front c.args.out.now _ c.put_refused-end.result c.put_refused-end.new.out c.put_refused-end.ensures
     ∙ refused-files (files_of c.args.files) (sym c.taken.ensures ∙ c.if-not-taken.true)
 
 pub read_words-a-requires : goal.read_words-a-requires
@@ -47,9 +50,9 @@ word_at-k-requires c = let s = sizes-of _ (sym c.taken.ensures ∙ c.if-not-take
 pub word_at-t-requires : goal.word_at-t-requires
 word_at-t-requires c = let s = sizes-of _ (sym c.taken.ensures ∙ c.if-not-taken.false) in omega (arith, s.run)
 
-pub returns-clause-out_after : goal.returns-clause-out_after
-returns-clause-out_after c =
+pub returns : goal.returns
+returns c =
     let a = c.args.files in
     let text =
     taken-files a.run.now a.fields.now a.leaves.now a.postings.now a.positions.now a.norms.now a.live.now a.columns.now a.values.now a.query.now (sym c.taken.ensures ∙ c.if-not-taken.false) c.word_at.result c.word_at-k.result c.word_at-t.result _ _ _ _ _ _ _ _ c.word_at.ensures c.word_at-k.ensures c.word_at-t.ensures c.read_words-a.ensures.words_after c.read_words-b.ensures.words_after c.read_words-c.ensures.words_after c.read_words-d.ensures.words_after c.read_longs-e.ensures.words_after c.read_words-f.ensures.words_after c.read_words-g.ensures.words_after c.read_words-h.ensures.words_after in
-    c.answer.ensures.holds ∙ text
+    c.answer.ensures ∙ text
