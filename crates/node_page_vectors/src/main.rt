@@ -130,14 +130,7 @@ fn next_page(
 fn page_by_words(lent: &Lent, query: &[u32], target: u32, buffers: &mut Buffers<'_>) -> Page {
     let mut documents = [0u32; 1];
     let mut scores = [0u32; 1];
-    let listed = searcher::page::page(
-        lent,
-        query,
-        target,
-        buffers,
-        &mut documents,
-        &mut scores,
-    );
+    let listed = searcher::page::page(lent, query, target, buffers, &mut documents, &mut scores);
     Page {
         listed,
         documents,

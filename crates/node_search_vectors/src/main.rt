@@ -162,7 +162,11 @@ fn compare(out: &mut impl Write, query: &[u32], k: u32, t: u32) -> io::Result<()
     let by_records = with_records(query, k, t, &mut nodes, &mut more);
     if by_records.is_err() {
         let kept = nodes == [RUBBISH; 8];
-        writeln!(out, "records {}", if kept { "as they were" } else { "changed" })?;
+        writeln!(
+            out,
+            "records {}",
+            if kept { "as they were" } else { "changed" }
+        )?;
     }
     print_answer(out, by_words, &hits)?;
     print_answer(out, by_records, &more)?;

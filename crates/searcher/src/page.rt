@@ -1,12 +1,13 @@
 // Page: the first live documents at or after a target that an order takes, with their scores, and the next one.
-ghost use Rattle.std.specs.Prelude.{◌≡◌, false, ℕ, ◌≤◌, length};
+ghost use Rattle.std.specs.Prelude.{◌≡◌, false, ℕ, ◌≤◌, length, min};
 ghost use Rattle.meaning.specs.CallRefusals.{work_short};
 ghost use Rattle.meaning.specs.Entries.{page_of, page_refusal, page_answer, page_documents, page_scores};
 ghost use Rattle.index.specs.IndexOf.{index_of};
 ghost use Rattle.weight.specs.Measured.{Asks};
-ghost use Rattle.walk.specs.Walks.{PageIs};
+ghost use Rattle.walk.specs.Walks.{PageIs, ListPre, ListPost};
 ghost use Rattle.inverses.specs.Inverses.{FieldTables};
 ghost use Rattle.node_state.specs.Standing.{Standing};
+ghost use Rattle.scorer.specs.Calls.{lent as lent_words};
 ghost use Rattle.searcher.specs.Answers.{paged_numbers};
 ghost use Rattle.searcher.specs.WorkBuffers.{lengths_of, KeptBuffers, SameBuffers};
 
@@ -15,6 +16,43 @@ use index::lent::Lent;
 use leaf_scorer::LeafReader;
 use refusal::Refusal;
 use walk::Listed;
+
+// The live matches of the tree from a document on.
+// Kept: slices and no `Buffers`: with the reader over a field's slice in `list_by`, `search` doesn't find that the field ends as it was.
+fn list_tree(
+    lent: &Lent,
+    inverses: &[f32],
+    from: u32,
+    tree: &mut [u32],
+    starts: &mut [i32],
+    other_starts: &mut [i32],
+    ranges: &[u32],
+    documents: &mut [u32],
+    scores: &mut [u32],
+) -> Listed
+    requires { ListPre (lent_words lent.now.max_doc lent.now.postings.now lent.now.positions.now ranges.now) lent.now.norms.now lent.now.live.now inverses.now (min (length starts.old) (length other_starts.old)) tree.old from 16 documents.old scores.old }
+    ensures { ListPost (lent_words lent.now.max_doc lent.now.postings.now lent.now.positions.now ranges.now) lent.now.norms.now lent.now.live.now inverses.now (min (length starts.old) (length other_starts.old)) tree.old from 16 documents.old scores.old result tree.new documents.new scores.new }
+{
+    let reader = LeafReader {
+        max_doc: lent.max_doc,
+        postings: lent.postings,
+        positions: lent.positions,
+        norms: lent.norms,
+        ranges,
+        live: lent.live,
+    };
+    walk::list(
+        tree,
+        &reader,
+        inverses,
+        starts,
+        other_starts,
+        from,
+        16,
+        documents,
+        scores,
+    )
+}
 
 // The page of the walk that goes on from the tree in the node states, over the inverses of the order's fields.
 fn list_by(
@@ -36,22 +74,14 @@ fn list_by(
 {
     let size = buffers.states[1] as usize;
     let ranges = &mut *buffers.ranges;
-    let reader = LeafReader {
-        max_doc: lent.max_doc,
-        postings: lent.postings,
-        positions: lent.positions,
-        norms: lent.norms,
-        ranges,
-        live: lent.live,
-    };
-    walk::list(
-        &mut buffers.states[..size],
-        &reader,
+    list_tree(
+        lent,
         inverses,
+        target, // where the walk begins
+        &mut buffers.states[..size],
         buffers.starts,
         buffers.other_starts,
-        target, // where the walk begins
-        16,
+        ranges,
         documents,
         scores,
     )

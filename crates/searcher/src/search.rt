@@ -1,5 +1,5 @@
 // Search: the best k of the live documents that an order takes, their count, and the mark.
-ghost use Rattle.std.specs.Prelude.{◌≡◌, ℕ, ◌≤◌, ◌<◌, false, length};
+ghost use Rattle.std.specs.Prelude.{◌≡◌, ℕ, ◌≤◌, ◌<◌, false, length, min};
 ghost use Rattle.meaning.specs.Limits.{max_hits, no_more_docs};
 ghost use Rattle.meaning.specs.Query.{query_tree};
 ghost use Rattle.meaning.specs.FullList.{full_list};
@@ -11,6 +11,8 @@ ghost use Rattle.collector.specs.Collected.{answer};
 ghost use Rattle.weight.specs.Measured.{Asks};
 ghost use Rattle.inverses.specs.Inverses.{FieldTables};
 ghost use Rattle.node_state.specs.Standing.{Standing};
+ghost use Rattle.scorer.specs.Calls.{lent as lent_words};
+ghost use Rattle.bulk_scorer.specs.Collects.{CollectPre, CollectPost, CollectEnd};
 ghost use Rattle.searcher.specs.Answers.{searched_numbers};
 ghost use Rattle.searcher.specs.WorkBuffers.{lengths_of, KeptBuffers, SameBuffers};
 
@@ -19,6 +21,43 @@ use collector::{TopDocs, TopScoreDocCollector};
 use index::lent::Lent;
 use leaf_scorer::LeafReader;
 use refusal::Refusal;
+
+// The live documents that the tree matches to the collector.
+// Kept: slices and no `Buffers`: with the reader over a field's slice in `find_by`, `search` doesn't find that the field ends as it was.
+fn collect(
+    lent: &Lent,
+    inverses: &[f32],
+    tree: &mut [u32],
+    starts: &mut [i32],
+    other_starts: &mut [i32],
+    ranges: &[u32],
+    collector: TopScoreDocCollector,
+    heap: &mut [i64],
+) -> TopScoreDocCollector
+    requires { CollectPre (lent_words lent.now.max_doc lent.now.postings.now lent.now.positions.now ranges.now) lent.now.norms.now lent.now.live.now inverses.now (min (length starts.old) (length other_starts.old)) tree.old 16 0 collector heap.old }
+    ensures collect_post { CollectPost (lent_words lent.now.max_doc lent.now.postings.now lent.now.positions.now ranges.now) lent.now.norms.now lent.now.live.now inverses.now (min (length starts.old) (length other_starts.old)) tree.old 16 0 collector heap.old result heap.new }
+    ensures collect_end { CollectEnd (lent_words lent.now.max_doc lent.now.postings.now lent.now.positions.now ranges.now) lent.now.norms.now lent.now.live.now inverses.now (min (length starts.old) (length other_starts.old)) tree.old 16 tree.new }
+{
+    let reader = LeafReader {
+        max_doc: lent.max_doc,
+        postings: lent.postings,
+        positions: lent.positions,
+        norms: lent.norms,
+        ranges,
+        live: lent.live,
+    };
+    bulk::collect_matches(
+        tree,
+        &reader,
+        inverses,
+        starts,
+        other_starts,
+        16,
+        0, // one index: its documents keep their numbers
+        collector,
+        heap,
+    )
+}
 
 // The work of a call that is not refused, over the inverses of the order's fields, with a place for each of k hits.
 fn find_by(
@@ -39,22 +78,13 @@ fn find_by(
 {
     let size = build_tree(lent, query, buffers);
     let ranges = &mut *buffers.ranges;
-    let reader = LeafReader {
-        max_doc: lent.max_doc,
-        postings: lent.postings,
-        positions: lent.positions,
-        norms: lent.norms,
-        ranges,
-        live: lent.live,
-    };
-    let collector = bulk::collect_matches(
-        &mut buffers.states[..size],
-        &reader,
+    let collector = collect(
+        lent,
         inverses,
+        &mut buffers.states[..size],
         buffers.starts,
         buffers.other_starts,
-        16,
-        0, // one index: its documents keep their numbers
+        ranges,
         TopScoreDocCollector::new(t),
         heap,
     );

@@ -7,5 +7,5 @@ use Rattle.node_state.specs.Standing.{Standing}
 use Rattle.node_page_vectors.specs.Next.{next_of}
 use Rattle.node_page_vectors.proofs.page_through.Given as goal
 
-abbrev pub invariant-loop-page : goal.invariant-loop-page
-invariant-loop-page g l = (next_of l.page.listed ≡ no_more_docs → ⊥) → Standing (index_of l.lent) l.query l.ranges (record_words l.nodes) (next_of l.page.listed)
+abbrev pub invariant-loop : goal.invariant-loop
+invariant-loop g l = (next_of l.page.listed ≡ no_more_docs → ⊥) → Standing (index_of l.lent) l.query l.ranges (record_words l.nodes) (next_of l.page.listed)

@@ -2,7 +2,7 @@
 use Rattle.std.proofs.Common.{refl, sym, ◌∙◌}
 use lib.Seq.{length-take-le}
 use Rattle.index.specs.IndexOf.{index_of}
-use Rattle.hits_text.proofs.Putting.{put_front, put-room}
+use Rattle.hits_text.proofs.Putting.{put_front, put-long}
 use Rattle.hits.proofs.Answering.{refused-text, found-text}
 use Rattle.hits.proofs.report.answer.Goals as goal
 
@@ -17,8 +17,8 @@ slice_bounds-put_found-end c =
     let shown = found-text index c.args.query.now c.args.k c.args.t _ _ refl refl _ c.in-Ok.top _ _ refl c.in-Ok.is c.search.ensures.result_value c.search.ensures.hits_after in
     sym (length-take-le _ _ shown.few)
 
-pub slice_bounds-end : goal.slice_bounds-end
-slice_bounds-end c = put-room c.args.out.now _ c.put_refused-end.result c.put_refused-end.new.out c.put_refused-end.ensures
+pub slice_bounds-result-end : goal.slice_bounds-result-end
+slice_bounds-result-end c = put-long c.args.out.now _ c.put_refused-end.result c.put_refused-end.new.out c.put_refused-end.ensures
 
 pub returns-in-Err : goal.returns-in-Err
 returns-in-Err c =

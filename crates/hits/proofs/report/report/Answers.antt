@@ -1,7 +1,7 @@
 -- Files that are not taken are refused, and the words of the others are searched.
 use Rattle.std.proofs.Common.{ℕ, ◌/◌, ◌≤◌, sym, ◌∙◌, arith}
 use Rattle.hits_text.specs.Contents.{files_of}
-use Rattle.hits_text.proofs.Putting.{put_front, put-room}
+use Rattle.hits_text.proofs.Putting.{put_front, put-long}
 use Rattle.hits.proofs.Taken.{sizes-of, refused-files, taken-files}
 use Rattle.hits.proofs.report.report.Goals as goal
 
@@ -9,8 +9,8 @@ use Rattle.hits.proofs.report.report.Goals as goal
 quarter : (n : ℕ) → n ≤ 65536 → n / 4 ≤ 16384
 quarter n h = omega arith
 
-pub slice_bounds-returns-end : goal.slice_bounds-returns-end
-slice_bounds-returns-end c = put-room c.args.out.now _ c.put_refused-end.result c.put_refused-end.new.out c.put_refused-end.ensures
+pub slice_bounds-result-end : goal.slice_bounds-result-end
+slice_bounds-result-end c = put-long c.args.out.now _ c.put_refused-end.result c.put_refused-end.new.out c.put_refused-end.ensures
 
 pub returns-then-not-taken : goal.returns-then-not-taken
 returns-then-not-taken c =
