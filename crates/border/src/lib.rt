@@ -17,8 +17,8 @@ ghost use Rattle.border.specs.Border.{short_answer, border_search, border_page, 
 
 use collector::TopDocs;
 use index::lent::Lent;
-use order_check::Work;
 use refusal::Refusal;
+use searcher::buffers::Buffers;
 
 // A slice for the answer that is too short is a buffer too short.
 fn short_answer(answer: Result<(), Refusal>) -> u32
@@ -79,16 +79,17 @@ pub fn lot_search(
         columns,
         values,
     };
+    let mut buffers = Buffers {
+        states,
+        starts: a,
+        other_starts: b,
+        ranges,
+    };
     if answer.len() < 3 {
-        let work = Work {
-            states: states.len(),
-            starts: a.len(),
-            other_starts: b.len(),
-            ranges: ranges.len(),
-        };
+        let work = buffers.lengths();
         return short_answer(order_check::search_refusal(&lent, q, k, work, hits.len()));
     }
-    match searcher::search::search(&lent, q, k, t, states, a, b, ranges, hits) {
+    match searcher::search::search(&lent, q, k, t, &mut buffers, hits) {
         Err(refusal) => refusal.number(),
         Ok(top) => {
             write_top_docs(top, answer);
@@ -137,13 +138,14 @@ pub fn lot_page(
         columns,
         values,
     };
+    let mut buffers = Buffers {
+        states,
+        starts: a,
+        other_starts: b,
+        ranges,
+    };
     if answer.len() < 2 {
-        let work = Work {
-            states: states.len(),
-            starts: a.len(),
-            other_starts: b.len(),
-            ranges: ranges.len(),
-        };
+        let work = buffers.lengths();
         return short_answer(order_check::page_refusal(
             &lent,
             q,
@@ -153,7 +155,7 @@ pub fn lot_page(
             scores.len(),
         ));
     }
-    match searcher::page::page(&lent, q, target, states, a, b, ranges, documents, scores) {
+    match searcher::page::page(&lent, q, target, &mut buffers, documents, scores) {
         Err(refusal) => refusal.number(),
         Ok(listed) => {
             answer[0] = listed.given as u64;

@@ -6,6 +6,7 @@ use collector::TopDocs;
 use index::columns::NumericRange;
 use index::lent::Lent;
 use range_entry::Columns;
+use searcher::buffers::Buffers;
 use std::io;
 use std::io::Write;
 use vectors::file::first;
@@ -92,18 +93,13 @@ fn search_all(out: &mut impl Write, k: u32) -> io::Result<()> {
         max_doc: 3,
         ..EMPTY
     };
-    let found = searcher::search::search(
-        &lent,
-        &MATCH_ALL,
-        k,
-        10,
-        &mut states,
-        &mut starts,
-        &mut other_starts,
-        &mut ranges,
-        &mut hits,
-    );
-    match found {
+    let mut buffers = Buffers {
+        states: &mut states,
+        starts: &mut starts,
+        other_starts: &mut other_starts,
+        ranges: &mut ranges,
+    };
+    match searcher::search::search(&lent, &MATCH_ALL, k, 10, &mut buffers, &mut hits) {
         Err(refusal) => writeln!(out, "refused {refusal}"),
         Ok(top) => print_found(out, top, &hits),
     }
@@ -134,14 +130,17 @@ fn page_all(out: &mut impl Write, target: u32) -> io::Result<()> {
         max_doc: 3,
         ..EMPTY
     };
+    let mut buffers = Buffers {
+        states: &mut states,
+        starts: &mut starts,
+        other_starts: &mut other_starts,
+        ranges: &mut ranges,
+    };
     let paged = searcher::page::page(
         &lent,
         &MATCH_ALL,
         target,
-        &mut states,
-        &mut starts,
-        &mut other_starts,
-        &mut ranges,
+        &mut buffers,
         &mut documents,
         &mut scores,
     );

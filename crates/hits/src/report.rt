@@ -9,6 +9,7 @@ use hits_text::hit::{found, refused};
 use hits_text::text::Text;
 use hits_text::words::{read_longs, read_words, word_at};
 use index::lent::Lent;
+use searcher::buffers::Buffers;
 use weight::NODE_STATE_WORDS;
 
 // Searches with the program's own buffers.
@@ -20,17 +21,13 @@ fn answer(index: Lent, query: &[u32], k: u32, t: u32) -> Text
     let mut other_starts = [0i32; 16384];
     let mut ranges = [0u32; 16384];
     let mut hits = [0i64; 1024];
-    let found_hits = searcher::search::search(
-        &index,
-        query,
-        k,
-        t,
-        &mut states,
-        &mut starts,
-        &mut other_starts,
-        &mut ranges,
-        &mut hits,
-    );
+    let mut buffers = Buffers {
+        states: &mut states,
+        starts: &mut starts,
+        other_starts: &mut other_starts,
+        ranges: &mut ranges,
+    };
+    let found_hits = searcher::search::search(&index, query, k, t, &mut buffers, &mut hits);
     match found_hits {
         Err(refusal) => refused(refusal.number()),
         Ok(top) => {

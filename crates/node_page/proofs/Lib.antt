@@ -1,4 +1,2 @@
 -- The plain mathematics of this crate's proofs.
-pub mod Trees
-pub mod Calls
 pub mod Records

@@ -1,17 +1,14 @@
 -- What Page gives on node states as words, and on their records. Assumes nothing: these are definitions.
-use Rattle.std.specs.Prelude.{◌≡◌, Bool, true, List, ℕ, ◌*◌, ◌≤◌, length, ℤ, Result}
+use Rattle.std.specs.Prelude.{◌≡◌, List, ℕ, ◌*◌, length, ℤ, Result}
 use Rattle.meaning.specs.Limits.{node_state_words}
 use Rattle.meaning.specs.Lent.{Index}
-use Rattle.meaning.specs.CallRefusals.{Work, states_needed, starts_needed, ranges_needed}
+use Rattle.meaning.specs.CallRefusals.{Work}
 use Rattle.meaning.specs.Entries.{Kept, page_of, page_refusal, page_answer, page_documents, page_scores}
-use Rattle.weight.specs.Measured.{Asks, Columns}
-use Rattle.weight.specs.State.{size_of}
-use Rattle.node_words.specs.Placed.{LeafLent}
 use Rattle.order_check.specs.Lends.{work}
 use Rattle.walk.specs.declared.Listed.{Listed}
 use Rattle.refusal.specs.declared.Refusal.{Refusal}
 use Rattle.searcher.specs.Answers.{paged_numbers}
-use Rattle.node_state.specs.Standing.{Standing, tree_of}
+use Rattle.node_state.specs.Standing.{Standing}
 
 -- the work buffers of a call, with so many records of node states
 abbrev pub work_of : ℕ → List ℤ → List ℤ → List ℕ → Work
@@ -29,25 +26,3 @@ pub record Pages (ix : Index) (q : List ℕ) (target : ℕ) (w : Work) (document
   pub other-starts-kept : Kept (page_refusal ix q target w (length documents) (length scores)) b b'
   pub ranges-kept : Kept (page_refusal ix q target w (length documents) (length scores)) ranges ranges'
   pub standing : page_refusal ix q target w (length documents) (length scores) ≡ 0 → Standing ix q ranges' words' (page_of ix q target (length documents)).next
-
--- an order that is not refused, whose tree is to stand in these words, or stands there
-pub record TreeAsked (ix : Index) (n : ℕ) (fields leaves columns values q : List ℕ) (resume : Bool) (words ranges : List ℕ) (from : ℕ) : Type 0 where
-  pub asks : Asks ix q
-  pub leaves-lent : LeafLent ix n fields leaves
-  pub columns-lent : Columns ix n columns values
-  pub states-room : states_needed q ≤ length words
-  pub ranges-room : ranges_needed ix q ≤ length ranges
-  pub standing : resume ≡ true → Standing ix q ranges words from
-
--- such an order, whose tree of this size stands in these words; phrase buffers of so many places
-pub record ListAsked (ix : Index) (n : ℕ) (fields leaves postings positions norms live q ranges words : List ℕ) (places size target : ℕ) : Type 0 where
-  pub asks : Asks ix q
-  pub leaves-lent : LeafLent ix n fields leaves
-  pub postings-are : ix.postings ≡ postings
-  pub positions-are : ix.positions ≡ positions
-  pub norms-are : ix.norms ≡ norms
-  pub live-are : ix.live ≡ live
-  pub starts-room : starts_needed ix q ≤ places
-  pub target-within : target ≤ ix.max_doc
-  pub size_is : size ≡ size_of (tree_of ix q)
-  pub standing : Standing ix q ranges words target

@@ -1,137 +1,74 @@
-// Page over node states as records: their words are copied out, the walk goes on from them, and the records are read back.
+// Page over node states as records: the word form runs on the words of a local array, and the records are read from them.
 #![tactic(auto)]
 
-ghost use Rattle.std.specs.Prelude.{◌≡◌, true, ℕ, ◌≤◌, ◌<◌, ◌*◌, ◌^◌, min, length};
-ghost use Rattle.meaning.specs.Lent.{Index};
-ghost use Rattle.meaning.specs.Limits.{node_state_words, max_records};
-ghost use Rattle.meaning.specs.Entries.{Kept, page_of};
+ghost use Rattle.std.specs.Prelude.{◌≡◌, length};
+ghost use Rattle.meaning.specs.Entries.{Kept, page_refusal};
 ghost use Rattle.index.specs.IndexOf.{index_of};
-ghost use Rattle.walk.specs.Walks.{PageIs};
-ghost use Rattle.weight.specs.State.{size_of};
+ghost use Rattle.order_check.specs.Lends.{work};
 ghost use Rattle.node_state.specs.Records.{record_words};
-ghost use Rattle.node_state.specs.Standing.{Standing, tree_of};
-ghost use Rattle.node_page.specs.Pages.{Pages, refusal_of, work_of, TreeAsked, ListAsked};
+ghost use Rattle.node_state.specs.Standing.{Standing};
+ghost use Rattle.node_page.specs.Pages.{Pages, refusal_of, work_of};
 
 use index::lent::Lent;
-use leaf_scorer::LeafReader;
 use node_state::NodeState;
-use order_check::Work;
 use refusal::Refusal;
+use searcher::buffers::Buffers;
 use searcher::used;
 use walk::Listed;
 use weight::NODE_STATE_WORDS;
 
-fn wide(x: u32) -> usize
-    ensures { result ≡ x }
-{
-    x as usize
-}
-
-// The tree of an order in the first words, unless it stands there already; how many words it takes.
-fn stand(lent: &Lent, query: &[u32], resume: bool, words: &mut [u32], ranges: &mut [u32]) -> usize
-    requires { (ix : Index) × (from : ℕ) × TreeAsked ix lent.now.max_doc lent.now.fields.now lent.now.leaves.now lent.now.columns.now lent.now.values.now query.now resume words.old ranges.old from }
-    ensures value { (ix : Index) (from : ℕ) → TreeAsked ix lent.now.max_doc lent.now.fields.now lent.now.leaves.now lent.now.columns.now lent.now.values.now query.now resume words.old ranges.old from → (result ≡ size_of (tree_of ix query.now)) × Standing ix query.now ranges.new words.new from }
-    ensures words_len_unchanged { (length words.new ≡ length words.old) × (length ranges.new ≡ length ranges.old) }
-{
-    if resume {
-        return wide(words[1]);
-    }
-    build::build(
-        lent.max_doc,
-        lent.fields,
-        lent.leaves,
-        lent.columns,
-        lent.values,
-        query,
-        words,
-        ranges,
-    )
-}
-
-// The page of the walk that goes on from the tree in the first words.
-fn list_on(
-    lent: &Lent,
-    query: &[u32],
-    target: u32,
-    size: usize,
-    words: &mut [u32],
-    starts: &mut [i32],
-    other_starts: &mut [i32],
-    ranges: &[u32],
-    documents: &mut [u32],
-    scores: &mut [u32],
-) -> Listed
-    requires { (length documents.old ≡ length scores.old) × ((ix : Index) × ListAsked ix lent.now.max_doc lent.now.fields.now lent.now.leaves.now lent.now.postings.now lent.now.positions.now lent.now.norms.now lent.now.live.now query.now ranges.now words.old (min (length starts.old) (length other_starts.old)) size target) }
-    ensures { (ix : Index) → ListAsked ix lent.now.max_doc lent.now.fields.now lent.now.leaves.now lent.now.postings.now lent.now.positions.now lent.now.norms.now lent.now.live.now query.now ranges.now words.old (min (length starts.old) (length other_starts.old)) size target → PageIs (page_of ix query.now target (length documents.old)) documents.old scores.old result documents.new scores.new × Standing ix query.now ranges.now words.new result.next }
-{
-    let mut inverses: [f32; 4096] = [0.0; 4096];
-    inverses::fill_inverses(lent.fields, lent.leaves, query, &mut inverses);
-    let reader = LeafReader {
-        max_doc: lent.max_doc,
-        postings: lent.postings,
-        positions: lent.positions,
-        norms: lent.norms,
-        ranges,
-        live: lent.live,
-    };
-    walk::list(
-        &mut words[..size],
-        &reader,
-        &inverses,
-        starts,
-        other_starts,
-        target,
-        16,
-        documents,
-        scores,
-    )
-}
-
-// Page on the words of so many records.
+// Page on words. A part of an array that is lent in a struct's field ends nowhere that a proof knows, so the slices come first.
 fn page_words(
     lent: &Lent,
     query: &[u32],
     target: u32,
-    resume: bool,
-    nodes: usize,
-    words: &mut [u32],
+    states: &mut [u32],
     starts: &mut [i32],
     other_starts: &mut [i32],
     ranges: &mut [u32],
     documents: &mut [u32],
     scores: &mut [u32],
 ) -> Result<Listed, Refusal>
-    requires { (node_state_words * nodes < 2 ^ 64) × (node_state_words * max_records ≤ length words.old) × (resume ≡ true → refusal_of (index_of lent.now) query.now target nodes starts.old other_starts.old ranges.old documents.old scores.old ≡ 0 → Standing (index_of lent.now) query.now ranges.old words.old target) }
-    ensures { Pages (index_of lent.now) query.now target (work_of nodes starts.old other_starts.old ranges.old) documents.old documents.new scores.old scores.new starts.old starts.new other_starts.old other_starts.new ranges.old ranges.new words.new result }
+    ensures { Pages (index_of lent.now) query.now target (work (length states.old) (length starts.old) (length other_starts.old) (length ranges.old)) documents.old documents.new scores.old scores.new starts.old starts.new other_starts.old other_starts.new ranges.old ranges.new states.new result }
 {
-    let work = Work {
-        states: NODE_STATE_WORDS * nodes,
-        starts: starts.len(),
-        other_starts: other_starts.len(),
-        ranges: ranges.len(),
-    };
-    order_check::page_refusal(lent, query, target, work, documents.len(), scores.len())?;
-    let size = stand(lent, query, resume, words, ranges);
-    Ok(list_on(
-        lent,
-        query,
-        target,
-        size,
-        words,
+    let mut buffers = Buffers {
+        states,
         starts,
         other_starts,
         ranges,
-        documents,
-        scores,
-    ))
+    };
+    searcher::page::page(lent, query, target, &mut buffers, documents, scores)
 }
 
-// With `resume` the walk goes on from the records as they stand, and nothing is built.
+// The same from the tree that stands in the words.
+fn resume_words(
+    lent: &Lent,
+    query: &[u32],
+    target: u32,
+    states: &mut [u32],
+    starts: &mut [i32],
+    other_starts: &mut [i32],
+    ranges: &mut [u32],
+    documents: &mut [u32],
+    scores: &mut [u32],
+) -> Result<Listed, Refusal>
+    requires { page_refusal (index_of lent.now) query.now target (work (length states.old) (length starts.old) (length other_starts.old) (length ranges.old)) (length documents.old) (length scores.old) ≡ 0 → Standing (index_of lent.now) query.now ranges.old states.old target }
+    ensures { Pages (index_of lent.now) query.now target (work (length states.old) (length starts.old) (length other_starts.old) (length ranges.old)) documents.old documents.new scores.old scores.new starts.old starts.new other_starts.old other_starts.new ranges.old ranges.new states.new result }
+{
+    let mut buffers = Buffers {
+        states,
+        starts,
+        other_starts,
+        ranges,
+    };
+    searcher::resume::resume(lent, query, target, &mut buffers, documents, scores)
+}
+
+// An accepted call leaves the order's tree in the records, at the next match; a refused one leaves them as they were.
 pub fn page_nodes(
     lent: &Lent,
     query: &[u32],
     target: u32,
-    resume: bool,
     nodes: &mut [NodeState],
     starts: &mut [i32],
     other_starts: &mut [i32],
@@ -139,26 +76,57 @@ pub fn page_nodes(
     documents: &mut [u32],
     scores: &mut [u32],
 ) -> Result<Listed, Refusal>
-    requires { resume ≡ true → refusal_of (index_of lent.now) query.now target (length nodes.old) starts.old other_starts.old ranges.old documents.old scores.old ≡ 0 → Standing (index_of lent.now) query.now ranges.old (record_words nodes.old) target }
     ensures { Pages (index_of lent.now) query.now target (work_of (length nodes.old) starts.old other_starts.old ranges.old) documents.old documents.new scores.old scores.new starts.old starts.new other_starts.old other_starts.new ranges.old ranges.new (record_words nodes.new) result
         × Kept (refusal_of (index_of lent.now) query.now target (length nodes.old) starts.old other_starts.old ranges.old documents.old scores.old) nodes.old nodes.new }
 {
-    let count = nodes.len();
-    let mut words = node_state::unpacked(nodes);
+    let mut words = node_state::zeros();
+    let n = node_state::held(nodes.len());
     let listed = page_words(
         lent,
         query,
         target,
-        resume,
-        count,
-        &mut words,
+        &mut words[..NODE_STATE_WORDS * n],
         starts,
         other_starts,
         ranges,
         documents,
         scores,
     );
-    let n = used(&listed, node_state::held(count));
-    node_state::pack(&words, n, nodes);
+    let m = used(&listed, n);
+    node_state::pack(&words, m, nodes);
+    listed
+}
+
+// The same where the order's tree stands in the records: the walk goes on from them, and nothing is built.
+pub fn resume_nodes(
+    lent: &Lent,
+    query: &[u32],
+    target: u32,
+    nodes: &mut [NodeState],
+    starts: &mut [i32],
+    other_starts: &mut [i32],
+    ranges: &mut [u32],
+    documents: &mut [u32],
+    scores: &mut [u32],
+) -> Result<Listed, Refusal>
+    requires { refusal_of (index_of lent.now) query.now target (length nodes.old) starts.old other_starts.old ranges.old documents.old scores.old ≡ 0 → Standing (index_of lent.now) query.now ranges.old (record_words nodes.old) target }
+    ensures { Pages (index_of lent.now) query.now target (work_of (length nodes.old) starts.old other_starts.old ranges.old) documents.old documents.new scores.old scores.new starts.old starts.new other_starts.old other_starts.new ranges.old ranges.new (record_words nodes.new) result
+        × Kept (refusal_of (index_of lent.now) query.now target (length nodes.old) starts.old other_starts.old ranges.old documents.old scores.old) nodes.old nodes.new }
+{
+    let mut words = node_state::unpacked(nodes);
+    let n = node_state::held(nodes.len());
+    let listed = resume_words(
+        lent,
+        query,
+        target,
+        &mut words[..NODE_STATE_WORDS * n],
+        starts,
+        other_starts,
+        ranges,
+        documents,
+        scores,
+    );
+    let m = used(&listed, n);
+    node_state::pack(&words, m, nodes);
     listed
 }

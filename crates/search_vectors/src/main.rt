@@ -5,6 +5,7 @@
 #![tactic(auto)]
 
 use index::lent::Lent;
+use searcher::buffers::Buffers;
 use std::io;
 use std::io::Write;
 use std::rt::Files;
@@ -21,18 +22,13 @@ fn search(out: &mut impl Write, index: Lent, query: &[u32], k: u32, t: u32) -> i
     let mut other_starts = [-7i32; 64];
     let mut ranges = [0xdead_beefu32; 1024];
     let mut hits = [-1i64; 1024];
-    let searched = searcher::search::search(
-        &index,
-        query,
-        k,
-        t,
-        &mut states,
-        &mut starts,
-        &mut other_starts,
-        &mut ranges,
-        &mut hits,
-    );
-    match searched {
+    let mut buffers = Buffers {
+        states: &mut states,
+        starts: &mut starts,
+        other_starts: &mut other_starts,
+        ranges: &mut ranges,
+    };
+    match searcher::search::search(&index, query, k, t, &mut buffers, &mut hits) {
         Err(refusal) => writeln!(out, "refused {refusal}"),
         Ok(top) => vectors::print_hits(out, top.count, top.mark, &hits, top.held),
     }
@@ -51,18 +47,13 @@ fn page(
     let mut starts = [-7i32; 64];
     let mut other_starts = [7i32; 64];
     let mut ranges = [0xdead_beefu32; 1024];
-    let paged = searcher::page::page(
-        &index,
-        query,
-        target,
-        &mut states,
-        &mut starts,
-        &mut other_starts,
-        &mut ranges,
-        documents,
-        scores,
-    );
-    match paged {
+    let mut buffers = Buffers {
+        states: &mut states,
+        starts: &mut starts,
+        other_starts: &mut other_starts,
+        ranges: &mut ranges,
+    };
+    match searcher::page::page(&index, query, target, &mut buffers, documents, scores) {
         Err(refusal) => writeln!(out, "refused {refusal}"),
         Ok(page) => vectors::print_page(out, documents, scores, page.given, page.next),
     }

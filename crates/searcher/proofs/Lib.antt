@@ -1,3 +1,4 @@
--- What the proofs of this crate share.
+-- What the proofs of this crate share, and those of Search and Page over records.
 pub mod Preparing
 pub mod Answering
+pub mod Fewer

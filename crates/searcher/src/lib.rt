@@ -1,8 +1,10 @@
 // The entries that the sale office calls: Search, Page and Length.
 #![tactic(auto)]
 
+pub mod buffers;
 pub mod length;
 pub mod page;
+pub mod resume;
 pub mod search;
 
 ghost use Rattle.std.specs.Prelude.{◌≡◌};

@@ -1,16 +1,11 @@
 -- Each step but the first goes on from records in which the tree stands.
-use Rattle.std.proofs.Common.{◌≡◌, ◌≤◌, ◌-◌, true}
-use Rattle.index.specs.Slices.{lent}
+use Rattle.std.proofs.Common.{◌≡◌}
+use Rattle.meaning.specs.Limits.{no_more_docs}
+use Rattle.index.specs.IndexOf.{index_of}
 use Rattle.node_state.specs.Records.{record_words}
 use Rattle.node_state.specs.Standing.{Standing}
+use Rattle.node_page_vectors.specs.Next.{next_of}
 use Rattle.node_page_vectors.proofs.page_through.Given as goal
 
-abbrev pub invariant-loop-pages : goal.invariant-loop-pages
-invariant-loop-pages g l =
-    record {
-      few : l.pages ≤ 8;
-      stands : l.resume ≡ true → Standing (lent l.max_doc l.fields l.leaves l.postings l.positions l.norms l.live l.columns l.values) l.q l.ranges (record_words l.records) l.target;
-    }
-
-abbrev pub decreases-loop-pages : goal.decreases-loop-pages
-decreases-loop-pages g l = 8 - l.pages
+abbrev pub invariant-loop : goal.invariant-loop
+invariant-loop g l = (next_of l.page.listed ≡ no_more_docs → ⊥) → Standing (index_of l.lent) l.query l.ranges (record_words l.nodes) (next_of l.page.listed)

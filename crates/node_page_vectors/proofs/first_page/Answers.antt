@@ -1,0 +1,6 @@
+-- A page that is not refused leaves the tree standing at its next match.
+use Rattle.node_page_vectors.proofs.Standings.{stands-next}
+use Rattle.node_page_vectors.proofs.first_page.Goals as goal
+
+pub returns : goal.returns
+returns c = λ h. stands-next _ _ _ _ _ _ _ _ _ _ _ _ _ _ _ c.page_nodes-listed.result c.page_nodes-listed.ensures.0 h

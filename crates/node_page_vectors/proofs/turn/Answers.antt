@@ -1,6 +1,0 @@
--- A page that is not refused leaves the tree standing at its next match.
-use Rattle.node_page_vectors.proofs.Standings.{stands-next}
-use Rattle.node_page_vectors.proofs.turn.Goals as goal
-
-pub returns : goal.returns
-returns c = λ h. stands-next _ _ _ _ _ _ _ _ _ _ _ _ _ _ _ c.step-s.result.page c.step-s.ensures h
