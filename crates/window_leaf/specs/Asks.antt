@@ -34,7 +34,7 @@ abbrev pub NodeAnswers : Lent → List ℕ → ℕ → Places → ℕ → ℕ �
 NodeAnswers E st base D depth r st' =
     (ix : Index) (places : ℕ) (s : Scorer) (scores : ℕ) → NodeWindowed E ix places s depth scores st base → Answers (matches ix s) base D r (get_or st' 22 0) × Windowed ix E.ranges s depth scores st' (base + 64) base D
 
--- the same of an index of n documents
+-- what is lent, of an index of n documents
 abbrev pub lent_at : Lent → ℕ → Lent
 lent_at E n = lent n E.postings E.positions E.ranges
 
