@@ -34,9 +34,10 @@ pub fn collect_everything(
     ensures { (table : List Float) (places depth : ℕ) → CollectPost (lent_of reader.now) reader.now.norms.now reader.now.live.now table places st.now depth doc_base c heap.old result heap.new }
 {
     let s = one_score(leaf_score::node_at(st));
+    let live = reader.live;
     let mut c = c;
     for doc in 0..reader.max_doc {
-        if index::live::is_live(reader.live, doc) {
+        if index::live::is_live(live, doc) {
             c = c.stepped(heap, doc_base + doc, s);
         }
     }

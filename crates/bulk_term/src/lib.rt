@@ -26,10 +26,13 @@ pub fn collect_term(
     let n = leaf_score::node_at(st);
     let from = 3 * n.first;
     let (postings, _) = reader.postings[from..from + 3 * n.number].as_chunks::<3>();
+    // Read once: the heap's stores would have them read again at each posting.
+    let live = reader.live;
+    let norms = reader.norms;
     let mut c = c;
     for [doc, frequency, _] in postings {
-        if index::live::is_live(reader.live, *doc) {
-            let s = posting_score(n, reader.norms, inverses, *frequency, *doc);
+        if index::live::is_live(live, *doc) {
+            let s = posting_score(n, norms, inverses, *frequency, *doc);
             c = c.stepped(heap, doc_base + *doc, s);
         }
     }
