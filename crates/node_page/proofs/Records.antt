@@ -90,8 +90,7 @@ module _ (ix : Index) (q : List ℕ) (target n long : ℕ) (nodes : List NodeSta
     on-records r g i u packed =
         let p = subst Packed u packed in
         let w = work_of (length nodes) a b ranges in
-        let positive : 0 < refusal_of ix q target (length nodes) a b ranges documents scores → 0 < page_refusal ix q target v (length documents) (length scores) = λ h. subst (λ (z : ℕ). 0 < z) (sym same) h in
-        (
+        let positive : 0 < refusal_of ix q target (length nodes) a b ranges documents scores → 0 < page_refusal ix q target v (length documents) (length scores) = λ h. subst (λ (z : ℕ). 0 < z) (sym same) h in (
           record {
             numbers = g.numbers ∙ page-answer-by ix q v w target (length documents) (length scores) same;
             documents-are = g.documents-are ∙ page-documents-by ix q v w target documents scores same;
