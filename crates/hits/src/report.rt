@@ -4,13 +4,16 @@ ghost use Rattle.index.specs.IndexOf.{index_of};
 ghost use Rattle.hits.specs.Text.{search_text, hits_text};
 ghost use Rattle.hits_text.specs.Contents.{files_of};
 
+use arrayvec::ArrayVec;
 use hits_text::files::{Contents, taken};
 use hits_text::hit::{found, refused};
-use hits_text::text::Text;
 use hits_text::words::{read_longs, read_words, word_at};
 use index::lent::Lent;
 use searcher::buffers::Buffers;
 use weight::NODE_STATE_WORDS;
+
+// As much as 1024 hits take, and more.
+type Text = ArrayVec<u8, 32768>;
 
 // Searches with the program's own buffers.
 fn answer(index: Lent, query: &[u32], k: u32, t: u32) -> Text

@@ -4,7 +4,8 @@ ghost use Rattle.arrayvec.specs.ArrayVec.{array_vec_len};
 ghost use Rattle.meaning.specs.Hits.{to_doc};
 ghost use Rattle.hits_text.specs.Text.{score_bits, hit_line, hit_lines, found_text, refused_text};
 
-use crate::text::{Text, push_bytes, push_decimal, push_hex};
+use crate::text::{push_bytes, push_decimal, push_hex};
+use arrayvec::ArrayVec;
 use collector::TopDocs;
 use collector::codes::sortable_bits;
 
@@ -23,8 +24,8 @@ fn score_bits(code: i64) -> u32
 }
 
 // A line is at most 30 bytes long.
-fn push_hit(text: &mut Text, code: i64)
-    requires { array_vec_len text.old + 30 ≤ 32768 }
+fn push_hit<const N: usize>(text: &mut ArrayVec<u8, N>, code: i64)
+    requires { array_vec_len text.old + 30 ≤ N }
     ensures { text.new.items ≡ text.old.items ++ hit_line code }
 {
     push_decimal(text, u64::from(document(code)));
@@ -33,8 +34,8 @@ fn push_hit(text: &mut Text, code: i64)
     text.push(b'\n');
 }
 
-fn push_hits(text: &mut Text, codes: &[i64])
-    requires { array_vec_len text.old + 30 * length codes.now ≤ 32768 }
+fn push_hits<const N: usize>(text: &mut ArrayVec<u8, N>, codes: &[i64])
+    requires { array_vec_len text.old + 30 * length codes.now ≤ N }
     ensures { text.new.items ≡ text.old.items ++ hit_lines codes.now }
 {
     for &code in codes {
@@ -49,13 +50,13 @@ fn line_end(mark: bool) -> &'static [u8]
     if mark { b"+\n" } else { b"\n" }
 }
 
-// The text where nothing is refused: of at most 1024 hits.
-pub fn found(top: TopDocs, codes: &[i64]) -> Text
-    requires { length codes.now ≤ 1024 }
+// The text where nothing is refused.
+pub fn found<const N: usize>(top: TopDocs, codes: &[i64]) -> ArrayVec<u8, N>
+    requires { 28 + 30 * length codes.now ≤ N }
     ensures { result.items ≡ found_text top.count top.mark codes.now }
 {
     let TopDocs { count, mark, .. } = top;
-    let mut text = Text::new();
+    let mut text = ArrayVec::new();
     push_bytes(&mut text, b"count ");
     push_decimal(&mut text, count);
     push_bytes(&mut text, line_end(mark));
@@ -63,10 +64,11 @@ pub fn found(top: TopDocs, codes: &[i64]) -> Text
     text
 }
 
-pub fn refused(number: u32) -> Text
+pub fn refused<const N: usize>(number: u32) -> ArrayVec<u8, N>
+    requires { 29 ≤ N }
     ensures { result.items ≡ refused_text number }
 {
-    let mut text = Text::new();
+    let mut text = ArrayVec::new();
     push_bytes(&mut text, b"refused ");
     push_decimal(&mut text, u64::from(number));
     text.push(b'\n');

@@ -1,21 +1,19 @@
-// The text that is printed, in memory of a fixed size: bytes and numbers put at its end.
+// The text that is printed, in N bytes of memory: bytes and numbers put at its end.
 ghost use Rattle.std.specs.Prelude.{◌≡◌, ◌++◌, ◌+◌, ◌≤◌, ◌<◌, length};
 ghost use Rattle.arrayvec.specs.ArrayVec.{array_vec_len};
 ghost use Rattle.hits_text.specs.Text.{digit_of, decimal, hex_digits};
 
 use arrayvec::ArrayVec;
 
-pub type Text = ArrayVec<u8, 32768>;
-
-pub(crate) fn push_bytes(text: &mut Text, bytes: &[u8])
-    requires { array_vec_len text.old + length bytes.now ≤ 32768 }
+pub(crate) fn push_bytes<const N: usize>(text: &mut ArrayVec<u8, N>, bytes: &[u8])
+    requires { array_vec_len text.old + length bytes.now ≤ N }
     ensures { text.new.items ≡ text.old.items ++ bytes.now }
 {
     text.try_extend_from_slice(bytes).unwrap();
 }
 
-pub(crate) fn push_decimal(text: &mut Text, n: u64)
-    requires { array_vec_len text.old + length (decimal n) ≤ 32768 }
+pub(crate) fn push_decimal<const N: usize>(text: &mut ArrayVec<u8, N>, n: u64)
+    requires { array_vec_len text.old + length (decimal n) ≤ N }
     ensures { text.new.items ≡ text.old.items ++ decimal n }
 {
     let mut digits = itoa::Buffer::new();
@@ -34,8 +32,8 @@ fn digit(d: u32) -> u8
 }
 
 // The last so many hexadecimal digits.
-pub(crate) fn push_hex(text: &mut Text, n: u32, digits: u32)
-    requires { array_vec_len text.old + digits ≤ 32768 }
+pub(crate) fn push_hex<const N: usize>(text: &mut ArrayVec<u8, N>, n: u32, digits: u32)
+    requires { array_vec_len text.old + digits ≤ N }
     ensures { text.new.items ≡ text.old.items ++ hex_digits digits n }
 {
     if digits == 0 {

@@ -13,7 +13,7 @@ end-short true = omega arith
 end-short false = omega arith
 
 pub push_decimal-requires : goal.push_decimal-requires
-push_decimal-requires c =
+push_decimal-requires g c =
     let n : length c.push_bytes.new.text.items ≡ 6 = ap length (put-first count_word _ _ c.new-text.ensures c.push_bytes.ensures) in
     omega (arith, decimal-short 19 c.args.top.count (omega arith), n)
 
@@ -24,15 +24,15 @@ behind word new count e h g =
     omega (arith, decimal-short 19 count (omega (arith, h)), ap length g, length-append word (decimal count), n)
 
 pub push_bytes-requires-2 : goal.push_bytes-requires-2
-push_bytes-requires-2 c = omega (arith, behind _ _ _ (put-first count_word _ _ c.new-text.ensures c.push_bytes.ensures) (omega arith) c.push_decimal.ensures, ap length c.line_end.ensures, end-short c.args.top.mark)
+push_bytes-requires-2 g c = omega (arith, behind _ _ _ (put-first count_word _ _ c.new-text.ensures c.push_bytes.ensures) (omega arith) c.push_decimal.ensures, ap length c.line_end.ensures, end-short c.args.top.mark)
 
 pub push_hits-requires : goal.push_hits-requires
-push_hits-requires c =
+push_hits-requires g c =
     omega (arith, behind _ _ _ (put-first count_word _ _ c.new-text.ensures c.push_bytes.ensures) (omega arith) c.push_decimal.ensures, ap length c.line_end.ensures, end-short c.args.top.mark, ap length c.push_bytes-2.ensures, length-append c.push_decimal.new.text.items c.line_end.result.now, c.requires)
 
 pub returns : goal.returns
 unfolding found_text
-returns c =
+returns g c =
     let count = decimal c.args.top.count in
     let end = c.line_end.result.now in
     let lines = hit_lines c.args.codes.now in

@@ -6,13 +6,13 @@ use Rattle.hits_text.proofs.Lines.{lines-none, lines_more, line-short}
 use Rattle.hits_text.proofs.hit.push_hits.Goals as goal
 
 pub loop-code-init : goal.loop-code-init
-loop-code-init c = record {
+loop-code-init g c = record {
   lines = sym (ap (λ (l : List ℕ). c.args.text.now.items ++ l) lines-none ∙ append-nil c.args.text.now.items);
   short = omega arith;
 }
 
 pub loop-code-preserved : goal.loop-code-preserved
-loop-code-preserved c =
+loop-code-preserved g c =
     let l = c.loop-code in
     let i = l.code-index in
     let code = slice_index_or c.args.codes.now i (pos 0) in
@@ -24,4 +24,4 @@ loop-code-preserved c =
     }
 
 pub returns : goal.returns
-returns c = c.loop-code.invariant.lines ∙ ap (λ (x : List ℤ). c.args.text.now.items ++ hit_lines x) (take_all c.loop-code.code-index c.args.codes.now c.loop-code-test.false)
+returns g c = c.loop-code.invariant.lines ∙ ap (λ (x : List ℤ). c.args.text.now.items ++ hit_lines x) (take_all c.loop-code.code-index c.args.codes.now c.loop-code-test.false)

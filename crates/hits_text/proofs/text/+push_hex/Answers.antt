@@ -6,15 +6,15 @@ use Rattle.hits_text.proofs.Numbers.{hex-none, hex-more, length-hex}
 use Rattle.hits_text.proofs.text.+push_hex.Goals as goal
 
 pub returns-then-digits-eq0 : goal.returns-then-digits-eq0
-returns-then-digits-eq0 t c = sym (ap (λ (l : List ℕ). c.args.text.now.items ++ l) (hex-none c.args.digits c.args.n c.if-digits-eq0.true) ∙ append-nil c.args.text.now.items)
+returns-then-digits-eq0 g t c = sym (ap (λ (l : List ℕ). c.args.text.now.items ++ l) (hex-none c.args.digits c.args.n c.if-digits-eq0.true) ∙ append-nil c.args.text.now.items)
 
 pub push-requires : goal.push-requires
-push-requires t c =
+push-requires g t c =
     let a = c.args in
     omega (arith, c.requires, c.if-digits-eq0.false, ap length c.push_hex.ensures, length-append a.text.now.items (hex_digits (a.digits - 1) (a.n / 16)), length-hex (a.digits - 1) (a.n / 16))
 
 pub returns : goal.returns
-returns t c =
+returns g t c =
     let a = c.args in
     put-more a.text.now.items (hex_digits (a.digits - 1) (a.n / 16)) (c.digit.result ∷ []) _ _ c.push_hex.ensures c.push.ensures.items
     ∙ ap (λ (d : ℕ). a.text.now.items ++ (hex_digits (a.digits - 1) (a.n / 16) ++ (d ∷ []))) c.digit.ensures
