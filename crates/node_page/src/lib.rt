@@ -17,7 +17,8 @@ use searcher::used;
 use walk::Listed;
 use weight::NODE_STATE_WORDS;
 
-// Page on words. A part of an array that is lent in a struct's field ends nowhere that a proof knows, so the slices come first.
+// Page on words.
+// Kept: slices in the place of Buffers: tried, and where a struct lends a part of a local array the proof of what is in the array then did not close.
 fn page_words(
     lent: &Lent,
     query: &[u32],

@@ -14,7 +14,8 @@ use searcher::buffers::Buffers;
 use searcher::used;
 use weight::NODE_STATE_WORDS;
 
-// Search on the words of n states. A part of an array that is lent in a struct's field ends nowhere that a proof knows, so the slices come first.
+// Search on the words of n states.
+// Kept: slices in the place of Buffers: tried, and where a struct lends a part of a local array the proof of what is in the array then did not close.
 fn search_words(
     lent: &Lent,
     query: &[u32],
