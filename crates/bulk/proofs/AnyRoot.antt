@@ -51,18 +51,18 @@ weighted-zero n m ix (constant c) doc p = absurd (m p.0)
 weighted-zero n m ix (weighted w) doc p = (zero-32, subst (λ (z : Float). AtMost (2 ^ 29) z) (sym zero-32) (zero-atmost _))
 
 -- ---- the root
-module _ (E : Lent) (norms live : List ℕ) where
+module _ (documents : ℕ) (live : List ℕ) where
   -- the words of kind 5, over an accepted index that is lent; n is what is read of them
   module _ (n : Node) where
     pub record AnyIs (ix : Index) (s : Scorer) : Type 0 where
       pub sc : Scoring
       pub is : s ≡ leaf everything sc
       pub accepted : Accepted ix
-      pub documents-are : ix.max_doc ≡ E.documents
+      pub documents-are : ix.max_doc ≡ documents
       pub live-are : ix.live ≡ live
       pub scores : NodeScores sc n
 
-    module _ (table : List Float) (places depth : ℕ) (st : List ℕ) (N : NodeIs st n) (k : get_or st 0 0 ≡ 5) where
+    module _ (E : Lent) (norms : List ℕ) (table : List Float) (places depth : ℕ) (st : List ℕ) (N : NodeIs st n) (k : get_or st 0 0 ≡ 5) (same : E.documents ≡ documents) where
       pub any-is : (ix : Index) (s : Scorer) (scores : ℕ) → PageHeld E norms live table ix places s depth scores st 0 → AnyIs ix s
       unfolding Ok LeafIs
       any-is ix (leaf nothing sc) m H = absurd (omega (arith, kind-read st H.ok.1 H.ok.0 H.ok.2, H.ok.4.0))
@@ -75,7 +75,7 @@ module _ (E : Lent) (norms live : List ℕ) where
             sc = sc;
             is = refl;
             accepted = H.lends.accepted;
-            documents-are = H.lends.documents;
+            documents-are = H.lends.documents ∙ same;
             live-are = H.live-are;
             scores = node-scores sc H.ok.0 n R.constant-is R.weight_is H.ok.5;
           }
@@ -83,21 +83,21 @@ module _ (E : Lent) (norms live : List ℕ) where
 
     -- what a call asks, and what is read of its words
     abbrev pub Asked : List ℕ → ℕ → TopScoreDocCollector → List ℤ → Type 0
-    Asked st doc_base c heap = (table : List Float) × (places : ℕ) × (depth : ℕ) × (get_or st 0 0 ≡ 5) × CollectPre E norms live table places st depth doc_base c heap
+    Asked st doc_base c heap = (E : Lent) × (norms : List ℕ) × (table : List Float) × (places : ℕ) × (depth : ℕ) × (E.documents ≡ documents) × (get_or st 0 0 ≡ 5) × CollectPre E norms live table places st depth doc_base c heap
 
     module _ (st : List ℕ) (doc_base : ℕ) (c : TopScoreDocCollector) (heap : List ℤ) (q : Asked st doc_base c heap) where
-      pub asked-any : NodeIs st n → AnyIs q.4.2.0 q.4.2.1
-      asked-any N = any-is q.0 q.1 q.2 st N q.3 q.4.2.0 q.4.2.1 q.4.2.2 (root-page E norms live q.0 q.4.2.0 q.1 q.4.2.1 q.2 q.4.2.2 st q.4.2.3)
+      pub asked-any : NodeIs st n → AnyIs q.7.2.0 q.7.2.1
+      asked-any N = any-is q.0 q.1 q.2 q.3 q.4 st N q.6 q.5 q.7.2.0 q.7.2.1 q.7.2.2 (root-page q.0 q.1 live q.2 q.7.2.0 q.3 q.7.2.1 q.4 q.7.2.2 st q.7.2.3)
 
       -- so many documents are numbered on
-      pub asked-few : doc_base + E.documents ≤ no_more_docs
-      asked-few = q.4.0
+      pub asked-few : doc_base + documents ≤ no_more_docs
+      asked-few = omega (arith, q.7.0, q.5)
 
   module _ (r : Float) where
     -- and r is the score of each document
     pub record AnyRoot (ix : Index) (sc : Scoring) : Type 0 where
       pub accepted : Accepted ix
-      pub documents-are : ix.max_doc ≡ E.documents
+      pub documents-are : ix.max_doc ≡ documents
       pub live-are : ix.live ≡ live
       pub score-is : (doc : ℕ) → r ≡ leaf_score ix everything sc doc
       pub small : AtMost (2 ^ 29) r
@@ -116,13 +116,13 @@ module _ (E : Lent) (norms live : List ℕ) where
         pub any-ready : (ix : Index) (sc : Scoring) → AnyRoot ix sc → Ready doc_base c₀ heap₀ → (to : ℕ) → doc_base + doc ≤ to → Ready to c heap
         any-ready ix sc R start to l = sofar-ready ix (leaf everything sc) doc_base c₀ heap₀ c heap doc (I ix sc R) start to l
 
-        pub any-done : E.documents ≡ doc → (ix : Index) (s : Scorer) (sc : Scoring) → s ≡ leaf everything sc → AnyRoot ix sc → Continued doc_base E.documents (live_scored ix s) c₀ heap₀ c heap
+        pub any-done : documents ≡ doc → (ix : Index) (s : Scorer) (sc : Scoring) → s ≡ leaf everything sc → AnyRoot ix sc → Continued doc_base documents (live_scored ix s) c₀ heap₀ c heap
         any-done h ix s sc e R =
             rw e
-            (sofar-done ix (leaf everything sc) doc_base c₀ heap₀ c heap doc (I ix sc R) E.documents (omega (arith, h)) (λ y a. not-below ix (leaf everything sc) y (omega (arith, h, R.documents-are))))
+            (sofar-done ix (leaf everything sc) doc_base c₀ heap₀ c heap doc (I ix sc R) documents (omega (arith, h)) (λ y a. not-below ix (leaf everything sc) y (omega (arith, h, R.documents-are))))
 
-        module _ (below : doc < E.documents) where
-          pub any-few : doc_base + E.documents ≤ no_more_docs → doc_base + doc < no_more_docs
+        module _ (below : doc < documents) where
+          pub any-few : doc_base + documents ≤ no_more_docs → doc_base + doc < no_more_docs
           any-few few = omega (arith, few, below)
 
           pub any-bit : (ix : Index) (sc : Scoring) → AnyRoot ix sc → 0 < length live → doc < 64 * length live

@@ -3,7 +3,7 @@ ghost use Rattle.std.specs.Prelude.{◌≡◌, List, ℕ, ◌^◌, get_or, Float
 ghost use Rattle.meaning.specs.Lent.{Index};
 ghost use Rattle.ieee754.specs.Nonneg.{AtMost};
 ghost use Rattle.weight.specs.ScorerTree.{everything, Scoring, leaf_score};
-ghost use Rattle.scorer.specs.Calls.{lent_of};
+ghost use Rattle.scorer.specs.Calls.{Lent};
 ghost use Rattle.bulk_scorer.specs.Collects.{CollectPre, CollectPost};
 ghost use Rattle.bulk_term.specs.Postings.{NodeScores};
 
@@ -30,8 +30,8 @@ pub fn collect_everything(
     c: TopScoreDocCollector,
     heap: &mut [i64],
 ) -> TopScoreDocCollector
-    requires { (table : List Float) × (places : ℕ) × (depth : ℕ) × (get_or st.now 0 0 ≡ 5) × CollectPre (lent_of reader.now) reader.now.norms.now reader.now.live.now table places st.now depth doc_base c heap.old }
-    ensures { (table : List Float) (places depth : ℕ) → CollectPost (lent_of reader.now) reader.now.norms.now reader.now.live.now table places st.now depth doc_base c heap.old result heap.new }
+    requires { (E : Lent) × (norms : List ℕ) × (table : List Float) × (places : ℕ) × (depth : ℕ) × (E.documents ≡ reader.now.max_doc) × (get_or st.now 0 0 ≡ 5) × CollectPre E norms reader.now.live.now table places st.now depth doc_base c heap.old }
+    ensures { (E : Lent) (norms : List ℕ) (table : List Float) (places depth : ℕ) → E.documents ≡ reader.now.max_doc → CollectPost E norms reader.now.live.now table places st.now depth doc_base c heap.old result heap.new }
 {
     let s = one_score(leaf_score::node_at(st));
     let live = reader.live;

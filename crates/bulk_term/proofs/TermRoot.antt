@@ -37,11 +37,11 @@ use Rattle.bulk_term.proofs.Roots.{node-scores}
 use Rattle.bulk_scorer.proofs.Sofar.{nonneg-clear, Sofar, sofar-start, sofar-skip, sofar-ready, sofar-take, sofar-done}
 use Rattle.bulk_scorer.proofs.Held.{root-page}
 
-module _ (E : Lent) (norms live : List ℕ) (table : List Float) (n : Node) where
+module _ (postings norms live : List ℕ) (table : List Float) (n : Node) where
   -- n is what is read of the words of leaf l of an accepted index that is lent
   pub record TermRoot (ix : Index) (l : ℕ) (sc : Scoring) : Type 0 where
     pub accepted : Accepted ix
-    pub postings-are : ix.postings ≡ E.postings
+    pub postings-are : ix.postings ≡ postings
     pub norms-are : ix.norms ≡ norms
     pub live-are : ix.live ≡ live
     pub leaf-there : l < leaf_count ix
@@ -53,7 +53,7 @@ module _ (E : Lent) (norms live : List ℕ) (table : List Float) (n : Node) wher
     pub scores : NodeScores sc n
 
   -- the words of kind 1 are a term's
-  module _ (places depth : ℕ) (st : List ℕ) (N : NodeIs st n) (k : get_or st 0 0 ≡ 1) where
+  module _ (E : Lent) (places depth : ℕ) (st : List ℕ) (N : NodeIs st n) (k : get_or st 0 0 ≡ 1) (same : E.postings ≡ postings) where
     pub record RootIs (ix : Index) (s : Scorer) : Type 0 where
       pub l : ℕ
       pub sc : Scoring
@@ -73,7 +73,7 @@ module _ (E : Lent) (norms live : List ℕ) (table : List Float) (n : Node) wher
           is = refl;
           root = record {
             accepted = H.lends.accepted;
-            postings-are = H.lends.postings-are;
+            postings-are = H.lends.postings-are ∙ same;
             norms-are = H.norms-are;
             live-are = H.live-are;
             leaf-there = H.scorable.sound;
@@ -92,18 +92,18 @@ module _ (E : Lent) (norms live : List ℕ) (table : List Float) (n : Node) wher
 
   -- what a call asks, and what is read of its words
   abbrev pub Asked : List ℕ → ℕ → TopScoreDocCollector → List ℤ → Type 0
-  Asked st doc_base c heap = (places : ℕ) × (depth : ℕ) × (get_or st 0 0 ≡ 1) × CollectPre E norms live table places st depth doc_base c heap
+  Asked st doc_base c heap = (E : Lent) × (places : ℕ) × (depth : ℕ) × (E.postings ≡ postings) × (get_or st 0 0 ≡ 1) × CollectPre E norms live table places st depth doc_base c heap
 
   module _ (st : List ℕ) (doc_base : ℕ) (c : TopScoreDocCollector) (heap : List ℤ) (q : Asked st doc_base c heap) where
-    asked-page : PageHeld E norms live table q.3.2.0 q.0 q.3.2.1 q.1 q.3.2.2 st 0
-    asked-page = root-page E norms live table q.3.2.0 q.0 q.3.2.1 q.1 q.3.2.2 st q.3.2.3
+    asked-page : PageHeld q.0 norms live table q.5.2.0 q.1 q.5.2.1 q.2 q.5.2.2 st 0
+    asked-page = root-page q.0 norms live table q.5.2.0 q.1 q.5.2.1 q.2 q.5.2.2 st q.5.2.3
 
-    pub asked-root : (N : NodeIs st n) → RootIs q.0 q.1 st N q.2 q.3.2.0 q.3.2.1
-    asked-root N = term-root q.0 q.1 st N q.2 q.3.2.0 q.3.2.1 q.3.2.2 asked-page
+    pub asked-root : (N : NodeIs st n) → RootIs q.0 q.1 q.2 st N q.4 q.3 q.5.2.0 q.5.2.1
+    asked-root N = term-root q.0 q.1 q.2 st N q.4 q.3 q.5.2.0 q.5.2.1 q.5.2.2 asked-page
 
     -- so many documents are numbered on
-    pub asked-few : doc_base + q.3.2.0.max_doc ≤ no_more_docs
-    asked-few = omega (arith, q.3.0, q.3.2.3.lends.documents)
+    pub asked-few : doc_base + q.5.2.0.max_doc ≤ no_more_docs
+    asked-few = omega (arith, q.5.0, q.5.2.3.lends.documents)
 
   module _ (doc_base : ℕ) (c₀ : TopScoreDocCollector) (heap₀ : List ℤ) where
     -- the loop stands at posting i: those before it are passed
@@ -128,8 +128,8 @@ module _ (E : Lent) (norms live : List ℕ) (table : List Float) (n : Node) wher
         }
 
     -- the last posting ends within the postings
-    pub term-end : (ix : Index) (l : ℕ) (sc : Scoring) → TermRoot ix l sc → 3 * (n.first + n.number) ≤ length E.postings
-    term-end ix l sc R = let e : length ix.postings ≡ length E.postings = ap length R.postings-are in omega (arith, (R.accepted.leaf l R.leaf-there).words, R.first-is, R.number_is)
+    pub term-end : (ix : Index) (l : ℕ) (sc : Scoring) → TermRoot ix l sc → 3 * (n.first + n.number) ≤ length postings
+    term-end ix l sc R = let e : length ix.postings ≡ length postings = ap length R.postings-are in omega (arith, (R.accepted.leaf l R.leaf-there).words, R.first-is, R.number_is)
 
     -- a document that is no posting's is no live match
     other : (ix : Index) (l : ℕ) (sc : Scoring) (d : ℕ) → ((j : ℕ) → j < leaf_number ix l → leaf_document ix l j ≡ d → ⊥) → live_match ix (leaf (term l) sc) d ≡ false
@@ -137,16 +137,16 @@ module _ (E : Lent) (norms live : List ℕ) (table : List Float) (n : Node) wher
     other ix l sc d h = not-match ix (leaf (term l) sc) d (ap found (posting-none ix l d h))
 
     module _ (c : TopScoreDocCollector) (heap : List ℤ) (i : ℕ) (I : TermsAt c heap i) where
-      pub term-done : n.number ≤ i → (st : List ℕ) → NodeIs st n → get_or st 0 0 ≡ 1 → (places depth : ℕ) → CollectPost E norms live table places st depth doc_base c₀ heap₀ c heap
-      term-done h st N k places depth ix s scores H =
-          let W = term-root places depth st N k ix s scores (root-page E norms live table ix places s depth scores st H) in
+      pub term-done : n.number ≤ i → (st : List ℕ) → NodeIs st n → get_or st 0 0 ≡ 1 → (E : Lent) (places depth : ℕ) → E.postings ≡ postings → CollectPost E norms live table places st depth doc_base c₀ heap₀ c heap
+      term-done h st N k E places depth same ix s scores H =
+          let W = term-root E places depth st N k same ix s scores (root-page E norms live table ix places s depth scores st H) in
           let R = W.root in
           let p = I ix W.l W.sc R in
           rw W.is
           (sofar-done ix (leaf (term W.l) W.sc) doc_base c₀ heap₀ c heap p.from p.sofar E.documents (omega (arith, p.few, H.lends.documents))
           (λ x a. other ix W.l W.sc x (λ j m e. omega (arith, p.passed j (omega (arith, h, R.number_is))))))
 
-      module _ (below : i < n.number) (doc : ℕ) (doc-is : doc ≡ get_or E.postings (3 * (n.first + i)) 0) where
+      module _ (below : i < n.number) (doc : ℕ) (doc-is : doc ≡ get_or postings (3 * (n.first + i)) 0) where
         module _ (ix : Index) (l : ℕ) (sc : Scoring) (R : TermRoot ix l sc) where
           p : TermAt ix l sc c heap i
           p = I ix l sc R
@@ -175,7 +175,7 @@ module _ (E : Lent) (norms live : List ℕ) (table : List Float) (n : Node) wher
           here : posting_at ix l doc ≡ some i
           here = posting-at ix l doc (R.accepted.ascending l R.leaf-there) i inside (sym document)
 
-          pub term_asks : (frequency : ℕ) → frequency ≡ get_or E.postings (3 * (n.first + i) + 1) 0 → PostingAsks ix table norms l sc n frequency doc
+          pub term_asks : (frequency : ℕ) → frequency ≡ get_or postings (3 * (n.first + i) + 1) 0 → PostingAsks ix table norms l sc n frequency doc
           term_asks frequency e =
               record {
                 accepted = R.accepted;
@@ -216,7 +216,7 @@ module _ (E : Lent) (norms live : List ℕ) (table : List Float) (n : Node) wher
             (sofar-skip ix (leaf (term l) sc) doc_base c₀ heap₀ c heap q.from q.sofar (doc + 1) (omega (arith, from-here ix l sc R))
             (λ x a b. ⊎_elim (λ (z : x ≡ doc). subst (λ (y : ℕ). live_match ix (leaf (term l) sc) y ≡ false) (sym z) dead) (λ (z : suc x ≤ doc). between ix l sc R x a z) (eq-or-lt_of_le {n = x} {m = doc} (omega arith))))
 
-        module _ (frequency : ℕ) (frequency-is : frequency ≡ get_or E.postings (3 * (n.first + i) + 1) 0) (r : Float) (post : (ix : Index) (l : ℕ) (sc : Scoring) → PostingAsks ix table norms l sc n frequency doc → (r ≡ leaf_score ix (term l) sc doc) × AtMost (2 ^ 29) r) where
+        module _ (frequency : ℕ) (frequency-is : frequency ≡ get_or postings (3 * (n.first + i) + 1) 0) (r : Float) (post : (ix : Index) (l : ℕ) (sc : Scoring) → PostingAsks ix table norms l sc n frequency doc → (r ≡ leaf_score ix (term l) sc doc) × AtMost (2 ^ 29) r) where
           pub term-clear : (ix : Index) (l : ℕ) (sc : Scoring) → TermRoot ix l sc → T (sign_clear r)
           term-clear ix l sc R = nonneg-clear r (post ix l sc (term_asks ix l sc R frequency frequency-is)).1.sign
 

@@ -2,7 +2,7 @@
 #![tactic(auto)]
 
 ghost use Rattle.std.specs.Prelude.{◌≡◌, ℕ, get_or};
-ghost use Rattle.scorer.specs.Calls.{lent_of};
+ghost use Rattle.scorer.specs.Calls.{Lent};
 ghost use Rattle.bulk_scorer.specs.Collects.{CollectPre, CollectPost};
 
 use collector::TopScoreDocCollector;
@@ -20,8 +20,8 @@ pub fn collect_term(
     c: TopScoreDocCollector,
     heap: &mut [i64],
 ) -> TopScoreDocCollector
-    requires { (places : ℕ) × (depth : ℕ) × (get_or st.now 0 0 ≡ 1) × CollectPre (lent_of reader.now) reader.now.norms.now reader.now.live.now inverses.now places st.now depth doc_base c heap.old }
-    ensures { (places depth : ℕ) → CollectPost (lent_of reader.now) reader.now.norms.now reader.now.live.now inverses.now places st.now depth doc_base c heap.old result heap.new }
+    requires { (E : Lent) × (places : ℕ) × (depth : ℕ) × (E.postings ≡ reader.now.postings.now) × (get_or st.now 0 0 ≡ 1) × CollectPre E reader.now.norms.now reader.now.live.now inverses.now places st.now depth doc_base c heap.old }
+    ensures { (E : Lent) (places depth : ℕ) → E.postings ≡ reader.now.postings.now → CollectPost E reader.now.norms.now reader.now.live.now inverses.now places st.now depth doc_base c heap.old result heap.new }
 {
     let n = leaf_score::node_at(st);
     let from = 3 * n.first;

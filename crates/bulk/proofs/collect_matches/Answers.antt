@@ -15,7 +15,7 @@ bounds-st-0 c =
 pub returns-in-Term-clause-collect_post : goal.returns-in-Term-clause-collect_post
 returns-in-Term-clause-collect_post c =
     let a = c.args in
-    c.collect_term.ensures (min (length a.a.now) (length a.b.now)) a.depth
+    c.collect_term.ensures (lent_of a.reader.now) (min (length a.a.now) (length a.b.now)) a.depth refl
 
 pub returns-in-Term-clause-collect_end : goal.returns-in-Term-clause-collect_end
 returns-in-Term-clause-collect_end c =
@@ -25,7 +25,7 @@ returns-in-Term-clause-collect_end c =
 pub returns-in-Everything-clause-collect_post : goal.returns-in-Everything-clause-collect_post
 returns-in-Everything-clause-collect_post c =
     let a = c.args in
-    c.collect_everything.ensures a.inverses.now (min (length a.a.now) (length a.b.now)) a.depth
+    c.collect_everything.ensures (lent_of a.reader.now) a.reader.now.norms.now a.inverses.now (min (length a.a.now) (length a.b.now)) a.depth refl
 
 pub returns-in-Everything-clause-collect_end : goal.returns-in-Everything-clause-collect_end
 returns-in-Everything-clause-collect_end c =
@@ -38,7 +38,7 @@ collect_term-requires-in-Term-from c =
     let r = c.requires.2 in
     let W = c.alone.ensures c.if-alone.true in
     let O = only-child (lent_of a.reader.now) a.reader.now.norms.now a.reader.now.live.now a.inverses.now r.0 (min (length a.a.now) (length a.b.now)) a.depth a.st.now W r.1 r.2 r.3 in
-    ((min (length a.a.now) (length a.b.now)), a.depth - 1, term-word _ (sym c.in-Term-from.ensures), (c.requires.0, c.requires.1, (r.0, O.child, O.scores, O.held)))
+    (lent_of a.reader.now, min (length a.a.now) (length a.b.now), a.depth - 1, refl, term-word _ (sym c.in-Term-from.ensures), (c.requires.0, c.requires.1, (r.0, O.child, O.scores, O.held)))
 
 pub returns-in-Term-from : goal.returns-in-Term-from
 returns-in-Term-from c =
@@ -48,7 +48,7 @@ returns-in-Term-from c =
       collect_post =
           λ ix s scores H.
           let O = only-child (lent_of a.reader.now) a.reader.now.norms.now a.reader.now.live.now a.inverses.now ix (min (length a.a.now) (length a.b.now)) a.depth a.st.now W s scores H in
-          rw O.same (c.collect_term-in-Term-from.ensures (min (length a.a.now) (length a.b.now)) (a.depth - 1) ix O.child O.scores O.held);
+          rw O.same (c.collect_term-in-Term-from.ensures (lent_of a.reader.now) (min (length a.a.now) (length a.b.now)) (a.depth - 1) refl ix O.child O.scores O.held);
       collect_end = λ ix s scores H. root-end (lent_of a.reader.now) a.reader.now.norms.now a.reader.now.live.now a.inverses.now ix (min (length a.a.now) (length a.b.now)) s a.depth scores a.st.now H;
     }
 
@@ -58,7 +58,7 @@ collect_everything-requires-in-Everything-from c =
     let r = c.requires.2 in
     let W = c.alone.ensures c.if-alone.true in
     let O = only-child (lent_of a.reader.now) a.reader.now.norms.now a.reader.now.live.now a.inverses.now r.0 (min (length a.a.now) (length a.b.now)) a.depth a.st.now W r.1 r.2 r.3 in
-    (a.inverses.now, (min (length a.a.now) (length a.b.now)), a.depth - 1, everything-word _ (sym c.in-Everything-from.ensures), (c.requires.0, c.requires.1, (r.0, O.child, O.scores, O.held)))
+    (lent_of a.reader.now, a.reader.now.norms.now, a.inverses.now, min (length a.a.now) (length a.b.now), a.depth - 1, refl, everything-word _ (sym c.in-Everything-from.ensures), (c.requires.0, c.requires.1, (r.0, O.child, O.scores, O.held)))
 
 pub returns-in-Everything-from : goal.returns-in-Everything-from
 returns-in-Everything-from c =
@@ -68,16 +68,16 @@ returns-in-Everything-from c =
       collect_post =
           λ ix s scores H.
           let O = only-child (lent_of a.reader.now) a.reader.now.norms.now a.reader.now.live.now a.inverses.now ix (min (length a.a.now) (length a.b.now)) a.depth a.st.now W s scores H in
-          rw O.same (c.collect_everything-in-Everything-from.ensures a.inverses.now (min (length a.a.now) (length a.b.now)) (a.depth - 1) ix O.child O.scores O.held);
+          rw O.same (c.collect_everything-in-Everything-from.ensures (lent_of a.reader.now) a.reader.now.norms.now a.inverses.now (min (length a.a.now) (length a.b.now)) (a.depth - 1) refl ix O.child O.scores O.held);
       collect_end = λ ix s scores H. root-end (lent_of a.reader.now) a.reader.now.norms.now a.reader.now.live.now a.inverses.now ix (min (length a.a.now) (length a.b.now)) s a.depth scores a.st.now H;
     }
 
 pub collect_term-requires : goal.collect_term-requires
 collect_term-requires c =
     let a = c.args in
-    (min (length a.a.now) (length a.b.now), a.depth, term-word _ (sym c.in-Term.ensures), c.requires)
+    (lent_of a.reader.now, min (length a.a.now) (length a.b.now), a.depth, refl, term-word _ (sym c.in-Term.ensures), c.requires)
 
 pub collect_everything-requires : goal.collect_everything-requires
 collect_everything-requires c =
     let a = c.args in
-    (a.inverses.now, min (length a.a.now) (length a.b.now), a.depth, everything-word _ (sym c.in-Everything.ensures), c.requires)
+    (lent_of a.reader.now, a.reader.now.norms.now, a.inverses.now, min (length a.a.now) (length a.b.now), a.depth, refl, everything-word _ (sym c.in-Everything.ensures), c.requires)

@@ -1,7 +1,6 @@
 -- The documents one after the other: each matches, and those that are live are collected.
 use Rattle.std.proofs.Common.{◌≡◌, refl, sym, ◌∙◌, ◌+◌, ◌≤◌, List, ℤ, length, arith}
 use Rattle.collector.specs.declared.TopScoreDocCollector.{TopScoreDocCollector}
-use Rattle.scorer.specs.Calls.{lent_of}
 use Rattle.bulk_scorer.proofs.Held.{root-page, root-words}
 use Rattle.bulk_scorer.proofs.Sofar.{nonneg-clear}
 use Rattle.bulk_term.proofs.Roots.{joined}
@@ -12,100 +11,89 @@ use Rattle.bulk.proofs.everything.collect_everything.Goals.{then-is_live, else-i
 pub node_at-requires : goal.node_at-requires
 node_at-requires c =
     let a = c.args in
-    let E = lent_of a.reader.now in
-    let norms = a.reader.now.norms.now in
     let live = a.reader.now.live.now in
     let q = c.requires in
-    root-words E norms live q.0 q.4.2.0 q.1 q.4.2.1 q.2 q.4.2.2 a.st.now q.4.2.3
+    root-words q.0 q.1 live q.2 q.7.2.0 q.3 q.7.2.1 q.4 q.7.2.2 a.st.now q.7.2.3
 
 pub one_score-s-requires : goal.one_score-s-requires
 one_score-s-requires c =
     let a = c.args in
-    let E = lent_of a.reader.now in
-    let norms = a.reader.now.norms.now in
+    let documents = a.reader.now.max_doc in
     let live = a.reader.now.live.now in
-    let W = asked-any E norms live c.node_at.result a.st.now a.doc_base a.c a.heap.now c.requires c.node_at.ensures in
+    let W = asked-any documents live c.node_at.result a.st.now a.doc_base a.c a.heap.now c.requires c.node_at.ensures in
     (W.sc, W.scores)
 
 pub loop-doc-init : goal.loop-doc-init
 loop-doc-init c =
     let a = c.args in
-    let E = lent_of a.reader.now in
-    let norms = a.reader.now.norms.now in
+    let documents = a.reader.now.max_doc in
     let live = a.reader.now.live.now in
-    record { long = refl; collected = any-start E norms live c.one_score-s.result a.doc_base a.c a.heap.now }
+    record { long = refl; collected = any-start documents live c.one_score-s.result a.doc_base a.c a.heap.now }
 
 pub is_live-requires : goal.is_live-requires
 is_live-requires c =
     let a = c.args in
-    let E = lent_of a.reader.now in
-    let norms = a.reader.now.norms.now in
+    let documents = a.reader.now.max_doc in
     let live = a.reader.now.live.now in
     let l = c.loop-doc in
-    let W = asked-any E norms live c.node_at.result a.st.now a.doc_base a.c a.heap.now c.requires c.node_at.ensures in
-    let R = any-root E norms live c.one_score-s.result c.node_at.result c.one_score-s.ensures c.requires.4.2.0 c.requires.4.2.1 W in
-    any-bit E norms live c.one_score-s.result a.doc_base a.c a.heap.now l.c l.heap l.doc l.invariant.collected c.loop-doc-test.true c.requires.4.2.0 W.sc R
+    let W = asked-any documents live c.node_at.result a.st.now a.doc_base a.c a.heap.now c.requires c.node_at.ensures in
+    let R = any-root documents live c.one_score-s.result c.node_at.result c.one_score-s.ensures c.requires.7.2.0 c.requires.7.2.1 W in
+    any-bit documents live c.one_score-s.result a.doc_base a.c a.heap.now l.c l.heap l.doc l.invariant.collected c.loop-doc-test.true c.requires.7.2.0 W.sc R
 
 pub overflow_add-doc_base : goal.overflow_add-doc_base
 overflow_add-doc_base c =
     let a = c.args in
-    let E = lent_of a.reader.now in
-    let norms = a.reader.now.norms.now in
+    let documents = a.reader.now.max_doc in
     let live = a.reader.now.live.now in
     let l = c.loop-doc in
-    omega (arith, any-few E norms live c.one_score-s.result a.doc_base a.c a.heap.now l.c l.heap l.doc l.invariant.collected c.loop-doc-test.true (asked-few E norms live c.node_at.result a.st.now a.doc_base a.c a.heap.now c.requires))
+    omega (arith, any-few documents live c.one_score-s.result a.doc_base a.c a.heap.now l.c l.heap l.doc l.invariant.collected c.loop-doc-test.true (asked-few documents live c.node_at.result a.st.now a.doc_base a.c a.heap.now c.requires))
 
 pub stepped-c-requires-clause-ready : goal.stepped-c-requires-clause-ready
 stepped-c-requires-clause-ready c =
     let a = c.args in
-    let E = lent_of a.reader.now in
-    let norms = a.reader.now.norms.now in
+    let documents = a.reader.now.max_doc in
     let live = a.reader.now.live.now in
     let l = c.loop-doc in
-    let W = asked-any E norms live c.node_at.result a.st.now a.doc_base a.c a.heap.now c.requires c.node_at.ensures in
-    let R = any-root E norms live c.one_score-s.result c.node_at.result c.one_score-s.ensures c.requires.4.2.0 c.requires.4.2.1 W in
-    any-ready E norms live c.one_score-s.result a.doc_base a.c a.heap.now l.c l.heap l.doc l.invariant.collected c.requires.4.2.0 W.sc R c.requires.4.1 (a.doc_base + l.doc) (omega arith)
+    let W = asked-any documents live c.node_at.result a.st.now a.doc_base a.c a.heap.now c.requires c.node_at.ensures in
+    let R = any-root documents live c.one_score-s.result c.node_at.result c.one_score-s.ensures c.requires.7.2.0 c.requires.7.2.1 W in
+    any-ready documents live c.one_score-s.result a.doc_base a.c a.heap.now l.c l.heap l.doc l.invariant.collected c.requires.7.2.0 W.sc R c.requires.7.1 (a.doc_base + l.doc) (omega arith)
 
 pub stepped-c-requires-clause-doc_lt_no_more_docs : goal.stepped-c-requires-clause-doc_lt_no_more_docs
 stepped-c-requires-clause-doc_lt_no_more_docs c =
     let a = c.args in
-    let E = lent_of a.reader.now in
-    let norms = a.reader.now.norms.now in
+    let documents = a.reader.now.max_doc in
     let live = a.reader.now.live.now in
     let l = c.loop-doc in
-    any-few E norms live c.one_score-s.result a.doc_base a.c a.heap.now l.c l.heap l.doc l.invariant.collected c.loop-doc-test.true (asked-few E norms live c.node_at.result a.st.now a.doc_base a.c a.heap.now c.requires)
+    any-few documents live c.one_score-s.result a.doc_base a.c a.heap.now l.c l.heap l.doc l.invariant.collected c.loop-doc-test.true (asked-few documents live c.node_at.result a.st.now a.doc_base a.c a.heap.now c.requires)
 
 pub stepped-c-requires-clause-t : goal.stepped-c-requires-clause-t
 stepped-c-requires-clause-t c =
     let a = c.args in
-    let E = lent_of a.reader.now in
-    let norms = a.reader.now.norms.now in
+    let documents = a.reader.now.max_doc in
     let live = a.reader.now.live.now in
-    let W = asked-any E norms live c.node_at.result a.st.now a.doc_base a.c a.heap.now c.requires c.node_at.ensures in
-    let R = any-root E norms live c.one_score-s.result c.node_at.result c.one_score-s.ensures c.requires.4.2.0 c.requires.4.2.1 W in
+    let W = asked-any documents live c.node_at.result a.st.now a.doc_base a.c a.heap.now c.requires c.node_at.ensures in
+    let R = any-root documents live c.one_score-s.result c.node_at.result c.one_score-s.ensures c.requires.7.2.0 c.requires.7.2.1 W in
     nonneg-clear c.one_score-s.result R.small.sign
 
 pub loop-doc-preserved : goal.loop-doc-preserved
 loop-doc-preserved c =
     let a = c.args in
-    let E = lent_of a.reader.now in
-    let norms = a.reader.now.norms.now in
+    let documents = a.reader.now.max_doc in
     let live = a.reader.now.live.now in
     let l = c.loop-doc in
     let h = c.loop-doc-test.true in
-    let P : TopScoreDocCollector → List ℤ → Type 0 = λ k z. record { long : length z ≡ length a.heap.now; collected : AnysAt E norms live c.one_score-s.result a.doc_base a.c a.heap.now k z (l.doc + 1) } in
+    let P : TopScoreDocCollector → List ℤ → Type 0 = λ k z. record { long : length z ≡ length a.heap.now; collected : AnysAt documents live c.one_score-s.result a.doc_base a.c a.heap.now k z (l.doc + 1) } in
     elim c.if-is_live.branch [
-      | then-is_live w ↦ joined P _ _ _ _ w.heap-is w.c-is (record { long = w.stepped-c.auto.heap ∙ l.invariant.long; collected = any-take E norms live c.one_score-s.result a.doc_base a.c a.heap.now l.c l.heap l.doc l.invariant.collected h (sym c.is_live.ensures ∙ w.if-is_live.true) w.stepped-c.result w.stepped-c.new.heap w.stepped-c.ensures })
-      | else-is_live w ↦ joined P _ _ _ _ w.heap-is w.c-is (record { long = l.invariant.long; collected = any-pass E norms live c.one_score-s.result a.doc_base a.c a.heap.now l.c l.heap l.doc l.invariant.collected h (sym c.is_live.ensures ∙ w.if-is_live.false) })
+      | then-is_live w ↦ joined P _ _ _ _ w.heap-is w.c-is (record { long = w.stepped-c.auto.heap ∙ l.invariant.long; collected = any-take documents live c.one_score-s.result a.doc_base a.c a.heap.now l.c l.heap l.doc l.invariant.collected h (sym c.is_live.ensures ∙ w.if-is_live.true) w.stepped-c.result w.stepped-c.new.heap w.stepped-c.ensures })
+      | else-is_live w ↦ joined P _ _ _ _ w.heap-is w.c-is (record { long = l.invariant.long; collected = any-pass documents live c.one_score-s.result a.doc_base a.c a.heap.now l.c l.heap l.doc l.invariant.collected h (sym c.is_live.ensures ∙ w.if-is_live.false) })
     ]
 
 pub returns : goal.returns
 returns c =
     let a = c.args in
-    let E = lent_of a.reader.now in
-    let norms = a.reader.now.norms.now in
+    let documents = a.reader.now.max_doc in
     let live = a.reader.now.live.now in
     let l = c.loop-doc in
-    λ table places depth ix s scores H.
-    let W = any-is E norms live c.node_at.result table places depth a.st.now c.node_at.ensures c.requires.3 ix s scores (root-page E norms live table ix places s depth scores a.st.now H) in
-    any-done E norms live c.one_score-s.result a.doc_base a.c a.heap.now l.c l.heap l.doc l.invariant.collected (omega (arith, c.loop-doc-test.false, c.loop-doc.auto.doc-end)) ix s W.sc W.is (any-root E norms live c.one_score-s.result c.node_at.result c.one_score-s.ensures ix s W)
+    λ E norms table places depth same ix s scores H.
+    let W = any-is documents live c.node_at.result E norms table places depth a.st.now c.node_at.ensures c.requires.6 same ix s scores (root-page E norms live table ix places s depth scores a.st.now H) in
+    rw same (any-done documents live c.one_score-s.result a.doc_base a.c a.heap.now l.c l.heap l.doc l.invariant.collected (omega (arith, c.loop-doc-test.false, c.loop-doc.auto.doc-end)) ix s W.sc W.is (any-root documents live c.one_score-s.result c.node_at.result c.one_score-s.ensures ix s W))
