@@ -24,7 +24,7 @@ pub found-requires : goal.found-requires
 found-requires c =
     let index = index_of c.args.index in
     let shown = found-text index c.args.query.now c.args.k c.args.t _ _ refl refl _ c.in-Ok.top _ _ refl c.in-Ok.is c.search-found_hits.ensures.result_value c.search-found_hits.ensures.hits_after in
-    few _ _ _ (length-take-le _ _ shown.few) shown.few c.search-found_hits.auto.hits
+    (omega arith, few _ _ _ (length-take-le _ _ shown.few) shown.few c.search-found_hits.auto.hits)
 
 pub returns-in-Err : goal.returns-in-Err
 returns-in-Err c =
