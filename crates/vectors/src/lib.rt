@@ -69,16 +69,6 @@ impl Format for f64 {
     }
 }
 
-// A word's number as a u64.
-pub fn wide(x: u32) -> u64 {
-    u64::from(x)
-}
-
-// A number and a space.
-pub fn print_number(out: &mut impl Write, n: u32) -> io::Result<()> {
-    write!(out, "{n} ")
-}
-
 // The count, its mark, and the codes of the best hits.
 // Kept: no plainer: `mark` is a part of the answer that is printed, no switch.
 pub fn print_hits(
