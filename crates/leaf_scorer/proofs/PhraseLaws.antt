@@ -170,15 +170,9 @@ module _ {postings : List ℕ} {ix : Index} {ts : List PhraseTerm} {from : ℕ} 
             }
 
 -- ---- passes until all stand where one got
-pub leap-held : {postings : List ℕ} {ix : Index} {ts : List PhraseTerm} {terms terms' : List ℕ} {b e : ℕ} → TermsHeld postings ix ts terms b → TermsAre ix ts terms' e → TermsHeld postings ix ts terms' e
-leap-held h r = record { accepted = h.accepted; postings-are = h.postings-are; there = h.there; are = r }
-
 module _ {ix : Index} {ts : List PhraseTerm} {terms : List ℕ} {target d e : ℕ} {hit : Bool} (lo : target ≤ d) (before : (x : ℕ) → target ≤ x → x < d → all_found ix ts x ≡ false) (p : TermsPassed ix ts d e hit terms) where
   pub leap-more : (x : ℕ) → target ≤ x → x < e → all_found ix ts x ≡ false
   leap-more x a b = ⊎_elim (λ h. before x a h) (λ h. p.before x h b) (cmp x d)
-
-  pub leap-done : hit ≡ true → Leapt ix ts target e terms
-  leap-done s = record { from = le_trans lo p.from; top = p.top; before = leap-more; are = p.are; stand = p.stand s }
 
 -- ---- what is gathered
 pub record GatherAt (postings : List ℕ) (ix : Index) (ts : List PhraseTerm) (d : ℕ) (terms out : List ℕ) (n at : ℕ) : Type 0 where

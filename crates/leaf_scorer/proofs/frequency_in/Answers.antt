@@ -11,9 +11,6 @@ gather-n-requires w s = let P = s.requires.pre in (P.0, P.3, P.4, omega (arith, 
 pub shared_whole_as_front-frequency : goal.shared_whole_as_front-frequency
 shared_whole_as_front-frequency w s = let P = s.requires.pre in let g = s.gather-n in let q = g.ensures P.0 P.3 P.4 (frequency-gather P.7) in omega (arith, q.number, s.requires.room, terms-at-length P.0 P.3 s.args.terms.now P.4 P.7.stand)
 
-pub whole_as_slice-gather : goal.whole_as_slice-gather
-whole_as_slice-gather w s = omega (arith, s.requires.room)
-
 pub frequency-requires : goal.frequency-requires
 frequency-requires w s = let P = s.requires.pre in let g = s.gather-n in let q = g.ensures P.0 P.3 P.4 (frequency-gather P.7) in let l = take g.result g.new.out in (frequency-good P.7 l q.gathered, (frequency-room P.7 l q.gathered _ P.5, frequency-room P.7 l q.gathered _ P.6))
 
