@@ -1,7 +1,7 @@
 // Scorers without children: the documents of a run, all documents, or a phrase.
 #![tactic(auto)]
 
-ghost use Rattle.std.specs.Prelude.{◌≡◌, ℕ, ◌+◌, ◌*◌, ◌/◌, ◌≤◌, ◌<◌, length, get_or};
+ghost use Rattle.std.specs.Prelude.{◌≡◌, ℕ, ◌+◌, ◌*◌, ◌%◌, ◌≤◌, ◌<◌, length, get_or};
 ghost use Rattle.meaning.specs.Limits.{node_state_words, no_more_docs};
 ghost use Rattle.leaf_scorer.specs.Search.{CursorRead, SearchPre, SearchPost, AnyDocument, FirstSet, RangePre, RangePost};
 ghost use Rattle.leaf_scorer.specs.Phrases.{TermsPre, PassTermsPost, LeapfrogPost, EachRecord, PostingsThere, GatherPost, PostingsPre, PostingsPost, FrequencyPre, FrequencyPost, PhrasePre, PhrasePost, PhraseAtPost};
@@ -196,20 +196,22 @@ fn gather<F: Fn(usize) -> usize>(
     posting: F,
 ) -> usize
     requires may_ask { EachRecord (F.pre posting) (length terms.now) }
-    requires there { PostingsThere postings.now (length terms.now / node_state_words) (F.post posting) }
-    requires room { 3 * (length terms.now / node_state_words) ≤ length out.old }
+    requires there { PostingsThere postings.now (length terms.now) (F.post posting) }
+    requires whole { length terms.now % node_state_words ≡ 0 }
+    requires room { 3 * length terms.now ≤ node_state_words * length out.old }
     ensures { GatherPost postings.now terms.now (F.post posting) result out.new }
 {
-    let count = terms.len() / NODE_STATE_WORDS;
-    for i in 0..count {
-        let at = NODE_STATE_WORDS * i;
-        let n = POSTING * i;
+    let mut n = 0;
+    let mut at = 0;
+    while at < terms.len() {
         let p = posting(at);
         out[n] = postings[p + 2];
         out[n + 1] = postings[p + 1];
         out[n + 2] = terms[at + 9];
+        n += POSTING;
+        at += NODE_STATE_WORDS;
     }
-    POSTING * count
+    n
 }
 
 // The frequency of a phrase in a document that all its terms have, by way of an array that has room for three words of each.
