@@ -4,7 +4,7 @@ use mathlib.Core.Logic.{◌⊎◌, ⊎_elim}
 use mathlib.Core.Bool.{Bool, true, false, ◌&&◌, false≢true}
 use mathlib.Core.List.{List, [], ◌∷◌, ◌++◌, append_assoc, append-nil}
 use mathlib.Core.Option.{Option, none, some}
-use Prim.Native.Nat.{ℕ, zero, suc, ◌+◌, ◌-◌, ◌*◌, ◌/◌, ◌%◌, ◌≤◌, ◌<◌}
+use Prim.Native.Nat.{ℕ, suc, ◌+◌, ◌-◌, ◌*◌, ◌%◌, ◌≤◌, ◌<◌}
 use native.Mathlib.Nat.{le_refl, le_trans, not-suc-le-zero}
 use native.Mathlib.Omega.{arith}
 use lib.Dec.{ltb}
@@ -261,8 +261,7 @@ module _ (ix : Index) (d : ℕ) (terms : List ℕ) (P : ℕ → ℕ → Type 0) 
       let six : get_or terms (length x + 6) 0 ≡ r.0.first = rw (whole, get_or-append-add) in
       let eight : get_or terms (length x + 8) 0 ≡ r.0.cursor = rw (whole, get_or-append-add) in
       let nine : get_or terms (length x + 9) 0 ≡ r.0.offset = rw (whole, get_or-append-add) in
-      let end : length (x ++ words_of r.0) ≡ length x + node_state_words = length-append x (words_of r.0) in
-      (
+      let end : length (x ++ words_of r.0) ≡ length x + node_state_words = length-append x (words_of r.0) in (
         record-fits terms x r.1 r.0 (length x) (length x + node_state_words) whole refl refl,
         nine ∙ r.4,
         λ p h. record { place = r.0.cursor; within = r.5; document = r.6; word = omega (arith, read (length x) p h, six, eight, r.3.first-is) },

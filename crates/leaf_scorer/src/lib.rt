@@ -203,6 +203,7 @@ fn gather<F: Fn(usize) -> usize>(
 {
     let mut n = 0;
     let mut at = 0;
+    // Kept: a `for` over the terms' number is unrolled, and a document of a phrase with two terms takes 26 ns in place of 22.
     while at < terms.len() {
         let p = posting(at);
         out[n] = postings[p + 2];
@@ -263,7 +264,13 @@ fn frequency(
     ensures frequency_post { FrequencyPost postings.now positions.now terms.now result }
     ensures same_buffers { SameBuffers buffers.old buffers.new }
 {
-    frequency_by(terms, postings, positions, buffers, |at| posting_of(terms, at))
+    frequency_by(
+        terms,
+        postings,
+        positions,
+        buffers,
+        |at| posting_of(terms, at),
+    )
 }
 
 // The first document at or after the target where a phrase stands; its frequency there is stored.
