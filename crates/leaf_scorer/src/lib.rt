@@ -186,8 +186,8 @@ fn posting_of(terms: &[u32], at: usize) -> usize
     POSTING * (wide(terms[at + 6]) + wide(terms[at + 8]))
 }
 
-// Of each term's posting in a document: the index of its first position there, its frequency and its offset. `posting` says the
-// posting's word by the place of the term's record.
+// Of each term's posting in a document: the index of its first position there, its frequency and its offset. `posting` says where the
+// posting's words begin, by where the term's record does.
 #[inline(always)]
 fn gather<F: Fn(usize) -> usize>(
     terms: &[u32],
@@ -234,7 +234,8 @@ fn frequency_in<const WORDS: usize, F: Fn(usize) -> usize>(
     phrase::frequency(positions, &words[..n], buffers.starts, buffers.other_starts)
 }
 
-// A phrase has at most 32 terms. Most have up to four, and zeroing few words is cheaper.
+// The frequency of a phrase in a document that all its terms have; `posting` is as in `gather`. A phrase has at most 32 terms. Most
+// have up to four, and zeroing few words is cheaper.
 pub fn frequency_by<F: Fn(usize) -> usize>(
     terms: &[u32],
     postings: &[u32],
