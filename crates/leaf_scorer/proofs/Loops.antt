@@ -8,7 +8,8 @@ use native.Mathlib.Omega.{arith}
 use lib.ListN.{length, take, drop, length-append, length-take, length-drop}
 use Rattle.meaning.specs.First.{First}
 use Rattle.leaf_scorer.specs.declared.PhraseBuffers.{PhraseBuffers}
-use Rattle.leaf_scorer.specs.Buffers.{SameBuffers}
+use Rattle.leaf_scorer.specs.Buffers.{room, other_room, SameBuffers}
+use Rattle.leaf_scorer.specs.Calls.{RoomIn}
 
 -- the words that a loop moves, and the buffers, stay as long as they were
 pub record Lengths (kids kids₀ : ℕ) (b₀ b : PhraseBuffers) : Type 0 where
@@ -20,6 +21,9 @@ same_refl b = record { starts_length = refl; other_starts_length = refl; starts 
 
 pub same_then : {b b' b'' : PhraseBuffers} → SameBuffers b b' → SameBuffers b' b'' → SameBuffers b b''
 same_then s t = record { starts_length = t.starts_length ∙ s.starts_length; other_starts_length = t.other_starts_length ∙ s.other_starts_length; starts = t.starts ∙ s.starts; other_starts = t.other_starts ∙ s.other_starts }
+
+pub same_room : {p : ℕ} {b b' : PhraseBuffers} → RoomIn p (room b) (other_room b) → SameBuffers b b' → RoomIn p (room b') (other_room b')
+same_room h s = record { in-a = omega (arith, h.in-a, s.starts_length); in_b = omega (arith, h.in_b, s.other_starts_length) }
 
 -- a loop that has come to t: the property takes nothing from the target up to it
 pub record Going (P : ℕ → Bool) (target t : ℕ) (H : Type 0) : Type 0 where

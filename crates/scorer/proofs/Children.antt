@@ -13,7 +13,10 @@ use Rattle.meaning.specs.First.{First}
 use Rattle.weight.specs.ScorerTree.{Scorer, Scorers, end, more, matches}
 use Rattle.weight.specs.Held.{Ok, Oks}
 use Rattle.weight.specs.Sound.{Lends, Sound, Sounds}
-use Rattle.node.specs.Words.{ChildThere}
+use Rattle.node.specs.Words.{ChildThere, ChildIs}
+use Rattle.node.specs.declared.Child.{Child}
+use Rattle.node.specs.declared.NodeKind.TheVariants.{Term, Range}
+use Rattle.node.proofs.Scorers.{term-word, range-word}
 use Rattle.scorer.specs.Calls.{NodeHeld, AdvancePost, PartsHeld}
 use Rattle.leaf_scorer.specs.Calls.{Lent}
 use Rattle.leaf_scorer.proofs.Bounds.{front_long, front-size, ok-mono, oks-mono, ok-front, ok-cached, ok-single}
@@ -156,6 +159,13 @@ child-kind kids at e c h = let z : at + 0 ≡ at = omega arith in get_or-take (e
 -- its third the document where it stands, + 1
 pub child-cached : (kids : List ℕ) (at e : ℕ) → ChildThere kids at → e ≡ at + get_or kids (at + 1) 0 → (c : ℕ) → c ≡ get_or kids (at + 2) 0 → {t : ℕ} → c ≤ t → get_or (take (e - at) (drop at kids)) 2 0 ≤ t
 child-cached kids at e k h c i l = omega (arith, get_or-take (e - at) (drop at kids) 2 0 (omega (arith, k.long, h)), get_or-drop at kids 2 0)
+
+-- what a child's kind says of its first word
+pub child-is-term : {kids : List ℕ} {at : ℕ} {c : Child} → ChildIs kids at c → c.kind ≡ Term → get_or kids at 0 ≡ 1
+child-is-term is e = term-word _ (sym is.kind-is ∙ e)
+
+pub child-is-range : {kids : List ℕ} {at : ℕ} {c : Child} → ChildIs kids at c → c.kind ≡ Range → get_or kids at 0 ≡ 4
+child-is-range is e = range-word _ (sym is.kind-is ∙ e)
 
 -- a child whose first word is not that of a phrase or a Boolean: its part is one record
 module _ {E : Lent} {ix : Index} {p k : ℕ} {fs : Scorers} {kids : List ℕ} {at t : ℕ} where
