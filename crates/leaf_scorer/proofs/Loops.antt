@@ -38,6 +38,10 @@ going_start h = record { lo = le_refl _; before = λ x a b. absurd (omega arith)
 pub back-length : (kids ys : List ℕ) (at e : ℕ) → length ys ≡ length (take (e - at) (drop at kids)) → length (take at kids ++ (ys ++ drop (e - at) (drop at kids))) ≡ length kids
 back-length kids ys at e h = simp (length-append, length-take, length-drop, h) (omega arith)
 
+-- .. and the buffers lent with it
+pub part_back : (kids : List ℕ) {n : ℕ} {b₀ b b' : PhraseBuffers} → Lengths (length kids) n b₀ b → (ys : List ℕ) (at e : ℕ) → length ys ≡ length (take (e - at) (drop at kids)) → SameBuffers b b' → Lengths (length (take at kids ++ (ys ++ drop (e - at) (drop at kids)))) n b₀ b'
+part_back kids l ys at e h s = record { kids-same = back-length kids ys at e h ∙ l.kids-same; buffers-same = same_then l.buffers-same s }
+
 -- the first document that has a property, of one that is the same
 pub first-like : {P Q : ℕ → Bool} {t r : ℕ} → ((d : ℕ) → P d ≡ Q d) → First P t r → First Q t r
 first-like {r = r} e p = record { from = p.from; top = p.top; before = λ d g h. sym (e d) ∙ p.before d g h; hit = λ h. sym (e r) ∙ p.hit h }

@@ -14,11 +14,11 @@ use native.Mathlib.Nat.{le_trans}
 use lib.Seq.{length-take-le, get_or-set_same}
 use borrow.Author.Tests.{le-leb}
 use Rattle.scorer.proofs.Firsts.{pass-done, pass-more, pass-then, pass-only, enough-top, enough-hit, enough-more, kept_top, kept-alone, kept-hit, kept_more}
-use Rattle.leaf_scorer.proofs.Loops.{same_refl, same_then, same_room, back-length, going_start}
+use Rattle.leaf_scorer.proofs.Loops.{same_refl, same_then, same_room, part_back, back-length, going_start}
 use Rattle.scorer.proofs.Leads.{front_length, parts-later, lead-fits, lead-required, lead-turn, lead-optional, lead-joined, alone-optional, alone-joined, alone-first, alone-here, boolean-lead, boolean-turn, boolean-prohibited, boolean-joined, boolean-later, boolean-none}
 use Rattle.scorer.proofs.Nodes.{node-long, node-cached, node-leaf, node-sought, node-boolean, node-joined}
-use Rattle.scorer.proofs.Children.{child-is-term, child-is-range, child-facts, child-held, child-kind, child-cached, child-term, child-range, term-end, range-end}
-use Rattle.scorer.proofs.Loops.{least-end, least_skip, least-took, pass-end, pass-skip, pass-took, pass-asked}
+use Rattle.scorer.proofs.Children.{child-is-term, child-is-range, child-kind, child-cached}
+use Rattle.scorer.proofs.Loops.{least-child, least-end, least_skip, least-took, pass-child, pass-end, pass-skip, pass-took, pass-asked}
 use Rattle.scorer.proofs.+advance_conjunction_disjunction_excluding_lead_least_pass_step.Goals as goal
 
 pub conjunction-step-e-requires : goal.conjunction-step-e-requires
@@ -157,82 +157,146 @@ pub excluding-returns-else-x-d-clause-boolean_post : goal.excluding-returns-else
 excluding-returns-else-x-d-clause-boolean_post t c = let a = c.loop-n in let g = c.lead-d in let x = c.least-x in λ ix p rs os ps h. let i = a.invariant.2 ix p rs os ps h in let q = boolean-turn i.held c.args.n.need g.new.kids g.result g.auto.kids g.ensures.lead_post in let y = x.ensures.least_post ix p ps (boolean-prohibited q.1) in (kept-hit ix rs os ps c.args.n.need i.lo i.before q.0 x.result.doc x.result.count y.0 c.if-x-d.false, boolean-joined q.1 x.new.kids y.1)
 
 pub least-slice_bounds-advance_term-end : goal.least-slice_bounds-advance_term-end
-least-slice_bounds-advance_term-end t c = let P = c.requires.1 in let a = c.loop-at in let i = a.invariant.1 P.0 P.1 P.2 P.4 in let l = c.loop-at-test.true in let f = child-facts i.left i.zip l in let n = child-term i.left i.zip l (child-is-term c.child_at-child.ensures c.in-Term.is) in omega (arith, f, n, a.invariant.0, c.well_formed)
+least-slice_bounds-advance_term-end t c =
+    let k = least-child c.requires.1 c.loop-at.invariant.1 c.loop-at-test.true in
+    omega (arith, k.there, k.term-end (child-is-term c.child_at-child.ensures c.in-Term.is), c.loop-at.invariant.0, c.well_formed)
 
 pub least-advance_term-d-requires : goal.least-advance_term-d-requires
-least-advance_term-d-requires t c = let P = c.requires.1 in let a = c.loop-at in let i = a.invariant.1 P.0 P.1 P.2 P.4 in let l = c.loop-at-test.true in let f = child-facts i.left i.zip l in let v = term-end i.left i.zip l (child-is-term c.child_at-child.ensures c.in-Term.is) in let h = child-held i.left i.zip l (a.at + node_state_words) v in (c.requires.0, child-kind a.kids a.at (a.at + node_state_words) f v ∙ (child-is-term c.child_at-child.ensures c.in-Term.is), (lent_of c.args.reader.now, refl, P.0, P.1, h.0, c.args.depth, h.1, h.2))
+least-advance_term-d-requires t c =
+    let a = c.loop-at in
+    let k = least-child c.requires.1 a.invariant.1 c.loop-at-test.true in
+    let w = child-is-term c.child_at-child.ensures c.in-Term.is in
+    (k.top, child-kind a.kids a.at _ k.there (k.term-end w) ∙ w, (lent_of c.args.reader.now, refl, k.ix, k.places, k.scorer, c.args.depth, k.scores, k.held _ (k.term-end w)))
 
 pub least-loop-at-preserved-in-Term : goal.least-loop-at-preserved-in-Term
-least-loop-at-preserved-in-Term t c = let a = c.loop-at in let l = c.loop-at-test.true in let d = c.advance_term-d in let y = c.tally-x in (record { kids-same = back-length a.kids d.new.st a.at (a.at + node_state_words) d.auto.st ∙ a.invariant.0.kids-same; buffers-same = a.invariant.0.buffers-same }, λ ix p ss h. let v = term-end (a.invariant.1 ix p ss h).left (a.invariant.1 ix p ss h).zip l (child-is-term c.child_at-child.ensures c.in-Term.is) in least-took (a.invariant.1 ix p ss h) l (a.at + node_state_words) v d.result y.result.doc y.result.count d.new.st d.auto.st (d.ensures.term_post (lent_of c.args.reader.now) c.args.depth refl) y.ensures)
+least-loop-at-preserved-in-Term t c =
+    let a = c.loop-at in
+    let l = c.loop-at-test.true in
+    let d = c.advance_term-d in
+    let v = (least-child c.requires.1 a.invariant.1 l).term-end (child-is-term c.child_at-child.ensures c.in-Term.is) in
+    (part_back a.kids a.invariant.0 d.new.st a.at _ d.auto.st (same_refl _), λ ix p ss h. least-took (a.invariant.1 ix p ss h) l _ v d.result c.tally-x.result.doc c.tally-x.result.count d.new.st d.auto.st (d.ensures.term_post (lent_of c.args.reader.now) c.args.depth refl) c.tally-x.ensures)
 
 pub least-child_at-child-requires : goal.least-child_at-child-requires
-least-child_at-child-requires t c = let P = c.requires.1 in let a = c.loop-at in let i = a.invariant.1 P.0 P.1 P.2 P.4 in let l = c.loop-at-test.true in child-facts i.left i.zip l
+least-child_at-child-requires t c = (least-child c.requires.1 c.loop-at.invariant.1 c.loop-at-test.true).there
 
 pub least-loop-at-smaller-then-target-child : goal.least-loop-at-smaller-then-target-child
-least-loop-at-smaller-then-target-child t c = let P = c.requires.1 in let a = c.loop-at in let i = a.invariant.1 P.0 P.1 P.2 P.4 in let l = c.loop-at-test.true in let f = child-facts i.left i.zip l in let k = c.child_at-child in omega (arith, f, k.ensures.end_is, l)
+least-loop-at-smaller-then-target-child t c = omega (arith, (least-child c.requires.1 c.loop-at.invariant.1 c.loop-at-test.true).there, c.child_at-child.ensures.end_is)
 
 pub least-loop-at-preserved-then-target-child : goal.least-loop-at-preserved-then-target-child
-least-loop-at-preserved-then-target-child t c = let a = c.loop-at in let l = c.loop-at-test.true in let k = c.child_at-child in let y = c.tally-x-in_default in (a.invariant.0, λ ix p ss h. least_skip (a.invariant.1 ix p ss h) l k.result.end k.ensures.end_is k.result.cached y.result.doc y.result.count k.ensures.cached-is c.if-target-child.true y.ensures)
+least-loop-at-preserved-then-target-child t c =
+    let a = c.loop-at in
+    let k = c.child_at-child in
+    let y = c.tally-x-in_default in
+    (a.invariant.0, λ ix p ss h. least_skip (a.invariant.1 ix p ss h) c.loop-at-test.true k.result.end k.ensures.end_is k.result.cached y.result.doc y.result.count k.ensures.cached-is c.if-target-child.true y.ensures)
 
 pub least-slice_bounds-advance-end : goal.least-slice_bounds-advance-end
-least-slice_bounds-advance-end t c = let P = c.requires.1 in let a = c.loop-at in let i = a.invariant.1 P.0 P.1 P.2 P.4 in let l = c.loop-at-test.true in let f = child-facts i.left i.zip l in let k = c.child_at-child in omega (arith, f, a.invariant.0, c.well_formed, k.ensures.end_is)
+least-slice_bounds-advance-end t c = omega (arith, (least-child c.requires.1 c.loop-at.invariant.1 c.loop-at-test.true).there, c.loop-at.invariant.0, c.well_formed, c.child_at-child.ensures.end_is)
 
 pub least-advance-d-requires : goal.least-advance-d-requires
-least-advance-d-requires t c = let P = c.requires.1 in let a = c.loop-at in let i = a.invariant.1 P.0 P.1 P.2 P.4 in let l = c.loop-at-test.true in let k = c.child_at-child in let h = child-held i.left i.zip l k.result.end k.ensures.end_is in (omega arith, (c.requires.0, (P.0, P.1, h.0, h.1, same_room P.3 a.invariant.0.buffers-same, h.2)))
+least-advance-d-requires t c =
+    let a = c.loop-at in
+    let k = least-child c.requires.1 a.invariant.1 c.loop-at-test.true in
+    (omega arith, (k.top, (k.ix, k.places, k.scorer, k.scores, same_room k.room a.invariant.0.buffers-same, k.held _ c.child_at-child.ensures.end_is)))
 
 pub least-loop-at-preserved : goal.least-loop-at-preserved
-least-loop-at-preserved t c = let a = c.loop-at in let l = c.loop-at-test.true in let k = c.child_at-child in let d = c.advance-d in let y = c.tally-x-in_default-2 in (record { kids-same = back-length a.kids d.new.st a.at k.result.end d.auto.st ∙ a.invariant.0.kids-same; buffers-same = same_then a.invariant.0.buffers-same d.ensures.same_buffers }, λ ix p ss h. least-took (a.invariant.1 ix p ss h) l k.result.end k.ensures.end_is d.result y.result.doc y.result.count d.new.st d.auto.st d.ensures.advance_post y.ensures)
+least-loop-at-preserved t c =
+    let a = c.loop-at in
+    let d = c.advance-d in
+    let y = c.tally-x-in_default-2 in
+    (part_back a.kids a.invariant.0 d.new.st a.at _ d.auto.st d.ensures.same_buffers, λ ix p ss h. least-took (a.invariant.1 ix p ss h) c.loop-at-test.true _ c.child_at-child.ensures.end_is d.result y.result.doc y.result.count d.new.st d.auto.st d.ensures.advance_post y.ensures)
 
 pub least-returns-clause-least_post : goal.least-returns-clause-least_post
-least-returns-clause-least_post t c = let a = c.loop-at in λ ix p ss h. least-end (a.invariant.1 ix p ss h) c.loop-at-test.false
+least-returns-clause-least_post t c = λ ix p ss h. least-end (c.loop-at.invariant.1 ix p ss h) c.loop-at-test.false
 
 pub pass-slice_bounds-advance_term-end : goal.pass-slice_bounds-advance_term-end
-pass-slice_bounds-advance_term-end t c = let P = c.requires.1 in let a = c.loop-at in let i = a.invariant.1 P.0 P.1 P.2 P.4 in let l = c.loop-at-test.true in let f = child-facts i.left i.zip l in let n = child-term i.left i.zip l (child-is-term c.child_at-child.ensures c.in-Term.is) in omega (arith, f, n, a.invariant.0, c.well_formed)
+pass-slice_bounds-advance_term-end t c =
+    let k = pass-child c.requires.1 c.loop-at.invariant.1 c.loop-at-test.true in
+    omega (arith, k.there, k.term-end (child-is-term c.child_at-child.ensures c.in-Term.is), c.loop-at.invariant.0, c.well_formed)
 
 pub pass-advance_term-d-requires : goal.pass-advance_term-d-requires
-pass-advance_term-d-requires t c = let P = c.requires.1 in let a = c.loop-at in let i = a.invariant.1 P.0 P.1 P.2 P.4 in let l = c.loop-at-test.true in let f = child-facts i.left i.zip l in let v = term-end i.left i.zip l (child-is-term c.child_at-child.ensures c.in-Term.is) in let h = child-held i.left i.zip l (a.at + node_state_words) v in (i.top, child-kind a.kids a.at (a.at + node_state_words) f v ∙ (child-is-term c.child_at-child.ensures c.in-Term.is), (lent_of c.args.reader.now, refl, P.0, P.1, h.0, c.args.depth, h.1, h.2))
+pass-advance_term-d-requires t c =
+    let a = c.loop-at in
+    let k = pass-child c.requires.1 a.invariant.1 c.loop-at-test.true in
+    let w = child-is-term c.child_at-child.ensures c.in-Term.is in
+    (k.top, child-kind a.kids a.at _ k.there (k.term-end w) ∙ w, (lent_of c.args.reader.now, refl, k.ix, k.places, k.scorer, c.args.depth, k.scores, k.held _ (k.term-end w)))
 
 pub pass-loop-at-preserved-in-Term : goal.pass-loop-at-preserved-in-Term
-pass-loop-at-preserved-in-Term t c = let a = c.loop-at in let l = c.loop-at-test.true in let d = c.advance_term-d in (record { kids-same = back-length a.kids d.new.st a.at (a.at + node_state_words) d.auto.st ∙ a.invariant.0.kids-same; buffers-same = a.invariant.0.buffers-same }, λ ix p ss h. let v = term-end (a.invariant.1 ix p ss h).left (a.invariant.1 ix p ss h).zip l (child-is-term c.child_at-child.ensures c.in-Term.is) in pass-took (a.invariant.1 ix p ss h) l (a.at + node_state_words) v d.result d.new.st d.auto.st (d.ensures.term_post (lent_of c.args.reader.now) c.args.depth refl))
+pass-loop-at-preserved-in-Term t c =
+    let a = c.loop-at in
+    let l = c.loop-at-test.true in
+    let d = c.advance_term-d in
+    let v = (pass-child c.requires.1 a.invariant.1 l).term-end (child-is-term c.child_at-child.ensures c.in-Term.is) in
+    (part_back a.kids a.invariant.0 d.new.st a.at _ d.auto.st (same_refl _), λ ix p ss h. pass-took (a.invariant.1 ix p ss h) l _ v d.result d.new.st d.auto.st (d.ensures.term_post (lent_of c.args.reader.now) c.args.depth refl))
 
 pub pass-slice_bounds-advance_range-end : goal.pass-slice_bounds-advance_range-end
-pass-slice_bounds-advance_range-end t c = let P = c.requires.1 in let a = c.loop-at in let i = a.invariant.1 P.0 P.1 P.2 P.4 in let l = c.loop-at-test.true in let f = child-facts i.left i.zip l in let n = child-range i.left i.zip l (child-is-range c.child_at-child.ensures c.in-Range.is) in omega (arith, f, n, a.invariant.0, c.well_formed)
+pass-slice_bounds-advance_range-end t c =
+    let k = pass-child c.requires.1 c.loop-at.invariant.1 c.loop-at-test.true in
+    omega (arith, k.there, k.range-end (child-is-range c.child_at-child.ensures c.in-Range.is), c.loop-at.invariant.0, c.well_formed)
 
 pub pass-advance_range-d-requires : goal.pass-advance_range-d-requires
-pass-advance_range-d-requires t c = let P = c.requires.1 in let a = c.loop-at in let i = a.invariant.1 P.0 P.1 P.2 P.4 in let l = c.loop-at-test.true in let f = child-facts i.left i.zip l in let v = range-end i.left i.zip l (child-is-range c.child_at-child.ensures c.in-Range.is) in let h = child-held i.left i.zip l (a.at + node_state_words) v in (i.top, child-kind a.kids a.at (a.at + node_state_words) f v ∙ (child-is-range c.child_at-child.ensures c.in-Range.is), (lent_of c.args.reader.now, refl, P.0, P.1, h.0, c.args.depth, h.1, h.2))
+pass-advance_range-d-requires t c =
+    let a = c.loop-at in
+    let k = pass-child c.requires.1 a.invariant.1 c.loop-at-test.true in
+    let w = child-is-range c.child_at-child.ensures c.in-Range.is in
+    (k.top, child-kind a.kids a.at _ k.there (k.range-end w) ∙ w, (lent_of c.args.reader.now, refl, k.ix, k.places, k.scorer, c.args.depth, k.scores, k.held _ (k.range-end w)))
 
 pub pass-loop-at-preserved-in-Range : goal.pass-loop-at-preserved-in-Range
-pass-loop-at-preserved-in-Range t c = let a = c.loop-at in let l = c.loop-at-test.true in let d = c.advance_range-d in (record { kids-same = back-length a.kids d.new.st a.at (a.at + node_state_words) d.auto.st ∙ a.invariant.0.kids-same; buffers-same = a.invariant.0.buffers-same }, λ ix p ss h. let v = range-end (a.invariant.1 ix p ss h).left (a.invariant.1 ix p ss h).zip l (child-is-range c.child_at-child.ensures c.in-Range.is) in pass-took (a.invariant.1 ix p ss h) l (a.at + node_state_words) v d.result d.new.st d.auto.st (d.ensures (lent_of c.args.reader.now) c.args.depth refl))
+pass-loop-at-preserved-in-Range t c =
+    let a = c.loop-at in
+    let l = c.loop-at-test.true in
+    let d = c.advance_range-d in
+    let v = (pass-child c.requires.1 a.invariant.1 l).range-end (child-is-range c.child_at-child.ensures c.in-Range.is) in
+    (part_back a.kids a.invariant.0 d.new.st a.at _ d.auto.st (same_refl _), λ ix p ss h. pass-took (a.invariant.1 ix p ss h) l _ v d.result d.new.st d.auto.st (d.ensures (lent_of c.args.reader.now) c.args.depth refl))
 
 pub pass-child_at-child-requires : goal.pass-child_at-child-requires
-pass-child_at-child-requires t c = let P = c.requires.1 in let a = c.loop-at in let i = a.invariant.1 P.0 P.1 P.2 P.4 in let l = c.loop-at-test.true in child-facts i.left i.zip l
+pass-child_at-child-requires t c = (pass-child c.requires.1 c.loop-at.invariant.1 c.loop-at-test.true).there
 
 pub pass-loop-at-smaller-then-d-child : goal.pass-loop-at-smaller-then-d-child
-pass-loop-at-smaller-then-d-child t c = let P = c.requires.1 in let a = c.loop-at in let i = a.invariant.1 P.0 P.1 P.2 P.4 in let l = c.loop-at-test.true in let f = child-facts i.left i.zip l in let k = c.child_at-child in omega (arith, f, k.ensures.end_is, l)
+pass-loop-at-smaller-then-d-child t c = omega (arith, (pass-child c.requires.1 c.loop-at.invariant.1 c.loop-at-test.true).there, c.child_at-child.ensures.end_is)
 
 pub pass-loop-at-preserved-then-d-child : goal.pass-loop-at-preserved-then-d-child
-pass-loop-at-preserved-then-d-child t c = let a = c.loop-at in let l = c.loop-at-test.true in let k = c.child_at-child in (a.invariant.0, λ ix p ss h. pass-skip (a.invariant.1 ix p ss h) l k.result.end k.ensures.end_is k.result.cached k.ensures.cached-is c.if-d-child.true)
+pass-loop-at-preserved-then-d-child t c =
+    let a = c.loop-at in
+    let k = c.child_at-child in
+    (a.invariant.0, λ ix p ss h. pass-skip (a.invariant.1 ix p ss h) c.loop-at-test.true k.result.end k.ensures.end_is k.result.cached k.ensures.cached-is c.if-d-child.true)
 
 pub pass-slice_bounds-ask_phrase-end : goal.pass-slice_bounds-ask_phrase-end
-pass-slice_bounds-ask_phrase-end t c = let P = c.requires.1 in let a = c.loop-at in let i = a.invariant.1 P.0 P.1 P.2 P.4 in let l = c.loop-at-test.true in let f = child-facts i.left i.zip l in let k = c.child_at-child in omega (arith, f, a.invariant.0, c.well_formed, k.ensures.end_is)
+pass-slice_bounds-ask_phrase-end t c = omega (arith, (pass-child c.requires.1 c.loop-at.invariant.1 c.loop-at-test.true).there, c.loop-at.invariant.0, c.well_formed, c.child_at-child.ensures.end_is)
 
 pub pass-ask_phrase-d-requires : goal.pass-ask_phrase-d-requires
-pass-ask_phrase-d-requires t c = let P = c.requires.1 in let a = c.loop-at in let i = a.invariant.1 P.0 P.1 P.2 P.4 in let l = c.loop-at-test.true in let f = child-facts i.left i.zip l in let k = c.child_at-child in let h = child-held i.left i.zip l k.result.end k.ensures.end_is in (i.top, child-kind a.kids a.at k.result.end f k.ensures.end_is ∙ (phrase-word _ (sym c.child_at-child.ensures.kind-is ∙ is-phrase _ (sym c.eq.ensures ∙ c.if-eq.true))), child-cached a.kids a.at k.result.end f k.ensures.end_is k.result.cached k.ensures.cached-is c.if-d-child.false, (lent_of c.args.reader.now, refl, refl, P.0, P.1, h.0, c.args.depth, h.1, same_room P.3 a.invariant.0.buffers-same, h.2))
+pass-ask_phrase-d-requires t c =
+    let a = c.loop-at in
+    let k = pass-child c.requires.1 a.invariant.1 c.loop-at-test.true in
+    let is = c.child_at-child.ensures in
+    let w = phrase-word _ (sym is.kind-is ∙ is-phrase _ (sym c.eq.ensures ∙ c.if-eq.true)) in
+    (k.top, child-kind a.kids a.at _ k.there is.end_is ∙ w, child-cached a.kids a.at _ k.there is.end_is _ is.cached-is c.if-d-child.false, (lent_of c.args.reader.now, refl, refl, k.ix, k.places, k.scorer, c.args.depth, k.scores, same_room k.room a.invariant.0.buffers-same, k.held _ is.end_is))
 
 pub pass-loop-at-smaller-then-eq : goal.pass-loop-at-smaller-then-eq
-pass-loop-at-smaller-then-eq t c = let P = c.requires.1 in let a = c.loop-at in let i = a.invariant.1 P.0 P.1 P.2 P.4 in let l = c.loop-at-test.true in let f = child-facts i.left i.zip l in let k = c.child_at-child in let d = c.ask_phrase-d in omega (arith, f, k.ensures.end_is, l, back-length a.kids d.new.st a.at k.result.end d.auto.st)
+pass-loop-at-smaller-then-eq t c =
+    let a = c.loop-at in
+    let e = c.child_at-child.ensures.end_is in
+    omega (arith, (pass-child c.requires.1 a.invariant.1 c.loop-at-test.true).there, e, back-length a.kids c.ask_phrase-d.new.st a.at c.child_at-child.result.end c.ask_phrase-d.auto.st)
 
 pub pass-loop-at-preserved-then-eq : goal.pass-loop-at-preserved-then-eq
-pass-loop-at-preserved-then-eq t c = let a = c.loop-at in let l = c.loop-at-test.true in let k = c.child_at-child in let d = c.ask_phrase-d in (record { kids-same = back-length a.kids d.new.st a.at k.result.end d.auto.st ∙ a.invariant.0.kids-same; buffers-same = same_then a.invariant.0.buffers-same d.ensures.same_buffers }, λ ix p ss h. pass-asked (a.invariant.1 ix p ss h) l k.result.end k.ensures.end_is d.result d.new.st d.auto.st (d.ensures.ask_post (lent_of c.args.reader.now) c.args.depth refl refl))
+pass-loop-at-preserved-then-eq t c =
+    let a = c.loop-at in
+    let d = c.ask_phrase-d in
+    (part_back a.kids a.invariant.0 d.new.st a.at _ d.auto.st d.ensures.same_buffers, λ ix p ss h. pass-asked (a.invariant.1 ix p ss h) c.loop-at-test.true _ c.child_at-child.ensures.end_is d.result d.new.st d.auto.st (d.ensures.ask_post (lent_of c.args.reader.now) c.args.depth refl refl))
 
 pub pass-slice_bounds-advance-end : goal.pass-slice_bounds-advance-end
-pass-slice_bounds-advance-end t c = let P = c.requires.1 in let a = c.loop-at in let i = a.invariant.1 P.0 P.1 P.2 P.4 in let l = c.loop-at-test.true in let f = child-facts i.left i.zip l in let k = c.child_at-child in omega (arith, f, a.invariant.0, c.well_formed, k.ensures.end_is)
+pass-slice_bounds-advance-end t c = omega (arith, (pass-child c.requires.1 c.loop-at.invariant.1 c.loop-at-test.true).there, c.loop-at.invariant.0, c.well_formed, c.child_at-child.ensures.end_is)
 
 pub pass-advance-d-requires : goal.pass-advance-d-requires
-pass-advance-d-requires t c = let P = c.requires.1 in let a = c.loop-at in let i = a.invariant.1 P.0 P.1 P.2 P.4 in let l = c.loop-at-test.true in let k = c.child_at-child in let h = child-held i.left i.zip l k.result.end k.ensures.end_is in (omega arith, (i.top, (P.0, P.1, h.0, h.1, same_room P.3 a.invariant.0.buffers-same, h.2)))
+pass-advance-d-requires t c =
+    let a = c.loop-at in
+    let k = pass-child c.requires.1 a.invariant.1 c.loop-at-test.true in
+    (omega arith, (k.top, (k.ix, k.places, k.scorer, k.scores, same_room k.room a.invariant.0.buffers-same, k.held _ c.child_at-child.ensures.end_is)))
 
 pub pass-loop-at-preserved : goal.pass-loop-at-preserved
-pass-loop-at-preserved t c = let a = c.loop-at in let l = c.loop-at-test.true in let k = c.child_at-child in let d = c.advance-d in (record { kids-same = back-length a.kids d.new.st a.at k.result.end d.auto.st ∙ a.invariant.0.kids-same; buffers-same = same_then a.invariant.0.buffers-same d.ensures.same_buffers }, λ ix p ss h. pass-took (a.invariant.1 ix p ss h) l k.result.end k.ensures.end_is d.result d.new.st d.auto.st d.ensures.advance_post)
+pass-loop-at-preserved t c =
+    let a = c.loop-at in
+    let d = c.advance-d in
+    (part_back a.kids a.invariant.0 d.new.st a.at _ d.auto.st d.ensures.same_buffers, λ ix p ss h. pass-took (a.invariant.1 ix p ss h) c.loop-at-test.true _ c.child_at-child.ensures.end_is d.result d.new.st d.auto.st d.ensures.advance_post)
 
 pub pass-returns-clause-pass_post : goal.pass-returns-clause-pass_post
-pass-returns-clause-pass_post t c = let a = c.loop-at in λ ix p ss h. pass-end (a.invariant.1 ix p ss h) c.loop-at-test.false
+pass-returns-clause-pass_post t c = λ ix p ss h. pass-end (c.loop-at.invariant.1 ix p ss h) c.loop-at-test.false
