@@ -22,139 +22,298 @@ use Rattle.scorer.proofs.Loops.{least-child, least-end, least_skip, least-took, 
 use Rattle.scorer.proofs.+advance_conjunction_disjunction_excluding_lead_least_pass_step.Goals as goal
 
 pub conjunction-step-e-requires : goal.conjunction-step-e-requires
-conjunction-step-e-requires t c = let P = c.requires.1 in let a = c.loop-d in let i = a.invariant.2 P.0 P.1 P.2 P.3 P.5 in (omega arith, (a.invariant.1, (P.0, P.1, P.2, P.3, same_room P.4 a.invariant.0.buffers-same, i.held)))
+conjunction-step-e-requires t c =
+    let P = c.requires.1 in
+    let a = c.loop-d in
+    let i = a.invariant.2 P.0 P.1 P.2 P.3 P.5 in
+    (omega arith, (a.invariant.1, (P.0, P.1, P.2, P.3, same_room P.4 a.invariant.0.buffers-same, i.held)))
 
 pub conjunction-returns-then-e-d-clause-lead_post : goal.conjunction-returns-then-e-d-clause-lead_post
-conjunction-returns-then-e-d-clause-lead_post t c = let a = c.loop-d in let g = c.step-e in λ ix p rs os h. let i = a.invariant.2 ix p rs os h in let q = g.ensures.step_post ix p rs os i.held in (pass-done i.lo i.before q.0 c.if-e-d.true, rw c.if-e-d.true at q.1)
+conjunction-returns-then-e-d-clause-lead_post t c =
+    let a = c.loop-d in
+    let g = c.step-e in
+    λ ix p rs os h.
+        let i = a.invariant.2 ix p rs os h in
+        let q = g.ensures.step_post ix p rs os i.held in
+        (pass-done i.lo i.before q.0 c.if-e-d.true, rw c.if-e-d.true at q.1)
 
 pub conjunction-loop-d-smaller : goal.conjunction-loop-d-smaller
-conjunction-loop-d-smaller t c = let P = c.requires.1 in let a = c.loop-d in let i = a.invariant.2 P.0 P.1 P.2 P.3 P.5 in let g = c.step-e in let q = g.ensures.step_post P.0 P.1 P.2 P.3 i.held in omega (arith, q.0.from, q.0.top, c.if-e-d.false)
+conjunction-loop-d-smaller t c =
+    let P = c.requires.1 in
+    let a = c.loop-d in
+    let i = a.invariant.2 P.0 P.1 P.2 P.3 P.5 in
+    let g = c.step-e in
+    let q = g.ensures.step_post P.0 P.1 P.2 P.3 i.held in
+    omega (arith, q.0.from, q.0.top, c.if-e-d.false)
 
 pub conjunction-loop-d-preserved : goal.conjunction-loop-d-preserved
-conjunction-loop-d-preserved t c = let P = c.requires.1 in let a = c.loop-d in let i = a.invariant.2 P.0 P.1 P.2 P.3 P.5 in let g = c.step-e in (record { kids-same = g.auto.kids ∙ a.invariant.0.kids-same; buffers-same = same_then a.invariant.0.buffers-same g.ensures.same_buffers }, (g.ensures.step_post P.0 P.1 P.2 P.3 i.held).0.top, λ ix p rs os h. let i = a.invariant.2 ix p rs os h in let q = g.ensures.step_post ix p rs os i.held in record { lo = le_trans i.lo q.0.from; before = pass-more i.before q.0; held = q.1 })
+conjunction-loop-d-preserved t c =
+    let P = c.requires.1 in
+    let a = c.loop-d in
+    let i = a.invariant.2 P.0 P.1 P.2 P.3 P.5 in
+    let g = c.step-e in
+    (record { kids-same = g.auto.kids ∙ a.invariant.0.kids-same; buffers-same = same_then a.invariant.0.buffers-same g.ensures.same_buffers }, (g.ensures.step_post P.0 P.1 P.2 P.3 i.held).0.top, λ ix p rs os h.
+        let i = a.invariant.2 ix p rs os h in
+        let q = g.ensures.step_post ix p rs os i.held in
+        record { lo = le_trans i.lo q.0.from; before = pass-more i.before q.0; held = q.1 })
 
 pub disjunction-loop-x-init : goal.disjunction-loop-x-init
-disjunction-loop-x-init t c = (record { kids-same = refl; buffers-same = same_refl _ }, c.requires.1.0, c.wide-enough.ensures, λ ix p ss h. going_start h)
+disjunction-loop-x-init t c =
+    (record { kids-same = refl; buffers-same = same_refl _ }, c.requires.1.0, c.wide-enough.ensures, λ ix p ss h. going_start h)
 
 pub disjunction-returns-then-d-eq-NO_MORE_DOCS-clause-disjunction_post : goal.disjunction-returns-then-d-eq-NO_MORE_DOCS-clause-disjunction_post
-disjunction-returns-then-d-eq-NO_MORE_DOCS-clause-disjunction_post t c = let a = c.loop-x in let g = c.least-x in λ ix p ss h. let i = a.invariant.3 ix p ss h in let q = g.ensures.least_post ix p ss i.held in (enough-top c.requires.0 i.lo i.before q.0 c.if-d-eq-NO_MORE_DOCS.true, parts-later g.result.doc q.0.first.from q.1)
+disjunction-returns-then-d-eq-NO_MORE_DOCS-clause-disjunction_post t c =
+    let a = c.loop-x in
+    let g = c.least-x in
+    λ ix p ss h.
+        let i = a.invariant.3 ix p ss h in
+        let q = g.ensures.least_post ix p ss i.held in
+        (enough-top c.requires.0 i.lo i.before q.0 c.if-d-eq-NO_MORE_DOCS.true, parts-later g.result.doc q.0.first.from q.1)
 
 pub disjunction-loop-x-preserved : goal.disjunction-loop-x-preserved
-disjunction-loop-x-preserved t c = let P = c.requires.1.1 in let a = c.loop-x in let i = a.invariant.3 P.0 P.1 P.2 P.4 in let g = c.least-x in let q = g.ensures.least_post P.0 P.1 P.2 i.held in let d : g.result.doc < no_more_docs = omega (arith, q.0.first.top, c.if-d-eq-NO_MORE_DOCS.false) in (record { kids-same = g.auto.kids ∙ a.invariant.0.kids-same; buffers-same = same_then a.invariant.0.buffers-same g.ensures.same_buffers }, omega arith, a.invariant.2, λ ix p ss h. let i = a.invariant.3 ix p ss h in let q = g.ensures.least_post ix p ss i.held in record { lo = omega (arith, i.lo, q.0.first.from); before = enough-more c.requires.0 i.lo i.before q.0 d (omega (arith, c.if-x-enough.true, a.invariant.2)); held = parts-later (g.result.doc + 1) (omega (arith, q.0.first.from)) q.1 })
+disjunction-loop-x-preserved t c =
+    let P = c.requires.1.1 in
+    let a = c.loop-x in
+    let i = a.invariant.3 P.0 P.1 P.2 P.4 in
+    let g = c.least-x in
+    let q = g.ensures.least_post P.0 P.1 P.2 i.held in
+    let d : g.result.doc < no_more_docs = omega (arith, q.0.first.top, c.if-d-eq-NO_MORE_DOCS.false) in
+    (record { kids-same = g.auto.kids ∙ a.invariant.0.kids-same; buffers-same = same_then a.invariant.0.buffers-same g.ensures.same_buffers }, omega arith, a.invariant.2, λ ix p ss h.
+        let i = a.invariant.3 ix p ss h in
+        let q = g.ensures.least_post ix p ss i.held in
+        record { lo = omega (arith, i.lo, q.0.first.from); before = enough-more c.requires.0 i.lo i.before q.0 d (omega (arith, c.if-x-enough.true, a.invariant.2)); held = parts-later (g.result.doc + 1) (omega (arith, q.0.first.from)) q.1 })
 
 pub disjunction-returns-else-x-enough-clause-disjunction_post : goal.disjunction-returns-else-x-enough-clause-disjunction_post
-disjunction-returns-else-x-enough-clause-disjunction_post t c = let a = c.loop-x in let g = c.least-x in λ ix p ss h. let i = a.invariant.3 ix p ss h in let q = g.ensures.least_post ix p ss i.held in (enough-hit c.requires.0 i.lo i.before q.0 (omega (arith, c.if-x-enough.false, a.invariant.2)), parts-later g.result.doc q.0.first.from q.1)
+disjunction-returns-else-x-enough-clause-disjunction_post t c =
+    let a = c.loop-x in
+    let g = c.least-x in
+    λ ix p ss h.
+        let i = a.invariant.3 ix p ss h in
+        let q = g.ensures.least_post ix p ss i.held in
+        (enough-hit c.requires.0 i.lo i.before q.0 (omega (arith, c.if-x-enough.false, a.invariant.2)), parts-later g.result.doc q.0.first.from q.1)
 
 pub lead-disjunction-requires : goal.lead-disjunction-requires
-lead-disjunction-requires t c = let P = c.requires.1 in (omega arith, (omega (arith, c.if-need-eq0.false), (c.requires.0, (P.0, P.1, P.3, P.4, alone-optional P.5 c.if-required_end-eq0.true))))
+lead-disjunction-requires t c =
+    let P = c.requires.1 in
+    (omega arith, (omega (arith, c.if-need-eq0.false), (c.requires.0, (P.0, P.1, P.3, P.4, alone-optional P.5 c.if-required_end-eq0.true))))
 
 pub lead-returns-then-need-eq0-clause-lead_post : goal.lead-returns-then-need-eq0-clause-lead_post
-lead-returns-then-need-eq0-clause-lead_post t c = λ ix p rs os h. (alone-here h c.if-required_end-eq0.true c.args.need c.if-need-eq0.true c.requires.0, h)
+lead-returns-then-need-eq0-clause-lead_post t c =
+    λ ix p rs os h. (alone-here h c.if-required_end-eq0.true c.args.need c.if-need-eq0.true c.requires.0, h)
 
 pub lead-returns-else-need-eq0-clause-lead_post : goal.lead-returns-else-need-eq0-clause-lead_post
-lead-returns-else-need-eq0-clause-lead_post t c = let g = c.disjunction in λ ix p rs os h. let e = c.if-required_end-eq0.true in let q = g.ensures.disjunction_post ix p os (alone-optional h e) in (alone-first h e c.args.need g.result q.0, alone-joined h e g.new.kids g.result q.0.from q.1)
+lead-returns-else-need-eq0-clause-lead_post t c =
+    let g = c.disjunction in
+    λ ix p rs os h.
+        let e = c.if-required_end-eq0.true in
+        let q = g.ensures.disjunction_post ix p os (alone-optional h e) in
+        (alone-first h e c.args.need g.result q.0, alone-joined h e g.new.kids g.result q.0.from q.1)
 
 pub step-slice_bounds-pass-end : goal.step-slice_bounds-pass-end
-step-slice_bounds-pass-end t c = let P = c.requires.1 in lead-fits P.5
+step-slice_bounds-pass-end t c = lead-fits c.requires.1.5
 
 pub step-slice_bounds-pass-end-2 : goal.step-slice_bounds-pass-end-2
-step-slice_bounds-pass-end-2 t c = let P = c.requires.1 in let n = c.args.required_end in let w = c.args.kids.now in sym (length-take-le n w (lead-fits P.5))
+step-slice_bounds-pass-end-2 t c = sym (length-take-le c.args.required_end c.args.kids.now (lead-fits c.requires.1.5))
 
 pub step-pass-e-requires : goal.step-pass-e-requires
 step-pass-e-requires t c = let P = c.requires.1 in (omega arith, (c.requires.0, (P.0, P.1, P.2, P.4, lead-required P.5)))
 
 pub step-offset_bounds-kids-required_end : goal.step-offset_bounds-kids-required_end
-step-offset_bounds-kids-required_end t c = let P = c.requires.1 in let f = lead-fits P.5 in omega (arith, f, c.well_formed)
+step-offset_bounds-kids-required_end t c = omega (arith, lead-fits c.requires.1.5, c.well_formed)
 
 pub step-slice_bounds-disjunction-count : goal.step-slice_bounds-disjunction-count
-step-slice_bounds-disjunction-count t c = let P = c.requires.1 in let n = c.args.required_end in let w = c.args.kids.now in let g = c.pass-e in let f = lead-fits P.5 in let e = front_length w g.new.kids n g.auto.kids in omega (arith, f, e)
+step-slice_bounds-disjunction-count t c =
+    let g = c.pass-e in
+    omega (arith, lead-fits c.requires.1.5, front_length c.args.kids.now g.new.kids c.args.required_end g.auto.kids)
 
 pub step-slice_bounds-disjunction-start : goal.step-slice_bounds-disjunction-start
-step-slice_bounds-disjunction-start t c = let P = c.requires.1 in let n = c.args.required_end in let w = c.args.kids.now in let g = c.pass-e in let f = lead-fits P.5 in let e = front_length w g.new.kids n g.auto.kids in omega (arith, f, e, c.well_formed)
+step-slice_bounds-disjunction-start t c =
+    let g = c.pass-e in
+    omega (arith, lead-fits c.requires.1.5, front_length c.args.kids.now g.new.kids c.args.required_end g.auto.kids, c.well_formed)
 
 pub step-disjunction-requires : goal.step-disjunction-requires
-step-disjunction-requires t c = let P = c.requires.1 in let g = c.pass-e in let q = lead-turn P.5 g.new.kids g.result g.ensures.pass_post in (omega arith, (omega (arith, c.if-need-eq0.false), (q.0.top, (P.0, P.1, P.3, same_room P.4 g.ensures.same_buffers, lead-optional q.1))))
+step-disjunction-requires t c =
+    let P = c.requires.1 in
+    let g = c.pass-e in
+    let q = lead-turn P.5 g.new.kids g.result g.ensures.pass_post in
+    (omega arith, (omega (arith, c.if-need-eq0.false), (q.0.top, (P.0, P.1, P.3, same_room P.4 g.ensures.same_buffers, lead-optional q.1))))
 
 pub step-returns-then-need-eq0-clause-step_post : goal.step-returns-then-need-eq0-clause-step_post
-step-returns-then-need-eq0-clause-step_post t c = let g = c.pass-e in λ ix p rs os h. let q = lead-turn h g.new.kids g.result g.ensures.pass_post in (pass-only {P = all_match ix rs} {Q = λ d. leb c.args.need (matching ix os d)} (λ d. le-leb c.args.need (matching ix os d) (omega (arith, c.if-need-eq0.true))) q.0, q.1)
+step-returns-then-need-eq0-clause-step_post t c =
+    let g = c.pass-e in
+    λ ix p rs os h.
+        let q = lead-turn h g.new.kids g.result g.ensures.pass_post in
+        (pass-only {P = all_match ix rs} {Q = λ d. leb c.args.need (matching ix os d)} (λ d. le-leb c.args.need (matching ix os d) (omega (arith, c.if-need-eq0.true))) q.0, q.1)
 
 pub step-returns-else-need-eq0-clause-step_post : goal.step-returns-else-need-eq0-clause-step_post
-step-returns-else-need-eq0-clause-step_post t c = let g = c.pass-e in let x = c.disjunction in λ ix p rs os h. let q = lead-turn h g.new.kids g.result g.ensures.pass_post in let y = x.ensures.disjunction_post ix p os (lead-optional q.1) in (pass-then {P = all_match ix rs} {Q = λ d. leb c.args.need (matching ix os d)} q.0 y.0, lead-joined q.1 x.new.kids x.result y.0.from y.1)
+step-returns-else-need-eq0-clause-step_post t c =
+    let g = c.pass-e in
+    let x = c.disjunction in
+    λ ix p rs os h.
+        let q = lead-turn h g.new.kids g.result g.ensures.pass_post in
+        let y = x.ensures.disjunction_post ix p os (lead-optional q.1) in
+        (pass-then {P = all_match ix rs} {Q = λ d. leb c.args.need (matching ix os d)} q.0 y.0, lead-joined q.1 x.new.kids x.result y.0.from y.1)
 
 pub advance-bounds-st-2 : goal.advance-bounds-st-2
-advance-bounds-st-2 t c = let P = c.requires.1 in let l = node-long P.5 in omega (arith, l)
+advance-bounds-st-2 t c = omega (arith, node-long c.requires.1.5)
 
 pub advance-bounds-st-0 : goal.advance-bounds-st-0
-advance-bounds-st-0 t c = let P = c.requires.1 in let l = node-long P.5 in omega (arith, l)
+advance-bounds-st-0 t c = omega (arith, node-long c.requires.1.5)
 
 pub advance-returns-then-target-cached-clause-advance_post : goal.advance-returns-then-target-cached-clause-advance_post
 advance-returns-then-target-cached-clause-advance_post t c = λ ix p T o z. (node-cached z c.if-target-cached.true, z.ok)
 
 pub advance-boolean_at-n-requires : goal.advance-boolean_at-n-requires
-advance-boolean_at-n-requires t c = let P = c.requires.1 in let l = node-long P.5 in l
+advance-boolean_at-n-requires t c = node-long c.requires.1.5
 
 pub advance-slice_bounds-kids-count : goal.advance-slice_bounds-kids-count
-advance-slice_bounds-kids-count t c = let P = c.requires.1 in let l = node-long P.5 in omega (arith, l)
+advance-slice_bounds-kids-count t c = omega (arith, node-long c.requires.1.5)
 
 pub advance-slice_bounds-kids-start : goal.advance-slice_bounds-kids-start
-advance-slice_bounds-kids-start t c = let P = c.requires.1 in let l = node-long P.5 in omega (arith, l)
+advance-slice_bounds-kids-start t c = omega (arith, node-long c.requires.1.5)
 
 pub advance-overflow_sub-depth : goal.advance-overflow_sub-depth
-advance-overflow_sub-depth t c = let P = c.requires.1 in let b = c.boolean_at-n in let n = node-boolean c.if-target-cached.false (boolean-word _ (sym c.in-Boolean.ensures)) b.result b.ensures P.2 P.5 in omega (arith, n.0)
+advance-overflow_sub-depth t c =
+    let P = c.requires.1 in
+    let b = c.boolean_at-n in
+    let n = node-boolean c.if-target-cached.false (boolean-word _ (sym c.in-Boolean.ensures)) b.result b.ensures P.2 P.5 in
+    omega (arith, n.0)
 
 pub advance-excluding-d-requires : goal.advance-excluding-d-requires
-advance-excluding-d-requires t c = let P = c.requires.1 in let b = c.boolean_at-n in let n = node-boolean c.if-target-cached.false (boolean-word _ (sym c.in-Boolean.ensures)) b.result b.ensures P.2 P.5 in (omega (arith, n.0), (c.requires.0, (P.0, P.1, n.1.0, n.1.1, n.1.2, P.4, n.1.3)))
+advance-excluding-d-requires t c =
+    let P = c.requires.1 in
+    let b = c.boolean_at-n in
+    let n = node-boolean c.if-target-cached.false (boolean-word _ (sym c.in-Boolean.ensures)) b.result b.ensures P.2 P.5 in
+    (omega (arith, n.0), (c.requires.0, (P.0, P.1, n.1.0, n.1.1, n.1.2, P.4, n.1.3)))
 
 pub advance-overflow_add-st : goal.advance-overflow_add-st
-advance-overflow_add-st t c = let P = c.requires.1 in let b = c.boolean_at-n in let x = c.excluding-d in let d = node-joined c.if-target-cached.false (boolean-word _ (sym c.in-Boolean.ensures)) b.result b.ensures x.result x.new.kids x.ensures.boolean_post P.2 P.5 in omega (arith, d.0.top)
+advance-overflow_add-st t c =
+    let P = c.requires.1 in
+    let b = c.boolean_at-n in
+    let x = c.excluding-d in
+    let d = node-joined c.if-target-cached.false (boolean-word _ (sym c.in-Boolean.ensures)) b.result b.ensures x.result x.new.kids x.ensures.boolean_post P.2 P.5 in
+    omega (arith, d.0.top)
 
 pub advance-bounds-st-2-in-Boolean : goal.advance-bounds-st-2-in-Boolean
-advance-bounds-st-2-in-Boolean t c = let P = c.requires.1 in let l = node-long P.5 in let x = c.excluding-d in omega (arith, l, back-length c.args.st.now x.new.kids node_state_words (length c.args.st.now) x.auto.kids)
+advance-bounds-st-2-in-Boolean t c =
+    let x = c.excluding-d in
+    omega (arith, node-long c.requires.1.5, back-length c.args.st.now x.new.kids node_state_words (length c.args.st.now) x.auto.kids)
 
 pub advance-seek-d-requires : goal.advance-seek-d-requires
-advance-seek-d-requires t c = let P = c.requires.1 in let n = node-leaf c.if-target-cached.false (λ e. c.in_default.not-Boolean (c.from.ensures ∙ ap kind_of e)) P.2 P.5 in (c.requires.0, (P.0, P.1, n.0, n.1, n.2, P.4, n.3))
+advance-seek-d-requires t c =
+    let P = c.requires.1 in
+    let n = node-leaf c.if-target-cached.false (λ e. c.in_default.not-Boolean (c.from.ensures ∙ ap kind_of e)) P.2 P.5 in
+    (c.requires.0, (P.0, P.1, n.0, n.1, n.2, P.4, n.3))
 
 pub advance-overflow_add-st-in_default : goal.advance-overflow_add-st-in_default
-advance-overflow_add-st-in_default t c = let P = c.requires.1 in let y = c.seek-d in let d = node-sought c.if-target-cached.false c.requires.0 (λ e. c.in_default.not-Boolean (c.from.ensures ∙ ap kind_of e)) y.result y.new.st y.ensures.leaf_post P.2 P.5 in omega (arith, d.0.top)
+advance-overflow_add-st-in_default t c =
+    let P = c.requires.1 in
+    let y = c.seek-d in
+    let d = node-sought c.if-target-cached.false c.requires.0 (λ e. c.in_default.not-Boolean (c.from.ensures ∙ ap kind_of e)) y.result y.new.st y.ensures.leaf_post P.2 P.5 in
+    omega (arith, d.0.top)
 
 pub advance-bounds-st-2-in_default : goal.advance-bounds-st-2-in_default
-advance-bounds-st-2-in_default t c = let P = c.requires.1 in let l = node-long P.5 in let y = c.seek-d in omega (arith, l, y.auto.st)
+advance-bounds-st-2-in_default t c = let y = c.seek-d in omega (arith, node-long c.requires.1.5, y.auto.st)
 
 pub advance-returns-in-Boolean-clause-advance_post : goal.advance-returns-in-Boolean-clause-advance_post
-advance-returns-in-Boolean-clause-advance_post t c = let b = c.boolean_at-n in let x = c.excluding-d in λ ix p T o z. node-joined c.if-target-cached.false (boolean-word _ (sym c.in-Boolean.ensures)) b.result b.ensures x.result x.new.kids x.ensures.boolean_post T z
+advance-returns-in-Boolean-clause-advance_post t c =
+    let b = c.boolean_at-n in
+    let x = c.excluding-d in
+    λ ix p T o z. node-joined c.if-target-cached.false (boolean-word _ (sym c.in-Boolean.ensures)) b.result b.ensures x.result x.new.kids x.ensures.boolean_post T z
 
 pub advance-returns-in-Boolean-clause-st_after : goal.advance-returns-in-Boolean-clause-st_after
-advance-returns-in-Boolean-clause-st_after t c = let P = c.requires.1 in let l = node-long P.5 in let x = c.excluding-d in get_or-set_same (take node_state_words c.args.st.now ++ (x.new.kids ++ drop (length c.args.st.now - node_state_words) (drop node_state_words c.args.st.now))) 2 (x.result + 1) 0 (omega (arith, l, back-length c.args.st.now x.new.kids node_state_words (length c.args.st.now) x.auto.kids))
+advance-returns-in-Boolean-clause-st_after t c =
+    let x = c.excluding-d in
+    get_or-set_same (take node_state_words c.args.st.now ++ (x.new.kids ++ drop (length c.args.st.now - node_state_words) (drop node_state_words c.args.st.now))) 2 (x.result + 1) 0 (omega (arith, node-long c.requires.1.5, back-length c.args.st.now x.new.kids node_state_words (length c.args.st.now) x.auto.kids))
 
 pub advance-returns-in_default-clause-advance_post : goal.advance-returns-in_default-clause-advance_post
-advance-returns-in_default-clause-advance_post t c = let y = c.seek-d in λ ix p T o z. node-sought c.if-target-cached.false c.requires.0 (λ e. c.in_default.not-Boolean (c.from.ensures ∙ ap kind_of e)) y.result y.new.st y.ensures.leaf_post T z
+advance-returns-in_default-clause-advance_post t c =
+    let y = c.seek-d in
+    λ ix p T o z. node-sought c.if-target-cached.false c.requires.0 (λ e. c.in_default.not-Boolean (c.from.ensures ∙ ap kind_of e)) y.result y.new.st y.ensures.leaf_post T z
 
 pub advance-returns-in_default-clause-st_after : goal.advance-returns-in_default-clause-st_after
-advance-returns-in_default-clause-st_after t c = let P = c.requires.1 in let l = node-long P.5 in let y = c.seek-d in get_or-set_same y.new.st 2 (y.result + 1) 0 (omega (arith, l, y.auto.st))
+advance-returns-in_default-clause-st_after t c =
+    let y = c.seek-d in get_or-set_same y.new.st 2 (y.result + 1) 0 (omega (arith, node-long c.requires.1.5, y.auto.st))
 
 pub excluding-lead-d-requires : goal.excluding-lead-d-requires
-excluding-lead-d-requires t c = let P = c.requires.1 in let a = c.loop-n in let i = a.invariant.2 P.0 P.1 P.2 P.3 P.4 P.6 in (omega arith, (a.invariant.1, (P.0, P.1, P.2, P.3, same_room P.5 a.invariant.0.buffers-same, boolean-lead i.held)))
+excluding-lead-d-requires t c =
+    let P = c.requires.1 in
+    let a = c.loop-n in
+    let i = a.invariant.2 P.0 P.1 P.2 P.3 P.4 P.6 in
+    (omega arith, (a.invariant.1, (P.0, P.1, P.2, P.3, same_room P.5 a.invariant.0.buffers-same, boolean-lead i.held)))
 
 pub excluding-returns-then-d-eq-NO_MORE_DOCS-clause-boolean_post : goal.excluding-returns-then-d-eq-NO_MORE_DOCS-clause-boolean_post
-excluding-returns-then-d-eq-NO_MORE_DOCS-clause-boolean_post t c = let a = c.loop-n in let g = c.lead-d in λ ix p rs os ps h. let i = a.invariant.2 ix p rs os ps h in let q = boolean-turn i.held c.args.n.need g.new.kids g.result g.auto.kids g.ensures.lead_post in (kept_top ix rs os ps c.args.n.need i.lo i.before q.0 c.if-d-eq-NO_MORE_DOCS.true, q.1)
+excluding-returns-then-d-eq-NO_MORE_DOCS-clause-boolean_post t c =
+    let a = c.loop-n in
+    let g = c.lead-d in
+    λ ix p rs os ps h.
+        let i = a.invariant.2 ix p rs os ps h in
+        let q = boolean-turn i.held c.args.n.need g.new.kids g.result g.auto.kids g.ensures.lead_post in
+        (kept_top ix rs os ps c.args.n.need i.lo i.before q.0 c.if-d-eq-NO_MORE_DOCS.true, q.1)
 
 pub excluding-returns-then-n-kids-clause-boolean_post : goal.excluding-returns-then-n-kids-clause-boolean_post
-excluding-returns-then-n-kids-clause-boolean_post t c = let a = c.loop-n in let g = c.lead-d in λ ix p rs os ps h. let i = a.invariant.2 ix p rs os ps h in let q = boolean-turn i.held c.args.n.need g.new.kids g.result g.auto.kids g.ensures.lead_post in (kept-alone ix rs os ps c.args.n.need i.lo i.before q.0 (boolean-none q.1 c.if-n-kids.true), q.1)
+excluding-returns-then-n-kids-clause-boolean_post t c =
+    let a = c.loop-n in
+    let g = c.lead-d in
+    λ ix p rs os ps h.
+        let i = a.invariant.2 ix p rs os ps h in
+        let q = boolean-turn i.held c.args.n.need g.new.kids g.result g.auto.kids g.ensures.lead_post in
+        (kept-alone ix rs os ps c.args.n.need i.lo i.before q.0 (boolean-none q.1 c.if-n-kids.true), q.1)
 
 pub excluding-least-x-requires : goal.excluding-least-x-requires
-excluding-least-x-requires t c = let P = c.requires.1 in let a = c.loop-n in let i = a.invariant.2 P.0 P.1 P.2 P.3 P.4 P.6 in let g = c.lead-d in let q = boolean-turn i.held c.args.n.need g.new.kids g.result g.auto.kids g.ensures.lead_post in (omega arith, (q.0.top, (P.0, P.1, P.4, same_room P.5 (same_then a.invariant.0.buffers-same g.ensures.same_buffers), boolean-prohibited q.1)))
+excluding-least-x-requires t c =
+    let P = c.requires.1 in
+    let a = c.loop-n in
+    let i = a.invariant.2 P.0 P.1 P.2 P.3 P.4 P.6 in
+    let g = c.lead-d in
+    let q = boolean-turn i.held c.args.n.need g.new.kids g.result g.auto.kids g.ensures.lead_post in
+    (omega arith, (q.0.top, (P.0, P.1, P.4, same_room P.5 (same_then a.invariant.0.buffers-same g.ensures.same_buffers), boolean-prohibited q.1)))
 
 pub excluding-overflow_add-t : goal.excluding-overflow_add-t
-excluding-overflow_add-t t c = let P = c.requires.1 in let a = c.loop-n in let i = a.invariant.2 P.0 P.1 P.2 P.3 P.4 P.6 in let g = c.lead-d in let q = boolean-turn i.held c.args.n.need g.new.kids g.result g.auto.kids g.ensures.lead_post in omega (arith, q.0.top)
+excluding-overflow_add-t t c =
+    let P = c.requires.1 in
+    let a = c.loop-n in
+    let i = a.invariant.2 P.0 P.1 P.2 P.3 P.4 P.6 in
+    let g = c.lead-d in
+    let q = boolean-turn i.held c.args.n.need g.new.kids g.result g.auto.kids g.ensures.lead_post in
+    omega (arith, q.0.top)
 
 pub excluding-loop-n-smaller : goal.excluding-loop-n-smaller
-excluding-loop-n-smaller t c = let P = c.requires.1 in let a = c.loop-n in let i = a.invariant.2 P.0 P.1 P.2 P.3 P.4 P.6 in let g = c.lead-d in let q = boolean-turn i.held c.args.n.need g.new.kids g.result g.auto.kids g.ensures.lead_post in omega (arith, q.0.from)
+excluding-loop-n-smaller t c =
+    let P = c.requires.1 in
+    let a = c.loop-n in
+    let i = a.invariant.2 P.0 P.1 P.2 P.3 P.4 P.6 in
+    let g = c.lead-d in
+    let q = boolean-turn i.held c.args.n.need g.new.kids g.result g.auto.kids g.ensures.lead_post in
+    omega (arith, q.0.from)
 
 pub excluding-loop-n-preserved : goal.excluding-loop-n-preserved
-excluding-loop-n-preserved t c = let P = c.requires.1 in let a = c.loop-n in let i = a.invariant.2 P.0 P.1 P.2 P.3 P.4 P.6 in let m = c.args.n.optional_end in let g = c.lead-d in let x = c.least-x in let w = g.new.kids ++ drop m a.kids in let q = boolean-turn i.held c.args.n.need g.new.kids g.result g.auto.kids g.ensures.lead_post in let d : g.result < no_more_docs = omega (arith, q.0.top, c.if-d-eq-NO_MORE_DOCS.false) in (record { kids-same = back-length w x.new.kids m (length w) x.auto.kids ∙ front_length a.kids g.new.kids m g.auto.kids ∙ a.invariant.0.kids-same; buffers-same = same_then (same_then a.invariant.0.buffers-same g.ensures.same_buffers) x.ensures.same_buffers }, omega arith, λ ix p rs os ps h. let i = a.invariant.2 ix p rs os ps h in let q = boolean-turn i.held c.args.n.need g.new.kids g.result g.auto.kids g.ensures.lead_post in let y = x.ensures.least_post ix p ps (boolean-prohibited q.1) in record { lo = omega (arith, i.lo, q.0.from); before = kept_more ix rs os ps c.args.n.need i.lo i.before q.0 x.result.doc x.result.count d y.0 c.if-x-d.true; held = boolean-later (boolean-joined q.1 x.new.kids y.1) (g.result + 1) (omega arith) })
+excluding-loop-n-preserved t c =
+    let P = c.requires.1 in
+    let a = c.loop-n in
+    let i = a.invariant.2 P.0 P.1 P.2 P.3 P.4 P.6 in
+    let m = c.args.n.optional_end in
+    let g = c.lead-d in
+    let x = c.least-x in
+    let w = g.new.kids ++ drop m a.kids in
+    let q = boolean-turn i.held c.args.n.need g.new.kids g.result g.auto.kids g.ensures.lead_post in
+    let d : g.result < no_more_docs = omega (arith, q.0.top, c.if-d-eq-NO_MORE_DOCS.false) in
+    (record { kids-same = back-length w x.new.kids m (length w) x.auto.kids ∙ front_length a.kids g.new.kids m g.auto.kids ∙ a.invariant.0.kids-same; buffers-same = same_then (same_then a.invariant.0.buffers-same g.ensures.same_buffers) x.ensures.same_buffers }, omega arith, λ ix p rs os ps h.
+        let i = a.invariant.2 ix p rs os ps h in
+        let q = boolean-turn i.held c.args.n.need g.new.kids g.result g.auto.kids g.ensures.lead_post in
+        let y = x.ensures.least_post ix p ps (boolean-prohibited q.1) in
+        record { lo = omega (arith, i.lo, q.0.from); before = kept_more ix rs os ps c.args.n.need i.lo i.before q.0 x.result.doc x.result.count d y.0 c.if-x-d.true; held = boolean-later (boolean-joined q.1 x.new.kids y.1) (g.result + 1) (omega arith) })
 
 pub excluding-returns-else-x-d-clause-boolean_post : goal.excluding-returns-else-x-d-clause-boolean_post
-excluding-returns-else-x-d-clause-boolean_post t c = let a = c.loop-n in let g = c.lead-d in let x = c.least-x in λ ix p rs os ps h. let i = a.invariant.2 ix p rs os ps h in let q = boolean-turn i.held c.args.n.need g.new.kids g.result g.auto.kids g.ensures.lead_post in let y = x.ensures.least_post ix p ps (boolean-prohibited q.1) in (kept-hit ix rs os ps c.args.n.need i.lo i.before q.0 x.result.doc x.result.count y.0 c.if-x-d.false, boolean-joined q.1 x.new.kids y.1)
+excluding-returns-else-x-d-clause-boolean_post t c =
+    let a = c.loop-n in
+    let g = c.lead-d in
+    let x = c.least-x in
+    λ ix p rs os ps h.
+        let i = a.invariant.2 ix p rs os ps h in
+        let q = boolean-turn i.held c.args.n.need g.new.kids g.result g.auto.kids g.ensures.lead_post in
+        let y = x.ensures.least_post ix p ps (boolean-prohibited q.1) in
+        (kept-hit ix rs os ps c.args.n.need i.lo i.before q.0 x.result.doc x.result.count y.0 c.if-x-d.false, boolean-joined q.1 x.new.kids y.1)
 
 pub least-slice_bounds-advance_term-end : goal.least-slice_bounds-advance_term-end
 least-slice_bounds-advance_term-end t c =
