@@ -1,11 +1,12 @@
 // Scorers without children: the documents of a run, all documents, or a phrase.
 #![tactic(auto)]
 
-ghost use Rattle.std.specs.Prelude.{◌≡◌, ℕ, ◌+◌, ◌*◌, ◌≤◌, ◌<◌, length};
+ghost use Rattle.std.specs.Prelude.{◌≡◌, ℕ, ◌+◌, ◌*◌, ◌%◌, ◌≤◌, ◌<◌, length, get_or};
 ghost use Rattle.meaning.specs.Limits.{node_state_words, no_more_docs};
 ghost use Rattle.leaf_scorer.specs.Search.{CursorRead, SearchPre, SearchPost, AnyDocument, FirstSet, RangePre, RangePost};
-ghost use Rattle.leaf_scorer.specs.Phrases.{TermsPre, PassTermsPost, LeapfrogPost, PlaceAt, PlaceRead, GatherPre, GatherPost, FrequencyPre, FrequencyPost, PhrasePre, PhrasePost, PhraseAtPost};
+ghost use Rattle.leaf_scorer.specs.Phrases.{TermsPre, PassTermsPost, LeapfrogPost, EachRecord, PostingsThere, GatherPost, PostingsPre, PostingsPost, FrequencyPre, FrequencyPost, PhrasePre, PhrasePost, PhraseAtPost};
 ghost use Rattle.leaf_scorer.specs.Calls.{lent_of, LeafPre, LeafPost};
+ghost use Rattle.leaf_scorer.specs.Buffers.{room, other_room, SameBuffers};
 
 pub use index::postings::NO_MORE_DOCS;
 use index::wide;
@@ -13,15 +14,23 @@ use node::NodeKind;
 use run::{document, lower};
 use weight::NODE_STATE_WORDS;
 
-// What is read of the index beside a tree's words, and the bitmaps of the order's ranges.
+// What is read of the index beside a tree's words, the inverses of its fields' lengths, and the bitmaps of the order's ranges.
 #[derive(Clone, Copy)]
 pub struct LeafReader<'a> {
     pub max_doc: u32,
     pub postings: &'a [u32],
     pub positions: &'a [u32],
     pub norms: &'a [u8],
+    pub inverses: &'a [f32],
     pub ranges: &'a [u32],
     pub live: &'a [u64],
+}
+
+// The two buffers for the starts of a phrase's terms in a document.
+#[derive(Drop)]
+pub struct PhraseBuffers<'a> {
+    pub starts: &'a mut [i32],
+    pub other_starts: &'a mut [i32],
 }
 
 // The words of a posting.
@@ -169,74 +178,100 @@ fn leapfrog(terms: &mut [u32], postings: &[u32], target: u32) -> u32
     }
 }
 
-// A phrase's term: the word of its posting, and its offset.
-#[derive(Clone, Copy)]
-pub struct Place {
-    pub posting: usize,
-    pub offset: u32,
-}
-
-fn place_at(terms: &[u32], at: usize) -> Place
-    requires { PlaceAt terms.now at }
-    ensures { PlaceRead terms.now at result.posting result.offset }
+// The word of a term's posting in the document where its record's cursor stands.
+fn posting_of(terms: &[u32], at: usize) -> usize
+    requires { at + node_state_words ≤ length terms.now }
+    ensures { result ≡ 3 * (get_or terms.now (at + 6) 0 + get_or terms.now (at + 8) 0) }
 {
-    Place {
-        posting: POSTING * (wide(terms[at + 6]) + wide(terms[at + 8])),
-        offset: terms[at + 9],
-    }
+    POSTING * (wide(terms[at + 6]) + wide(terms[at + 8]))
 }
 
-// Of each term that stands at a document: the index of its first position there, its frequency and its offset.
-fn gather(terms: &[u32], postings: &[u32], out: &mut [u32]) -> usize
-    requires { GatherPre postings.now terms.now (length out.old) }
-    ensures { GatherPost postings.now terms.now result out.new }
+// Of each term's posting in a document: the index of its first position there, its frequency and its offset. `posting` says where the
+// posting's words begin, by where the term's record does.
+#[inline(always)]
+fn gather<F: Fn(usize) -> usize>(
+    terms: &[u32],
+    postings: &[u32],
+    out: &mut [u32],
+    posting: F,
+) -> usize
+    requires may_ask { EachRecord (F.pre posting) (length terms.now) }
+    requires there { PostingsThere postings.now (length terms.now) (F.post posting) }
+    requires whole { length terms.now % node_state_words ≡ 0 }
+    requires room { 3 * length terms.now ≤ node_state_words * length out.old }
+    ensures { GatherPost postings.now terms.now (F.post posting) result out.new }
 {
     let mut n = 0;
     let mut at = 0;
+    // Kept: a `for` over the terms' number is unrolled, and a document of a phrase with two terms takes 26 ns in place of 22.
     while at < terms.len() {
-        let p = place_at(terms, at);
-        let posting = p.posting;
-        out[n] = postings[posting + 2];
-        out[n + 1] = postings[posting + 1];
-        out[n + 2] = p.offset;
+        let p = posting(at);
+        out[n] = postings[p + 2];
+        out[n + 1] = postings[p + 1];
+        out[n + 2] = terms[at + 9];
         n += POSTING;
         at += NODE_STATE_WORDS;
     }
     n
 }
 
-// The frequency of a phrase in the document where its terms stand, by way of an array that has room for three words of each.
-fn frequency_in<const WORDS: usize>(
+// The frequency of a phrase in a document that all its terms have, by way of an array that has room for three words of each.
+fn frequency_in<const WORDS: usize, F: Fn(usize) -> usize>(
     terms: &[u32],
     postings: &[u32],
     positions: &[u32],
-    a: &mut [i32],
-    b: &mut [i32],
+    buffers: &mut PhraseBuffers<'_>,
+    posting: F,
 ) -> u32
-    requires pre { FrequencyPre postings.now positions.now terms.now (length a.old) (length b.old) }
+    requires may_ask { EachRecord (F.pre posting) (length terms.now) }
+    requires held { PostingsPre postings.now positions.now terms.now (F.post posting) (room buffers.old) (other_room buffers.old) }
     requires room { (3 * length terms.now ≤ node_state_words * WORDS) × (WORDS ≤ 96) }
-    ensures { FrequencyPost postings.now positions.now terms.now result }
+    ensures frequency_post { PostingsPost postings.now positions.now terms.now (F.post posting) result }
+    ensures same_buffers { SameBuffers buffers.old buffers.new }
 {
     let mut words = [0u32; WORDS];
-    let n = gather(terms, postings, &mut words);
-    phrase::frequency(positions, &words[..n], a, b)
+    let n = gather(terms, postings, &mut words, posting);
+    phrase::frequency(positions, &words[..n], buffers.starts, buffers.other_starts)
 }
 
-// A phrase has at most 32 terms. Most have up to four, and zeroing few words is cheaper.
+// The frequency of a phrase in a document that all its terms have; `posting` is as in `gather`. A phrase has at most 32 terms. Most
+// have up to four, and zeroing few words is cheaper.
+pub fn frequency_by<F: Fn(usize) -> usize>(
+    terms: &[u32],
+    postings: &[u32],
+    positions: &[u32],
+    buffers: &mut PhraseBuffers<'_>,
+    posting: F,
+) -> u32
+    requires may_ask { EachRecord (F.pre posting) (length terms.now) }
+    requires held { PostingsPre postings.now positions.now terms.now (F.post posting) (room buffers.old) (other_room buffers.old) }
+    ensures frequency_post { PostingsPost postings.now positions.now terms.now (F.post posting) result }
+    ensures same_buffers { SameBuffers buffers.old buffers.new }
+{
+    if terms.len() <= FOUR_TERMS {
+        return frequency_in::<12, _>(terms, postings, positions, buffers, posting);
+    }
+    frequency_in::<96, _>(terms, postings, positions, buffers, posting)
+}
+
+// The frequency in the document where the terms stand.
 fn frequency(
     terms: &[u32],
     postings: &[u32],
     positions: &[u32],
-    a: &mut [i32],
-    b: &mut [i32],
+    buffers: &mut PhraseBuffers<'_>,
 ) -> u32
-    requires { FrequencyPre postings.now positions.now terms.now (length a.old) (length b.old) }
-    ensures { FrequencyPost postings.now positions.now terms.now result }
+    requires { FrequencyPre postings.now positions.now terms.now (room buffers.old) (other_room buffers.old) }
+    ensures frequency_post { FrequencyPost postings.now positions.now terms.now result }
+    ensures same_buffers { SameBuffers buffers.old buffers.new }
 {
-    if terms.len() <= FOUR_TERMS {
-        return frequency_in::<12>(terms, postings, positions, a, b);
-    }
-    frequency_in::<96>(terms, postings, positions, a, b)
+    frequency_by(
+        terms,
+        postings,
+        positions,
+        buffers,
+        |at| posting_of(terms, at),
+    )
 }
 
 // The first document at or after the target where a phrase stands; its frequency there is stored.
@@ -244,12 +279,12 @@ pub fn seek_phrase(
     st: &mut [u32],
     postings: &[u32],
     positions: &[u32],
-    a: &mut [i32],
-    b: &mut [i32],
+    buffers: &mut PhraseBuffers<'_>,
     target: u32,
 ) -> u32
-    requires { PhrasePre postings.now positions.now (length a.old) (length b.old) st.old target }
-    ensures { PhrasePost postings.now positions.now st.old target result st.new }
+    requires { PhrasePre postings.now positions.now (room buffers.old) (other_room buffers.old) st.old target }
+    ensures phrase_post { PhrasePost postings.now positions.now st.old target result st.new }
+    ensures same_buffers { SameBuffers buffers.old buffers.new }
 {
     let mut t = target;
     // Kept: each turn begins where the answer of the one before lies; a loop is plainer than an iterator of such steps.
@@ -258,7 +293,7 @@ pub fn seek_phrase(
         if d == NO_MORE_DOCS {
             return d;
         }
-        let n = frequency(&st[NODE_STATE_WORDS..], postings, positions, a, b);
+        let n = frequency(&st[NODE_STATE_WORDS..], postings, positions, buffers);
         if n == 0 {
             t = d + 1;
         } else {
@@ -275,12 +310,12 @@ pub fn phrase_at(
     st: &mut [u32],
     postings: &[u32],
     positions: &[u32],
-    a: &mut [i32],
-    b: &mut [i32],
+    buffers: &mut PhraseBuffers<'_>,
     target: u32,
 ) -> u32
-    requires { PhrasePre postings.now positions.now (length a.old) (length b.old) st.old target }
-    ensures { PhraseAtPost postings.now positions.now st.old target result st.new }
+    requires { PhrasePre postings.now positions.now (room buffers.old) (other_room buffers.old) st.old target }
+    ensures phrase_at_post { PhraseAtPost postings.now positions.now st.old target result st.new }
+    ensures same_buffers { SameBuffers buffers.old buffers.new }
 {
     let p = pass_terms(&mut st[NODE_STATE_WORDS..], postings, target);
     let d = p.doc;
@@ -290,7 +325,7 @@ pub fn phrase_at(
     if d == NO_MORE_DOCS {
         return d;
     }
-    let n = frequency(&st[NODE_STATE_WORDS..], postings, positions, a, b);
+    let n = frequency(&st[NODE_STATE_WORDS..], postings, positions, buffers);
     if n == 0 {
         return d + 1;
     }
@@ -303,16 +338,16 @@ pub fn phrase_at(
 pub fn seek(
     st: &mut [u32],
     reader: &LeafReader<'_>,
-    a: &mut [i32],
-    b: &mut [i32],
+    buffers: &mut PhraseBuffers<'_>,
     target: u32,
 ) -> u32
-    requires { LeafPre (lent_of reader.now) (length a.old) (length b.old) st.old target }
-    ensures { LeafPost (lent_of reader.now) st.old target result st.new }
+    requires { LeafPre (lent_of reader.now) (room buffers.old) (other_room buffers.old) st.old target }
+    ensures leaf_post { LeafPost (lent_of reader.now) st.old target result st.new }
+    ensures same_buffers { SameBuffers buffers.old buffers.new }
 {
     match NodeKind::from(st[0]) {
         NodeKind::Term => search_postings(st, reader.postings, target),
-        NodeKind::Phrase => seek_phrase(st, reader.postings, reader.positions, a, b, target),
+        NodeKind::Phrase => seek_phrase(st, reader.postings, reader.positions, buffers, target),
         NodeKind::Range => seek_range(st, reader.ranges, target),
         _ => everything(reader.max_doc, target),
     }

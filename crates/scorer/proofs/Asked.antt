@@ -1,5 +1,5 @@
 -- A node that is a phrase, asked about one document. Assumes nothing.
-use mathlib.Core.Path.{◌≡◌, refl, subst, ◌∙◌}
+use mathlib.Core.Path.{◌≡◌, subst, ◌∙◌}
 use mathlib.Core.Bool.{true}
 use mathlib.Core.List.{List}
 use Prim.Native.Nat.{ℕ, ◌+◌, ◌≤◌}
@@ -15,7 +15,7 @@ use Rattle.weight.specs.Held.{LeafIs, Ok}
 use Rattle.leaf_scorer.specs.Phrases.{PhraseHeld, PhrasePre, PhraseAtPost}
 use Rattle.leaf_scorer.specs.Calls.{Lent, Passes}
 use Rattle.leaf_scorer.proofs.Seeks.{seek-phrase-pre}
-use Rattle.scorer.specs.Calls.{NodeHeld, Asks}
+use Rattle.scorer.specs.Calls.{NodeHeld, Asks, RoomIn}
 use Rattle.scorer.proofs.Nodes.{LeafAsked, node-leaf, node-asked}
 
 module _ (ps qs st : List ℕ) (t : ℕ) (is : get_or st 0 0 ≡ 2) (due : get_or st 2 0 ≤ t) where
@@ -27,11 +27,11 @@ module _ (ps qs st : List ℕ) (t : ℕ) (is : get_or st 0 0 ≡ 2) (due : get_o
     own : {ix : Index} {p : ℕ} {f : ℕ} {ts : List PhraseTerm} {s : State} {w : List ℕ} → PhraseHeld E.postings E.positions ix p f ts s w st t → PhraseHeld ps qs ix p f ts s w st t
     own h = record { accepted = h.accepted; postings-are = h.postings-are ∙ same; positions-are = h.positions-are ∙ alike; sound = h.sound; words = h.words; is = h.is }
 
-    pub phrase-asks : t ≤ no_more_docs → (a b : ℕ) (ix : Index) (p : ℕ) (T : Scorer) (k o : ℕ) → p ≤ a → p ≤ b → NodeHeld E ix p T k o st t → PhrasePre ps qs a b st t
-    phrase-asks top a b ix p T k o in-a in_b h =
-        let n = node-leaf E ix p k o st t (get_or st 2 0) refl due (get_or st 0 0) refl phrase-no-boolean T h in
+    pub phrase-asks : t ≤ no_more_docs → {a b : ℕ} {ix : Index} {p : ℕ} {T : Scorer} {k o : ℕ} → RoomIn p a b → NodeHeld E ix p T k o st t → PhrasePre ps qs a b st t
+    phrase-asks top {ix = ix} {p = p} {T = T} room h =
+        let n = node-leaf due phrase-no-boolean T h in
         let m = seek-phrase-pre E st t is ix p n.0 n.1 n.2 n.3 in
-        (top, (ix, p, m.0, m.1, n.1, n.2, in-a, in_b, own m.2))
+        (top, (ix, p, m.0, m.1, n.1, n.2, room.in-a, room.in_b, own m.2))
 
     module _ (r : ℕ) (st' : List ℕ) (post : PhraseAtPost ps qs st t r st') where
       leaf-asked : LeafAsked E st t r st'
@@ -52,17 +52,17 @@ module _ (ps qs st : List ℕ) (t : ℕ) (is : get_or st 0 0 ≡ 2) (due : get_o
       leaf-asked ix p (range x) s w h = absurd (omega (arith, rw h.words at is, h.is.0.kind-is))
       leaf-asked ix p everything s w h = absurd (omega (arith, rw h.words at is, h.is.0))
 
-      module _ (ix : Index) (p : ℕ) (T : Scorer) (k o : ℕ) (h : NodeHeld E ix p T k o st t) where
+      module _ {ix : Index} {p : ℕ} {T : Scorer} {k o : ℕ} (h : NodeHeld E ix p T k o st t) where
         asked : Passes (matches ix T) t r × (r ≡ t → Ok ix E.ranges T k o (set st' 2 (t + 1)) t) × ((r ≡ t → ⊥) → Ok ix E.ranges T k o st' r)
-        asked = node-asked E ix p k o st t (get_or st 2 0) refl due (get_or st 0 0) refl phrase-no-boolean r st' leaf-asked T h
+        asked = node-asked due phrase-no-boolean r st' leaf-asked T h
 
         -- it does not stand at the target
-        pub asked-moved : (from : ℕ) → from ≡ t → (r ≡ t → ⊥) → Asks (matches ix T) from t r × Ok ix E.ranges T k o st' r
-        asked-moved from e ne = (record { from = asked.0.from; top = asked.0.top; before = asked.0.before; hit = λ s l. absurd (ne (s ∙ e)) }, asked.2 ne)
+        pub asked-moved : {from : ℕ} → from ≡ t → (r ≡ t → ⊥) → Asks (matches ix T) from t r × Ok ix E.ranges T k o st' r
+        asked-moved e ne = (record { from = asked.0.from; top = asked.0.top; before = asked.0.before; hit = λ s l. absurd (ne (s ∙ e)) }, asked.2 ne)
 
         -- it does
-        pub asked-there : (from : ℕ) → from ≡ t → r ≡ t → Asks (matches ix T) from t t × Ok ix E.ranges T k o (set st' 2 (t + 1)) t
-        asked-there from e is-t = (
+        pub asked-there : {from : ℕ} → from ≡ t → r ≡ t → Asks (matches ix T) from t t × Ok ix E.ranges T k o (set st' 2 (t + 1)) t
+        asked-there e is-t = (
           record { from = le_refl _; top = omega (arith, asked.0.top); before = λ x a b. absurd (omega arith); hit = λ s l. subst (λ (y : ℕ). matches ix T y ≡ true) is-t (asked.0.hit is-t (omega arith)) },
           asked.1 is-t,
         )

@@ -7,15 +7,18 @@ use native.Mathlib.Nat.{le_refl, le_trans}
 use native.Mathlib.Omega.{arith}
 use lib.ListN.{get_or, length, take, drop, length-append, get_or-append}
 use lib.Seq.{take_at, drop_at, get_or-append-add, get_or-take, get_or-drop}
-use Rattle.meaning.specs.Limits.{node_state_words}
+use Rattle.meaning.specs.Limits.{no_more_docs, node_state_words}
 use Rattle.meaning.specs.Lent.{Index}
 use Rattle.meaning.specs.First.{First}
 use Rattle.weight.specs.ScorerTree.{Scorer, Scorers, end, more, matches}
 use Rattle.weight.specs.Held.{Ok, Oks}
 use Rattle.weight.specs.Sound.{Lends, Sound, Sounds}
-use Rattle.node.specs.Words.{ChildThere}
+use Rattle.node.specs.Words.{ChildThere, ChildIs}
+use Rattle.node.specs.declared.Child.{Child}
+use Rattle.node.specs.declared.NodeKind.TheVariants.{Term, Range}
+use Rattle.node.proofs.Scorers.{term-word, range-word}
 use Rattle.scorer.specs.Calls.{NodeHeld, AdvancePost, PartsHeld}
-use Rattle.leaf_scorer.specs.Calls.{Lent}
+use Rattle.leaf_scorer.specs.Calls.{Lent, RoomIn}
 use Rattle.leaf_scorer.proofs.Bounds.{front_long, front-size, ok-mono, oks-mono, ok-front, ok-cached, ok-single}
 
 -- g are the children that are left, whose words are z; the words before them are x. Nothing is said of those passed but how to put them back.
@@ -145,10 +148,6 @@ module _ {E : Lent} {ix : Index} {p k : ℕ} {fs : Scorers} {kids : List ℕ} {a
   child-facts end q l = absurd (omega (arith, zip-none q))
   child-facts (more f T g) q l = record { long = omega (arith, (view q).long, (view q).size); fits = omega (arith, (view q).fits, (view q).size) }
 
-  pub child-held : (g : Scorers) → Zip E ix p k fs g kids at t → at < length kids → (e : ℕ) → e ≡ at + get_or kids (at + 1) 0 → (T : Scorer) × (o : ℕ) × NodeHeld E ix p T k o (take (e - at) (drop at kids)) t
-  child-held end q l e h = absurd (omega (arith, zip-none q))
-  child-held (more f T g) q l e h = (T, cond f 1 0, held (view q) e h)
-
 -- the first word of a child's part is its kind
 pub child-kind : (kids : List ℕ) (at e : ℕ) → ChildThere kids at → e ≡ at + get_or kids (at + 1) 0 → get_or (take (e - at) (drop at kids)) 0 0 ≡ get_or kids at 0
 child-kind kids at e c h = let z : at + 0 ≡ at = omega arith in get_or-take (e - at) (drop at kids) 0 0 (omega (arith, c.long, h)) ∙ get_or-drop at kids 0 0 ∙ ap (λ (i : ℕ). get_or kids i 0) z
@@ -156,6 +155,13 @@ child-kind kids at e c h = let z : at + 0 ≡ at = omega arith in get_or-take (e
 -- its third the document where it stands, + 1
 pub child-cached : (kids : List ℕ) (at e : ℕ) → ChildThere kids at → e ≡ at + get_or kids (at + 1) 0 → (c : ℕ) → c ≡ get_or kids (at + 2) 0 → {t : ℕ} → c ≤ t → get_or (take (e - at) (drop at kids)) 2 0 ≤ t
 child-cached kids at e k h c i l = omega (arith, get_or-take (e - at) (drop at kids) 2 0 (omega (arith, k.long, h)), get_or-drop at kids 2 0)
+
+-- what a child's kind says of its first word
+pub child-is-term : {kids : List ℕ} {at : ℕ} {c : Child} → ChildIs kids at c → c.kind ≡ Term → get_or kids at 0 ≡ 1
+child-is-term is e = term-word _ (sym is.kind-is ∙ e)
+
+pub child-is-range : {kids : List ℕ} {at : ℕ} {c : Child} → ChildIs kids at c → c.kind ≡ Range → get_or kids at 0 ≡ 4
+child-is-range is e = range-word _ (sym is.kind-is ∙ e)
 
 -- a child whose first word is not that of a phrase or a Boolean: its part is one record
 module _ {E : Lent} {ix : Index} {p k : ℕ} {fs : Scorers} {kids : List ℕ} {at t : ℕ} where
@@ -179,3 +185,32 @@ module _ {E : Lent} {ix : Index} {p k : ℕ} {fs : Scorers} {kids : List ℕ} {a
 
   pub range-end : (g : Scorers) → Zip E ix p k fs g kids at t → at < length kids → get_or kids at 0 ≡ 4 → at + node_state_words ≡ at + get_or kids (at + 1) 0
   range-end g q l e = ap (λ (n : ℕ). at + n) (sym (child-range g q l e))
+
+-- the child where a loop stands, asked for documents from t on
+pub record ChildHere (E : Lent) (a b k : ℕ) (kids : List ℕ) (at t : ℕ) : Type 0 where
+  pub ix : Index
+  pub places : ℕ
+  pub scorer : Scorer
+  pub scores : ℕ
+  pub top : t ≤ no_more_docs
+  pub room : RoomIn places a b
+  pub there : ChildThere kids at
+  pub term-end : get_or kids at 0 ≡ 1 → at + node_state_words ≡ at + get_or kids (at + 1) 0
+  pub range-end : get_or kids at 0 ≡ 4 → at + node_state_words ≡ at + get_or kids (at + 1) 0
+  pub held : (e : ℕ) → e ≡ at + get_or kids (at + 1) 0 → NodeHeld E ix places scorer k scores (take (e - at) (drop at kids)) t
+
+pub child-here : {E : Lent} {ix : Index} {p k a b : ℕ} {fs : Scorers} {kids : List ℕ} {at t : ℕ} → t ≤ no_more_docs → RoomIn p a b → (g : Scorers) → Zip E ix p k fs g kids at t → at < length kids → ChildHere E a b k kids at t
+child-here top room end q l = absurd (omega (arith, zip-none q))
+child-here {ix = ix} {p = p} top room (more f T g) q l =
+    record {
+      ix = ix;
+      places = p;
+      scorer = T;
+      scores = cond f 1 0;
+      top = top;
+      room = room;
+      there = child-facts (more f T g) q l;
+      term-end = term-end (more f T g) q l;
+      range-end = range-end (more f T g) q l;
+      held = held (view q);
+    }

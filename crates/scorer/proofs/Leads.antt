@@ -15,7 +15,7 @@ use Rattle.meaning.specs.First.{First}
 use Rattle.weight.specs.ScorerTree.{Scorers, end, more, all_match, matching}
 use Rattle.weight.specs.State.{sizes_of}
 use Rattle.weight.specs.Held.{Oks}
-use Rattle.scorer.specs.Calls.{PartsHeld, LeadHeld, BooleanHeld, leads}
+use Rattle.scorer.specs.Calls.{PartsHeld, Passes, PassPost, LeadHeld, LeadPost, BooleanHeld, leads}
 use Rattle.leaf_scorer.specs.Calls.{Lent}
 use Rattle.leaf_scorer.proofs.Bounds.{oks-mono, oks-length, ok-long}
 use Rattle.scorer.proofs.Firsts.{all_end, matching-end}
@@ -58,8 +58,11 @@ module _ {E : Lent} {ix : Index} {p k : ℕ} {rs os : Scorers} {n : ℕ} {kids :
   pub lead-required : PartsHeld E ix p rs k (take n kids) t
   lead-required = rw (front-part kids h.x h.v n h.is seam) h.required
 
-  pub lead-passed : (ys : List ℕ) (e : ℕ) → t ≤ e → PartsHeld E ix p rs k ys e → LeadHeld E ix p rs os k n (ys ++ drop n kids) e
+  lead-passed : (ys : List ℕ) (e : ℕ) → t ≤ e → PartsHeld E ix p rs k ys e → LeadHeld E ix p rs os k n (ys ++ drop n kids) e
   lead-passed ys e l q = record { x = ys; v = h.v; is = front-back kids h.x h.v n h.is seam ys; required-end = h.required-end; required = q; optional = parts-later e l h.optional }
+
+  pub lead-turn : (ys : List ℕ) (r : ℕ) → PassPost E (take n kids) t k r ys → Passes (all_match ix rs) t r × LeadHeld E ix p rs os k n (ys ++ drop n kids) r
+  lead-turn ys r post = let q = post ix p rs lead-required in (q.0, lead-passed ys r q.0.from q.1)
 
   pub lead-optional : PartsHeld E ix p os k (take (length kids - n) (drop n kids)) t
   lead-optional = rw (rest_part kids h.x h.v n h.is seam) h.optional
@@ -118,7 +121,7 @@ module _ {E : Lent} {ix : Index} {p k : ℕ} {rs os ps : Scorers} {n m : ℕ} {k
   pub boolean-lead : LeadHeld E ix p rs os k n (take m kids) t
   boolean-lead = rw (front-part kids h.w h.z m h.is (sym h.optional-end)) h.lead
 
-  pub boolean-led : (ys : List ℕ) (e : ℕ) → t ≤ e → length ys ≡ length (take m kids) → LeadHeld E ix p rs os k n ys e → BooleanHeld E ix p rs os ps k n m (ys ++ drop m kids) e
+  boolean-led : (ys : List ℕ) (e : ℕ) → t ≤ e → length ys ≡ length (take m kids) → LeadHeld E ix p rs os k n ys e → BooleanHeld E ix p rs os ps k n m (ys ++ drop m kids) e
   boolean-led ys e l len q =
       record {
         w = ys;
@@ -128,6 +131,10 @@ module _ {E : Lent} {ix : Index} {p k : ℕ} {rs os ps : Scorers} {n m : ℕ} {k
         lead = q;
         prohibited = parts-later e l h.prohibited;
       }
+
+  -- a step of the lead in front of the prohibited
+  pub boolean-turn : (need : ℕ) (ys : List ℕ) (r : ℕ) → length ys ≡ length (take m kids) → LeadPost E (take m kids) n need t k r ys → First (leads ix rs os need) t r × BooleanHeld E ix p rs os ps k n m (ys ++ drop m kids) r
+  boolean-turn need ys r len post = let q = post ix p rs os boolean-lead in (q.0, boolean-led ys r q.0.from len q.1)
 
   pub boolean-prohibited : PartsHeld E ix p ps k (take (length kids - m) (drop m kids)) t
   boolean-prohibited = rw (rest_part kids h.w h.z m h.is (sym h.optional-end)) h.prohibited

@@ -14,10 +14,10 @@ use Rattle.meaning.specs.First.{First}
 use Rattle.weight.specs.ScorerTree.{Scorer, Scorers, end, more, matches, all_match, matching}
 use Rattle.weight.specs.Held.{Ok}
 use Rattle.scorer.specs.Calls.{NodeHeld, AdvancePost, PartsHeld, Tally, LeastIs, Passes, Asks}
-use Rattle.leaf_scorer.specs.Calls.{Lent}
+use Rattle.leaf_scorer.specs.Calls.{Lent, RoomIn}
 use Rattle.meaning.proofs.Tests.{cmp}
 use Rattle.scorer.proofs.Firsts.{matching-hit, matching-miss, matching-end, all-hit, all-miss, all_rest, all_end}
-use Rattle.scorer.proofs.Children.{Zip, zip_start, zip-later, zip_end, zip-none, view, zip-took, zip-skip, held, of-advance, of-cached}
+use Rattle.scorer.proofs.Children.{ChildHere, child-here, Zip, zip_start, zip-later, zip_end, zip-none, view, zip-took, zip-skip, held, of-advance, of-cached}
 
 -- ---- the least document
 pub record LeastAt (E : Lent) (ix : Index) (p k : ℕ) (fs : Scorers) (kids : List ℕ) (t best n at : ℕ) : Type 0 where
@@ -131,6 +131,9 @@ module _ {E : Lent} {ix : Index} {p k : ℕ} {fs : Scorers} where
             let a = of-advance (view z) e stop r ys post in
             least-next f T g e r best' n' (omega (arith, (view z).long, (view z).size)) q.lo q.top q.few u h q.some' (zip-took (view z) e stop ys len a.1) a.0 w
 
+pub least-child : {E : Lent} {a b k : ℕ} {kids₀ kids : List ℕ} {t best n at : ℕ} → ((ix : Index) × (p : ℕ) × (ss : Scorers) × RoomIn p a b × PartsHeld E ix p ss k kids₀ t) → ((ix : Index) (p : ℕ) (ss : Scorers) → PartsHeld E ix p ss k kids₀ t → LeastAt E ix p k ss kids t best n at) → at < length kids → ChildHere E a b k kids at t
+least-child P now l = let q = now P.0 P.1 P.2 P.4 in child-here (le_trans q.lo q.top) P.3 q.left q.zip l
+
 -- ---- a pass
 pub record PassAt (E : Lent) (ix : Index) (p k : ℕ) (fs : Scorers) (from : ℕ) (kids : List ℕ) (d at : ℕ) : Type 0 where
   pub left : Scorers
@@ -201,3 +204,6 @@ module _ {E : Lent} {ix : Index} {p k : ℕ} {fs : Scorers} {from : ℕ} where
         go (more f T g) z u h =
             let a = post ix p T (cond f 1 0) (held (view z) e stop) in
             pass-next f T g e r q.lo q.before u h (zip-took (view (zip-later r a.0.from z)) e stop ys len a.1) a.0
+
+pub pass-child : {E : Lent} {a b k : ℕ} {kids₀ kids : List ℕ} {t d at : ℕ} → ((ix : Index) × (p : ℕ) × (ss : Scorers) × RoomIn p a b × PartsHeld E ix p ss k kids₀ t) → ((ix : Index) (p : ℕ) (ss : Scorers) → PartsHeld E ix p ss k kids₀ t → PassAt E ix p k ss t kids d at) → at < length kids → ChildHere E a b k kids at d
+pass-child P now l = let q = now P.0 P.1 P.2 P.4 in child-here q.top P.3 q.left q.zip l

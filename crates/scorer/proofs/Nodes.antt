@@ -16,9 +16,11 @@ use Rattle.weight.specs.ScorerTree.{Leaf, nothing, term, phrase, range, everythi
 use Rattle.weight.specs.State.{State, words_of, sizes_of}
 use Rattle.weight.specs.Held.{LeafIs, ScoringIs, KeptIs, JoiningIs, Ok}
 use Rattle.weight.specs.Sound.{Sound}
+use Rattle.node.specs.Words.{BooleanIs}
+use Rattle.node.specs.declared.Boolean.{Boolean}
 use Rattle.scorer.specs.Calls.{NodeHeld, BooleanHeld, BooleanPost}
 use Rattle.leaf_scorer.specs.Calls.{Lent, LeafHeld, LeafMoved, LeafPost, Passes}
-use Rattle.leaf_scorer.proofs.Bounds.{leaf-mono, oks-length, ok-cached}
+use Rattle.leaf_scorer.proofs.Bounds.{leaf-mono, oks-length, ok-long, ok-cached}
 use Rattle.scorer.proofs.Firsts.{cache-new, boolean-takes}
 use Rattle.leaf_scorer.proofs.Loops.{first-like}
 
@@ -125,28 +127,25 @@ joining-recached afterwards rs s c p = p
 joined_words : (s : State) (rest st w' w : List ℕ) (c : ℕ) → st ≡ words_of s ++ rest → w' ≡ w → set (take node_state_words st ++ (w' ++ drop (length st - node_state_words) (drop node_state_words st))) 2 c ≡ words_of (cached_at s c) ++ w
 joined_words s rest st w' w c e f = let size : length st - node_state_words ≡ length rest = omega (arith, ap length e) in rw (size, e, drop-length, append-nil, f)
 
-rejoined-words : (s : State) (rest st w' w : List ℕ) → st ≡ words_of s ++ rest → w' ≡ w → take node_state_words st ++ (w' ++ drop (length st - node_state_words) (drop node_state_words st)) ≡ words_of s ++ w
-rejoined-words s rest st w' w e f = let size : length st - node_state_words ≡ length rest = omega (arith, ap length e) in rw (size, e, drop-length, append-nil, f)
-
 -- ---- a Boolean's children, which can be asked up to the document where it stands
-module _ (E : Lent) (ix : Index) (p : ℕ) (k o : ℕ) (st : List ℕ) (t c : ℕ) (ec : c ≡ get_or st 2 0) (near : c ≤ t + 1) where
-  pub boolean-children : (re oe : ℕ) → re ≡ get_or st 4 0 → oe ≡ get_or st 5 0 → (x : Option Float) (j : Joining) (need : ℕ) (rs os ps : Scorers) → NodeHeld E ix p (boolean x j need rs os ps) k o st t → BooleanHeld E ix p rs os ps (k - 1) re oe (take (length st - node_state_words) (drop node_state_words st)) t
+module _ {E : Lent} {ix : Index} {p k o : ℕ} {st : List ℕ} {t : ℕ} (due : get_or st 2 0 ≤ t) (b : Boolean) (is : BooleanIs st b) where
+  boolean-children : (x : Option Float) (j : Joining) (need : ℕ) (rs os ps : Scorers) → NodeHeld E ix p (boolean x j need rs os ps) k o st t → BooleanHeld E ix p rs os ps (k - 1) b.required_end b.optional_end (take (length st - node_state_words) (drop node_state_words st)) t
   unfolding Ok Sound
-  boolean-children re oe er eo x j need rs os ps h =
+  boolean-children x j need rs os ps h =
       let q = h.ok in
       let rest : List ℕ = q.1 ++ (q.2 ++ q.3) in
-      let d : q.0.cached ≤ t + 1 = rw (ec, q.4) at near in
+      let d : q.0.cached ≤ t = rw q.4 at due in
       let m : max t (q.0.cached - 1) ≡ t = omega arith in
       let size : length st - node_state_words ≡ length rest = omega (arith, ap length q.4) in
-      let a : length q.1 ≡ sizes_of rs = oks-length ix E.ranges rs (k - 1) q.1 (max t (q.0.cached - 1)) q.9 in
-      let b : length q.2 ≡ sizes_of os = oks-length ix E.ranges os (k - 1) q.2 (max t (q.0.cached - 1)) q.10 in
-      let r4 : re ≡ q.0.required_end = rw (er, q.4) in
-      let r5 : oe ≡ q.0.optional_end = rw (eo, q.4) in
+      let l : length q.1 ≡ sizes_of rs = oks-length ix E.ranges rs (k - 1) q.1 (max t (q.0.cached - 1)) q.9 in
+      let n : length q.2 ≡ sizes_of os = oks-length ix E.ranges os (k - 1) q.2 (max t (q.0.cached - 1)) q.10 in
+      let r4 : b.required_end ≡ q.0.required_end = rw (is.required-end, q.4) in
+      let r5 : b.optional_end ≡ q.0.optional_end = rw (is.optional-end, q.4) in
       record {
         w = q.1 ++ q.2;
         z = q.3;
         is = rw (size, q.4, take-length) (sym (append_assoc q.1 q.2 q.3));
-        optional-end = omega (arith, r5, q.7.optional-end, a, b, length-append q.1 q.2);
+        optional-end = omega (arith, r5, q.7.optional-end, l, n, length-append q.1 q.2);
         lead = record {
           x = q.1;
           v = q.2;
@@ -158,52 +157,33 @@ module _ (E : Lent) (ix : Index) (p : ℕ) (k o : ℕ) (st : List ℕ) (t c : �
         prohibited = record { lends = h.lends; sounds = h.sound.2; oks = rw m at q.11 };
       }
 
-  -- its words with its children's put back, where they have been asked up to that document
-  pub boolean-rejoined : (re oe : ℕ) (w' : List ℕ) (x : Option Float) (j : Joining) (need : ℕ) (rs os ps : Scorers) → NodeHeld E ix p (boolean x j need rs os ps) k o st t → BooleanHeld E ix p rs os ps (k - 1) re oe w' t → Ok ix E.ranges (boolean x j need rs os ps) k o (take node_state_words st ++ (w' ++ drop (length st - node_state_words) (drop node_state_words st))) t
-  unfolding Ok
-  boolean-rejoined re oe w' x j need rs os ps h v =
-      let q = h.ok in
-      let d : q.0.cached ≤ t + 1 = rw (ec, q.4) at near in
-      let b : max t (q.0.cached - 1) ≡ t = omega arith in
-      let words : w' ≡ v.lead.x ++ (v.lead.v ++ v.z) = v.is ∙ ap (λ (l : List ℕ). l ++ v.z) v.lead.is ∙ append_assoc v.lead.x v.lead.v v.z in (
-        q.0,
-        v.lead.x,
-        v.lead.v,
-        v.z,
-        rejoined-words q.0 (q.1 ++ (q.2 ++ q.3)) st w' (v.lead.x ++ (v.lead.v ++ v.z)) q.4 words,
-        q.5,
-        q.6,
-        q.7,
-        q.8,
-        rw b v.lead.required.oks,
-        rw b v.lead.optional.oks,
-        rw b v.prohibited.oks,
-      )
-
 -- a leaf that was asked about the target alone
 abbrev pub LeafAsked : Lent → List ℕ → ℕ → ℕ → List ℕ → Type 0
 LeafAsked E st t r st' = (ix : Index) (p : ℕ) (l : Leaf) (s : State) (w : List ℕ) → LeafHeld E ix p l s w st t → Passes (leaf_matches ix l) t r × LeafMoved E ix l s st' r
 
 -- ---- advance
-module _ (E : Lent) (ix : Index) (p : ℕ) (k o : ℕ) (st : List ℕ) (t c : ℕ) (ec : c ≡ get_or st 2 0) where
-  pub node-cached : (T : Scorer) → NodeHeld E ix p T k o st t → t < c → First (matches ix T) t (c - 1)
-  node-cached T h l = rw ec (ok-cached ix E.ranges T k o st t h.ok t (le_refl _) (rw ec at l))
+module _ {E : Lent} {ix : Index} {p k o : ℕ} {st : List ℕ} {t : ℕ} where
+  pub node-long : {T : Scorer} → NodeHeld E ix p T k o st t → node_state_words ≤ length st
+  node-long {T} h = ok-long ix E.ranges T k o st t h.ok
 
-  module _ (due : c ≤ t) (kind : ℕ) (ek : kind ≡ get_or st 0 0) where
+  pub node-cached : {T : Scorer} → NodeHeld E ix p T k o st t → t < get_or st 2 0 → First (matches ix T) t (get_or st 2 0 - 1)
+  node-cached {T} h l = ok-cached ix E.ranges T k o st t h.ok t (le_refl _) l
+
+  module _ (due : get_or st 2 0 ≤ t) where
     leaf-held : (l : Leaf) (sc : Scoring) → (h : NodeHeld E ix p (leaf l sc) k o st t) → (s : State) × (w : List ℕ) × LeafHeld E ix p l s w st t
     unfolding Ok Sound
     leaf-held l sc h =
         let q = h.ok in
-        let d : q.0.cached ≤ t = rw (ec, q.2) at due in
+        let d : q.0.cached ≤ t = rw q.2 at due in
         let m : max t (q.0.cached - 1) ≡ t = omega arith in
         (q.0, q.1, record { lends = h.lends; sound = h.sound; words = q.2; due = d; is = rw m at q.4 })
 
-    pub node-leaf : (kind ≡ 3 → ⊥) → (T : Scorer) → NodeHeld E ix p T k o st t → (l : Leaf) × (s : State) × (w : List ℕ) × LeafHeld E ix p l s w st t
+    pub node-leaf : (get_or st 0 0 ≡ 3 → ⊥) → (T : Scorer) → NodeHeld E ix p T k o st t → (l : Leaf) × (s : State) × (w : List ℕ) × LeafHeld E ix p l s w st t
     unfolding Ok
     node-leaf e (leaf l sc) h = let q = leaf-held l sc h in (l, q.0, q.1, q.2)
-    node-leaf e (boolean x j need rs os ps) h = absurd (e (rw (ek, h.ok.4) h.ok.7.kind-is))
+    node-leaf e (boolean x j need rs os ps) h = absurd (e (rw h.ok.4 h.ok.7.kind-is))
 
-    pub node-sought : t ≤ no_more_docs → (kind ≡ 3 → ⊥) → (r : ℕ) (st' : List ℕ) → LeafPost E st t r st' → (T : Scorer) → NodeHeld E ix p T k o st t → First (matches ix T) t r × Ok ix E.ranges T k o (set st' 2 (r + 1)) t
+    pub node-sought : t ≤ no_more_docs → (get_or st 0 0 ≡ 3 → ⊥) → (r : ℕ) (st' : List ℕ) → LeafPost E st t r st' → (T : Scorer) → NodeHeld E ix p T k o st t → First (matches ix T) t r × Ok ix E.ranges T k o (set st' 2 (r + 1)) t
     unfolding Ok matches leaf-held
     node-sought top e r st' post (leaf l sc) h =
         let q = leaf-held l sc h in
@@ -222,10 +202,10 @@ module _ (E : Lent) (ix : Index) (p : ℕ) (k o : ℕ) (st : List ℕ) (t c : �
             cache-new f,
           ),
         )
-    node-sought top e r st' post (boolean x j need rs os ps) h = absurd (e (rw (ek, h.ok.4) h.ok.7.kind-is))
+    node-sought top e r st' post (boolean x j need rs os ps) h = absurd (e (rw h.ok.4 h.ok.7.kind-is))
 
     -- asked about the target alone, the document is cached where it stands there
-    pub node-asked : (kind ≡ 3 → ⊥) → (r : ℕ) (st' : List ℕ) → LeafAsked E st t r st' → (T : Scorer) → NodeHeld E ix p T k o st t
+    pub node-asked : (get_or st 0 0 ≡ 3 → ⊥) → (r : ℕ) (st' : List ℕ) → LeafAsked E st t r st' → (T : Scorer) → NodeHeld E ix p T k o st t
         → Passes (matches ix T) t r × (r ≡ t → Ok ix E.ranges T k o (set st' 2 (t + 1)) t) × ((r ≡ t → ⊥) → Ok ix E.ranges T k o st' r)
     unfolding Ok matches leaf-held
     node-asked e r st' post (leaf l sc) h =
@@ -256,28 +236,25 @@ module _ (E : Lent) (ix : Index) (p : ℕ) (k o : ℕ) (st : List ℕ) (t c : �
             λ x a b. absurd (omega arith),
           ),
         )
-    node-asked e r st' post (boolean x j need rs os ps) h = absurd (e (rw (ek, h.ok.4) h.ok.7.kind-is))
+    node-asked e r st' post (boolean x j need rs os ps) h = absurd (e (rw h.ok.4 h.ok.7.kind-is))
 
-    module _ (is-3 : kind ≡ 3) (n : ℕ) (en : n ≡ get_or st 3 0) (re oe : ℕ) (er : re ≡ get_or st 4 0) (eo : oe ≡ get_or st 5 0) where
-      children-held : (x : Option Float) (j : Joining) (need : ℕ) (rs os ps : Scorers) → NodeHeld E ix p (boolean x j need rs os ps) k o st t → BooleanHeld E ix p rs os ps (k - 1) re oe (take (length st - node_state_words) (drop node_state_words st)) t
-      children-held x j need rs os ps h = boolean-children E ix p k o st t c ec (omega arith) re oe er eo x j need rs os ps h
-
-      pub node-boolean : (T : Scorer) → NodeHeld E ix p T k o st t → (0 < k) × ((rs : Scorers) × (os : Scorers) × (ps : Scorers) × BooleanHeld E ix p rs os ps (k - 1) re oe (take (length st - node_state_words) (drop node_state_words st)) t)
+    module _ (is-3 : get_or st 0 0 ≡ 3) (b : Boolean) (is : BooleanIs st b) where
+      pub node-boolean : (T : Scorer) → NodeHeld E ix p T k o st t → (0 < k) × ((rs : Scorers) × (os : Scorers) × (ps : Scorers) × BooleanHeld E ix p rs os ps (k - 1) b.required_end b.optional_end (take (length st - node_state_words) (drop node_state_words st)) t)
       unfolding Ok
-      node-boolean (leaf l sc) h = absurd (leaf-kind ix E.ranges l h.ok.0 h.ok.1 (max t (h.ok.0.cached - 1)) h.ok.4 (sym (rw (ek, h.ok.2) at (sym is-3))))
-      node-boolean (boolean x j need rs os ps) h = (h.ok.6, (rs, os, ps, children-held x j need rs os ps h))
+      node-boolean (leaf l sc) h = absurd (leaf-kind ix E.ranges l h.ok.0 h.ok.1 (max t (h.ok.0.cached - 1)) h.ok.4 (sym (rw h.ok.2 at (sym is-3))))
+      node-boolean (boolean x j need rs os ps) h = (h.ok.6, (rs, os, ps, boolean-children due b is x j need rs os ps h))
 
-      pub node-joined : (r : ℕ) (w' : List ℕ) → BooleanPost E (take (length st - node_state_words) (drop node_state_words st)) re oe n t (k - 1) r w' → (T : Scorer) → NodeHeld E ix p T k o st t
+      pub node-joined : (r : ℕ) (w' : List ℕ) → BooleanPost E (take (length st - node_state_words) (drop node_state_words st)) b.required_end b.optional_end b.need t (k - 1) r w' → (T : Scorer) → NodeHeld E ix p T k o st t
           → First (matches ix T) t r × Ok ix E.ranges T k o (set (take node_state_words st ++ (w' ++ drop (length st - node_state_words) (drop node_state_words st))) 2 (r + 1)) t
       unfolding Ok
-      node-joined r w' post (leaf l sc) h = absurd (leaf-kind ix E.ranges l h.ok.0 h.ok.1 (max t (h.ok.0.cached - 1)) h.ok.4 (sym (rw (ek, h.ok.2) at (sym is-3))))
+      node-joined r w' post (leaf l sc) h = absurd (leaf-kind ix E.ranges l h.ok.0 h.ok.1 (max t (h.ok.0.cached - 1)) h.ok.4 (sym (rw h.ok.2 at (sym is-3))))
       node-joined r w' post (boolean x j need rs os ps) h =
           let q = h.ok in
-          let v = post ix p rs os ps (children-held x j need rs os ps h) in
-          let nn : n ≡ need = rw (en, q.4) q.7.need-is in
+          let v = post ix p rs os ps (boolean-children due b is x j need rs os ps h) in
+          let nn : b.need ≡ need = rw (is.need-is, q.4) q.7.need-is in
           let f : First (matches ix (boolean x j need rs os ps)) t r = first-like (λ d. boolean-takes ix x j need rs os ps d) (rw nn at v.0) in
           let words : w' ≡ v.1.lead.x ++ (v.1.lead.v ++ v.1.z) = v.1.is ∙ ap (λ (l : List ℕ). l ++ v.1.z) v.1.lead.is ∙ append_assoc v.1.lead.x v.1.lead.v v.1.z in
-          let b : max t (r + 1 - 1) ≡ r = omega (arith, f.from) in (
+          let m : max t (r + 1 - 1) ≡ r = omega (arith, f.from) in (
             f,
             (
               cached_at q.0 (r + 1),
@@ -297,8 +274,8 @@ module _ (E : Lent) (ix : Index) (p : ℕ) (k o : ℕ) (st : List ℕ) (t c : �
                 joining = joining-recached j rs q.0 (r + 1) q.7.joining;
               },
               cache-new f,
-              rw b v.1.lead.required.oks,
-              rw b v.1.lead.optional.oks,
-              rw b v.1.prohibited.oks,
+              rw m v.1.lead.required.oks,
+              rw m v.1.lead.optional.oks,
+              rw m v.1.prohibited.oks,
             ),
           )

@@ -1,28 +1,33 @@
 -- `scorer::advance_term` meets its contract: the cache, or a search in the postings and the new cached document. Assumes nothing.
-use Prim.Native.Nat.{◌+◌, ◌<◌}
-use mathlib.Core.Path.{refl}
-use native.Mathlib.Omega.{arith}
-use lib.ListN.{length, get_or}
+use Rattle.std.proofs.Common.{◌+◌, arith}
 use lib.Seq.{get_or-set_same}
-use Rattle.leaf_scorer.proofs.Bounds.{ok-long}
-use Rattle.scorer.proofs.Nodes.{node-cached}
+use Rattle.scorer.proofs.Nodes.{node-long, node-cached}
 use Rattle.scorer.proofs.Terms.{term_asks, term-sought}
 use Rattle.scorer.proofs.advance_term.Goals as goal
 
 pub bounds-st-2 : goal.bounds-st-2
-bounds-st-2 c = let s = c in let P = s.requires.2 in let l = ok-long P.2 P.0.ranges P.4 P.5 P.6 s.args.st.now s.args.target P.7.ok in omega (arith, l)
+bounds-st-2 c = omega (arith, node-long c.requires.2.7)
 
-pub returns-then-target-cached : goal.returns-then-target-cached
-returns-then-target-cached c = let s = c in record { term_post = (λ E k same ix p T o z. (node-cached E ix p k o s.args.st.now s.args.target (get_or s.args.st.now 2 0) refl T z c.if-target-cached.true, z.ok)); st_after = omega (arith, c.if-target-cached.true) }
+pub returns-then-target-cached-clause-term_post : goal.returns-then-target-cached-clause-term_post
+returns-then-target-cached-clause-term_post c = λ E k same ix p T o z. (node-cached z c.if-target-cached.true, z.ok)
 
 pub search_postings-d-requires : goal.search_postings-d-requires
-search_postings-d-requires c = let s = c in let P = s.requires.2 in let z : length s.args.postings.now < 9223372036854775808 = omega (arith, s.well_formed) in term_asks s.args.postings.now s.args.st.now s.args.target s.requires.1 z (get_or s.args.st.now 2 0) refl c.if-target-cached.false P.0 P.1 P.2 P.3 P.4 P.5 P.6 P.7
+search_postings-d-requires c = let P = c.requires.2 in term_asks c.requires.1 (omega (arith, c.well_formed)) c.if-target-cached.false P.1 P.7
 
 pub overflow_add-st : goal.overflow_add-st
-overflow_add-st c = let s = c in let P = s.requires.2 in let y = c.search_postings-d in let z : length s.args.postings.now < 9223372036854775808 = omega (arith, s.well_formed) in let d = term-sought s.args.postings.now s.args.st.now s.args.target s.requires.1 z (get_or s.args.st.now 2 0) refl c.if-target-cached.false P.0 P.1 P.2 P.3 P.4 P.5 P.6 P.7 s.requires.0 y.result y.new.st y.ensures in omega (arith, d.0.top)
+overflow_add-st c =
+    let P = c.requires.2 in
+    let y = c.search_postings-d in
+    let d = term-sought c.requires.1 (omega (arith, c.well_formed)) c.if-target-cached.false P.1 P.7 c.requires.0 y.result y.new.st y.ensures in
+    omega (arith, d.0.top)
 
 pub bounds-st-2-2 : goal.bounds-st-2-2
-bounds-st-2-2 c = let s = c in let P = s.requires.2 in let l = ok-long P.2 P.0.ranges P.4 P.5 P.6 s.args.st.now s.args.target P.7.ok in let y = c.search_postings-d in omega (arith, l, y.auto.st)
+bounds-st-2-2 c = omega (arith, node-long c.requires.2.7, c.search_postings-d.auto.st)
 
-pub returns : goal.returns
-returns c = let s = c in let P = s.requires.2 in let y = c.search_postings-d in let l = ok-long P.2 P.0.ranges P.4 P.5 P.6 s.args.st.now s.args.target P.7.ok in let z : length s.args.postings.now < 9223372036854775808 = omega (arith, s.well_formed) in record { term_post = (λ E k same ix p T o v. term-sought s.args.postings.now s.args.st.now s.args.target s.requires.1 z (get_or s.args.st.now 2 0) refl c.if-target-cached.false E same ix p T k o v s.requires.0 y.result y.new.st y.ensures); st_after = get_or-set_same y.new.st 2 (y.result + 1) 0 (omega (arith, l, y.auto.st)) }
+pub returns-clause-term_post : goal.returns-clause-term_post
+returns-clause-term_post c =
+    let y = c.search_postings-d in
+    λ E k same ix p T o z. term-sought c.requires.1 (omega (arith, c.well_formed)) c.if-target-cached.false same z c.requires.0 y.result y.new.st y.ensures
+
+pub returns-clause-st_after : goal.returns-clause-st_after
+returns-clause-st_after c = let y = c.search_postings-d in get_or-set_same y.new.st 2 (y.result + 1) 0 (omega (arith, node-long c.requires.2.7, y.auto.st))
