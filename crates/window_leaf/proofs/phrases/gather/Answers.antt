@@ -1,9 +1,6 @@
-use Rattle.std.proofs.Common.{refl, ◌+◌, get_or, set, length-set, arith}
-use Rattle.window_leaf.proofs.TermLaws.{gathering-start, gathering-end, gathering-facts, asked-many, gathering-took}
+use Rattle.std.proofs.Common.{◌+◌, get_or, set, length-set, arith}
+use Rattle.window_leaf.proofs.TermLaws.{gathering-end, gathering-facts, asked-many, gathering-took}
 use Rattle.window_leaf.proofs.phrases.gather.Goals as goal
-
-pub loop-at-init : goal.loop-at-init
-loop-at-init c = (refl, λ ix ts D on h. gathering-start c.requires.0 on h)
 
 pub posting_at-posting-requires : goal.posting_at-posting-requires
 posting_at-posting-requires c =

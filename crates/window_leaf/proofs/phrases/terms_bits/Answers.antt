@@ -1,11 +1,8 @@
 use Rattle.std.proofs.Common.{refl, ◌+◌, ◌∙◌, arith}
 use Rattle.meaning.specs.Limits.{node_state_words}
 use Rattle.leaf_scorer.proofs.Loops.{back-length}
-use Rattle.window_leaf.proofs.TermLaws.{asking-start, asking-none, asking-end, asking-next, asking-took}
+use Rattle.window_leaf.proofs.TermLaws.{asking-none, asking-end, asking-next, asking-took}
 use Rattle.window_leaf.proofs.phrases.terms_bits.Goals as goal
-
-pub loop-at-init : goal.loop-at-init
-loop-at-init c = (refl, λ ix ts h. asking-start c.requires.0 h)
 
 pub returns-then-w-eq0 : goal.returns-then-w-eq0
 returns-then-w-eq0 c = λ ix ts h. asking-none (c.loop-at.invariant.1 ix ts h) c.if-w-eq0.true
