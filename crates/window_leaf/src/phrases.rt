@@ -21,15 +21,13 @@ pub fn terms_bits(terms: &mut [u32], postings: &[u32], base: u32, want: u64) -> 
 {
     let mut w = want;
     let mut next = base + 64;
-    let mut at = 0;
-    while at < terms.len() {
+    for at in (0..terms.len()).step_by(NODE_STATE_WORDS) {
         if w == 0 {
             return Found { bits: w, next };
         }
         let end = at + NODE_STATE_WORDS;
         w = bits::both(w, run_bits(&mut terms[at..end], postings, POSTING, base));
         next = next.max(terms[at + 22]);
-        at = end;
     }
     Found { bits: w, next }
 }
