@@ -166,7 +166,3 @@ ok-single ix R (leaf (phrase f ts) sc) k o y b p n2 n3 = absurd (n2 (ap (λ (l :
 ok-single ix R (leaf (range r) sc) k o y b p n2 n3 = omega (arith, ap length p.2, ap length p.4.1)
 ok-single ix R (leaf everything sc) k o y b p n2 n3 = omega (arith, ap length p.2, ap length p.4.2)
 ok-single ix R (boolean c j need rs os ps) k o y b p n2 n3 = absurd (n3 (ap (λ (l : List ℕ). get_or l 0 0) p.4 ∙ p.7.kind-is))
-
--- so one whose first word is 1, a term
-pub ok-term : (ix : Index) (R : List ℕ) (T : Scorer) (k o : ℕ) (y : List ℕ) (b : ℕ) → Ok ix R T k o y b → get_or y 0 0 ≡ 1 → length y ≡ node_state_words
-ok-term ix R T k o y b p e = ok-single ix R T k o y b p (λ x. omega (arith, e)) (λ x. omega (arith, e))

@@ -19,7 +19,7 @@ use Rattle.index.proofs.PostingAt.{posting-at, posting-none}
 use Rattle.weight.specs.ScorerTree.{range, leaf_matches}
 use Rattle.weight.specs.State.{State, words_of}
 use Rattle.weight.specs.Held.{TermIs, RangeIs}
-use Rattle.run.specs.Run.{document_at, Run, Lower}
+use Rattle.run.specs.Run.{document_at, Lower}
 use Rattle.leaf_scorer.specs.Search.{cursor_at, SearchHeld, SearchMoved, SearchPost, AnyDocument, FirstSet, RangeHeld}
 use Rattle.meaning.proofs.Tests.{cmp}
 
@@ -35,9 +35,6 @@ module _ (words : List ℕ) (stride : ℕ) (st : List ℕ) (t f n u : ℕ) (ef :
     pub at-cursor : u ≡ s.cursor
     at-cursor = rw (eu, h.words_are)
 
-    pub search-run : Run words stride f n × (u ≤ n)
-    search-run = rw (at_first, at-number, at-cursor) (h.run, h.within)
-
     pub search-passed : (c : ℕ) → Lower words stride f n u t c → (i : ℕ) → i < c → document_at words stride s.first i < t
     search-passed c p i l = let q = rw (at_first, at-cursor) at p.passed in ⊎_elim (λ g. h.passed i g) (λ g. q i g l) (cmp i s.cursor)
 
@@ -50,17 +47,6 @@ module _ (words : List ℕ) (stride : ℕ) (st : List ℕ) (t f n u : ℕ) (ef :
         passed = search-passed s w h c p;
         hit = λ _. (rw (at_first s w h) at e, rw e (p.stops l));
         ended = λ g. absurd (omega (arith, at-number s w h));
-      }
-
-  pub search-end : (c r : ℕ) → Lower words stride f n u t c → n ≤ c → r ≡ no_more_docs → SearchPost words stride st t r (set st 8 c)
-  search-end c r p l e s w h =
-      record {
-        cursor = c;
-        words_are = rw h.words_are;
-        within = rw (at-number s w h) at p.within;
-        passed = search-passed s w h c p;
-        hit = λ g. absurd (omega (arith, at-number s w h));
-        ended = λ _. e;
       }
 
   -- the posting after the cursor

@@ -4,7 +4,7 @@ use mathlib.Core.Logic.{◌⊎◌, ⊎_elim}
 use mathlib.Core.Bool.{Bool, true, false, ◌&&◌, false≢true}
 use mathlib.Core.List.{List, [], ◌∷◌, ◌++◌, append_assoc, append-nil}
 use mathlib.Core.Option.{Option, none, some}
-use Prim.Native.Nat.{ℕ, suc, ◌+◌, ◌-◌, ◌*◌, ◌%◌, ◌≤◌, ◌<◌}
+use Prim.Native.Nat.{ℕ, zero, suc, ◌+◌, ◌-◌, ◌*◌, ◌/◌, ◌%◌, ◌≤◌, ◌<◌}
 use native.Mathlib.Nat.{le_refl, le_trans, not-suc-le-zero}
 use native.Mathlib.Omega.{arith}
 use lib.Dec.{ltb}
@@ -29,7 +29,7 @@ use Rattle.weight.specs.State.{State, words_of}
 use Rattle.weight.specs.Held.{TermsAre}
 use Rattle.weight.specs.Sound.{PhraseTermIs, EachTerm, LeafSound}
 use Rattle.leaf_scorer.specs.Search.{cursor_at, SearchHeld, SearchPost}
-use Rattle.leaf_scorer.specs.Phrases.{all_found, LeavesThere, TermsAt, TermsHeld, TermsPassed, Leapt, Gathered, GatherHeld, GatheredTo, PlaceAt, PlaceRead, FrequencyHeld, PhraseHeld, PhraseMoved, worked_at}
+use Rattle.leaf_scorer.specs.Phrases.{all_found, LeavesThere, TermsAt, TermsHeld, TermsPassed, Leapt, Gathered, GatherHeld, GatheredTo, PostingsAt, PostingsThere, PostingsHeld, FrequencyHeld, PhraseHeld, PhraseMoved, worked_at}
 use Rattle.leaf_scorer.proofs.Bounds.{term-mono, terms-mono}
 use Rattle.leaf_scorer.proofs.LeafLaws.{term-run, term_moved, term-stands, term-first}
 
@@ -170,35 +170,19 @@ module _ {postings : List ℕ} {ix : Index} {ts : List PhraseTerm} {from : ℕ} 
             }
 
 -- ---- passes until all stand where one got
-pub leap-held : {postings : List ℕ} {ix : Index} {ts : List PhraseTerm} {terms terms' : List ℕ} {b e : ℕ} → TermsHeld postings ix ts terms b → TermsAre ix ts terms' e → TermsHeld postings ix ts terms' e
-leap-held h r = record { accepted = h.accepted; postings-are = h.postings-are; there = h.there; are = r }
-
 module _ {ix : Index} {ts : List PhraseTerm} {terms : List ℕ} {target d e : ℕ} {hit : Bool} (lo : target ≤ d) (before : (x : ℕ) → target ≤ x → x < d → all_found ix ts x ≡ false) (p : TermsPassed ix ts d e hit terms) where
   pub leap-more : (x : ℕ) → target ≤ x → x < e → all_found ix ts x ≡ false
   leap-more x a b = ⊎_elim (λ h. before x a h) (λ h. p.before x h b) (cmp x d)
 
-  pub leap-done : hit ≡ true → Leapt ix ts target e terms
-  leap-done s = record { from = le_trans lo p.from; top = p.top; before = leap-more; are = p.are; stand = p.stand s }
-
 -- ---- what is gathered
-pub record GatherAt (postings : List ℕ) (ix : Index) (ts : List PhraseTerm) (d : ℕ) (terms out : List ℕ) (n at : ℕ) : Type 0 where
+pub record GatherAt (postings : List ℕ) (ix : Index) (ts : List PhraseTerm) (d : ℕ) (terms : List ℕ) (P : ℕ → ℕ → Type 0) (out : List ℕ) (i : ℕ) : Type 0 where
   pub left : List PhraseTerm
-  pub x : List ℕ
-  pub z : List ℕ
-  pub is : terms ≡ x ++ z
-  pub place : at ≡ length x
   pub accepted : Accepted ix
   pub postings-are : ix.postings ≡ postings
   pub there : LeavesThere ix left
-  pub rest : TermsAt ix left z d
-  pub number : n + 3 * length left ≡ 3 * length ts
-  pub back : (l : List ℕ) → Gathered ix left d l → Gathered ix ts d (take n out ++ l)
-
--- what is read and written in a turn
-pub record GatherFacts (postings terms : List ℕ) (at n places : ℕ) : Type 0 where
-  pub place : PlaceAt terms at
-  pub posting : 3 * (get_or terms (at + 6) 0 + get_or terms (at + 8) 0) + 2 < length postings
-  pub room : n + 2 < places
+  pub rest : PostingsAt ix left terms (node_state_words * i) d P
+  pub number : 3 * i + 3 * length left ≡ 3 * length ts
+  pub back : (l : List ℕ) → Gathered ix left d l → Gathered ix ts d (take (3 * i) out ++ l)
 
 pub take-three : (out : List ℕ) (n a b c : ℕ) → n + 2 < length out → take (n + 3) (set (set (set out n a) (n + 1) b) (n + 2) c) ≡ take n out ++ (a ∷ b ∷ c ∷ [])
 take-three out n a b c h =
@@ -213,74 +197,80 @@ take-three out n a b c h =
     ∙ append_assoc (take n out ++ (a ∷ [])) (b ∷ []) (c ∷ [])
     ∙ append_assoc (take n out) (a ∷ []) (b ∷ c ∷ []))
 
-module _ {postings : List ℕ} {ix : Index} {ts : List PhraseTerm} {d : ℕ} {terms out : List ℕ} where
-  pub gather-start : GatherHeld postings ix ts d terms → GatherAt postings ix ts d terms out 0 0
-  gather-start h = record { left = ts; x = []; z = terms; is = refl; place = refl; accepted = h.accepted; postings-are = h.postings-are; there = h.there; rest = h.stand; number = omega arith; back = λ l g. g }
+module _ (ix : Index) (w : List ℕ) (d : ℕ) (P : ℕ → ℕ → Type 0) where
+  pub postings-length : (ts : List PhraseTerm) (at : ℕ) → PostingsAt ix ts w at d P → length w ≡ at + node_state_words * length ts
+  unfolding PostingsAt
+  postings-length [] at p = omega arith
+  postings-length (t ∷ ts) at p = omega (arith, postings-length ts (at + node_state_words) p.3)
 
-  module _ {n at : ℕ} (q : GatherAt postings ix ts d terms out n at) where
-    pub gather-end : length terms ≤ at → GatheredTo ix ts d n out
-    unfolding TermsAt Gathered
-    gather-end l = go q.left q.rest q.number q.back
+  pub postings-there : Accepted ix → (ts : List PhraseTerm) → LeavesThere ix ts → (at : ℕ) → PostingsAt ix ts w at d P → (i p : ℕ) → at + node_state_words * i < length w → P (at + node_state_words * i) p → p + 2 < length ix.postings
+  unfolding PostingsAt LeavesThere
+  postings-there acc [] h at r i p l s = absurd (omega (arith, r))
+  postings-there acc (t ∷ ts) h at r zero p l s =
+      let e : at + node_state_words * zero ≡ at = omega arith in
+      let k = r.2 p (subst (λ (y : ℕ). P y p) e s) in
+      omega (arith, k.word, k.within, (acc.leaf t.leaf h.0).words)
+  postings-there acc (t ∷ ts) h at r (suc i) p l s =
+      let e : at + node_state_words * suc i ≡ at + node_state_words + node_state_words * i = omega arith in
+      postings-there acc ts h.1 (at + node_state_words) r.3 i p (omega arith) (subst (λ (y : ℕ). P y p) e s)
+
+module _ {postings : List ℕ} {ix : Index} {ts : List PhraseTerm} {d : ℕ} {terms out : List ℕ} {P : ℕ → ℕ → Type 0} where
+  pub gather-start : GatherHeld postings ix ts d terms P → GatherAt postings ix ts d terms P out 0
+  gather-start h = record { left = ts; accepted = h.accepted; postings-are = h.postings-are; there = h.there; rest = h.at; number = omega arith; back = λ l g. g }
+
+  module _ {i : ℕ} (q : GatherAt postings ix ts d terms P out i) where
+    pub gather-end : (n : ℕ) → i ≡ n → n ≡ length terms / node_state_words → GatheredTo ix ts d (3 * n) out
+    unfolding Gathered
+    gather-end n e m = rw (← e) (go q.left q.rest q.number q.back)
       where
-        go : (g : List PhraseTerm) → TermsAt ix g q.z d → n + 3 * length g ≡ 3 * length ts → ((l : List ℕ) → Gathered ix g d l → Gathered ix ts d (take n out ++ l)) → GatheredTo ix ts d n out
-        go [] r e b = record { number = omega (arith, e); gathered = rw append-nil at (b [] refl) }
-        go (t ∷ g) r e b = absurd (omega (arith, ap length q.is, length-append q.x q.z, ap length r.2, q.place))
+        go : (g : List PhraseTerm) → PostingsAt ix g terms (node_state_words * i) d P → 3 * i + 3 * length g ≡ 3 * length ts → ((l : List ℕ) → Gathered ix g d l → Gathered ix ts d (take (3 * i) out ++ l)) → GatheredTo ix ts d (3 * i) out
+        go [] r k b = record { number = omega (arith, k); gathered = rw append-nil at (b [] refl) }
+        go (t ∷ g) r k b = absurd (omega (arith, postings-length ix terms d P (t ∷ g) (node_state_words * i) r))
 
-    module _ (l : at < length terms) (size : length postings < 9223372036854775808) (many : 3 * length ts ≤ length out) where
-      pub gather-next : GatherFacts postings terms at n (length out)
-      unfolding TermsAt LeavesThere
-      gather-next = go q.left q.rest q.there q.number
-        where
-          go : (g : List PhraseTerm) → TermsAt ix g q.z d → LeavesThere ix g → n + 3 * length g ≡ 3 * length ts → GatherFacts postings terms at n (length out)
-          go [] r h e = absurd (omega (arith, ap length q.is, length-append q.x q.z, ap length r, q.place))
-          go (t ∷ g) r h e =
-              let is : terms ≡ q.x ++ (words_of r.0 ++ r.1) = q.is ∙ ap (λ (y : List ℕ). q.x ++ y) r.2 in
-              let six : get_or terms (at + 6) 0 ≡ r.0.first = rw (is, q.place, get_or-append-add) in
-              let eight : get_or terms (at + 8) 0 ≡ r.0.cursor = rw (is, q.place, get_or-append-add) in
-              let o = q.accepted.leaf t.leaf h.0 in
-              let long = ap length q.postings-are in
-              record {
-                place = record {
-                  fits = record-fits terms q.x r.1 r.0 at (at + node_state_words) is q.place refl;
-                  small = omega (arith, six, eight, o.words, r.3.first-is, r.5, long);
-                };
-                posting = omega (arith, six, eight, o.words, r.3.first-is, r.5, long);
-                room = omega (arith, e);
-              }
-
-      pub gather-took : (p o : ℕ) → PlaceRead terms at p o → GatherAt postings ix ts d terms (set (set (set out n (get_or postings (p + 2) 0)) (n + 1) (get_or postings (p + 1) 0)) (n + 2) o) (n + 3) (at + node_state_words)
-      unfolding TermsAt LeavesThere Gathered
-      gather-took p o read = go q.left q.rest q.there q.number q.back
+    module _ (l : i < length terms / node_state_words) (p : ℕ) (says : P (node_state_words * i) p) (many : 3 * length ts ≤ length out) where
+      pub gather-took : GatherAt postings ix ts d terms P (set (set (set out (3 * i) (get_or postings (p + 2) 0)) (3 * i + 1) (get_or postings (p + 1) 0)) (3 * i + 2) (get_or terms (node_state_words * i + 9) 0)) (i + 1)
+      unfolding PostingsAt LeavesThere Gathered
+      gather-took = go q.left q.rest q.there q.number q.back
         where
           out' : List ℕ
-          out' = set (set (set out n (get_or postings (p + 2) 0)) (n + 1) (get_or postings (p + 1) 0)) (n + 2) o
+          out' = set (set (set out (3 * i) (get_or postings (p + 2) 0)) (3 * i + 1) (get_or postings (p + 1) 0)) (3 * i + 2) (get_or terms (node_state_words * i + 9) 0)
 
-          go : (g : List PhraseTerm) → TermsAt ix g q.z d → LeavesThere ix g → n + 3 * length g ≡ 3 * length ts → ((l : List ℕ) → Gathered ix g d l → Gathered ix ts d (take n out ++ l)) → GatherAt postings ix ts d terms out' (n + 3) (at + node_state_words)
-          go [] r h e b = absurd (omega (arith, ap length q.is, length-append q.x q.z, ap length r, q.place))
+          go : (g : List PhraseTerm) → PostingsAt ix g terms (node_state_words * i) d P → LeavesThere ix g → 3 * i + 3 * length g ≡ 3 * length ts → ((l : List ℕ) → Gathered ix g d l → Gathered ix ts d (take (3 * i) out ++ l)) → GatherAt postings ix ts d terms P out' (i + 1)
+          go [] r h e b = absurd (omega (arith, l, r))
           go (t ∷ g) r h e b =
-              let is : terms ≡ q.x ++ (words_of r.0 ++ r.1) = q.is ∙ ap (λ (y : List ℕ). q.x ++ y) r.2 in
-              let six : get_or terms (at + 6) 0 ≡ r.0.first = rw (is, q.place, get_or-append-add) in
-              let eight : get_or terms (at + 8) 0 ≡ r.0.cursor = rw (is, q.place, get_or-append-add) in
-              let nine : get_or terms (at + 9) 0 ≡ r.0.offset = rw (is, q.place, get_or-append-add) in
-              let pp : p ≡ 3 * (leaf_first ix t.leaf + r.0.cursor) = read.posting ∙ ap (λ (y : ℕ). 3 * (y + get_or terms (at + 8) 0)) (six ∙ r.3.first-is) ∙ ap (λ (y : ℕ). 3 * (leaf_first ix t.leaf + y)) eight in
-              let two : get_or postings (p + 2) 0 ≡ leaf_positions_index ix t.leaf r.0.cursor = rw (← q.postings-are, pp) in
-              let one : get_or postings (p + 1) 0 ≡ leaf_frequency ix t.leaf r.0.cursor = rw (← q.postings-are, pp) in
-              let oo : o ≡ t.offset = read.offset ∙ nine ∙ r.4 in
+              let k = r.2 p says in
+              let read : (n : ℕ) → get_or postings (p + n) 0 ≡ get_or ix.postings (3 * (leaf_first ix t.leaf + k.place) + n) 0 = λ n. ap (λ (l : List ℕ). get_or l (p + n) 0) (sym q.postings-are) ∙ ap (λ (y : ℕ). get_or ix.postings (y + n) 0) k.word in
+              let next : node_state_words * (i + 1) ≡ node_state_words * i + node_state_words = omega arith in
+              let more : 3 * (i + 1) ≡ 3 * i + 3 = omega arith in
               record {
                 left = g;
-                x = q.x ++ words_of r.0;
-                z = r.1;
-                is = is ∙ sym (append_assoc q.x (words_of r.0) r.1);
-                place = omega (arith, q.place, length-append q.x (words_of r.0));
                 accepted = q.accepted;
                 postings-are = q.postings-are;
                 there = h.1;
-                rest = r.7;
+                rest = rw next r.3;
                 number = omega (arith, e);
                 back = λ l y.
-                    let words = take-three out n (get_or postings (p + 2) 0) (get_or postings (p + 1) 0) o (omega (arith, e)) in
-                    rw (words, append_assoc) (b (get_or postings (p + 2) 0 ∷ get_or postings (p + 1) 0 ∷ o ∷ l) (r.0.cursor, l, r.5, r.6, rw (two, one, oo), y));
+                    let words = take-three out (3 * i) (get_or postings (p + 2) 0) (get_or postings (p + 1) 0) (get_or terms (node_state_words * i + 9) 0) (omega (arith, e)) in
+                    rw (more, words, append_assoc) (b (get_or postings (p + 2) 0 ∷ get_or postings (p + 1) 0 ∷ get_or terms (node_state_words * i + 9) 0 ∷ l) (k.place, l, k.within, k.document, rw (read 2, read 1, r.1), y));
               }
+
+-- the terms that stand at a document, and their postings there
+module _ (ix : Index) (d : ℕ) (terms : List ℕ) (P : ℕ → ℕ → Type 0) (read : (at p : ℕ) → P at p → p ≡ 3 * (get_or terms (at + 6) 0 + get_or terms (at + 8) 0)) where
+  pub standing : (ts : List PhraseTerm) (x z : List ℕ) → terms ≡ x ++ z → TermsAt ix ts z d → PostingsAt ix ts terms (length x) d P
+  unfolding TermsAt PostingsAt
+  standing [] x z is r = omega (arith, ap length is, length-append x z, ap length r)
+  standing (t ∷ ts) x z is r =
+      let whole : terms ≡ x ++ (words_of r.0 ++ r.1) = is ∙ ap (λ (y : List ℕ). x ++ y) r.2 in
+      let six : get_or terms (length x + 6) 0 ≡ r.0.first = rw (whole, get_or-append-add) in
+      let eight : get_or terms (length x + 8) 0 ≡ r.0.cursor = rw (whole, get_or-append-add) in
+      let nine : get_or terms (length x + 9) 0 ≡ r.0.offset = rw (whole, get_or-append-add) in
+      let end : length (x ++ words_of r.0) ≡ length x + node_state_words = length-append x (words_of r.0) in
+      (
+        record-fits terms x r.1 r.0 (length x) (length x + node_state_words) whole refl refl,
+        nine ∙ r.4,
+        λ p h. record { place = r.0.cursor; within = r.5; document = r.6; word = omega (arith, read (length x) p h, six, eight, r.3.first-is) },
+        rw end at (standing ts (x ++ words_of r.0) r.1 (whole ∙ sym (append_assoc x (words_of r.0) r.1)) r.7),
+      )
 
 -- ---- the frequency
 pub gathered-length : (ix : Index) (ts : List PhraseTerm) (d : ℕ) (l : List ℕ) → Gathered ix ts d l → length l ≡ 3 * length ts
@@ -375,18 +365,23 @@ lacking ix ts d e = go (ltb 0 (phrase_frequency ix ts d)) refl
     go false q = refl
     go true q = let c = common-start (term_starts ix ts d) (ltb-true 0 (phrase_frequency ix ts d) q) in absurd (false≢true (sym e ∙ all_of ix d c.0 ts c.1))
 
--- ---- `frequency`
-module _ {postings positions : List ℕ} {ix : Index} {places f : ℕ} {ts : List PhraseTerm} {d : ℕ} {terms : List ℕ} (h : FrequencyHeld postings positions ix places f ts d terms) where
-  pub frequency-gather : GatherHeld postings ix ts d terms
+-- ---- `frequency_by`
+module _ {postings positions : List ℕ} {ix : Index} {places f : ℕ} {ts : List PhraseTerm} {d : ℕ} {terms : List ℕ} {P : ℕ → ℕ → Type 0} (h : PostingsHeld postings positions ix places f ts d terms P) where
+  pub frequency-gather : GatherHeld postings ix ts d terms P
   unfolding LeafSound
-  frequency-gather = record { accepted = h.accepted; postings-are = h.postings-are; there = leaves-there ix f places ts h.sound.4; stand = h.stand }
+  frequency-gather = record { accepted = h.accepted; postings-are = h.postings-are; there = leaves-there ix f places ts h.sound.4; at = h.at }
+
+  pub held-length : length terms ≡ node_state_words * length ts
+  held-length = omega (arith, postings-length ix terms d P ts 0 h.at)
+
+  pub frequency-there : PostingsThere postings (length terms / node_state_words) P
+  unfolding LeafSound
+  frequency-there =
+      λ i p l s. subst (λ (y : List ℕ). p + 2 < length y) h.postings-are (postings-there ix terms d P h.accepted ts (leaves-there ix f places ts h.sound.4) 0 h.at i p (omega arith) (subst (λ (y : ℕ). P y p) (let e : node_state_words * i ≡ 0 + node_state_words * i = omega arith in e) s))
 
   pub frequency-few : 3 * length ts ≤ 96
   unfolding LeafSound
   frequency-few = omega (arith, h.sound.3)
-
-  pub frequency-four : length terms ≤ 4 * node_state_words → 3 * length ts ≤ 12
-  frequency-four l = omega (arith, terms-at-length ix ts terms d h.stand)
 
   pub frequency-good : (l : List ℕ) → Gathered ix ts d l → Good positions l
   frequency-good l g = subst (λ (y : List ℕ). Good y l) h.positions-are (gathered-good ix h.accepted f places ts h.sound d l g)
@@ -396,6 +391,10 @@ module _ {postings positions : List ℕ} {ix : Index} {places f : ℕ} {ts : Lis
 
   pub frequency-is : (l : List ℕ) → Gathered ix ts d l → common_size (start_lists positions l) ≡ phrase_frequency ix ts d
   frequency-is l g = subst (λ (y : List ℕ). common_size (start_lists y l) ≡ phrase_frequency ix ts d) h.positions-are (gathered-frequency ix h.accepted f places ts h.sound d l g)
+
+-- ---- `frequency`
+pub standing-postings : {postings positions : List ℕ} {ix : Index} {places f : ℕ} {ts : List PhraseTerm} {d : ℕ} {terms : List ℕ} {P : ℕ → ℕ → Type 0} → ((at p : ℕ) → P at p → p ≡ 3 * (get_or terms (at + 6) 0 + get_or terms (at + 8) 0)) → FrequencyHeld postings positions ix places f ts d terms → PostingsHeld postings positions ix places f ts d terms P
+standing-postings {ix = ix} {ts = ts} {d = d} {terms = terms} {P = P} read h = record { accepted = h.accepted; postings-are = h.postings-are; positions-are = h.positions-are; sound = h.sound; at = standing ix d terms P read ts [] terms refl h.stand }
 
 -- ---- `seek_phrase`
 -- the words behind a record

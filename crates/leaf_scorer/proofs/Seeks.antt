@@ -4,7 +4,7 @@ use mathlib.Core.List.{List}
 use Prim.Native.Nat.{ℕ, ◌≤◌, ◌<◌}
 use native.Mathlib.Omega.{arith}
 use lib.ListN.{get_or, length}
-use Rattle.meaning.specs.Limits.{no_more_docs, node_state_words}
+use Rattle.meaning.specs.Limits.{no_more_docs}
 use Rattle.meaning.specs.Lent.{Index}
 use Rattle.weight.specs.ScorerTree.{Leaf, nothing, term, phrase, range, everything, leaf_matches}
 use Rattle.weight.specs.State.{State}
@@ -18,9 +18,6 @@ use Rattle.leaf_scorer.proofs.Bounds.{leaf-mono}
 use Rattle.leaf_scorer.proofs.LeafLaws.{term-run, term_moved, term-first, range-held, range-first, any-first}
 
 module _ (E : Lent) (st : List ℕ) (t : ℕ) where
-  pub seek-long : {ix : Index} {p : ℕ} {l : Leaf} {s : State} {w : List ℕ} → LeafHeld E ix p l s w st t → node_state_words ≤ length st
-  seek-long h = omega (arith, ap length h.words)
-
   kind-of : {ix : Index} {p : ℕ} {l : Leaf} {s : State} {w : List ℕ} → LeafHeld E ix p l s w st t → get_or st 0 0 ≡ s.kind
   kind-of h = rw h.words
 

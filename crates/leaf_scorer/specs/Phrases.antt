@@ -1,7 +1,7 @@
 -- The terms of a phrase, moved to a common document, and its frequency there. Assumes nothing: these are definitions.
 use Rattle.std.specs.Prelude.{◌≡◌, Bool, true, false, ◌&&◌, List, [], ◌∷◌, ◌++◌, ℕ, ◌+◌, ◌*◌, ◌≤◌, ◌<◌, ltb, length, get_or, take}
 use Rattle.meaning.specs.Limits.{no_more_docs, node_state_words}
-use Rattle.meaning.specs.Lent.{Index, leaf_number, leaf_document, leaf_frequency, leaf_positions_index, leaf_count}
+use Rattle.meaning.specs.Lent.{Index, leaf_first, leaf_number, leaf_document, leaf_frequency, leaf_positions_index, leaf_count}
 use Rattle.meaning.specs.Postings.{posting_at, found}
 use Rattle.meaning.specs.Phrase.{PhraseTerm, phrase_frequency}
 use Rattle.meaning.specs.First.{First}
@@ -61,14 +61,21 @@ pub record Leapt (ix : Index) (ts : List PhraseTerm) (t r : ℕ) (terms : List �
 abbrev pub LeapfrogPost : List ℕ → List ℕ → ℕ → ℕ → List ℕ → Type 0
 LeapfrogPost postings terms target r terms' = (ix : Index) (ts : List PhraseTerm) → TermsHeld postings ix ts terms target → Leapt ix ts target r terms'
 
--- what is read of a term's record at a place
-pub record PlaceAt (terms : List ℕ) (at : ℕ) : Type 0 where
-  pub fits : at + node_state_words ≤ length terms
-  pub small : get_or terms (at + 6) 0 + get_or terms (at + 8) 0 < 3074457345618258602
+-- what holds at each place where so many words may have a record
+abbrev pub EachRecord : (ℕ → Type 0) → ℕ → Type 0
+EachRecord P n = (at : ℕ) → at + node_state_words ≤ n → P at
 
-pub record PlaceRead (terms : List ℕ) (at p o : ℕ) : Type 0 where
-  pub posting : p ≡ 3 * (get_or terms (at + 6) 0 + get_or terms (at + 8) 0)
-  pub offset : o ≡ get_or terms (at + 9) 0
+-- p is the word of a term's posting of the document
+pub record PostingIs (ix : Index) (t : PhraseTerm) (d p : ℕ) : Type 0 where
+  pub place : ℕ
+  pub within : place < leaf_number ix t.leaf
+  pub document : leaf_document ix t.leaf place ≡ d
+  pub word : p ≡ 3 * (leaf_first ix t.leaf + place)
+
+-- the records of the terms from a place of the words on, where P says the word of each one's posting of the document
+unfoldable pub PostingsAt : Index → List PhraseTerm → List ℕ → ℕ → ℕ → (ℕ → ℕ → Type 0) → Type 0
+PostingsAt ix [] w at d P = at ≡ length w
+PostingsAt ix (t ∷ ts) w at d P = (at + node_state_words ≤ length w) × (get_or w (at + 9) 0 ≡ t.offset) × ((p : ℕ) → P at p → PostingIs ix t d p) × PostingsAt ix ts w (at + node_state_words) d P
 
 -- of each term's posting of the document: the index of its first position, its frequency, and the term's offset
 unfoldable pub Gathered : Index → List PhraseTerm → ℕ → List ℕ → Type 0
@@ -76,22 +83,37 @@ Gathered ix [] d l = l ≡ []
 Gathered ix (t ∷ ts) d l =
     (i : ℕ) × (l' : List ℕ) × (i < leaf_number ix t.leaf) × (leaf_document ix t.leaf i ≡ d) × (l ≡ leaf_positions_index ix t.leaf i ∷ leaf_frequency ix t.leaf i ∷ t.offset ∷ l') × Gathered ix ts d l'
 
-pub record GatherHeld (postings : List ℕ) (ix : Index) (ts : List PhraseTerm) (d : ℕ) (terms : List ℕ) : Type 0 where
+pub record GatherHeld (postings : List ℕ) (ix : Index) (ts : List PhraseTerm) (d : ℕ) (terms : List ℕ) (P : ℕ → ℕ → Type 0) : Type 0 where
   pub accepted : Accepted ix
   pub postings-are : ix.postings ≡ postings
   pub there : LeavesThere ix ts
-  pub stand : TermsAt ix ts terms d
+  pub at : PostingsAt ix ts terms 0 d P
 
-abbrev pub GatherPre : List ℕ → List ℕ → ℕ → Type 0
-GatherPre postings terms places = (ix : Index) × (ts : List PhraseTerm) × (d : ℕ) × (3 * length ts ≤ places) × GatherHeld postings ix ts d terms
+-- the postings of so many records are there
+abbrev pub PostingsThere : List ℕ → ℕ → (ℕ → ℕ → Type 0) → Type 0
+PostingsThere postings n P = (i p : ℕ) → i < n → P (node_state_words * i) p → p + 2 < length postings
 
 -- so many words are written to the front
 pub record GatheredTo (ix : Index) (ts : List PhraseTerm) (d r : ℕ) (out : List ℕ) : Type 0 where
   pub number : r ≡ 3 * length ts
   pub gathered : Gathered ix ts d (take r out)
 
-abbrev pub GatherPost : List ℕ → List ℕ → ℕ → List ℕ → Type 0
-GatherPost postings terms r out = (ix : Index) (ts : List PhraseTerm) (d : ℕ) → GatherHeld postings ix ts d terms → GatheredTo ix ts d r out
+abbrev pub GatherPost : List ℕ → List ℕ → (ℕ → ℕ → Type 0) → ℕ → List ℕ → Type 0
+GatherPost postings terms P r out = (ix : Index) (ts : List PhraseTerm) (d : ℕ) → GatherHeld postings ix ts d terms P → GatheredTo ix ts d r out
+
+-- a sound phrase, and the records of its terms, where P says the word of each one's posting of a document
+pub record PostingsHeld (postings positions : List ℕ) (ix : Index) (places f : ℕ) (ts : List PhraseTerm) (d : ℕ) (terms : List ℕ) (P : ℕ → ℕ → Type 0) : Type 0 where
+  pub accepted : Accepted ix
+  pub postings-are : ix.postings ≡ postings
+  pub positions-are : ix.positions ≡ positions
+  pub sound : LeafSound ix places (phrase f ts)
+  pub at : PostingsAt ix ts terms 0 d P
+
+abbrev pub PostingsPre : List ℕ → List ℕ → List ℕ → (ℕ → ℕ → Type 0) → ℕ → ℕ → Type 0
+PostingsPre postings positions terms P a b = (ix : Index) × (places : ℕ) × (f : ℕ) × (ts : List PhraseTerm) × (d : ℕ) × (places ≤ a) × (places ≤ b) × PostingsHeld postings positions ix places f ts d terms P
+
+abbrev pub PostingsPost : List ℕ → List ℕ → List ℕ → (ℕ → ℕ → Type 0) → ℕ → Type 0
+PostingsPost postings positions terms P r = (ix : Index) (places f : ℕ) (ts : List PhraseTerm) (d : ℕ) → PostingsHeld postings positions ix places f ts d terms P → r ≡ phrase_frequency ix ts d
 
 -- the terms of a sound phrase stand at a document
 pub record FrequencyHeld (postings positions : List ℕ) (ix : Index) (places f : ℕ) (ts : List PhraseTerm) (d : ℕ) (terms : List ℕ) : Type 0 where

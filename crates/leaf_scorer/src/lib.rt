@@ -1,10 +1,10 @@
 // Scorers without children: the documents of a run, all documents, or a phrase.
 #![tactic(auto)]
 
-ghost use Rattle.std.specs.Prelude.{◌≡◌, ℕ, ◌+◌, ◌*◌, ◌≤◌, ◌<◌, length};
+ghost use Rattle.std.specs.Prelude.{◌≡◌, ℕ, ◌+◌, ◌*◌, ◌/◌, ◌≤◌, ◌<◌, length, get_or};
 ghost use Rattle.meaning.specs.Limits.{node_state_words, no_more_docs};
 ghost use Rattle.leaf_scorer.specs.Search.{CursorRead, SearchPre, SearchPost, AnyDocument, FirstSet, RangePre, RangePost};
-ghost use Rattle.leaf_scorer.specs.Phrases.{TermsPre, PassTermsPost, LeapfrogPost, PlaceAt, PlaceRead, GatherPre, GatherPost, FrequencyPre, FrequencyPost, PhrasePre, PhrasePost, PhraseAtPost};
+ghost use Rattle.leaf_scorer.specs.Phrases.{TermsPre, PassTermsPost, LeapfrogPost, EachRecord, PostingsThere, GatherPost, PostingsPre, PostingsPost, FrequencyPre, FrequencyPost, PhrasePre, PhrasePost, PhraseAtPost};
 ghost use Rattle.leaf_scorer.specs.Calls.{lent_of, LeafPre, LeafPost};
 ghost use Rattle.leaf_scorer.specs.Buffers.{room, other_room, SameBuffers};
 
@@ -178,60 +178,79 @@ fn leapfrog(terms: &mut [u32], postings: &[u32], target: u32) -> u32
     }
 }
 
-// A phrase's term: the word of its posting, and its offset.
-#[derive(Clone, Copy)]
-pub struct Place {
-    pub posting: usize,
-    pub offset: u32,
-}
-
-fn place_at(terms: &[u32], at: usize) -> Place
-    requires { PlaceAt terms.now at }
-    ensures { PlaceRead terms.now at result.posting result.offset }
+// The word of a term's posting in the document where its record's cursor stands.
+fn posting_of(terms: &[u32], at: usize) -> usize
+    requires { at + node_state_words ≤ length terms.now }
+    ensures { result ≡ 3 * (get_or terms.now (at + 6) 0 + get_or terms.now (at + 8) 0) }
 {
-    Place {
-        posting: POSTING * (wide(terms[at + 6]) + wide(terms[at + 8])),
-        offset: terms[at + 9],
-    }
+    POSTING * (wide(terms[at + 6]) + wide(terms[at + 8]))
 }
 
-// Of each term that stands at a document: the index of its first position there, its frequency and its offset.
-fn gather(terms: &[u32], postings: &[u32], out: &mut [u32]) -> usize
-    requires { GatherPre postings.now terms.now (length out.old) }
-    ensures { GatherPost postings.now terms.now result out.new }
+// Of each term's posting in a document: the index of its first position there, its frequency and its offset. `posting` says the
+// posting's word by the place of the term's record.
+#[inline(always)]
+fn gather<F: Fn(usize) -> usize>(
+    terms: &[u32],
+    postings: &[u32],
+    out: &mut [u32],
+    posting: F,
+) -> usize
+    requires may_ask { EachRecord (F.pre posting) (length terms.now) }
+    requires there { PostingsThere postings.now (length terms.now / node_state_words) (F.post posting) }
+    requires room { 3 * (length terms.now / node_state_words) ≤ length out.old }
+    ensures { GatherPost postings.now terms.now (F.post posting) result out.new }
 {
-    let mut n = 0;
-    let mut at = 0;
-    while at < terms.len() {
-        let p = place_at(terms, at);
-        let posting = p.posting;
-        out[n] = postings[posting + 2];
-        out[n + 1] = postings[posting + 1];
-        out[n + 2] = p.offset;
-        n += POSTING;
-        at += NODE_STATE_WORDS;
+    let count = terms.len() / NODE_STATE_WORDS;
+    for i in 0..count {
+        let at = NODE_STATE_WORDS * i;
+        let n = POSTING * i;
+        let p = posting(at);
+        out[n] = postings[p + 2];
+        out[n + 1] = postings[p + 1];
+        out[n + 2] = terms[at + 9];
     }
-    n
+    POSTING * count
 }
 
-// The frequency of a phrase in the document where its terms stand, by way of an array that has room for three words of each.
-fn frequency_in<const WORDS: usize>(
+// The frequency of a phrase in a document that all its terms have, by way of an array that has room for three words of each.
+fn frequency_in<const WORDS: usize, F: Fn(usize) -> usize>(
     terms: &[u32],
     postings: &[u32],
     positions: &[u32],
     buffers: &mut PhraseBuffers<'_>,
+    posting: F,
 ) -> u32
-    requires pre { FrequencyPre postings.now positions.now terms.now (room buffers.old) (other_room buffers.old) }
+    requires may_ask { EachRecord (F.pre posting) (length terms.now) }
+    requires held { PostingsPre postings.now positions.now terms.now (F.post posting) (room buffers.old) (other_room buffers.old) }
     requires room { (3 * length terms.now ≤ node_state_words * WORDS) × (WORDS ≤ 96) }
-    ensures frequency_post { FrequencyPost postings.now positions.now terms.now result }
+    ensures frequency_post { PostingsPost postings.now positions.now terms.now (F.post posting) result }
     ensures same_buffers { SameBuffers buffers.old buffers.new }
 {
     let mut words = [0u32; WORDS];
-    let n = gather(terms, postings, &mut words);
+    let n = gather(terms, postings, &mut words, posting);
     phrase::frequency(positions, &words[..n], buffers.starts, buffers.other_starts)
 }
 
 // A phrase has at most 32 terms. Most have up to four, and zeroing few words is cheaper.
+pub fn frequency_by<F: Fn(usize) -> usize>(
+    terms: &[u32],
+    postings: &[u32],
+    positions: &[u32],
+    buffers: &mut PhraseBuffers<'_>,
+    posting: F,
+) -> u32
+    requires may_ask { EachRecord (F.pre posting) (length terms.now) }
+    requires held { PostingsPre postings.now positions.now terms.now (F.post posting) (room buffers.old) (other_room buffers.old) }
+    ensures frequency_post { PostingsPost postings.now positions.now terms.now (F.post posting) result }
+    ensures same_buffers { SameBuffers buffers.old buffers.new }
+{
+    if terms.len() <= FOUR_TERMS {
+        return frequency_in::<12, _>(terms, postings, positions, buffers, posting);
+    }
+    frequency_in::<96, _>(terms, postings, positions, buffers, posting)
+}
+
+// The frequency in the document where the terms stand.
 fn frequency(
     terms: &[u32],
     postings: &[u32],
@@ -242,10 +261,7 @@ fn frequency(
     ensures frequency_post { FrequencyPost postings.now positions.now terms.now result }
     ensures same_buffers { SameBuffers buffers.old buffers.new }
 {
-    if terms.len() <= FOUR_TERMS {
-        return frequency_in::<12>(terms, postings, positions, buffers);
-    }
-    frequency_in::<96>(terms, postings, positions, buffers)
+    frequency_by(terms, postings, positions, buffers, |at| posting_of(terms, at))
 }
 
 // The first document at or after the target where a phrase stands; its frequency there is stored.

@@ -1,7 +1,10 @@
--- There is room for all the terms of a phrase.
-use Rattle.leaf_scorer.proofs.PhraseLaws.{frequency-few, terms-at-length}
-use native.Mathlib.Omega.{arith}
+-- The postings where the terms' cursors stand.
+use Rattle.std.proofs.Common.{rules}
+use Rattle.leaf_scorer.proofs.PhraseLaws.{standing-postings}
 use Rattle.leaf_scorer.proofs.frequency.Goals as goal
 
-pub frequency_in-requires-2-clause-room : goal.frequency_in-requires-2-clause-room
-frequency_in-requires-2-clause-room c = let P = c.requires in (omega (arith, frequency-few P.7, terms-at-length P.0 P.3 c.args.terms.now P.4 P.7.stand), omega arith)
+pub frequency_by-requires-clause-held : goal.frequency_by-requires-clause-held
+frequency_by-requires-clause-held c = let P = c.requires in (P.0, P.1, P.2, P.3, P.4, P.5, P.6, standing-postings (λ at p k. search rules) P.7)
+
+pub returns-clause-frequency_post : goal.returns-clause-frequency_post
+returns-clause-frequency_post c = λ ix p f ts d h. c.frequency_by.ensures.frequency_post ix p f ts d (standing-postings (λ at p k. search rules) h)

@@ -3,6 +3,7 @@ use Rattle.leaf_scorer.proofs.Bitmaps.{none-left, lowest-first, none-first}
 use Rattle.leaf_scorer.proofs.next_set.Goals as goal
 
 -- src/lib.rt:96:13
+
 pub returns-then-w-ne0 : goal.returns-then-w-ne0
 returns-then-w-ne0 c =
     let a = c.args in
@@ -10,6 +11,7 @@ returns-then-w-ne0 c =
     lowest-first a.words.now a.first a.number a.target l.at l.skip c.first_bits-below.result c.without-w.result (c.type_inv.words (a.first + l.at)).fits l.invariant.0 c.loop-at-test.true l.invariant.1 c.first_bits-below.ensures c.without-w.ensures l.invariant.2 c.requires.1 c.lowest.result _ c.lowest.ensures refl
 
 -- src/lib.rt:92:5
+
 pub loop-at-preserved : goal.loop-at-preserved
 loop-at-preserved c =
     let a = c.args in
@@ -20,5 +22,6 @@ loop-at-preserved c =
     )
 
 -- src/lib.rt:86:1
+
 pub returns : goal.returns
 returns c = none-first c.args.words.now c.args.first c.args.number c.args.target c.loop-at.at c.loop-at.skip (omega (arith, c.loop-at-test.false)) c.loop-at.invariant.2

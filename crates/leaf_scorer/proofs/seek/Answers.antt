@@ -1,4 +1,4 @@
-use Rattle.leaf_scorer.proofs.Seeks.{seek-long, seek-term-pre, seek-term-done, seek-range-pre, seek-range-done, seek-phrase-pre, seek-phrase-done, seek-any-done}
+use Rattle.leaf_scorer.proofs.Seeks.{seek-term-pre, seek-term-done, seek-range-pre, seek-range-done, seek-phrase-pre, seek-phrase-done, seek-any-done}
 use mathlib.Core.Path.{sym, ap, ◌∙◌}
 use Rattle.node.specs.Kinds.{kind_of}
 use Rattle.node.proofs.Scorers.{term-word, phrase-word, range-word}
@@ -7,9 +7,6 @@ use lib.ListN.{length}
 use native.Mathlib.Omega.{arith}
 use Prim.Native.Nat.{◌<◌}
 use Rattle.leaf_scorer.proofs.seek.Goals as goal
-
-pub bounds-st-0 : goal.bounds-st-0
-bounds-st-0 c = let s = c in let P = s.requires.1 in omega (arith, seek-long (lent_of s.args.reader.now) s.args.st.now s.args.target P.6)
 
 pub search_postings-requires : goal.search_postings-requires
 search_postings-requires c = let s = c in let P = s.requires.1 in let z : length s.args.reader.now.postings.now < 9223372036854775808 = omega (arith, s.well_formed) in seek-term-pre (lent_of s.args.reader.now) s.args.st.now s.args.target (term-word _ (sym c.in-Term.ensures)) z P.0 P.1 P.2 P.3 P.4 P.6
