@@ -1,18 +1,14 @@
 // A phrase in a window: the documents that all its terms have, and then its positions in those alone.
-ghost use Rattle.std.specs.Prelude.{◌≡◌, ◌+◌, ◌*◌, ◌<◌, ◌≤◌, length, get_or};
-ghost use Rattle.meaning.specs.Limits.{node_state_words};
+ghost use Rattle.std.specs.Prelude.{◌≡◌, ◌+◌, ◌*◌, ◌<◌, length, get_or};
 ghost use Rattle.leaf_scorer.specs.Buffers.{room, other_room, SameBuffers};
 ghost use Rattle.window_leaf.specs.Asks.{PhrasePre, PhrasePost};
-ghost use Rattle.window_leaf.specs.Phrases.{TermsPre, TermsPost, rank_at, PostingPre, GatherPre, GatherPost, FrequencyPre, FrequencyPost, Noted, PlanesPre, PlanesPost};
+ghost use Rattle.window_leaf.specs.Phrases.{TermsPre, TermsPost, rank_at, PostingPre, FrequencyPre, FrequencyPost, Noted, PlanesPre, PlanesPost};
 
 use crate::{Found, POSTING, Window, put, run_bits};
 use bits::SetBits;
 use index::wide;
-use leaf_scorer::PhraseBuffers;
+use leaf_scorer::{PhraseBuffers, frequency_by};
 use weight::NODE_STATE_WORDS;
-
-// The words of four terms of a phrase.
-const FOUR_TERMS: usize = 4 * NODE_STATE_WORDS;
 
 // The wanted documents that all terms have. A term is asked only where those before it left some.
 pub fn terms_bits(terms: &mut [u32], postings: &[u32], base: u32, want: u64) -> Found
@@ -42,53 +38,7 @@ fn posting_at(terms: &[u32], at: usize, place: u32) -> usize
     POSTING * (wide(terms[at + 6]) + wide(terms[at + 19]) + wide(before))
 }
 
-// Of each term's posting at a place: the index of its first position there, its frequency and its offset.
-fn gather(terms: &[u32], postings: &[u32], base: u32, place: u32, out: &mut [u32]) -> usize
-    requires { GatherPre postings.now terms.now base place (length out.old) }
-    ensures { GatherPost postings.now terms.now base place result out.new }
-{
-    let mut n = 0;
-    let mut at = 0;
-    while at < terms.len() {
-        let posting = posting_at(terms, at, place);
-        out[n] = postings[posting + 2];
-        out[n + 1] = postings[posting + 1];
-        out[n + 2] = terms[at + 9];
-        n += POSTING;
-        at += NODE_STATE_WORDS;
-    }
-    n
-}
-
-// The frequency of a phrase at a place that all its terms have, by way of an array that has room for three words of each.
-fn frequency_in<const WORDS: usize>(
-    terms: &[u32],
-    window: &Window<'_>,
-    buffers: &mut PhraseBuffers<'_>,
-    place: u32,
-) -> u32
-    requires frequency_pre { FrequencyPre window.now.reader.postings.now window.now.reader.positions.now terms.now (room buffers.old) (other_room buffers.old) window.now.base place }
-    requires room { (3 * length terms.now ≤ node_state_words * WORDS) × (WORDS ≤ 96) }
-    ensures frequency_post { FrequencyPost window.now.reader.postings.now window.now.reader.positions.now terms.now window.now.base place result }
-    ensures same_buffers { SameBuffers buffers.old buffers.new }
-{
-    let mut words = [0u32; WORDS];
-    let n = gather(
-        terms,
-        window.reader.postings,
-        window.base,
-        place,
-        &mut words,
-    );
-    phrase::frequency(
-        window.reader.positions,
-        &words[..n],
-        buffers.starts,
-        buffers.other_starts,
-    )
-}
-
-// Most phrases have up to four terms, and zeroing few words is cheaper.
+// The frequency of a phrase at a place that all its terms have.
 pub fn frequency_at(
     terms: &[u32],
     window: &Window<'_>,
@@ -99,10 +49,13 @@ pub fn frequency_at(
     ensures frequency_post { FrequencyPost window.now.reader.postings.now window.now.reader.positions.now terms.now window.now.base place result }
     ensures same_buffers { SameBuffers buffers.old buffers.new }
 {
-    if terms.len() <= FOUR_TERMS {
-        return frequency_in::<12>(terms, window, buffers, place);
-    }
-    frequency_in::<96>(terms, window, buffers, place)
+    frequency_by(
+        terms,
+        window.reader.postings,
+        window.reader.positions,
+        buffers,
+        |at| posting_at(terms, at, place),
+    )
 }
 
 // The two lower digits of the frequencies of a window, 3 where they are 3 or more.
