@@ -311,9 +311,6 @@ pub optional_bits-returns-clause-optional_post : goal.optional_bits-returns-clau
 optional_bits-returns-clause-optional_post t c =
     λ n ix places ss u v p. counted-enough ix c.args.window.now.reader.ranges.now c.args.depth c.args.window.now.base c.args.want ss c.counted_bits-next.new.kids c.args.need (omega (arith, c.if-need-eq0.false)) c.counted_bits-next.new.planes c.above.result c.counted_bits-next.result (c.counted_bits-next.ensures.count_post n ix places ss u v p) c.above.ensures
 
-pub phrase_bits-required_bits-p-requires : goal.phrase_bits-required_bits-p-requires
-phrase_bits-required_bits-p-requires t c = (omega arith, c.requires)
-
 pub phrase_bits-returns-then-skipped-clause-phrases_post : goal.phrase_bits-returns-then-skipped-clause-phrases_post
 phrase_bits-returns-then-skipped-clause-phrases_post t c =
     λ n ix places ss u v p h. let r = c.required_bits-p.ensures.pass_post n ix places ss u v p in (r.0, r.1)
