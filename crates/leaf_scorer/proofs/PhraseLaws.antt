@@ -4,7 +4,7 @@ use mathlib.Core.Logic.{◌⊎◌, ⊎_elim}
 use mathlib.Core.Bool.{Bool, true, false, ◌&&◌, false≢true}
 use mathlib.Core.List.{List, [], ◌∷◌, ◌++◌, append_assoc, append-nil}
 use mathlib.Core.Option.{Option, none, some}
-use Prim.Native.Nat.{ℕ, zero, suc, ◌+◌, ◌-◌, ◌*◌, ◌/◌, ◌%◌, ◌≤◌, ◌<◌}
+use Prim.Native.Nat.{ℕ, suc, ◌+◌, ◌-◌, ◌*◌, ◌%◌, ◌≤◌, ◌<◌}
 use native.Mathlib.Nat.{le_refl, le_trans, not-suc-le-zero}
 use native.Mathlib.Omega.{arith}
 use lib.Dec.{ltb}
@@ -175,14 +175,14 @@ module _ {ix : Index} {ts : List PhraseTerm} {terms : List ℕ} {target d e : �
   leap-more x a b = ⊎_elim (λ h. before x a h) (λ h. p.before x h b) (cmp x d)
 
 -- ---- what is gathered
-pub record GatherAt (postings : List ℕ) (ix : Index) (ts : List PhraseTerm) (d : ℕ) (terms : List ℕ) (P : ℕ → ℕ → Type 0) (out : List ℕ) (i : ℕ) : Type 0 where
+pub record GatherAt (postings : List ℕ) (ix : Index) (ts : List PhraseTerm) (d : ℕ) (terms : List ℕ) (P : ℕ → ℕ → Type 0) (out : List ℕ) (n at : ℕ) : Type 0 where
   pub left : List PhraseTerm
   pub accepted : Accepted ix
   pub postings-are : ix.postings ≡ postings
   pub there : LeavesThere ix left
-  pub rest : PostingsAt ix left terms (node_state_words * i) d P
-  pub number : 3 * i + 3 * length left ≡ 3 * length ts
-  pub back : (l : List ℕ) → Gathered ix left d l → Gathered ix ts d (take (3 * i) out ++ l)
+  pub rest : PostingsAt ix left terms at d P
+  pub number : n + 3 * length left ≡ 3 * length ts
+  pub back : (l : List ℕ) → Gathered ix left d l → Gathered ix ts d (take n out ++ l)
 
 pub take-three : (out : List ℕ) (n a b c : ℕ) → n + 2 < length out → take (n + 3) (set (set (set out n a) (n + 1) b) (n + 2) c) ≡ take n out ++ (a ∷ b ∷ c ∷ [])
 take-three out n a b c h =
@@ -203,56 +203,53 @@ module _ (ix : Index) (w : List ℕ) (d : ℕ) (P : ℕ → ℕ → Type 0) wher
   postings-length [] at p = omega arith
   postings-length (t ∷ ts) at p = omega (arith, postings-length ts (at + node_state_words) p.3)
 
-  pub postings-there : Accepted ix → (ts : List PhraseTerm) → LeavesThere ix ts → (at : ℕ) → PostingsAt ix ts w at d P → (i p : ℕ) → at + node_state_words * i < length w → P (at + node_state_words * i) p → p + 2 < length ix.postings
+  pub postings-there : Accepted ix → (ts : List PhraseTerm) → LeavesThere ix ts → (at : ℕ) → PostingsAt ix ts w at d P → (b p : ℕ) → at ≤ b → b % node_state_words ≡ at % node_state_words → b < length w → P b p → p + 2 < length ix.postings
   unfolding PostingsAt LeavesThere
-  postings-there acc [] h at r i p l s = absurd (omega (arith, r))
-  postings-there acc (t ∷ ts) h at r zero p l s =
-      let e : at + node_state_words * zero ≡ at = omega arith in
-      let k = r.2 p (subst (λ (y : ℕ). P y p) e s) in
-      omega (arith, k.word, k.within, (acc.leaf t.leaf h.0).words)
-  postings-there acc (t ∷ ts) h at r (suc i) p l s =
-      let e : at + node_state_words * suc i ≡ at + node_state_words + node_state_words * i = omega arith in
-      postings-there acc ts h.1 (at + node_state_words) r.3 i p (omega arith) (subst (λ (y : ℕ). P y p) e s)
+  postings-there acc [] h at r b p f m l s = absurd (omega (arith, r))
+  postings-there acc (t ∷ ts) h at r b p f m l s = ⊎_elim here (λ g. postings-there acc ts h.1 (at + node_state_words) r.3 b p g (omega arith) l s) (cmp b (at + node_state_words))
+    where
+      here : b < at + node_state_words → p + 2 < length ix.postings
+      here g =
+          let e : b ≡ at = omega arith in
+          let k = r.2 p (subst (λ (y : ℕ). P y p) e s) in
+          omega (arith, k.word, k.within, (acc.leaf t.leaf h.0).words)
 
 module _ {postings : List ℕ} {ix : Index} {ts : List PhraseTerm} {d : ℕ} {terms out : List ℕ} {P : ℕ → ℕ → Type 0} where
-  pub gather-start : GatherHeld postings ix ts d terms P → GatherAt postings ix ts d terms P out 0
+  pub gather-start : GatherHeld postings ix ts d terms P → GatherAt postings ix ts d terms P out 0 0
   gather-start h = record { left = ts; accepted = h.accepted; postings-are = h.postings-are; there = h.there; rest = h.at; number = omega arith; back = λ l g. g }
 
-  module _ {i : ℕ} (q : GatherAt postings ix ts d terms P out i) where
-    pub gather-end : (n : ℕ) → i ≡ n → n ≡ length terms / node_state_words → GatheredTo ix ts d (3 * n) out
+  module _ {n at : ℕ} (q : GatherAt postings ix ts d terms P out n at) where
+    pub gather-end : length terms ≤ at → GatheredTo ix ts d n out
     unfolding Gathered
-    gather-end n e m = rw (← e) (go q.left q.rest q.number q.back)
+    gather-end l = go q.left q.rest q.number q.back
       where
-        go : (g : List PhraseTerm) → PostingsAt ix g terms (node_state_words * i) d P → 3 * i + 3 * length g ≡ 3 * length ts → ((l : List ℕ) → Gathered ix g d l → Gathered ix ts d (take (3 * i) out ++ l)) → GatheredTo ix ts d (3 * i) out
+        go : (g : List PhraseTerm) → PostingsAt ix g terms at d P → n + 3 * length g ≡ 3 * length ts → ((l : List ℕ) → Gathered ix g d l → Gathered ix ts d (take n out ++ l)) → GatheredTo ix ts d n out
         go [] r k b = record { number = omega (arith, k); gathered = rw append-nil at (b [] refl) }
-        go (t ∷ g) r k b = absurd (omega (arith, postings-length ix terms d P (t ∷ g) (node_state_words * i) r))
+        go (t ∷ g) r k b = absurd (omega (arith, postings-length ix terms d P (t ∷ g) at r))
 
-    module _ (l : i < length terms / node_state_words) (p : ℕ) (says : P (node_state_words * i) p) (many : 3 * length ts ≤ length out) where
-      pub gather-took : GatherAt postings ix ts d terms P (set (set (set out (3 * i) (get_or postings (p + 2) 0)) (3 * i + 1) (get_or postings (p + 1) 0)) (3 * i + 2) (get_or terms (node_state_words * i + 9) 0)) (i + 1)
-      unfolding PostingsAt LeavesThere Gathered
-      gather-took = go q.left q.rest q.there q.number q.back
-        where
-          out' : List ℕ
-          out' = set (set (set out (3 * i) (get_or postings (p + 2) 0)) (3 * i + 1) (get_or postings (p + 1) 0)) (3 * i + 2) (get_or terms (node_state_words * i + 9) 0)
+    pub gather-took : at < length terms → (p : ℕ) → P at p → 3 * length ts ≤ length out → GatherAt postings ix ts d terms P (set (set (set out n (get_or postings (p + 2) 0)) (n + 1) (get_or postings (p + 1) 0)) (n + 2) (get_or terms (at + 9) 0)) (n + 3) (at + node_state_words)
+    unfolding PostingsAt LeavesThere Gathered
+    gather-took l p says many = go q.left q.rest q.there q.number q.back
+      where
+        out' : List ℕ
+        out' = set (set (set out n (get_or postings (p + 2) 0)) (n + 1) (get_or postings (p + 1) 0)) (n + 2) (get_or terms (at + 9) 0)
 
-          go : (g : List PhraseTerm) → PostingsAt ix g terms (node_state_words * i) d P → LeavesThere ix g → 3 * i + 3 * length g ≡ 3 * length ts → ((l : List ℕ) → Gathered ix g d l → Gathered ix ts d (take (3 * i) out ++ l)) → GatherAt postings ix ts d terms P out' (i + 1)
-          go [] r h e b = absurd (omega (arith, l, r))
-          go (t ∷ g) r h e b =
-              let k = r.2 p says in
-              let read : (n : ℕ) → get_or postings (p + n) 0 ≡ get_or ix.postings (3 * (leaf_first ix t.leaf + k.place) + n) 0 = λ n. ap (λ (l : List ℕ). get_or l (p + n) 0) (sym q.postings-are) ∙ ap (λ (y : ℕ). get_or ix.postings (y + n) 0) k.word in
-              let next : node_state_words * (i + 1) ≡ node_state_words * i + node_state_words = omega arith in
-              let more : 3 * (i + 1) ≡ 3 * i + 3 = omega arith in
-              record {
-                left = g;
-                accepted = q.accepted;
-                postings-are = q.postings-are;
-                there = h.1;
-                rest = rw next r.3;
-                number = omega (arith, e);
-                back = λ l y.
-                    let words = take-three out (3 * i) (get_or postings (p + 2) 0) (get_or postings (p + 1) 0) (get_or terms (node_state_words * i + 9) 0) (omega (arith, e)) in
-                    rw (more, words, append_assoc) (b (get_or postings (p + 2) 0 ∷ get_or postings (p + 1) 0 ∷ get_or terms (node_state_words * i + 9) 0 ∷ l) (k.place, l, k.within, k.document, rw (read 2, read 1, r.1), y));
-              }
+        go : (g : List PhraseTerm) → PostingsAt ix g terms at d P → LeavesThere ix g → n + 3 * length g ≡ 3 * length ts → ((l : List ℕ) → Gathered ix g d l → Gathered ix ts d (take n out ++ l)) → GatherAt postings ix ts d terms P out' (n + 3) (at + node_state_words)
+        go [] r h e b = absurd (omega (arith, l, r))
+        go (t ∷ g) r h e b =
+            let k = r.2 p says in
+            let read : (n : ℕ) → get_or postings (p + n) 0 ≡ get_or ix.postings (3 * (leaf_first ix t.leaf + k.place) + n) 0 = λ n. ap (λ (l : List ℕ). get_or l (p + n) 0) (sym q.postings-are) ∙ ap (λ (y : ℕ). get_or ix.postings (y + n) 0) k.word in
+            record {
+              left = g;
+              accepted = q.accepted;
+              postings-are = q.postings-are;
+              there = h.1;
+              rest = r.3;
+              number = omega (arith, e);
+              back = λ l y.
+                  let words = take-three out n (get_or postings (p + 2) 0) (get_or postings (p + 1) 0) (get_or terms (at + 9) 0) (omega (arith, e)) in
+                  rw (words, append_assoc) (b (get_or postings (p + 2) 0 ∷ get_or postings (p + 1) 0 ∷ get_or terms (at + 9) 0 ∷ l) (k.place, l, k.within, k.document, rw (read 2, read 1, r.1), y));
+            }
 
 -- the terms that stand at a document, and their postings there
 module _ (ix : Index) (d : ℕ) (terms : List ℕ) (P : ℕ → ℕ → Type 0) (read : (at p : ℕ) → P at p → p ≡ 3 * (get_or terms (at + 6) 0 + get_or terms (at + 8) 0)) where
@@ -264,8 +261,7 @@ module _ (ix : Index) (d : ℕ) (terms : List ℕ) (P : ℕ → ℕ → Type 0) 
       let six : get_or terms (length x + 6) 0 ≡ r.0.first = rw (whole, get_or-append-add) in
       let eight : get_or terms (length x + 8) 0 ≡ r.0.cursor = rw (whole, get_or-append-add) in
       let nine : get_or terms (length x + 9) 0 ≡ r.0.offset = rw (whole, get_or-append-add) in
-      let end : length (x ++ words_of r.0) ≡ length x + node_state_words = length-append x (words_of r.0) in
-      (
+      let end : length (x ++ words_of r.0) ≡ length x + node_state_words = length-append x (words_of r.0) in (
         record-fits terms x r.1 r.0 (length x) (length x + node_state_words) whole refl refl,
         nine ∙ r.4,
         λ p h. record { place = r.0.cursor; within = r.5; document = r.6; word = omega (arith, read (length x) p h, six, eight, r.3.first-is) },
@@ -374,10 +370,9 @@ module _ {postings positions : List ℕ} {ix : Index} {places f : ℕ} {ts : Lis
   pub held-length : length terms ≡ node_state_words * length ts
   held-length = omega (arith, postings-length ix terms d P ts 0 h.at)
 
-  pub frequency-there : PostingsThere postings (length terms / node_state_words) P
+  pub frequency-there : PostingsThere postings (length terms) P
   unfolding LeafSound
-  frequency-there =
-      λ i p l s. subst (λ (y : List ℕ). p + 2 < length y) h.postings-are (postings-there ix terms d P h.accepted ts (leaves-there ix f places ts h.sound.4) 0 h.at i p (omega arith) (subst (λ (y : ℕ). P y p) (let e : node_state_words * i ≡ 0 + node_state_words * i = omega arith in e) s))
+  frequency-there = λ b p m l s. subst (λ (y : List ℕ). p + 2 < length y) h.postings-are (postings-there ix terms d P h.accepted ts (leaves-there ix f places ts h.sound.4) 0 h.at b p (omega arith) m l s)
 
   pub frequency-few : 3 * length ts ≤ 96
   unfolding LeafSound

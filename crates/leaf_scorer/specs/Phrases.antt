@@ -1,5 +1,5 @@
 -- The terms of a phrase, moved to a common document, and its frequency there. Assumes nothing: these are definitions.
-use Rattle.std.specs.Prelude.{◌≡◌, Bool, true, false, ◌&&◌, List, [], ◌∷◌, ◌++◌, ℕ, ◌+◌, ◌*◌, ◌≤◌, ◌<◌, ltb, length, get_or, take}
+use Rattle.std.specs.Prelude.{◌≡◌, Bool, true, false, ◌&&◌, List, [], ◌∷◌, ◌++◌, ℕ, ◌+◌, ◌*◌, ◌%◌, ◌≤◌, ◌<◌, ltb, length, get_or, take}
 use Rattle.meaning.specs.Limits.{no_more_docs, node_state_words}
 use Rattle.meaning.specs.Lent.{Index, leaf_first, leaf_number, leaf_document, leaf_frequency, leaf_positions_index, leaf_count}
 use Rattle.meaning.specs.Postings.{posting_at, found}
@@ -89,9 +89,9 @@ pub record GatherHeld (postings : List ℕ) (ix : Index) (ts : List PhraseTerm) 
   pub there : LeavesThere ix ts
   pub at : PostingsAt ix ts terms 0 d P
 
--- the postings of so many records are there
+-- the postings are there of the records in so many words
 abbrev pub PostingsThere : List ℕ → ℕ → (ℕ → ℕ → Type 0) → Type 0
-PostingsThere postings n P = (i p : ℕ) → i < n → P (node_state_words * i) p → p + 2 < length postings
+PostingsThere postings n P = (at p : ℕ) → at % node_state_words ≡ 0 → at < n → P at p → p + 2 < length postings
 
 -- so many words are written to the front
 pub record GatheredTo (ix : Index) (ts : List PhraseTerm) (d r : ℕ) (out : List ℕ) : Type 0 where

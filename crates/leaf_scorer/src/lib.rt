@@ -1,7 +1,7 @@
 // Scorers without children: the documents of a run, all documents, or a phrase.
 #![tactic(auto)]
 
-ghost use Rattle.std.specs.Prelude.{◌≡◌, ℕ, ◌+◌, ◌*◌, ◌/◌, ◌≤◌, ◌<◌, length, get_or};
+ghost use Rattle.std.specs.Prelude.{◌≡◌, ℕ, ◌+◌, ◌*◌, ◌%◌, ◌≤◌, ◌<◌, length, get_or};
 ghost use Rattle.meaning.specs.Limits.{node_state_words, no_more_docs};
 ghost use Rattle.leaf_scorer.specs.Search.{CursorRead, SearchPre, SearchPost, AnyDocument, FirstSet, RangePre, RangePost};
 ghost use Rattle.leaf_scorer.specs.Phrases.{TermsPre, PassTermsPost, LeapfrogPost, EachRecord, PostingsThere, GatherPost, PostingsPre, PostingsPost, FrequencyPre, FrequencyPost, PhrasePre, PhrasePost, PhraseAtPost};
@@ -186,8 +186,8 @@ fn posting_of(terms: &[u32], at: usize) -> usize
     POSTING * (wide(terms[at + 6]) + wide(terms[at + 8]))
 }
 
-// Of each term's posting in a document: the index of its first position there, its frequency and its offset. `posting` says the
-// posting's word by the place of the term's record.
+// Of each term's posting in a document: the index of its first position there, its frequency and its offset. `posting` says where the
+// posting's words begin, by where the term's record does.
 #[inline(always)]
 fn gather<F: Fn(usize) -> usize>(
     terms: &[u32],
@@ -196,20 +196,23 @@ fn gather<F: Fn(usize) -> usize>(
     posting: F,
 ) -> usize
     requires may_ask { EachRecord (F.pre posting) (length terms.now) }
-    requires there { PostingsThere postings.now (length terms.now / node_state_words) (F.post posting) }
-    requires room { 3 * (length terms.now / node_state_words) ≤ length out.old }
+    requires there { PostingsThere postings.now (length terms.now) (F.post posting) }
+    requires whole { length terms.now % node_state_words ≡ 0 }
+    requires room { 3 * length terms.now ≤ node_state_words * length out.old }
     ensures { GatherPost postings.now terms.now (F.post posting) result out.new }
 {
-    let count = terms.len() / NODE_STATE_WORDS;
-    for i in 0..count {
-        let at = NODE_STATE_WORDS * i;
-        let n = POSTING * i;
+    let mut n = 0;
+    let mut at = 0;
+    // Kept: a `for` over the terms' number is unrolled, and a document of a phrase with two terms takes 26 ns in place of 22.
+    while at < terms.len() {
         let p = posting(at);
         out[n] = postings[p + 2];
         out[n + 1] = postings[p + 1];
         out[n + 2] = terms[at + 9];
+        n += POSTING;
+        at += NODE_STATE_WORDS;
     }
-    POSTING * count
+    n
 }
 
 // The frequency of a phrase in a document that all its terms have, by way of an array that has room for three words of each.
@@ -231,7 +234,8 @@ fn frequency_in<const WORDS: usize, F: Fn(usize) -> usize>(
     phrase::frequency(positions, &words[..n], buffers.starts, buffers.other_starts)
 }
 
-// A phrase has at most 32 terms. Most have up to four, and zeroing few words is cheaper.
+// The frequency of a phrase in a document that all its terms have; `posting` is as in `gather`. A phrase has at most 32 terms. Most
+// have up to four, and zeroing few words is cheaper.
 pub fn frequency_by<F: Fn(usize) -> usize>(
     terms: &[u32],
     postings: &[u32],
@@ -261,7 +265,13 @@ fn frequency(
     ensures frequency_post { FrequencyPost postings.now positions.now terms.now result }
     ensures same_buffers { SameBuffers buffers.old buffers.new }
 {
-    frequency_by(terms, postings, positions, buffers, |at| posting_of(terms, at))
+    frequency_by(
+        terms,
+        postings,
+        positions,
+        buffers,
+        |at| posting_of(terms, at),
+    )
 }
 
 // The first document at or after the target where a phrase stands; its frequency there is stored.

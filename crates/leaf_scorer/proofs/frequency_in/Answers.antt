@@ -6,6 +6,9 @@ use Rattle.leaf_scorer.proofs.frequency_in.Goals as goal
 pub gather-n-requires-clause-there : goal.gather-n-requires-clause-there
 gather-n-requires-clause-there g c = frequency-there c.requires.held.7
 
+pub gather-n-requires-clause-whole : goal.gather-n-requires-clause-whole
+gather-n-requires-clause-whole g c = omega (arith, held-length c.requires.held.7)
+
 pub shared_whole_as_front-frequency : goal.shared_whole_as_front-frequency
 shared_whole_as_front-frequency g c =
     let P = c.requires.held in
