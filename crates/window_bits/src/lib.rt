@@ -155,10 +155,8 @@ fn required_bits(
     ensures pass_post { PassPost (lent_of window.now.reader) (room buffers.old) (other_room buffers.old) kids.old (phrases_only asks) window.now.base want depth result.found.bits result.found.next result.skipped kids.new }
     ensures same_buffers { SameBuffers buffers.old buffers.new }
 {
-    let postings = window.reader.postings;
-    let base = window.base;
     let mut w = want;
-    let mut next = base + 64;
+    let mut next = window.base + 64;
     let mut skipped = false;
     let mut at = 0;
     // Kept: no plainer: parts differ in length and are lent for writing, so an iterator would hold `kids` and `at` itself.
@@ -174,7 +172,8 @@ fn required_bits(
         if asks.takes(k.kind) {
             match k.kind {
                 NodeKind::Term => {
-                    w = bits::both(w, term_bits(&mut kids[at..end], postings, base));
+                    let term = term_bits(&mut kids[at..end], window.reader.postings, window.base);
+                    w = bits::both(w, term);
                 }
                 _ => {
                     w = node_bits(&mut kids[at..end], window, buffers, w, depth);
@@ -248,8 +247,6 @@ fn any_bits(
     ensures any_post { AnyPost (lent_of window.now.reader) (room buffers.old) (other_room buffers.old) kids.old window.now.base want depth result.bits result.next kids.new }
     ensures same_buffers { SameBuffers buffers.old buffers.new }
 {
-    let postings = window.reader.postings;
-    let base = window.base;
     let mut w = 0;
     let mut next = NO_MORE_DOCS;
     let mut at = 0;
@@ -259,10 +256,8 @@ fn any_bits(
         let end = k.end;
         match k.kind {
             NodeKind::Term => {
-                w = bits::either(
-                    w,
-                    bits::both(want, term_bits(&mut kids[at..end], postings, base)),
-                );
+                let term = term_bits(&mut kids[at..end], window.reader.postings, window.base);
+                w = bits::either(w, bits::both(want, term));
             }
             _ => {
                 w = bits::either(
@@ -293,8 +288,6 @@ fn counted_bits(
     ensures same_buffers { SameBuffers buffers.old buffers.new }
     ensures planes_length { length planes.new ≡ 8 }
 {
-    let postings = window.reader.postings;
-    let base = window.base;
     let mut next = NO_MORE_DOCS;
     let mut at = 0;
     // Kept: no plainer: parts differ in length and are lent for writing, so an iterator would hold `kids` and `at` itself.
@@ -303,7 +296,8 @@ fn counted_bits(
         let end = k.end;
         match k.kind {
             NodeKind::Term => {
-                let _carry = planes::counted(planes, term_bits(&mut kids[at..end], postings, base));
+                let term = term_bits(&mut kids[at..end], window.reader.postings, window.base);
+                let _carry = planes::counted(planes, term);
             }
             _ => {
                 let _carry = planes::counted(
@@ -331,8 +325,6 @@ fn excluded_bits(
     ensures excluded_post { ExcludedPost (lent_of window.now.reader) (room buffers.old) (other_room buffers.old) kids.old window.now.base want depth result kids.new }
     ensures same_buffers { SameBuffers buffers.old buffers.new }
 {
-    let postings = window.reader.postings;
-    let base = window.base;
     let mut w = want;
     let mut at = 0;
     // Kept: no plainer: parts differ in length and are lent for writing, so an iterator would hold `kids` and `at` itself.
@@ -344,7 +336,8 @@ fn excluded_bits(
         let end = k.end;
         match k.kind {
             NodeKind::Term => {
-                w = bits::without(w, term_bits(&mut kids[at..end], postings, base));
+                let term = term_bits(&mut kids[at..end], window.reader.postings, window.base);
+                w = bits::without(w, term);
             }
             _ => {
                 w = bits::without(w, node_bits(&mut kids[at..end], window, buffers, w, depth));

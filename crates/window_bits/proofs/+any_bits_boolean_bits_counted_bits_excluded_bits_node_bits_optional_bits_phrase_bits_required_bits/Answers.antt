@@ -43,8 +43,8 @@ any_bits-child_at-k-requires t c = any-child t (goal.at.any_bits-child_at-k-requ
 pub any_bits-slice_bounds-term_bits-end : goal.any_bits-slice_bounds-term_bits-end
 any_bits-slice_bounds-term_bits-end t c = let h = any-child t (goal.at.any_bits-slice_bounds-term_bits-end t c).In-loop-at in omega arith
 
-pub any_bits-term_bits-requires : goal.any_bits-term_bits-requires
-any_bits-term_bits-requires t c =
+pub any_bits-term_bits-term-requires : goal.any_bits-term_bits-term-requires
+any_bits-term_bits-term-requires t c =
     let r = c.requires in
     let q = c.loop-at.invariant.1 r.0 r.1 r.2 r.3 r.4.wanted r.5 r.6 in
     any-term q c.loop-at-test.true r.5.lends c.child_at-k.ensures.end_is r.4 (word-read _ Term (sym c.in-Term.is ∙ c.child_at-k.ensures.kind-is) refl)
@@ -70,7 +70,7 @@ any_bits-loop-at-preserved t c = (
   λ n ix places ss u v p.
       let q = c.loop-at.invariant.1 n ix places ss u v p in
       elim c.match-k.branch [
-        | any_bits-in-Term w ↦ any-took c.child_at-k.ensures.end_is v.lends w.both.result w.term_bits.new.st w.term_bits.auto.st w.kids-is c.min-next.ensures (λ p'. ap (bit p') w.w-is ∙ w.either-w.ensures p') (term-answers c.args.want w.term_bits.new.st w.both.ensures w.term_bits.ensures) q c.loop-at-test.true
+        | any_bits-in-Term w ↦ any-took c.child_at-k.ensures.end_is v.lends w.both.result w.term_bits-term.new.st w.term_bits-term.auto.st w.kids-is c.min-next.ensures (λ p'. ap (bit p') w.w-is ∙ w.either-w.ensures p') (term-answers c.args.want w.term_bits-term.new.st w.both.ensures w.term_bits-term.ensures) q c.loop-at-test.true
         | any_bits-in_default w ↦ any-took c.child_at-k.ensures.end_is v.lends w.node_bits.result w.node_bits.new.st w.node_bits.auto.st w.kids-is c.min-next.ensures (λ p'. ap (bit p') w.w-is ∙ w.either-w-in_default.ensures p') (w.node_bits.ensures.bits_post n u) q c.loop-at-test.true
       ],
 )
@@ -160,8 +160,8 @@ counted_bits-child_at-k-requires t c = count-child t (goal.at.counted_bits-child
 pub counted_bits-slice_bounds-term_bits-end : goal.counted_bits-slice_bounds-term_bits-end
 counted_bits-slice_bounds-term_bits-end t c = let h = count-child t (goal.at.counted_bits-slice_bounds-term_bits-end t c).In-loop-at in omega arith
 
-pub counted_bits-term_bits-requires : goal.counted_bits-term_bits-requires
-counted_bits-term_bits-requires t c =
+pub counted_bits-term_bits-term-requires : goal.counted_bits-term_bits-term-requires
+counted_bits-term_bits-term-requires t c =
     let r = c.requires.parts_pre in
     let q = c.loop-at.invariant.1 r.0 r.1 r.2 r.3 r.4.wanted r.5 r.6 in
     count-term q c.loop-at-test.true r.5.lends c.child_at-k.ensures.end_is r.4 (word-read _ Term (sym c.in-Term.is ∙ c.child_at-k.ensures.kind-is) refl)
@@ -187,7 +187,7 @@ counted_bits-loop-at-preserved t c = (
   λ n ix places ss u v p.
       let q = c.loop-at.invariant.1 n ix places ss u v p in
       elim c.match-k.branch [
-        | counted_bits-in-Term w ↦ count-took v.few c.child_at-k.ensures.end_is v.lends everywhere (λ p' b t'. refl) w.term_bits.result w.term_bits.new.st w.counted-carry.result w.term_bits.auto.st w.kids-is c.min-next.ensures (ap length w.planes-is ∙ w.counted-carry.auto.planes) (λ p'. ap (λ (l : List ℕ). count p' (l ++ (w.counted-carry.result ∷ []))) w.planes-is ∙ w.counted-carry.ensures p') (w.term_bits.ensures (lent_at (lent_of c.args.window.now.reader) n) c.args.depth refl) q c.loop-at-test.true
+        | counted_bits-in-Term w ↦ count-took v.few c.child_at-k.ensures.end_is v.lends everywhere (λ p' b t'. refl) w.term_bits-term.result w.term_bits-term.new.st w.counted-carry.result w.term_bits-term.auto.st w.kids-is c.min-next.ensures (ap length w.planes-is ∙ w.counted-carry.auto.planes) (λ p'. ap (λ (l : List ℕ). count p' (l ++ (w.counted-carry.result ∷ []))) w.planes-is ∙ w.counted-carry.ensures p') (w.term_bits-term.ensures (lent_at (lent_of c.args.window.now.reader) n) c.args.depth refl) q c.loop-at-test.true
         | counted_bits-in_default w ↦ count-took v.few c.child_at-k.ensures.end_is v.lends (places_of c.args.want) (λ p' b t'. t') w.node_bits.result w.node_bits.new.st w.counted-carry-in_default.result w.node_bits.auto.st w.kids-is c.min-next.ensures (ap length w.planes-is ∙ w.counted-carry-in_default.auto.planes) (λ p'. ap (λ (l : List ℕ). count p' (l ++ (w.counted-carry-in_default.result ∷ []))) w.planes-is ∙ w.counted-carry-in_default.ensures p') (w.node_bits.ensures.bits_post n u) q c.loop-at-test.true
       ],
 )
@@ -210,8 +210,8 @@ excluded_bits-child_at-k-requires t c = excluded-child t (goal.at.excluded_bits-
 pub excluded_bits-slice_bounds-term_bits-end : goal.excluded_bits-slice_bounds-term_bits-end
 excluded_bits-slice_bounds-term_bits-end t c = let h = excluded-child t (goal.at.excluded_bits-slice_bounds-term_bits-end t c).In-loop-at in omega arith
 
-pub excluded_bits-term_bits-requires : goal.excluded_bits-term_bits-requires
-excluded_bits-term_bits-requires t c =
+pub excluded_bits-term_bits-term-requires : goal.excluded_bits-term_bits-term-requires
+excluded_bits-term_bits-term-requires t c =
     let r = c.requires in
     let q = c.loop-at.invariant.1 r.0 r.1 r.2 r.3 r.4.wanted r.5 r.6 in
     excluded-term q c.loop-at-test.true r.5.lends c.child_at-k.ensures.end_is r.4 (word-read _ Term (sym c.in-Term.is ∙ c.child_at-k.ensures.kind-is) refl)
@@ -233,7 +233,7 @@ excluded_bits-loop-at-preserved-in-Term t c = (
   search rules,
   λ n ix places ss u v p.
       let q = c.loop-at.invariant.1 n ix places ss u v p in
-      excluded-took c.child_at-k.ensures.end_is v.lends everywhere (λ p' b t'. refl) c.term_bits.result c.term_bits.new.st c.term_bits.auto.st refl c.without-w.ensures (c.term_bits.ensures (lent_at (lent_of c.args.window.now.reader) n) c.args.depth refl) q c.loop-at-test.true,
+      excluded-took c.child_at-k.ensures.end_is v.lends everywhere (λ p' b t'. refl) c.term_bits-term.result c.term_bits-term.new.st c.term_bits-term.auto.st refl c.without-w.ensures (c.term_bits-term.ensures (lent_at (lent_of c.args.window.now.reader) n) c.args.depth refl) q c.loop-at-test.true,
 )
 
 pub excluded_bits-loop-at-smaller : goal.excluded_bits-loop-at-smaller
@@ -333,8 +333,8 @@ required_bits-child_at-k-requires t c = pass-child t (goal.at.required_bits-chil
 pub required_bits-slice_bounds-term_bits-end : goal.required_bits-slice_bounds-term_bits-end
 required_bits-slice_bounds-term_bits-end t c = let h = pass-child t (goal.at.required_bits-slice_bounds-term_bits-end t c).In-loop-at in omega arith
 
-pub required_bits-term_bits-requires : goal.required_bits-term_bits-requires
-required_bits-term_bits-requires t c =
+pub required_bits-term_bits-term-requires : goal.required_bits-term_bits-term-requires
+required_bits-term_bits-term-requires t c =
     let r = c.requires in
     let q = c.loop-at.invariant.1 r.0 r.1 r.2 r.3 r.4.wanted r.5 r.6 in
     let h = asked-kind c.args.asks c.child_at-k.result.kind (get_or c.loop-at.kids c.loop-at.at 0) c.takes.result c.child_at-k.ensures.kind-is c.takes.ensures c.if-takes.true in
@@ -363,7 +363,7 @@ required_bits-loop-at-preserved-after-k t c = (
       let q = c.loop-at.invariant.1 n ix places ss u v p in
       let h = asked-kind c.args.asks c.child_at-k.result.kind (get_or c.loop-at.kids c.loop-at.at 0) c.takes.result c.child_at-k.ensures.kind-is c.takes.ensures c.if-takes.true in
       elim c.match-k.branch [
-        | required_bits-in-Term w ↦ pass-took c.child_at-k.ensures.end_is v.lends w.both-w.result w.term_bits.new.st w.term_bits.auto.st w.kids-is c.max-next.ensures (term-answers c.loop-at.w w.term_bits.new.st w.both-w.ensures w.term_bits.ensures) q c.loop-at-test.true h w.w-is
+        | required_bits-in-Term w ↦ pass-took c.child_at-k.ensures.end_is v.lends w.both-w.result w.term_bits-term.new.st w.term_bits-term.auto.st w.kids-is c.max-next.ensures (term-answers c.loop-at.w w.term_bits-term.new.st w.both-w.ensures w.term_bits-term.ensures) q c.loop-at-test.true h w.w-is
         | required_bits-in_default w ↦ pass-took c.child_at-k.ensures.end_is v.lends w.node_bits-w.result w.node_bits-w.new.st w.node_bits-w.auto.st w.kids-is c.max-next.ensures (w.node_bits-w.ensures.bits_post n (λ p' b t. u p' b (q.left.within p' b t))) q c.loop-at-test.true h w.w-is
       ],
 )
