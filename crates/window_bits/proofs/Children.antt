@@ -87,8 +87,8 @@ module _ {ix : Index} {R : List ℕ} {k base places : ℕ} {P Q : Part} (low : L
   ask-term h = term-pre n postings positions R base called.small ix places (take (e - at) (drop at kids)) k (child-kind kids at e (child-there low g zip l) i ∙ sym j ∙ h) (child-node low postings positions n lends kind fresh g zip l e i j)
 
 -- ---- what a call answers: a term's answer, cut to what is wanted
-pub term-answers : (n : ℕ) (postings positions ranges q : List ℕ) (base depth w t r : ℕ) (ys : List ℕ) → ((p : ℕ) → bit p r ≡ bit p w && bit p t) → TermPost postings q base t ys → NodeAnswers (lent n postings positions ranges) q base (places_of w) depth r ys
-term-answers n postings positions ranges q base depth w t r ys e post ix places s scores h =
+pub term-answers : (w : ℕ) (ys : List ℕ) {n : ℕ} {postings positions ranges q : List ℕ} {base depth t r : ℕ} → ((p : ℕ) → bit p r ≡ bit p w && bit p t) → TermPost postings q base t ys → NodeAnswers (lent n postings positions ranges) q base (places_of w) depth r ys
+term-answers w ys {n} {postings} {positions} {ranges} {q} {base} {depth} {t} {r} e post ix places s scores h =
     let a = post (lent n postings positions ranges) depth refl ix places s scores h in (
       record { bits = λ p l. e p ∙ ap (λ (x : Bool). bit p w && x) (a.0.bits p l); gap = a.0.gap; top = a.0.top },
       windowed-less ix ranges s depth scores ys (base + 64) base everywhere (places_of w) (λ p l x. refl) a.1,

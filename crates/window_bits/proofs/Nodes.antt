@@ -181,11 +181,11 @@ module _ {n : ℕ} {postings positions R : List ℕ} {ix : Index} {places depth 
         boolean-after : Answers (matches ix B) base (places_of want) bits (get_or st' 22 0) × Windowed ix R B depth scores st' (base + 64) base (places_of want)
         boolean-after = (answers, of-held ix R c j need rs os ps depth scores st' (base + 64) base (places_of want) held-after)
 
-  module _ (a b want : ℕ) (need' r o : ℕ) (need-read : need' ≡ get_or st 3 0) (required-read : r ≡ get_or st 4 0) (optional-read : o ≡ get_or st 5 0) where
-    pub node-pre : Called (lent n postings positions R) places a b base want → (s : Scorer) → NodeWindowed (lent n postings positions R) ix places s depth scores st base → get_or st 0 0 ≡ 3 → BooleanPre (lent n postings positions R) a b (take (length st - 32) (drop 32 st)) r o need' base want (depth - 1)
+  module _ {need' r o : ℕ} (need-read : need' ≡ get_or st 3 0) (required-read : r ≡ get_or st 4 0) (optional-read : o ≡ get_or st 5 0) where
+    pub node-pre : {a b want : ℕ} → Called (lent n postings positions R) places a b base want → (s : Scorer) → NodeWindowed (lent n postings positions R) ix places s depth scores st base → get_or st 0 0 ≡ 3 → BooleanPre (lent n postings positions R) a b (take (length st - 32) (drop 32 st)) r o need' base want (depth - 1)
     node-pre called (leaf l sc) m e = absurd (leaf-not l sc m e)
     node-pre called (boolean c j need rs os ps) m e = (n, ix, places, rs, os, ps, called, known-of c j need rs os ps m, parts need' r o need-read required-read optional-read c j need rs os ps m)
 
-    pub node-after : Wanted n base want → (s : Scorer) → NodeWindowed (lent n postings positions R) ix places s depth scores st base → get_or st 0 0 ≡ 3 → (bits next : ℕ) (w st' : List ℕ) → BooleanPost (lent n postings positions R) a b (take (length st - 32) (drop 32 st)) r o need' base want (depth - 1) bits next w → PutPost (take 32 st ++ (w ++ drop (length st - 32) (drop 32 st))) bits next st' → Answers (matches ix s) base (places_of want) bits (get_or st' 22 0) × Windowed ix R s depth scores st' (base + 64) base (places_of want)
-    node-after wanted (leaf l sc) m e bits next w st' post put = absurd (leaf-not l sc m e)
-    node-after wanted (boolean c j need rs os ps) m e bits next w st' post put = boolean-after need' r o need-read required-read optional-read c j need rs os ps m a b want wanted bits next w st' post put
+    pub node-after : (a b want : ℕ) → Wanted n base want → (s : Scorer) → NodeWindowed (lent n postings positions R) ix places s depth scores st base → get_or st 0 0 ≡ 3 → (bits next : ℕ) (w st' : List ℕ) → BooleanPost (lent n postings positions R) a b (take (length st - 32) (drop 32 st)) r o need' base want (depth - 1) bits next w → PutPost (take 32 st ++ (w ++ drop (length st - 32) (drop 32 st))) bits next st' → Answers (matches ix s) base (places_of want) bits (get_or st' 22 0) × Windowed ix R s depth scores st' (base + 64) base (places_of want)
+    node-after a b want wanted (leaf l sc) m e bits next w st' post put = absurd (leaf-not l sc m e)
+    node-after a b want wanted (boolean c j need rs os ps) m e bits next w st' post put = boolean-after need' r o need-read required-read optional-read c j need rs os ps m a b want wanted bits next w st' post put

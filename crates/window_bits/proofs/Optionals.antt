@@ -10,7 +10,9 @@ use Rattle.planes.specs.Counts.{one, count}
 use Rattle.planes.proofs.Planes.{nothing-carried}
 use Rattle.weight.specs.ScorerTree.{Scorers, end, more, matches, any_matches, matching}
 use Rattle.weight.specs.Sound.{Lends, Sounds, nodes_of}
+use Rattle.leaf_scorer.specs.declared.PhraseBuffers.{PhraseBuffers}
 use Rattle.leaf_scorer.specs.Calls.{lent}
+use Rattle.leaf_scorer.specs.Buffers.{room, other_room, SameBuffers}
 use Rattle.node.specs.Words.{ChildThere}
 use Rattle.window_words.specs.Windowed.{Places, nowhere, places_of, optional_bound, AllWindowed}
 use Rattle.window_words.proofs.Laws.{windowed-less, windowed-mono, all-less, all-mono}
@@ -57,8 +59,8 @@ pub record AnyAt (ix : Index) (R : List ℕ) (k places base want : ℕ) (ss : Sc
   pub g : Scorers
   pub left : AnyLeft ix R k places base want ss kids w next at g
 
-pub any-start : (ix : Index) (R : List ℕ) (k places base want : ℕ) (ss : Scorers) (kids : List ℕ) → Sounds ix places ss → nodes_of ss ≤ 255 → AllWindowed ix R ss k kids base base nowhere → AnyAt ix R k places base want ss kids 0 no_more_docs 0
-any-start ix R k places base want ss kids h n q =
+pub any-start : {ix : Index} {R : List ℕ} {k places base want : ℕ} {ss : Scorers} {kids : List ℕ} → Sounds ix places ss → nodes_of ss ≤ 255 → AllWindowed ix R ss k kids base base nowhere → AnyAt ix R k places base want ss kids 0 no_more_docs 0
+any-start {ix} {R} {k} {places} {base} {want} {ss} {kids} h n q =
     record {
       g = ss;
       left = record {
@@ -69,7 +71,7 @@ any-start ix R k places base want ss kids h n q =
       };
     }
 
-module _ (ix : Index) (R : List ℕ) (k places base want : ℕ) (ss : Scorers) (kids : List ℕ) (w next at : ℕ) where
+module _ {ix : Index} {R : List ℕ} {k places base want : ℕ} {ss : Scorers} {kids : List ℕ} {w next at : ℕ} where
   any-ended : (g : Scorers) → AnyLeft ix R k places base want ss kids w next at g → length kids ≤ at → Answers (any_matches ix ss) base (places_of want) w next × AllWindowed ix R ss k kids (base + 64) base (places_of want)
   unfolding any_matches
   any-ended end s l = (
@@ -81,7 +83,18 @@ module _ (ix : Index) (R : List ℕ) (k places base want : ℕ) (ss : Scorers) (
   pub any-end : AnyAt ix R k places base want ss kids w next at → length kids ≤ at → Answers (any_matches ix ss) base (places_of want) w next × AllWindowed ix R ss k kids (base + 64) base (places_of want)
   any-end q l = any-ended q.g q.left l
 
-  module _ (e : ℕ) (i : e ≡ at + get_or kids (at + 1) 0) (postings positions : List ℕ) (n : ℕ) (lends : Lends ix n postings positions) (r : ℕ) (ys : List ℕ) (w' next' : ℕ) (m : length ys ≡ length (take (e - at) (drop at kids))) (kids' : List ℕ) (is' : kids' ≡ take at kids ++ (ys ++ drop (e - at) (drop at kids))) (j : next' ≡ min next (get_or kids' (at + 22) 0)) (o : (p : ℕ) → bit p w' ≡ (bit p w || bit p r)) (ans : NodeAnswers (lent n postings positions R) (take (e - at) (drop at kids)) base (places_of want) k r ys) where
+  module _ (q : AnyAt ix R k places base want ss kids w next at) (l : at < length kids) where
+    pub any-there : ChildThere kids at
+    any-there = walk_there ix R k places base (places_of want) ss q.g kids at q.left.zip l
+
+    module _ {postings positions : List ℕ} {n e : ℕ} (lends : Lends ix n postings positions) (i : e ≡ at + get_or kids (at + 1) 0) where
+      pub any-node : {b b' : PhraseBuffers} → Called (lent n postings positions R) places (room b) (other_room b) base want → SameBuffers b b' → BitsPre (lent n postings positions R) (room b') (other_room b') (take (e - at) (drop at kids)) base want k
+      any-node called s = walk_node ix R k places base (places_of want) ss q.g kids at q.left.zip l postings positions n called lends e i _ _ want s.starts_length s.other_starts_length (λ p b t. t)
+
+      pub any-term : {a b : ℕ} → Called (lent n postings positions R) places a b base want → get_or kids at 0 ≡ 1 → TermPre postings (take (e - at) (drop at kids)) base
+      any-term called = walk_term ix R k places base (places_of want) ss q.g kids at q.left.zip l postings positions n called lends e i
+
+  module _ {e : ℕ} (i : e ≡ at + get_or kids (at + 1) 0) {postings positions : List ℕ} {n : ℕ} (lends : Lends ix n postings positions) (r : ℕ) (ys : List ℕ) {w' next' : ℕ} (m : length ys ≡ length (take (e - at) (drop at kids))) {kids' : List ℕ} (is' : kids' ≡ take at kids ++ (ys ++ drop (e - at) (drop at kids))) (j : next' ≡ min next (get_or kids' (at + 22) 0)) (o : (p : ℕ) → bit p w' ≡ (bit p w || bit p r)) (ans : NodeAnswers (lent n postings positions R) (take (e - at) (drop at kids)) base (places_of want) k r ys) where
     one-took : (g : Scorers) → AnyLeft ix R k places base want ss kids w next at g → at < length kids → AnyAt ix R k places base want ss (take at kids ++ (ys ++ drop (e - at) (drop at kids))) w' next' e
     unfolding any_matches
     one-took end s l = absurd (omega (arith, zip-none s.zip, l))
@@ -120,8 +133,8 @@ pub record CountAt (ix : Index) (R : List ℕ) (k places base want : ℕ) (ss : 
   pub g : Scorers
   pub left : CountLeft ix R k places base want ss kids planes next at g
 
-pub count-start : (ix : Index) (R : List ℕ) (k places base want : ℕ) (ss : Scorers) (kids planes : List ℕ) → Sounds ix places ss → nodes_of ss ≤ 255 → AllWindowed ix R ss k kids base base nowhere → length planes ≡ 8 → ((p : ℕ) → count p planes ≡ 0) → CountAt ix R k places base want ss kids planes no_more_docs 0
-count-start ix R k places base want ss kids planes h n q l z =
+pub count-start : {ix : Index} {R : List ℕ} {k places base want : ℕ} {ss : Scorers} {kids planes : List ℕ} → Sounds ix places ss → nodes_of ss ≤ 255 → AllWindowed ix R ss k kids base base nowhere → length planes ≡ 8 → ((p : ℕ) → count p planes ≡ 0) → CountAt ix R k places base want ss kids planes no_more_docs 0
+count-start {ix} {R} {k} {places} {base} {want} {ss} {kids} h n q l z =
     record {
       g = ss;
       left = record {
@@ -133,7 +146,14 @@ count-start ix R k places base want ss kids planes h n q l z =
       };
     }
 
-module _ (ix : Index) (R : List ℕ) (k places base want : ℕ) (ss : Scorers) (kids planes : List ℕ) (next at : ℕ) where
+-- one more is counted: no carry is lost
+counted : (planes planes' : List ℕ) (carry r : ℕ) → length planes' ≡ length planes → ((p : ℕ) → count p (planes' ++ (carry ∷ [])) ≡ one (bit p r) + count p planes) → (p : ℕ) (t : Bool) (z : ℕ) → length planes ≡ 8 → bit p r ≡ t → count p planes + (cond t 1 0 + z) ≤ 255 → count p planes' ≡ cond t 1 0 + count p planes
+counted planes planes' carry r u o p t z long is h =
+    let c : count p (planes' ++ (carry ∷ [])) ≡ cond t 1 0 + count p planes = o p ∙ ap (λ (x : Bool). one x + count p planes) is in
+    let size : 2 ^ length planes' ≡ 256 = ap (λ (x : ℕ). 2 ^ x) (u ∙ long) in
+    nothing-carried p carry planes' (omega (arith, c, size, h)) ∙ c
+
+module _ {ix : Index} {R : List ℕ} {k places base want : ℕ} {ss : Scorers} {kids planes : List ℕ} {next at : ℕ} where
   count-ended : (g : Scorers) → CountLeft ix R k places base want ss kids planes next at g → length kids ≤ at → CountsAre ix ss base want (λ p. count p planes) next × AllWindowed ix R ss k kids (base + 64) base (places_of want)
   unfolding matching
   count-ended end s l = (
@@ -145,13 +165,18 @@ module _ (ix : Index) (R : List ℕ) (k places base want : ℕ) (ss : Scorers) (
   pub count-end : CountAt ix R k places base want ss kids planes next at → length kids ≤ at → CountsAre ix ss base want (λ p. count p planes) next × AllWindowed ix R ss k kids (base + 64) base (places_of want)
   count-end q l = count-ended q.g q.left l
 
-  module _ (few : nodes_of ss ≤ 255) (e : ℕ) (i : e ≡ at + get_or kids (at + 1) 0) (postings positions : List ℕ) (n : ℕ) (lends : Lends ix n postings positions) (D : Places) (among : (p : ℕ) → p < 64 → bit p want ≡ true → D p ≡ true) (r : ℕ) (ys : List ℕ) (carry : ℕ) (planes' : List ℕ) (next' : ℕ) (m : length ys ≡ length (take (e - at) (drop at kids))) (kids' : List ℕ) (is' : kids' ≡ take at kids ++ (ys ++ drop (e - at) (drop at kids))) (j : next' ≡ min next (get_or kids' (at + 22) 0)) (u : length planes' ≡ length planes) (o : (p : ℕ) → count p (planes' ++ (carry ∷ [])) ≡ one (bit p r) + count p planes) (ans : NodeAnswers (lent n postings positions R) (take (e - at) (drop at kids)) base D k r ys) where
-    counted : (p : ℕ) (t : Bool) (z : ℕ) → length planes ≡ 8 → bit p r ≡ t → count p planes + (cond t 1 0 + z) ≤ 255 → count p planes' ≡ cond t 1 0 + count p planes
-    counted p t z long is h =
-        let c : count p (planes' ++ (carry ∷ [])) ≡ cond t 1 0 + count p planes = o p ∙ ap (λ (x : Bool). one x + count p planes) is in
-        let size : 2 ^ length planes' ≡ 256 = ap (λ (x : ℕ). 2 ^ x) (u ∙ long) in
-        nothing-carried p carry planes' (omega (arith, c, size, h)) ∙ c
+  module _ (q : CountAt ix R k places base want ss kids planes next at) (l : at < length kids) where
+    pub count-there : ChildThere kids at
+    count-there = walk_there ix R k places base (places_of want) ss q.g kids at q.left.zip l
 
+    module _ {postings positions : List ℕ} {n e : ℕ} (lends : Lends ix n postings positions) (i : e ≡ at + get_or kids (at + 1) 0) where
+      pub count-node : {b b' : PhraseBuffers} → Called (lent n postings positions R) places (room b) (other_room b) base want → SameBuffers b b' → BitsPre (lent n postings positions R) (room b') (other_room b') (take (e - at) (drop at kids)) base want k
+      count-node called s = walk_node ix R k places base (places_of want) ss q.g kids at q.left.zip l postings positions n called lends e i _ _ want s.starts_length s.other_starts_length (λ p b t. t)
+
+      pub count-term : {a b : ℕ} → Called (lent n postings positions R) places a b base want → get_or kids at 0 ≡ 1 → TermPre postings (take (e - at) (drop at kids)) base
+      count-term called = walk_term ix R k places base (places_of want) ss q.g kids at q.left.zip l postings positions n called lends e i
+
+  module _ (few : nodes_of ss ≤ 255) {e : ℕ} (i : e ≡ at + get_or kids (at + 1) 0) {postings positions : List ℕ} {n : ℕ} (lends : Lends ix n postings positions) (D : Places) (among : (p : ℕ) → p < 64 → bit p want ≡ true → D p ≡ true) (r : ℕ) (ys : List ℕ) (carry : ℕ) {planes' : List ℕ} {next' : ℕ} (m : length ys ≡ length (take (e - at) (drop at kids))) {kids' : List ℕ} (is' : kids' ≡ take at kids ++ (ys ++ drop (e - at) (drop at kids))) (j : next' ≡ min next (get_or kids' (at + 22) 0)) (u : length planes' ≡ length planes) (o : (p : ℕ) → count p (planes' ++ (carry ∷ [])) ≡ one (bit p r) + count p planes) (ans : NodeAnswers (lent n postings positions R) (take (e - at) (drop at kids)) base D k r ys) where
     next-took : (g : Scorers) → CountLeft ix R k places base want ss kids planes next at g → at < length kids → CountAt ix R k places base want ss (take at kids ++ (ys ++ drop (e - at) (drop at kids))) planes' next' e
     unfolding matching
     next-took end s l = absurd (omega (arith, zip-none s.zip, l))
@@ -167,7 +192,7 @@ module _ (ix : Index) (R : List ℕ) (k places base want : ℕ) (ss : Scorers) (
           left = record {
             zip = zip-next v e (stop-is low v e i) ys m (windowed-less ix R x k (cond f 1 0) ys (base + 64) base D (places_of want) among a.1);
             long = u ∙ s.long;
-            counts = λ p b t. omega (arith, counted p (matches ix x (base + p)) (matching ix g (base + p)) s.long (is p b t) (omega (arith, s.counts p b t, matching-few ix ss (base + p), few)), s.counts p b t);
+            counts = λ p b t. omega (arith, counted planes planes' carry r u o p (matches ix x (base + p)) (matching ix g (base + p)) s.long (is p b t) (omega (arith, s.counts p b t, matching-few ix ss (base + p), few)), s.counts p b t);
             gap = λ d b t z. s.gap d b (omega (arith, next-is, t)) (ap (λ (y : Bool). cond y 1 0 + matching ix g d) (a.0.gap d b (omega (arith, next-is, t))) ∙ omega (arith, z));
             top = omega (arith, next-is, s.top, a.0.top);
           };

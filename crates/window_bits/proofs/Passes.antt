@@ -8,7 +8,9 @@ use Rattle.bits.specs.Bit.{bit}
 use Rattle.bits.proofs.Laws.{bit-zero}
 use Rattle.weight.specs.ScorerTree.{Scorer, Scorers, end, more, matches}
 use Rattle.weight.specs.Sound.{Lends, Sounds, nodes_of}
+use Rattle.leaf_scorer.specs.declared.PhraseBuffers.{PhraseBuffers}
 use Rattle.leaf_scorer.specs.Calls.{lent}
+use Rattle.leaf_scorer.specs.Buffers.{room, other_room, SameBuffers}
 use Rattle.node.specs.Words.{ChildThere}
 use Rattle.window_words.specs.Windowed.{Places, nowhere, places_of, Windowed, AllWindowed}
 use Rattle.window_words.proofs.Laws.{windowed-less, windowed-mono, kind_of}
@@ -148,8 +150,8 @@ pub record PassAt (ix : Index) (R : List ℕ) (k places : ℕ) (last : Bool) (ba
   pub g : Scorers
   pub left : PassLeft ix R k places last base want ss kids w next at skip g
 
-pub pass-start : (ix : Index) (R : List ℕ) (k places : ℕ) (last : Bool) (base want : ℕ) (ss : Scorers) (kids : List ℕ) → base + 64 ≤ no_more_docs → Sounds ix places ss → nodes_of ss ≤ 255 → SomeWindowed (asked_before last) ix R ss k kids base (places_of want) → PassAt ix R k places last base want ss kids want (base + 64) 0 false
-pass-start ix R k places last base want ss kids small h n q =
+pub pass-start : {ix : Index} {R : List ℕ} {k places : ℕ} {last : Bool} {base want : ℕ} {ss : Scorers} {kids : List ℕ} → base + 64 ≤ no_more_docs → Sounds ix places ss → nodes_of ss ≤ 255 → SomeWindowed (asked_before last) ix R ss k kids base (places_of want) → PassAt ix R k places last base want ss kids want (base + 64) 0 false
+pass-start {ix} {R} {k} {places} {last} {base} {want} {ss} {kids} small h n q =
     record {
       g = ss;
       left = record {
@@ -163,7 +165,11 @@ pass-start ix R k places last base want ss kids small h n q =
       };
     }
 
-module _ (ix : Index) (R : List ℕ) (k places : ℕ) (last : Bool) (base want : ℕ) (ss : Scorers) (kids : List ℕ) (w next at : ℕ) (skip : Bool) where
+-- a child of a pass's kind is not asked before it
+pub pass-fresh : (ix : Index) (R : List ℕ) (k base : ℕ) (last : Bool) (want kind : ℕ) → eqb kind 2 ≡ last → Fresh ix R k base kind (SomeAsked (asked_before last) ix R k base (places_of want))
+pass-fresh ix R k base last want kind h = record { fresh = λ f s y e q. some-fresh ix R k base (asked_before last) (places_of want) f s y (ap (λ (t : Bool). last && not t) (by-kind s kind last e h) ∙ asked-not-before last) q }
+
+module _ {ix : Index} {R : List ℕ} {k places : ℕ} {last : Bool} {base want : ℕ} {ss : Scorers} {kids : List ℕ} {w next at : ℕ} {skip : Bool} where
   -- nothing is wanted any more: the others are not asked
   pub pass-stop : PassAt ix R k places last base want ss kids w next at skip → w ≡ 0 → Answers (all_of (asked_by last) ix ss) base (places_of want) w next × SomeWindowed (asked_after last) ix R ss k kids base (places_of w) × Through last ss w
   pass-stop q e =
@@ -185,20 +191,17 @@ module _ (ix : Index) (R : List ℕ) (k places : ℕ) (last : Bool) (base want :
   pub pass-end : PassAt ix R k places last base want ss kids w next at skip → length kids ≤ at → Answers (all_of (asked_by last) ix ss) base (places_of want) w next × SomeWindowed (asked_after last) ix R ss k kids base (places_of w) × (skip ≡ false → Through last ss w)
   pass-end q l = ended q.g q.left l
 
-  pub pass-fresh : (kind : ℕ) → eqb kind 2 ≡ last → Fresh ix R k base kind (SomeAsked (asked_before last) ix R k base (places_of want))
-  pass-fresh kind h = record { fresh = λ f s y e q. some-fresh ix R k base (asked_before last) (places_of want) f s y (ap (λ (t : Bool). last && not t) (by-kind s kind last e h) ∙ asked-not-before last) q }
-
   pub pass-there : PassAt ix R k places last base want ss kids w next at skip → at < length kids → ChildThere kids at
   pass-there q l = child-there (some-low ix R k base (asked_before last) (places_of want)) q.g q.left.zip l
 
-  module _ (e : ℕ) (i : e ≡ at + get_or kids (at + 1) 0) where
+  module _ {e : ℕ} (i : e ≡ at + get_or kids (at + 1) 0) where
     -- what a call of this pass asks
-    module _ (postings positions : List ℕ) (n : ℕ) {a b : ℕ} (called : Called (lent n postings positions R) places a b base want) (lends : Lends ix n postings positions) (q : PassAt ix R k places last base want ss kids w next at skip) (l : at < length kids) (kind : ℕ) (j : kind ≡ get_or kids at 0) (h : eqb kind 2 ≡ last) where
-      pub pass-node : (a' b' : ℕ) → a' ≡ a → b' ≡ b → BitsPre (lent n postings positions R) a' b' (take (e - at) (drop at kids)) base w k
-      pass-node a' b' f f' = ask-node (some-low ix R k base (asked_before last) (places_of want)) postings positions n called lends kind (pass-fresh kind h) q.g q.left.zip l e i j a' b' w f f' q.left.within
+    module _ {postings positions : List ℕ} {n : ℕ} (lends : Lends ix n postings positions) (q : PassAt ix R k places last base want ss kids w next at skip) (l : at < length kids) (h : eqb (get_or kids at 0) 2 ≡ last) where
+      pub pass-node : {b b' : PhraseBuffers} → Called (lent n postings positions R) places (room b) (other_room b) base want → SameBuffers b b' → BitsPre (lent n postings positions R) (room b') (other_room b') (take (e - at) (drop at kids)) base w k
+      pass-node called s = ask-node (some-low ix R k base (asked_before last) (places_of want)) postings positions n called lends (get_or kids at 0) (pass-fresh ix R k base last want (get_or kids at 0) h) q.g q.left.zip l e i refl _ _ w s.starts_length s.other_starts_length q.left.within
 
-      pub pass-term : kind ≡ 1 → TermPre postings (take (e - at) (drop at kids)) base
-      pass-term f = ask-term (some-low ix R k base (asked_before last) (places_of want)) postings positions n called lends kind (pass-fresh kind h) q.g q.left.zip l e i j f
+      pub pass-term : {a b : ℕ} → Called (lent n postings positions R) places a b base want → get_or kids at 0 ≡ 1 → TermPre postings (take (e - at) (drop at kids)) base
+      pass-term called = ask-term (some-low ix R k base (asked_before last) (places_of want)) postings positions n called lends (get_or kids at 0) (pass-fresh ix R k base last want (get_or kids at 0) h) q.g q.left.zip l e i refl
 
     skipped : (g : Scorers) → PassLeft ix R k places last base want ss kids w next at skip g → at < length kids → eqb (get_or kids at 0) 2 ≡ not last → PassAt ix R k places last base want ss kids w next e true
     unfolding all_of
@@ -226,7 +229,7 @@ module _ (ix : Index) (R : List ℕ) (k places : ℕ) (last : Bool) (base want :
     pub pass-skip : PassAt ix R k places last base want ss kids w next at skip → at < length kids → eqb (get_or kids at 0) 2 ≡ not last → PassAt ix R k places last base want ss kids w next e true
     pass-skip q l h = skipped q.g q.left l h
 
-    module _ (postings positions : List ℕ) (n : ℕ) (lends : Lends ix n postings positions) (r : ℕ) (ys : List ℕ) (next' : ℕ) (m : length ys ≡ length (take (e - at) (drop at kids))) (kids' : List ℕ) (is : kids' ≡ take at kids ++ (ys ++ drop (e - at) (drop at kids))) (j : next' ≡ max next (get_or kids' (at + 22) 0)) (ans : NodeAnswers (lent n postings positions R) (take (e - at) (drop at kids)) base (places_of w) k r ys) where
+    module _ {postings positions : List ℕ} {n : ℕ} (lends : Lends ix n postings positions) (r : ℕ) (ys : List ℕ) {next' : ℕ} (m : length ys ≡ length (take (e - at) (drop at kids))) {kids' : List ℕ} (is : kids' ≡ take at kids ++ (ys ++ drop (e - at) (drop at kids))) (j : next' ≡ max next (get_or kids' (at + 22) 0)) (ans : NodeAnswers (lent n postings positions R) (take (e - at) (drop at kids)) base (places_of w) k r ys) where
       took : (g : Scorers) → PassLeft ix R k places last base want ss kids w next at skip g → at < length kids → eqb (get_or kids at 0) 2 ≡ last → PassAt ix R k places last base want ss (take at kids ++ (ys ++ drop (e - at) (drop at kids))) r next' e skip
       unfolding all_of asks_all
       took end s l h = absurd (omega (arith, zip-none s.zip, l))
@@ -237,7 +240,7 @@ module _ (ix : Index) (R : List ℕ) (k places : ℕ) (last : Bool) (base want :
           let ph : is_phrase x ≡ last = by-kind x (get_or kids at 0) last (kind-read low v) h in
           let yes : asked_by last x ≡ true = ap (λ (t : Bool). cond last t (not t)) ph ∙ asked_by_lem last in
           let after : asked_after last x ≡ true = ap (λ (t : Bool). last || not t) ph ∙ asked-after last in
-          let held = child-held low v postings positions n lends (get_or kids at 0) (pass-fresh (get_or kids at 0) h) e i refl in
+          let held = child-held low v postings positions n lends (get_or kids at 0) (pass-fresh ix R k base last want (get_or kids at 0) h) e i refl in
           let a = ans ix places x (cond f 1 0) held in
           let among : (p : ℕ) → p < 64 → bit p r ≡ true → bit p w ≡ true = λ p b t. (and_parts (bit p w) (matches ix x (base + p)) (sym (a.0.bits p b) ∙ t)).0 in
           let next-is : next' ≡ max next (get_or ys 22 0) = j ∙ ap (λ (q : List ℕ). max next (get_or q (at + 22) 0)) is ∙ ap (max next) (word-back kids ys at e 22 (omega (arith, l)) (omega (arith, m, part-length kids at e c i))) in
@@ -255,5 +258,5 @@ module _ (ix : Index) (R : List ℕ) (k places : ℕ) (last : Bool) (base want :
             };
           }
 
-      pub pass-took : PassAt ix R k places last base want ss kids w next at skip → at < length kids → eqb (get_or kids at 0) 2 ≡ last → (w' : ℕ) → w' ≡ r → PassAt ix R k places last base want ss kids' w' next' e skip
-      pass-took q l h w' u = subst₂ (λ (q' : List ℕ) (v : ℕ). PassAt ix R k places last base want ss q' v next' e skip) (sym is) (sym u) (took q.g q.left l h)
+      pub pass-took : PassAt ix R k places last base want ss kids w next at skip → at < length kids → eqb (get_or kids at 0) 2 ≡ last → {w' : ℕ} → w' ≡ r → PassAt ix R k places last base want ss kids' w' next' e skip
+      pass-took q l h u = subst₂ (λ (q' : List ℕ) (v : ℕ). PassAt ix R k places last base want ss q' v next' e skip) (sym is) (sym u) (took q.g q.left l h)

@@ -1,51 +1,27 @@
 -- The frequency of a phrase at a place of a window, and the frequencies of the window noted in two planes. Assumes nothing.
-use Rattle.std.proofs.Common.{◌≡◌, refl, sym, ap, ap₂, subst, ◌∙◌, Bool, true, false, cond, not, ◌&&◌, ◌||◌, ⊎_elim, List, ℕ, zero, suc, ◌+◌, ◌*◌, ◌≤◌, ◌<◌, min, eqb, eqb-true, eq-eqb, length, take, arith}
+use Rattle.std.proofs.Common.{◌≡◌, refl, sym, ap, ap₂, subst, ◌∙◌, Bool, true, false, cond, not, ◌&&◌, ◌||◌, ⊎_elim, List, ℕ, zero, suc, ◌+◌, ◌*◌, ◌≤◌, ◌<◌, min, eqb, eqb-true, eq-eqb, [], length, get_or, arith}
 use mathlib.Core.Bool.{and-true, and-false, or-false, false≢true}
-use lib.Seq.{length-take-le}
 use Rattle.meaning.proofs.Tests.{decided}
-use Rattle.meaning.specs.Limits.{node_state_words}
 use Rattle.meaning.specs.Lent.{Index}
-use Rattle.meaning.specs.Phrase.{PhraseTerm, common_size, phrase_frequency}
-use Rattle.phrase.specs.Terms.{start_lists, Good, Room}
-use Rattle.weight.specs.Sound.{LeafSound}
-use Rattle.leaf_scorer.specs.Phrases.{GatheredTo}
-use Rattle.leaf_scorer.proofs.PhraseLaws.{gathered-good, gathered-places, gathered-frequency}
+use Rattle.meaning.specs.Phrase.{PhraseTerm, phrase_frequency}
+use Rattle.leaf_scorer.specs.Phrases.{PostingsHeld}
 use Rattle.window_words.specs.Windowed.{Places}
 use Rattle.bits.specs.Bit.{bit, LowestBit}
 use Rattle.bits.proofs.Laws.{bit-zero}
-use Rattle.window_leaf.specs.Phrases.{GatherPre, GatherPost, PhraseAsked, Noted, PlanesAre}
-use Rattle.window_leaf.proofs.TermLaws.{terms-windowed-length}
+use Rattle.window_leaf.specs.Phrases.{rank_at, PhraseAsked, Noted, PlanesAre}
+use Rattle.window_leaf.proofs.TermLaws.{asked_terms}
 
 -- ---- the frequency at a place
-module _ {postings positions : List ℕ} {ix : Index} {places f : ℕ} {ts : List PhraseTerm} {base : ℕ} {D : Places} {terms : List ℕ} (h : PhraseAsked postings positions ix places f ts base D terms) where
-  pub frequency-few : 3 * length ts ≤ 96
-  unfolding LeafSound
-  frequency-few = omega (arith, h.sound.3)
-
-  pub frequency-four : length terms ≤ 4 * node_state_words → 3 * length ts ≤ 12
-  frequency-four l = omega (arith, terms-windowed-length ix ts terms h.asked.bound base D h.asked.held)
-
-  pub frequency-gather : (place : ℕ) → place < 64 → D place ≡ true → (room : ℕ) → 3 * length ts ≤ room → GatherPre postings terms base place room
-  frequency-gather place l on room many = (l, (ix, ts, D, many, on, h.asked))
-
-  module _ {place : ℕ} (on : D place ≡ true) (r : ℕ) (out : List ℕ) (gather : GatherPost postings terms base place r out) where
-    gathered : GatheredTo ix ts (base + place) r out
-    gathered = gather ix ts D on h.asked
-
-    pub frequency-within : 3 * length ts ≤ length out → r ≤ length out
-    frequency-within many = omega (arith, gathered.number)
-
-    pub frequency-length : 3 * length ts ≤ length out → r ≡ length (take r out)
-    frequency-length many = sym (length-take-le r out (frequency-within many))
-
-    pub frequency-good : Good positions (take r out)
-    frequency-good = subst (λ (y : List ℕ). Good y (take r out)) h.positions-are (gathered-good ix h.asked.accepted f places ts h.sound (base + place) (take r out) gathered.gathered)
-
-    pub frequency-room : (n : ℕ) → places ≤ n → Room (take r out) n
-    frequency-room = gathered-places ix h.asked.accepted f places ts h.sound (base + place) (take r out) gathered.gathered
-
-    pub frequency-is : common_size (start_lists positions (take r out)) ≡ phrase_frequency ix ts (base + place)
-    frequency-is = subst (λ (y : List ℕ). common_size (start_lists y (take r out)) ≡ phrase_frequency ix ts (base + place)) h.positions-are (gathered-frequency ix h.asked.accepted f places ts h.sound (base + place) (take r out) gathered.gathered)
+pub asked-postings : {postings positions : List ℕ} {ix : Index} {places f : ℕ} {ts : List PhraseTerm} {base : ℕ} {D : Places} {terms : List ℕ} (place : ℕ) {P : ℕ → ℕ → Type 0} → length postings < 9223372036854775808 → place < 64 → D place ≡ true → ((at p : ℕ) → P at p → p ≡ 3 * (get_or terms (at + 6) 0 + get_or terms (at + 19) 0 + rank_at terms at place)) → PhraseAsked postings positions ix places f ts base D terms → PostingsHeld postings positions ix places f ts (base + place) terms P
+asked-postings {ix = ix} {ts = ts} {base = base} {D = D} {terms = terms} place {P = P} size low on read h =
+    let a = h.asked in
+    record {
+      accepted = a.accepted;
+      postings-are = a.postings-are;
+      positions-are = h.positions-are;
+      sound = h.sound;
+      at = asked_terms ix a.accepted (omega (arith, ap length a.postings-are)) a.bound base place low D on terms P read ts [] terms refl a.held a.there (a.all place low on);
+    }
 
 -- ---- one more frequency
 -- the two digits of a number up to 3

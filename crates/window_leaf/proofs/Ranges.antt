@@ -1,5 +1,5 @@
 -- A range asked for a window: the bits of its bitmap from the window on, and its record with what is stored. Assumes nothing.
-use Rattle.std.proofs.Common.{◌≡◌, sym, ap, ◌∙◌, Bool, false, ⊎_elim, List, ℕ, ◌+◌, ◌-◌, ◌*◌, ◌/◌, ◌%◌, ◌^◌, ◌≤◌, ◌<◌, get_or, pow-add, arith}
+use Rattle.std.proofs.Common.{◌≡◌, sym, ap, ◌∙◌, Bool, false, ⊎_elim, List, ℕ, ◌+◌, ◌-◌, ◌*◌, ◌/◌, ◌%◌, ◌^◌, ◌≤◌, ◌<◌, pow-add, arith}
 use native.Mathlib.Nat.{div-div-eq-div-mul}
 use Rattle.meaning.specs.Lent.{Index}
 use Rattle.meaning.specs.Range.{NumericRange}
@@ -9,10 +9,6 @@ use Rattle.weight.specs.Held.{RangeIs}
 use Rattle.bits.specs.Bit.{bit, Bitmap}
 use Rattle.bits.proofs.Laws.{bit-zero, bit-low, bit-shift}
 use Rattle.window_leaf.specs.Runs.{answered, PartOf}
-
--- ---- a word of a bitmap
-pub part-here : (words : List ℕ) (first number at : ℕ) → at < number → PartOf words first number (32 * at) (get_or words (first + at) 0)
-part-here words first number at h P B over p l = B at p h l
 
 pub part-none : (words : List ℕ) (first number at : ℕ) → number ≤ at → PartOf words first number (32 * at) 0
 part-none words first number at h P B over p l = bit-zero p ∙ sym (over (32 * at + p) (omega arith))

@@ -1,29 +1,29 @@
 -- The terms of a phrase, asked in turn for a window, and their postings at a place of it. Assumes nothing.
-use Rattle.std.proofs.Common.{◌≡◌, refl, sym, ap, ap₂, subst, ◌∙◌, Bool, true, false, ◌&&◌, ⊎_elim, List, [], ◌∷◌, ◌++◌, ℕ, ◌+◌, ◌-◌, ◌*◌, ◌≤◌, ◌<◌, max, length, get_or, set, take, drop, append_assoc, append-nil, length-append, arith}
+use Rattle.std.proofs.Common.{◌≡◌, refl, sym, ap, ap₂, subst, ◌∙◌, Bool, true, false, ◌&&◌, ⊎_elim, List, [], ◌∷◌, ◌++◌, ℕ, ◌+◌, ◌-◌, ◌*◌, ◌≤◌, ◌<◌, max, length, get_or, take, drop, append_assoc, length-append, arith}
 use mathlib.Core.Bool.{and-true, and_assoc, false≢true}
 use lib.Seq.{get_or-append-add}
 use Rattle.meaning.proofs.Tests.{cmp}
 use Rattle.meaning.specs.Below.{count_below}
 use Rattle.meaning.specs.Limits.{no_more_docs, node_state_words}
-use Rattle.meaning.specs.Lent.{Index, leaf_count, leaf_first, leaf_number, leaf_document, leaf_frequency, leaf_positions_index}
+use Rattle.meaning.specs.Lent.{Index, leaf_count, leaf_document}
 use Rattle.meaning.specs.Postings.{posting_at, found}
 use Rattle.meaning.specs.Phrase.{PhraseTerm}
 use Rattle.index.specs.Accepted.{Accepted}
 use Rattle.weight.specs.State.{State, words_of}
 use Rattle.weight.specs.Held.{TermIs}
 use Rattle.leaf_scorer.specs.Search.{SearchHeld}
-use Rattle.leaf_scorer.specs.Phrases.{all_found, LeavesThere, Gathered, GatheredTo}
+use Rattle.leaf_scorer.specs.Phrases.{all_found, LeavesThere, PostingsAt}
 use Rattle.leaf_scorer.proofs.Bounds.{term-mono}
 use Rattle.leaf_scorer.proofs.LeafLaws.{term-run}
-use Rattle.leaf_scorer.proofs.PhraseLaws.{record-fits, record-part, record-back, found-miss, found-rest, take-three}
+use Rattle.leaf_scorer.proofs.PhraseLaws.{record-fits, record-part, record-back, found-miss, found-rest}
 use Rattle.bits.specs.Bit.{bit}
 use Rattle.bits.proofs.Laws.{bit-zero}
 use Rattle.window.proofs.Rank.{posting-of-bit}
-use Rattle.window_words.specs.Windowed.{Places, nowhere, places_of, joined, window_bits, TermWindow, TermAsked, TermsWindowed}
+use Rattle.window_words.specs.Windowed.{Places, nowhere, places_of, joined, window_bits, TermWindow, TermsWindowed}
 use Rattle.window_leaf.specs.Asks.{Answers}
 use Rattle.window_leaf.specs.Runs.{window_at, RunPost}
 use Rattle.window_leaf.proofs.Records.{term-run-like, term-passed, term-window}
-use Rattle.window_leaf.specs.Phrases.{TermsHeld, TermsAsked, rank_at, PostingPre, GatherPre}
+use Rattle.window_leaf.specs.Phrases.{rank_at}
 
 -- ---- the posting at a place whose bit is set
 pub term-posting : (ix : Index) → Accepted ix → (k l : ℕ) → l < leaf_count ix → (s : State) (b : ℕ) → TermIs ix k l s b → length ix.postings < 9223372036854775808 → (base : ℕ) → TermWindow ix l s base → (p : ℕ) → p < 64 → found (posting_at ix l (base + p)) ≡ true → (s.window_first + count_below p (λ q. bit q (window_bits s)) < s.cursor) × (leaf_document ix l (s.window_first + count_below p (λ q. bit q (window_bits s))) ≡ base + p)
@@ -44,11 +44,6 @@ unfolding TermsWindowed
 terms-less ix [] w b e base D D' h f p = p
 terms-less ix (t ∷ ts) w b e base D D' h f p =
     (p.0, p.1, p.2, term-mono ix 9 t.leaf p.0 b e h p.3, p.4, (λ q g i. p.5 q g (f q g i)), terms-less ix ts p.1 b e base D D' h f p.6)
-
-pub terms-windowed-length : (ix : Index) (ts : List PhraseTerm) (w : List ℕ) (b base : ℕ) (D : Places) → TermsWindowed ix ts w b base D → length w ≡ node_state_words * length ts
-unfolding TermsWindowed
-terms-windowed-length ix [] w b base D p = ap length p
-terms-windowed-length ix (t ∷ ts) w b base D p = omega (arith, ap length p.2, terms-windowed-length ix ts p.1 b base D p.6)
 
 -- ---- the terms asked in turn
 -- a word of a record that begins at a place
@@ -91,25 +86,6 @@ pub record Asking (postings : List ℕ) (ix : Index) (ts : List PhraseTerm) (bas
   pub back : (D : Places) → ((p : ℕ) → p < 64 → D p ≡ true → bit p w ≡ true) → (z' : List ℕ) → TermsWindowed ix left z' (base + 64) base D → TermsWindowed ix ts (x ++ z') (base + 64) base D
 
 module _ {postings : List ℕ} {ix : Index} {ts : List PhraseTerm} {base want : ℕ} where
-  pub asking-start : {terms : List ℕ} → base + 64 ≤ no_more_docs → TermsHeld postings ix ts terms base → Asking postings ix ts base want terms want (base + 64) 0
-  asking-start {terms} top h =
-      record {
-        left = ts;
-        x = [];
-        z = terms;
-        is = refl;
-        place = refl;
-        accepted = h.accepted;
-        postings-are = h.postings-are;
-        there = h.there;
-        rest = h.held;
-        bits = λ p l. refl;
-        gap = λ d a b. absurd (omega arith);
-        top = top;
-        fails = λ d e. e;
-        back = λ D f z' r. r;
-      }
-
   module _ {terms : List ℕ} {w next at : ℕ} (q : Asking postings ix ts base want terms w next at) where
     -- no wanted document is left
     pub asking-none : w ≡ 0 → Answers (all_found ix ts) base (places_of want) w next × TermsWindowed ix ts terms (base + 64) base (places_of w)
@@ -183,148 +159,33 @@ module _ {postings : List ℕ} {ix : Index} {ts : List PhraseTerm} {base want : 
               }
 
 -- ---- the postings at a place that all terms have
-pub record Gathering (postings : List ℕ) (ix : Index) (ts : List PhraseTerm) (base place : ℕ) (D : Places) (terms out : List ℕ) (n at : ℕ) : Type 0 where
-  pub left : List PhraseTerm
-  pub x : List ℕ
-  pub z : List ℕ
-  pub is : terms ≡ x ++ z
-  pub begins : at ≡ length x
-  pub accepted : Accepted ix
-  pub postings-are : ix.postings ≡ postings
-  pub there : LeavesThere ix left
-  pub bound : ℕ
-  pub rest : TermsWindowed ix left z bound base D
-  pub all : all_found ix left (base + place) ≡ true
-  pub number : n + 3 * length left ≡ 3 * length ts
-  pub back : (l : List ℕ) → Gathered ix left (base + place) l → Gathered ix ts (base + place) (take n out ++ l)
-
--- what is read and written in a turn
-pub record GatheringFacts (postings terms : List ℕ) (at place n places : ℕ) : Type 0 where
-  pub place-of : PostingPre terms at place
-  pub posting : 3 * (get_or terms (at + 6) 0 + get_or terms (at + 19) 0 + rank_at terms at place) + 2 < length postings
-  pub room : n + 2 < places
-
--- the words of a term's record where it begins at a place, and its posting at a place of the window
-record PostingThere (ix : Index) (t : PhraseTerm) (s : State) (terms : List ℕ) (at base place : ℕ) : Type 0 where
-  first : get_or terms (at + 6) 0 ≡ leaf_first ix t.leaf
-  window-first : get_or terms (at + 19) 0 ≡ s.window_first
-  rank : rank_at terms at place ≡ count_below place (λ q. bit q (window_bits s))
-  offset : get_or terms (at + 9) 0 ≡ t.offset
-  within : s.window_first + count_below place (λ q. bit q (window_bits s)) < leaf_number ix t.leaf
-  document : leaf_document ix t.leaf (s.window_first + count_below place (λ q. bit q (window_bits s))) ≡ base + place
-
 and-both : (a b : Bool) → (a && b) ≡ true → (a ≡ true) × (b ≡ true)
 and-both true b e = (refl, e)
 and-both false b e = absurd (false≢true e)
 
-module _ {postings : List ℕ} {ix : Index} {ts : List PhraseTerm} {base place : ℕ} {D : Places} where
-  pub gathering-start : {terms out : List ℕ} → place < 64 → D place ≡ true → TermsAsked postings ix ts base D terms → Gathering postings ix ts base place D terms out 0 0
-  gathering-start {terms} l on h =
-      record {
-        left = ts;
-        x = [];
-        z = terms;
-        is = refl;
-        begins = refl;
-        accepted = h.accepted;
-        postings-are = h.postings-are;
-        there = h.there;
-        bound = h.bound;
-        rest = h.held;
-        all = h.all place l on;
-        number = omega arith;
-        back = λ l g. g;
-      }
-
-  module _ {terms out : List ℕ} {n at : ℕ} (q : Gathering postings ix ts base place D terms out n at) where
-    pub gathering-end : length terms ≤ at → GatheredTo ix ts (base + place) n out
-    unfolding TermsWindowed Gathered
-    gathering-end l = go q.left q.rest q.number q.back
-      where
-        go : (g : List PhraseTerm) → TermsWindowed ix g q.z q.bound base D → n + 3 * length g ≡ 3 * length ts → ((l : List ℕ) → Gathered ix g (base + place) l → Gathered ix ts (base + place) (take n out ++ l)) → GatheredTo ix ts (base + place) n out
-        go [] r e b = record { number = omega (arith, e); gathered = rw append-nil at (b [] refl) }
-        go (t ∷ g) r e b = absurd (omega (arith, ap length q.is, length-append q.x q.z, ap length r.2, q.begins))
-
-    module _ (l : at < length terms) (size : length postings < 9223372036854775808) (low : place < 64) (on : D place ≡ true) where
-      posting-there : (t : PhraseTerm) → t.leaf < leaf_count ix → (s : State) (w : List ℕ) → q.z ≡ words_of s ++ w → TermIs ix 9 t.leaf s q.bound → s.offset ≡ t.offset → TermAsked ix t.leaf s base D → found (posting_at ix t.leaf (base + place)) ≡ true → PostingThere ix t s terms at base place
-      posting-there t there s w e is off asked has =
-          let whole : terms ≡ q.x ++ (words_of s ++ w) = q.is ∙ ap (λ (y : List ℕ). q.x ++ y) e in
-          let word : (k : ℕ) → get_or terms (at + k) 0 ≡ get_or (words_of s ++ w) k 0 = λ k. ap (λ (y : List ℕ). get_or y (at + k) 0) whole ∙ read-there q.x (words_of s ++ w) at k q.begins in
-          let twenty : get_or terms (at + 20) 0 ≡ s.window_low = word 20 in
-          let twenty-one : get_or terms (at + 21) 0 ≡ s.window_high = word 21 in
-          let posting = term-posting ix q.accepted 9 t.leaf there s q.bound is (omega (arith, ap length q.postings-are)) base (asked place low on) place low has in
-          record {
-            first = word 6 ∙ is.first-is;
-            window-first = word 19;
-            rank = ap₂ (λ (x y : ℕ). count_below place (λ k. bit k (joined x y))) twenty twenty-one;
-            offset = word 9 ∙ off;
-            within = omega (arith, posting.0, (asked place low on).within);
-            document = posting.1;
-          }
-
-      pub gathering-next : 3 * length ts ≤ length out → GatheringFacts postings terms at place n (length out)
-      unfolding TermsWindowed LeavesThere all_found
-      gathering-next many = go q.left q.rest q.there q.all q.number
-        where
-          go : (g : List PhraseTerm) → TermsWindowed ix g q.z q.bound base D → LeavesThere ix g → all_found ix g (base + place) ≡ true → n + 3 * length g ≡ 3 * length ts → GatheringFacts postings terms at place n (length out)
-          go [] r h f e = absurd (omega (arith, ap length q.is, length-append q.x q.z, ap length r, q.begins))
-          go (t ∷ g) r h f e =
-              let both = and-both (found (posting_at ix t.leaf (base + place))) (all_found ix g (base + place)) f in
-              let p = posting-there t h.0 r.0 r.1 r.2 r.3 r.4 r.5 both.0 in
-              let o = q.accepted.leaf t.leaf h.0 in
-              let long = ap length q.postings-are in
-              record {
-                place-of = record {
-                  below = low;
-                  fits = omega (arith, ap length q.is, length-append q.x q.z, ap length r.2, q.begins);
-                  small = omega (arith, p.first, p.window-first, p.rank, p.within, o.words, long);
-                };
-                posting = omega (arith, p.first, p.window-first, p.rank, p.within, o.words, long);
-                room = omega (arith, e);
-              }
-
-      pub gathering-took : 3 * length ts ≤ length out → (p : ℕ) → p ≡ 3 * (get_or terms (at + 6) 0 + get_or terms (at + 19) 0 + rank_at terms at place) → Gathering postings ix ts base place D terms (set (set (set out n (get_or postings (p + 2) 0)) (n + 1) (get_or postings (p + 1) 0)) (n + 2) (get_or terms (at + 9) 0)) (n + 3) (at + node_state_words)
-      unfolding TermsWindowed LeavesThere all_found Gathered
-      gathering-took many p read = go q.left q.rest q.there q.all q.number q.back
-        where
-          o : ℕ
-          o = get_or terms (at + 9) 0
-
-          out' : List ℕ
-          out' = set (set (set out n (get_or postings (p + 2) 0)) (n + 1) (get_or postings (p + 1) 0)) (n + 2) o
-
-          go : (g : List PhraseTerm) → TermsWindowed ix g q.z q.bound base D → LeavesThere ix g → all_found ix g (base + place) ≡ true → n + 3 * length g ≡ 3 * length ts → ((l : List ℕ) → Gathered ix g (base + place) l → Gathered ix ts (base + place) (take n out ++ l)) → Gathering postings ix ts base place D terms out' (n + 3) (at + node_state_words)
-          go [] r h f e b = absurd (omega (arith, ap length q.is, length-append q.x q.z, ap length r, q.begins))
-          go (t ∷ g) r h f e b =
-              let both = and-both (found (posting_at ix t.leaf (base + place))) (all_found ix g (base + place)) f in
-              let k = posting-there t h.0 r.0 r.1 r.2 r.3 r.4 r.5 both.0 in
-              let i = r.0.window_first + count_below place (λ q. bit q (window_bits r.0)) in
-              let pp : p ≡ 3 * (leaf_first ix t.leaf + i) = omega (arith, read, k.first, k.window-first, k.rank) in
-              let two : get_or postings (p + 2) 0 ≡ leaf_positions_index ix t.leaf i = rw (← q.postings-are, pp) in
-              let one : get_or postings (p + 1) 0 ≡ leaf_frequency ix t.leaf i = rw (← q.postings-are, pp) in
-              record {
-                left = g;
-                x = q.x ++ words_of r.0;
-                z = r.1;
-                is = q.is ∙ ap (λ (y : List ℕ). q.x ++ y) r.2 ∙ sym (append_assoc q.x (words_of r.0) r.1);
-                begins = omega (arith, q.begins, length-append q.x (words_of r.0));
-                accepted = q.accepted;
-                postings-are = q.postings-are;
-                there = h.1;
-                bound = q.bound;
-                rest = r.6;
-                all = both.1;
-                number = omega (arith, e);
-                back = λ l y.
-                    let words = take-three out n (get_or postings (p + 2) 0) (get_or postings (p + 1) 0) o (omega (arith, e)) in
-                    rw (words, append_assoc) (b (get_or postings (p + 2) 0 ∷ get_or postings (p + 1) 0 ∷ o ∷ l) (i, l, k.within, k.document, rw (two, one, k.offset), y));
-              }
-
-pub gathering-facts : {postings terms out : List ℕ} {base place places n at : ℕ} → GatherPre postings terms base place places → length out ≡ places → ((ix : Index) (ts : List PhraseTerm) (D : Places) → D place ≡ true → TermsAsked postings ix ts base D terms → Gathering postings ix ts base place D terms out n at) → at < length terms → length postings < 9223372036854775808 → GatheringFacts postings terms at place n (length out)
-gathering-facts R e q l size = let P = R.1 in gathering-next (q P.0 P.1 P.2 P.4 P.5) l size R.0 P.4 (omega (arith, P.3, e))
-
--- the words have the same number of terms for all that they fit
-pub asked-many : {postings terms : List ℕ} {ix : Index} {ts : List PhraseTerm} {base place places : ℕ} {D : Places} → GatherPre postings terms base place places → TermsAsked postings ix ts base D terms → 3 * length ts ≤ places
-asked-many {terms = terms} {ix = ix} {ts = ts} {base = base} {D = D} R h =
-    let P = R.1 in
-    omega (arith, P.3, terms-windowed-length ix ts terms h.bound base D h.held, terms-windowed-length P.0 P.1 terms P.5.bound base P.2 P.5.held)
+module _ (ix : Index) (acc : Accepted ix) (size : length ix.postings < 9223372036854775808) (bound base place : ℕ) (low : place < 64) (D : Places) (on : D place ≡ true) (terms : List ℕ) (P : ℕ → ℕ → Type 0) (read : (at p : ℕ) → P at p → p ≡ 3 * (get_or terms (at + 6) 0 + get_or terms (at + 19) 0 + rank_at terms at place)) where
+  pub asked_terms : (ts : List PhraseTerm) (x z : List ℕ) → terms ≡ x ++ z → TermsWindowed ix ts z bound base D → LeavesThere ix ts → all_found ix ts (base + place) ≡ true → PostingsAt ix ts terms (length x) (base + place) P
+  unfolding TermsWindowed LeavesThere all_found PostingsAt
+  asked_terms [] x z is r h f = omega (arith, ap length is, length-append x z, ap length r)
+  asked_terms (t ∷ ts) x z is r h f =
+      let both = and-both (found (posting_at ix t.leaf (base + place))) (all_found ix ts (base + place)) f in
+      let whole : terms ≡ x ++ (words_of r.0 ++ r.1) = is ∙ ap (λ (y : List ℕ). x ++ y) r.2 in
+      let word : (k : ℕ) → get_or terms (length x + k) 0 ≡ get_or (words_of r.0 ++ r.1) k 0 = λ k. ap (λ (y : List ℕ). get_or y (length x + k) 0) whole ∙ read-there x (words_of r.0 ++ r.1) (length x) k refl in
+      let first : get_or terms (length x + 6) 0 ≡ r.0.first = word 6 in
+      let window-first : get_or terms (length x + 19) 0 ≡ r.0.window_first = word 19 in
+      let twenty : get_or terms (length x + 20) 0 ≡ r.0.window_low = word 20 in
+      let twenty-one : get_or terms (length x + 21) 0 ≡ r.0.window_high = word 21 in
+      let rank : rank_at terms (length x) place ≡ count_below place (λ q. bit q (window_bits r.0)) = ap₂ (λ (a b : ℕ). count_below place (λ k. bit k (joined a b))) twenty twenty-one in
+      let asked = r.5 place low on in
+      let posting = term-posting ix acc 9 t.leaf h.0 r.0 bound r.3 size base asked place low both.0 in
+      let end : length (x ++ words_of r.0) ≡ length x + node_state_words = length-append x (words_of r.0) in (
+        record-fits terms x r.1 r.0 (length x) (length x + node_state_words) whole refl refl,
+        word 9 ∙ r.4,
+        λ p k. record {
+          place = r.0.window_first + count_below place (λ q. bit q (window_bits r.0));
+          within = omega (arith, posting.0, asked.within);
+          document = posting.1;
+          word = omega (arith, read (length x) p k, first, window-first, rank, r.3.first-is);
+        },
+        rw end at (asked_terms ts (x ++ words_of r.0) r.1 (whole ∙ sym (append_assoc x (words_of r.0) r.1)) r.6 h.1 both.1),
+      )

@@ -7,7 +7,7 @@ use Rattle.meaning.specs.Phrase.{PhraseTerm, phrase_frequency}
 use Rattle.index.specs.Accepted.{Accepted}
 use Rattle.weight.specs.ScorerTree.{phrase}
 use Rattle.weight.specs.Sound.{LeafSound}
-use Rattle.leaf_scorer.specs.Phrases.{all_found, LeavesThere, GatheredTo}
+use Rattle.leaf_scorer.specs.Phrases.{all_found, LeavesThere}
 use Rattle.bits.specs.Bit.{bit}
 use Rattle.window_words.specs.Windowed.{Places, nowhere, places_of, joined, TermsWindowed}
 use Rattle.window_leaf.specs.Asks.{Answers}
@@ -40,19 +40,10 @@ pub record TermsAsked (postings : List ℕ) (ix : Index) (ts : List PhraseTerm) 
 abbrev pub rank_at : List ℕ → ℕ → ℕ → ℕ
 rank_at terms at place = count_below place (λ q. bit q (joined (get_or terms (at + 20) 0) (get_or terms (at + 21) 0)))
 
--- .. and that record is there, its run small
+-- .. and that record is there
 pub record PostingPre (terms : List ℕ) (at place : ℕ) : Type 0 where
   pub below : place < 64
   pub fits : at + node_state_words ≤ length terms
-  pub small : get_or terms (at + 6) 0 + get_or terms (at + 19) 0 + rank_at terms at place < 3074457345618258602
-
-abbrev pub GatherPre : List ℕ → List ℕ → ℕ → ℕ → ℕ → Type 0
-GatherPre postings terms base place places =
-    (place < 64) × ((ix : Index) × (ts : List PhraseTerm) × (D : Places) × (3 * length ts ≤ places) × (D place ≡ true) × TermsAsked postings ix ts base D terms)
-
-abbrev pub GatherPost : List ℕ → List ℕ → ℕ → ℕ → ℕ → List ℕ → Type 0
-GatherPost postings terms base place r out =
-    (ix : Index) (ts : List PhraseTerm) (D : Places) → D place ≡ true → TermsAsked postings ix ts base D terms → GatheredTo ix ts (base + place) r out
 
 -- the terms of a sound phrase
 pub record PhraseAsked (postings positions : List ℕ) (ix : Index) (places f : ℕ) (ts : List PhraseTerm) (base : ℕ) (D : Places) (terms : List ℕ) : Type 0 where

@@ -1,4 +1,4 @@
-use Rattle.std.proofs.Common.{◌≡◌, List, ◌-◌, length}
+use Rattle.std.proofs.Common.{◌≡◌, List, length}
 use Rattle.meaning.specs.Lent.{Index}
 use Rattle.meaning.specs.Phrase.{PhraseTerm}
 use Rattle.window_leaf.specs.Phrases.{TermsHeld}
@@ -7,6 +7,3 @@ use Rattle.window_leaf.proofs.phrases.terms_bits.Given as goal
 
 abbrev pub invariant-loop-at : goal.invariant-loop-at
 invariant-loop-at l = (length l.terms ≡ length l.initial.terms) × ((ix : Index) (ts : List PhraseTerm) → TermsHeld l.postings ix ts l.initial.terms l.base → Asking l.postings ix ts l.base l.want l.terms l.w l.next l.at)
-
-abbrev pub decreases-loop-at : goal.decreases-loop-at
-decreases-loop-at l = length l.terms - l.at
