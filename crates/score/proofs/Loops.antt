@@ -73,8 +73,8 @@ module _ {kids₀ : List ℕ} {start : Float} {reader : LeafReader} {places doc 
     abbrev open_at : (ix : Index) (ss : Scorers) (p : ℕ) → LentAt ix reader.max_doc reader.postings.now reader.positions.now reader.norms.now doc → Scorables ix reader.inverses.now places p ss → all_match ix ss doc ≡ true → Oks ix reader.ranges.now ss depth kids₀ doc → AtMost (p * 2 ^ 29) start → (f : Bool) × (S : Scorer) × (g : Scorers) × SumAt scores-word ix reader.ranges.now reader.inverses.now places depth doc ss (sum_from start (counted scores-word ix ss doc)) (p + nodes_of ss) (more f S g) kids at sum
     open_at ix ss p L S m o a = let i = I.of ix ss p L S m o a in sum-open scores-word ix reader.ranges.now reader.inverses.now places depth doc ss (sum_from start (counted scores-word ix ss doc)) (p + nodes_of ss) kids at sum i.0 i.1 l
 
-    pub required-there : Asked → ChildThere kids at
-    required-there P =
+    pub required_there : Asked → ChildThere kids at
+    required_there P =
         let o = open_at P.0 P.1 P.2 P.3 P.4 P.5 P.6 P.7 in
         sum-there scores-word P.0 reader.ranges.now reader.inverses.now places depth doc P.1 (sum_from start (counted scores-word P.0 P.1 doc)) (P.2 + nodes_of P.1) kids at sum o.0 o.1 o.2 o.3
 
@@ -178,8 +178,8 @@ module _ {kids₀ : List ℕ} {reader : LeafReader} {places doc depth : ℕ} {ki
     abbrev opened : (ix : Index) (ss : Scorers) → LentAt ix reader.max_doc reader.postings.now reader.positions.now reader.norms.now doc → Scorables ix reader.inverses.now places 0 ss → Oks ix reader.ranges.now ss depth kids₀ doc → (f : Bool) × (S : Scorer) × (g : Scorers) × SumAt (matches-at ix doc) ix reader.ranges.now reader.inverses.now places depth doc ss (sum_from zero_float (counted (matches-at ix doc) ix ss doc)) (nodes_of ss) (more f S g) kids at sum
     opened ix ss L S o = let i = I.of ix ss L S o in sum-open (matches-at ix doc) ix reader.ranges.now reader.inverses.now places depth doc ss (sum_from zero_float (counted (matches-at ix doc) ix ss doc)) (nodes_of ss) kids at sum i.0 i.1 l
 
-    pub optional-there : AskedOptional → ChildThere kids at
-    optional-there P =
+    pub optional_there : AskedOptional → ChildThere kids at
+    optional_there P =
         let o = opened P.0 P.1 P.2 P.3 P.4 in
         sum-there (matches-at P.0 doc) P.0 reader.ranges.now reader.inverses.now places depth doc P.1 (sum_from zero_float (counted (matches-at P.0 doc) P.0 P.1 doc)) (nodes_of P.1) kids at sum o.0 o.1 o.2 o.3
 

@@ -84,6 +84,7 @@ fn joined(
 
 // The scores of the Must children, in the order of their parts, added to the sum.
 #[cycle(joined_optional_required_score)]
+#[tactic(auto, using(crate::proofs::Loops::required_there, crate::proofs::Parts::back_length))]
 fn required(
     kids: &mut [u32],
     start: f64,
@@ -131,6 +132,7 @@ fn required(
 
 // The scores of the optional children that stand at the document, in the order of their parts, from 0.
 #[cycle(joined_optional_required_score)]
+#[tactic(auto, using(crate::proofs::Loops::optional_there, crate::proofs::Parts::back_length))]
 fn optional(
     kids: &mut [u32],
     reader: &LeafReader<'_>,

@@ -7,8 +7,8 @@ use mathlib.Core.List.{List}
 use lib.Seq.{length_front, length-take-le}
 use Rattle.meaning.specs.Ieee754.{zero_float}
 use Rattle.leaf_score.proofs.Bounds.{zero-64}
-use Rattle.score.proofs.Parts.{back-length}
-use Rattle.score.proofs.Loops.{OptionalMid, put, places_same, optional-start, optional-end, optional-there, optional-ask, optional-mid, optional-left, optional-child, optional-number, optional-took, optional-stop, optional-term-ask, optional-kind, optional-term-took, required-start, required-end, required-there, required-skip, required-child, required-number, required-took, required-stop, required-term, required-term-took}
+use Rattle.score.proofs.Parts.{back_length}
+use Rattle.score.proofs.Loops.{OptionalMid, put, places_same, optional-start, optional-end, optional_there, optional-ask, optional-mid, optional-left, optional-child, optional-number, optional-took, optional-stop, optional-term-ask, optional-kind, optional-term-took, required-start, required-end, required_there, required-skip, required-child, required-number, required-took, required-stop, required-term, required-term-took}
 use Rattle.score.proofs.Alone.{zero-narrowed}
 use Rattle.score.proofs.Booleans.{Lies, Grouped, lies, grouped, ungrouped, after-asks, alone-done, only-done, group-asks, group-number, after-number, after-done, cut-lies, front-asks, rest-asks, rest-done}
 use mathlib.Core.Bool.{not}
@@ -44,7 +44,7 @@ group : (t : _) (c : joined-After-narrow-group t) → Grouped c.args.kids.now c.
 group t c = grouped _ _ _ _ _ _ _ _ c.optional.ensures.optional_post
 
 whole : (t : _) (c : joined-After-narrow-group t) → length (kids₁ t c) ≡ length c.args.kids.now
-whole t c = back-length c.args.kids.now c.optional.new.kids c.args.n.required_end c.args.n.optional_end c.optional.auto.kids
+whole t c = back_length c.args.kids.now c.optional.new.kids c.args.n.required_end c.args.n.optional_end c.optional.auto.kids
 
 pub joined-slice_bounds-required-end : goal.joined-slice_bounds-required-end
 joined-slice_bounds-required-end t c = omega (arith, parts t (goal.at.joined-slice_bounds-required-end t c).Start)
@@ -208,109 +208,13 @@ pub optional-loop-at-init : goal.optional-loop-at-init
 optional-loop-at-init t c = record { long = refl; same_buffers = same_refl _; sum = optional-start zero-64 }
 
 pub optional-child_at-child-requires : goal.optional-child_at-child-requires
-optional-child_at-child-requires t c = optional-there c.loop-at.invariant.sum c.loop-at-test.true c.requires
-
-pub optional-offset_bounds-kids-at-in_default : goal.optional-offset_bounds-kids-at-in_default
-optional-offset_bounds-kids-at-in_default t c = omega (arith, optional-there c.loop-at.invariant.sum c.loop-at-test.true c.requires, c.child_at-child.ensures.end_is, c.well_formed)
-
-pub optional-slice_bounds-advance-count : goal.optional-slice_bounds-advance-count
-optional-slice_bounds-advance-count t c = omega (arith, optional-there c.loop-at.invariant.sum c.loop-at-test.true c.requires, c.child_at-child.ensures.end_is, c.well_formed)
-
-pub optional-slice_bounds-advance-start : goal.optional-slice_bounds-advance-start
-optional-slice_bounds-advance-start t c = omega (arith, optional-there c.loop-at.invariant.sum c.loop-at-test.true c.requires, c.child_at-child.ensures.end_is, c.well_formed)
-
-pub optional-slice_bounds-advance-end : goal.optional-slice_bounds-advance-end
-optional-slice_bounds-advance-end t c = omega (arith, optional-there c.loop-at.invariant.sum c.loop-at-test.true c.requires, c.child_at-child.ensures.end_is, c.well_formed)
-
-pub optional-overflow_add-end : goal.optional-overflow_add-end
-optional-overflow_add-end t c = omega (arith, optional-there c.loop-at.invariant.sum c.loop-at-test.true c.requires, c.child_at-child.ensures.end_is, c.well_formed)
-
-pub optional-offset_bounds-kids-at : goal.optional-offset_bounds-kids-at
-optional-offset_bounds-kids-at t c = omega (arith, optional-there c.loop-at.invariant.sum c.loop-at-test.true c.requires, c.child_at-child.ensures.end_is, c.well_formed)
-
-pub optional-slice_bounds-advance_term-count : goal.optional-slice_bounds-advance_term-count
-optional-slice_bounds-advance_term-count t c = omega (arith, optional-there c.loop-at.invariant.sum c.loop-at-test.true c.requires, c.child_at-child.ensures.end_is, c.well_formed)
-
-pub optional-slice_bounds-advance_term-start : goal.optional-slice_bounds-advance_term-start
-optional-slice_bounds-advance_term-start t c = omega (arith, optional-there c.loop-at.invariant.sum c.loop-at-test.true c.requires, c.child_at-child.ensures.end_is, c.well_formed)
-
-pub optional-slice_bounds-advance_term-end : goal.optional-slice_bounds-advance_term-end
-optional-slice_bounds-advance_term-end t c = omega (arith, optional-there c.loop-at.invariant.sum c.loop-at-test.true c.requires, c.child_at-child.ensures.end_is, c.well_formed)
+optional-child_at-child-requires t c = optional_there c.loop-at.invariant.sum c.loop-at-test.true c.requires
 
 pub required-loop-at-init : goal.required-loop-at-init
 required-loop-at-init t c = record { long = refl; same_buffers = same_refl _; sum = required-start }
 
 pub required-child_at-child-requires : goal.required-child_at-child-requires
-required-child_at-child-requires t c = required-there c.loop-at.invariant.sum c.loop-at-test.true c.requires
-
-pub required-offset_bounds-kids-at-then-child-2 : goal.required-offset_bounds-kids-at-then-child-2
-required-offset_bounds-kids-at-then-child-2 t c = omega (arith, required-there c.loop-at.invariant.sum c.loop-at-test.true c.requires, c.child_at-child.ensures.end_is, c.well_formed)
-
-pub required-slice_bounds-score-count : goal.required-slice_bounds-score-count
-required-slice_bounds-score-count t c = omega (arith, required-there c.loop-at.invariant.sum c.loop-at-test.true c.requires, c.child_at-child.ensures.end_is, c.well_formed)
-
-pub required-slice_bounds-score-start : goal.required-slice_bounds-score-start
-required-slice_bounds-score-start t c = omega (arith, required-there c.loop-at.invariant.sum c.loop-at-test.true c.requires, c.child_at-child.ensures.end_is, c.well_formed)
-
-pub required-slice_bounds-score-end : goal.required-slice_bounds-score-end
-required-slice_bounds-score-end t c = omega (arith, required-there c.loop-at.invariant.sum c.loop-at-test.true c.requires, c.child_at-child.ensures.end_is, c.well_formed)
-
-pub required-loop-at-smaller : goal.required-loop-at-smaller
-required-loop-at-smaller t c = omega (arith, required-there c.loop-at.invariant.sum c.loop-at-test.true c.requires, c.child_at-child.ensures.end_is, c.well_formed)
-
-pub required-overflow_add-end : goal.required-overflow_add-end
-required-overflow_add-end t c = omega (arith, required-there c.loop-at.invariant.sum c.loop-at-test.true c.requires, c.child_at-child.ensures.end_is, c.well_formed)
-
-pub required-offset_bounds-kids-at : goal.required-offset_bounds-kids-at
-required-offset_bounds-kids-at t c = omega (arith, required-there c.loop-at.invariant.sum c.loop-at-test.true c.requires, c.child_at-child.ensures.end_is, c.well_formed)
-
-pub required-slice_bounds-term_score-count : goal.required-slice_bounds-term_score-count
-required-slice_bounds-term_score-count t c = omega (arith, required-there c.loop-at.invariant.sum c.loop-at-test.true c.requires, c.child_at-child.ensures.end_is, c.well_formed)
-
-pub required-slice_bounds-term_score-start : goal.required-slice_bounds-term_score-start
-required-slice_bounds-term_score-start t c = omega (arith, required-there c.loop-at.invariant.sum c.loop-at-test.true c.requires, c.child_at-child.ensures.end_is, c.well_formed)
-
-pub required-slice_bounds-term_score-end : goal.required-slice_bounds-term_score-end
-required-slice_bounds-term_score-end t c = omega (arith, required-there c.loop-at.invariant.sum c.loop-at-test.true c.requires, c.child_at-child.ensures.end_is, c.well_formed)
-
-pub required-loop-at-smaller-then-child : goal.required-loop-at-smaller-then-child
-required-loop-at-smaller-then-child t c = omega (arith, required-there c.loop-at.invariant.sum c.loop-at-test.true c.requires, c.child_at-child.ensures.end_is, c.well_formed)
-
-pub required-loop-at-smaller-else-child : goal.required-loop-at-smaller-else-child
-required-loop-at-smaller-else-child t c = omega (arith, required-there c.loop-at.invariant.sum c.loop-at-test.true c.requires, c.child_at-child.ensures.end_is, c.well_formed)
-
-pub optional-offset_bounds-kids-at-then-advance-doc : goal.optional-offset_bounds-kids-at-then-advance-doc
-optional-offset_bounds-kids-at-then-advance-doc t c = omega (arith, optional-there c.loop-at.invariant.sum c.loop-at-test.true c.requires, c.child_at-child.ensures.end_is, c.well_formed, back-length c.loop-at.kids c.advance.new.st c.loop-at.at c.child_at-child.result.end c.advance.auto.st)
-
-pub optional-slice_bounds-score-count : goal.optional-slice_bounds-score-count
-optional-slice_bounds-score-count t c = omega (arith, optional-there c.loop-at.invariant.sum c.loop-at-test.true c.requires, c.child_at-child.ensures.end_is, c.well_formed, back-length c.loop-at.kids c.advance.new.st c.loop-at.at c.child_at-child.result.end c.advance.auto.st)
-
-pub optional-slice_bounds-score-start : goal.optional-slice_bounds-score-start
-optional-slice_bounds-score-start t c = omega (arith, optional-there c.loop-at.invariant.sum c.loop-at-test.true c.requires, c.child_at-child.ensures.end_is, c.well_formed, back-length c.loop-at.kids c.advance.new.st c.loop-at.at c.child_at-child.result.end c.advance.auto.st)
-
-pub optional-slice_bounds-score-end : goal.optional-slice_bounds-score-end
-optional-slice_bounds-score-end t c = omega (arith, optional-there c.loop-at.invariant.sum c.loop-at-test.true c.requires, c.child_at-child.ensures.end_is, c.well_formed, back-length c.loop-at.kids c.advance.new.st c.loop-at.at c.child_at-child.result.end c.advance.auto.st)
-
-pub optional-loop-at-smaller : goal.optional-loop-at-smaller
-optional-loop-at-smaller t c = omega (arith, optional-there c.loop-at.invariant.sum c.loop-at-test.true c.requires, c.child_at-child.ensures.end_is, c.well_formed, back-length c.loop-at.kids c.advance.new.st c.loop-at.at c.child_at-child.result.end c.advance.auto.st)
-
-pub optional-offset_bounds-kids-at-then-advance_term-doc : goal.optional-offset_bounds-kids-at-then-advance_term-doc
-optional-offset_bounds-kids-at-then-advance_term-doc t c = omega (arith, optional-there c.loop-at.invariant.sum c.loop-at-test.true c.requires, c.well_formed, back-length c.loop-at.kids c.advance_term.new.st c.loop-at.at (c.loop-at.at + node_state_words) c.advance_term.auto.st)
-
-pub optional-slice_bounds-term_score-count : goal.optional-slice_bounds-term_score-count
-optional-slice_bounds-term_score-count t c = omega (arith, optional-there c.loop-at.invariant.sum c.loop-at-test.true c.requires, c.well_formed, back-length c.loop-at.kids c.advance_term.new.st c.loop-at.at (c.loop-at.at + node_state_words) c.advance_term.auto.st)
-
-pub optional-slice_bounds-term_score-start : goal.optional-slice_bounds-term_score-start
-optional-slice_bounds-term_score-start t c = omega (arith, optional-there c.loop-at.invariant.sum c.loop-at-test.true c.requires, c.well_formed, back-length c.loop-at.kids c.advance_term.new.st c.loop-at.at (c.loop-at.at + node_state_words) c.advance_term.auto.st)
-
-pub optional-slice_bounds-term_score-end : goal.optional-slice_bounds-term_score-end
-optional-slice_bounds-term_score-end t c = omega (arith, optional-there c.loop-at.invariant.sum c.loop-at-test.true c.requires, c.well_formed, back-length c.loop-at.kids c.advance_term.new.st c.loop-at.at (c.loop-at.at + node_state_words) c.advance_term.auto.st)
-
-pub optional-loop-at-smaller-then-advance_term-doc : goal.optional-loop-at-smaller-then-advance_term-doc
-optional-loop-at-smaller-then-advance_term-doc t c = omega (arith, optional-there c.loop-at.invariant.sum c.loop-at-test.true c.requires, c.well_formed, back-length c.loop-at.kids c.advance_term.new.st c.loop-at.at (c.loop-at.at + node_state_words) c.advance_term.auto.st)
-
-pub optional-loop-at-smaller-else-advance_term-doc : goal.optional-loop-at-smaller-else-advance_term-doc
-optional-loop-at-smaller-else-advance_term-doc t c = omega (arith, optional-there c.loop-at.invariant.sum c.loop-at-test.true c.requires, c.well_formed, back-length c.loop-at.kids c.advance_term.new.st c.loop-at.at (c.loop-at.at + node_state_words) c.advance_term.auto.st)
+required-child_at-child-requires t c = required_there c.loop-at.invariant.sum c.loop-at-test.true c.requires
 
 pub optional-advance-requires : goal.optional-advance-requires
 optional-advance-requires t c = optional-ask c.loop-at.invariant.sum c.loop-at-test.true c.child_at-child.ensures.end_is _ _ (places_same c.loop-at.invariant.same_buffers) c.requires
@@ -325,13 +229,10 @@ optional-score-s-requires t c = (omega arith, optional-child (stands t (goal.at.
 pub optional-add_score-sum-requires-then-advance-doc : goal.optional-add_score-sum-requires-then-advance-doc
 optional-add_score-sum-requires-then-advance-doc t c = optional-number (stands t (goal.at.optional-add_score-sum-requires-then-advance-doc t c).Then-advance-doc) (places_same (same_then c.loop-at.invariant.same_buffers c.advance.ensures.same_buffers)) _ _ c.score-s.ensures.score_post c.requires
 
-pub optional-loop-at-smaller-then-advance-doc : goal.optional-loop-at-smaller-then-advance-doc
-optional-loop-at-smaller-then-advance-doc t c = omega (arith, optional-there c.loop-at.invariant.sum c.loop-at-test.true c.requires, c.child_at-child.ensures.end_is, back-length c.loop-at.kids c.advance.new.st c.loop-at.at c.child_at-child.result.end c.advance.auto.st, back-length (put c.loop-at.kids c.loop-at.at c.child_at-child.result.end c.advance.new.st) c.score-s.new.st c.loop-at.at c.child_at-child.result.end c.score-s.auto.st)
-
 pub optional-loop-at-preserved-then-advance-doc : goal.optional-loop-at-preserved-then-advance-doc
 optional-loop-at-preserved-then-advance-doc t c =
     record {
-      long = back-length (put c.loop-at.kids c.loop-at.at c.child_at-child.result.end c.advance.new.st) c.score-s.new.st c.loop-at.at c.child_at-child.result.end c.score-s.auto.st ∙ back-length c.loop-at.kids c.advance.new.st c.loop-at.at c.child_at-child.result.end c.advance.auto.st ∙ c.loop-at.invariant.long;
+      long = back_length (put c.loop-at.kids c.loop-at.at c.child_at-child.result.end c.advance.new.st) c.score-s.new.st c.loop-at.at c.child_at-child.result.end c.score-s.auto.st ∙ back_length c.loop-at.kids c.advance.new.st c.loop-at.at c.child_at-child.result.end c.advance.auto.st ∙ c.loop-at.invariant.long;
       same_buffers = same_then (same_then c.loop-at.invariant.same_buffers c.advance.ensures.same_buffers) c.score-s.ensures.same_buffers;
       sum = optional-took (stands t (goal.at.optional-loop-at-preserved-then-advance-doc t c).Then-advance-doc) (places_same (same_then c.loop-at.invariant.same_buffers c.advance.ensures.same_buffers)) _ _ c.score-s.ensures.score_post _ c.add_score-sum-then-advance-doc.ensures;
     }
@@ -339,7 +240,7 @@ optional-loop-at-preserved-then-advance-doc t c =
 pub optional-loop-at-preserved : goal.optional-loop-at-preserved
 optional-loop-at-preserved t c =
     record {
-      long = back-length c.loop-at.kids c.advance.new.st c.loop-at.at c.child_at-child.result.end c.advance.auto.st ∙ c.loop-at.invariant.long;
+      long = back_length c.loop-at.kids c.advance.new.st c.loop-at.at c.child_at-child.result.end c.advance.auto.st ∙ c.loop-at.invariant.long;
       same_buffers = same_then c.loop-at.invariant.same_buffers c.advance.ensures.same_buffers;
       sum = optional-left c.loop-at.invariant.sum c.loop-at-test.true c.child_at-child.ensures.end_is _ _ (places_same c.loop-at.invariant.same_buffers) _ _ c.advance.ensures.advance_post c.if-advance-doc.false;
     }
@@ -369,10 +270,10 @@ pub optional-add_score-sum-requires : goal.optional-add_score-sum-requires
 optional-add_score-sum-requires t c = optional-number (term-stands t (goal.at.optional-add_score-sum-requires t c).Then-advance_term-doc (optional-stops t (goal.at.optional-add_score-sum-requires t c).In-Term)) (places_same c.loop-at.invariant.same_buffers) _ _ (c.term_score-s.ensures c.args.reader.now.max_doc c.args.reader.now.positions.now c.args.reader.now.ranges.now (places_in c.loop-at.buffers) c.args.depth) c.requires
 
 pub optional-loop-at-preserved-then-advance_term-doc : goal.optional-loop-at-preserved-then-advance_term-doc
-optional-loop-at-preserved-then-advance_term-doc t c = record { long = back-length c.loop-at.kids c.advance_term.new.st c.loop-at.at (c.loop-at.at + node_state_words) c.advance_term.auto.st ∙ c.loop-at.invariant.long; same_buffers = c.loop-at.invariant.same_buffers; sum = optional-term-took (term-stands t (goal.at.optional-loop-at-preserved-then-advance_term-doc t c).Then-advance_term-doc (optional-stops t (goal.at.optional-loop-at-preserved-then-advance_term-doc t c).In-Term)) (places_same c.loop-at.invariant.same_buffers) _ c.term_score-s.ensures _ c.add_score-sum.ensures }
+optional-loop-at-preserved-then-advance_term-doc t c = record { long = back_length c.loop-at.kids c.advance_term.new.st c.loop-at.at (c.loop-at.at + node_state_words) c.advance_term.auto.st ∙ c.loop-at.invariant.long; same_buffers = c.loop-at.invariant.same_buffers; sum = optional-term-took (term-stands t (goal.at.optional-loop-at-preserved-then-advance_term-doc t c).Then-advance_term-doc (optional-stops t (goal.at.optional-loop-at-preserved-then-advance_term-doc t c).In-Term)) (places_same c.loop-at.invariant.same_buffers) _ c.term_score-s.ensures _ c.add_score-sum.ensures }
 
 pub optional-loop-at-preserved-else-advance_term-doc : goal.optional-loop-at-preserved-else-advance_term-doc
-optional-loop-at-preserved-else-advance_term-doc t c = record { long = back-length c.loop-at.kids c.advance_term.new.st c.loop-at.at (c.loop-at.at + node_state_words) c.advance_term.auto.st ∙ c.loop-at.invariant.long; same_buffers = c.loop-at.invariant.same_buffers; sum = optional-left c.loop-at.invariant.sum c.loop-at-test.true (optional-stops t (goal.at.optional-loop-at-preserved-else-advance_term-doc t c).In-Term) _ _ (places_same c.loop-at.invariant.same_buffers) _ _ (c.advance_term.ensures.term_post (lent_of c.args.reader.now) c.args.depth refl) c.if-advance_term-doc.false }
+optional-loop-at-preserved-else-advance_term-doc t c = record { long = back_length c.loop-at.kids c.advance_term.new.st c.loop-at.at (c.loop-at.at + node_state_words) c.advance_term.auto.st ∙ c.loop-at.invariant.long; same_buffers = c.loop-at.invariant.same_buffers; sum = optional-left c.loop-at.invariant.sum c.loop-at-test.true (optional-stops t (goal.at.optional-loop-at-preserved-else-advance_term-doc t c).In-Term) _ _ (places_same c.loop-at.invariant.same_buffers) _ _ (c.advance_term.ensures.term_post (lent_of c.args.reader.now) c.args.depth refl) c.if-advance_term-doc.false }
 
 pub required-score-s-requires : goal.required-score-s-requires
 required-score-s-requires t c = (omega arith, required-child c.loop-at.invariant.sum c.loop-at-test.true c.child_at-child.ensures.end_is (scores-one c.child_at-child.ensures.scores-is c.if-child-2.true) (places_same c.loop-at.invariant.same_buffers) c.requires)
@@ -380,13 +281,10 @@ required-score-s-requires t c = (omega arith, required-child c.loop-at.invariant
 pub required-add_score-sum-requires-then-child-2 : goal.required-add_score-sum-requires-then-child-2
 required-add_score-sum-requires-then-child-2 t c = required-number c.loop-at.invariant.sum c.loop-at-test.true c.child_at-child.ensures.end_is (scores-one c.child_at-child.ensures.scores-is c.if-child-2.true) (places_same c.loop-at.invariant.same_buffers) _ _ c.score-s.ensures.score_post c.requires
 
-pub required-loop-at-smaller-then-child-2 : goal.required-loop-at-smaller-then-child-2
-required-loop-at-smaller-then-child-2 t c = omega (arith, required-there c.loop-at.invariant.sum c.loop-at-test.true c.requires, c.child_at-child.ensures.end_is, back-length c.loop-at.kids c.score-s.new.st c.loop-at.at c.child_at-child.result.end c.score-s.auto.st)
-
 pub required-loop-at-preserved-then-child-2 : goal.required-loop-at-preserved-then-child-2
 required-loop-at-preserved-then-child-2 t c =
     record {
-      long = back-length c.loop-at.kids c.score-s.new.st c.loop-at.at c.child_at-child.result.end c.score-s.auto.st ∙ c.loop-at.invariant.long;
+      long = back_length c.loop-at.kids c.score-s.new.st c.loop-at.at c.child_at-child.result.end c.score-s.auto.st ∙ c.loop-at.invariant.long;
       same_buffers = same_then c.loop-at.invariant.same_buffers c.score-s.ensures.same_buffers;
       sum = required-took c.loop-at.invariant.sum c.loop-at-test.true c.child_at-child.ensures.end_is (scores-one c.child_at-child.ensures.scores-is c.if-child-2.true) (places_same c.loop-at.invariant.same_buffers) _ _ c.score-s.ensures.score_post _ c.add_score-sum-then-child-2.ensures;
     }
