@@ -65,24 +65,24 @@ module _ {kids₀ : List ℕ} {start : Float} {reader : LeafReader} {places doc 
   pub required-end : length kids ≤ at → RequiredPost kids₀ start reader places doc depth sum kids
   required-end l ix ss p L S m o a =
       let i = I.of ix ss p L S m o a in
-      let e = sum-end scores-word ix reader.ranges.now reader.inverses.now places depth doc ss (sum_from start (counted scores-word ix ss doc)) (p + nodes_of ss) kids at sum S.few i.0 i.1 l in
+      let e = sum-end S.few i.0 i.1 l in
       (record { is = e.0 ∙ ap (λ (xs : List Float). sum_from start xs) (required-counted ix ss doc); small = e.1 }, e.2)
 
   module _ (l : at < length kids) where
     -- the child at the place
     abbrev open_at : (ix : Index) (ss : Scorers) (p : ℕ) → LentAt ix reader.max_doc reader.postings.now reader.positions.now reader.norms.now doc → Scorables ix reader.inverses.now places p ss → all_match ix ss doc ≡ true → Oks ix reader.ranges.now ss depth kids₀ doc → AtMost (p * 2 ^ 29) start → (f : Bool) × (S : Scorer) × (g : Scorers) × SumAt scores-word ix reader.ranges.now reader.inverses.now places depth doc ss (sum_from start (counted scores-word ix ss doc)) (p + nodes_of ss) (more f S g) kids at sum
-    open_at ix ss p L S m o a = let i = I.of ix ss p L S m o a in sum-open scores-word ix reader.ranges.now reader.inverses.now places depth doc ss (sum_from start (counted scores-word ix ss doc)) (p + nodes_of ss) kids at sum i.0 i.1 l
+    open_at ix ss p L S m o a = let i = I.of ix ss p L S m o a in sum-open i.0 i.1 l
 
     pub required_there : Asked → ChildThere kids at
     required_there P =
         let o = open_at P.0 P.1 P.2 P.3 P.4 P.5 P.6 P.7 in
-        sum-there scores-word P.0 reader.ranges.now reader.inverses.now places depth doc P.1 (sum_from start (counted scores-word P.0 P.1 doc)) (P.2 + nodes_of P.1) kids at sum o.0 o.1 o.2 o.3
+        sum-there o.3
 
     -- where a term's part ends
     pub required-stop : Asked → get_or kids at 0 ≡ 1 → (e : ℕ) → e ≡ at + node_state_words → e ≡ at + get_or kids (at + 1) 0
     required-stop P t =
         let o = open_at P.0 P.1 P.2 P.3 P.4 P.5 P.6 P.7 in
-        sum-stop scores-word P.0 reader.ranges.now reader.inverses.now places depth doc P.1 (sum_from start (counted scores-word P.0 P.1 doc)) (P.2 + nodes_of P.1) kids at sum o.0 o.1 o.2 o.3 t
+        sum-stop o.3 t
 
     module _ {e : ℕ} (stop : e ≡ at + get_or kids (at + 1) 0) where
       pub required-skip : (get_or kids (at + 15) 0 ≡ 1 → ⊥) → Again kids e sum
@@ -90,9 +90,7 @@ module _ {kids₀ : List ℕ} {start : Float} {reader : LeafReader} {places doc 
           record {
             of = λ ix ss p L S m o a.
                 let i = open_at ix ss p L S m o a in
-                let total = sum_from start (counted scores-word ix ss doc) in
-                let most = p + nodes_of ss in
-                (i.2, sum-skipped scores-word ix reader.ranges.now reader.inverses.now places depth doc ss total most kids at sum i.0 i.1 i.2 i.3 (no-score i.0 (get_or kids (at + 15) 0) (sum-scores scores-word ix reader.ranges.now reader.inverses.now places depth doc ss total most kids at sum i.0 i.1 i.2 i.3) w) e stop);
+                (i.2, sum-skipped i.3 (no-score i.0 (get_or kids (at + 15) 0) (sum-scores i.3) w) e stop);
           }
 
       module _ (w : get_or kids (at + 15) 0 ≡ 1) {places' : ℕ} (same : places' ≡ places) where
@@ -101,19 +99,15 @@ module _ {kids₀ : List ℕ} {start : Float} {reader : LeafReader} {places doc 
             let ix = P.0 in
             let ss = P.1 in
             let o = open_at ix ss P.2 P.3 P.4 P.5 P.6 P.7 in
-            let total = sum_from start (counted scores-word ix ss doc) in
-            let most = P.2 + nodes_of ss in
-            let f : o.0 ≡ true = must-score o.0 (get_or kids (at + 15) 0) (sum-scores scores-word ix reader.ranges.now reader.inverses.now places depth doc ss total most kids at sum o.0 o.1 o.2 o.3) w in
-            (ix, o.1, cond o.0 1 0, P.3, scorable-at same (sum-scorable scores-word ix reader.ranges.now reader.inverses.now places depth doc ss total most kids at sum o.0 o.1 o.2 o.3 P.4.few), sum-matched scores-word ix reader.ranges.now reader.inverses.now places depth doc ss total most kids at sum o.0 o.1 o.2 o.3 f, sum-part scores-word ix reader.ranges.now reader.inverses.now places depth doc ss total most kids at sum o.0 o.1 o.2 o.3 e stop)
+            let f : o.0 ≡ true = must-score o.0 (get_or kids (at + 15) 0) (sum-scores o.3) w in
+            (ix, o.1, cond o.0 1 0, P.3, scorable-at same (sum-scorable o.3 P.4.few), sum-matched o.3 f, sum-part o.3 e stop)
 
         pub required-term : get_or kids at 0 ≡ 1 → Asked → TermPre (take (e - at) (drop at kids)) reader.postings.now reader.norms.now reader.inverses.now doc
         required-term t P =
             let ix = P.0 in
             let ss = P.1 in
             let o = open_at ix ss P.2 P.3 P.4 P.5 P.6 P.7 in
-            let total = sum_from start (counted scores-word ix ss doc) in
-            let most = P.2 + nodes_of ss in
-            (sum-part-kind scores-word ix reader.ranges.now reader.inverses.now places depth doc ss total most kids at sum o.0 o.1 o.2 o.3 e stop ∙ sym (sum-kind scores-word ix reader.ranges.now reader.inverses.now places depth doc ss total most kids at sum o.0 o.1 o.2 o.3) ∙ t, (reader.max_doc, reader.positions.now, reader.ranges.now, places', depth, required-child P))
+            (sum-part-kind o.3 e stop ∙ sym (sum-kind o.3) ∙ t, (reader.max_doc, reader.positions.now, reader.ranges.now, places', depth, required-child P))
 
         module _ (r : Float) (ys : List ℕ) (post : ScorePost (take (e - at) (drop at kids)) reader.max_doc reader.postings.now reader.positions.now reader.norms.now reader.ranges.now reader.inverses.now places' doc depth r ys) where
           pub required-number : Asked → T (not (is_nan r))
@@ -124,13 +118,11 @@ module _ {kids₀ : List ℕ} {start : Float} {reader : LeafReader} {places doc 
               record {
                 of = λ ix ss p L S m o a.
                     let i = open_at ix ss p L S m o a in
-                    let total = sum_from start (counted scores-word ix ss doc) in
-                    let most = p + nodes_of ss in
-                    let f : i.0 ≡ true = must-score i.0 (get_or kids (at + 15) 0) (sum-scores scores-word ix reader.ranges.now reader.inverses.now places depth doc ss total most kids at sum i.0 i.1 i.2 i.3) w in
-                    let q = post ix i.1 (cond i.0 1 0) L (scorable-at same (sum-scorable scores-word ix reader.ranges.now reader.inverses.now places depth doc ss total most kids at sum i.0 i.1 i.2 i.3 S.few)) (sum-matched scores-word ix reader.ranges.now reader.inverses.now places depth doc ss total most kids at sum i.0 i.1 i.2 i.3 f) (sum-part scores-word ix reader.ranges.now reader.inverses.now places depth doc ss total most kids at sum i.0 i.1 i.2 i.3 e stop) in
-                    let z = sum-renewed scores-word ix reader.ranges.now reader.inverses.now places depth doc ss total most kids at sum i.0 i.1 i.2 i.3 e stop ys q.1 in
-                    let h : e ≡ at + get_or (put kids at e ys) (at + 1) 0 = stop ∙ ap (λ (x : ℕ). at + x) (sum-size scores-word ix reader.ranges.now reader.inverses.now places depth doc ss total most kids at sum i.0 i.1 i.2 i.3 ∙ sym (sum-size scores-word ix reader.ranges.now reader.inverses.now places depth doc ss total most (put kids at e ys) at sum i.0 i.1 i.2 z)) in
-                    (i.2, subst (λ (x : Float). SumAt scores-word ix reader.ranges.now reader.inverses.now places depth doc ss total most i.2 (put kids at e ys) e x) (sym s) (sum-took scores-word ix reader.ranges.now reader.inverses.now places depth doc ss total most (put kids at e ys) at sum i.0 i.1 i.2 z S.few f e h r q.0));
+                    let f : i.0 ≡ true = must-score i.0 (get_or kids (at + 15) 0) (sum-scores i.3) w in
+                    let q = post ix i.1 (cond i.0 1 0) L (scorable-at same (sum-scorable i.3 S.few)) (sum-matched i.3 f) (sum-part i.3 e stop) in
+                    let z = sum-renewed i.3 e stop ys q.1 in
+                    let h : e ≡ at + get_or (put kids at e ys) (at + 1) 0 = stop ∙ ap (λ (x : ℕ). at + x) (sum-size i.3 ∙ sym (sum-size z)) in
+                    (i.2, rw s (sum-took z S.few f e h r q.0));
               }
 
         -- a term's part stays as it is
@@ -171,22 +163,22 @@ module _ {kids₀ : List ℕ} {reader : LeafReader} {places doc depth : ℕ} {ki
   pub optional-end : length kids ≤ at → OptionalPost kids₀ reader places doc depth sum kids
   optional-end l ix ss L S o =
       let i = I.of ix ss L S o in
-      let e = sum-end (matches-at ix doc) ix reader.ranges.now reader.inverses.now places depth doc ss (sum_from zero_float (counted (matches-at ix doc) ix ss doc)) (nodes_of ss) kids at sum (few-0 S) i.0 i.1 l in
+      let e = sum-end (few-0 S) i.0 i.1 l in
       (record { is = e.0 ∙ ap (λ (xs : List Float). sum_from zero_float xs) (optional-counted ix ss doc); small = e.1 }, e.2)
 
   module _ (l : at < length kids) where
     abbrev opened : (ix : Index) (ss : Scorers) → LentAt ix reader.max_doc reader.postings.now reader.positions.now reader.norms.now doc → Scorables ix reader.inverses.now places 0 ss → Oks ix reader.ranges.now ss depth kids₀ doc → (f : Bool) × (S : Scorer) × (g : Scorers) × SumAt (matches-at ix doc) ix reader.ranges.now reader.inverses.now places depth doc ss (sum_from zero_float (counted (matches-at ix doc) ix ss doc)) (nodes_of ss) (more f S g) kids at sum
-    opened ix ss L S o = let i = I.of ix ss L S o in sum-open (matches-at ix doc) ix reader.ranges.now reader.inverses.now places depth doc ss (sum_from zero_float (counted (matches-at ix doc) ix ss doc)) (nodes_of ss) kids at sum i.0 i.1 l
+    opened ix ss L S o = let i = I.of ix ss L S o in sum-open i.0 i.1 l
 
     pub optional_there : AskedOptional → ChildThere kids at
     optional_there P =
         let o = opened P.0 P.1 P.2 P.3 P.4 in
-        sum-there (matches-at P.0 doc) P.0 reader.ranges.now reader.inverses.now places depth doc P.1 (sum_from zero_float (counted (matches-at P.0 doc) P.0 P.1 doc)) (nodes_of P.1) kids at sum o.0 o.1 o.2 o.3
+        sum-there o.3
 
     pub optional-stop : AskedOptional → get_or kids at 0 ≡ 1 → (e : ℕ) → e ≡ at + node_state_words → e ≡ at + get_or kids (at + 1) 0
     optional-stop P t =
         let o = opened P.0 P.1 P.2 P.3 P.4 in
-        sum-stop (matches-at P.0 doc) P.0 reader.ranges.now reader.inverses.now places depth doc P.1 (sum_from zero_float (counted (matches-at P.0 doc) P.0 P.1 doc)) (nodes_of P.1) kids at sum o.0 o.1 o.2 o.3 t
+        sum-stop o.3 t
 
     module _ {e : ℕ} (stop : e ≡ at + get_or kids (at + 1) 0) (a b : ℕ) (same : min a b ≡ places) where
       pub optional-ask : AskedOptional → AdvancePre (lent_of reader) a b (take (e - at) (drop at kids)) doc depth
@@ -194,17 +186,15 @@ module _ {kids₀ : List ℕ} {reader : LeafReader} {places doc depth : ℕ} {ki
           let ix = P.0 in
           let ss = P.1 in
           let o = opened ix ss P.2 P.3 P.4 in
-          let total = sum_from zero_float (counted (matches-at ix doc) ix ss doc) in
-          (omega (arith, P.2.document, P.2.lends.documents, P.2.lends.accepted.documents), (ix, places, o.1, cond o.0 1 0, record { in-a = omega arith; in_b = omega arith }, record { lends = P.2.lends; sound = (sum-scorable (matches-at ix doc) ix reader.ranges.now reader.inverses.now places depth doc ss total (nodes_of ss) kids at sum o.0 o.1 o.2 o.3 (few-0 P.3)).sound; ok = sum-part (matches-at ix doc) ix reader.ranges.now reader.inverses.now places depth doc ss total (nodes_of ss) kids at sum o.0 o.1 o.2 o.3 e stop }))
+          (omega (arith, P.2.document, P.2.lends.documents, P.2.lends.accepted.documents), (ix, places, o.1, cond o.0 1 0, record { in-a = omega arith; in_b = omega arith }, record { lends = P.2.lends; sound = (sum-scorable o.3 (few-0 P.3)).sound; ok = sum-part o.3 e stop }))
 
       pub optional-term-ask : get_or kids at 0 ≡ 1 → AskedOptional → scorer.TermPre reader.postings.now (take (e - at) (drop at kids)) doc
       optional-term-ask t P =
           let ix = P.0 in
           let ss = P.1 in
           let o = opened ix ss P.2 P.3 P.4 in
-          let total = sum_from zero_float (counted (matches-at ix doc) ix ss doc) in
           let q = optional-ask P in
-          (q.0, sum-part-kind (matches-at ix doc) ix reader.ranges.now reader.inverses.now places depth doc ss total (nodes_of ss) kids at sum o.0 o.1 o.2 o.3 e stop ∙ sym (sum-kind (matches-at ix doc) ix reader.ranges.now reader.inverses.now places depth doc ss total (nodes_of ss) kids at sum o.0 o.1 o.2 o.3) ∙ t, (lent_of reader, refl, q.1.0, q.1.1, q.1.2, depth, q.1.3, q.1.5))
+          (q.0, sum-part-kind o.3 e stop ∙ sym (sum-kind o.3) ∙ t, (lent_of reader, refl, q.1.0, q.1.1, q.1.2, depth, q.1.3, q.1.5))
 
       module _ (r : ℕ) (ys : List ℕ) (post : AdvancePost (lent_of reader) (take (e - at) (drop at kids)) doc depth r ys) where
         -- what is known of the child after advance
@@ -219,16 +209,15 @@ module _ {kids₀ : List ℕ} {reader : LeafReader} {places doc depth : ℕ} {ki
         moved : (ix : Index) (ss : Scorers) → LentAt ix reader.max_doc reader.postings.now reader.positions.now reader.norms.now doc → Scorables ix reader.inverses.now places 0 ss → Oks ix reader.ranges.now ss depth kids₀ doc → Moved ix ss
         moved ix ss L S o =
             let i = opened ix ss L S o in
-            let total = sum_from zero_float (counted (matches-at ix doc) ix ss doc) in
-            let q = post ix places i.1 (cond i.0 1 0) (record { lends = L.lends; sound = (sum-scorable (matches-at ix doc) ix reader.ranges.now reader.inverses.now places depth doc ss total (nodes_of ss) kids at sum i.0 i.1 i.2 i.3 (few-0 S)).sound; ok = sum-part (matches-at ix doc) ix reader.ranges.now reader.inverses.now places depth doc ss total (nodes_of ss) kids at sum i.0 i.1 i.2 i.3 e stop }) in
-            let z = sum-renewed (matches-at ix doc) ix reader.ranges.now reader.inverses.now places depth doc ss total (nodes_of ss) kids at sum i.0 i.1 i.2 i.3 e stop ys q.1 in
+            let q = post ix places i.1 (cond i.0 1 0) (record { lends = L.lends; sound = (sum-scorable i.3 (few-0 S)).sound; ok = sum-part i.3 e stop }) in
+            let z = sum-renewed i.3 e stop ys q.1 in
             record {
               f = i.0;
               S = i.1;
               g = i.2;
               at-child = z;
               first = q.0;
-              stop_is = stop ∙ ap (λ (x : ℕ). at + x) (sum-size (matches-at ix doc) ix reader.ranges.now reader.inverses.now places depth doc ss total (nodes_of ss) kids at sum i.0 i.1 i.2 i.3 ∙ sym (sum-size (matches-at ix doc) ix reader.ranges.now reader.inverses.now places depth doc ss total (nodes_of ss) (put kids at e ys) at sum i.0 i.1 i.2 z));
+              stop_is = stop ∙ ap (λ (x : ℕ). at + x) (sum-size i.3 ∙ sym (sum-size z));
             }
 
         pub optional-kind : get_or kids at 0 ≡ 1 → AskedOptional → get_or (take (e - at) (drop at (put kids at e ys))) 0 0 ≡ 1
@@ -238,8 +227,7 @@ module _ {kids₀ : List ℕ} {reader : LeafReader} {places doc depth : ℕ} {ki
             let ss = P.1 in
             let o = opened ix ss P.2 P.3 P.4 in
             let m = moved ix ss P.2 P.3 P.4 in
-            let total = sum_from zero_float (counted (matches-at ix doc) ix ss doc) in
-            sum-part-kind (matches-at ix doc) ix reader.ranges.now reader.inverses.now places depth doc ss total (nodes_of ss) (put kids at e ys) at sum m.f m.S m.g m.at-child e m.stop_is ∙ sym (sum-kind (matches-at ix doc) ix reader.ranges.now reader.inverses.now places depth doc ss total (nodes_of ss) kids at sum o.0 o.1 o.2 o.3) ∙ t
+            sum-part-kind m.at-child e m.stop_is ∙ sym (sum-kind o.3) ∙ t
 
         pub optional-mid : r ≡ doc → OptionalMid kids₀ reader places doc depth (put kids at e ys) at e sum
         optional-mid h =
@@ -256,7 +244,7 @@ module _ {kids₀ : List ℕ} {reader : LeafReader} {places doc depth : ℕ} {ki
               of = λ ix ss L S o.
                   let m = moved ix ss L S o in
                   let after : doc < r = before doc r m.first.from h in
-                  (m.g, sum-skipped (matches-at ix doc) ix reader.ranges.now reader.inverses.now places depth doc ss (sum_from zero_float (counted (matches-at ix doc) ix ss doc)) (nodes_of ss) (put kids at e ys) at sum m.f m.S m.g m.at-child (m.first.before doc (le_refl _) after) e m.stop_is);
+                  (m.g, sum-skipped m.at-child (m.first.before doc (le_refl _) after) e m.stop_is);
             }
           where
             before : (a b : ℕ) → a ≤ b → (b ≡ a → ⊥) → a < b
@@ -268,8 +256,7 @@ module _ {kids₀ : List ℕ} {reader : LeafReader} {places doc depth : ℕ} {ki
       let ix = P.0 in
       let ss = P.1 in
       let m = I.of ix ss P.2 P.3 P.4 in
-      let total = sum_from zero_float (counted (matches-at ix doc) ix ss doc) in
-      (ix, m.S, cond m.f 1 0, P.2, scorable-at same (sum-scorable (matches-at ix doc) ix reader.ranges.now reader.inverses.now places depth doc ss total (nodes_of ss) kids at sum m.f m.S m.g m.at-child (few-0 P.3)), m.match, sum-part (matches-at ix doc) ix reader.ranges.now reader.inverses.now places depth doc ss total (nodes_of ss) kids at sum m.f m.S m.g m.at-child e m.stop)
+      (ix, m.S, cond m.f 1 0, P.2, scorable-at same (sum-scorable m.at-child (few-0 P.3)), m.match, sum-part m.at-child e m.stop)
 
   module _ (r : Float) (ys : List ℕ) (post : ScorePost (take (e - at) (drop at kids)) reader.max_doc reader.postings.now reader.positions.now reader.norms.now reader.ranges.now reader.inverses.now places' doc depth r ys) where
     pub optional-number : OptionalPre kids₀ reader places doc depth → T (not (is_nan r))
@@ -280,11 +267,10 @@ module _ {kids₀ : List ℕ} {reader : LeafReader} {places doc depth : ℕ} {ki
         record {
           of = λ ix ss L S o.
               let m = I.of ix ss L S o in
-              let total = sum_from zero_float (counted (matches-at ix doc) ix ss doc) in
-              let q = post ix m.S (cond m.f 1 0) L (scorable-at same (sum-scorable (matches-at ix doc) ix reader.ranges.now reader.inverses.now places depth doc ss total (nodes_of ss) kids at sum m.f m.S m.g m.at-child (few-0 S))) m.match (sum-part (matches-at ix doc) ix reader.ranges.now reader.inverses.now places depth doc ss total (nodes_of ss) kids at sum m.f m.S m.g m.at-child e m.stop) in
-              let z = sum-renewed (matches-at ix doc) ix reader.ranges.now reader.inverses.now places depth doc ss total (nodes_of ss) kids at sum m.f m.S m.g m.at-child e m.stop ys q.1 in
-              let h : e ≡ at + get_or (put kids at e ys) (at + 1) 0 = m.stop ∙ ap (λ (x : ℕ). at + x) (sum-size (matches-at ix doc) ix reader.ranges.now reader.inverses.now places depth doc ss total (nodes_of ss) kids at sum m.f m.S m.g m.at-child ∙ sym (sum-size (matches-at ix doc) ix reader.ranges.now reader.inverses.now places depth doc ss total (nodes_of ss) (put kids at e ys) at sum m.f m.S m.g z)) in
-              (m.g, subst (λ (x : Float). SumAt (matches-at ix doc) ix reader.ranges.now reader.inverses.now places depth doc ss total (nodes_of ss) m.g (put kids at e ys) e x) (sym s) (sum-took (matches-at ix doc) ix reader.ranges.now reader.inverses.now places depth doc ss total (nodes_of ss) (put kids at e ys) at sum m.f m.S m.g z (few-0 S) m.match e h r q.0));
+              let q = post ix m.S (cond m.f 1 0) L (scorable-at same (sum-scorable m.at-child (few-0 S))) m.match (sum-part m.at-child e m.stop) in
+              let z = sum-renewed m.at-child e m.stop ys q.1 in
+              let h : e ≡ at + get_or (put kids at e ys) (at + 1) 0 = m.stop ∙ ap (λ (x : ℕ). at + x) (sum-size m.at-child ∙ sym (sum-size z)) in
+              (m.g, rw s (sum-took z (few-0 S) m.match e h r q.0));
         }
 
   -- a term's part stays as it is
