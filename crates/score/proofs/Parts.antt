@@ -181,8 +181,8 @@ module _ {ix : Index} {ranges : List ℕ} {k doc : ℕ} {fs : Scorers} {f : Bool
           back = λ z' r. rw r.2 (v.back r.0 r.1 r.3 r.4);
         }
 
-pub back-length : (kids ys : List ℕ) (at e : ℕ) → length ys ≡ length (take (e - at) (drop at kids)) → length (take at kids ++ (ys ++ drop (e - at) (drop at kids))) ≡ length kids
-back-length kids ys at e h = simp (length-append, length-take, length-drop, h) (omega arith)
+pub back_length : (kids ys : List ℕ) (at e : ℕ) → length ys ≡ length (take (e - at) (drop at kids)) → length (take at kids ++ (ys ++ drop (e - at) (drop at kids))) ≡ length kids
+back_length kids ys at e h = simp (length-append, length-take, length-drop, h) (omega arith)
 
 -- a part put back as it was
 pub part_same : (kids : List ℕ) (at e : ℕ) → take at kids ++ (take (e - at) (drop at kids) ++ drop (e - at) (drop at kids)) ≡ kids

@@ -76,72 +76,69 @@ module _ (c : Bool → Scorer → Bool) (ix : Index) (ranges : List ℕ) (table 
   pub sum-start : (x : Float) (p : ℕ) (w : List ℕ) → Oks ix ranges fs k w doc → AtMost (p * 2 ^ 29) x → Sounds ix places fs → TablesOf ix table fs → Matched c ix fs doc → SumAt c ix ranges table places k doc fs (sum_from x (counted c ix fs doc)) (p + nodes_of fs) fs w 0 x
   sum-start x p w o a s t m = record { zip = zip_start ix ranges k doc fs w o; left = refl; q = p; small = a; few = le_refl _; sound = s; tables = t; matched = m }
 
-  module _ (total : Float) (most : ℕ) (kids : List ℕ) (at : ℕ) (sum : Float) where
-    abbrev At : Scorers → Type 0
-    At g = SumAt c ix ranges table places k doc fs total most g kids at sum
+module _ {c : Bool → Scorer → Bool} {ix : Index} {ranges : List ℕ} {table : List Float} {places k doc : ℕ} {fs : Scorers} {total : Float} {most : ℕ} {kids : List ℕ} {at : ℕ} {sum : Float} where
+  pub sum-end : most ≤ 256 → (g : Scorers) → SumAt c ix ranges table places k doc fs total most g kids at sum → length kids ≤ at → (sum ≡ total) × AtMost (most * 2 ^ 29) sum × Oks ix ranges fs k kids doc
+  unfolding counted sum_from nodes_of
+  sum-end few end p l = (p.left, scores-more p.q most sum (omega (arith, p.few)) p.small, zip_end p.zip)
+  sum-end few (more f T g) p l = let v = view p.zip in absurd (omega (arith, v.long, v.fits))
 
-    pub sum-end : most ≤ 256 → (g : Scorers) → At g → length kids ≤ at → (sum ≡ total) × AtMost (most * 2 ^ 29) sum × Oks ix ranges fs k kids doc
-    unfolding counted sum_from nodes_of
-    sum-end few end p l = (p.left, scores-more p.q most sum (omega (arith, p.few)) p.small, zip_end p.zip)
-    sum-end few (more f T g) p l = let v = view p.zip in absurd (omega (arith, v.long, v.fits))
+  -- the child at the place
+  pub sum-open : (g : Scorers) → SumAt c ix ranges table places k doc fs total most g kids at sum → at < length kids → (f : Bool) × (T : Scorer) × (g' : Scorers) × SumAt c ix ranges table places k doc fs total most (more f T g') kids at sum
+  sum-open end p l = absurd (omega (arith, zip-none p.zip))
+  sum-open (more f T g) p l = (f, T, g, p)
 
-    -- the child at the place
-    pub sum-open : (g : Scorers) → At g → at < length kids → (f : Bool) × (T : Scorer) × (g' : Scorers) × At (more f T g')
-    sum-open end p l = absurd (omega (arith, zip-none p.zip))
-    sum-open (more f T g) p l = (f, T, g, p)
+  module _ {f : Bool} {T : Scorer} {g : Scorers} (p : SumAt c ix ranges table places k doc fs total most (more f T g) kids at sum) where
+    pub sum-there : ChildThere kids at
+    sum-there = child-there (view p.zip)
 
-    module _ (f : Bool) (T : Scorer) (g : Scorers) (p : At (more f T g)) where
-      pub sum-there : ChildThere kids at
-      sum-there = child-there (view p.zip)
+    pub sum-scores : get_or kids (at + 15) 0 ≡ cond f 1 0
+    sum-scores = (view p.zip).scores
 
-      pub sum-scores : get_or kids (at + 15) 0 ≡ cond f 1 0
-      sum-scores = (view p.zip).scores
+    pub sum-size : get_or kids (at + 1) 0 ≡ size_of T
+    sum-size = (view p.zip).size-of
 
-      pub sum-size : get_or kids (at + 1) 0 ≡ size_of T
-      sum-size = (view p.zip).size-of
+    pub sum-kind : get_or kids at 0 ≡ kind_word T
+    sum-kind = (view p.zip).kind
 
-      pub sum-kind : get_or kids at 0 ≡ kind_word T
-      sum-kind = (view p.zip).kind
+    -- where a term's part ends
+    pub sum-stop : get_or kids at 0 ≡ 1 → (e : ℕ) → e ≡ at + node_state_words → e ≡ at + get_or kids (at + 1) 0
+    sum-stop t e stop = omega (arith, stop, sum-size, term-size T (sym sum-kind ∙ t))
 
-      -- where a term's part ends
-      pub sum-stop : get_or kids at 0 ≡ 1 → (e : ℕ) → e ≡ at + node_state_words → e ≡ at + get_or kids (at + 1) 0
-      sum-stop t e stop = omega (arith, stop, sum-size, term-size T (sym sum-kind ∙ t))
+    pub sum-scorable : most ≤ 256 → Scorable ix table places T
+    unfolding Sounds TablesOf nodes_of
+    sum-scorable h = record { sound = p.sound.0; tables = p.tables.0; few = omega (arith, p.few) }
 
-      pub sum-scorable : most ≤ 256 → Scorable ix table places T
-      unfolding Sounds TablesOf nodes_of
-      sum-scorable h = record { sound = p.sound.0; tables = p.tables.0; few = omega (arith, p.few) }
+    pub sum-matched : c f T ≡ true → matches ix T doc ≡ true
+    unfolding Matched
+    sum-matched h = p.matched.0 h
 
-      pub sum-matched : c f T ≡ true → matches ix T doc ≡ true
-      unfolding Matched
-      sum-matched h = p.matched.0 h
+    pub sum-part : (e : ℕ) → e ≡ at + get_or kids (at + 1) 0 → Ok ix ranges T k (cond f 1 0) (take (e - at) (drop at kids)) doc
+    sum-part e stop = part-ok (view p.zip) e stop
 
-      pub sum-part : (e : ℕ) → e ≡ at + get_or kids (at + 1) 0 → Ok ix ranges T k (cond f 1 0) (take (e - at) (drop at kids)) doc
-      sum-part e stop = part-ok (view p.zip) e stop
+    pub sum-part-kind : (e : ℕ) → e ≡ at + get_or kids (at + 1) 0 → get_or (take (e - at) (drop at kids)) 0 0 ≡ kind_word T
+    sum-part-kind e stop = ok-kind ix ranges T k (cond f 1 0) (take (e - at) (drop at kids)) doc (sum-part e stop)
 
-      pub sum-part-kind : (e : ℕ) → e ≡ at + get_or kids (at + 1) 0 → get_or (take (e - at) (drop at kids)) 0 0 ≡ kind_word T
-      sum-part-kind e stop = ok-kind ix ranges T k (cond f 1 0) (take (e - at) (drop at kids)) doc (sum-part e stop)
+    -- the child's part after a call
+    pub sum-renewed : (e : ℕ) → e ≡ at + get_or kids (at + 1) 0 → (ys : List ℕ) → Ok ix ranges T k (cond f 1 0) ys doc → SumAt c ix ranges table places k doc fs total most (more f T g) (take at kids ++ (ys ++ drop (e - at) (drop at kids))) at sum
+    sum-renewed e stop ys o = record { zip = zip-renewed (view p.zip) e stop ys o; left = p.left; q = p.q; small = p.small; few = p.few; sound = p.sound; tables = p.tables; matched = p.matched }
 
-      -- the child's part after a call
-      pub sum-renewed : (e : ℕ) → e ≡ at + get_or kids (at + 1) 0 → (ys : List ℕ) → Ok ix ranges T k (cond f 1 0) ys doc → SumAt c ix ranges table places k doc fs total most (more f T g) (take at kids ++ (ys ++ drop (e - at) (drop at kids))) at sum
-      sum-renewed e stop ys o = record { zip = zip-renewed (view p.zip) e stop ys o; left = p.left; q = p.q; small = p.small; few = p.few; sound = p.sound; tables = p.tables; matched = p.matched }
+    -- on to the next child
+    pub sum-skipped : c f T ≡ false → (e : ℕ) → e ≡ at + get_or kids (at + 1) 0 → SumAt c ix ranges table places k doc fs total most g kids e sum
+    unfolding Sounds TablesOf nodes_of Matched counted
+    sum-skipped out e stop =
+        record { zip = zip-next (view p.zip) e stop; left = (rw out at p.left); q = p.q; small = p.small; few = omega (arith, p.few); sound = p.sound.1; tables = p.tables.1; matched = p.matched.1 }
 
-      -- on to the next child
-      pub sum-skipped : c f T ≡ false → (e : ℕ) → e ≡ at + get_or kids (at + 1) 0 → SumAt c ix ranges table places k doc fs total most g kids e sum
-      unfolding Sounds TablesOf nodes_of Matched counted
-      sum-skipped out e stop =
-          record { zip = zip-next (view p.zip) e stop; left = (rw out at p.left); q = p.q; small = p.small; few = omega (arith, p.few); sound = p.sound.1; tables = p.tables.1; matched = p.matched.1 }
-
-      pub sum-took : most ≤ 256 → c f T ≡ true → (e : ℕ) → e ≡ at + get_or kids (at + 1) 0 → (r : Float) → ScoreIs ix T doc r → SumAt c ix ranges table places k doc fs total most g kids e (add binary64 sum r)
-      unfolding Sounds TablesOf nodes_of Matched counted sum_from
-      sum-took h counts e stop r s =
-          let l : sum_from (add binary64 sum (scorer_score ix T doc)) (counted c ix g doc) ≡ total = rw counts at p.left in
-          record {
-            zip = zip-next (view p.zip) e stop;
-            left = rw s.is l;
-            q = p.q + nodes T;
-            small = scores-add p.q (nodes T) sum r (omega (arith, p.few)) p.small s.small;
-            few = omega (arith, p.few);
-            sound = p.sound.1;
-            tables = p.tables.1;
-            matched = p.matched.1;
-          }
+    pub sum-took : most ≤ 256 → c f T ≡ true → (e : ℕ) → e ≡ at + get_or kids (at + 1) 0 → (r : Float) → ScoreIs ix T doc r → SumAt c ix ranges table places k doc fs total most g kids e (add binary64 sum r)
+    unfolding Sounds TablesOf nodes_of Matched counted sum_from
+    sum-took h counts e stop r s =
+        let l : sum_from (add binary64 sum (scorer_score ix T doc)) (counted c ix g doc) ≡ total = rw counts at p.left in
+        record {
+          zip = zip-next (view p.zip) e stop;
+          left = rw s.is l;
+          q = p.q + nodes T;
+          small = scores-add p.q (nodes T) sum r (omega (arith, p.few)) p.small s.small;
+          few = omega (arith, p.few);
+          sound = p.sound.1;
+          tables = p.tables.1;
+          matched = p.matched.1;
+        }
