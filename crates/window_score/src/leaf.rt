@@ -1,5 +1,5 @@
 // The scores of a term and of a phrase at the wanted documents of a window.
-ghost use Rattle.std.specs.Prelude.{◌≤◌, ◌<◌, length};
+ghost use Rattle.std.specs.Prelude.{ℕ, ◌≤◌, ◌<◌, length, get_or};
 ghost use Rattle.leaf_scorer.specs.Buffers.{room, other_room, SameBuffers};
 ghost use Rattle.window_score.specs.Asked.{reads_of, TermPre, TermPost, PhrasePre, PhrasePost};
 ghost use Rattle.window_score.specs.Words.{PlanesRead, PlanedIs};
@@ -16,6 +16,12 @@ use weight::NODE_STATE_WORDS;
 use window_leaf::Window;
 use window_leaf::phrases::{Planes, frequency_at};
 
+// Nothing is done. The clause says what the type of the norms says, which is not known of a slice behind the window's reader.
+fn bytes(norms: &[u8])
+    ensures { (i : ℕ) → get_or norms.now i 0 < 256 }
+{
+}
+
 // A term's posting at a place: as many postings of the window stand before it as bits below it.
 pub fn term_scores(
     st: &[u32],
@@ -31,6 +37,7 @@ pub fn term_scores(
     let norms = window.reader.norms;
     let inverses = window.reader.inverses;
     let base = window.base;
+    bytes(norms);
     let n = node_at(st);
     if let Some(score) = n.constant_score() {
         add_constant(score, want, sums);
@@ -87,6 +94,7 @@ pub fn phrase_scores(
     let norms = window.reader.norms;
     let inverses = window.reader.inverses;
     let base = window.base;
+    bytes(norms);
     let n = node_at(st);
     let planes = planes_at(st);
     for place in (SetBits { left: want }) {

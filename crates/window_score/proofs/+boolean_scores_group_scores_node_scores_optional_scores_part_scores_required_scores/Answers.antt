@@ -1,5 +1,5 @@
 -- The answers of the cycle: a node's scores, a Boolean's, and those of its children. Assumes nothing.
-use Rattle.std.proofs.Common.{refl, sym, ◌∙◌, length, arith}
+use Rattle.std.proofs.Common.{rules, refl, sym, ◌∙◌, length, arith}
 use Rattle.std.proofs.lemmas.Bool.{eqb-true, eqb-false}
 use Rattle.node.specs.declared.NodeKind.TheVariants.{Term, Phrase, Boolean}
 use Rattle.node.proofs.Windows.{word-read, word-unread}
@@ -152,7 +152,7 @@ node_scores-returns-in-Term-clause-scores_post t c =
 
 pub node_scores-phrase_scores-requires : goal.node_scores-phrase_scores-requires
 node_scores-phrase_scores-requires t c =
-    (word-read _ Phrase c.in-Phrase.ensures refl, phrase-weighted (not-constant c.node_at.ensures c.in-None.ensures) c.requires, (c.args.window.now.reader.ranges.now, c.args.depth, c.requires))
+    (word-read _ Phrase c.in-Phrase.ensures refl, phrase-weighted (not-constant c.node_at.ensures c.in_default.ensures) c.requires, (c.args.window.now.reader.ranges.now, c.args.depth, c.requires))
 
 pub node_scores-returns-in-Phrase-clause-scores_post : goal.node_scores-returns-in-Phrase-clause-scores_post
 node_scores-returns-in-Phrase-clause-scores_post t c =
@@ -174,23 +174,23 @@ node_scores-slice_bounds-boolean_scores-start t c =
 
 pub node_scores-overflow_sub-depth : goal.node_scores-overflow_sub-depth
 node_scores-overflow_sub-depth t c =
-    boolean-deep (not-constant c.node_at.ensures c.in-None.ensures) (word-read _ Boolean c.in-Boolean.ensures refl) c.boolean_at-n.result c.boolean_at-n.ensures c.requires
+    boolean-deep (not-constant c.node_at.ensures c.in_default.ensures) (word-read _ Boolean c.in-Boolean.ensures refl) c.boolean_at-n.result c.boolean_at-n.ensures c.requires
 
 pub node_scores-boolean_scores-requires : goal.node_scores-boolean_scores-requires
 node_scores-boolean_scores-requires t c =
-    (omega (arith, c.decreases, boolean-deep (not-constant c.node_at.ensures c.in-None.ensures) (word-read _ Boolean c.in-Boolean.ensures refl) c.boolean_at-n.result c.boolean_at-n.ensures c.requires), boolean-ask (not-constant c.node_at.ensures c.in-None.ensures) (word-read _ Boolean c.in-Boolean.ensures refl) c.boolean_at-n.result c.boolean_at-n.ensures c.requires)
+    (omega (arith, c.decreases, boolean-deep (not-constant c.node_at.ensures c.in_default.ensures) (word-read _ Boolean c.in-Boolean.ensures refl) c.boolean_at-n.result c.boolean_at-n.ensures c.requires), boolean-ask (not-constant c.node_at.ensures c.in_default.ensures) (word-read _ Boolean c.in-Boolean.ensures refl) c.boolean_at-n.result c.boolean_at-n.ensures c.requires)
 
 pub node_scores-returns-in-Boolean-clause-scores_post : goal.node_scores-returns-in-Boolean-clause-scores_post
 node_scores-returns-in-Boolean-clause-scores_post t c =
-    boolean-done (not-constant c.node_at.ensures c.in-None.ensures) (word-read _ Boolean c.in-Boolean.ensures refl) c.boolean_at-n.result c.boolean_at-n.ensures c.boolean_scores.new.kids c.boolean_scores.new.sums c.boolean_scores.ensures.boolean_post
+    boolean-done (not-constant c.node_at.ensures c.in_default.ensures) (word-read _ Boolean c.in-Boolean.ensures refl) c.boolean_at-n.result c.boolean_at-n.ensures c.boolean_scores.new.kids c.boolean_scores.new.sums c.boolean_scores.ensures.boolean_post
 
-pub node_scores-add_constant-requires-in_default : goal.node_scores-add_constant-requires-in_default
-node_scores-add_constant-requires-in_default t c =
-    zero-ask (not-constant c.node_at.ensures c.in-None.ensures) (word-unread _ c.from.result Term c.from.ensures c.in_default.not-Term) (word-unread _ c.from.result Phrase c.from.ensures c.in_default.not-Phrase) (word-unread _ c.from.result Boolean c.from.ensures c.in_default.not-Boolean) c.requires
+pub node_scores-add_constant-requires-in_default-from : goal.node_scores-add_constant-requires-in_default-from
+node_scores-add_constant-requires-in_default-from t c =
+    zero-ask (not-constant c.node_at.ensures c.in_default.ensures) (word-unread _ c.from.result Term c.from.ensures c.in_default-from.not-Term) (word-unread _ c.from.result Phrase c.from.ensures c.in_default-from.not-Phrase) (word-unread _ c.from.result Boolean c.from.ensures c.in_default-from.not-Boolean) c.requires
 
-pub node_scores-returns-in_default-clause-scores_post : goal.node_scores-returns-in_default-clause-scores_post
-node_scores-returns-in_default-clause-scores_post t c =
-    zero-done (not-constant c.node_at.ensures c.in-None.ensures) (word-unread _ c.from.result Term c.from.ensures c.in_default.not-Term) (word-unread _ c.from.result Phrase c.from.ensures c.in_default.not-Phrase) (word-unread _ c.from.result Boolean c.from.ensures c.in_default.not-Boolean) c.add_constant-in_default.new.sums c.add_constant-in_default.ensures
+pub node_scores-returns-in_default-from-clause-scores_post : goal.node_scores-returns-in_default-from-clause-scores_post
+node_scores-returns-in_default-from-clause-scores_post t c =
+    zero-done (not-constant c.node_at.ensures c.in_default.ensures) (word-unread _ c.from.result Term c.from.ensures c.in_default-from.not-Term) (word-unread _ c.from.result Phrase c.from.ensures c.in_default-from.not-Phrase) (word-unread _ c.from.result Boolean c.from.ensures c.in_default-from.not-Boolean) c.add_constant-in_default-from.new.sums c.add_constant-in_default-from.ensures
 
 pub optional_scores-loop-at-init : goal.optional_scores-loop-at-init
 optional_scores-loop-at-init t c =
@@ -212,21 +212,6 @@ pub optional_scores-child_bits-x-requires : goal.optional_scores-child_bits-x-re
 optional_scores-child_bits-x-requires t c =
     optional-ask c.loop-at.invariant.at c.loop-at-test.true c.child_at-k.result.end c.child_at-k.ensures.end_is c.if-need-eq0.true (room c.loop-at.buffers) (other_room c.loop-at.buffers) c.loop-at.invariant.buffers.starts_length c.loop-at.invariant.buffers.other_starts_length c.requires
 
--- what the child takes of the wanted documents, asked now or as its words have it
-taken : (t : _) (c : goal.optional_scores-Joined-need-eq0 t) → OptionalTaken c.args.kids.now c.args.need (reads_of c.args.window.now) (room c.args.buffers.now) (other_room c.args.buffers.now) c.args.want c.args.sums.now c.args.depth c.loop-at.kids c.if-need-eq0.kids c.loop-at.at c.child_at-k.result.end c.if-need-eq0.x c.loop-at.sums
-taken t c =
-    elim c.if-need-eq0.branch [
-      | optional_scores-then-need-eq0 w ↦ taken-as w.kids-is w.x-is (optional-asked c.loop-at.invariant.at c.loop-at-test.true c.child_at-k.result.end c.child_at-k.ensures.end_is w.if-need-eq0.true (room c.loop-at.buffers) (other_room c.loop-at.buffers) c.loop-at.invariant.buffers.starts_length c.loop-at.invariant.buffers.other_starts_length w.child_bits-x.result w.child_bits-x.new.st w.child_bits-x.auto.st w.child_bits-x.ensures.bits_post)
-      | optional_scores-else-need-eq0 w ↦ taken-as w.kids-is w.x-is (optional-stored c.loop-at.invariant.at c.loop-at-test.true c.child_at-k.result.end c.child_at-k.ensures.end_is w.if-need-eq0.false w.both-x.result w.stored_bits.result w.both-x.ensures w.stored_bits.ensures)
-    ]
-
-same : (t : _) (c : goal.optional_scores-Joined-need-eq0 t) → SameBuffers c.args.buffers.now c.if-need-eq0.buffers
-same t c =
-    elim c.if-need-eq0.branch [
-      | optional_scores-then-need-eq0 w ↦ rw w.buffers-is (search rules)
-      | optional_scores-else-need-eq0 w ↦ rw w.buffers-is (search rules)
-    ]
-
 pub optional_scores-slice_bounds-term_scores-end :
     goal.optional_scores-slice_bounds-term_scores-end
 optional_scores-slice_bounds-term_scores-end t c =
@@ -234,7 +219,11 @@ optional_scores-slice_bounds-term_scores-end t c =
 
 pub optional_scores-term_scores-requires : goal.optional_scores-term_scores-requires
 optional_scores-term_scores-requires t c =
-    optional-term (taken t c) (room c.if-need-eq0.buffers) (other_room c.if-need-eq0.buffers) (same t c).starts_length (same t c).other_starts_length (word-read _ Term (sym c.in-Term.is ∙ c.child_at-k.ensures.kind-is) refl) c.requires
+    let T : OptionalTaken c.args.kids.now c.args.need (reads_of c.args.window.now) (room c.args.buffers.now) (other_room c.args.buffers.now) c.args.want c.args.sums.now c.args.depth c.loop-at.kids c.if-need-eq0.kids c.loop-at.at c.child_at-k.result.end c.if-need-eq0.x c.loop-at.sums × SameBuffers c.args.buffers.now c.if-need-eq0.buffers = elim c.if-need-eq0.branch [
+      | optional_scores-then-need-eq0 w ↦ (taken-as w.kids-is w.x-is (optional-asked c.loop-at.invariant.at c.loop-at-test.true c.child_at-k.result.end c.child_at-k.ensures.end_is w.if-need-eq0.true (room c.loop-at.buffers) (other_room c.loop-at.buffers) c.loop-at.invariant.buffers.starts_length c.loop-at.invariant.buffers.other_starts_length w.child_bits-x.result w.child_bits-x.new.st w.child_bits-x.auto.st w.child_bits-x.ensures.bits_post), rw w.buffers-is (search rules))
+      | optional_scores-else-need-eq0 w ↦ (taken-as w.kids-is w.x-is (optional-stored c.loop-at.invariant.at c.loop-at-test.true c.child_at-k.result.end c.child_at-k.ensures.end_is w.if-need-eq0.false w.both-x.result w.stored_bits.result w.both-x.ensures w.stored_bits.ensures), rw w.buffers-is c.loop-at.invariant.buffers)
+    ] in
+    optional-term T.0 (room c.if-need-eq0.buffers) (other_room c.if-need-eq0.buffers) T.1.starts_length T.1.other_starts_length (word-read _ Term (sym c.in-Term.is ∙ c.child_at-k.ensures.kind-is) refl) c.requires
 
 pub optional_scores-slice_bounds-node_scores-end :
     goal.optional_scores-slice_bounds-node_scores-end
@@ -243,7 +232,11 @@ optional_scores-slice_bounds-node_scores-end t c =
 
 pub optional_scores-node_scores-requires : goal.optional_scores-node_scores-requires
 optional_scores-node_scores-requires t c =
-    (omega (arith, c.decreases), optional-child (taken t c) (room c.if-need-eq0.buffers) (other_room c.if-need-eq0.buffers) (same t c).starts_length (same t c).other_starts_length c.requires)
+    let T : OptionalTaken c.args.kids.now c.args.need (reads_of c.args.window.now) (room c.args.buffers.now) (other_room c.args.buffers.now) c.args.want c.args.sums.now c.args.depth c.loop-at.kids c.if-need-eq0.kids c.loop-at.at c.child_at-k.result.end c.if-need-eq0.x c.loop-at.sums × SameBuffers c.args.buffers.now c.if-need-eq0.buffers = elim c.if-need-eq0.branch [
+      | optional_scores-then-need-eq0 w ↦ (taken-as w.kids-is w.x-is (optional-asked c.loop-at.invariant.at c.loop-at-test.true c.child_at-k.result.end c.child_at-k.ensures.end_is w.if-need-eq0.true (room c.loop-at.buffers) (other_room c.loop-at.buffers) c.loop-at.invariant.buffers.starts_length c.loop-at.invariant.buffers.other_starts_length w.child_bits-x.result w.child_bits-x.new.st w.child_bits-x.auto.st w.child_bits-x.ensures.bits_post), rw w.buffers-is (search rules))
+      | optional_scores-else-need-eq0 w ↦ (taken-as w.kids-is w.x-is (optional-stored c.loop-at.invariant.at c.loop-at-test.true c.child_at-k.result.end c.child_at-k.ensures.end_is w.if-need-eq0.false w.both-x.result w.stored_bits.result w.both-x.ensures w.stored_bits.ensures), rw w.buffers-is c.loop-at.invariant.buffers)
+    ] in
+    (omega (arith, c.decreases), optional-child T.0 (room c.if-need-eq0.buffers) (other_room c.if-need-eq0.buffers) T.1.starts_length T.1.other_starts_length c.requires)
 
 pub optional_scores-loop-at-smaller-in-Term :
     goal.optional_scores-loop-at-smaller-in-Term
@@ -253,7 +246,11 @@ optional_scores-loop-at-smaller-in-Term t c =
 pub optional_scores-loop-at-preserved-in-Term :
     goal.optional_scores-loop-at-preserved-in-Term
 optional_scores-loop-at-preserved-in-Term t c =
-    record { long = c.if-need-eq0.auto.kids ∙ c.loop-at.invariant.long; buffers = search rules; at = optional-term-took (taken t c) (room c.if-need-eq0.buffers) (other_room c.if-need-eq0.buffers) (same t c).starts_length (same t c).other_starts_length c.term_scores.new.sums c.term_scores.ensures }
+    let T : OptionalTaken c.args.kids.now c.args.need (reads_of c.args.window.now) (room c.args.buffers.now) (other_room c.args.buffers.now) c.args.want c.args.sums.now c.args.depth c.loop-at.kids c.if-need-eq0.kids c.loop-at.at c.child_at-k.result.end c.if-need-eq0.x c.loop-at.sums × SameBuffers c.args.buffers.now c.if-need-eq0.buffers = elim c.if-need-eq0.branch [
+      | optional_scores-then-need-eq0 w ↦ (taken-as w.kids-is w.x-is (optional-asked c.loop-at.invariant.at c.loop-at-test.true c.child_at-k.result.end c.child_at-k.ensures.end_is w.if-need-eq0.true (room c.loop-at.buffers) (other_room c.loop-at.buffers) c.loop-at.invariant.buffers.starts_length c.loop-at.invariant.buffers.other_starts_length w.child_bits-x.result w.child_bits-x.new.st w.child_bits-x.auto.st w.child_bits-x.ensures.bits_post), rw w.buffers-is (search rules))
+      | optional_scores-else-need-eq0 w ↦ (taken-as w.kids-is w.x-is (optional-stored c.loop-at.invariant.at c.loop-at-test.true c.child_at-k.result.end c.child_at-k.ensures.end_is w.if-need-eq0.false w.both-x.result w.stored_bits.result w.both-x.ensures w.stored_bits.ensures), rw w.buffers-is c.loop-at.invariant.buffers)
+    ] in
+    record { long = c.if-need-eq0.auto.kids ∙ c.loop-at.invariant.long; buffers = search rules; at = optional-term-took T.0 (room c.if-need-eq0.buffers) (other_room c.if-need-eq0.buffers) T.1.starts_length T.1.other_starts_length c.term_scores.new.sums c.term_scores.ensures }
 
 pub optional_scores-loop-at-smaller-in_default :
     goal.optional_scores-loop-at-smaller-in_default
@@ -263,7 +260,11 @@ optional_scores-loop-at-smaller-in_default t c =
 pub optional_scores-loop-at-preserved-in_default :
     goal.optional_scores-loop-at-preserved-in_default
 optional_scores-loop-at-preserved-in_default t c =
-    record { long = back-length c.if-need-eq0.kids c.node_scores.new.st c.loop-at.at c.child_at-k.result.end c.node_scores.auto.st ∙ c.if-need-eq0.auto.kids ∙ c.loop-at.invariant.long; buffers = search rules; at = optional-took (taken t c) (room c.if-need-eq0.buffers) (other_room c.if-need-eq0.buffers) (same t c).starts_length (same t c).other_starts_length c.node_scores.new.st c.node_scores.new.sums c.node_scores.auto.st c.node_scores.ensures.scores_post }
+    let T : OptionalTaken c.args.kids.now c.args.need (reads_of c.args.window.now) (room c.args.buffers.now) (other_room c.args.buffers.now) c.args.want c.args.sums.now c.args.depth c.loop-at.kids c.if-need-eq0.kids c.loop-at.at c.child_at-k.result.end c.if-need-eq0.x c.loop-at.sums × SameBuffers c.args.buffers.now c.if-need-eq0.buffers = elim c.if-need-eq0.branch [
+      | optional_scores-then-need-eq0 w ↦ (taken-as w.kids-is w.x-is (optional-asked c.loop-at.invariant.at c.loop-at-test.true c.child_at-k.result.end c.child_at-k.ensures.end_is w.if-need-eq0.true (room c.loop-at.buffers) (other_room c.loop-at.buffers) c.loop-at.invariant.buffers.starts_length c.loop-at.invariant.buffers.other_starts_length w.child_bits-x.result w.child_bits-x.new.st w.child_bits-x.auto.st w.child_bits-x.ensures.bits_post), rw w.buffers-is (search rules))
+      | optional_scores-else-need-eq0 w ↦ (taken-as w.kids-is w.x-is (optional-stored c.loop-at.invariant.at c.loop-at-test.true c.child_at-k.result.end c.child_at-k.ensures.end_is w.if-need-eq0.false w.both-x.result w.stored_bits.result w.both-x.ensures w.stored_bits.ensures), rw w.buffers-is c.loop-at.invariant.buffers)
+    ] in
+    record { long = back-length c.if-need-eq0.kids c.node_scores.new.st c.loop-at.at c.child_at-k.result.end c.node_scores.auto.st ∙ c.if-need-eq0.auto.kids ∙ c.loop-at.invariant.long; buffers = search rules; at = optional-took T.0 (room c.if-need-eq0.buffers) (other_room c.if-need-eq0.buffers) T.1.starts_length T.1.other_starts_length c.node_scores.new.st c.node_scores.new.sums c.node_scores.auto.st c.node_scores.ensures.scores_post }
 
 pub optional_scores-loop-at-smaller : goal.optional_scores-loop-at-smaller
 optional_scores-loop-at-smaller t c =
@@ -271,7 +272,11 @@ optional_scores-loop-at-smaller t c =
 
 pub optional_scores-loop-at-preserved : goal.optional_scores-loop-at-preserved
 optional_scores-loop-at-preserved t c =
-    record { long = c.if-need-eq0.auto.kids ∙ c.loop-at.invariant.long; buffers = search rules; at = optional-left (taken t c) c.if-x-ne0.false }
+    let T : OptionalTaken c.args.kids.now c.args.need (reads_of c.args.window.now) (room c.args.buffers.now) (other_room c.args.buffers.now) c.args.want c.args.sums.now c.args.depth c.loop-at.kids c.if-need-eq0.kids c.loop-at.at c.child_at-k.result.end c.if-need-eq0.x c.loop-at.sums × SameBuffers c.args.buffers.now c.if-need-eq0.buffers = elim c.if-need-eq0.branch [
+      | optional_scores-then-need-eq0 w ↦ (taken-as w.kids-is w.x-is (optional-asked c.loop-at.invariant.at c.loop-at-test.true c.child_at-k.result.end c.child_at-k.ensures.end_is w.if-need-eq0.true (room c.loop-at.buffers) (other_room c.loop-at.buffers) c.loop-at.invariant.buffers.starts_length c.loop-at.invariant.buffers.other_starts_length w.child_bits-x.result w.child_bits-x.new.st w.child_bits-x.auto.st w.child_bits-x.ensures.bits_post), rw w.buffers-is (search rules))
+      | optional_scores-else-need-eq0 w ↦ (taken-as w.kids-is w.x-is (optional-stored c.loop-at.invariant.at c.loop-at-test.true c.child_at-k.result.end c.child_at-k.ensures.end_is w.if-need-eq0.false w.both-x.result w.stored_bits.result w.both-x.ensures w.stored_bits.ensures), rw w.buffers-is c.loop-at.invariant.buffers)
+    ] in
+    record { long = c.if-need-eq0.auto.kids ∙ c.loop-at.invariant.long; buffers = search rules; at = optional-left T.0 c.if-x-ne0.false }
 
 pub optional_scores-returns-clause-optional_post : goal.optional_scores-returns-clause-optional_post
 optional_scores-returns-clause-optional_post t c =
