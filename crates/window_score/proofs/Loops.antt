@@ -133,11 +133,6 @@ module _ {F : Frame} {kids : List ℕ} {at : ℕ} {sums : List Float} where
         let v = view w.zip in
         word-at v 15 (omega (arith, long)) ∙ windowed-scores F.ix F.ranges T F.depth (cond f 1 0) v.y F.bound F.base F.asked v.part-is
 
-    pub walk-bits : (p : ℕ) → p < 64 → F.asked p ≡ true → bit p (joined (get_or kids (at + 20) 0) (get_or kids (at + 21) 0)) ≡ matches F.ix T (F.base + p)
-    walk-bits p l e =
-        let v = view w.zip in
-        rw (word-at v 20 (omega (arith, long)), word-at v 21 (omega (arith, long))) (windowed-bits F.ix F.ranges T F.depth (cond f 1 0) v.y F.bound F.base F.asked v.part-is p l e)
-
     pub walk-scorable : F.most ≤ 256 → Scorable F.ix F.table F.places T
     unfolding Sounds TablesOf nodes_of
     walk-scorable h = record { sound = w.sound.0; tables = w.tables.0; few = omega (arith, w.few, h) }

@@ -1,8 +1,10 @@
 -- The loop over the optional children, in the words of its contract: each is asked where none is needed, else its stored bits serve, and its score is added where it matches. Assumes nothing.
 use Rattle.std.proofs.Common.{◌≡◌, refl, sym, ap, subst, ◌∙◌, Bool, true, false, cond, ◌&&◌, List, ◌++◌, ℕ, ◌+◌, ◌-◌, ◌≤◌, ◌<◌, ltb, length, get_or, take, drop, length-take, length-drop, take_at, drop_at, le_refl, arith}
-use Rattle.std.proofs.lemmas.Bool.{false≢true, and_parts, lt-ltb}
+use Rattle.std.proofs.lemmas.Bool.{false≢true, and_parts, lt-ltb, cases_eq}
 use Rattle.std.specs.Prelude.{Float}
 use Rattle.std.specs.Float.{nan}
+use mathlib.Core.Logic.{⊎_elim}
+use Rattle.meaning.specs.Limits.{node_state_words}
 use Rattle.meaning.specs.Ieee754.{sum_from}
 use Rattle.bits.specs.Bit.{bit}
 use Rattle.weight.specs.ScorerTree.{Scorer, Scorers, more, matches, scorer_score}
@@ -11,12 +13,13 @@ use Rattle.leaf_scorer.specs.Calls.{lent}
 use Rattle.score.proofs.Parts.{part_same}
 use Rattle.score.proofs.Sums.{matches-at, optional-counted, optional-matched}
 use Rattle.window_words.specs.Windowed.{nowhere, places_of, joined, optional_bound, Windowed}
-use Rattle.window_words.proofs.Laws.{windowed-less, windowed-kind, windowed-forget}
+use Rattle.window_words.proofs.Laws.{windowed-less, windowed-long, windowed-kind, windowed-bits, windowed-forget}
 use Rattle.window_leaf.specs.Asks.{NodeWindowed, BitsPre, BitsPost}
 use Rattle.node.specs.Words.{ChildThere}
+use Rattle.window_score.specs.Words.{StoredAre}
 use Rattle.window_score.specs.Sums.{Sums, Added}
 use Rattle.window_score.specs.Asked.{Reads, WindowLent, NodeAsked, ScoresPre, ScoresPost, TermPre, TermPost, OptionalPre, OptionalPost}
-use Rattle.window_score.proofs.Loops.{put, sums-more, added-none, Frame, Walk, walk-start, walk-open, walk-end, walk-there, walk-kind, walk-bits, walk-scorable, walk-few, walk-part, walk-took}
+use Rattle.window_score.proofs.Loops.{put, sums-more, added-none, Frame, Walk, walk-start, walk-open, walk-end, walk-there, walk-kind, walk-scorable, walk-few, walk-part, walk-took}
 use Rattle.window_score.proofs.Required.{lent-at}
 
 -- ---- bits
@@ -92,9 +95,6 @@ module _ (kids₀ : List ℕ) (need : ℕ) (V : Reads) (a b want : ℕ) (sums₀
   OptionalTaken kids kids' at e x sums = (w : Asks) → Taken w kids kids' at e x sums
 
 module _ {kids₀ : List ℕ} {need : ℕ} {V : Reads} {a b want : ℕ} {sums₀ : List Float} {depth : ℕ} where
-  pub taken-as : {kids k kids' : List ℕ} {at e x x' : ℕ} {sums : List Float} → kids' ≡ k → x' ≡ x → OptionalTaken kids₀ need V a b want sums₀ depth kids k at e x sums → OptionalTaken kids₀ need V a b want sums₀ depth kids kids' at e x' sums
-  taken-as h i t = rw (h, i) t
-
   pub optional-start : OptionalAt kids₀ need V a b want sums₀ depth kids₀ 0 sums₀
   optional-start w = (w.3, walk-start (frame kids₀ need V a b want sums₀ depth w) kids₀ w.4 (le_refl _) w.6.held w.7 w.6.scorables.sound w.6.scorables.tables (λ p l i. optional-matched w.1 w.3 (V.base + p)))
 
@@ -133,7 +133,7 @@ module _ {kids₀ : List ℕ} {need : ℕ} {V : Reads} {a b want : ℕ} {sums₀
               let L = lent-at a' b' want same-a same-b (λ p m i. i) w.5 in
               (L.small, (w.0, w.1, w.2, c.1, cond c.0 1 0, L.wanted, L.room, node w))
 
-          pub optional-asked : (r : ℕ) (ys : List ℕ) → length ys ≡ length (take (e - at) (drop at kids)) → BitsPost (lent 0 V.postings V.positions V.ranges) a' b' (take (e - at) (drop at kids)) V.base want depth r ys → OptionalTaken kids₀ need V a b want sums₀ depth kids (put kids at e ys) at e r sums
+          optional-asked : (r : ℕ) (ys : List ℕ) → length ys ≡ length (take (e - at) (drop at kids)) → BitsPost (lent 0 V.postings V.positions V.ranges) a' b' (take (e - at) (drop at kids)) V.base want depth r ys → OptionalTaken kids₀ need V a b want sums₀ depth kids (put kids at e ys) at e r sums
           optional-asked r ys len post w =
               let c = child w in
               let t = walk-there c.3 in
@@ -153,22 +153,34 @@ module _ {kids₀ : List ℕ} {need : ℕ} {V : Reads} {a b want : ℕ} {sums₀
               }
 
         -- else its stored bits serve
-        pub optional-stored : (need ≡ 0 → ⊥) → (x u : ℕ) → ((p : ℕ) → bit p x ≡ (bit p want && bit p u)) → u ≡ joined (get_or kids (at + 20) 0) (get_or kids (at + 21) 0) → OptionalTaken kids₀ need V a b want sums₀ depth kids kids at e x sums
-        optional-stored some x u both u-is w =
+        optional-stored : (need ≡ 0 → ⊥) → (x : ℕ) (ys : List ℕ) → StoredAre (take (e - at) (drop at kids)) want x ys → OptionalTaken kids₀ need V a b want sums₀ depth kids (put kids at e ys) at e x sums
+        optional-stored some x ys stored =
+            subst (λ (k : List ℕ). OptionalTaken kids₀ need V a b want sums₀ depth kids k at e x sums) (sym (ap (put kids at e) stored.kept ∙ part_same kids at e)) (
+            λ w.
             let c = child w in
             let on : ltb 0 need ≡ true = positive need some in
             let held : Windowed w.1 V.ranges c.1 depth (cond c.0 1 0) (take (e - at) (drop at kids)) (V.base + 64) V.base (places_of want) = subst (λ (t : Bool). Windowed w.1 V.ranges c.1 depth (cond c.0 1 0) (take (e - at) (drop at kids)) (cond t (V.base + 64) V.base) V.base (λ p. t && bit p want)) on (walk-part c.3 e stop) in
+            let u : ℕ = joined (get_or (take (e - at) (drop at kids)) 20 0) (get_or (take (e - at) (drop at kids)) 21 0) in
             record {
               f = c.0;
               T = c.1;
               g = c.2;
               walk = c.3;
               stop = stop;
-              held = windowed-less w.1 V.ranges c.1 depth (cond c.0 1 0) (take (e - at) (drop at kids)) (V.base + 64) V.base (places_of want) (places_of x) (λ p m i. (and_parts (bit p want) (bit p u) (sym (both p) ∙ i)).0) held;
-              bits = λ p m. both p ∙ and-where (bit p want) (bit p u) (matches w.1 c.1 (V.base + p)) (λ i. ap (bit p) u-is ∙ walk-bits c.3 p m (ap (λ (t : Bool). t && bit p want) on ∙ i));
+              held = windowed-less w.1 V.ranges c.1 depth (cond c.0 1 0) (take (e - at) (drop at kids)) (V.base + 64) V.base (places_of want) (places_of x) (λ p m i. (and_parts (bit p want) (bit p u) (sym (stored.bits p) ∙ i)).0) held;
+              bits = λ p m. stored.bits p ∙ and-where (bit p want) (bit p u) (matches w.1 c.1 (V.base + p)) (windowed-bits w.1 V.ranges c.1 depth (cond c.0 1 0) (take (e - at) (drop at kids)) (V.base + 64) V.base (places_of want) held p m);
               long = refl;
               back = λ zs. refl;
             }
+            )
+
+        pub optional-long : Asks kids₀ need V a b want sums₀ depth → node_state_words ≤ length (take (e - at) (drop at kids))
+        optional-long w = let c = child w in windowed-long w.1 V.ranges c.1 depth (cond c.0 1 0) (take (e - at) (drop at kids)) (optional_bound need (V.base + 64) V.base) V.base (λ p. ltb 0 need && bit p want) (walk-part c.3 e stop)
+
+        -- either way
+        pub optional-answer : {a' b' : ℕ} → a' ≡ a → b' ≡ b → (r : ℕ) (ys : List ℕ) → length ys ≡ length (take (e - at) (drop at kids)) → (need ≡ 0 → BitsPost (lent 0 V.postings V.positions V.ranges) a' b' (take (e - at) (drop at kids)) V.base want depth r ys) → ((need ≡ 0 → ⊥) → StoredAre (take (e - at) (drop at kids)) want r ys) → OptionalTaken kids₀ need V a b want sums₀ depth kids (put kids at e ys) at e r sums
+        optional-answer {a'} {b'} same-a same-b r ys len unneeded needed =
+            ⊎_elim (λ (z : need ≡ 0). optional-asked z a' b' same-a same-b r ys len (unneeded z)) (λ (z : need ≡ 0 → ⊥). optional-stored z r ys (needed z)) (cases_eq need 0)
 
   -- ---- its score
   module _ {kids kids' : List ℕ} {at e x : ℕ} {sums : List Float} (I : OptionalTaken kids₀ need V a b want sums₀ depth kids kids' at e x sums) where

@@ -1,12 +1,13 @@
 // The scores of a window's documents: each node adds its own to the sums of the wanted documents, one node after the other in the order of the parts.
 #![tactic(auto)]
 
-ghost use Rattle.std.specs.Prelude.{◌≡◌, ◌+◌, get_or};
-ghost use Rattle.node.specs.Words.{ChildThere};
+ghost use Rattle.std.specs.Prelude.{◌≡◌, ◌≤◌, length, get_or};
+ghost use Rattle.meaning.specs.Limits.{node_state_words};
 ghost use Rattle.window_words.specs.Windowed.{joined};
 ghost use Rattle.leaf_scorer.specs.Calls.{lent_of};
 ghost use Rattle.leaf_scorer.specs.Buffers.{room, other_room, SameBuffers};
 ghost use Rattle.window_leaf.specs.Asks.{BitsPre, BitsPost};
+ghost use Rattle.window_score.specs.Words.{StoredAre};
 ghost use Rattle.window_score.specs.Asked.{reads_of, ScoresPre, ScoresPost, RequiredPre, RequiredPost, OptionalPre, OptionalPost, BooleanPre, BooleanPost, RootPartsPre, RootPartsPost, RootGroupPre, RootGroupPost};
 
 use leaf_score::node_at;
@@ -22,11 +23,11 @@ pub mod root;
 pub mod sums;
 
 // The documents of the window that a child matches, as its record has them.
-fn stored_bits(kids: &[u32], at: usize) -> u64
-    requires { ChildThere kids.now at }
-    ensures { result ≡ joined (get_or kids.now (at + 20) 0) (get_or kids.now (at + 21) 0) }
+fn stored_bits(st: &[u32]) -> u64
+    requires { node_state_words ≤ length st.now }
+    ensures { result ≡ joined (get_or st.now 20 0) (get_or st.now 21 0) }
 {
-    bits::joined(kids[at + 20], kids[at + 21])
+    bits::joined(st[20], st[21])
 }
 
 // Which of the wanted documents a child matches; a term is asked without the call of node_bits.
@@ -45,6 +46,27 @@ fn child_bits(
         NodeKind::Term => bits::both(want, term_bits(st, window.reader.postings, window.base)),
         _ => node_bits(st, window, buffers, want, depth),
     }
+}
+
+// Which of the wanted documents an optional child matches: its record has them, but where none is needed it is asked only now.
+fn optional_child_bits(
+    st: &mut [u32],
+    need: u32,
+    window: &Window<'_>,
+    buffers: &mut PhraseBuffers<'_>,
+    want: u64,
+    depth: u32,
+) -> u64
+    requires long { node_state_words ≤ length st.old }
+    requires unneeded { need ≡ 0 → BitsPre (lent_of window.now.reader) (room buffers.old) (other_room buffers.old) st.old window.now.base want depth }
+    ensures unneeded { need ≡ 0 → BitsPost (lent_of window.now.reader) (room buffers.old) (other_room buffers.old) st.old window.now.base want depth result st.new }
+    ensures needed { (need ≡ 0 → ⊥) → StoredAre st.old want result st.new }
+    ensures same_buffers { SameBuffers buffers.old buffers.new }
+{
+    if need == 0 {
+        return child_bits(st, window, buffers, want, depth);
+    }
+    bits::both(want, stored_bits(st))
 }
 
 // The node's score is added to the sum of each wanted document, all of which it matches.
@@ -272,11 +294,7 @@ fn optional_scores(
     while at < kids.len() {
         let k = child_at(kids, at);
         let end = k.end;
-        let x = if need == 0 {
-            child_bits(&mut kids[at..end], window, buffers, want, depth)
-        } else {
-            bits::both(want, stored_bits(kids, at))
-        };
+        let x = optional_child_bits(&mut kids[at..end], need, window, buffers, want, depth);
         if x != 0 {
             match k.kind {
                 NodeKind::Term => {

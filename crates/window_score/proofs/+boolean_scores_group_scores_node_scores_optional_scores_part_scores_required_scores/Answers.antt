@@ -6,7 +6,7 @@ use Rattle.node.proofs.Windows.{word-read, word-unread}
 use Rattle.leaf_scorer.specs.Buffers.{room, other_room, SameBuffers}
 use Rattle.window_score.specs.Asked.{reads_of}
 use Rattle.window_score.proofs.Required.{required-start, required-end, required-there, required-skip, required-child, required-term, required-took, required-term-took}
-use Rattle.window_score.proofs.Optional.{OptionalTaken, taken-as, optional-start, optional-end, optional-there, optional-ask, optional-asked, optional-stored, optional-left, optional-child, optional-term, optional-took, optional-term-took}
+use Rattle.window_score.proofs.Optional.{optional-start, optional-end, optional-there, optional-long, optional-ask, optional-answer, optional-left, optional-child, optional-term, optional-took, optional-term-took}
 use Rattle.window_score.proofs.Splits.{zeros, zero-sums}
 use Rattle.window_score.proofs.Groups.{root-group-as, after-ask, after-root-join, after-root, cut-fits, front-ask, group-add, rest-ask, more-root}
 use Rattle.window_score.proofs.Booleans.{parts-lie, required-lies, alone-ask, group-ask, own-ask, own-add, own-done, root-parts-as, root-alone, root-only, root-both-ask, root-both}
@@ -15,8 +15,8 @@ use Rattle.leaf_score.proofs.Bounds.{zero-64}
 use Rattle.std.proofs.Math.Seq.{length_front}
 use Rattle.std.proofs.lemmas.List.{length-take}
 use Rattle.window_words.proofs.Parts.{back-length}
+use Rattle.window_score.proofs.Loops.{put}
 use Rattle.window_score.proofs.+boolean_scores_group_scores_node_scores_optional_scores_part_scores_required_scores.Goals as goal
-use Rattle.window_score.proofs.+boolean_scores_group_scores_node_scores_optional_scores_part_scores_required_scores.Goals.{optional_scores-then-need-eq0, optional_scores-else-need-eq0}
 
 pub boolean_scores-part_scores-requires : goal.boolean_scores-part_scores-requires
 boolean_scores-part_scores-requires t c =
@@ -200,83 +200,63 @@ pub optional_scores-child_at-k-requires : goal.optional_scores-child_at-k-requir
 optional_scores-child_at-k-requires t c =
     optional-there c.loop-at.invariant.at c.loop-at-test.true c.requires
 
-pub optional_scores-stored_bits-requires : goal.optional_scores-stored_bits-requires
-optional_scores-stored_bits-requires t c =
-    optional-there c.loop-at.invariant.at c.loop-at-test.true c.requires
-
-pub optional_scores-slice_bounds-child_bits-end : goal.optional_scores-slice_bounds-child_bits-end
-optional_scores-slice_bounds-child_bits-end t c =
+pub optional_scores-slice_bounds-optional_child_bits-end : goal.optional_scores-slice_bounds-optional_child_bits-end
+optional_scores-slice_bounds-optional_child_bits-end t c =
     omega (arith, c.child_at-k.ensures.end_is, (optional-there c.loop-at.invariant.at c.loop-at-test.true c.requires).fits)
 
-pub optional_scores-child_bits-x-requires : goal.optional_scores-child_bits-x-requires
-optional_scores-child_bits-x-requires t c =
-    optional-ask c.loop-at.invariant.at c.loop-at-test.true c.child_at-k.result.end c.child_at-k.ensures.end_is c.if-need-eq0.true (room c.loop-at.buffers) (other_room c.loop-at.buffers) c.loop-at.invariant.buffers.starts_length c.loop-at.invariant.buffers.other_starts_length c.requires
+pub optional_scores-optional_child_bits-x-requires-clause-long : goal.optional_scores-optional_child_bits-x-requires-clause-long
+optional_scores-optional_child_bits-x-requires-clause-long t c =
+    optional-long c.loop-at.invariant.at c.loop-at-test.true c.child_at-k.result.end c.child_at-k.ensures.end_is c.requires
+
+pub optional_scores-optional_child_bits-x-requires-clause-unneeded : goal.optional_scores-optional_child_bits-x-requires-clause-unneeded
+optional_scores-optional_child_bits-x-requires-clause-unneeded t c =
+    λ none. optional-ask c.loop-at.invariant.at c.loop-at-test.true c.child_at-k.result.end c.child_at-k.ensures.end_is none _ _ c.loop-at.invariant.buffers.starts_length c.loop-at.invariant.buffers.other_starts_length c.requires
 
 pub optional_scores-slice_bounds-term_scores-end :
     goal.optional_scores-slice_bounds-term_scores-end
 optional_scores-slice_bounds-term_scores-end t c =
-    omega (arith, c.child_at-k.ensures.end_is, (optional-there c.loop-at.invariant.at c.loop-at-test.true c.requires).fits, c.if-need-eq0.auto.kids)
+    omega (arith, c.child_at-k.ensures.end_is, (optional-there c.loop-at.invariant.at c.loop-at-test.true c.requires).fits, back-length c.loop-at.kids c.optional_child_bits-x.new.st c.loop-at.at c.child_at-k.result.end c.optional_child_bits-x.auto.st)
 
 pub optional_scores-term_scores-requires : goal.optional_scores-term_scores-requires
 optional_scores-term_scores-requires t c =
-    let T : OptionalTaken c.args.kids.now c.args.need (reads_of c.args.window.now) (room c.args.buffers.now) (other_room c.args.buffers.now) c.args.want c.args.sums.now c.args.depth c.loop-at.kids c.if-need-eq0.kids c.loop-at.at c.child_at-k.result.end c.if-need-eq0.x c.loop-at.sums × SameBuffers c.args.buffers.now c.if-need-eq0.buffers = elim c.if-need-eq0.branch [
-      | optional_scores-then-need-eq0 w ↦ (taken-as w.kids-is w.x-is (optional-asked c.loop-at.invariant.at c.loop-at-test.true c.child_at-k.result.end c.child_at-k.ensures.end_is w.if-need-eq0.true (room c.loop-at.buffers) (other_room c.loop-at.buffers) c.loop-at.invariant.buffers.starts_length c.loop-at.invariant.buffers.other_starts_length w.child_bits-x.result w.child_bits-x.new.st w.child_bits-x.auto.st w.child_bits-x.ensures.bits_post), rw w.buffers-is (search rules))
-      | optional_scores-else-need-eq0 w ↦ (taken-as w.kids-is w.x-is (optional-stored c.loop-at.invariant.at c.loop-at-test.true c.child_at-k.result.end c.child_at-k.ensures.end_is w.if-need-eq0.false w.both-x.result w.stored_bits.result w.both-x.ensures w.stored_bits.ensures), rw w.buffers-is c.loop-at.invariant.buffers)
-    ] in
-    optional-term T.0 (room c.if-need-eq0.buffers) (other_room c.if-need-eq0.buffers) T.1.starts_length T.1.other_starts_length (word-read _ Term (sym c.in-Term.is ∙ c.child_at-k.ensures.kind-is) refl) c.requires
+    optional-term (optional-answer c.loop-at.invariant.at c.loop-at-test.true c.child_at-k.result.end c.child_at-k.ensures.end_is c.loop-at.invariant.buffers.starts_length c.loop-at.invariant.buffers.other_starts_length c.optional_child_bits-x.result c.optional_child_bits-x.new.st c.optional_child_bits-x.auto.st c.optional_child_bits-x.ensures.unneeded c.optional_child_bits-x.ensures.needed) _ _ (c.optional_child_bits-x.ensures.same_buffers.starts_length ∙ c.loop-at.invariant.buffers.starts_length) (c.optional_child_bits-x.ensures.same_buffers.other_starts_length ∙ c.loop-at.invariant.buffers.other_starts_length) (word-read _ Term (sym c.in-Term.is ∙ c.child_at-k.ensures.kind-is) refl) c.requires
 
 pub optional_scores-slice_bounds-node_scores-end :
     goal.optional_scores-slice_bounds-node_scores-end
 optional_scores-slice_bounds-node_scores-end t c =
-    omega (arith, c.child_at-k.ensures.end_is, (optional-there c.loop-at.invariant.at c.loop-at-test.true c.requires).fits, c.if-need-eq0.auto.kids)
+    omega (arith, c.child_at-k.ensures.end_is, (optional-there c.loop-at.invariant.at c.loop-at-test.true c.requires).fits, back-length c.loop-at.kids c.optional_child_bits-x.new.st c.loop-at.at c.child_at-k.result.end c.optional_child_bits-x.auto.st)
 
 pub optional_scores-node_scores-requires : goal.optional_scores-node_scores-requires
 optional_scores-node_scores-requires t c =
-    let T : OptionalTaken c.args.kids.now c.args.need (reads_of c.args.window.now) (room c.args.buffers.now) (other_room c.args.buffers.now) c.args.want c.args.sums.now c.args.depth c.loop-at.kids c.if-need-eq0.kids c.loop-at.at c.child_at-k.result.end c.if-need-eq0.x c.loop-at.sums × SameBuffers c.args.buffers.now c.if-need-eq0.buffers = elim c.if-need-eq0.branch [
-      | optional_scores-then-need-eq0 w ↦ (taken-as w.kids-is w.x-is (optional-asked c.loop-at.invariant.at c.loop-at-test.true c.child_at-k.result.end c.child_at-k.ensures.end_is w.if-need-eq0.true (room c.loop-at.buffers) (other_room c.loop-at.buffers) c.loop-at.invariant.buffers.starts_length c.loop-at.invariant.buffers.other_starts_length w.child_bits-x.result w.child_bits-x.new.st w.child_bits-x.auto.st w.child_bits-x.ensures.bits_post), rw w.buffers-is (search rules))
-      | optional_scores-else-need-eq0 w ↦ (taken-as w.kids-is w.x-is (optional-stored c.loop-at.invariant.at c.loop-at-test.true c.child_at-k.result.end c.child_at-k.ensures.end_is w.if-need-eq0.false w.both-x.result w.stored_bits.result w.both-x.ensures w.stored_bits.ensures), rw w.buffers-is c.loop-at.invariant.buffers)
-    ] in
-    (omega (arith, c.decreases), optional-child T.0 (room c.if-need-eq0.buffers) (other_room c.if-need-eq0.buffers) T.1.starts_length T.1.other_starts_length c.requires)
+    (omega (arith, c.decreases), optional-child (optional-answer c.loop-at.invariant.at c.loop-at-test.true c.child_at-k.result.end c.child_at-k.ensures.end_is c.loop-at.invariant.buffers.starts_length c.loop-at.invariant.buffers.other_starts_length c.optional_child_bits-x.result c.optional_child_bits-x.new.st c.optional_child_bits-x.auto.st c.optional_child_bits-x.ensures.unneeded c.optional_child_bits-x.ensures.needed) _ _ (c.optional_child_bits-x.ensures.same_buffers.starts_length ∙ c.loop-at.invariant.buffers.starts_length) (c.optional_child_bits-x.ensures.same_buffers.other_starts_length ∙ c.loop-at.invariant.buffers.other_starts_length) c.requires)
 
 pub optional_scores-loop-at-smaller-in-Term :
     goal.optional_scores-loop-at-smaller-in-Term
 optional_scores-loop-at-smaller-in-Term t c =
-    omega (arith, c.child_at-k.ensures.end_is, (optional-there c.loop-at.invariant.at c.loop-at-test.true c.requires).long, c.loop-at-test.true, c.if-need-eq0.auto.kids)
+    omega (arith, c.child_at-k.ensures.end_is, (optional-there c.loop-at.invariant.at c.loop-at-test.true c.requires).long, c.loop-at-test.true, back-length c.loop-at.kids c.optional_child_bits-x.new.st c.loop-at.at c.child_at-k.result.end c.optional_child_bits-x.auto.st)
 
 pub optional_scores-loop-at-preserved-in-Term :
     goal.optional_scores-loop-at-preserved-in-Term
 optional_scores-loop-at-preserved-in-Term t c =
-    let T : OptionalTaken c.args.kids.now c.args.need (reads_of c.args.window.now) (room c.args.buffers.now) (other_room c.args.buffers.now) c.args.want c.args.sums.now c.args.depth c.loop-at.kids c.if-need-eq0.kids c.loop-at.at c.child_at-k.result.end c.if-need-eq0.x c.loop-at.sums × SameBuffers c.args.buffers.now c.if-need-eq0.buffers = elim c.if-need-eq0.branch [
-      | optional_scores-then-need-eq0 w ↦ (taken-as w.kids-is w.x-is (optional-asked c.loop-at.invariant.at c.loop-at-test.true c.child_at-k.result.end c.child_at-k.ensures.end_is w.if-need-eq0.true (room c.loop-at.buffers) (other_room c.loop-at.buffers) c.loop-at.invariant.buffers.starts_length c.loop-at.invariant.buffers.other_starts_length w.child_bits-x.result w.child_bits-x.new.st w.child_bits-x.auto.st w.child_bits-x.ensures.bits_post), rw w.buffers-is (search rules))
-      | optional_scores-else-need-eq0 w ↦ (taken-as w.kids-is w.x-is (optional-stored c.loop-at.invariant.at c.loop-at-test.true c.child_at-k.result.end c.child_at-k.ensures.end_is w.if-need-eq0.false w.both-x.result w.stored_bits.result w.both-x.ensures w.stored_bits.ensures), rw w.buffers-is c.loop-at.invariant.buffers)
-    ] in
-    record { long = c.if-need-eq0.auto.kids ∙ c.loop-at.invariant.long; buffers = search rules; at = optional-term-took T.0 (room c.if-need-eq0.buffers) (other_room c.if-need-eq0.buffers) T.1.starts_length T.1.other_starts_length c.term_scores.new.sums c.term_scores.ensures }
+    record { long = back-length c.loop-at.kids c.optional_child_bits-x.new.st c.loop-at.at c.child_at-k.result.end c.optional_child_bits-x.auto.st ∙ c.loop-at.invariant.long; buffers = search rules; at = optional-term-took (optional-answer c.loop-at.invariant.at c.loop-at-test.true c.child_at-k.result.end c.child_at-k.ensures.end_is c.loop-at.invariant.buffers.starts_length c.loop-at.invariant.buffers.other_starts_length c.optional_child_bits-x.result c.optional_child_bits-x.new.st c.optional_child_bits-x.auto.st c.optional_child_bits-x.ensures.unneeded c.optional_child_bits-x.ensures.needed) _ _ (c.optional_child_bits-x.ensures.same_buffers.starts_length ∙ c.loop-at.invariant.buffers.starts_length) (c.optional_child_bits-x.ensures.same_buffers.other_starts_length ∙ c.loop-at.invariant.buffers.other_starts_length) c.term_scores.new.sums c.term_scores.ensures }
 
 pub optional_scores-loop-at-smaller-in_default :
     goal.optional_scores-loop-at-smaller-in_default
 optional_scores-loop-at-smaller-in_default t c =
-    omega (arith, c.child_at-k.ensures.end_is, (optional-there c.loop-at.invariant.at c.loop-at-test.true c.requires).long, c.loop-at-test.true, c.if-need-eq0.auto.kids, back-length c.if-need-eq0.kids c.node_scores.new.st c.loop-at.at c.child_at-k.result.end c.node_scores.auto.st)
+    omega (arith, c.child_at-k.ensures.end_is, (optional-there c.loop-at.invariant.at c.loop-at-test.true c.requires).long, c.loop-at-test.true, back-length c.loop-at.kids c.optional_child_bits-x.new.st c.loop-at.at c.child_at-k.result.end c.optional_child_bits-x.auto.st, back-length (put c.loop-at.kids c.loop-at.at c.child_at-k.result.end c.optional_child_bits-x.new.st) c.node_scores.new.st c.loop-at.at c.child_at-k.result.end c.node_scores.auto.st)
 
 pub optional_scores-loop-at-preserved-in_default :
     goal.optional_scores-loop-at-preserved-in_default
 optional_scores-loop-at-preserved-in_default t c =
-    let T : OptionalTaken c.args.kids.now c.args.need (reads_of c.args.window.now) (room c.args.buffers.now) (other_room c.args.buffers.now) c.args.want c.args.sums.now c.args.depth c.loop-at.kids c.if-need-eq0.kids c.loop-at.at c.child_at-k.result.end c.if-need-eq0.x c.loop-at.sums × SameBuffers c.args.buffers.now c.if-need-eq0.buffers = elim c.if-need-eq0.branch [
-      | optional_scores-then-need-eq0 w ↦ (taken-as w.kids-is w.x-is (optional-asked c.loop-at.invariant.at c.loop-at-test.true c.child_at-k.result.end c.child_at-k.ensures.end_is w.if-need-eq0.true (room c.loop-at.buffers) (other_room c.loop-at.buffers) c.loop-at.invariant.buffers.starts_length c.loop-at.invariant.buffers.other_starts_length w.child_bits-x.result w.child_bits-x.new.st w.child_bits-x.auto.st w.child_bits-x.ensures.bits_post), rw w.buffers-is (search rules))
-      | optional_scores-else-need-eq0 w ↦ (taken-as w.kids-is w.x-is (optional-stored c.loop-at.invariant.at c.loop-at-test.true c.child_at-k.result.end c.child_at-k.ensures.end_is w.if-need-eq0.false w.both-x.result w.stored_bits.result w.both-x.ensures w.stored_bits.ensures), rw w.buffers-is c.loop-at.invariant.buffers)
-    ] in
-    record { long = back-length c.if-need-eq0.kids c.node_scores.new.st c.loop-at.at c.child_at-k.result.end c.node_scores.auto.st ∙ c.if-need-eq0.auto.kids ∙ c.loop-at.invariant.long; buffers = search rules; at = optional-took T.0 (room c.if-need-eq0.buffers) (other_room c.if-need-eq0.buffers) T.1.starts_length T.1.other_starts_length c.node_scores.new.st c.node_scores.new.sums c.node_scores.auto.st c.node_scores.ensures.scores_post }
+    record { long = back-length (put c.loop-at.kids c.loop-at.at c.child_at-k.result.end c.optional_child_bits-x.new.st) c.node_scores.new.st c.loop-at.at c.child_at-k.result.end c.node_scores.auto.st ∙ back-length c.loop-at.kids c.optional_child_bits-x.new.st c.loop-at.at c.child_at-k.result.end c.optional_child_bits-x.auto.st ∙ c.loop-at.invariant.long; buffers = search rules; at = optional-took (optional-answer c.loop-at.invariant.at c.loop-at-test.true c.child_at-k.result.end c.child_at-k.ensures.end_is c.loop-at.invariant.buffers.starts_length c.loop-at.invariant.buffers.other_starts_length c.optional_child_bits-x.result c.optional_child_bits-x.new.st c.optional_child_bits-x.auto.st c.optional_child_bits-x.ensures.unneeded c.optional_child_bits-x.ensures.needed) _ _ (c.optional_child_bits-x.ensures.same_buffers.starts_length ∙ c.loop-at.invariant.buffers.starts_length) (c.optional_child_bits-x.ensures.same_buffers.other_starts_length ∙ c.loop-at.invariant.buffers.other_starts_length) c.node_scores.new.st c.node_scores.new.sums c.node_scores.auto.st c.node_scores.ensures.scores_post }
 
 pub optional_scores-loop-at-smaller : goal.optional_scores-loop-at-smaller
 optional_scores-loop-at-smaller t c =
-    omega (arith, c.child_at-k.ensures.end_is, (optional-there c.loop-at.invariant.at c.loop-at-test.true c.requires).long, c.loop-at-test.true, c.if-need-eq0.auto.kids)
+    omega (arith, c.child_at-k.ensures.end_is, (optional-there c.loop-at.invariant.at c.loop-at-test.true c.requires).long, c.loop-at-test.true, back-length c.loop-at.kids c.optional_child_bits-x.new.st c.loop-at.at c.child_at-k.result.end c.optional_child_bits-x.auto.st)
 
 pub optional_scores-loop-at-preserved : goal.optional_scores-loop-at-preserved
 optional_scores-loop-at-preserved t c =
-    let T : OptionalTaken c.args.kids.now c.args.need (reads_of c.args.window.now) (room c.args.buffers.now) (other_room c.args.buffers.now) c.args.want c.args.sums.now c.args.depth c.loop-at.kids c.if-need-eq0.kids c.loop-at.at c.child_at-k.result.end c.if-need-eq0.x c.loop-at.sums × SameBuffers c.args.buffers.now c.if-need-eq0.buffers = elim c.if-need-eq0.branch [
-      | optional_scores-then-need-eq0 w ↦ (taken-as w.kids-is w.x-is (optional-asked c.loop-at.invariant.at c.loop-at-test.true c.child_at-k.result.end c.child_at-k.ensures.end_is w.if-need-eq0.true (room c.loop-at.buffers) (other_room c.loop-at.buffers) c.loop-at.invariant.buffers.starts_length c.loop-at.invariant.buffers.other_starts_length w.child_bits-x.result w.child_bits-x.new.st w.child_bits-x.auto.st w.child_bits-x.ensures.bits_post), rw w.buffers-is (search rules))
-      | optional_scores-else-need-eq0 w ↦ (taken-as w.kids-is w.x-is (optional-stored c.loop-at.invariant.at c.loop-at-test.true c.child_at-k.result.end c.child_at-k.ensures.end_is w.if-need-eq0.false w.both-x.result w.stored_bits.result w.both-x.ensures w.stored_bits.ensures), rw w.buffers-is c.loop-at.invariant.buffers)
-    ] in
-    record { long = c.if-need-eq0.auto.kids ∙ c.loop-at.invariant.long; buffers = search rules; at = optional-left T.0 c.if-x-ne0.false }
+    record { long = back-length c.loop-at.kids c.optional_child_bits-x.new.st c.loop-at.at c.child_at-k.result.end c.optional_child_bits-x.auto.st ∙ c.loop-at.invariant.long; buffers = search rules; at = optional-left (optional-answer c.loop-at.invariant.at c.loop-at-test.true c.child_at-k.result.end c.child_at-k.ensures.end_is c.loop-at.invariant.buffers.starts_length c.loop-at.invariant.buffers.other_starts_length c.optional_child_bits-x.result c.optional_child_bits-x.new.st c.optional_child_bits-x.auto.st c.optional_child_bits-x.ensures.unneeded c.optional_child_bits-x.ensures.needed) c.if-x-ne0.false }
 
 pub optional_scores-returns-clause-optional_post : goal.optional_scores-returns-clause-optional_post
 optional_scores-returns-clause-optional_post t c =
