@@ -19,16 +19,10 @@ use window_leaf::phrases::{Planes, frequency_at};
 // Nothing is done. The clause says what the type of the norms says, which is not known of a slice behind the window's reader.
 fn bytes(norms: &[u8])
     ensures { (i : ℕ) → get_or norms.now i 0 < 256 }
-{
-}
+{}
 
 // A term's posting at a place: as many postings of the window stand before it as bits below it.
-pub fn term_scores(
-    st: &[u32],
-    window: &Window<'_>,
-    want: u64,
-    sums: &mut [f64],
-)
+pub fn term_scores(st: &[u32], window: &Window<'_>, want: u64, sums: &mut [f64])
     requires { TermPre st.now (reads_of window.now) want sums.old }
     ensures { TermPost st.now (reads_of window.now) want sums.old sums.new }
 {

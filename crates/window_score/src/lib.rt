@@ -149,14 +149,7 @@ fn part_scores(
     let end = n.required_end;
     let optional_end = n.optional_end;
     if end == optional_end {
-        required_scores(
-            &mut kids[..end],
-            window,
-            buffers,
-            want,
-            sums,
-            depth,
-        );
+        required_scores(&mut kids[..end], window, buffers, want, sums, depth);
         return;
     }
     if end == 0 {
@@ -215,23 +208,9 @@ fn group_scores(
         return;
     }
     let at = n.group_at;
-    required_scores(
-        &mut kids[..at],
-        window,
-        buffers,
-        want,
-        sums,
-        depth,
-    );
+    required_scores(&mut kids[..at], window, buffers, want, sums, depth);
     add_narrowed(group, want, sums);
-    required_scores(
-        &mut kids[at..],
-        window,
-        buffers,
-        want,
-        sums,
-        depth,
-    );
+    required_scores(&mut kids[at..], window, buffers, want, sums, depth);
 }
 
 // The scores of the Must children, in the order of their parts.
@@ -259,14 +238,7 @@ fn required_scores(
                     leaf::term_scores(&kids[at..end], window, want, sums);
                 }
                 _ => {
-                    node_scores(
-                        &mut kids[at..end],
-                        window,
-                        buffers,
-                        want,
-                        sums,
-                        depth,
-                    );
+                    node_scores(&mut kids[at..end], window, buffers, want, sums, depth);
                 }
             }
         }
@@ -301,14 +273,7 @@ fn optional_scores(
                     leaf::term_scores(&kids[at..end], window, x, sums);
                 }
                 _ => {
-                    node_scores(
-                        &mut kids[at..end],
-                        window,
-                        buffers,
-                        x,
-                        sums,
-                        depth,
-                    );
+                    node_scores(&mut kids[at..end], window, buffers, x, sums, depth);
                 }
             }
         }

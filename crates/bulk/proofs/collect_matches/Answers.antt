@@ -46,8 +46,8 @@ returns-in-Term-from-clause-collect_post c =
     let a = c.args in
     let W = c.alone.ensures c.if-alone.true in
     λ ix s scores H.
-          let O = only-child (lent_of a.reader.now) a.reader.now.norms.now a.reader.now.live.now a.reader.now.inverses.now ix (places_in a.buffers.now) a.depth a.st.now W s scores H in
-          rw O.same (c.collect_term-in-Term-from.ensures (lent_of a.reader.now) (places_in a.buffers.now) (a.depth - 1) refl ix O.child O.scores O.held)
+    let O = only-child (lent_of a.reader.now) a.reader.now.norms.now a.reader.now.live.now a.reader.now.inverses.now ix (places_in a.buffers.now) a.depth a.st.now W s scores H in
+    rw O.same (c.collect_term-in-Term-from.ensures (lent_of a.reader.now) (places_in a.buffers.now) (a.depth - 1) refl ix O.child O.scores O.held)
 
 pub returns-in-Term-from-clause-collect_end : goal.returns-in-Term-from-clause-collect_end
 returns-in-Term-from-clause-collect_end c =
@@ -67,8 +67,8 @@ returns-in-Everything-from-clause-collect_post c =
     let a = c.args in
     let W = c.alone.ensures c.if-alone.true in
     λ ix s scores H.
-          let O = only-child (lent_of a.reader.now) a.reader.now.norms.now a.reader.now.live.now a.reader.now.inverses.now ix (places_in a.buffers.now) a.depth a.st.now W s scores H in
-          rw O.same (c.collect_everything-in-Everything-from.ensures (lent_of a.reader.now) a.reader.now.norms.now a.reader.now.inverses.now (places_in a.buffers.now) (a.depth - 1) refl ix O.child O.scores O.held)
+    let O = only-child (lent_of a.reader.now) a.reader.now.norms.now a.reader.now.live.now a.reader.now.inverses.now ix (places_in a.buffers.now) a.depth a.st.now W s scores H in
+    rw O.same (c.collect_everything-in-Everything-from.ensures (lent_of a.reader.now) a.reader.now.norms.now a.reader.now.inverses.now (places_in a.buffers.now) (a.depth - 1) refl ix O.child O.scores O.held)
 
 pub returns-in-Everything-from-clause-collect_end : goal.returns-in-Everything-from-clause-collect_end
 returns-in-Everything-from-clause-collect_end c =
