@@ -13,9 +13,9 @@ use Rattle.meaning.specs.Ieee754.{zero_float, narrowed_sum}
 use Rattle.ieee754.specs.Nonneg.{AtMost}
 use Rattle.ieee754.proofs.Bounds.{zero-atmost}
 use Rattle.bits.specs.Bit.{bit}
-use Rattle.weight.specs.ScorerTree.{nothing, term, phrase, range, everything, constant, weighted, Joining, one_more, afterwards, Scorer, leaf, boolean, Scorers, matches, all_match, any_matches, matching, leaf_score, scorer_score, required_scores, optional_scores, joined_score}
-use Rattle.weight.specs.State.{State, words_of}
-use Rattle.weight.specs.Held.{FloatIs, ScoringIs, KeptIs, JoiningIs}
+use Rattle.weight.specs.ScorerTree.{nothing, term, phrase, range, everything, constant, weighted, Joining, Scorer, leaf, boolean, Scorers, matches, all_match, any_matches, matching, leaf_score, scorer_score, required_scores, optional_scores, joined_score}
+use Rattle.weight.specs.State.{words_of}
+use Rattle.weight.specs.Held.{FloatIs, ScoringIs, KeptIs}
 use Rattle.weight.specs.Sound.{Sound, Tables, nodes, nodes_of}
 use Rattle.leaf_score.proofs.Bounds.{scores-more, zero-32}
 use Rattle.leaf_score.proofs.Weights.{float_back, float-number}

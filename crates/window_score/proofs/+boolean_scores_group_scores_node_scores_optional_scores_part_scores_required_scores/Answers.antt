@@ -1,10 +1,9 @@
 -- The answers of the cycle: a node's scores, a Boolean's, and those of its children. Assumes nothing.
-use Rattle.std.proofs.Common.{rules, refl, sym, ◌∙◌, length, arith}
+use Rattle.std.proofs.Common.{rules, refl, sym, ◌∙◌, arith}
 use Rattle.std.proofs.lemmas.Bool.{eqb-true, eqb-false}
 use Rattle.node.specs.declared.NodeKind.TheVariants.{Term, Phrase, Boolean}
 use Rattle.node.proofs.Windows.{word-read, word-unread}
-use Rattle.leaf_scorer.specs.Buffers.{room, other_room, SameBuffers}
-use Rattle.window_score.specs.Asked.{reads_of}
+use Rattle.leaf_scorer.specs.Buffers.{room, other_room}
 use Rattle.window_score.proofs.Required.{required-start, required-end, required-there, required-skip, required-child, required-term, required-took, required-term-took}
 use Rattle.window_score.proofs.Optional.{optional-start, optional-end, optional-there, optional-long, optional-ask, optional-answer, optional-left, optional-child, optional-term, optional-took, optional-term-took}
 use Rattle.window_score.proofs.Splits.{zeros, zero-sums}
