@@ -1,6 +1,5 @@
 -- The loop over windows: the live matches before a window are collected. Assumes nothing.
 use Rattle.std.proofs.Common.{◌≡◌, refl, sym, ap, subst, ◌∙◌, Bool, true, false, ◌&&◌, List, [], ◌∷◌, ◌++◌, map, ℕ, ◌+◌, ◌-◌, ◌*◌, ◌≤◌, ◌<◌, min, ltb, length, get_or, ℤ, arith, lt-ltb, le-ltb, ⊎_elim}
-use Rattle.std.specs.Prelude.{Float}
 use mathlib.Core.List.{append_assoc, append-nil}
 use mathlib.Core.Bool.{and_assoc, false≢true}
 use Rattle.meaning.proofs.Tests.{cmp}

@@ -1,5 +1,5 @@
 -- Each loop has the contract for its kind of root; the words that a loop leaves as they were still hold the tree.
-use Rattle.std.proofs.Common.{refl, sym, ◌∙◌, ◌-◌, arith}
+use Rattle.std.proofs.Common.{refl, sym, ◌-◌, arith}
 use Rattle.leaf_scorer.specs.Calls.{lent_of}
 use Rattle.leaf_scorer.specs.Buffers.{places_in}
 use Rattle.node.proofs.Scorers.{term-word, everything-word}

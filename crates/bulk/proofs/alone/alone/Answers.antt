@@ -1,5 +1,5 @@
 -- Each word that is looked at, as the tests before a return leave it.
-use Rattle.std.proofs.Common.{sym, ◌∙◌, get_or, eqb-true, arith}
+use Rattle.std.proofs.Common.{sym, ◌∙◌, get_or, eqb-true}
 use Rattle.node.proofs.Scorers.{boolean-word, is-boolean}
 use Rattle.bulk.proofs.alone.alone.Goals as goal
 
