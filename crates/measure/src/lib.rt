@@ -14,6 +14,7 @@ ghost use Rattle.bits.specs.Bit.{bitmap_words, Bitmap};
 ghost use Rattle.measure.specs.Measures.{Held, AllMeasured, TreeMeasured, places_of, counts_of};
 ghost use Rattle.measure.specs.Tallied.{tallied, tallied_at, tally_present, tally_cost};
 
+use doc_values::Columns;
 use index::columns::NumericRange;
 use query::{Kind, Occur, kind_at, occur_at};
 
@@ -279,15 +280,13 @@ fn range_words(q: &[u32], max_doc: u32, at: usize) -> usize
 // The words beyond may hold anything.
 fn list_range(
     q: &[u32],
-    max_doc: u32,
-    columns: &[u32],
-    values: &[u32],
+    lent: &Columns,
     at: usize,
     output: &mut [u32],
 ) -> u32
-    requires at_bound { (at < record_count q.now) × (record_kind q.now at ≡ 4 → bitmap_words max_doc ≤ length output.old) }
-    requires asks { (ix : Index) × Asks ix q.now × Columns ix max_doc columns.now values.now }
-    ensures value { (ix : Index) → Asks ix q.now → Columns ix max_doc columns.now values.now → record_kind q.now at ≡ 4 → (result ≡ length (range_documents ix (range_of q.now at))) × Bitmap (leaf_matches ix (range (range_of q.now at))) output.new 0 (bitmap_words max_doc) }
+    requires at_bound { (at < record_count q.now) × (record_kind q.now at ≡ 4 → bitmap_words lent.now.max_doc ≤ length output.old) }
+    requires asks { (ix : Index) × Asks ix q.now × Columns ix lent.now.max_doc lent.now.columns.now lent.now.values.now }
+    ensures value { (ix : Index) → Asks ix q.now → Columns ix lent.now.max_doc lent.now.columns.now lent.now.values.now → record_kind q.now at ≡ 4 → (result ≡ length (range_documents ix (range_of q.now at))) × Bitmap (leaf_matches ix (range (range_of q.now at))) output.new 0 (bitmap_words lent.now.max_doc) }
     ensures output_len_unchanged { length output.new ≡ length output.old }
 {
     if kind_at(q, at) != Some(Kind::Range) {
@@ -299,28 +298,26 @@ fn list_range(
         lower: column_keys::joined(query::value(q, at, 2), query::value(q, at, 3)),
         upper: column_keys::joined(query::value(q, at, 4), query::value(q, at, 5)),
     };
-    doc_values::range_bitmap(max_doc, columns, values, range, output)
+    doc_values::range_bitmap(lent, range, output)
 }
 
 // The documents of every Range record as bitmaps, one record's after the other's: where each begins, how many documents it has.
 pub fn list_ranges(
     q: &[u32],
-    max_doc: u32,
-    columns: &[u32],
-    values: &[u32],
+    lent: &Columns,
     listed: &mut [RangeList],
     ranges: &mut [u32],
 )
     requires q_in_bounds { record_count q.now ≤ length listed.old }
-    requires asks { (ix : Index) × Asks ix q.now × Columns ix max_doc columns.now values.now × (ranges_needed ix q.now ≤ length ranges.old) }
-    ensures ranges_listed { (ix : Index) → Asks ix q.now → Columns ix max_doc columns.now values.now → RangesListed ix q.now (places_of listed.new) (counts_of listed.new) ranges.new (record_count q.now) }
+    requires asks { (ix : Index) × Asks ix q.now × Columns ix lent.now.max_doc lent.now.columns.now lent.now.values.now × (ranges_needed ix q.now ≤ length ranges.old) }
+    ensures ranges_listed { (ix : Index) → Asks ix q.now → Columns ix lent.now.max_doc lent.now.columns.now lent.now.values.now → RangesListed ix q.now (places_of listed.new) (counts_of listed.new) ranges.new (record_count q.now) }
     ensures listed_len_unchanged { (length listed.new ≡ length listed.old) × (length ranges.new ≡ length ranges.old) }
 {
     let mut used = 0;
     for at in 0..query::record_count(q) {
         let place = used as u32;
-        let count = list_range(q, max_doc, columns, values, at, &mut ranges[used..]);
+        let count = list_range(q, lent, at, &mut ranges[used..]);
         listed[at] = RangeList { place, count };
-        used += range_words(q, max_doc, at);
+        used += range_words(q, lent.max_doc, at);
     }
 }
