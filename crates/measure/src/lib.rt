@@ -8,13 +8,13 @@ ghost use Rattle.meaning.specs.Query.{record_count, record_kind, record_children
 ghost use Rattle.meaning.specs.Range.{range_documents};
 ghost use Rattle.meaning.specs.CallRefusals.{ranges_needed};
 ghost use Rattle.meaning.specs.Cost.{least};
+ghost use Rattle.index.specs.Ranges.{asked};
 ghost use Rattle.weight.specs.Measured.{Asks, Columns, RangesListed, Known, term_numbers};
 ghost use Rattle.weight.specs.ScorerTree.{range, leaf_matches};
 ghost use Rattle.bits.specs.Bit.{bitmap_words, Bitmap};
 ghost use Rattle.measure.specs.Measures.{Held, AllMeasured, TreeMeasured, places_of, counts_of};
 ghost use Rattle.measure.specs.Tallied.{tallied, tallied_at, tally_present, tally_cost};
 
-use doc_values::Columns;
 use index::columns::NumericRange;
 use query::{Kind, Occur, kind_at, occur_at};
 
@@ -276,14 +276,22 @@ fn range_words(q: &[u32], max_doc: u32, at: usize) -> usize
     }
 }
 
+// The range of the Range record at `at`.
+fn range_at(q: &[u32], at: usize) -> NumericRange
+    requires { at < record_count q.now }
+    ensures { asked result ≡ range_of q.now at }
+{
+    NumericRange {
+        column: query::value(q, at, 0),
+        kinds: query::value(q, at, 1),
+        lower: column_keys::joined(query::value(q, at, 2), query::value(q, at, 3)),
+        upper: column_keys::joined(query::value(q, at, 4), query::value(q, at, 5)),
+    }
+}
+
 // The documents of the Range record at `at` as a bitmap at the front of the output, and how many there are; another record has none.
 // The words beyond may hold anything.
-fn list_range(
-    q: &[u32],
-    lent: &Columns,
-    at: usize,
-    output: &mut [u32],
-) -> u32
+fn list_range(q: &[u32], lent: &doc_values::Columns, at: usize, output: &mut [u32]) -> u32
     requires at_bound { (at < record_count q.now) × (record_kind q.now at ≡ 4 → bitmap_words lent.now.max_doc ≤ length output.old) }
     requires asks { (ix : Index) × Asks ix q.now × Columns ix lent.now.max_doc lent.now.columns.now lent.now.values.now }
     ensures value { (ix : Index) → Asks ix q.now → Columns ix lent.now.max_doc lent.now.columns.now lent.now.values.now → record_kind q.now at ≡ 4 → (result ≡ length (range_documents ix (range_of q.now at))) × Bitmap (leaf_matches ix (range (range_of q.now at))) output.new 0 (bitmap_words lent.now.max_doc) }
@@ -292,19 +300,13 @@ fn list_range(
     if kind_at(q, at) != Some(Kind::Range) {
         return 0;
     }
-    let range = NumericRange {
-        column: query::value(q, at, 0),
-        kinds: query::value(q, at, 1),
-        lower: column_keys::joined(query::value(q, at, 2), query::value(q, at, 3)),
-        upper: column_keys::joined(query::value(q, at, 4), query::value(q, at, 5)),
-    };
-    doc_values::range_bitmap(lent, range, output)
+    doc_values::range_bitmap(lent, range_at(q, at), output)
 }
 
 // The documents of every Range record as bitmaps, one record's after the other's: where each begins, how many documents it has.
 pub fn list_ranges(
     q: &[u32],
-    lent: &Columns,
+    lent: &doc_values::Columns,
     listed: &mut [RangeList],
     ranges: &mut [u32],
 )
