@@ -25,6 +25,7 @@ use Rattle.doc_values.specs.RangeRight.{RangeRight}
 use Rattle.doc_values.proofs.Lists.{any_none}
 use Rattle.doc_values.proofs.Ranges.{columns_of, range-of-columns, in-range-of-columns, wrong1-of-columns, wrong6-of-columns, wrong_range-of-columns}
 use Rattle.query.proofs.Accepted.{range-right}
+use Rattle.query.proofs.Whole.{whole as whole_query}
 use Rattle.weight.proofs.Measures.{from_or}
 use Rattle.weight.specs.ScorerTree.{range, leaf_matches}
 use Rattle.bits.specs.Bit.{bit, bitmap_words, Bitmap}
@@ -135,9 +136,9 @@ count-mono (suc a) (suc b) p h = elim (from_or a b (omega (arith, h))) [
   | inr g ↦ let k = count-mono (suc a) b p (omega (arith, g)) in omega (arith, k)
 ]
 
-pub room : (ix : Index) (q columns values ranges : List ℕ) (n at used : ℕ) → Asks ix q → Columns ix n columns values → ranges_needed ix q ≤ length ranges → record_count q ≤ 256 → at < record_count q → used ≡ words_to q (bitmap_words n) at → Room q n at used ranges
+pub room : {ix : Index} {q columns values : List ℕ} {n : ℕ} → Asks ix q → Columns ix n columns values → (ranges : List ℕ) (at used : ℕ) → ranges_needed ix q ≤ length ranges → at < record_count q → used ≡ words_to q (bitmap_words n) at → Room q n at used ranges
 unfolding range_records
-room ix q columns values ranges n at used a cs need few h e =
+room {ix} {q} {columns} {values} {n} a cs ranges at used need h e =
     let p = is_range q in
     let all = count_below (record_count q) p in
     let enough = needed-enough ix q in
@@ -161,7 +162,7 @@ room ix q columns values ranges n at used a cs need few h e =
     same-le m = omega arith
 
     few-count : count_below at (is_range q) ≤ at → count_below at (is_range q) ≤ 256
-    few-count k = omega (arith, k, h, few)
+    few-count k = omega (arith, k, h, (whole_query q a.records-right).few-records)
 
 front : (xs zs : List ℕ) (n j : ℕ) → j < n → n ≤ length xs → get_or (take n xs ++ zs) j 0 ≡ get_or xs j 0
 front xs zs n j h g = get_or-append (take n xs) zs 0 j (rw (length-take n xs) (omega (arith, h, g))) ∙ get_or-take n xs j 0 h
