@@ -1,4 +1,4 @@
-use Rattle.std.proofs.Common.{◌<◌, ◌^◌, ◌+◌, ◌*◌, ℕ, ap, ◌∙◌, arith}
+use Rattle.std.proofs.Common.{◌<◌, ◌^◌, ◌+◌, ◌*◌, ap, ◌∙◌, arith}
 use Rattle.meaning.specs.Lent.{column_type}
 use Rattle.meaning.specs.Entries.{columns_only}
 use Rattle.index.specs.Ranges.{asked}
