@@ -18,7 +18,8 @@ ghost use Rattle.measure.specs.Tallied.{tallied, tallied_at, tally_present, tall
 use index::columns::NumericRange;
 use query::{Kind, Occur, kind_at, occur_at};
 
-// Of a tree: the record after it, whether it has a scorer, and its cost, which a tree without a scorer has too.
+// Of a tree: the record after it, whether it has a scorer, and its cost.
+// Kept: `present` is no Option's: a tree without a scorer has a cost too.
 #[derive(Clone, Copy)]
 pub struct Measure {
     pub next: usize,
@@ -34,6 +35,7 @@ pub struct RangeList {
 }
 
 // Of a Boolean's clauses: some is required; one of those lacks a scorer; the least cost of those that have one; the Shoulds with a scorer, and their cost together.
+// Kept: an Option or enum would say no more: `least` is None where nothing is required and where nothing required has a scorer.
 #[derive(Clone, Copy)]
 pub struct Tally {
     pub required: bool,
@@ -114,6 +116,7 @@ fn tally_clause(t: Tally, occurrence: Option<Occur>, m: Measure) -> Tally
 }
 
 // How many Shoulds must match: without Must and Filter at least one.
+// Kept: `required` is what is true of the clauses, a value of the equation, and turns no step on.
 pub fn shoulds_needed(required: bool, msm: u32) -> u32
     ensures { result ≡ cond required msm (max 1 msm) }
 {

@@ -1,20 +1,20 @@
 -- The cycle of calls that places a tree: a tree, a Boolean, its required clauses, its others, and a list of clauses.
 use borrow.Rule.Slice.PartMut.{put_mid, same_len_mid, mid_len, post_of}
-use Rattle.std.proofs.Common.{◌≡◌, ◌≤◌, ◌<◌, Bool, List, cond, ℕ, ◌+◌, ◌-◌, refl, sym, ◌∙◌, ap, length, take, get_or, arith, rules}
+use Rattle.std.proofs.Common.{◌≡◌, ◌≤◌, ◌<◌, Bool, List, cond, ℕ, ◌+◌, ◌-◌, refl, ◌∙◌, ap, length, take, arith, rules}
 use Rattle.std.specs.Prelude.{is_some}
 use Rattle.meaning.specs.Limits.{node_state_words}
 use Rattle.meaning.specs.Query.{is_must}
 use Rattle.query.specs.Kinds.{kind_number, occur_number}
 use Rattle.clauses.specs.Clauses.{wanted_at}
-use Rattle.measure.proofs.Arrays.{no_measure, present-at, presents-long}
+use Rattle.measure.proofs.Arrays.{present-at}
 use Rattle.node_words.specs.Placed.{kept_score}
 use Rattle.node_words.specs.Prepared.{given}
 use Rattle.node_words.proofs.AtRecord.{TreeHere, tree-here}
-use Rattle.node_words.proofs.Kept.{kept-or, not-none}
+use Rattle.node_words.proofs.Kept.{kept-or}
 use Rattle.build.proofs.Found.{marked, from-there}
 use Rattle.build.proofs.PlacingLists.{kept-nothing, list-starts, list-here, list-within, list-ends, list-tree, list-fits, list-more}
 use Rattle.build.proofs.PlacingParts.{others-known, others-listed, others-placed, required-known, required-here, required-first, required-within, required-second, required-fits, required-placed}
-use Rattle.build.proofs.PlacingBooleans.{tree-room, tree-deep, tree-kept, nothing_placed, boolean-known, boolean-required, first_fits, boolean-optional, second_fits, boolean-prohibited, whole-fits, whole-small, group-within, whole-placed}
+use Rattle.build.proofs.PlacingBooleans.{tree-deep, tree-kept, nothing_placed, boolean-known, boolean-required, first_fits, boolean-optional, second_fits, boolean-prohibited, whole-fits, whole-small, group-within, whole-placed}
 use Rattle.build.proofs.PlacingBelow.{constant-asked, constant-placed, boost-asked, boost-placed, boost-number-here}
 use Rattle.build.proofs.tree.+placing.Goals.{place-Start, place_boolean-Start, place_boolean-After-place_required-first, place_boolean-After-place_others-shoulds, place_boolean-After-place_others-nots, place_required-After-place_list-group_at}
 use Rattle.build.proofs.tree.+placing.Goals as goal
