@@ -3,7 +3,6 @@ use mathlib.Core.Path.{◌≡◌, refl, sym}
 use mathlib.Core.Bool.{true, false}
 use mathlib.Core.List.{List, []}
 use Prim.Native.Nat.{ℕ, ◌≤◌, ◌<◌}
-use native.Mathlib.Omega.{arith}
 use lib.Dec.{ltb, lit<}
 use lib.ListN.{length}
 use borrow.Author.Tests.{lt-ltb, le-ltb, ltb-false}
@@ -13,7 +12,7 @@ use Rattle.meaning.specs.Refusals.{lowest}
 use Rattle.meaning.specs.IndexRefusals.{wrong1, wrong6}
 use Rattle.meaning.specs.QueryRefusals.{wrong_range}
 use Rattle.meaning.specs.CallRefusals.{wrong12_range}
-use Rattle.meaning.specs.Entries.{written, Kept, columns_only, range_refusal, range_answer, range_output}
+use Rattle.meaning.specs.Entries.{written, columns_only, range_refusal, range_answer, range_output}
 use Rattle.index.specs.Slices.{lent}
 use Rattle.meaning.proofs.Tests.{true-left, true-right, or_right}
 use Rattle.std.proofs.Common.{Ok, Err}
@@ -96,6 +95,3 @@ module _ (ix : Index) (r : NumericRange) (work output : List ℕ) where
     pub done-output : (output' : List ℕ) → output' ≡ written (range_documents ix r) output → output' ≡ range_output ix r (length work) output
     unfolding range_output
     done-output output' f = rw (← is, f) refl
-
-    pub done-kept : (work' : List ℕ) → Kept (range_refusal ix r (length work) (length output)) work work'
-    done-kept work' h = absurd (omega (arith, is, h))

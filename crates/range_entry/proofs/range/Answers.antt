@@ -2,7 +2,7 @@ use Rattle.std.proofs.Common.{◌≡◌, Result, Err, rules, ℕ}
 use Rattle.refusal.specs.declared.Refusal.{Refusal}
 use Rattle.index.specs.Ranges.{asked}
 use Rattle.doc_values.specs.ColumnsOf.{columns_of}
-use Rattle.range_entry.proofs.RangeEntry.{range-allowed, refused-answer, refused-output, done-answer, done-output, done-kept}
+use Rattle.range_entry.proofs.RangeEntry.{range-allowed, refused-answer, refused-output, done-answer, done-output}
 use Rattle.range_entry.proofs.range.Goals as goal
 
 pub returns-in_err-range_refusal-clause-result_value : goal.returns-in_err-range_refusal-clause-result_value
@@ -25,6 +25,3 @@ returns-clause-result_value c = done-answer (columns_of c.args.lent.now) (asked 
 
 pub returns-clause-output_after : goal.returns-clause-output_after
 returns-clause-output_after c = done-output (columns_of c.args.lent.now) (asked c.args.range) c.args.work.now _ c.in_ok-range_refusal.ensures _ c.range.ensures.output_after
-
-pub returns-clause-kept : goal.returns-clause-kept
-returns-clause-kept c = done-kept (columns_of c.args.lent.now) (asked c.args.range) c.args.work.now c.args.output.now c.in_ok-range_refusal.ensures _
