@@ -1,15 +1,17 @@
 -- What the first pass found, as one list of structs. Assumes nothing.
-use mathlib.Core.Path.{◌≡◌, ap, subst}
+use mathlib.Core.Path.{◌≡◌, sym, ◌∙◌, ap, subst}
+use mathlib.Core.Bool.{true}
 use mathlib.Core.List.{List}
 use Prim.Native.Nat.{ℕ, ◌-◌, ◌≤◌}
 use native.Mathlib.Omega.{arith}
-use lib.ListN.{length, take, drop, length-drop}
+use lib.ListN.{length, get_or, take, drop, length-drop}
 use lib.Seq.{take_all}
 use Rattle.meaning.specs.Lent.{Index}
 use Rattle.weight.specs.Measured.{Measured}
 use Rattle.measure.specs.declared.Measure.{Measure}
 use Rattle.measure.specs.Measures.{nexts_of, presents_of, costs_of, AllMeasured}
-use Rattle.measure.proofs.Arrays.{presents-long}
+use Rattle.measure.proofs.Arrays.{no_measure, present-at, presents-long}
+use Rattle.node_words.proofs.Kept.{not-none}
 use Rattle.node_words.specs.Prepared.{Records}
 
 abbrev pub MeasuresAre : Records → List Measure → Type 0
@@ -23,6 +25,10 @@ all-measured E ms are ix m =
 
 pub measures-long : (E : Records) (ms : List Measure) → MeasuresAre E ms → (n : ℕ) → n ≤ length E.presents → n ≤ length ms
 measures-long E ms are n h = let a = ap length are.1 in let b = presents-long ms in omega (arith, h, a, b)
+
+-- one that is measured as present is marked so
+pub marked : (ms : List Measure) (at : ℕ) → (get_or ms at no_measure).present ≡ true → get_or (presents_of ms) at 0 ≡ 0 → ⊥
+marked ms at e z = not-none (get_or ms at no_measure).present e (sym (present-at ms at) ∙ z)
 
 -- the part of a list from a place on
 pub from-there : (list : List ℕ) (n : ℕ) → take (length list - n) (drop n list) ≡ drop n list

@@ -13,8 +13,10 @@ ghost use Rattle.weight.specs.Measured.{Asks, Columns};
 ghost use Rattle.weight.specs.Weigh.{weigh};
 ghost use Rattle.node_words.specs.Placed.{Placed, LeafLent};
 
+use index::lent::Lent;
 use measure::{Measure, RangeList};
 use node_words::place::{Passed, Records};
+use query::record_count;
 
 // An order of so many records gets by with small arrays: to clear the largest takes longer than such an order.
 const FEW_RECORDS: usize = 16;
@@ -22,56 +24,48 @@ const FEW_RECORDS: usize = 16;
 const MAX_RECORDS: usize = 256;
 
 // The whole query: its scorer tree in the node states, the documents of its Range records in the range buffer; how many words of the states it takes.
-pub fn build(
-    max_doc: u32,
-    fields: &[u32],
-    leaves: &[u32],
-    columns: &[u32],
-    values: &[u32],
-    q: &[u32],
-    states: &mut [u32],
-    ranges: &mut [u32],
-) -> usize
-    requires { (ix : Index) × Asks ix q.now × LeafLent ix max_doc fields.now leaves.now × Columns ix max_doc columns.now values.now × (states_needed q.now ≤ length states.old) × (ranges_needed ix q.now ≤ length ranges.old) }
-    ensures placed { (ix : Index) → Asks ix q.now → LeafLent ix max_doc fields.now leaves.now → Columns ix max_doc columns.now values.now → Placed ix ranges.new (weigh ix (query_tree q.now) one none) 16 0 result states.new }
+pub fn build(lent: &Lent, query: &[u32], states: &mut [u32], ranges: &mut [u32]) -> usize
+    requires { (ix : Index) × Asks ix query.now × LeafLent ix lent.now.max_doc lent.now.fields.now lent.now.leaves.now × Columns ix lent.now.max_doc lent.now.columns.now lent.now.values.now × (states_needed query.now ≤ length states.old) × (ranges_needed ix query.now ≤ length ranges.old) }
+    ensures placed { (ix : Index) → Asks ix query.now → LeafLent ix lent.now.max_doc lent.now.fields.now lent.now.leaves.now → Columns ix lent.now.max_doc lent.now.columns.now lent.now.values.now → Placed ix ranges.new (weigh ix (query_tree query.now) one none) 16 0 result states.new }
     ensures states_len_unchanged { (length states.new ≡ length states.old) × (length ranges.new ≡ length ranges.old) }
 {
-    if query::record_count(q) <= FEW_RECORDS {
-        build_in::<FEW_RECORDS>(max_doc, fields, leaves, columns, values, q, states, ranges)
+    if record_count(query) <= FEW_RECORDS {
+        build_in::<FEW_RECORDS>(lent, query, states, ranges)
     } else {
-        build_in::<MAX_RECORDS>(max_doc, fields, leaves, columns, values, q, states, ranges)
+        build_in::<MAX_RECORDS>(lent, query, states, ranges)
     }
 }
 
 // The same of an order of at most N records.
 fn build_in<const N: usize>(
-    max_doc: u32,
-    fields: &[u32],
-    leaves: &[u32],
-    columns: &[u32],
-    values: &[u32],
-    q: &[u32],
+    lent: &Lent,
+    query: &[u32],
     states: &mut [u32],
     ranges: &mut [u32],
 ) -> usize
-    requires few { (record_count q.now ≤ N) × (N ≤ 256) }
-    requires asks { (ix : Index) × Asks ix q.now × LeafLent ix max_doc fields.now leaves.now × Columns ix max_doc columns.now values.now × (states_needed q.now ≤ length states.old) × (ranges_needed ix q.now ≤ length ranges.old) }
-    ensures placed { (ix : Index) → Asks ix q.now → LeafLent ix max_doc fields.now leaves.now → Columns ix max_doc columns.now values.now → Placed ix ranges.new (weigh ix (query_tree q.now) one none) 16 0 result states.new }
+    requires few { (record_count query.now ≤ N) × (N ≤ 256) }
+    requires asks { (ix : Index) × Asks ix query.now × LeafLent ix lent.now.max_doc lent.now.fields.now lent.now.leaves.now × Columns ix lent.now.max_doc lent.now.columns.now lent.now.values.now × (states_needed query.now ≤ length states.old) × (ranges_needed ix query.now ≤ length ranges.old) }
+    ensures placed { (ix : Index) → Asks ix query.now → LeafLent ix lent.now.max_doc lent.now.fields.now lent.now.leaves.now → Columns ix lent.now.max_doc lent.now.columns.now lent.now.values.now → Placed ix ranges.new (weigh ix (query_tree query.now) one none) 16 0 result states.new }
     ensures states_len_unchanged { (length states.new ≡ length states.old) × (length ranges.new ≡ length ranges.old) }
 {
     let mut listed = [RangeList { place: 0, count: 0 }; N];
-    measure::list_ranges(q, max_doc, columns, values, &mut listed, ranges);
+    let columns = doc_values::Columns {
+        max_doc: lent.max_doc,
+        columns: lent.columns,
+        values: lent.values,
+    };
+    measure::list_ranges(query, &columns, &mut listed, ranges);
     let mut measures = [Measure {
         next: 0,
         present: false,
         cost: 0,
     }; N];
-    measure::measure_all(q, max_doc, leaves, &listed, &mut measures);
+    measure::measure_all(query, lent.max_doc, lent.leaves, &listed, &mut measures);
     let records = Records {
-        query: q,
-        max_doc,
-        fields,
-        leaves,
+        query,
+        max_doc: lent.max_doc,
+        fields: lent.fields,
+        leaves: lent.leaves,
         measures: &measures,
         listed: &listed,
     };

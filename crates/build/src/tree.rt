@@ -104,6 +104,7 @@ pub struct Parts {
 }
 
 // The record of a Boolean.
+// Kept: `afterwards` is a word of the record, and turns no step on.
 fn put_boolean(
     st: &mut [u32],
     parts: Parts,
@@ -185,6 +186,7 @@ fn place_boolean(st: &mut [u32], records: &Records, at: usize, passed: Passed, d
 }
 
 // With msm 0 and something required, the Should sum is added to the required score.
+// Kept: `required` is what is true of the clauses, a value of the equation, and turns no step on.
 fn joins_afterwards(required: bool, msm: u32) -> bool
     ensures { result ≡ (required && eqb msm 0) }
 {

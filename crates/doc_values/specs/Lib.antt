@@ -1,2 +1,4 @@
 -- What the contracts of this crate cite beside the definitions of `meaning`.
+pub mod ColumnsOf
 pub mod Listed
+pub mod RangeRight

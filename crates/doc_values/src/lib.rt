@@ -3,25 +3,32 @@
 
 mod ready;
 
-ghost use Rattle.std.specs.Prelude.{ℕ, ◌+◌, ◌-◌, ◌*◌, ◌≤◌, ◌<◌, ◌≡◌, false, ◌&&◌, ltb, length};
+ghost use Rattle.std.specs.Prelude.{ℕ, ◌+◌, ◌-◌, ◌*◌, ◌≤◌, ◌<◌, ◌≡◌, ◌&&◌, ltb, length};
 ghost use Rattle.meaning.specs.Below.{list_below};
 ghost use Rattle.meaning.specs.Range.{in_range, range_documents};
-ghost use Rattle.meaning.specs.IndexRefusals.{wrong1, wrong6};
-ghost use Rattle.meaning.specs.QueryRefusals.{wrong_range};
 ghost use Rattle.meaning.specs.Entries.{written, columns_only};
 ghost use Rattle.index.specs.Ranges.{asked};
 ghost use Rattle.bits.specs.Bit.{bit, bitmap_words, Bitmap};
+ghost use Rattle.doc_values.specs.ColumnsOf.{columns_of};
 ghost use Rattle.doc_values.specs.Listed.{listed};
+ghost use Rattle.doc_values.specs.RangeRight.{RangeRight};
 
 use column_keys::column_type::ColumnType;
 use index::columns::NumericRange;
 use ready::Ready;
 
+// The columns of so many documents, and their values.
+#[derive(Clone, Copy)]
+pub struct Columns<'a> {
+    pub max_doc: u32,
+    pub columns: &'a [u32],
+    pub values: &'a [u32],
+}
+
 impl<'a> Ready<'a> {
+    // Kept: over `Columns` the proof did not close; that each word is below 2^32 is known of a slice and not of a struct's field.
     fn new(max_doc: u32, columns: &[u32], values: &'a [u32], range: NumericRange) -> Ready<'a>
-        requires values_value { wrong1 (columns_only max_doc columns.now values.now) ≡ false }
-        requires values_value_2 { wrong6 (columns_only max_doc columns.now values.now) ≡ false }
-        requires range_value { wrong_range (columns_only max_doc columns.now values.now) (asked range) ≡ false }
+        requires right { RangeRight (columns_only max_doc columns.now values.now) (asked range) }
         ensures all { result.max_doc ≡ max_doc }
         ensures takes { (d : ℕ) → listed result d ≡ in_range (columns_only max_doc columns.now values.now) (asked range) d }
     {
@@ -110,39 +117,22 @@ impl<'a> Ready<'a> {
 }
 
 // The documents of a column whose value lies in a range, ascending, to the front of the output, and how many there are.
-// Kept: `measure` and the entry hold N, columns and values as numbers and slices, and would make a struct of them for this call alone.
-pub fn range(
-    max_doc: u32,
-    columns: &[u32],
-    values: &[u32],
-    range: NumericRange,
-    output: &mut [u32],
-) -> u32
-    requires values_value { wrong1 (columns_only max_doc columns.now values.now) ≡ false }
-    requires values_value_2 { wrong6 (columns_only max_doc columns.now values.now) ≡ false }
-    requires range_value { wrong_range (columns_only max_doc columns.now values.now) (asked range) ≡ false }
-    requires max_doc_in_bounds { max_doc ≤ length output.old }
-    ensures value { result ≡ length (range_documents (columns_only max_doc columns.now values.now) (asked range)) }
-    ensures output_after { output.new ≡ written (range_documents (columns_only max_doc columns.now values.now) (asked range)) output.old }
+pub fn range(lent: &Columns, range: NumericRange, output: &mut [u32]) -> u32
+    requires right { RangeRight (columns_of lent.now) (asked range) }
+    requires max_doc_in_bounds { lent.now.max_doc ≤ length output.old }
+    ensures value { result ≡ length (range_documents (columns_of lent.now) (asked range)) }
+    ensures output_after { output.new ≡ written (range_documents (columns_of lent.now) (asked range)) output.old }
 {
-    Ready::new(max_doc, columns, values, range).scan(output)
+    Ready::new(lent.max_doc, lent.columns, lent.values, range).scan(output)
 }
 
 // The same documents as a bitmap at the front of a work buffer, of which the words beyond may hold anything; how many there are.
-pub fn range_bitmap(
-    max_doc: u32,
-    columns: &[u32],
-    values: &[u32],
-    range: NumericRange,
-    output: &mut [u32],
-) -> u32
-    requires values_value { wrong1 (columns_only max_doc columns.now values.now) ≡ false }
-    requires values_value_2 { wrong6 (columns_only max_doc columns.now values.now) ≡ false }
-    requires range_value { wrong_range (columns_only max_doc columns.now values.now) (asked range) ≡ false }
-    requires bitmap_fits { bitmap_words max_doc ≤ length output.old }
-    ensures value { result ≡ length (range_documents (columns_only max_doc columns.now values.now) (asked range)) }
-    ensures bitmap { Bitmap (λ d. ltb d max_doc && in_range (columns_only max_doc columns.now values.now) (asked range) d) output.new 0 (bitmap_words max_doc) }
+pub fn range_bitmap(lent: &Columns, range: NumericRange, output: &mut [u32]) -> u32
+    requires right { RangeRight (columns_of lent.now) (asked range) }
+    requires bitmap_fits { bitmap_words lent.now.max_doc ≤ length output.old }
+    ensures value { result ≡ length (range_documents (columns_of lent.now) (asked range)) }
+    ensures bitmap { Bitmap (λ d. ltb d lent.now.max_doc && in_range (columns_of lent.now) (asked range) d) output.new 0 (bitmap_words lent.now.max_doc) }
     ensures output_len_unchanged { length output.new ≡ length output.old }
 {
-    Ready::new(max_doc, columns, values, range).sift(output)
+    Ready::new(lent.max_doc, lent.columns, lent.values, range).sift(output)
 }

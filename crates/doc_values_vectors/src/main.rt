@@ -93,11 +93,9 @@ fn is_bounded(kinds: u32) -> bool {
 // A column of an index that is not refused.
 #[derive(Clone, Copy)]
 struct Column<'a> {
-    max_doc: u32,
-    columns: &'a [u32],
-    values: &'a [u32],
+    lent: doc_values::Columns<'a>,
     column: u32,
-    ghost right: { Columns max_doc columns.now values.now column },
+    ghost right: { Columns lent.max_doc lent.columns.now lent.values.now column },
 }
 
 impl Column<'_> {
@@ -111,7 +109,7 @@ impl Column<'_> {
             lower: end_of(kinds % 3, lower),
             upper: end_of(kinds / 3, upper),
         };
-        let n = doc_values::range(self.max_doc, self.columns, self.values, range, &mut output);
+        let n = doc_values::range(&self.lent, range, &mut output);
         writeln!(out, "{}", List(first(&output, n as usize)))
     }
 
@@ -151,13 +149,12 @@ impl Column<'_> {
 fn print_column(out: &mut impl Write, max_doc: u32, columns: &[u32], column: u32) -> io::Result<()>
     requires { Columns max_doc columns.now VALUES column }
 {
-    let column = Column {
+    let lent = doc_values::Columns {
         max_doc,
         columns,
         values: &VALUES,
-        column,
     };
-    column.print(out)
+    Column { lent, column }.print(out)
 }
 
 // The values as one column of eighteen documents, of either type, and as three columns of six.

@@ -12,18 +12,20 @@ use lib.Seq.{get_or-set_same, get_or-set_other, get_or-take, get_or-append-add}
 use borrow.Author.Tests.{le-ltb, eq-eqb, eqb-true}
 use Rattle.meaning.specs.Below.{count_below}
 use Rattle.meaning.specs.Limits.{max_documents}
-use Rattle.meaning.specs.Lent.{Index, joined, column_count, column_type, value_present}
+use Rattle.meaning.specs.Lent.{Index, column_count, column_type, value_present}
 use Rattle.meaning.specs.Range.{NumericRange, in_range, range_documents}
 use Rattle.meaning.specs.Entries.{columns_only}
 use Rattle.meaning.specs.IndexRefusals.{wrong1, wrong6, wrong_column}
 use Rattle.meaning.specs.QueryRefusals.{wrong_range}
 use Rattle.meaning.specs.CallRefusals.{range_records, ranges_needed}
-use Rattle.meaning.specs.Query.{record_count, record_kind, record_value, range_of}
+use Rattle.meaning.specs.Query.{record_count, record_kind, range_of}
 use Rattle.index.specs.Accepted.{Accepted}
 use Rattle.index.proofs.Below.{count-more, count-lt, count_none, count-le}
+use Rattle.doc_values.specs.RangeRight.{RangeRight}
 use Rattle.doc_values.proofs.Lists.{any_none}
 use Rattle.doc_values.proofs.Ranges.{columns_of, range-of-columns, in-range-of-columns, wrong1-of-columns, wrong6-of-columns, wrong_range-of-columns}
 use Rattle.query.proofs.Accepted.{range-right}
+use Rattle.query.proofs.Whole.{whole as whole_query}
 use Rattle.weight.proofs.Measures.{from_or}
 use Rattle.weight.specs.ScorerTree.{range, leaf_matches}
 use Rattle.bits.specs.Bit.{bit, bitmap_words, Bitmap}
@@ -53,15 +55,13 @@ module _ (ix : Index) (q columns values : List ℕ) (n at : ℕ) (a : Asks ix q)
   lent-columns : columns_of ix ≡ columns_only n columns values
   lent-columns = rw (cs.documents, cs.columns-are, cs.values-are)
 
-  module _ (v0 v1 v2 v3 v4 v5 lower upper : ℕ) (e0 : v0 ≡ record_value q at 0) (e1 : v1 ≡ record_value q at 1) (e2 : v2 ≡ record_value q at 2) (e3 : v3 ≡ record_value q at 3) (e4 : v4 ≡ record_value q at 4) (e5 : v5 ≡ record_value q at 5) (el : lower ≡ joined v2 v3) (eu : upper ≡ joined v4 v5) where
-    abbrev said : NumericRange
-    said = record { column = v0; kinds = v1; lower = lower; upper = upper }
-
-    said-is : said ≡ range_of q at
-    said-is = rw (el, eu, e0, e1, e2, e3, e4, e5)
-
-    pub range-asks : (wrong1 (columns_only n columns values) ≡ false) × (wrong6 (columns_only n columns values) ≡ false) × (wrong_range (columns_only n columns values) said ≡ false)
-    range-asks = (sym (ap wrong1 lent-columns) ∙ sym (wrong1-of-columns ix) ∙ right1 ix a.accepted, sym (ap wrong6 lent-columns) ∙ sym (wrong6-of-columns ix) ∙ right6 ix a.accepted, ap (wrong_range (columns_only n columns values)) said-is ∙ sym (ap (λ (i : Index). wrong_range i (range_of q at)) lent-columns) ∙ sym (wrong_range-of-columns ix (range_of q at)) ∙ range-right ix q a.values-right at h kind)
+  module _ (said : NumericRange) (said-is : said ≡ range_of q at) where
+    pub range-asks : RangeRight (columns_only n columns values) said
+    range-asks = record {
+      documents = sym (ap wrong1 lent-columns) ∙ sym (wrong1-of-columns ix) ∙ right1 ix a.accepted;
+      columns = sym (ap wrong6 lent-columns) ∙ sym (wrong6-of-columns ix) ∙ right6 ix a.accepted;
+      range = ap (wrong_range (columns_only n columns values)) said-is ∙ sym (ap (λ (i : Index). wrong_range i (range_of q at)) lent-columns) ∙ sym (wrong_range-of-columns ix (range_of q at)) ∙ range-right ix q a.values-right at h kind;
+    }
 
     pub range_gives : range_documents (columns_only n columns values) said ≡ range_documents ix (range_of q at)
     range_gives = ap (range_documents (columns_only n columns values)) said-is ∙ sym (ap (λ (i : Index). range_documents i (range_of q at)) lent-columns) ∙ sym (range-of-columns ix (range_of q at))
@@ -136,9 +136,9 @@ count-mono (suc a) (suc b) p h = elim (from_or a b (omega (arith, h))) [
   | inr g ↦ let k = count-mono (suc a) b p (omega (arith, g)) in omega (arith, k)
 ]
 
-pub room : (ix : Index) (q columns values ranges : List ℕ) (n at used : ℕ) → Asks ix q → Columns ix n columns values → ranges_needed ix q ≤ length ranges → record_count q ≤ 256 → at < record_count q → used ≡ words_to q (bitmap_words n) at → Room q n at used ranges
+pub room : {ix : Index} {q columns values : List ℕ} {n : ℕ} → Asks ix q → Columns ix n columns values → (ranges : List ℕ) (at used : ℕ) → ranges_needed ix q ≤ length ranges → at < record_count q → used ≡ words_to q (bitmap_words n) at → Room q n at used ranges
 unfolding range_records
-room ix q columns values ranges n at used a cs need few h e =
+room {ix} {q} {columns} {values} {n} a cs ranges at used need h e =
     let p = is_range q in
     let all = count_below (record_count q) p in
     let enough = needed-enough ix q in
@@ -162,7 +162,7 @@ room ix q columns values ranges n at used a cs need few h e =
     same-le m = omega arith
 
     few-count : count_below at (is_range q) ≤ at → count_below at (is_range q) ≤ 256
-    few-count k = omega (arith, k, h, few)
+    few-count k = omega (arith, k, h, (whole_query q a.records-right).few-records)
 
 front : (xs zs : List ℕ) (n j : ℕ) → j < n → n ≤ length xs → get_or (take n xs ++ zs) j 0 ≡ get_or xs j 0
 front xs zs n j h g = get_or-append (take n xs) zs 0 j (rw (length-take n xs) (omega (arith, h, g))) ∙ get_or-take n xs j 0 h

@@ -17,7 +17,8 @@ use Rattle.meaning.specs.Cost.{least, costs_of, sum, disjunction_cost, conjuncti
 use Rattle.query.proofs.Inverse.{some_same, BooleanAt, boolean-at}
 use Rattle.query.proofs.Above.{first-clause}
 use Rattle.query.proofs.Spans.{tree-span}
-use Rattle.weight.proofs.Standing.{deep}
+use Rattle.weight.specs.Measured.{Asks}
+use Rattle.weight.proofs.Standing.{deep, clauses-at}
 use Rattle.measure.specs.declared.Tally.{Tally}
 use Rattle.measure.specs.declared.Measure.{Measure}
 use Rattle.measure.specs.Measures.{AllMeasured, TreeMeasured}
@@ -253,6 +254,13 @@ pub record Left (ix : Index) (q : List ℕ) (k at left next : ℕ) (t : Tally) (
   pub few : t.shoulds + left ≤ record_children q at
   pub within : next ≤ record_count q
 
+-- what the code asks at a clause
+pub record OneLeft (q : List ℕ) (next : ℕ) (t : Tally) (m : Measure) : Type 0 where
+  pub here : next < record_count q
+  pub few-records : record_count q ≤ 256
+  pub fits : t.group + m.cost < 18446744073709551616
+  pub few : t.shoulds < 1000
+
 module _ (ix : Index) (q : List ℕ) (k at : ℕ) (C : DecodedClauses) where
   pub left-begins : at < record_count q → decode_clauses q (decode q k) (record_children q at) (at + 1) ≡ some C → Left ix q k at (record_children q at) (at + 1) untallied C
   left-begins h e =
@@ -301,13 +309,7 @@ module _ (ix : Index) (q : List ℕ) (k at : ℕ) (C : DecodedClauses) where
       (ap DecodedClauses.next same ∙ l.end_is, ap (λ (D : DecodedClauses). after ix t D.clauses) same ∙ l.tally-is)
   left-ends (suc left) next t h l = absurd (omega (arith, h))
 
-  -- what the code asks at a clause
-  pub record OneLeft (next : ℕ) (t : Tally) (m : Measure) : Type 0 where
-    pub here : next < record_count q
-    pub fits : t.group + m.cost < 18446744073709551616
-    pub few : t.shoulds < 1000
-
-  pub one_left : (ms : List Measure) (left next : ℕ) (t : Tally) → record_count q ≤ 256 → record_children q at ≤ 64 → AllMeasured ix q ms (at + 1) → Left ix q k at left next t C → 0 < left → OneLeft next t (get_or ms next no_measure)
+  one_left : (ms : List Measure) (left next : ℕ) (t : Tally) → record_count q ≤ 256 → record_children q at ≤ 64 → AllMeasured ix q ms (at + 1) → Left ix q k at left next t C → 0 < left → OneLeft q next t (get_or ms next no_measure)
   one_left ms left next t records clauses m l h =
       let o = first-clause q (decode q k) left next l.rest h l.rest-is in
       let ahead = l.group-small in
@@ -318,7 +320,13 @@ module _ (ix : Index) (q : List ℕ) (k at : ℕ) (C : DecodedClauses) where
       let inside = span.within in
       let past = span.past in
       let few = l.few in
-      record { here = omega (arith, inside, past); fits = omega (arith, ahead, small, more, inside, records); few = omega (arith, few, clauses) }
+      record { here = omega (arith, inside, past); few-records = records; fits = omega (arith, ahead, small, more, inside, records); few = omega (arith, few, clauses) }
+
+-- at the clause that a loop comes to, after i of them
+pub clause-left : {q : List ℕ} {at : ℕ} (ms : List Measure) (a : (ix : Index) × Asks ix q × AllMeasured ix q ms (at + 1)) → at < record_count q → record_kind q at ≡ 3 → (i next : ℕ) (t : Tally) → ((ix : Index) (k : ℕ) (C : DecodedClauses) → AllMeasured ix q ms (at + 1) → decode_clauses q (decode q k) (record_children q at) (at + 1) ≡ some C → Left ix q k at (record_children q at - i) next t C) → i < record_children q at → OneLeft q next t (get_or ms next no_measure)
+clause-left {q} {at} ms a here kind i next t left more =
+    let ks = clauses-at q at a.1.records-right here kind in
+    one_left a.0 q ks.level at ks.inside ms (record_children q at - i) next t ks.few-records ks.few-clauses a.2 (left a.0 ks.level ks.inside a.2 ks.decoded) (omega (arith, more))
 
 -- the tally's cost is no more than the costs in it
 conjunction-small : (f : Option ℕ) (msm group : ℕ) → conjunction f msm group ≤ max (or_zero f) group

@@ -8,6 +8,7 @@ ghost use Rattle.meaning.specs.Query.{record_count, record_kind, record_children
 ghost use Rattle.meaning.specs.Range.{range_documents};
 ghost use Rattle.meaning.specs.CallRefusals.{ranges_needed};
 ghost use Rattle.meaning.specs.Cost.{least};
+ghost use Rattle.index.specs.Ranges.{asked};
 ghost use Rattle.weight.specs.Measured.{Asks, Columns, RangesListed, Known, term_numbers};
 ghost use Rattle.weight.specs.ScorerTree.{range, leaf_matches};
 ghost use Rattle.bits.specs.Bit.{bitmap_words, Bitmap};
@@ -17,7 +18,8 @@ ghost use Rattle.measure.specs.Tallied.{tallied, tallied_at, tally_present, tall
 use index::columns::NumericRange;
 use query::{Kind, Occur, kind_at, occur_at};
 
-// Of a tree: the record after it, whether it has a scorer, and its cost, which a tree without a scorer has too.
+// Of a tree: the record after it, whether it has a scorer, and its cost.
+// Kept: `present` is no Option's: a tree without a scorer has a cost too.
 #[derive(Clone, Copy)]
 pub struct Measure {
     pub next: usize,
@@ -33,6 +35,7 @@ pub struct RangeList {
 }
 
 // Of a Boolean's clauses: some is required; one of those lacks a scorer; the least cost of those that have one; the Shoulds with a scorer, and their cost together.
+// Kept: an Option or enum would say no more: `least` is None where nothing is required and where nothing required has a scorer.
 #[derive(Clone, Copy)]
 pub struct Tally {
     pub required: bool,
@@ -113,6 +116,7 @@ fn tally_clause(t: Tally, occurrence: Option<Occur>, m: Measure) -> Tally
 }
 
 // How many Shoulds must match: without Must and Filter at least one.
+// Kept: `required` is what is true of the clauses, a value of the equation, and turns no step on.
 pub fn shoulds_needed(required: bool, msm: u32) -> u32
     ensures { result ≡ cond required msm (max 1 msm) }
 {
@@ -275,52 +279,50 @@ fn range_words(q: &[u32], max_doc: u32, at: usize) -> usize
     }
 }
 
+// The range of the Range record at `at`.
+fn range_at(q: &[u32], at: usize) -> NumericRange
+    requires { at < record_count q.now }
+    ensures { asked result ≡ range_of q.now at }
+{
+    NumericRange {
+        column: query::value(q, at, 0),
+        kinds: query::value(q, at, 1),
+        lower: column_keys::joined(query::value(q, at, 2), query::value(q, at, 3)),
+        upper: column_keys::joined(query::value(q, at, 4), query::value(q, at, 5)),
+    }
+}
+
 // The documents of the Range record at `at` as a bitmap at the front of the output, and how many there are; another record has none.
 // The words beyond may hold anything.
-fn list_range(
-    q: &[u32],
-    max_doc: u32,
-    columns: &[u32],
-    values: &[u32],
-    at: usize,
-    output: &mut [u32],
-) -> u32
-    requires at_bound { (at < record_count q.now) × (record_kind q.now at ≡ 4 → bitmap_words max_doc ≤ length output.old) }
-    requires asks { (ix : Index) × Asks ix q.now × Columns ix max_doc columns.now values.now }
-    ensures value { (ix : Index) → Asks ix q.now → Columns ix max_doc columns.now values.now → record_kind q.now at ≡ 4 → (result ≡ length (range_documents ix (range_of q.now at))) × Bitmap (leaf_matches ix (range (range_of q.now at))) output.new 0 (bitmap_words max_doc) }
+fn list_range(q: &[u32], lent: &doc_values::Columns, at: usize, output: &mut [u32]) -> u32
+    requires at_bound { (at < record_count q.now) × (record_kind q.now at ≡ 4 → bitmap_words lent.now.max_doc ≤ length output.old) }
+    requires asks { (ix : Index) × Asks ix q.now × Columns ix lent.now.max_doc lent.now.columns.now lent.now.values.now }
+    ensures value { (ix : Index) → Asks ix q.now → Columns ix lent.now.max_doc lent.now.columns.now lent.now.values.now → record_kind q.now at ≡ 4 → (result ≡ length (range_documents ix (range_of q.now at))) × Bitmap (leaf_matches ix (range (range_of q.now at))) output.new 0 (bitmap_words lent.now.max_doc) }
     ensures output_len_unchanged { length output.new ≡ length output.old }
 {
     if kind_at(q, at) != Some(Kind::Range) {
         return 0;
     }
-    let range = NumericRange {
-        column: query::value(q, at, 0),
-        kinds: query::value(q, at, 1),
-        lower: column_keys::joined(query::value(q, at, 2), query::value(q, at, 3)),
-        upper: column_keys::joined(query::value(q, at, 4), query::value(q, at, 5)),
-    };
-    doc_values::range_bitmap(max_doc, columns, values, range, output)
+    doc_values::range_bitmap(lent, range_at(q, at), output)
 }
 
 // The documents of every Range record as bitmaps, one record's after the other's: where each begins, how many documents it has.
 pub fn list_ranges(
     q: &[u32],
-    max_doc: u32,
-    columns: &[u32],
-    values: &[u32],
+    lent: &doc_values::Columns,
     listed: &mut [RangeList],
     ranges: &mut [u32],
 )
     requires q_in_bounds { record_count q.now ≤ length listed.old }
-    requires asks { (ix : Index) × Asks ix q.now × Columns ix max_doc columns.now values.now × (ranges_needed ix q.now ≤ length ranges.old) }
-    ensures ranges_listed { (ix : Index) → Asks ix q.now → Columns ix max_doc columns.now values.now → RangesListed ix q.now (places_of listed.new) (counts_of listed.new) ranges.new (record_count q.now) }
+    requires asks { (ix : Index) × Asks ix q.now × Columns ix lent.now.max_doc lent.now.columns.now lent.now.values.now × (ranges_needed ix q.now ≤ length ranges.old) }
+    ensures ranges_listed { (ix : Index) → Asks ix q.now → Columns ix lent.now.max_doc lent.now.columns.now lent.now.values.now → RangesListed ix q.now (places_of listed.new) (counts_of listed.new) ranges.new (record_count q.now) }
     ensures listed_len_unchanged { (length listed.new ≡ length listed.old) × (length ranges.new ≡ length ranges.old) }
 {
     let mut used = 0;
     for at in 0..query::record_count(q) {
         let place = used as u32;
-        let count = list_range(q, max_doc, columns, values, at, &mut ranges[used..]);
+        let count = list_range(q, lent, at, &mut ranges[used..]);
         listed[at] = RangeList { place, count };
-        used += range_words(q, max_doc, at);
+        used += range_words(q, lent.max_doc, at);
     }
 }

@@ -127,6 +127,7 @@ pub fn place_range(st: &mut [u32], max_doc: u32, first: u32, score: f32, scores:
 }
 
 // Where a field's norm bytes begin, + 1; 0 without norms.
+// Kept: it is the word as the node's record in lent memory holds it; an Option would be made a word again at once.
 fn norms_word(max_doc: u32, fields: &[u32], field: u32) -> u32
     requires { (ix : Index) × FieldLent ix max_doc fields.now × (field < field_count ix) }
     ensures { (ix : Index) → FieldLent ix max_doc fields.now → result ≡ norms_word ix field }

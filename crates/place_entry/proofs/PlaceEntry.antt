@@ -14,7 +14,7 @@ use Rattle.meaning.specs.Limits.{no_more_docs}
 use Rattle.meaning.specs.Lent.{Index, has_positions, leaf_field, leaf_number, leaf_document, leaf_frequency, leaf_position}
 use Rattle.meaning.specs.Postings.{posting_at, frequency_of}
 use Rattle.meaning.specs.Phrase.{PhraseTerm, common_size, stands_at}
-use Rattle.meaning.specs.Query.{record_count, record_kind, record_value, phrase_terms_of}
+use Rattle.meaning.specs.Query.{record_count, record_kind, record_children, record_value, phrase_terms_of}
 use Rattle.meaning.specs.Refusals.{Condition, ◌when◌, lowest}
 use Rattle.meaning.specs.IndexRefusals.{wrong_position, wrong_positions}
 use Rattle.meaning.specs.CallRefusals.{Work, largest_in, starts_needed, starts_short, wrong13_place}
@@ -38,11 +38,14 @@ use Rattle.weight.proofs.Sounds.{TreeSound}
 use Rattle.weight.proofs.Queries.{tree-sound}
 use Rattle.refusal.specs.declared.Refusal.{Refusal}
 use Rattle.refusal.specs.Numbers.{number_of}
-use Rattle.order_check.specs.Lends.{work}
+use Rattle.order_check.specs.Lends.{work, QueryLent}
 use Rattle.order_check.proofs.Answered.{number-above}
 use Rattle.place_entry.specs.Answers.{placed_numbers}
 use Rattle.place_entry.specs.Runs.{PlaceLent}
-use Rattle.order_check.proofs.Refusing.{first_holds, second_holds, neither-holds, neither-held, order-asks, order-refused, order-passed, order-accepted}
+use Rattle.place_entry.proofs.TermWords.{phrase-here}
+use Rattle.index.specs.IndexOf.{index_of}
+use Rattle.index.specs.declared.lent.Lent.{Lent}
+use Rattle.order_check.proofs.Refusing.{first_holds, second_holds, neither-holds, neither-held, order-asks, order-checked, order-refused, order-passed, order-accepted}
 
 -- ---- each way out
 module _ (ix : Index) (q : List ℕ) (r d : ℕ) (w : Work) where
@@ -78,12 +81,6 @@ module _ (ix : Index) (q : List ℕ) (r d : ℕ) (w : Work) where
       let b = neither-held 12 13 _ _ (lit< tt) (lit< tt) a.1 in
       (order-asks ix q a.0, b.0, b.1)
 
-  pub place-within : wrong13_place ix q r d ≡ false → (d < ix.max_doc) × (r < record_count q) × (record_kind q r ≡ 2)
-  unfolding wrong13_place
-  place-within e =
-      let h = or-3 (leb ix.max_doc d) (leb (record_count q) r) (not (eqb (record_kind q r) 2)) e in
-      (leb-false _ _ h.0, leb-false _ _ h.1, eqb-true _ _ (not-false _ h.2))
-
   pub starts-long : starts_short ix q w ≡ false → (starts_needed ix q ≤ w.starts) × (starts_needed ix q ≤ w.other_starts)
   unfolding starts_short
   starts-long e = (ltb-false _ _ (or_left (ltb w.starts (starts_needed ix q)) _ e), ltb-false _ _ (or_right (ltb w.starts (starts_needed ix q)) _ e))
@@ -93,6 +90,24 @@ pub place-lends : (ix : Index) (q : List ℕ) (r d starts other_starts n : ℕ) 
 place-lends ix q r d starts other_starts n e z s same =
     let a = asked ix q r d (work 0 starts other_starts 0) n e z in
     rw same record { asks = a.0; long = a.1; there = a.2 }
+
+-- the query that an accepted order lends
+pub query-lent : (l : Lent) (q : List ℕ) (n : ℕ) → n ≡ lowest (order_conditions (index_of l) q) → n ≡ 0 → QueryLent (index_of l) l.max_doc l.leaves.now l.postings.now q
+query-lent l q n o z = record { asks = order-checked (index_of l) q n o z; documents = refl; leaves-are = refl; postings-are = refl }
+
+module _ {ix : Index} {q : List ℕ} {r d starts other_starts : ℕ} (h : PlaceLent ix q r d starts other_starts) where
+  within : wrong13_place ix q r d ≡ false → (r < record_count q) × (record_kind q r ≡ 2)
+  unfolding wrong13_place
+  within e =
+      let o = or-3 (leb ix.max_doc d) (leb (record_count q) r) (not (eqb (record_kind q r) 2)) e in
+      (leb-false _ _ o.1, eqb-true _ _ (not-false _ o.2))
+
+  -- the record is there and a phrase, of 32 terms at most
+  pub phrase-there : (r < record_count q) × (record_kind q r ≡ 2)
+  phrase-there = within h.there
+
+  pub few-terms : record_children q r ≤ 32
+  few-terms = (phrase-here h.asks r phrase-there.0 phrase-there.1).few-terms
 
 -- ---- the words of a phrase are what `phrase::place` asks
 and-false : (b : Bool) → (b && false) ≡ false

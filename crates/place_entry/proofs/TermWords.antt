@@ -15,6 +15,8 @@ use Rattle.meaning.specs.Lent.{Index, leaf_count, leaf_first, leaf_number}
 use Rattle.meaning.specs.Postings.{posting_at, frequency_of}
 use Rattle.meaning.proofs.Tests.{cmp}
 use Rattle.meaning.proofs.Below.{list_to-next}
+use Rattle.index.specs.Records.{leaf_of}
+use Rattle.index.specs.declared.leaves.Leaf.{Leaf}
 use Rattle.index.proofs.PostingAt.{posting-at, posting-none}
 use Rattle.run.specs.Run.{document_at, Run, Lower}
 use Rattle.phrase.specs.Words.{first_of, phrase_words}
@@ -23,7 +25,19 @@ use Rattle.weight.specs.Measured.{Asks}
 use Rattle.place_entry.specs.Runs.{RunOk}
 
 -- ---- the search for a leaf's posting
-module _ (ix : Index) (l d f n : ℕ) (run : RunOk ix l) (first : f ≡ leaf_first ix l) (number : n ≡ leaf_number ix l) where
+module _ (ix : Index) (l d : ℕ) (run : RunOk ix l) (leaf : Leaf) (is : leaf ≡ leaf_of ix l) where
+  abbrev f : ℕ
+  f = leaf.first
+
+  abbrev n : ℕ
+  n = leaf.number
+
+  first : f ≡ leaf_first ix l
+  first = ap (λ (z : Leaf). z.first) is
+
+  number : n ≡ leaf_number ix l
+  number = ap (λ (z : Leaf). z.number) is
+
   rises : (i j : ℕ) → i < j → j < n → document_at ix.postings 3 f i < document_at ix.postings 3 f j
   rises = rw (first, number) run.ascending
 

@@ -3,7 +3,6 @@ use mathlib.Core.Path.{◌≡◌, refl, sym}
 use mathlib.Core.Bool.{true, false}
 use mathlib.Core.List.{List, []}
 use Prim.Native.Nat.{ℕ, ◌≤◌, ◌<◌}
-use native.Mathlib.Omega.{arith}
 use lib.Dec.{ltb, lit<}
 use lib.ListN.{length}
 use borrow.Author.Tests.{lt-ltb, le-ltb, ltb-false}
@@ -13,13 +12,14 @@ use Rattle.meaning.specs.Refusals.{lowest}
 use Rattle.meaning.specs.IndexRefusals.{wrong1, wrong6}
 use Rattle.meaning.specs.QueryRefusals.{wrong_range}
 use Rattle.meaning.specs.CallRefusals.{wrong12_range}
-use Rattle.meaning.specs.Entries.{written, Kept, columns_only, range_refusal, range_answer, range_output}
+use Rattle.meaning.specs.Entries.{written, columns_only, range_refusal, range_answer, range_output}
 use Rattle.index.specs.Slices.{lent}
 use Rattle.meaning.proofs.Tests.{true-left, true-right, or_right}
 use Rattle.std.proofs.Common.{Ok, Err}
 use Rattle.refusal.specs.declared.Refusal.{Refusal}
 use Rattle.refusal.specs.Numbers.{number_of}
 use Rattle.refusal.proofs.Positive.{number-not-0}
+use Rattle.doc_values.specs.RangeRight.{RangeRight}
 use Rattle.range_entry.specs.Answers.{ranged_numbers}
 use Rattle.meaning.proofs.Lowest.{lowest-here, lowest-past, lowest-zero, answered-refused}
 
@@ -67,20 +67,14 @@ module _ (ix : Index) (r : NumericRange) (work output : ℕ) where
         range-0 h g = rw (a, b, e, le-ltb work ix.max_doc h, le-ltb output ix.max_doc g)
 
   -- ---- what a call that is not refused knows
-  pub record RangeRight : Type 0 where
-    pub documents : wrong1 ix ≡ false
-    pub columns : wrong6 ix ≡ false
-    pub range : wrong_range ix r ≡ false
-    pub room : ix.max_doc ≤ output
-
-  pub range-right : 0 ≡ range_refusal ix r work output → RangeRight
+  pub range-allowed : 0 ≡ range_refusal ix r work output → RangeRight ix r × (ix.max_doc ≤ output)
   unfolding range_refusal wrong12_range
-  range-right is =
+  range-allowed is =
       let a = lowest-zero 1 _ _ (lit< tt) (sym is) in
       let b = lowest-zero 6 _ _ (lit< tt) a.1 in
       let e = lowest-zero 8 _ _ (lit< tt) b.1 in
       let h = lowest-zero 12 _ _ (lit< tt) e.1 in
-      record { documents = a.0; columns = b.0; range = e.0; room = ltb-false output ix.max_doc (or_right (ltb work ix.max_doc) (ltb output ix.max_doc) h.0) }
+      (record { documents = a.0; columns = b.0; range = e.0 }, ltb-false output ix.max_doc (or_right (ltb work ix.max_doc) (ltb output ix.max_doc) h.0))
 
 -- ---- the answer
 module _ (ix : Index) (r : NumericRange) (work output : List ℕ) where
@@ -101,6 +95,3 @@ module _ (ix : Index) (r : NumericRange) (work output : List ℕ) where
     pub done-output : (output' : List ℕ) → output' ≡ written (range_documents ix r) output → output' ≡ range_output ix r (length work) output
     unfolding range_output
     done-output output' f = rw (← is, f) refl
-
-    pub done-kept : (work' : List ℕ) → Kept (range_refusal ix r (length work) (length output)) work work'
-    done-kept work' h = absurd (omega (arith, is, h))

@@ -5,19 +5,12 @@ ghost use Rattle.std.specs.Prelude.{◌≡◌, length};
 ghost use Rattle.meaning.specs.Entries.{Kept, range_refusal, range_answer, range_output};
 ghost use Rattle.index.specs.Ranges.{asked};
 ghost use Rattle.refusal.specs.Numbers.{refusal_of};
+ghost use Rattle.doc_values.specs.ColumnsOf.{columns_of};
 ghost use Rattle.range_entry.specs.Answers.{ranged_numbers};
-ghost use Rattle.range_entry.specs.ColumnsOf.{columns_of};
 
+pub use doc_values::Columns;
 use index::columns::NumericRange;
 use refusal::Refusal;
-
-// The columns of so many documents, and their values.
-#[derive(Clone, Copy)]
-pub struct Columns<'a> {
-    pub max_doc: u32,
-    pub columns: &'a [u32],
-    pub values: &'a [u32],
-}
 
 // The lowest of 1, 6, 8 and 12 whose condition holds.
 fn range_refusal(
@@ -59,5 +52,5 @@ pub fn range(
     ensures kept { Kept (range_refusal (columns_of lent.now) (asked range) (length work.old) (length output.old)) work.old work.new }
 {
     range_refusal(lent, range, work.len(), output.len())?;
-    Ok(doc_values::range(lent.max_doc, lent.columns, lent.values, range, output))
+    Ok(doc_values::range(lent, range, output))
 }

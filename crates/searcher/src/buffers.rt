@@ -39,14 +39,5 @@ pub(crate) fn build_tree(lent: &Lent, query: &[u32], buffers: &mut Buffers<'_>) 
     ensures placed { Placed (index_of lent.now) buffers.new.ranges.now (tree_of (index_of lent.now) query.now) 16 0 result buffers.new.states.now }
     ensures same_buffers { SameBuffers buffers.old buffers.new }
 {
-    build::build(
-        lent.max_doc,
-        lent.fields,
-        lent.leaves,
-        lent.columns,
-        lent.values,
-        query,
-        buffers.states,
-        buffers.ranges,
-    )
+    build::build(lent, query, buffers.states, buffers.ranges)
 }

@@ -7,11 +7,6 @@ use Rattle.inverses.proofs.fill_inverses.Goals as goal
 pub loop-at-init : goal.loop-at-init
 loop-at-init c = record { filling = λ ix n a lent. none_filled ix c.args.q.now c.args.table.now; wide = refl }
 
-pub field_at-f-requires : goal.field_at-f-requires
-field_at-f-requires c =
-    let a = c.requires.0 in
-    (a.0, a.2, a.3.leaves-are, omega arith, sym c.has_field.ensures ∙ c.if-has_field.true)
-
 pub bounds-filled-f : goal.bounds-filled-f
 bounds-filled-f c =
     let a = c.requires.0 in

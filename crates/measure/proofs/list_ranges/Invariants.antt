@@ -9,4 +9,4 @@ use Rattle.measure.proofs.list_ranges.Given as goal
 
 abbrev pub invariant-loop-at : goal.invariant-loop-at
 invariant-loop-at l =
-    record { listing : (ix : Index) → Asks ix l.q → Columns ix l.max_doc l.columns l.values → Listing ix l.q (places_of l.listed) (counts_of l.listed) l.ranges l.used l.at; used_is : l.used ≡ words_to l.q (bitmap_words l.max_doc) l.at }
+    record { listing : (ix : Index) → Asks ix l.q → Columns ix l.lent.max_doc l.lent.columns.now l.lent.values.now → Listing ix l.q (places_of l.listed) (counts_of l.listed) l.ranges l.used l.at; used_is : l.used ≡ words_to l.q (bitmap_words l.lent.max_doc) l.at }

@@ -1,8 +1,7 @@
 use Rattle.std.proofs.Common.{◌≡◌, ℕ, ◌+◌, ◌-◌, ap, subst, refl, ◌∙◌, get_or, arith}
 use Rattle.meaning.specs.Query.{record_children}
-use Rattle.weight.proofs.Standing.{clauses-at}
 use Rattle.measure.proofs.Arrays.{no_measure}
-use Rattle.measure.proofs.Tallies.{Left, untallied, left-begins, left-on, one_left, boolean-measured, clauses-in}
+use Rattle.measure.proofs.Tallies.{Left, untallied, left-begins, left-on, clause-left, boolean-measured, clauses-in}
 use Rattle.measure.specs.Tallied.{tallied, tallied_at}
 use Rattle.measure.proofs.Occurrences.{occur-read}
 use Rattle.measure.proofs.measure_boolean.Goals as goal
@@ -17,34 +16,19 @@ loop-i-init c =
 
 pub offset_bounds-measures-next : goal.offset_bounds-measures-next
 offset_bounds-measures-next c =
-    let a = c.requires.asks in
-    let l = c.loop-i in
-    let ks = clauses-at c.args.q.now c.args.at a.1.records-right c.requires.held.0.here c.requires.held.1 in
-    let o = one_left a.0 c.args.q.now ks.level c.args.at ks.inside c.args.measures.now (record_children c.args.q.now c.args.at - l._i) l.next l.t ks.few-records ks.few-clauses a.2 (l.invariant a.0 ks.level ks.inside a.2 ks.decoded) (omega arith) in
-    omega (arith, o.here, ks.few-records)
+    let o = clause-left c.args.measures.now c.requires.asks c.requires.held.0.here c.requires.held.1 c.loop-i._i c.loop-i.next c.loop-i.t c.loop-i.invariant (omega arith) in omega (arith, o.here, o.few-records)
 
 pub bounds-measures-next : goal.bounds-measures-next
 bounds-measures-next c =
-    let a = c.requires.asks in
-    let l = c.loop-i in
-    let ks = clauses-at c.args.q.now c.args.at a.1.records-right c.requires.held.0.here c.requires.held.1 in
-    let o = one_left a.0 c.args.q.now ks.level c.args.at ks.inside c.args.measures.now (record_children c.args.q.now c.args.at - l._i) l.next l.t ks.few-records ks.few-clauses a.2 (l.invariant a.0 ks.level ks.inside a.2 ks.decoded) (omega arith) in
-    omega (arith, o.here, c.requires.held.0.long)
+    let o = clause-left c.args.measures.now c.requires.asks c.requires.held.0.here c.requires.held.1 c.loop-i._i c.loop-i.next c.loop-i.t c.loop-i.invariant (omega arith) in omega (arith, o.here, c.requires.held.0.long)
 
 pub occur_at-requires : goal.occur_at-requires
 occur_at-requires c =
-    let a = c.requires.asks in
-    let l = c.loop-i in
-    let ks = clauses-at c.args.q.now c.args.at a.1.records-right c.requires.held.0.here c.requires.held.1 in
-    (one_left a.0 c.args.q.now ks.level c.args.at ks.inside c.args.measures.now (record_children c.args.q.now c.args.at - l._i) l.next l.t ks.few-records ks.few-clauses a.2 (l.invariant a.0 ks.level ks.inside a.2 ks.decoded) (omega arith)).here
+    (clause-left c.args.measures.now c.requires.asks c.requires.held.0.here c.requires.held.1 c.loop-i._i c.loop-i.next c.loop-i.t c.loop-i.invariant (omega arith)).here
 
 pub tally_clause-t-requires : goal.tally_clause-t-requires
 tally_clause-t-requires c =
-    let a = c.requires.asks in
-    let l = c.loop-i in
-    let ks = clauses-at c.args.q.now c.args.at a.1.records-right c.requires.held.0.here c.requires.held.1 in
-    let o = one_left a.0 c.args.q.now ks.level c.args.at ks.inside c.args.measures.now (record_children c.args.q.now c.args.at - l._i) l.next l.t ks.few-records ks.few-clauses a.2 (l.invariant a.0 ks.level ks.inside a.2 ks.decoded) (omega arith) in
-    (o.few, o.fits)
+    let o = clause-left c.args.measures.now c.requires.asks c.requires.held.0.here c.requires.held.1 c.loop-i._i c.loop-i.next c.loop-i.t c.loop-i.invariant (omega arith) in (o.few, o.fits)
 
 pub loop-i-preserved : goal.loop-i-preserved
 loop-i-preserved c =

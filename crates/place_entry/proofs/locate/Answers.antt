@@ -3,47 +3,32 @@ use Rattle.std.proofs.Common.{sym, length, arith}
 use lib.Seq.{length-take-le}
 use Rattle.index.specs.IndexOf.{index_of}
 use Rattle.order_check.specs.Lends.{work}
-use Rattle.place_entry.proofs.TermWords.{phrase-here, words-counted}
-use Rattle.place_entry.proofs.PlaceEntry.{place-within, starts-long, words-asked, found}
+use Rattle.place_entry.proofs.TermWords.{words-counted}
+use Rattle.place_entry.proofs.PlaceEntry.{phrase-there, few-terms, starts-long, words-asked, found}
 use Rattle.place_entry.proofs.locate.Goals as goal
 
 pub children-count-requires : goal.children-count-requires
-children-count-requires c =
-    let a = c.args in
-    (place-within (index_of a.lent.now) a.q.now a.record_number a.document (work 0 (length a.starts.now) (length a.other_starts.now) 0) c.requires.there).1
+children-count-requires c = (phrase-there c.requires).0
 
 pub write_terms-requires : goal.write_terms-requires
-write_terms-requires c =
-    let a = c.args in
-    let w = place-within (index_of a.lent.now) a.q.now a.record_number a.document (work 0 (length a.starts.now) (length a.other_starts.now) 0) c.requires.there in
-    record { asks = c.requires.asks; phrase = (w.1, w.2) }
+write_terms-requires c = record { asks = c.requires.asks; phrase = phrase-there c.requires }
 
 pub slice_bounds-terms-end : goal.slice_bounds-terms-end
-slice_bounds-terms-end c =
-    let a = c.args in
-    let w = place-within (index_of a.lent.now) a.q.now a.record_number a.document (work 0 (length a.starts.now) (length a.other_starts.now) 0) c.requires.there in
-    let few = (phrase-here c.requires.asks a.record_number w.1 w.2).few-terms in
-    omega (arith, few, c.children-count.ensures)
+slice_bounds-terms-end c = omega (arith, few-terms c.requires, c.children-count.ensures)
 
 pub slice_bounds-place-end : goal.slice_bounds-place-end
-slice_bounds-place-end c =
-    let a = c.args in
-    let w = place-within (index_of a.lent.now) a.q.now a.record_number a.document (work 0 (length a.starts.now) (length a.other_starts.now) 0) c.requires.there in
-    let few = (phrase-here c.requires.asks a.record_number w.1 w.2).few-terms in
-    sym (length-take-le _ _ (omega (arith, few, c.children-count.ensures, c.write_terms.array_long)))
+slice_bounds-place-end c = sym (length-take-le _ _ (omega (arith, few-terms c.requires, c.children-count.ensures, c.write_terms.array_long)))
 
 pub place-requires : goal.place-requires
 place-requires c =
     let a = c.args in
     let ix = index_of a.lent.now in
-    let room = work 0 (length a.starts.now) (length a.other_starts.now) 0 in
-    let w = place-within ix a.q.now a.record_number a.document room c.requires.there in
-    let long = starts-long ix a.q.now a.record_number a.document room c.requires.long in
-    words-asked ix a.q.now c.requires.asks a.record_number a.document w.1 w.2 _ (words-counted _ _ c.children-count.ensures c.write_terms.new.terms _ c.write_terms.ensures) _ _ long.0 long.1
+    let w = phrase-there c.requires in
+    let long = starts-long ix a.q.now a.record_number a.document (work 0 (length a.starts.now) (length a.other_starts.now) 0) c.requires.long in
+    words-asked ix a.q.now c.requires.asks a.record_number a.document w.0 w.1 _ (words-counted _ _ c.children-count.ensures c.write_terms.new.terms _ c.write_terms.ensures) _ _ long.0 long.1
 
 pub returns : goal.returns
 returns c =
     let a = c.args in
-    let ix = index_of a.lent.now in
-    let w = place-within ix a.q.now a.record_number a.document (work 0 (length a.starts.now) (length a.other_starts.now) 0) c.requires.there in
-    found ix a.q.now c.requires.asks a.record_number a.document w.1 w.2 _ (words-counted _ _ c.children-count.ensures c.write_terms.new.terms _ c.write_terms.ensures) c.place.result c.place.ensures
+    let w = phrase-there c.requires in
+    found (index_of a.lent.now) a.q.now c.requires.asks a.record_number a.document w.0 w.1 _ (words-counted _ _ c.children-count.ensures c.write_terms.new.terms _ c.write_terms.ensures) c.place.result c.place.ensures

@@ -1,43 +1,36 @@
 -- The posting that the search finds, and its words.
-use Rattle.std.proofs.Common.{ℕ, sym, ap, ◌∙◌, arith}
+use Rattle.std.proofs.Common.{sym, ◌∙◌, arith}
 use Rattle.index.specs.IndexOf.{index_of}
-use Rattle.index.specs.declared.leaves.Leaf.{Leaf}
 use Rattle.place_entry.proofs.TermWords.{run-asked, posting-there, posting-hit, posting-over, posting-missed}
 use Rattle.place_entry.proofs.occurrences_in.Goals as goal
 
-abbrev first_of_leaf : Leaf → ℕ
-first_of_leaf leaf = leaf.first
-
-abbrev number_of_leaf : Leaf → ℕ
-number_of_leaf leaf = leaf.number
-
 pub lower-i-requires : goal.lower-i-requires
 lower-i-requires c =
-    run-asked (index_of c.args.lent.now) _ c.args.document _ _ c.requires (ap first_of_leaf c.leaf_at-leaf.ensures) (ap number_of_leaf c.leaf_at-leaf.ensures) (omega (arith, c.well_formed))
+    run-asked (index_of c.args.lent.now) _ c.args.document c.requires _ c.leaf_at-leaf.ensures (omega (arith, c.well_formed))
 
 pub posting_document-requires : goal.posting_document-requires
 posting_document-requires c =
-    posting-there (index_of c.args.lent.now) _ c.args.document _ _ c.requires (ap first_of_leaf c.leaf_at-leaf.ensures) (ap number_of_leaf c.leaf_at-leaf.ensures) _ c.if-i-number.true
+    posting-there (index_of c.args.lent.now) _ c.args.document c.requires _ c.leaf_at-leaf.ensures _ c.if-i-number.true
 
 pub posting_index-requires : goal.posting_index-requires
 posting_index-requires c =
-    posting-there (index_of c.args.lent.now) _ c.args.document _ _ c.requires (ap first_of_leaf c.leaf_at-leaf.ensures) (ap number_of_leaf c.leaf_at-leaf.ensures) _ c.if-i-number.true
+    posting-there (index_of c.args.lent.now) _ c.args.document c.requires _ c.leaf_at-leaf.ensures _ c.if-i-number.true
 
 pub posting_frequency-requires : goal.posting_frequency-requires
 posting_frequency-requires c =
-    posting-there (index_of c.args.lent.now) _ c.args.document _ _ c.requires (ap first_of_leaf c.leaf_at-leaf.ensures) (ap number_of_leaf c.leaf_at-leaf.ensures) _ c.if-i-number.true
+    posting-there (index_of c.args.lent.now) _ c.args.document c.requires _ c.leaf_at-leaf.ensures _ c.if-i-number.true
 
 pub returns-then-posting_document-document : goal.returns-then-posting_document-document
 returns-then-posting_document-document c =
-    let w = posting-hit (index_of c.args.lent.now) _ c.args.document _ _ c.requires (ap first_of_leaf c.leaf_at-leaf.ensures) (ap number_of_leaf c.leaf_at-leaf.ensures) _ _ _ c.if-i-number.true (sym c.posting_document.ensures ∙ c.if-posting_document-document.true) c.posting_index.ensures c.posting_frequency.ensures in
+    let w = posting-hit (index_of c.args.lent.now) _ c.args.document c.requires _ c.leaf_at-leaf.ensures _ _ _ c.if-i-number.true (sym c.posting_document.ensures ∙ c.if-posting_document-document.true) c.posting_index.ensures c.posting_frequency.ensures in
     record { first = w.0; frequency = w.1 }
 
 pub returns-else-posting_document-document : goal.returns-else-posting_document-document
 returns-else-posting_document-document c =
-    let w = posting-missed (index_of c.args.lent.now) _ c.args.document _ _ c.requires (ap first_of_leaf c.leaf_at-leaf.ensures) (ap number_of_leaf c.leaf_at-leaf.ensures) _ c.lower-i.ensures c.if-i-number.true (λ e. c.if-posting_document-document.false (c.posting_document.ensures ∙ e)) in
+    let w = posting-missed (index_of c.args.lent.now) _ c.args.document c.requires _ c.leaf_at-leaf.ensures _ c.lower-i.ensures c.if-i-number.true (λ e. c.if-posting_document-document.false (c.posting_document.ensures ∙ e)) in
     record { first = w.0; frequency = w.1 }
 
 pub returns-else-i-number : goal.returns-else-i-number
 returns-else-i-number c =
-    let w = posting-over (index_of c.args.lent.now) _ c.args.document _ _ c.requires (ap first_of_leaf c.leaf_at-leaf.ensures) (ap number_of_leaf c.leaf_at-leaf.ensures) _ c.lower-i.ensures c.if-i-number.false in
+    let w = posting-over (index_of c.args.lent.now) _ c.args.document c.requires _ c.leaf_at-leaf.ensures _ c.lower-i.ensures c.if-i-number.false in
     record { first = w.0; frequency = w.1 }

@@ -1,8 +1,8 @@
 use Rattle.std.proofs.Common.{◌≡◌, Result, Err, rules, ℕ}
 use Rattle.refusal.specs.declared.Refusal.{Refusal}
 use Rattle.index.specs.Ranges.{asked}
-use Rattle.range_entry.specs.ColumnsOf.{columns_of}
-use Rattle.range_entry.proofs.RangeEntry.{range-right, refused-answer, refused-output, done-answer, done-output, done-kept}
+use Rattle.doc_values.specs.ColumnsOf.{columns_of}
+use Rattle.range_entry.proofs.RangeEntry.{range-allowed, refused-answer, refused-output, done-answer, done-output}
 use Rattle.range_entry.proofs.range.Goals as goal
 
 pub returns-in_err-range_refusal-clause-result_value : goal.returns-in_err-range_refusal-clause-result_value
@@ -14,23 +14,14 @@ returns-in_err-range_refusal-clause-result_value c =
 pub returns-in_err-range_refusal-clause-output_after : goal.returns-in_err-range_refusal-clause-output_after
 returns-in_err-range_refusal-clause-output_after c = refused-output _ _ _ _ _ c.in_err-range_refusal.ensures
 
-pub range-requires-clause-values_value : goal.range-requires-clause-values_value
-range-requires-clause-values_value c = (range-right _ _ _ _ c.in_ok-range_refusal.ensures).documents
-
-pub range-requires-clause-values_value_2 : goal.range-requires-clause-values_value_2
-range-requires-clause-values_value_2 c = (range-right _ _ _ _ c.in_ok-range_refusal.ensures).columns
-
-pub range-requires-clause-range_value : goal.range-requires-clause-range_value
-range-requires-clause-range_value c = (range-right _ _ _ _ c.in_ok-range_refusal.ensures).range
+pub range-requires-clause-right : goal.range-requires-clause-right
+range-requires-clause-right c = (range-allowed _ _ _ _ c.in_ok-range_refusal.ensures).0
 
 pub range-requires-clause-max_doc_in_bounds : goal.range-requires-clause-max_doc_in_bounds
-range-requires-clause-max_doc_in_bounds c = (range-right _ _ _ _ c.in_ok-range_refusal.ensures).room
+range-requires-clause-max_doc_in_bounds c = (range-allowed _ _ _ _ c.in_ok-range_refusal.ensures).1
 
 pub returns-clause-result_value : goal.returns-clause-result_value
 returns-clause-result_value c = done-answer (columns_of c.args.lent.now) (asked c.args.range) c.args.work.now c.args.output.now c.in_ok-range_refusal.ensures _ c.range.ensures.value
 
 pub returns-clause-output_after : goal.returns-clause-output_after
 returns-clause-output_after c = done-output (columns_of c.args.lent.now) (asked c.args.range) c.args.work.now _ c.in_ok-range_refusal.ensures _ c.range.ensures.output_after
-
-pub returns-clause-kept : goal.returns-clause-kept
-returns-clause-kept c = done-kept (columns_of c.args.lent.now) (asked c.args.range) c.args.work.now c.args.output.now c.in_ok-range_refusal.ensures _

@@ -1,22 +1,22 @@
 -- The cycle of calls that places a tree: a tree, a Boolean, its required clauses, its others, and a list of clauses.
 use borrow.Rule.Slice.PartMut.{put_mid, same_len_mid, mid_len, post_of}
-use Rattle.std.proofs.Common.{◌≡◌, ◌≤◌, Bool, List, cond, ℕ, ◌+◌, ◌-◌, refl, sym, ◌∙◌, ap, length, take, get_or, arith, rules}
+use Rattle.std.proofs.Common.{◌≡◌, ◌≤◌, ◌<◌, Bool, List, cond, ℕ, ◌+◌, ◌-◌, refl, ◌∙◌, ap, length, take, arith, rules}
 use Rattle.std.specs.Prelude.{is_some}
 use Rattle.meaning.specs.Limits.{node_state_words}
 use Rattle.meaning.specs.Query.{is_must}
 use Rattle.query.specs.Kinds.{kind_number, occur_number}
 use Rattle.clauses.specs.Clauses.{wanted_at}
-use Rattle.measure.proofs.Arrays.{no_measure, present-at, presents-long}
+use Rattle.measure.proofs.Arrays.{present-at}
 use Rattle.node_words.specs.Placed.{kept_score}
 use Rattle.node_words.specs.Prepared.{given}
 use Rattle.node_words.proofs.AtRecord.{TreeHere, tree-here}
-use Rattle.node_words.proofs.Kept.{kept-or, not-none}
-use Rattle.build.proofs.Found.{from-there}
+use Rattle.node_words.proofs.Kept.{kept-or}
+use Rattle.build.proofs.Found.{marked, from-there}
 use Rattle.build.proofs.PlacingLists.{kept-nothing, list-starts, list-here, list-within, list-ends, list-tree, list-fits, list-more}
 use Rattle.build.proofs.PlacingParts.{others-known, others-listed, others-placed, required-known, required-here, required-first, required-within, required-second, required-fits, required-placed}
-use Rattle.build.proofs.PlacingBooleans.{tree-room, tree-deep, tree-kept, nothing_placed, boolean-known, boolean-required, first_fits, boolean-optional, second_fits, boolean-prohibited, whole-fits, whole-small, group-within, whole-placed}
+use Rattle.build.proofs.PlacingBooleans.{tree-deep, tree-kept, nothing_placed, boolean-known, boolean-required, first_fits, boolean-optional, second_fits, boolean-prohibited, whole-fits, whole-small, group-within, whole-placed}
 use Rattle.build.proofs.PlacingBelow.{constant-asked, constant-placed, boost-asked, boost-placed, boost-number-here}
-use Rattle.build.proofs.tree.+placing.Goals.{place-Start, place_boolean-Start, place_boolean-After-place_required-first, place_boolean-After-place_others-shoulds}
+use Rattle.build.proofs.tree.+placing.Goals.{place-Start, place_boolean-Start, place_boolean-After-place_required-first, place_boolean-After-place_others-shoulds, place_boolean-After-place_others-nots, place_required-After-place_list-group_at}
 use Rattle.build.proofs.tree.+placing.Goals as goal
 
 -- ---- a tree
@@ -143,7 +143,7 @@ place_boolean-has_required-required-requires t c =
     let depth = c.args.depth in
     let pre = c.requires.tree_pre in
     let kind = c.requires.at_value in
-    let there : get_or E.presents at 0 ≡ 0 → ⊥ = λ z. not-none (get_or c.args.records.now.measures.now at no_measure).present c.if-not-records-at.false (sym (present-at c.args.records.now.measures.now at) ∙ z) in
+    let there = marked c.args.records.now.measures.now at c.if-not-records-at.false in
     boolean-known E at fixed kept boost words depth kind there c.args.records.now.measures.now (refl, refl, refl) pre
 
 pub place_boolean-slice_bounds-place_required-count : goal.place_boolean-slice_bounds-place_required-count
@@ -166,7 +166,7 @@ place_boolean-place_required-first-requires t c =
     let depth = c.args.depth in
     let pre = c.requires.tree_pre in
     let kind = c.requires.at_value in
-    let there : get_or E.presents at 0 ≡ 0 → ⊥ = λ z. not-none (get_or c.args.records.now.measures.now at no_measure).present c.if-not-records-at.false (sym (present-at c.args.records.now.measures.now at) ∙ z) in
+    let there = marked c.args.records.now.measures.now at c.if-not-records-at.false in
     let st₀ = c.args.st.now in
     let part₁ = mid_len node_state_words words st₀ (omega arith) in
     (omega (arith, c.decreases, tree-deep E at fixed kept boost words depth pre), boolean-required E at fixed kept boost words depth kind there _ part₁ pre)
@@ -177,7 +177,7 @@ words₁ t c = put_mid node_state_words (length c.args.st.now - node_state_words
 
 first : (t : _) (c : goal.place_boolean-After-place_required-first t) → (node_state_words + c.place_required-first.result.end ≤ length c.args.st.now) × (length (words₁ t c) ≡ length c.args.st.now)
 first t c =
-    let there : get_or (given c.args.records.now).presents c.args.at 0 ≡ 0 → ⊥ = λ z. not-none (get_or c.args.records.now.measures.now c.args.at no_measure).present c.if-not-records-at.false (sym (present-at c.args.records.now.measures.now c.args.at) ∙ z) in
+    let there = marked c.args.records.now.measures.now c.args.at c.if-not-records-at.false in
     let a = c.place_required-first in
     let part₁ = mid_len node_state_words (length c.args.st.now) c.args.st.now (omega arith) in (
       first_fits (given c.args.records.now) c.args.at (is_some c.args.passed.kept) (kept_score c.args.passed.kept) c.args.passed.boost (length c.args.st.now) c.args.depth c.requires.at_value there _ part₁ a.result.group_at a.result.end a.new.st a.ensures.required_post c.requires.tree_pre,
@@ -210,7 +210,7 @@ place_boolean-place_others-shoulds-requires t c =
     let depth = c.args.depth in
     let pre = c.requires.tree_pre in
     let kind = c.requires.at_value in
-    let there : get_or E.presents at 0 ≡ 0 → ⊥ = λ z. not-none (get_or c.args.records.now.measures.now at no_measure).present c.if-not-records-at.false (sym (present-at c.args.records.now.measures.now at) ∙ z) in
+    let there = marked c.args.records.now.measures.now at c.if-not-records-at.false in
     let st₀ = c.args.st.now in
     let part₁ = mid_len node_state_words words st₀ (omega arith) in
     let a = c.place_required-first in
@@ -229,7 +229,7 @@ words₂ t c =
 
 second : (t : _) (c : goal.place_boolean-After-place_others-shoulds t) → (node_state_words + (c.place_required-first.result.end + c.place_others-shoulds.result) ≤ length c.args.st.now) × (length (words₂ t c) ≡ length c.args.st.now)
 second t c =
-    let there : get_or (given c.args.records.now).presents c.args.at 0 ≡ 0 → ⊥ = λ z. not-none (get_or c.args.records.now.measures.now c.args.at no_measure).present c.if-not-records-at.false (sym (present-at c.args.records.now.measures.now c.args.at) ∙ z) in
+    let there = marked c.args.records.now.measures.now c.args.at c.if-not-records-at.false in
     let st₀ = c.args.st.now in
     let words = length st₀ in
     let part₁ = mid_len node_state_words words st₀ (omega arith) in
@@ -272,7 +272,7 @@ place_boolean-place_others-nots-requires t c =
     let depth = c.args.depth in
     let pre = c.requires.tree_pre in
     let kind = c.requires.at_value in
-    let there : get_or E.presents at 0 ≡ 0 → ⊥ = λ z. not-none (get_or c.args.records.now.measures.now at no_measure).present c.if-not-records-at.false (sym (present-at c.args.records.now.measures.now at) ∙ z) in
+    let there = marked c.args.records.now.measures.now at c.if-not-records-at.false in
     let st₀ = c.args.st.now in
     let part₁ = mid_len node_state_words words st₀ (omega arith) in
     let a = c.place_required-first in
@@ -288,62 +288,22 @@ place_boolean-place_others-nots-requires t c =
     (omega (arith, c.decreases, tree-deep E at fixed kept boost words depth pre), boolean-prohibited E at fixed kept boost words depth kind there _ part₁ a.result.group_at e₁ a.new.st a.ensures.required_post _ part₂ e₂ b.new.st b.ensures.others_post _ part₃ pre)
 
 pub place_boolean-overflow_add-size : goal.place_boolean-overflow_add-size
-place_boolean-overflow_add-size t c =
-    let E = given c.args.records.now in
-    let at = c.args.at in
-    let fixed = is_some c.args.passed.kept in
-    let kept = kept_score c.args.passed.kept in
-    let boost = c.args.passed.boost in
-    let words = length c.args.st.now in
-    let depth = c.args.depth in
-    let pre = c.requires.tree_pre in
-    let kind = c.requires.at_value in
-    let there : get_or E.presents at 0 ≡ 0 → ⊥ = λ z. not-none (get_or c.args.records.now.measures.now at no_measure).present c.if-not-records-at.false (sym (present-at c.args.records.now.measures.now at) ∙ z) in
-    let st₀ = c.args.st.now in
-    let part₁ = mid_len node_state_words words st₀ (omega arith) in
-    let a = c.place_required-first in
-    let e₁ = a.result.end in
-    let st₁ = put_mid node_state_words (words - node_state_words) st₀ a.new.st in
-    let long₁ = same_len_mid node_state_words (words - node_state_words) st₀ a.new.st a.auto.st in
-    let part₂ = mid_len (node_state_words + e₁) (length st₁) st₁ (omega arith) ∙ ap (λ (z : ℕ). z - (node_state_words + e₁)) long₁ in
-    let b = c.place_others-shoulds in
-    let e₂ = b.result in
-    let st₂ = put_mid (node_state_words + e₁) (length st₁ - (node_state_words + e₁)) st₁ b.new.st in
-    let long₂ = same_len_mid (node_state_words + e₁) (length st₁ - (node_state_words + e₁)) st₁ b.new.st b.auto.st ∙ long₁ in
-    let fits₂ = second_fits E at fixed kept boost words depth kind there _ part₁ a.result.group_at e₁ a.new.st a.ensures.required_post _ part₂ e₂ b.new.st b.ensures.others_post pre in
-    omega (arith, fits₂, c.well_formed)
+place_boolean-overflow_add-size t c = omega (arith, (second t (goal.at.place_boolean-overflow_add-size t c).After-place_others-shoulds).0, c.well_formed)
 
-pub place_boolean-overflow_add-size-2 : goal.place_boolean-overflow_add-size-2
-place_boolean-overflow_add-size-2 t c =
-    let E = given c.args.records.now in
-    let at = c.args.at in
-    let fixed = is_some c.args.passed.kept in
-    let kept = kept_score c.args.passed.kept in
-    let boost = c.args.passed.boost in
-    let words = length c.args.st.now in
-    let depth = c.args.depth in
-    let pre = c.requires.tree_pre in
-    let kind = c.requires.at_value in
-    let there : get_or E.presents at 0 ≡ 0 → ⊥ = λ z. not-none (get_or c.args.records.now.measures.now at no_measure).present c.if-not-records-at.false (sym (present-at c.args.records.now.measures.now at) ∙ z) in
-    let st₀ = c.args.st.now in
-    let part₁ = mid_len node_state_words words st₀ (omega arith) in
-    let a = c.place_required-first in
-    let e₁ = a.result.end in
-    let st₁ = put_mid node_state_words (words - node_state_words) st₀ a.new.st in
-    let long₁ = same_len_mid node_state_words (words - node_state_words) st₀ a.new.st a.auto.st in
-    let part₂ = mid_len (node_state_words + e₁) (length st₁) st₁ (omega arith) ∙ ap (λ (z : ℕ). z - (node_state_words + e₁)) long₁ in
-    let b = c.place_others-shoulds in
-    let e₂ = b.result in
-    let st₂ = put_mid (node_state_words + e₁) (length st₁ - (node_state_words + e₁)) st₁ b.new.st in
-    let long₂ = same_len_mid (node_state_words + e₁) (length st₁ - (node_state_words + e₁)) st₁ b.new.st b.auto.st ∙ long₁ in
-    let part₃ = mid_len (node_state_words + (e₁ + e₂)) (length st₂) st₂ (omega arith) ∙ ap (λ (z : ℕ). z - (node_state_words + (e₁ + e₂))) long₂ in
-    let d = c.place_others-nots in
-    let e₃ = d.result in
-    let fits₃ = whole-fits E at fixed kept boost words depth kind there _ part₁ a.result.group_at e₁ a.new.st a.ensures.required_post _ part₂ e₂ b.new.st b.ensures.others_post _ part₃ e₃ d.new.st d.ensures.others_post pre in
-    omega (arith, fits₃, c.well_formed)
+-- and the prohibited ones'
+abbrev words₃ : (t : _) → goal.place_boolean-After-place_others-nots t → List ℕ
+words₃ t c =
+    let st₁ = put_mid node_state_words (length c.args.st.now - node_state_words) c.args.st.now c.place_required-first.new.st in
+    let at₂ = node_state_words + c.place_required-first.result.end in
+    let st₂ = put_mid at₂ (length st₁ - at₂) st₁ c.place_others-shoulds.new.st in
+    let at₃ = node_state_words + (c.place_required-first.result.end + c.place_others-shoulds.result) in
+    put_mid at₃ (length st₂ - at₃) st₂ c.place_others-nots.new.st
 
-pub place_boolean-put_boolean-requires : goal.place_boolean-put_boolean-requires
-place_boolean-put_boolean-requires t c =
+abbrev size₃ : (t : _) → goal.place_boolean-After-place_others-nots t → ℕ
+size₃ t c = node_state_words + (c.place_required-first.result.end + c.place_others-shoulds.result) + c.place_others-nots.result
+
+third : (t : _) (c : goal.place_boolean-After-place_others-nots t) → (size₃ t c ≤ length c.args.st.now) × (length (words₃ t c) ≡ length c.args.st.now) × (size₃ t c < 4294967296) × (c.place_required-first.result.group_at ≤ size₃ t c)
+third t c =
     let E = given c.args.records.now in
     let at = c.args.at in
     let fixed = is_some c.args.passed.kept in
@@ -353,7 +313,7 @@ place_boolean-put_boolean-requires t c =
     let depth = c.args.depth in
     let pre = c.requires.tree_pre in
     let kind = c.requires.at_value in
-    let there : get_or E.presents at 0 ≡ 0 → ⊥ = λ z. not-none (get_or c.args.records.now.measures.now at no_measure).present c.if-not-records-at.false (sym (present-at c.args.records.now.measures.now at) ∙ z) in
+    let there = marked c.args.records.now.measures.now at c.if-not-records-at.false in
     let st₀ = c.args.st.now in
     let part₁ = mid_len node_state_words words st₀ (omega arith) in
     let a = c.place_required-first in
@@ -369,10 +329,19 @@ place_boolean-put_boolean-requires t c =
     let d = c.place_others-nots in
     let e₃ = d.result in
     let long₃ = same_len_mid (node_state_words + (e₁ + e₂)) (length st₂ - (node_state_words + (e₁ + e₂))) st₂ d.new.st d.auto.st ∙ long₂ in
+    let fits = whole-fits E at fixed kept boost words depth kind there _ part₁ a.result.group_at e₁ a.new.st a.ensures.required_post _ part₂ e₂ b.new.st b.ensures.others_post _ part₃ e₃ d.new.st d.ensures.others_post pre in
     let small = whole-small E at fixed kept boost words depth kind there _ part₁ a.result.group_at e₁ a.new.st a.ensures.required_post _ part₂ e₂ b.new.st b.ensures.others_post _ part₃ e₃ d.new.st d.ensures.others_post pre in
     let group = group-within E at fixed kept boost words depth kind there _ part₁ a.result.group_at e₁ a.new.st a.ensures.required_post _ part₂ e₂ b.new.st b.ensures.others_post _ part₃ e₃ d.new.st d.ensures.others_post pre in
-    let some-room = tree-room E at fixed kept boost words depth pre in
-    (omega (arith, some-room, long₃), omega (arith, small), omega arith, omega arith, omega (arith, group), tree-kept E at fixed kept boost words depth pre)
+    (omega (arith, fits), long₃, omega (arith, small), omega (arith, group))
+
+pub place_boolean-overflow_add-size-2 : goal.place_boolean-overflow_add-size-2
+place_boolean-overflow_add-size-2 t c = omega (arith, (third t (goal.at.place_boolean-overflow_add-size-2 t c).After-place_others-nots).0, c.well_formed)
+
+pub place_boolean-put_boolean-requires : goal.place_boolean-put_boolean-requires
+place_boolean-put_boolean-requires t c =
+    let some = boolean t (goal.at.place_boolean-put_boolean-requires t c).Start in
+    let all = third t (goal.at.place_boolean-put_boolean-requires t c).After-place_others-nots in
+    (omega (arith, some.room, all.1), omega (arith, all.2), omega arith, omega arith, omega (arith, all.3), tree-kept (given c.args.records.now) c.args.at (is_some c.args.passed.kept) (kept_score c.args.passed.kept) c.args.passed.boost (length c.args.st.now) c.args.depth c.requires.tree_pre)
 
 pub place_boolean-returns-clause-tree_post : goal.place_boolean-returns-clause-tree_post
 place_boolean-returns-clause-tree_post t c =
@@ -385,7 +354,7 @@ place_boolean-returns-clause-tree_post t c =
     let depth = c.args.depth in
     let pre = c.requires.tree_pre in
     let kind = c.requires.at_value in
-    let there : get_or E.presents at 0 ≡ 0 → ⊥ = λ z. not-none (get_or c.args.records.now.measures.now at no_measure).present c.if-not-records-at.false (sym (present-at c.args.records.now.measures.now at) ∙ z) in
+    let there = marked c.args.records.now.measures.now at c.if-not-records-at.false in
     let st₀ = c.args.st.now in
     let part₁ = mid_len node_state_words words st₀ (omega arith) in
     let a = c.place_required-first in
@@ -407,47 +376,16 @@ place_list-loop-at-init t c =
     list-starts (given c.args.records.now) c.args.list.now c.args.boost (length c.args.st.now) c.args.depth c.args.st.now
 
 pub place_list-occur_at-occurrence-requires : goal.place_list-occur_at-occurrence-requires
-place_list-occur_at-occurrence-requires t c =
-    let E = given c.args.records.now in
-    let l = c.loop-at in
-    let st₀ = c.args.st.now in
-    let list = c.args.list.now in
-    let boost = c.args.boost in
-    let depth = c.args.depth in
-    list-here E list boost (length st₀) depth l.at-index c.requires (omega arith)
+place_list-occur_at-occurrence-requires t c = list-here (given c.args.records.now) c.args.list.now c.args.boost (length c.args.st.now) c.args.depth c.loop-at.at-index c.requires (omega arith)
 
 pub place_list-offset_bounds-st-used : goal.place_list-offset_bounds-st-used
-place_list-offset_bounds-st-used t c =
-    let E = given c.args.records.now in
-    let l = c.loop-at in
-    let st₀ = c.args.st.now in
-    let list = c.args.list.now in
-    let boost = c.args.boost in
-    let depth = c.args.depth in
-    let within = list-within E list boost (length st₀) depth l.at-index l.used l.st l.invariant c.requires in
-    omega (arith, within, c.well_formed)
+place_list-offset_bounds-st-used t c = omega (arith, list-within (given c.args.records.now) c.args.list.now c.args.boost (length c.args.st.now) c.args.depth c.loop-at.at-index c.loop-at.used c.loop-at.st c.loop-at.invariant c.requires, c.well_formed)
 
 pub place_list-slice_bounds-place-count : goal.place_list-slice_bounds-place-count
-place_list-slice_bounds-place-count t c =
-    let E = given c.args.records.now in
-    let l = c.loop-at in
-    let st₀ = c.args.st.now in
-    let list = c.args.list.now in
-    let boost = c.args.boost in
-    let depth = c.args.depth in
-    let within = list-within E list boost (length st₀) depth l.at-index l.used l.st l.invariant c.requires in
-    omega (arith, within)
+place_list-slice_bounds-place-count t c = omega (arith, list-within (given c.args.records.now) c.args.list.now c.args.boost (length c.args.st.now) c.args.depth c.loop-at.at-index c.loop-at.used c.loop-at.st c.loop-at.invariant c.requires)
 
 pub place_list-slice_bounds-place-start : goal.place_list-slice_bounds-place-start
-place_list-slice_bounds-place-start t c =
-    let E = given c.args.records.now in
-    let l = c.loop-at in
-    let st₀ = c.args.st.now in
-    let list = c.args.list.now in
-    let boost = c.args.boost in
-    let depth = c.args.depth in
-    let within = list-within E list boost (length st₀) depth l.at-index l.used l.st l.invariant c.requires in
-    omega (arith, within)
+place_list-slice_bounds-place-start t c = omega (arith, list-within (given c.args.records.now) c.args.list.now c.args.boost (length c.args.st.now) c.args.depth c.loop-at.at-index c.loop-at.used c.loop-at.st c.loop-at.invariant c.requires)
 
 pub place_list-place-used-requires : goal.place_list-place-used-requires
 place_list-place-used-requires t c =
@@ -482,14 +420,7 @@ place_list-loop-at-preserved t c =
     list-more E list boost (length st₀) depth l.at-index l.used l.st l.invariant _ c.occur_at-occurrence.result _ c.passed_on.result (omega arith) refl c.occur_at-occurrence.ensures c.passed_on.ensures kept-nothing c.requires.6 (omega arith) _ (mid_len l.used (length l.st) l.st (omega arith)) c.from.result c.place-used.result c.place-used.new.st (post_of l.used (length l.st - l.used) l.st) scores c.place-used.ensures.tree_post
 
 pub place_list-returns-clause-list_post : goal.place_list-returns-clause-list_post
-place_list-returns-clause-list_post t c =
-    let E = given c.args.records.now in
-    let l = c.loop-at in
-    let st₀ = c.args.st.now in
-    let list = c.args.list.now in
-    let boost = c.args.boost in
-    let depth = c.args.depth in
-    list-ends E list boost (length st₀) depth l.at-index l.used l.st l.invariant (omega arith)
+place_list-returns-clause-list_post t c = list-ends (given c.args.records.now) c.args.list.now c.args.boost (length c.args.st.now) c.args.depth c.loop-at.at-index c.loop-at.used c.loop-at.st c.loop-at.invariant (omega arith)
 
 pub place_others-clauses_of-list-requires : goal.place_others-clauses_of-list-requires
 place_others-clauses_of-list-requires t c =
@@ -566,48 +497,22 @@ place_required-place_list-group_at-requires t c =
     let n = c.no_dearer-before.result in
     (omega (arith, c.decreases), required-first E ms (refl, refl, refl) at boost words depth list o.ensures.readies_at n (take n list) refl c.requires)
 
-pub place_required-offset_bounds-st-group_at : goal.place_required-offset_bounds-st-group_at
-place_required-offset_bounds-st-group_at t c =
-    let E = given c.args.records.now in
-    let at = c.args.at in
-    let boost = c.args.boost in
-    let words = length c.args.st.now in
-    let depth = c.args.depth in
-    let ms = c.args.records.now.measures.now in
-    let o = c.required_clauses-list in
-    let list = o.result.now in
+-- the part before the group is within the words
+before : (t : _) (c : goal.place_required-After-place_list-group_at t) → c.place_list-group_at.result ≤ length c.place_list-group_at.new.st
+before t c =
+    let list = c.required_clauses-list.result.now in
     let n = c.no_dearer-before.result in
     let p = c.place_list-group_at in
-    let within = required-within E ms (refl, refl, refl) at boost words depth list o.ensures.readies_at n (take n list) refl p.result p.new.st p.auto.st p.ensures.list_post c.requires in
-    omega (arith, within, p.auto.st, c.well_formed)
+    required-within (given c.args.records.now) c.args.records.now.measures.now (refl, refl, refl) c.args.at c.args.boost (length c.args.st.now) c.args.depth list c.required_clauses-list.ensures.readies_at n (take n list) refl p.result p.new.st p.auto.st p.ensures.list_post c.requires
+
+pub place_required-offset_bounds-st-group_at : goal.place_required-offset_bounds-st-group_at
+place_required-offset_bounds-st-group_at t c = omega (arith, before t (goal.at.place_required-offset_bounds-st-group_at t c).After-place_list-group_at, c.place_list-group_at.auto.st, c.well_formed)
 
 pub place_required-slice_bounds-place_list-count : goal.place_required-slice_bounds-place_list-count
-place_required-slice_bounds-place_list-count t c =
-    let E = given c.args.records.now in
-    let at = c.args.at in
-    let boost = c.args.boost in
-    let words = length c.args.st.now in
-    let depth = c.args.depth in
-    let ms = c.args.records.now.measures.now in
-    let o = c.required_clauses-list in
-    let list = o.result.now in
-    let n = c.no_dearer-before.result in
-    let p = c.place_list-group_at in
-    required-within E ms (refl, refl, refl) at boost words depth list o.ensures.readies_at n (take n list) refl p.result p.new.st p.auto.st p.ensures.list_post c.requires
+place_required-slice_bounds-place_list-count t c = before t (goal.at.place_required-slice_bounds-place_list-count t c).After-place_list-group_at
 
 pub place_required-slice_bounds-place_list-start : goal.place_required-slice_bounds-place_list-start
-place_required-slice_bounds-place_list-start t c =
-    let E = given c.args.records.now in
-    let at = c.args.at in
-    let boost = c.args.boost in
-    let words = length c.args.st.now in
-    let depth = c.args.depth in
-    let ms = c.args.records.now.measures.now in
-    let o = c.required_clauses-list in
-    let list = o.result.now in
-    let n = c.no_dearer-before.result in
-    let p = c.place_list-group_at in
-    required-within E ms (refl, refl, refl) at boost words depth list o.ensures.readies_at n (take n list) refl p.result p.new.st p.auto.st p.ensures.list_post c.requires
+place_required-slice_bounds-place_list-start t c = before t (goal.at.place_required-slice_bounds-place_list-start t c).After-place_list-group_at
 
 pub place_required-place_list-rest-requires : goal.place_required-place_list-rest-requires
 place_required-place_list-rest-requires t c =

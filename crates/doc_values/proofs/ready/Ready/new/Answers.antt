@@ -1,4 +1,4 @@
-use Rattle.std.proofs.Common.{◌<◌, ◌^◌, ◌+◌, ◌*◌, ℕ, ap, ◌∙◌, arith}
+use Rattle.std.proofs.Common.{◌<◌, ◌^◌, ◌+◌, ◌*◌, ap, ◌∙◌, arith}
 use Rattle.meaning.specs.Lent.{column_type}
 use Rattle.meaning.specs.Entries.{columns_only}
 use Rattle.index.specs.Ranges.{asked}
@@ -9,15 +9,15 @@ use Rattle.doc_values.proofs.Ranges.{column-there, column_fits, value-as-range}
 use Rattle.doc_values.proofs.ready.Ready.new.Goals as goal
 
 pub bounds-columns-at : goal.bounds-columns-at
-bounds-columns-at c = let a = c.args in column-there (columns_only a.max_doc a.columns.now a.values.now) (asked a.range) c.requires.range_value
+bounds-columns-at c = let a = c.args in column-there (columns_only a.max_doc a.columns.now a.values.now) (asked a.range) c.requires.right.range
 
 pub overflow_mul-result-2 : goal.overflow_mul-result-2
 overflow_mul-result-2 c =
     let a = c.args in
-    omega (arith, column_fits (columns_only a.max_doc a.columns.now a.values.now) (asked a.range) c.requires.values_value_2 c.requires.range_value, c.well_formed)
+    omega (arith, column_fits (columns_only a.max_doc a.columns.now a.values.now) (asked a.range) c.requires.right.columns c.requires.right.range, c.well_formed)
 
 pub invariant_of-result : goal.invariant_of-result
-invariant_of-result c = let a = c.args in record { there = column_fits (columns_only a.max_doc a.columns.now a.values.now) (asked a.range) c.requires.values_value_2 c.requires.range_value }
+invariant_of-result c = let a = c.args in record { there = column_fits (columns_only a.max_doc a.columns.now a.values.now) (asked a.range) c.requires.right.columns c.requires.right.range }
 
 pub returns-clause-takes : goal.returns-clause-takes
 returns-clause-takes c =

@@ -1,6 +1,5 @@
-use Rattle.std.proofs.Common.{◌≡◌, refl, sym, ap, ◌∙◌, ℕ, length, arith}
+use Rattle.std.proofs.Common.{refl, sym, ◌∙◌, arith}
 use Rattle.meaning.specs.Below.{list_below}
-use Rattle.meaning.specs.Entries.{written}
 use Rattle.meaning.proofs.Below.{list_length}
 use Rattle.doc_values.specs.Listed.{listed}
 use Rattle.doc_values.proofs.Lists.{turn-taken, turn-left}
@@ -29,13 +28,3 @@ loop-document-preserved c =
 
 pub overflow_cast-result : goal.overflow_cast-result
 overflow_cast-result c = omega (arith, c.loop-document.invariant.0, list_length (listed c.args.self) c.loop-document.document)
-
-pub returns-clause-value : goal.returns-clause-value
-returns-clause-value c =
-    let end : c.loop-document.document ≡ c.args.self.max_doc = omega arith in
-    c.loop-document.invariant.0 ∙ ap (λ (n : ℕ). length (list_below n (listed c.args.self))) end
-
-pub returns-clause-output_after : goal.returns-clause-output_after
-returns-clause-output_after c =
-    let end : c.loop-document.document ≡ c.args.self.max_doc = omega arith in
-    c.loop-document.invariant.1 ∙ ap (λ (n : ℕ). written (list_below n (listed c.args.self)) c.args.output.now) end

@@ -30,6 +30,3 @@ returns-clause-value c =
     let l = c.loop-word in
     let F : ℕ → Bool = listed a.self in
     l.invariant.0 ∙ count-cut a.self.max_doc (32 * l.word) F (omega arith) ∙ sym (list-count a.self.max_doc F)
-
-pub returns-clause-bitmap : goal.returns-clause-bitmap
-returns-clause-bitmap c = λ i p h k. c.loop-word.invariant.1 i p (omega (arith, h)) k
