@@ -4,12 +4,13 @@
 // stands; then the lists' words. Norm bytes stand four to a word, live words as two, the low half first.
 #![tactic(auto)]
 
+use hits_text::words::read_words;
 use index::lent::Lent;
 use searcher::buffers::Buffers;
 use std::io;
 use std::io::Write;
 use std::rt::Files;
-use vectors::file::{bytes_at, list, read_bytes, read_long_words, read_words, records};
+use vectors::file::{bytes_at, list, read_bytes, read_long_words, records};
 use weight::NODE_STATE_WORDS;
 
 // The most places that a page has.
@@ -110,9 +111,9 @@ fn print_file(out: &mut impl Write, rt: &(impl Files + Eprint), path: &str) -> i
     let mut bytes = [0u8; 65_536];
     let mut file = [0u32; 16_384];
     read_bytes(rt, path, &mut bytes)?;
-    read_words(&bytes, &mut file);
-    for case in records::<14>(&file) {
-        print_case(out, &file, &bytes, *case)?;
+    let file = read_words(&bytes, &mut file);
+    for case in records::<14>(file) {
+        print_case(out, file, &bytes, *case)?;
     }
     Ok(())
 }
