@@ -24,7 +24,7 @@ index_at run i = get_or run (3 * i + 2) 0
 abbrev frequency_at : List ℕ → ℕ → ℕ
 frequency_at run i = get_or run (3 * i + 1) 0
 
-module _ {run : List ℕ} {n : ℕ} (joined : any_below n (apart_at run) ≡ false) where
+module _ (run : List ℕ) (n : ℕ) (joined : any_below n (apart_at run) ≡ false) where
   next-is : (i : ℕ) → suc i < n → index_at run (suc i) ≡ index_at run i + frequency_at run i
   unfolding apart_at
   next-is i l =
@@ -34,7 +34,7 @@ module _ {run : List ℕ} {n : ℕ} (joined : any_below n (apart_at run) ≡ fal
   index_is zero l = omega (arith, before-zero (frequency_at run))
   index_is (suc i) l = omega (arith, next-is i l, index_is i (omega arith), before-next (frequency_at run) i)
 
-  module _ {end : ℕ} (some : 0 < n) (e : end ≡ index_at run (n - 1) + frequency_at run (n - 1)) where
+  module _ (end : ℕ) (some : 0 < n) (e : end ≡ index_at run (n - 1) + frequency_at run (n - 1)) where
     pub end_is : end ≡ index_at run 0 + before (frequency_at run) n
     end_is = let k : suc (n - 1) ≡ n = omega arith in omega (arith, index_is (n - 1) (omega arith), before-next (frequency_at run) (n - 1), ap (before (frequency_at run)) k)
 
@@ -48,7 +48,7 @@ module _ {run : List ℕ} {n : ℕ} (joined : any_below n (apart_at run) ≡ fal
         let h : length positions < index_at run (n - 1) + frequency_at run (n - 1) = omega arith in any_some n (wrong_places run positions) (n - 1) (omega arith) (rw (lt-ltb _ _ h))
 
     -- where they do
-    module _ {positions : List ℕ} (fits : end ≤ length positions) (above : (i : ℕ) → i < n → 0 < frequency_at run i) where
+    module _ (positions : List ℕ) (fits : end ≤ length positions) (above : (i : ℕ) → i < n → 0 < frequency_at run i) where
       abbrev part : List ℕ
       part = take (end - index_at run 0) (drop (index_at run 0) positions)
 
@@ -101,7 +101,7 @@ module _ {run : List ℕ} {n : ℕ} (joined : any_below n (apart_at run) ≡ fal
           ap (λ (b : Bool). b || not (eqb (count_below (length part) (fall_at part)) (count_below n (seam_at run positions)))) high-all ∙ ap (λ (b : Bool). any_below n (λ i. any_below (frequency_at run i) (λ j. ltb no_more_docs (get_or (drop (index_at run i) positions) j 0))) || b) falls-all ∙ sym (any-or n _ _) ∙ any-like n _ _ (λ i l. sym (places-are i l))
 
       -- where the or of all shows that none is high: as many falls as at the postings' firsts are right
-      module _ {most : ℕ} (small : most ≤ 2147483647) (bound : (k : ℕ) → k < length part → get_or part k 0 ≤ most) where
+      module _ (most : ℕ) (small : most ≤ 2147483647) (bound : (k : ℕ) → k < length part → get_or part k 0 ≤ most) where
         none-high : any_below (length part) (λ k. ltb no_more_docs (get_or part k 0)) ≡ false
         none-high = any_none (length part) _ (λ k l. let h : get_or part k 0 ≤ 2147483647 = omega (arith, bound k l) in le-ltb _ _ h)
 
@@ -116,16 +116,16 @@ module _ {run : List ℕ} {n : ℕ} (joined : any_below n (apart_at run) ≡ fal
         right-ones h = any_none n (wrong_places run positions) (λ i l. places-are i l ∙ rw (none_below n _ (sym high-all ∙ none-high) i l) (any_none (frequency_at run i) _ (λ j g. let z : j ≡ 0 = omega (arith, h i l) in ap (fall_at (drop (index_at run i) positions)) z ∙ no-fall i)))
 
       -- the same where the code holds the part's ends in locals
-      module _ {from : ℕ} (f : from ≡ index_at run 0) {most : ℕ} (small : most ≤ 2147483647) (bound : (k : ℕ) → k < length (take (end - from) (drop from positions)) → get_or (take (end - from) (drop from positions)) k 0 ≤ most) where
+      module _ (from : ℕ) (f : from ≡ index_at run 0) (most : ℕ) (small : most ≤ 2147483647) (bound : (k : ℕ) → k < length (take (end - from) (drop from positions)) → get_or (take (end - from) (drop from positions)) k 0 ≤ most) where
         same-bound : (k : ℕ) → k < length part → get_or part k 0 ≤ most
         same-bound = subst (λ (z : ℕ). (k : ℕ) → k < length (take (end - z) (drop z positions)) → get_or (take (end - z) (drop z positions)) k 0 ≤ most) f bound
 
         pub falls-right : (w z : ℕ) → w ≡ count_below (length (take (end - from) (drop from positions))) (drop_at (take (end - from) (drop from positions))) → z ≡ count_below n (seam_at run positions) → w ≡ z → any_below n (wrong_places run positions) ≡ false
         falls-right w z g h e =
-            right-falls small same-bound (sym (subst (λ (y : ℕ). w ≡ count_below (length (take (end - y) (drop y positions))) (drop_at (take (end - y) (drop y positions)))) f g) ∙ e ∙ h)
+            right-falls most small same-bound (sym (subst (λ (y : ℕ). w ≡ count_below (length (take (end - y) (drop y positions))) (drop_at (take (end - y) (drop y positions)))) f g) ∙ e ∙ h)
 
         pub ones-right : ((i : ℕ) → i < n → frequency_at run i ≤ 1) → any_below n (wrong_places run positions) ≡ false
-        ones-right = right-ones small same-bound
+        ones-right = right-ones most small same-bound
 
       -- what `seams` reads lies within the slice
       pub seam-within : (i : ℕ) → 0 < i → i < n → (0 < index_at run i) × (index_at run i < length positions)
@@ -134,7 +134,7 @@ module _ {run : List ℕ} {n : ℕ} (joined : any_below n (apart_at run) ≡ fal
 
 -- where the positions begin and end
 pub begins-before : (run : List ℕ) → 0 < length run / 3 → any_below (length run / 3) (apart_at run) ≡ false → ((i : ℕ) → i < length run / 3 → 0 < frequency_at run i) → index_at run 0 < index_at run (length run / 3 - 1) + frequency_at run (length run / 3 - 1)
-begins-before run some joined above = omega (arith, ends-within joined some refl 0 some, above 0 some)
+begins-before run some joined above = omega (arith, ends-within run (length run / 3) joined _ some refl 0 some, above 0 some)
 
 -- ---- the loops
 pub seam-first : (run positions : List ℕ) → ◌≡◌ {A = ℕ} 0 (count_below 1 (seam_at run positions))

@@ -19,7 +19,9 @@ slice_bounds-part-count c = omega (arith, begins (goal.at.slice_bounds-part-coun
 
 pub returns-then-frequencies-le1 : goal.returns-then-frequencies-le1
 returns-then-frequencies-le1 c = λ e.
-    ones-right c.requires.run_value c.requires.nonzero refl c.if-end-positions.false (λ i l. (c.requires.by_index i l).0) refl (leb-true _ _ e) c.or_all.ensures (λ i l. omega (arith, (c.requires.by_index i l).1, c.if-frequencies-le1.true))
+    let run = c.args.run.now in
+    let n = length c.args.run.now / 3 in
+    ones-right run n c.requires.run_value (get_or run (3 * (n - 1) + 2) 0 + get_or run (3 * (n - 1) + 1) 0) c.requires.nonzero refl c.args.positions.now c.if-end-positions.false (λ i l. (c.requires.by_index i l).0) (get_or run 2 0) refl _ (leb-true _ _ e) c.or_all.ensures (λ i l. omega (arith, (c.requires.by_index i l).1, c.if-frequencies-le1.true))
 
 pub seen_in-seen-requires : goal.seen_in-seen-requires
 seen_in-seen-requires c =
@@ -27,10 +29,14 @@ seen_in-seen-requires c =
 
 pub seams-requires-clause-by_index : goal.seams-requires-clause-by_index
 seams-requires-clause-by_index c =
-    seam-within c.requires.run_value c.requires.nonzero refl c.if-end-positions.false (λ i l. (c.requires.by_index i l).0)
+    let run = c.args.run.now in
+    let n = length c.args.run.now / 3 in
+    seam-within run n c.requires.run_value (get_or run (3 * (n - 1) + 2) 0 + get_or run (3 * (n - 1) + 1) 0) c.requires.nonzero refl c.args.positions.now c.if-end-positions.false (λ i l. (c.requires.by_index i l).0)
 
 pub returns : goal.returns
 returns c = λ e.
+    let run = c.args.run.now in
+    let n = length c.args.run.now / 3 in
     let few = leb c.seen_in-seen.result.all 2147483647 in
     let same = eqb c.seen_in-seen.result.falls c.seams.result in
-    falls-right c.requires.run_value c.requires.nonzero refl c.if-end-positions.false (λ i l. (c.requires.by_index i l).0) refl (leb-true _ _ (and_left few same e)) c.seen_in-seen.ensures.by_index _ _ c.seen_in-seen.ensures.falls_value c.seams.ensures (eqb-true _ _ (and_right few same e))
+    falls-right run n c.requires.run_value (get_or run (3 * (n - 1) + 2) 0 + get_or run (3 * (n - 1) + 1) 0) c.requires.nonzero refl c.args.positions.now c.if-end-positions.false (λ i l. (c.requires.by_index i l).0) (get_or run 2 0) refl _ (leb-true _ _ (and_left few same e)) c.seen_in-seen.ensures.by_index _ _ c.seen_in-seen.ensures.falls_value c.seams.ensures (eqb-true _ _ (and_right few same e))
