@@ -128,6 +128,8 @@ fn adjacent(lent: &Lent, l: usize, limit: usize) -> Result<Stretch, usize>
         return Err(l + 1);
     }
     let mut falls: usize = 0;
+    // Kept: no plainer: the loop also ends early, with either answer, and carries where the last run ended; a count apart would read
+    // the leaves twice.
     for end in l + 1..limit {
         if !follows(lent, end, last) {
             return Ok(Stretch { end, last, falls });

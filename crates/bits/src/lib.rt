@@ -88,6 +88,7 @@ pub fn first_bits(n: u32) -> u64
 }
 
 // A word and its two halves.
+// Kept: no plainer by From, which would want a struct of the halves: each of the three is one line, and its name says which half.
 pub fn joined(low: u32, high: u32) -> u64
     ensures word { result ≡ low + 4294967296 * high }
     ensures low_bits { (q : ℕ) → q < 32 → bit q result ≡ bit q low }

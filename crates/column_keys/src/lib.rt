@@ -12,6 +12,7 @@ use column_type::ColumnType;
 use keys::{Keys, end_of, lower_keys, upper_keys};
 
 // A 64-bit pattern from its low and its high half.
+// Kept: no plainer as that of `bits`, whose promises are of a word's bits: this one is document 01's, for whoever reads a value or an end.
 pub fn joined(low: u32, high: u32) -> u64
     ensures { result ≡ joined low high }
 {

@@ -1,9 +1,10 @@
 -- What a chain over numbers or records finds and counts, as `any_below` and `count_below`. Assumes nothing.
-use Rattle.std.proofs.Common.{◌≡◌, ℕ, zero, suc, ◌+◌, ◌*◌, ◌<◌, ◌≤◌, Bool, true, false, cond, List, [], length, get_or, take, drop, refl, sym, ap, ◌∙◌, ⊎_elim, arith, add-one, drop-drop, take_all, le_refl, get_or-take, get_or-drop}
-use Rattle.std.specs.List.{list_any, count_by}
+use Rattle.std.proofs.Common.{◌≡◌, ℕ, zero, suc, ◌+◌, ◌*◌, ◌<◌, ◌≤◌, Bool, true, false, cond, List, [], length, get_or, take, drop, refl, sym, ap, ◌∙◌, ⊎_elim, arith, add-one, drop-drop, take_all, le_refl, zero-add, get_or-take, get_or-drop}
+use Rattle.std.specs.List.{list_any, count_by, filter, range_with_len}
 use Rattle.std.specs.Simd.{first_chunks}
 use Rattle.std.proofs.lemmas.List.Folds.{list_any_more}
-use Rattle.std.proofs.lemmas.List.Sums.{count_by_more_yes, count_by_more_no}
+use Rattle.std.proofs.lemmas.List.Sums.{count_by_more_yes, count_by_more_no, length-filter}
+use Rattle.std.proofs.lemmas.List.FromFn.{length-range_with_len, get_or-range_with_len}
 use Rattle.meaning.specs.Below.{any_below, count_below}
 use Rattle.meaning.proofs.Below.{any-more, any-zero, any-like, count-more, count-zero}
 use Rattle.meaning.proofs.Tests.{decided}
@@ -37,6 +38,11 @@ module _ {X : Type 0} (p : X → Bool) (xs : List X) (d : X) where
   pub count-list : count_by p xs ≡ count_below (length xs) (λ k. p (get_or xs k d))
   count-list = ap (count_by p) (sym (take_all (length xs) xs (le_refl _))) ∙ count-first (length xs) (le_refl _)
 
+-- of the numbers below n
+pub count-range : (p : ℕ → Bool) (n : ℕ) → length (filter p (range_with_len 0 n)) ≡ count_below n p
+count-range p n =
+    length-filter p _ ∙ count-list p (range_with_len 0 n) 0 ∙ ap (λ (m : ℕ). count_below m (λ k. p (get_or (range_with_len 0 n) k 0))) (length-range_with_len 0 n) ∙ count-like n _ p (λ i l. ap p (get_or-range_with_len 0 n i 0 l ∙ zero-add i))
+
 -- the chunks of a size: each, and a word of one
 chunk-at : {X : Type 0} (size n : ℕ) (xs : List X) (i : ℕ) → i < n → get_or (first_chunks size n xs) i [] ≡ take size (drop (size * i) xs)
 chunk-at size zero xs i l = absurd (omega arith)
@@ -58,7 +64,3 @@ module _ (p : List ℕ → Bool) (q : ℕ → Bool) (size n : ℕ) (xs : List �
   pub any-records : list_any p (first_chunks size n xs) ≡ any_below n q
   any-records =
       any-list p (first_chunks size n xs) [] ∙ ap (λ (m : ℕ). any_below m (λ k. p (get_or (first_chunks size n xs) k []))) (length-chunks size n xs) ∙ any-like n _ q same
-
-  pub count-records : (f : ℕ) → f ≤ n → count_by p (take f (first_chunks size n xs)) ≡ count_below f q
-  count-records f l =
-      count-first p (first_chunks size n xs) [] f (omega (arith, length-chunks size n xs)) ∙ count-like f _ q (λ i m. same i (omega arith))

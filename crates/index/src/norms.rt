@@ -5,15 +5,15 @@ ghost use Rattle.meaning.specs.Lent.{has_norms};
 ghost use Rattle.meaning.specs.IndexRefusals.{wrong2, wrong3};
 ghost use Rattle.index.specs.Slices.{fields_only, lengths_only};
 
+use super::fields::field_at;
+
 // How many of the fields before field f have norms.
 fn norms_before(fields: &[u32], f: usize) -> usize
     requires { f ≤ length fields.now / 3 }
     ensures { result ≡ count_below f (has_norms (fields_only fields.now)) }
 {
-    let (records, _) = fields.as_chunks::<3>();
-    records[..f]
-        .iter()
-        .filter(|[_, norms, _]| *norms == 1)
+    (0..f)
+        .filter(|at| field_at(fields, *at).has_norms())
         .count()
 }
 

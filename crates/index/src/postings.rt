@@ -3,6 +3,8 @@ ghost use Rattle.std.specs.Prelude.{◌≡◌, ◌<◌, ◌+◌, ◌/◌, length
 ghost use Rattle.index.specs.Runs.{posting_document, posting_frequency, posting_index};
 
 // The limits of document 01: NO_MORE_DOCS is also the largest position; a frequency of 1 to 16,777,216.
+// Kept: no plainer as an Option: Lucene's end of an iterator is a document above all others, so that `min` and `<` need no case
+// for it, and it stands so in the lent words and in what C is answered.
 pub const NO_MORE_DOCS: u32 = 2147483647;
 
 pub const LARGEST_FREQUENCY: u32 = 16777216;

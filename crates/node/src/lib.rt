@@ -6,18 +6,16 @@ ghost use Rattle.meaning.specs.Limits.{node_state_words};
 ghost use Rattle.node.specs.Kinds.{kind_of, kind_word};
 ghost use Rattle.node.specs.Words.{ChildThere, ChildIs, BooleanIs};
 
-use index::wide;
-
 // A node's kind stands in the first word of its record. PhraseTerm stands only below a Phrase.
 #[derive(Clone, Copy, Debug, PartialEq, Eq)]
 pub enum NodeKind {
-    Nothing,
-    Term,
-    Phrase,
-    Boolean,
-    Range,
-    Everything,
-    PhraseTerm,
+    Nothing = 0,
+    Term = 1,
+    Phrase = 2,
+    Boolean = 3,
+    Range = 4,
+    Everything = 5,
+    PhraseTerm = 9,
 }
 
 // A word that is no kind's matches nothing.
@@ -42,15 +40,7 @@ impl NodeKind {
     pub fn word(self) -> u32
         ensures { result ≡ kind_word self }
     {
-        match self {
-            NodeKind::Nothing => 0,
-            NodeKind::Term => 1,
-            NodeKind::Phrase => 2,
-            NodeKind::Boolean => 3,
-            NodeKind::Range => 4,
-            NodeKind::Everything => 5,
-            NodeKind::PhraseTerm => 9,
-        }
+        self as u32
     }
 }
 
@@ -70,7 +60,7 @@ pub fn child_at(kids: &[u32], at: usize) -> Child
 {
     Child {
         kind: NodeKind::from(kids[at]),
-        end: at + wide(kids[at + 1]),
+        end: at + kids[at + 1] as usize,
         cached: kids[at + 2],
         scores: kids[at + 15] == 1,
     }
@@ -94,9 +84,9 @@ pub fn boolean_at(st: &[u32]) -> Boolean
 {
     Boolean {
         need: st[3],
-        required_end: wide(st[4]),
-        optional_end: wide(st[5]),
+        required_end: st[4] as usize,
+        optional_end: st[5] as usize,
         afterwards: st[13] == 1,
-        group_at: wide(st[14]),
+        group_at: st[14] as usize,
     }
 }

@@ -9,6 +9,8 @@ use refusal::Refusal;
 use searcher::buffers::Buffers;
 use std::io;
 use std::io::Write;
+use vectors::file::first;
+use vectors::print::Hits;
 use weight::NODE_STATE_WORDS;
 
 // The same below three Boosts of 1: nine records, where there are eight states.
@@ -134,14 +136,6 @@ fn with_records(
     )
 }
 
-// The answer's numbers: the refusal's, or 0, the hits held, the count and the mark.
-fn numbers(found: Result<TopDocs, Refusal>) -> [u64; 4] {
-    match found {
-        Err(refusal) => [u64::from(refusal.number()), 0, 0, 0],
-        Ok(top) => [0, u64::from(top.held), top.count, u64::from(top.mark)],
-    }
-}
-
 fn print_answer(
     out: &mut impl Write,
     found: Result<TopDocs, Refusal>,
@@ -149,7 +143,10 @@ fn print_answer(
 ) -> io::Result<()> {
     match found {
         Err(refusal) => writeln!(out, "refused {refusal} "),
-        Ok(top) => vectors::print_hits(out, top.count, top.mark, hits, top.held),
+        Ok(TopDocs { held, count, mark }) => {
+            let codes = first(hits, held as usize);
+            writeln!(out, "{}", Hits { count, mark, codes })
+        }
     }
 }
 
@@ -170,7 +167,7 @@ fn compare(out: &mut impl Write, query: &[u32], k: u32, t: u32) -> io::Result<()
     }
     print_answer(out, by_words, &hits)?;
     print_answer(out, by_records, &more)?;
-    let same = (numbers(by_words) == numbers(by_records)) & (hits == more);
+    let same = (by_words == by_records) & (hits == more);
     writeln!(out, "{}", if same { "same" } else { "different" })
 }
 

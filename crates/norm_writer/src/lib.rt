@@ -127,7 +127,7 @@ pub fn write_norms(
 {
     let mut at = 0;
     for f in 0..fields.len() / 3 {
-        if fields::field_at(fields, f).norms == 1 {
+        if fields::field_at(fields, f).has_norms() {
             let end = at + max_doc as usize;
             let field_runs = FieldRuns {
                 field: f as u32,

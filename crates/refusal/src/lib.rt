@@ -9,22 +9,22 @@ use std::fmt;
 // docs/REFUSALS.md says of each whose fault it is and what to do.
 #[derive(Clone, Copy, Debug, PartialEq, Eq)]
 pub enum Refusal {
-    MaxDoc,
-    Fields,
-    Lengths,
-    Leaves,
-    Postings,
-    Columns,
-    Records,
-    Values,
-    Boosts,
-    Positions,
-    Hits,
-    Buffers,
-    Target,
-    Picked,
-    Tokens,
-    Outputs,
+    MaxDoc = 1,
+    Fields = 2,
+    Lengths = 3,
+    Leaves = 4,
+    Postings = 5,
+    Columns = 6,
+    Records = 7,
+    Values = 8,
+    Boosts = 9,
+    Positions = 10,
+    Hits = 11,
+    Buffers = 12,
+    Target = 13,
+    Picked = 14,
+    Tokens = 15,
+    Outputs = 16,
 }
 
 impl Refusal {
@@ -32,24 +32,7 @@ impl Refusal {
     pub fn number(self) -> u32
         ensures { result ≡ number_of self }
     {
-        match self {
-            Refusal::MaxDoc => 1,
-            Refusal::Fields => 2,
-            Refusal::Lengths => 3,
-            Refusal::Leaves => 4,
-            Refusal::Postings => 5,
-            Refusal::Columns => 6,
-            Refusal::Records => 7,
-            Refusal::Values => 8,
-            Refusal::Boosts => 9,
-            Refusal::Positions => 10,
-            Refusal::Hits => 11,
-            Refusal::Buffers => 12,
-            Refusal::Target => 13,
-            Refusal::Picked => 14,
-            Refusal::Tokens => 15,
-            Refusal::Outputs => 16,
-        }
+        self as u32
     }
 }
 

@@ -4,11 +4,12 @@
 // it stands; then the lists' words. What norm bytes and live words hold is refused by nothing, so they are made here.
 #![tactic(auto)]
 
+use hits_text::words::read_words;
 use index::lent::Lent;
 use refusal::Refusal;
 use std::io;
 use std::io::Write;
-use vectors::file::{first, list, read_bytes, read_words, records};
+use vectors::file::{first, list, read_bytes, records};
 
 // Checks a case's index, then its query; its norm bytes and live words are the first of the given ones.
 fn check(file: &[u32], norms: &[u8], live: &[u64], case: [u32; 10]) -> Result<(), Refusal> {
@@ -56,7 +57,7 @@ fn main(rt: HostRuntime) -> io::Result<()> {
     let mut bytes = [0u8; 262_144];
     let mut file = [0u32; 65_536];
     let n = read_bytes(&rt, "cases.rec", &mut bytes)?;
-    read_words(&bytes[..n], &mut file);
-    print_refusals(&mut out, &file)?;
+    let file = read_words(&bytes[..n], &mut file);
+    print_refusals(&mut out, file)?;
     out.flush()
 }

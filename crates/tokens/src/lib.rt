@@ -94,7 +94,7 @@ impl TokenRecords<'_> {
         requires { (leaf < length self.leaf_fields.now) × (wrong_leaf_field self.fields.now self.leaf_fields.now leaf ≡ false) }
         ensures { result ≡ positional self.entry.fields.now self.entry.leaf_fields.now leaf }
     {
-        fields::field_at(self.fields, self.leaf_fields[leaf] as usize).positions == 1
+        fields::field_at(self.fields, self.leaf_fields[leaf] as usize).has_positions()
     }
 
     // The tokens one after the other, up to the first that is wrong.

@@ -37,14 +37,6 @@ pub fn read_all(file: &mut impl Read, bytes: &mut [u8]) -> Result<usize, usize>
     Ok(done)
 }
 
-// Little-endian words, as many as both slices have room for.
-pub fn read_words(bytes: &[u8], words: &mut [u32]) {
-    let (chunks, _) = bytes.as_chunks::<4>();
-    for (word, chunk) in words.iter_mut().zip(chunks) {
-        *word = u32::from_le_bytes(*chunk);
-    }
-}
-
 // The list that stands at `place`, its first word + 65,536 × its length; none where it isn't within the file.
 pub fn list(file: &[u32], place: u32) -> &[u32] {
     let first = (place % 65536) as usize;

@@ -1,14 +1,11 @@
 -- `add_run` meets its contract. Assumes nothing.
 use Rattle.std.proofs.Common.{◌≡◌, ◌∙◌, ◌+◌, ◌<◌, ◌≤◌, length, arith}
 use Rattle.index.specs.Runs.{posting_document}
-use Rattle.norm_writer.proofs.Adding.{adding-start, counts-long, from-base, beyond-window, adding-fits, adding-step, cursor-done, adding-done}
+use Rattle.norm_writer.proofs.Adding.{adding-start, from-base, beyond-window, adding-fits, adding-step, cursor-done, adding-done}
 use Rattle.norm_writer.proofs.add_run.Goals as goal
 
 pub loop-i-init : goal.loop-i-init
 loop-i-init c = let a = c.args in adding-start a.postings.now a.first a.number c.requires.run_ok.0 a.base a.counts.now a.from c.requires.run_ok.1
-
-pub posting_document-document-requires : goal.posting_document-document-requires
-posting_document-document-requires c = omega (arith, c.requires.run_ok.0.room, c.loop-i-test.true)
 
 pub overflow_sub-document : goal.overflow_sub-document
 overflow_sub-document c =
@@ -22,9 +19,6 @@ returns-then-document-base c =
     let l = c.loop-i in
     let beyond = beyond-window a.postings.now a.first a.number c.requires.run_ok.0 a.base a.counts.now l.i l.counts l.invariant c.loop-i-test.true c.posting_document-document.result c.posting_document-document.ensures c.if-document-base.true in
     record { value = cursor-done a.postings.now a.first a.number c.requires.run_ok.0 a.base a.counts.now l.i l.counts l.invariant (λ m. beyond); counts_after = adding-done a.postings.now a.first a.number c.requires.run_ok.0 a.base a.counts.now l.i l.counts l.invariant (λ m. beyond) }
-
-pub posting_frequency-requires : goal.posting_frequency-requires
-posting_frequency-requires c = omega (arith, c.requires.run_ok.0.room, c.loop-i-test.true)
 
 pub overflow_sub-counts : goal.overflow_sub-counts
 overflow_sub-counts c =

@@ -1,16 +1,21 @@
 -- `write_norms` meets its contract. Assumes nothing.
-use Rattle.std.proofs.Common.{◌≡◌, sym, ap, ◌∙◌, ◌+◌, ◌-◌, ◌≤◌, ℕ, length, arith}
+use Rattle.std.proofs.Common.{◌≡◌, sym, ap, ◌∙◌, ◌+◌, ◌-◌, ◌≤◌, ℕ, eqb, length, arith}
 use Rattle.std.proofs.lemmas.List.Edits.{sets}
-use borrow.Author.Tests.{eq-eqb, ne_eqb}
 use borrow.Rule.Slice.PartMut.{mid_of, mid_len}
 use Rattle.meaning.specs.Below.{list_to}
+use Rattle.meaning.specs.Lent.{has_norms}
 use Rattle.meaning.specs.SmallFloat.{int_to_byte4}
+use Rattle.index.specs.Slices.{fields_only}
 use Rattle.index.specs.declared.fields.Field.{Field}
 use Rattle.norm_writer.specs.Lengths.{length_in}
 use Rattle.norm_writer.proofs.Norms.{coded-start, norms-long, room-here, coded-with, coded-without, coded-all}
 use Rattle.norm_writer.proofs.Stored.{put-sets}
-use Rattle.norm_writer.proofs.write_norms.Goals.{then-field_at-eq1, else-field_at-eq1}
+use Rattle.norm_writer.proofs.write_norms.Goals.{After-has_norms, then-has_norms, else-has_norms}
 use Rattle.norm_writer.proofs.write_norms.Goals as goal
+
+-- what is asked of the field's record is whether the field has norms
+has : (c : After-has_norms) → c.has_norms.result ≡ has_norms (fields_only c.args.fields.now) c.loop-f.f
+has c = c.has_norms.ensures ∙ ap (λ (r : Field). eqb r.norms 1) c.field_at.ensures
 
 pub loop-f-init : goal.loop-f-init
 loop-f-init c = coded-start c.args.max_doc c.args.fields.now c.args.leaf_fields.now c.args.postings.now c.args.runs.now c.args.norms.now
@@ -18,27 +23,28 @@ loop-f-init c = coded-start c.args.max_doc c.args.fields.now c.args.leaf_fields.
 pub overflow_add-end : goal.overflow_add-end
 overflow_add-end c =
     let l = c.loop-f in
-    omega (arith, c.well_formed, norms-long c.args.max_doc c.args.fields.now c.args.leaf_fields.now c.args.postings.now c.args.runs.now c.args.norms.now c.requires.max_doc_in_bounds l.f l.at l.norms l.invariant, room-here c.args.max_doc c.args.fields.now c.args.leaf_fields.now c.args.postings.now c.args.runs.now c.args.norms.now c.requires.max_doc_in_bounds l.f l.at l.norms l.invariant c.loop-f-test.true (eq-eqb _ 1 (sym (ap (λ (r : Field). r.norms) c.field_at.ensures) ∙ c.if-field_at-eq1.true)))
+    omega (arith, c.well_formed, norms-long c.args.max_doc c.args.fields.now c.args.leaf_fields.now c.args.postings.now c.args.runs.now c.args.norms.now c.requires.max_doc_in_bounds l.f l.at l.norms l.invariant, room-here c.args.max_doc c.args.fields.now c.args.leaf_fields.now c.args.postings.now c.args.runs.now c.args.norms.now c.requires.max_doc_in_bounds l.f l.at l.norms l.invariant c.loop-f-test.true (sym (has (goal.at.overflow_add-end c).After-has_norms) ∙ c.if-has_norms.true))
 
 pub slice_bounds-write_field-end : goal.slice_bounds-write_field-end
 slice_bounds-write_field-end c =
     let l = c.loop-f in
-    let inside : l.at + c.args.max_doc ≤ length l.norms = omega (arith, room-here c.args.max_doc c.args.fields.now c.args.leaf_fields.now c.args.postings.now c.args.runs.now c.args.norms.now c.requires.max_doc_in_bounds l.f l.at l.norms l.invariant c.loop-f-test.true (eq-eqb _ 1 (sym (ap (λ (r : Field). r.norms) c.field_at.ensures) ∙ c.if-field_at-eq1.true))) in
+    let inside : l.at + c.args.max_doc ≤ length l.norms = omega (arith, room-here c.args.max_doc c.args.fields.now c.args.leaf_fields.now c.args.postings.now c.args.runs.now c.args.norms.now c.requires.max_doc_in_bounds l.f l.at l.norms l.invariant c.loop-f-test.true (sym (has (goal.at.slice_bounds-write_field-end c).After-has_norms) ∙ c.if-has_norms.true)) in
     inside
 
 pub loop-f-preserved : goal.loop-f-preserved
 loop-f-preserved c =
     let l = c.loop-f in
-    elim c.if-field_at-eq1.branch [
-      | then-field_at-eq1 w ↦ (
+    let same = sym (has (goal.at.loop-f-preserved c).After-has_norms) in
+    elim c.if-has_norms.branch [
+      | then-has_norms w ↦ (
           let f = λ (d : ℕ). int_to_byte4 (length_in c.args.leaf_fields.now c.args.postings.now c.args.runs.now l.f d) in
           let e = l.at + c.args.max_doc in
-          let inside : e ≤ length l.norms = omega (arith, room-here c.args.max_doc c.args.fields.now c.args.leaf_fields.now c.args.postings.now c.args.runs.now c.args.norms.now c.requires.max_doc_in_bounds l.f l.at l.norms l.invariant c.loop-f-test.true (eq-eqb _ 1 (sym (ap (λ (r : Field). r.norms) c.field_at.ensures) ∙ w.if-field_at-eq1.true))) in
+          let inside : e ≤ length l.norms = omega (arith, room-here c.args.max_doc c.args.fields.now c.args.leaf_fields.now c.args.postings.now c.args.runs.now c.args.norms.now c.requires.max_doc_in_bounds l.f l.at l.norms l.invariant c.loop-f-test.true (same ∙ w.if-has_norms.true)) in
           let size = mid_len l.at e l.norms inside in
           let number : length (mid_of l.at (e - l.at) l.norms) ≡ c.args.max_doc = omega (arith, size) in
-          coded-with c.args.max_doc c.args.fields.now c.args.leaf_fields.now c.args.postings.now c.args.runs.now c.args.norms.now c.requires.max_doc_in_bounds l.f l.at l.norms l.invariant c.loop-f-test.true (eq-eqb _ 1 (sym (ap (λ (r : Field). r.norms) c.field_at.ensures) ∙ w.if-field_at-eq1.true)) c.if-field_at-eq1.at c.if-field_at-eq1.norms w.at-is
+          coded-with c.args.max_doc c.args.fields.now c.args.leaf_fields.now c.args.postings.now c.args.runs.now c.args.norms.now c.requires.max_doc_in_bounds l.f l.at l.norms l.invariant c.loop-f-test.true (same ∙ w.if-has_norms.true) c.if-has_norms.at c.if-has_norms.norms w.at-is
           (w.norms-is ∙ put-sets l.at e l.norms w.write_field.new.norms (omega (arith, size, w.write_field.auto.norms)) inside ∙ ap (sets l.norms l.at) (w.write_field.ensures ∙ ap (λ (k : ℕ). list_to k f) number)))
-      | else-field_at-eq1 w ↦ coded-without c.args.max_doc c.args.fields.now c.args.leaf_fields.now c.args.postings.now c.args.runs.now c.args.norms.now c.requires.max_doc_in_bounds l.f l.at l.norms l.invariant c.loop-f-test.true (ne_eqb _ 1 (λ e. w.if-field_at-eq1.false (ap (λ (r : Field). r.norms) c.field_at.ensures ∙ e))) c.if-field_at-eq1.at c.if-field_at-eq1.norms w.at-is w.norms-is
+      | else-has_norms w ↦ coded-without c.args.max_doc c.args.fields.now c.args.leaf_fields.now c.args.postings.now c.args.runs.now c.args.norms.now c.requires.max_doc_in_bounds l.f l.at l.norms l.invariant c.loop-f-test.true (same ∙ w.if-has_norms.false) c.if-has_norms.at c.if-has_norms.norms w.at-is w.norms-is
     ]
 
 pub returns : goal.returns

@@ -7,13 +7,14 @@ use Rattle.phrase_starts.specs.Common.{Ascending, Common}
 use Rattle.phrase_starts.proofs.Records.{starts-length, starts-ascending}
 use Rattle.phrase.specs.Step.{Held, unmet_from, Candidates, Left}
 use Rattle.phrase.proofs.Steps.{left_end, unmet-start, unmet-not-past, left-unmet, left-of-all}
+use Rattle.phrase.proofs.common.Goals.{After-write_starts}
 use Rattle.phrase.proofs.common.Goals as goal
 
 -- the rarest term's starts have room where some term's have
 enough-room : (ts : List ℕ) (r places : ℕ) → Rarest ts r → Room ts places → get_or ts (r + 1) 0 ≤ places
 enough-room ts r places h m = le_trans (h.least m.term m.record-start m.one-of-them) m.enough
 
-module _ (ps ts : List ℕ) (g : Good ps ts) (r : ℕ) (h : Rarest ts r) (cs : List ℤ) (e : cs ≡ starts_of ps (term_at ts r)) where
+module _ {ps ts : List ℕ} (g : Good ps ts) {r : ℕ} (h : Rarest ts r) {cs : List ℤ} (e : cs ≡ starts_of ps (term_at ts r)) where
   long : length cs ≡ get_or ts (r + 1) 0
   long = ap length e ∙ starts-length ps (term_at ts r)
 
@@ -51,39 +52,28 @@ module _ (ps ts : List ℕ) (g : Good ps ts) (r : ℕ) (h : Rarest ts r) (cs : L
   left-common : (at : ℕ) (zs : List ℤ) → at ≡ unmet_from r 0 → Left ps ts at cs zs → get_or ts (r + 1) 0 < 4294967296 → Common (start_lists ps ts) zs × (length zs < 4294967296)
   left-common at zs u l b = (ended zs (subst (λ (n : ℕ). Left ps ts n cs zs) u l), omega (arith, l.no_more, long, b))
 
+-- what was written are the rarest term's starts
+are : (c : After-write_starts) → take c.term_at-t.result.freq c.write_starts.new.out ≡ starts_of c.args.positions.now (term_at c.args.terms.now c.rarest-best.result)
+are c = c.write_starts.ensures ∙ ap (starts_of c.args.positions.now) c.term_at-t.ensures
+
 pub returns-in_default : goal.returns-in_default
 returns-in_default c =
-    let a = c.args in
-    let r = c.rarest-best in
-    let cs = take c.term_at-t.result.freq c.write_starts.new.out in
-    let e = c.write_starts.ensures ∙ ap (starts_of a.positions.now) c.term_at-t.ensures in
-    let k = c.type_inv.terms (r.result + 1) in
-    (alone a.positions.now a.terms.now c.requires.0 r.result r.ensures cs e c.in_default.ensures, omega (arith, long a.positions.now a.terms.now c.requires.0 r.result r.ensures cs e, k.fits))
+    let e = are (goal.at.returns-in_default c).After-write_starts in
+    let k = c.type_inv.terms (c.rarest-best.result + 1) in
+    (alone c.requires.0 c.rarest-best.ensures e c.in_default.ensures, omega (arith, long c.requires.0 c.rarest-best.ensures e, k.fits))
 
 pub meet-n-requires : goal.meet-n-requires
 meet-n-requires c =
-    let a = c.args in
-    let r = c.rarest-best in
-    let cs = take c.term_at-t.result.freq c.write_starts.new.out in
-    let e = c.write_starts.ensures ∙ ap (starts_of a.positions.now) c.term_at-t.ensures in
-    begun a.positions.now a.terms.now c.requires.0 r.result r.ensures cs e c.in-Some.at (length a.b.now) c.requires.1.1 c.in-Some.ensures
+    begun c.requires.0 c.rarest-best.ensures (are (goal.at.meet-n-requires c).After-write_starts) c.in-Some.at (length c.args.b.now) c.requires.1.1 c.in-Some.ensures
 
 pub returns-in-None : goal.returns-in-None
 returns-in-None c =
-    let a = c.args in
-    let r = c.rarest-best in
-    let cs = take c.term_at-t.result.freq c.write_starts.new.out in
-    let e = c.write_starts.ensures ∙ ap (starts_of a.positions.now) c.term_at-t.ensures in
-    let k = c.type_inv.terms (r.result + 1) in
+    let k = c.type_inv.terms (c.rarest-best.result + 1) in
     let l = rw c.in-None.is at c.meet-n.ensures.1 in
-    left-common a.positions.now a.terms.now c.requires.0 r.result r.ensures cs e c.in-Some.at (take c.meet-n.result.n c.meet-n.new.spare) c.in-Some.ensures.1 l k.fits
+    left-common c.requires.0 c.rarest-best.ensures (are (goal.at.returns-in-None c).After-write_starts) c.in-Some.at (take c.meet-n.result.n c.meet-n.new.spare) c.in-Some.ensures.1 l k.fits
 
 pub returns-in-Some-next : goal.returns-in-Some-next
 returns-in-Some-next c =
-    let a = c.args in
-    let r = c.rarest-best in
-    let cs = take c.term_at-t.result.freq c.write_starts.new.out in
-    let e = c.write_starts.ensures ∙ ap (starts_of a.positions.now) c.term_at-t.ensures in
-    let k = c.type_inv.terms (r.result + 1) in
+    let k = c.type_inv.terms (c.rarest-best.result + 1) in
     let f = rw c.in-Some-next.is at c.meet-n.ensures.1 in
-    left-common a.positions.now a.terms.now c.requires.0 r.result r.ensures cs e c.in-Some.at c.survivors.result.now c.in-Some.ensures.1 (f.on c.survivors.result.now c.survivors.ensures) k.fits
+    left-common c.requires.0 c.rarest-best.ensures (are (goal.at.returns-in-Some-next c).After-write_starts) c.in-Some.at c.survivors.result.now c.in-Some.ensures.1 (f.on c.survivors.result.now c.survivors.ensures) k.fits

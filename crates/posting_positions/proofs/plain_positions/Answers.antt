@@ -1,16 +1,21 @@
-use Rattle.std.proofs.Common.{◌≡◌, ℕ, ◌+◌, ◌-◌, ◌*◌, ◌/◌, eqb, leb, length, get_or, length-drop, length-take, refl, arith, eqb-true, leb-true}
+use Rattle.std.proofs.Common.{◌≡◌, ℕ, ◌+◌, ◌-◌, ◌*◌, ◌<◌, ◌/◌, eqb, leb, length, get_or, length-drop, length-take, refl, arith, eqb-true, leb-true}
 use Rattle.posting_positions.proofs.Gaps.{and_left, and_right}
 use Rattle.posting_positions.proofs.Joined.{begins-before, falls-right, ones-right, seam-within}
+use Rattle.posting_positions.proofs.plain_positions.Goals.{Start}
 use Rattle.posting_positions.proofs.plain_positions.Goals as goal
 
+-- the positions begin before they end
+begins : (c : Start) → get_or c.args.run.now 2 0 < get_or c.args.run.now (3 * (length c.args.run.now / 3 - 1) + 2) 0 + get_or c.args.run.now (3 * (length c.args.run.now / 3 - 1) + 1) 0
+begins c = begins-before _ c.requires.nonzero c.requires.run_value (λ i l. (c.requires.by_index i l).0)
+
 pub overflow_sub-end : goal.overflow_sub-end
-overflow_sub-end c = omega (arith, begins-before _ c.requires.nonzero c.requires.run_value (λ i l. (c.requires.by_index i l).0))
+overflow_sub-end c = omega (arith, begins (goal.at.overflow_sub-end c).Start)
 
 pub slice_bounds-part-start : goal.slice_bounds-part-start
-slice_bounds-part-start c = omega (arith, begins-before _ c.requires.nonzero c.requires.run_value (λ i l. (c.requires.by_index i l).0))
+slice_bounds-part-start c = omega (arith, begins (goal.at.slice_bounds-part-start c).Start)
 
 pub slice_bounds-part-count : goal.slice_bounds-part-count
-slice_bounds-part-count c = omega (arith, begins-before _ c.requires.nonzero c.requires.run_value (λ i l. (c.requires.by_index i l).0))
+slice_bounds-part-count c = omega (arith, begins (goal.at.slice_bounds-part-count c).Start)
 
 pub returns-then-frequencies-le1 : goal.returns-then-frequencies-le1
 returns-then-frequencies-le1 c = λ e.
@@ -20,7 +25,7 @@ returns-then-frequencies-le1 c = λ e.
 
 pub seen_in-seen-requires : goal.seen_in-seen-requires
 seen_in-seen-requires c =
-    (simp (length-take, length-drop) (omega (arith, begins-before _ c.requires.nonzero c.requires.run_value (λ i l. (c.requires.by_index i l).0), c.if-end-positions.false)), simp (length-take, length-drop) (omega (arith, c.if-end-from-gt4294967295.false)))
+    (simp (length-take, length-drop) (omega (arith, begins (goal.at.seen_in-seen-requires c).Start, c.if-end-positions.false)), simp (length-take, length-drop) (omega (arith, c.if-end-from-gt4294967295.false)))
 
 pub seams-requires-clause-by_index : goal.seams-requires-clause-by_index
 seams-requires-clause-by_index c =

@@ -1,7 +1,7 @@
-use Rattle.std.proofs.Common.{◌≡◌, ℕ, ◌-◌, ◌<◌, get_or, refl, arith}
+use Rattle.std.proofs.Common.{◌-◌, ◌<◌, get_or, refl, arith}
 use Rattle.meaning.proofs.Below.{count-le}
 use Rattle.posting_positions.specs.Places.{drop_at}
-use Rattle.posting_positions.proofs.Gaps.{bound-more, only, drop-first, drop_more, drop-end}
+use Rattle.posting_positions.proofs.Gaps.{bound-more, only, drop-first, drop_more}
 use Rattle.posting_positions.proofs.seen_in.Goals as goal
 
 pub loop-k-init : goal.loop-k-init
@@ -19,11 +19,4 @@ loop-k-preserved c =
     record {
       bound = bound-more (λ i. get_or part i 0) _ _ _ c.loop-k.invariant.bound refl;
       dropped = drop_more part k _ (get_or part (k - 1) 0) refl c.loop-k.invariant.dropped place before;
-    }
-
-pub returns : goal.returns
-returns c =
-    record {
-      by_index = λ i l. c.loop-k.invariant.bound i (omega (arith, c.loop-k-test.false));
-      falls_value = drop-end c.args.part.now c.loop-k.k _ _ c.loop-k.invariant.dropped (omega (arith, c.loop-k-test.false, c.loop-k.auto.k-end, c.requires));
     }

@@ -1,5 +1,4 @@
-use Rattle.std.proofs.Common.{◌≡◌, ◌+◌, ◌-◌, ◌%◌, ◌<◌, get_or, arith}
-use Rattle.meaning.proofs.Below.{any-done}
+use Rattle.std.proofs.Common.{◌+◌, ◌-◌, ◌%◌, ◌<◌, get_or, arith}
 use Rattle.posting_positions.proofs.Places.{places-none, places-more}
 use Rattle.posting_positions.proofs.Gaps.{wraps}
 use Rattle.posting_positions.proofs.wrong_places.Goals as goal
@@ -14,6 +13,3 @@ loop-place-preserved c =
     let before : c.loop-place.previous < 4294967296 = omega (arith, c.loop-place.auto.previous-fits) in
     let fits : (get_or c.args.part.now k 0 + (4294967296 - c.loop-place.previous)) % 4294967296 < 4294967296 = omega arith in
     places-more c.args.part.now k c.loop-place.steps c.loop-place.previous _ c.loop-place.invariant (wraps _ _ place before) fits
-
-pub returns : goal.returns
-returns c = any-done _ _ _ _ c.loop-place.invariant.flag c.loop-place.auto.place-index-end c.loop-place-test.false

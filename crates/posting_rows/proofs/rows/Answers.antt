@@ -1,5 +1,5 @@
 use Rattle.std.proofs.Common.{◌≡◌, ◌+◌, ◌-◌, ◌*◌, ◌/◌, ◌<◌, [], length, get_or, take, drop, length-take, length-drop, refl, arith}
-use Rattle.posting_rows.proofs.Filling.{filled_none, filled_next, filled-all, filled_word, row-word, lane_count}
+use Rattle.posting_rows.proofs.Filling.{filled_none, filled-all, filled_word, row-word, lane_count}
 use Rattle.posting_rows.proofs.rows.Goals as goal
 
 pub loop-i-init : goal.loop-i-init
@@ -28,9 +28,6 @@ loop-j-preserved c =
     let small : get_or (get_or c.as_chunks.result.0.now i []) j 0 < 4294967296 = omega (arith, word, c.type_inv.part (6 + j + 12 * i)) in
     let low : get_or (get_or c.as_chunks-2.result.0.now i []) j 0 < 4294967296 = omega (arith, before, c.type_inv.part (6 + j + 12 * i - 3)) in
     filled_word part i j c.loop-j.rises c.loop-j.apart c.loop-j.all c.loop-j.invariant c.loop-j-test.true (6 + j + 12 * i) _ _ _ refl word before count small low
-
-pub loop-i-preserved : goal.loop-i-preserved
-loop-i-preserved c = filled_next _ _ _ _ _ c.loop-j.j c.loop-j-test.false c.loop-j.invariant
 
 pub returns : goal.returns
 returns c =

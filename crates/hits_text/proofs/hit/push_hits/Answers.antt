@@ -1,5 +1,5 @@
 -- One line more.
-use Rattle.std.proofs.Common.{rules, ◌≡◌, sym, ap, ◌∙◌, List, ◌++◌, append-nil, ℕ, length, take, length-append, slice_index_or, pos, arith, to_z, of_z, w64, ℤ, take_all}
+use Rattle.std.proofs.Common.{rules, ◌≡◌, sym, ap, ◌∙◌, List, ◌++◌, append-nil, ℕ, length, take, length-append, slice_index_or, pos, arith, to_z, of_z, w64, ℤ}
 use Rattle.hits_text.specs.Text.{hit_line, hit_lines}
 use Rattle.hits_text.proofs.Putting.{put-more}
 use Rattle.hits_text.proofs.Lines.{lines-none, lines_more, line-short}
@@ -22,6 +22,3 @@ loop-code-preserved g c =
       lines = put-more c.args.text.now.items (hit_lines (take i c.args.codes.now)) (hit_line code) l.text.items _ l.invariant.lines more ∙ ap (λ (x : List ℕ). c.args.text.now.items ++ x) (sym (lines_more c.args.codes.now i c.loop-code-test.true));
       short = omega (arith, l.invariant.short, ap length more, length-append l.text.items (hit_line code), line-short code);
     }
-
-pub returns : goal.returns
-returns g c = c.loop-code.invariant.lines ∙ ap (λ (x : List ℤ). c.args.text.now.items ++ hit_lines x) (take_all c.loop-code.code-index c.args.codes.now c.loop-code-test.false)

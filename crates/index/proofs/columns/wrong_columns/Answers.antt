@@ -1,16 +1,8 @@
-use Rattle.std.proofs.Common.{arith}
-use Rattle.index.proofs.Known.{documents-few}
-use Rattle.index.proofs.Values.{product_le, columns-many, columns-length, columns-some, any-listed}
+use Rattle.index.proofs.Values.{columns-many, columns-length, columns-some, any-listed}
 use Rattle.index.proofs.columns.wrong_columns.Goals as goal
 
 pub returns-then-columns-gt-MAX_COLUMNS : goal.returns-then-columns-gt-MAX_COLUMNS
 returns-then-columns-gt-MAX_COLUMNS c = columns-many _ c.if-columns-gt-MAX_COLUMNS.true
-
-pub overflow_mul-columns : goal.overflow_mul-columns
-overflow_mul-columns c = omega (arith, product_le _ _ _ _ c.if-columns-gt-MAX_COLUMNS.false (documents-few _ c.requires))
-
-pub overflow_mul-columns-2 : goal.overflow_mul-columns-2
-overflow_mul-columns-2 c = omega (arith, product_le _ _ _ _ c.if-columns-gt-MAX_COLUMNS.false (documents-few _ c.requires))
 
 pub returns-then-values-columns : goal.returns-then-values-columns
 returns-then-values-columns c = columns-length _ c.if-columns-gt-MAX_COLUMNS.false c.if-values-columns.true

@@ -1,16 +1,13 @@
 -- `postings::write_run` meets its contract. Assumes nothing.
-use Rattle.std.proofs.Common.{◌≡◌, ◌∙◌, ap, ◌+◌, ◌-◌, ◌≤◌, ℕ, length, arith}
+use Rattle.std.proofs.Common.{◌∙◌, ap, ◌+◌, ◌-◌, ◌≤◌, ℕ, length, arith}
 use Rattle.std.proofs.lemmas.List.Edits.{sets}
 use borrow.Rule.Slice.PartMut.{mid_len}
 use Rattle.meaning.specs.Below.{list_to}
 use Rattle.meaning.specs.Tokens.{token_at}
 use Rattle.meaning.proofs.Below.{length-list_to}
 use Rattle.norm_writer.proofs.Stored.{put-sets}
-use Rattle.token_writer.proofs.LeafRun.{run-postings, run-placed}
+use Rattle.token_writer.proofs.LeafRun.{run-placed}
 use Rattle.token_writer.proofs.postings.write_run.Goals as goal
-
-pub write_postings-end-requires : goal.write_postings-end-requires
-write_postings-end-requires c = run-postings _ _ _ _ _ _ _ _ _ _ c.requires
 
 pub returns : goal.returns
 returns c =

@@ -1,8 +1,7 @@
 -- `Bm25::new` meets its contract. Assumes nothing.
-use Rattle.std.proofs.Common.{◌≡◌, ℕ, ◌+◌, ◌<◌, refl, List, length, get_or, set, sym, ap, ◌∙◌, arith}
+use Rattle.std.proofs.Common.{◌≡◌, ℕ, ◌+◌, ◌<◌, List, length, get_or, set, sym, ◌∙◌, arith}
 use Rattle.std.proofs.lemmas.List.Edits.{fill_by_more}
 use lib.Ieee.{Float, nan}
-use lib.ListN.{length-set}
 use lib.Seq.{ext_get_or}
 use Rattle.meaning.specs.Below.{list_to}
 use Rattle.meaning.specs.Bm25.{length_of, inverse}
@@ -12,17 +11,6 @@ use Rattle.sim.proofs.bm25.Bm25.new.Goals as goal
 -- one inverse more
 filled : (f : ℕ → Float) (t : List Float) (i : ℕ) (v : Float) → i < length t → v ≡ f i → ((k : ℕ) → k < i → get_or t k nan ≡ f k) → (k : ℕ) → k < i + 1 → get_or (set t i v) k nan ≡ f k
 filled f t i v h e all = rw e (fill_by_more f t i nan h all)
-
-pub loop-norm-init : goal.loop-norm-init
-loop-norm-init c = record { long = refl; filled = λ k h. absurd (omega (arith, h)) }
-
-pub loop-norm-preserved : goal.loop-norm-preserved
-loop-norm-preserved c =
-    let l = c.loop-norm in
-    record {
-      long = length-set l.inverse-items l.norm _ ∙ l.invariant.long;
-      filled = filled (λ n. inverse c.args.average (length_of n)) l.inverse-items l.norm c.norm_inverse.result (omega (arith, l.invariant.long, c.loop-norm-test.true)) (c.norm_inverse.ensures ∙ ap (inverse c.args.average) c.length_of.ensures) l.invariant.filled;
-    }
 
 pub returns : goal.returns
 returns c =
