@@ -1,13 +1,15 @@
 // Page over node states as records: the word form runs on the words of a local array, and the records are read from them.
 #![tactic(auto)]
 
-ghost use Rattle.std.specs.Prelude.{◌≡◌, length};
+ghost use Rattle.std.specs.Prelude.{◌≡◌, ◌≤◌, ◌*◌, ◌++◌, length, take, drop};
+ghost use Rattle.meaning.specs.Limits.{node_state_words};
 ghost use Rattle.meaning.specs.Entries.{Kept, page_refusal};
 ghost use Rattle.index.specs.IndexOf.{index_of};
 ghost use Rattle.order_check.specs.Lends.{work};
-ghost use Rattle.node_state.specs.Records.{record_words};
+ghost use Rattle.node_state.specs.Records.{record_words, held};
 ghost use Rattle.node_state.specs.Standing.{Standing};
-ghost use Rattle.node_page.specs.Pages.{Pages, refusal_of, work_of};
+ghost use Rattle.searcher.specs.Answers.{used};
+ghost use Rattle.node_page.specs.Pages.{Packed, Pages, refusal_of, work_of};
 
 use index::lent::Lent;
 use node_state::NodeState;
@@ -65,6 +67,23 @@ fn resume_words(
     searcher::resume::resume(lent, query, target, &mut buffers, documents, scores)
 }
 
+// A call on the words of the records; the records that it used are read from the words again.
+fn over_records<F: FnMut(&mut [u32]) -> Result<Listed, Refusal>>(
+    words: &mut [u32],
+    nodes: &mut [NodeState],
+    f: &mut F,
+) -> Result<Listed, Refusal>
+    requires long { node_state_words * held (length nodes.old) ≤ length words.old }
+    requires callable { (states : _) → states.now ≡ take (node_state_words * held (length nodes.old)) words.old → F.pre f.old states }
+    ensures { (states : _) × (after : _) × (states.now ≡ take (node_state_words * held (length nodes.old)) words.old) × (length after.now ≡ length states.now) × F.step f.old states result after f.new × Packed nodes.old nodes.new (after.now ++ drop (node_state_words * held (length nodes.old)) words.old) (used result (held (length nodes.old))) }
+{
+    let n = node_state::held(nodes.len());
+    let listed = f(&mut words[..NODE_STATE_WORDS * n]);
+    let m = used(&listed, n);
+    node_state::pack(words, m, nodes);
+    listed
+}
+
 // An accepted call leaves the order's tree in the records, at the next match; a refused one leaves them as they were.
 pub fn page_nodes(
     lent: &Lent,
@@ -81,21 +100,23 @@ pub fn page_nodes(
         × Kept (refusal_of (index_of lent.now) query.now target (length nodes.old) starts.old other_starts.old ranges.old documents.old scores.old) nodes.old nodes.new }
 {
     let mut words = node_state::zeros();
-    let n = node_state::held(nodes.len());
-    let listed = page_words(
-        lent,
-        query,
-        target,
-        &mut words[..NODE_STATE_WORDS * n],
-        starts,
-        other_starts,
-        ranges,
-        documents,
-        scores,
-    );
-    let m = used(&listed, n);
-    node_state::pack(&words, m, nodes);
-    listed
+    over_records(
+        &mut words,
+        nodes,
+        &mut |states: &mut [u32]| {
+            page_words(
+                lent,
+                query,
+                target,
+                states,
+                starts,
+                other_starts,
+                ranges,
+                documents,
+                scores,
+            )
+        },
+    )
 }
 
 // The same where the order's tree stands in the records: the walk goes on from them, and nothing is built.
@@ -115,19 +136,21 @@ pub fn resume_nodes(
         × Kept (refusal_of (index_of lent.now) query.now target (length nodes.old) starts.old other_starts.old ranges.old documents.old scores.old) nodes.old nodes.new }
 {
     let mut words = node_state::unpacked(nodes);
-    let n = node_state::held(nodes.len());
-    let listed = resume_words(
-        lent,
-        query,
-        target,
-        &mut words[..NODE_STATE_WORDS * n],
-        starts,
-        other_starts,
-        ranges,
-        documents,
-        scores,
-    );
-    let m = used(&listed, n);
-    node_state::pack(&words, m, nodes);
-    listed
+    over_records(
+        &mut words,
+        nodes,
+        &mut |states: &mut [u32]| {
+            resume_words(
+                lent,
+                query,
+                target,
+                states,
+                starts,
+                other_starts,
+                ranges,
+                documents,
+                scores,
+            )
+        },
+    )
 }
