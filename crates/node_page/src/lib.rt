@@ -20,7 +20,7 @@ use walk::Listed;
 use weight::NODE_STATE_WORDS;
 
 // Page on words.
-// Kept: slices in the place of Buffers: tried, and where a struct lends a part of a local array the proof of what is in the array then did not close.
+// Kept: a function of its own, over slices: a `Buffers` made in the closure of `page_nodes` was tried, and its proof did not close: the borrow checker does not cover a field that stays lent beside another.
 fn page_words(
     lent: &Lent,
     query: &[u32],
@@ -44,6 +44,7 @@ fn page_words(
 }
 
 // The same from the tree that stands in the words.
+// Kept: as `page_words`, in the closure of `resume_nodes`.
 fn resume_words(
     lent: &Lent,
     query: &[u32],
@@ -85,6 +86,7 @@ fn over_records<F: FnMut(&mut [u32]) -> Result<Listed, Refusal>>(
 }
 
 // An accepted call leaves the order's tree in the records, at the next match; a refused one leaves them as they were.
+// Kept: three slices of work buffers: a struct of them would stand beside `Buffers`, which has the same three, and want a clause more that says they are as long as before.
 pub fn page_nodes(
     lent: &Lent,
     query: &[u32],
@@ -120,6 +122,7 @@ pub fn page_nodes(
 }
 
 // The same where the order's tree stands in the records: the walk goes on from them, and nothing is built.
+// Kept: three slices of work buffers, as `page_nodes`.
 pub fn resume_nodes(
     lent: &Lent,
     query: &[u32],
