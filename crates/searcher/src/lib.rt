@@ -6,6 +6,7 @@ pub mod length;
 pub mod page;
 pub mod resume;
 pub mod search;
+mod tables;
 
 ghost use Rattle.std.specs.Prelude.{◌≡◌};
 ghost use Rattle.searcher.specs.Answers.{used};

@@ -12,6 +12,7 @@ ghost use Rattle.searcher.specs.Answers.{paged_numbers};
 ghost use Rattle.searcher.specs.WorkBuffers.{lengths_of, KeptBuffers, SameBuffers};
 
 use crate::buffers::{Buffers, build_tree};
+use crate::tables::over_inverses;
 use index::lent::Lent;
 use leaf_scorer::LeafReader;
 use refusal::Refusal;
@@ -87,7 +88,7 @@ fn list_by(
     )
 }
 
-// One field's table has 256 places; only an order to which more are lent pays for all 16.
+// The same over the inverses that the order needs.
 pub(crate) fn list_page(
     lent: &Lent,
     query: &[u32],
@@ -103,13 +104,11 @@ pub(crate) fn list_page(
     ensures standing { Standing (index_of lent.now) query.now buffers.new.ranges.now buffers.new.states.now result.next }
     ensures same_buffers { SameBuffers buffers.old buffers.new }
 {
-    if lent.fields.len() <= 3 {
-        let bm25 = inverses::first_inverses(lent.fields);
-        return list_by(lent, query, &bm25.cache, target, buffers, documents, scores);
-    }
-    let mut inverses: [f32; 4096] = [0.0; 4096];
-    inverses::fill_inverses(lent.fields, lent.leaves, query, &mut inverses);
-    list_by(lent, query, &inverses, target, buffers, documents, scores)
+    over_inverses(
+        lent,
+        query,
+        &mut |inverses: &[f32]| list_by(lent, query, inverses, target, buffers, documents, scores),
+    )
 }
 
 // The documents and their scores' bits stand in the first places of the two outputs; the node states hold the order's tree, at the next match.

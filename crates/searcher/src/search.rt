@@ -17,6 +17,7 @@ ghost use Rattle.searcher.specs.Answers.{searched_numbers};
 ghost use Rattle.searcher.specs.WorkBuffers.{lengths_of, KeptBuffers, SameBuffers};
 
 use crate::buffers::{Buffers, build_tree};
+use crate::tables::over_inverses;
 use collector::{TopDocs, TopScoreDocCollector};
 use index::lent::Lent;
 use leaf_scorer::LeafReader;
@@ -91,7 +92,7 @@ fn find_by(
     collector.top_docs(heap)
 }
 
-// One field's table has 256 places; only an order to which more are lent pays for all 16.
+// The same over the inverses that the order needs.
 fn find(lent: &Lent, query: &[u32], t: u64, buffers: &mut Buffers<'_>, heap: &mut [i64]) -> TopDocs
     requires heap_nonzero { (0 < length heap.old) × (length heap.old ≤ max_hits) }
     requires asks { Asks (index_of lent.now) query.now × (work_short (index_of lent.now) query.now (lengths_of buffers.old) ≡ false) }
@@ -100,13 +101,11 @@ fn find(lent: &Lent, query: &[u32], t: u64, buffers: &mut Buffers<'_>, heap: &mu
     ensures standing { Standing (index_of lent.now) query.now buffers.new.ranges.now buffers.new.states.now no_more_docs }
     ensures same_buffers { SameBuffers buffers.old buffers.new }
 {
-    if lent.fields.len() <= 3 {
-        let bm25 = inverses::first_inverses(lent.fields);
-        return find_by(lent, query, &bm25.cache, t, buffers, heap);
-    }
-    let mut inverses: [f32; 4096] = [0.0; 4096];
-    inverses::fill_inverses(lent.fields, lent.leaves, query, &mut inverses);
-    find_by(lent, query, &inverses, t, buffers, heap)
+    over_inverses(
+        lent,
+        query,
+        &mut |inverses: &[f32]| find_by(lent, query, inverses, t, buffers, heap),
+    )
 }
 
 // The hits stand as codes in the first places of the hits buffer; the node states hold the order's tree, asked for every document.
