@@ -1,5 +1,5 @@
 // The postings and positions of the tokens, leaf by leaf, posting by posting, and the run of each leaf.
-ghost use Rattle.std.specs.Prelude.{◌≡◌, cond, ◌+◌, ◌*◌, ◌<◌, ◌≤◌, length};
+ghost use Rattle.std.specs.Prelude.{◌≡◌, cond, ℕ, ◌+◌, ◌*◌, ◌<◌, ◌≤◌, length};
 ghost use Rattle.std.proofs.lemmas.List.Edits.{sets};
 ghost use Rattle.meaning.specs.Below.{list_to};
 ghost use Rattle.meaning.specs.Tokens.{token_count, token_at};
@@ -56,8 +56,8 @@ fn write_postings(
     positional: bool,
     postings: &mut [u32],
 ) -> Cursor
-    requires { PostingsPre records.max_doc (length records.leaf_fields.now) records.tokens.now leaf positional at.token at.posting at.position (length postings.old) }
-    ensures { PostingsPost records.entry.max_doc records.entry.tokens.now leaf positional at.token at.posting at.position postings.old postings.new result }
+    requires { (n : ℕ) × (m : ℕ) × PostingsPre n m records.tokens.now leaf positional at.token at.posting at.position (length postings.old) }
+    ensures { (n m : ℕ) → PostingsPre n m records.entry.tokens.now leaf positional at.token at.posting at.position (length postings.old) → PostingsPost n records.entry.tokens.now leaf positional at.token at.posting at.position postings.old postings.new result }
 {
     let mut end = at;
     let mut start = at.token;
@@ -94,8 +94,8 @@ fn write_run(
     postings: &mut [u32],
     positions: &mut [u32],
 ) -> Cursor
-    requires { RunPre records.max_doc (length records.leaf_fields.now) records.tokens.now leaf positional at.token at.posting at.position (length postings.old) (length positions.old) }
-    ensures { RunPost records.entry.max_doc records.entry.tokens.now leaf positional at.posting at.position postings.old positions.old postings.new positions.new result }
+    requires { (n : ℕ) × (m : ℕ) × RunPre n m records.tokens.now leaf positional at.token at.posting at.position (length postings.old) (length positions.old) }
+    ensures { (n m : ℕ) → RunPre n m records.entry.tokens.now leaf positional at.token at.posting at.position (length postings.old) (length positions.old) → RunPost n records.entry.tokens.now leaf positional at.posting at.position postings.old positions.old postings.new positions.new result }
 {
     let end = write_postings(records, at, leaf, positional, postings);
     copy_positions(
@@ -113,8 +113,8 @@ pub fn write_runs(
     positions: &mut [u32],
     runs: &mut [u32],
 )
-    requires { RunsPre records.max_doc records.fields.now records.leaf_fields.now records.tokens.now (length postings.old) (length positions.old) (length runs.old) }
-    ensures { RunsPost records.entry.max_doc records.entry.fields.now records.entry.leaf_fields.now records.entry.tokens.now postings.old positions.old runs.old postings.new positions.new runs.new }
+    requires { (n : ℕ) × RunsPre n records.fields.now records.leaf_fields.now records.tokens.now (length postings.old) (length positions.old) (length runs.old) }
+    ensures { (n : ℕ) → RunsPre n records.entry.fields.now records.entry.leaf_fields.now records.entry.tokens.now (length postings.old) (length positions.old) (length runs.old) → RunsPost n records.entry.fields.now records.entry.leaf_fields.now records.entry.tokens.now postings.old positions.old runs.old postings.new positions.new runs.new }
 {
     let mut at = Cursor {
         token: 0,
