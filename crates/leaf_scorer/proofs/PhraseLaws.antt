@@ -169,11 +169,6 @@ module _ {postings : List ℕ} {ix : Index} {ts : List PhraseTerm} {from : ℕ} 
               rise = λ i. ⊎_elim (λ (w : (last' ≡ last) × (r ≡ d)). omega (arith, w.1, q.rise (omega (arith, w.0)))) (λ (w : (last' ≡ at) × (r ≡ d → ⊥)). omega (arith, w.1, first.from, q.lo)) how;
             }
 
--- ---- passes until all stand where one got
-module _ {ix : Index} {ts : List PhraseTerm} {terms : List ℕ} {target d e : ℕ} {hit : Bool} (lo : target ≤ d) (before : (x : ℕ) → target ≤ x → x < d → all_found ix ts x ≡ false) (p : TermsPassed ix ts d e hit terms) where
-  pub leap-more : (x : ℕ) → target ≤ x → x < e → all_found ix ts x ≡ false
-  leap-more x a b = ⊎_elim (λ h. before x a h) (λ h. p.before x h b) (cmp x d)
-
 -- ---- what is gathered
 pub record GatherAt (postings : List ℕ) (ix : Index) (ts : List PhraseTerm) (d : ℕ) (terms : List ℕ) (P : ℕ → ℕ → Type 0) (out : List ℕ) (n at : ℕ) : Type 0 where
   pub left : List PhraseTerm

@@ -115,9 +115,6 @@ module _ {E : Lent} {ix : Index} {p k : ℕ} {rs os : Scorers} {n : ℕ} {kids :
 
 -- ---- and the prohibited
 module _ {E : Lent} {ix : Index} {p k : ℕ} {rs os ps : Scorers} {n m : ℕ} {kids : List ℕ} {t : ℕ} (h : BooleanHeld E ix p rs os ps k n m kids t) where
-  pub boolean-fits : m ≤ length kids
-  boolean-fits = omega (arith, h.optional-end, ap length h.is, length-append h.w h.z)
-
   pub boolean-lead : LeadHeld E ix p rs os k n (take m kids) t
   boolean-lead = rw (front-part kids h.w h.z m h.is (sym h.optional-end)) h.lead
 

@@ -1,10 +1,10 @@
 -- The loops over children: the least document where some stand, and a pass over all. Assumes nothing.
-use mathlib.Core.Path.{◌≡◌, refl, sym, subst, ◌∙◌}
+use mathlib.Core.Path.{◌≡◌, sym, subst, ◌∙◌}
 use mathlib.Core.Logic.{⊎_elim}
 use mathlib.Core.Bool.{Bool, true, false, cond}
 use mathlib.Core.List.{List, ◌++◌}
 use Prim.Native.Nat.{ℕ, ◌+◌, ◌-◌, ◌≤◌, ◌<◌}
-use native.Mathlib.Nat.{le_refl, le_trans}
+use native.Mathlib.Nat.{le_trans}
 use native.Mathlib.Omega.{arith}
 use lib.ListN.{get_or, length, take, drop}
 use borrow.Author.Tests.{lt-ltb, le-ltb}
@@ -17,7 +17,7 @@ use Rattle.scorer.specs.Calls.{NodeHeld, AdvancePost, PartsHeld, Tally, LeastIs,
 use Rattle.leaf_scorer.specs.Calls.{Lent, RoomIn}
 use Rattle.meaning.proofs.Tests.{cmp}
 use Rattle.scorer.proofs.Firsts.{matching-hit, matching-miss, matching-end, all-hit, all-miss, all_rest, all_end}
-use Rattle.scorer.proofs.Children.{ChildHere, child-here, Zip, zip_start, zip-later, zip_end, zip-none, view, zip-took, zip-skip, held, of-advance, of-cached}
+use Rattle.scorer.proofs.Children.{ChildHere, child-here, Zip, zip-later, zip_end, zip-none, view, zip-took, zip-skip, held, of-advance, of-cached}
 
 -- ---- the least document
 pub record LeastAt (E : Lent) (ix : Index) (p k : ℕ) (fs : Scorers) (kids : List ℕ) (t best n at : ℕ) : Type 0 where
@@ -31,9 +31,6 @@ pub record LeastAt (E : Lent) (ix : Index) (p k : ℕ) (fs : Scorers) (kids : Li
   pub some' : best < no_more_docs → 0 < n
 
 module _ {E : Lent} {ix : Index} {p k : ℕ} {fs : Scorers} where
-  pub least_start : {kids : List ℕ} {t : ℕ} → t ≤ no_more_docs → PartsHeld E ix p fs k kids t → LeastAt E ix p k fs kids t no_more_docs 0 0
-  least_start h q = record { left = fs; zip = zip_start q; lo = h; top = le_refl _; few = le_refl _; none' = λ d a b. refl; here = λ l. absurd (omega arith); some' = λ l. absurd (omega arith) }
-
   pub least-end : {kids : List ℕ} {t best n at : ℕ} → LeastAt E ix p k fs kids t best n at → length kids ≤ at → LeastIs ix fs t best n × PartsHeld E ix p fs k kids t
   least-end {kids} {t} {best} {n} {at} q l = go q.left q.zip q.none' q.here
     where
@@ -149,9 +146,6 @@ asks-first : {P : ℕ → Bool} {t d r : ℕ} → First P d r → Asks P t d r
 asks-first first = record { from = first.from; top = first.top; before = first.before; hit = λ a b. first.hit b }
 
 module _ {E : Lent} {ix : Index} {p k : ℕ} {fs : Scorers} {from : ℕ} where
-  pub pass-start : {kids : List ℕ} → from ≤ no_more_docs → PartsHeld E ix p fs k kids from → PassAt E ix p k fs from kids from 0
-  pass-start h q = record { left = fs; zip = zip_start q; lo = le_refl _; top = h; before = λ x a b. absurd (omega arith); fails = λ x e. e; holds = λ a b e. e }
-
   pub pass-end : {kids : List ℕ} {d at : ℕ} → PassAt E ix p k fs from kids d at → length kids ≤ at → Passes (all_match ix fs) from d × PartsHeld E ix p fs k kids d
   pass-end {kids} {d} {at} q l = go q.left q.zip q.holds
     where

@@ -33,9 +33,9 @@ conjunction-returns-then-e-d-clause-lead_post t c =
     let a = c.loop-d in
     let g = c.step-e in
     λ ix p rs os h.
-        let i = a.invariant.2 ix p rs os h in
-        let q = g.ensures.step_post ix p rs os i.held in
-        (pass-done i.lo i.before q.0 c.if-e-d.true, rw c.if-e-d.true at q.1)
+    let i = a.invariant.2 ix p rs os h in
+    let q = g.ensures.step_post ix p rs os i.held in
+    (pass-done i.lo i.before q.0 c.if-e-d.true, rw c.if-e-d.true at q.1)
 
 pub conjunction-loop-d-smaller : goal.conjunction-loop-d-smaller
 conjunction-loop-d-smaller t c =
@@ -51,11 +51,14 @@ conjunction-loop-d-preserved t c =
     let P = c.requires.1 in
     let a = c.loop-d in
     let i = a.invariant.2 P.0 P.1 P.2 P.3 P.5 in
-    let g = c.step-e in
-    (record { kids-same = g.auto.kids ∙ a.invariant.0.kids-same; buffers-same = same_then a.invariant.0.buffers-same g.ensures.same_buffers }, (g.ensures.step_post P.0 P.1 P.2 P.3 i.held).0.top, λ ix p rs os h.
-        let i = a.invariant.2 ix p rs os h in
-        let q = g.ensures.step_post ix p rs os i.held in
-        record { lo = le_trans i.lo q.0.from; before = pass-more i.before q.0; held = q.1 })
+    let g = c.step-e in (
+      record { kids-same = g.auto.kids ∙ a.invariant.0.kids-same; buffers-same = same_then a.invariant.0.buffers-same g.ensures.same_buffers },
+      (g.ensures.step_post P.0 P.1 P.2 P.3 i.held).0.top,
+      λ ix p rs os h.
+          let i = a.invariant.2 ix p rs os h in
+          let q = g.ensures.step_post ix p rs os i.held in
+          record { lo = le_trans i.lo q.0.from; before = pass-more i.before q.0; held = q.1 },
+    )
 
 pub disjunction-loop-x-init : goal.disjunction-loop-x-init
 disjunction-loop-x-init t c =
@@ -66,9 +69,9 @@ disjunction-returns-then-d-eq-NO_MORE_DOCS-clause-disjunction_post t c =
     let a = c.loop-x in
     let g = c.least-x in
     λ ix p ss h.
-        let i = a.invariant.3 ix p ss h in
-        let q = g.ensures.least_post ix p ss i.held in
-        (enough-top c.requires.0 i.lo i.before q.0 c.if-d-eq-NO_MORE_DOCS.true, parts-later g.result.doc q.0.first.from q.1)
+    let i = a.invariant.3 ix p ss h in
+    let q = g.ensures.least_post ix p ss i.held in
+    (enough-top c.requires.0 i.lo i.before q.0 c.if-d-eq-NO_MORE_DOCS.true, parts-later g.result.doc q.0.first.from q.1)
 
 pub disjunction-loop-x-preserved : goal.disjunction-loop-x-preserved
 disjunction-loop-x-preserved t c =
@@ -77,20 +80,24 @@ disjunction-loop-x-preserved t c =
     let i = a.invariant.3 P.0 P.1 P.2 P.4 in
     let g = c.least-x in
     let q = g.ensures.least_post P.0 P.1 P.2 i.held in
-    let d : g.result.doc < no_more_docs = omega (arith, q.0.first.top, c.if-d-eq-NO_MORE_DOCS.false) in
-    (record { kids-same = g.auto.kids ∙ a.invariant.0.kids-same; buffers-same = same_then a.invariant.0.buffers-same g.ensures.same_buffers }, omega arith, a.invariant.2, λ ix p ss h.
-        let i = a.invariant.3 ix p ss h in
-        let q = g.ensures.least_post ix p ss i.held in
-        record { lo = omega (arith, i.lo, q.0.first.from); before = enough-more c.requires.0 i.lo i.before q.0 d (omega (arith, c.if-x-enough.true, a.invariant.2)); held = parts-later (g.result.doc + 1) (omega (arith, q.0.first.from)) q.1 })
+    let d : g.result.doc < no_more_docs = omega (arith, q.0.first.top, c.if-d-eq-NO_MORE_DOCS.false) in (
+      record { kids-same = g.auto.kids ∙ a.invariant.0.kids-same; buffers-same = same_then a.invariant.0.buffers-same g.ensures.same_buffers },
+      omega arith,
+      a.invariant.2,
+      λ ix p ss h.
+          let i = a.invariant.3 ix p ss h in
+          let q = g.ensures.least_post ix p ss i.held in
+          record { lo = omega (arith, i.lo, q.0.first.from); before = enough-more c.requires.0 i.lo i.before q.0 d (omega (arith, c.if-x-enough.true, a.invariant.2)); held = parts-later (g.result.doc + 1) (omega (arith, q.0.first.from)) q.1 },
+    )
 
 pub disjunction-returns-else-x-enough-clause-disjunction_post : goal.disjunction-returns-else-x-enough-clause-disjunction_post
 disjunction-returns-else-x-enough-clause-disjunction_post t c =
     let a = c.loop-x in
     let g = c.least-x in
     λ ix p ss h.
-        let i = a.invariant.3 ix p ss h in
-        let q = g.ensures.least_post ix p ss i.held in
-        (enough-hit c.requires.0 i.lo i.before q.0 (omega (arith, c.if-x-enough.false, a.invariant.2)), parts-later g.result.doc q.0.first.from q.1)
+    let i = a.invariant.3 ix p ss h in
+    let q = g.ensures.least_post ix p ss i.held in
+    (enough-hit c.requires.0 i.lo i.before q.0 (omega (arith, c.if-x-enough.false, a.invariant.2)), parts-later g.result.doc q.0.first.from q.1)
 
 pub lead-disjunction-requires : goal.lead-disjunction-requires
 lead-disjunction-requires t c =
@@ -105,9 +112,9 @@ pub lead-returns-else-need-eq0-clause-lead_post : goal.lead-returns-else-need-eq
 lead-returns-else-need-eq0-clause-lead_post t c =
     let g = c.disjunction in
     λ ix p rs os h.
-        let e = c.if-required_end-eq0.true in
-        let q = g.ensures.disjunction_post ix p os (alone-optional h e) in
-        (alone-first h e c.args.need g.result q.0, alone-joined h e g.new.kids g.result q.0.from q.1)
+    let e = c.if-required_end-eq0.true in
+    let q = g.ensures.disjunction_post ix p os (alone-optional h e) in
+    (alone-first h e c.args.need g.result q.0, alone-joined h e g.new.kids g.result q.0.from q.1)
 
 pub step-slice_bounds-pass-end : goal.step-slice_bounds-pass-end
 step-slice_bounds-pass-end t c = lead-fits c.requires.1.5
@@ -142,17 +149,17 @@ pub step-returns-then-need-eq0-clause-step_post : goal.step-returns-then-need-eq
 step-returns-then-need-eq0-clause-step_post t c =
     let g = c.pass-e in
     λ ix p rs os h.
-        let q = lead-turn h g.new.kids g.result g.ensures.pass_post in
-        (pass-only {P = all_match ix rs} {Q = λ d. leb c.args.need (matching ix os d)} (λ d. le-leb c.args.need (matching ix os d) (omega (arith, c.if-need-eq0.true))) q.0, q.1)
+    let q = lead-turn h g.new.kids g.result g.ensures.pass_post in
+    (pass-only {P = all_match ix rs} {Q = λ d. leb c.args.need (matching ix os d)} (λ d. le-leb c.args.need (matching ix os d) (omega (arith, c.if-need-eq0.true))) q.0, q.1)
 
 pub step-returns-else-need-eq0-clause-step_post : goal.step-returns-else-need-eq0-clause-step_post
 step-returns-else-need-eq0-clause-step_post t c =
     let g = c.pass-e in
     let x = c.disjunction in
     λ ix p rs os h.
-        let q = lead-turn h g.new.kids g.result g.ensures.pass_post in
-        let y = x.ensures.disjunction_post ix p os (lead-optional q.1) in
-        (pass-then {P = all_match ix rs} {Q = λ d. leb c.args.need (matching ix os d)} q.0 y.0, lead-joined q.1 x.new.kids x.result y.0.from y.1)
+    let q = lead-turn h g.new.kids g.result g.ensures.pass_post in
+    let y = x.ensures.disjunction_post ix p os (lead-optional q.1) in
+    (pass-then {P = all_match ix rs} {Q = λ d. leb c.args.need (matching ix os d)} q.0 y.0, lead-joined q.1 x.new.kids x.result y.0.from y.1)
 
 pub advance-bounds-st-2 : goal.advance-bounds-st-2
 advance-bounds-st-2 t c = omega (arith, node-long c.requires.1.5)
@@ -247,18 +254,18 @@ excluding-returns-then-d-eq-NO_MORE_DOCS-clause-boolean_post t c =
     let a = c.loop-n in
     let g = c.lead-d in
     λ ix p rs os ps h.
-        let i = a.invariant.2 ix p rs os ps h in
-        let q = boolean-turn i.held c.args.n.need g.new.kids g.result g.auto.kids g.ensures.lead_post in
-        (kept_top ix rs os ps c.args.n.need i.lo i.before q.0 c.if-d-eq-NO_MORE_DOCS.true, q.1)
+    let i = a.invariant.2 ix p rs os ps h in
+    let q = boolean-turn i.held c.args.n.need g.new.kids g.result g.auto.kids g.ensures.lead_post in
+    (kept_top ix rs os ps c.args.n.need i.lo i.before q.0 c.if-d-eq-NO_MORE_DOCS.true, q.1)
 
 pub excluding-returns-then-n-kids-clause-boolean_post : goal.excluding-returns-then-n-kids-clause-boolean_post
 excluding-returns-then-n-kids-clause-boolean_post t c =
     let a = c.loop-n in
     let g = c.lead-d in
     λ ix p rs os ps h.
-        let i = a.invariant.2 ix p rs os ps h in
-        let q = boolean-turn i.held c.args.n.need g.new.kids g.result g.auto.kids g.ensures.lead_post in
-        (kept-alone ix rs os ps c.args.n.need i.lo i.before q.0 (boolean-none q.1 c.if-n-kids.true), q.1)
+    let i = a.invariant.2 ix p rs os ps h in
+    let q = boolean-turn i.held c.args.n.need g.new.kids g.result g.auto.kids g.ensures.lead_post in
+    (kept-alone ix rs os ps c.args.n.need i.lo i.before q.0 (boolean-none q.1 c.if-n-kids.true), q.1)
 
 pub excluding-least-x-requires : goal.excluding-least-x-requires
 excluding-least-x-requires t c =
@@ -297,12 +304,15 @@ excluding-loop-n-preserved t c =
     let x = c.least-x in
     let w = g.new.kids ++ drop m a.kids in
     let q = boolean-turn i.held c.args.n.need g.new.kids g.result g.auto.kids g.ensures.lead_post in
-    let d : g.result < no_more_docs = omega (arith, q.0.top, c.if-d-eq-NO_MORE_DOCS.false) in
-    (record { kids-same = back-length w x.new.kids m (length w) x.auto.kids ∙ front_length a.kids g.new.kids m g.auto.kids ∙ a.invariant.0.kids-same; buffers-same = same_then (same_then a.invariant.0.buffers-same g.ensures.same_buffers) x.ensures.same_buffers }, omega arith, λ ix p rs os ps h.
-        let i = a.invariant.2 ix p rs os ps h in
-        let q = boolean-turn i.held c.args.n.need g.new.kids g.result g.auto.kids g.ensures.lead_post in
-        let y = x.ensures.least_post ix p ps (boolean-prohibited q.1) in
-        record { lo = omega (arith, i.lo, q.0.from); before = kept_more ix rs os ps c.args.n.need i.lo i.before q.0 x.result.doc x.result.count d y.0 c.if-x-d.true; held = boolean-later (boolean-joined q.1 x.new.kids y.1) (g.result + 1) (omega arith) })
+    let d : g.result < no_more_docs = omega (arith, q.0.top, c.if-d-eq-NO_MORE_DOCS.false) in (
+      record { kids-same = back-length w x.new.kids m (length w) x.auto.kids ∙ front_length a.kids g.new.kids m g.auto.kids ∙ a.invariant.0.kids-same; buffers-same = same_then (same_then a.invariant.0.buffers-same g.ensures.same_buffers) x.ensures.same_buffers },
+      omega arith,
+      λ ix p rs os ps h.
+          let i = a.invariant.2 ix p rs os ps h in
+          let q = boolean-turn i.held c.args.n.need g.new.kids g.result g.auto.kids g.ensures.lead_post in
+          let y = x.ensures.least_post ix p ps (boolean-prohibited q.1) in
+          record { lo = omega (arith, i.lo, q.0.from); before = kept_more ix rs os ps c.args.n.need i.lo i.before q.0 x.result.doc x.result.count d y.0 c.if-x-d.true; held = boolean-later (boolean-joined q.1 x.new.kids y.1) (g.result + 1) (omega arith) },
+    )
 
 pub excluding-returns-else-x-d-clause-boolean_post : goal.excluding-returns-else-x-d-clause-boolean_post
 excluding-returns-else-x-d-clause-boolean_post t c =
@@ -310,10 +320,10 @@ excluding-returns-else-x-d-clause-boolean_post t c =
     let g = c.lead-d in
     let x = c.least-x in
     λ ix p rs os ps h.
-        let i = a.invariant.2 ix p rs os ps h in
-        let q = boolean-turn i.held c.args.n.need g.new.kids g.result g.auto.kids g.ensures.lead_post in
-        let y = x.ensures.least_post ix p ps (boolean-prohibited q.1) in
-        (kept-hit ix rs os ps c.args.n.need i.lo i.before q.0 x.result.doc x.result.count y.0 c.if-x-d.false, boolean-joined q.1 x.new.kids y.1)
+    let i = a.invariant.2 ix p rs os ps h in
+    let q = boolean-turn i.held c.args.n.need g.new.kids g.result g.auto.kids g.ensures.lead_post in
+    let y = x.ensures.least_post ix p ps (boolean-prohibited q.1) in
+    (kept-hit ix rs os ps c.args.n.need i.lo i.before q.0 x.result.doc x.result.count y.0 c.if-x-d.false, boolean-joined q.1 x.new.kids y.1)
 
 pub least-slice_bounds-advance_term-end : goal.least-slice_bounds-advance_term-end
 least-slice_bounds-advance_term-end t c =
