@@ -112,8 +112,8 @@ joined-slice_bounds-required-end-2 t c = omega (arith, parts t (goal.at.joined-s
 
 pub joined-slice_bounds-required-end-3 : goal.joined-slice_bounds-required-end-3
 joined-slice_bounds-required-end-3 t c =
-    let e : c.args.n.group_at ≤ length (kids₁ t (goal.at.joined-slice_bounds-required-end-3 t c).After-narrow-group) = omega (arith, parts t (goal.at.joined-slice_bounds-required-end-3 t c).Start, whole t (goal.at.joined-slice_bounds-required-end-3 t c).After-narrow-group, cut-here t (goal.at.joined-slice_bounds-required-end-3 t c).Else-n (group t (goal.at.joined-slice_bounds-required-end-3 t c).After-narrow-group)) in
-    sym (length-take-le _ _ e)
+    let p = goal.at.joined-slice_bounds-required-end-3 t c in
+    sym (length-take-le _ _ (omega (arith, parts t p.Start, whole t p.After-narrow-group, cut-here t p.Else-n (group t p.After-narrow-group))))
 
 pub joined-required-front-requires : goal.joined-required-front-requires
 joined-required-front-requires t c = (omega arith, front-asks (group t (goal.at.joined-required-front-requires t c).After-narrow-group) c.narrow-group.ensures (places_same c.optional.ensures.same_buffers) zero-64 c.if-n.false c.requires)
