@@ -3,7 +3,7 @@ use Rattle.std.proofs.Common.{◌≡◌, refl, sym, ap, subst, ◌∙◌, Bool, 
 use Rattle.std.proofs.Math.Dec.{T}
 use Rattle.std.proofs.Math.Option.{none, some}
 use Rattle.std.proofs.Math.Seq.{take-length, drop-length}
-use Rattle.std.proofs.lemmas.Bool.{false≢true, and_parts}
+use Rattle.std.proofs.lemmas.Bool.{false≢true, true≢false, and_parts}
 use Rattle.std.specs.Prelude.{Float, Option, Some, None, is_some}
 use Rattle.std.specs.Float.{nan, binary32}
 use Rattle.std.specs.Float.Ieee.{of_bits, nan_bits}
@@ -84,10 +84,9 @@ weighted-at ix R (boolean (some c) j need rs os ps) k o y b base D p h = absurd 
 pub not-constant : {st : List ℕ} {m : Node} → NodeIs st m → None ≡ constant_score m → get_or st 11 0 ≡ 1 → ⊥
 not-constant {m = m} M e h = constant-none m e (M.constant-is ∙ h)
 
-pub no-constant : {st : List ℕ} {m : Node} → NodeIs st m → (o : Option Float) → o ≡ constant_score m → (b : Bool) → is_some o ≡ not b → b ≡ true → get_or st 11 0 ≡ 1 → ⊥
+pub no-constant : {st : List ℕ} {m : Node} → NodeIs st m → (o : Option Float) → o ≡ constant_score m → (b : Bool) → b ≡ is_some o → b ≡ false → get_or st 11 0 ≡ 1 → ⊥
 no-constant M None f b e t = not-constant M f
-no-constant M (Some x) f true e t = absurd (false≢true (sym e))
-no-constant M (Some x) f false e t = absurd (false≢true t)
+no-constant M (Some x) f b e t = absurd (true≢false (sym e ∙ t))
 
 -- ---- a Boolean
 both-true : (a b : Bool) → a ≡ true → b ≡ true → a && b ≡ true

@@ -23,7 +23,8 @@ pub fn root_scores(
     ensures same_buffers { SameBuffers buffers.old buffers.new }
 {
     if let NodeKind::Boolean = NodeKind::from(st[0]) {
-        if node_at(st).constant_score().is_none() {
+        let constant = node_at(st).constant_score().is_some();
+        if !constant {
             let n = boolean_at(st);
             part_scores(
                 &mut st[NODE_STATE_WORDS..],

@@ -24,13 +24,13 @@ pub boolean_at-n-requires : goal.boolean_at-n-requires
 boolean_at-n-requires c = node-long (root-as c.requires)
 
 pub overflow_sub-depth : goal.overflow_sub-depth
-overflow_sub-depth c = root-deep (no-constant c.node_at.ensures c.constant_score.result c.constant_score.ensures c.is_none.result c.is_none.ensures c.if-is_none.true) (word-read _ Boolean c.in-Boolean.ensures refl) c.boolean_at-n.result c.boolean_at-n.ensures c.requires
+overflow_sub-depth c = root-deep (no-constant c.node_at.ensures c.constant_score.result c.constant_score.ensures c.is_some-constant.result c.is_some-constant.ensures c.if-not-constant.true) (word-read _ Boolean c.in-Boolean.ensures refl) c.boolean_at-n.result c.boolean_at-n.ensures c.requires
 
 pub part_scores-requires : goal.part_scores-requires
-part_scores-requires c = root-ask (no-constant c.node_at.ensures c.constant_score.result c.constant_score.ensures c.is_none.result c.is_none.ensures c.if-is_none.true) (word-read _ Boolean c.in-Boolean.ensures refl) c.boolean_at-n.result c.boolean_at-n.ensures c.requires
+part_scores-requires c = root-ask (no-constant c.node_at.ensures c.constant_score.result c.constant_score.ensures c.is_some-constant.result c.is_some-constant.ensures c.if-not-constant.true) (word-read _ Boolean c.in-Boolean.ensures refl) c.boolean_at-n.result c.boolean_at-n.ensures c.requires
 
-pub returns-then-is_none-clause-root_post : goal.returns-then-is_none-clause-root_post
-returns-then-is_none-clause-root_post c = root-part (no-constant c.node_at.ensures c.constant_score.result c.constant_score.ensures c.is_none.result c.is_none.ensures c.if-is_none.true) (word-read _ Boolean c.in-Boolean.ensures refl) c.boolean_at-n.result c.boolean_at-n.ensures c.part_scores.new.kids c.part_scores.new.sums c.part_scores.ensures.root_parts_post
+pub returns-then-not-constant-clause-root_post : goal.returns-then-not-constant-clause-root_post
+returns-then-not-constant-clause-root_post c = root-part (no-constant c.node_at.ensures c.constant_score.result c.constant_score.ensures c.is_some-constant.result c.is_some-constant.ensures c.if-not-constant.true) (word-read _ Boolean c.in-Boolean.ensures refl) c.boolean_at-n.result c.boolean_at-n.ensures c.part_scores.new.kids c.part_scores.new.sums c.part_scores.ensures.root_parts_post
 
 pub node_scores-requires : goal.node_scores-requires
 node_scores-requires c = root-as c.requires
