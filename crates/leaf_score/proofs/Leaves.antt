@@ -10,7 +10,7 @@ use lib.ListN.{length, get_or}
 use lib.Ieee.{Float, nan, binary32, nan_bits, of_bits, of_int}
 use borrow.Author.Tests.{ltb-true}
 use Rattle.meaning.specs.Limits.{no_more_docs, largest_frequency, node_state_words}
-use Rattle.meaning.specs.Lent.{Index, leaf_field, norm_byte}
+use Rattle.meaning.specs.Lent.{Index, field_count, leaf_field, norm_byte}
 use Rattle.meaning.specs.Ieee754.{zero_float}
 use Rattle.meaning.specs.Bm25.{bm25}
 use Rattle.meaning.specs.Score.{field_score}
@@ -66,138 +66,164 @@ pub record Weighs (n : Node) (norms : List ℕ) (table : List Float) (doc freque
   pub byte-there : 0 < n.norms → n.norms - 1 + doc < length norms
   pub inverse-there : 256 * n.field + byte_at norms n.norms doc < length table
 
+-- a leaf that scores by BM25: its field, its frequency in the document, and the words where that is known
+pub record Counted (ix : Index) (table : List Float) (n : Node) (ranges : List ℕ) (l : Leaf) (w : Float) (s : State) (doc frequency : ℕ) (st' : List ℕ) : Type 0 where
+  pub field : ℕ
+  pub there : field < field_count ix
+  pub tables : FieldTable ix table field
+  pub weight : FloatIs w n.weight
+  pub field_is : n.field ≡ field
+  pub norms-is : n.norms ≡ norms_word ix field
+  pub few : frequency ≤ largest_frequency
+  pub score : field_score ix field w frequency doc ≡ leaf_score ix l (weighted w) doc
+  pub kept : LeafKept ix ranges l s doc st'
+
 abbrev pub answer : Node → List ℕ → List Float → ℕ → ℕ → Float
 answer n norms table doc frequency = bm25 (of_bits binary32 n.weight) (of_int binary32 (pos frequency)) (get_or table (256 * n.field + byte_at norms n.norms doc) nan)
 
-module _ (ix : Index) (max : ℕ) (postings positions norms : List ℕ) (doc : ℕ) (L : LentAt ix max postings positions norms doc) (bytes : (i : ℕ) → get_or norms i 0 < 256) (table : List Float) (n : Node) where
+module _ (ix : Index) (max : ℕ) (postings positions norms : List ℕ) (doc : ℕ) (L : LentAt ix max postings positions norms doc) where
   A : Accepted ix
   A = L.lends.accepted
 
   inside : doc < ix.max_doc
   inside = subst (λ (i : ℕ). doc < i) (sym L.lends.documents) L.document
 
-  byte_small : byte_at norms n.norms doc < 256
-  byte_small = go (lib.Dec.eqb n.norms 0)
-    where
-      go : (b : Bool) → cond b 1 (get_or norms (n.norms - 1 + doc) 0) < 256
-      go true = omega arith
-      go false = bytes (n.norms - 1 + doc)
+  pub few-documents : doc < no_more_docs
+  few-documents = omega (arith, inside, A.documents)
 
-  -- of a field
-  module _ (f : ℕ) (there : f < Rattle.meaning.specs.Lent.field_count ix) (F : FieldTable ix table f) (w : Float) (x : FloatIs w n.weight) (field_is : n.field ≡ f) (norms-is : n.norms ≡ norms_word ix f) (frequency : ℕ) (few : frequency ≤ largest_frequency) where
-    byte-is : byte_at norms n.norms doc ≡ norm_byte ix f doc
-    byte-is = ap (λ (l : List ℕ). byte_at l n.norms doc) (sym L.norms-are) ∙ norm-is ix A f there doc inside n.norms norms-is
+  -- where the norms are bytes
+  module _ (bytes : (i : ℕ) → get_or norms i 0 < 256) (table : List Float) (n : Node) where
+    byte_small : byte_at norms n.norms doc < 256
+    byte_small = go (lib.Dec.eqb n.norms 0)
+      where
+        go : (b : Bool) → cond b 1 (get_or norms (n.norms - 1 + doc) 0) < 256
+        go true = omega arith
+        go false = bytes (n.norms - 1 + doc)
 
-    pub field-weighs : Weighs n norms table doc frequency
-    field-weighs =
-        record {
-          frequency-few = few;
-          number = float-number w n.weight x;
-          field-few = omega (arith, field_is, there, A.few_fields);
-          byte-there = λ g. subst (λ (l : List ℕ). n.norms - 1 + doc < length l) L.norms-are (norm-there ix A f there doc inside n.norms norms-is g);
-          inverse-there = subst (λ (i : ℕ). 256 * i + byte_at norms n.norms doc < length table) (sym field_is) (inverse-there ix A f there doc inside table F (byte_at norms n.norms doc) byte_small);
-        }
+    -- of a field
+    module _ (f : ℕ) (there : f < field_count ix) (F : FieldTable ix table f) (w : Float) (x : FloatIs w n.weight) (field_is : n.field ≡ f) (norms-is : n.norms ≡ norms_word ix f) (frequency : ℕ) (few : frequency ≤ largest_frequency) where
+      byte-is : byte_at norms n.norms doc ≡ norm_byte ix f doc
+      byte-is = ap (λ (l : List ℕ). byte_at l n.norms doc) (sym L.norms-are) ∙ norm-is ix A f there doc inside n.norms norms-is
 
-    pub field-answer : (r : Float) → r ≡ answer n norms table doc frequency → (r ≡ field_score ix f w frequency doc) × AtMost (2 ^ 29) r
-    field-answer r e =
-        let q : r ≡ field_score ix f w frequency doc = e ∙ ap (λ (i : ℕ). bm25 (of_bits binary32 n.weight) (of_int binary32 (pos frequency)) (get_or table (256 * i + byte_at norms n.norms doc) nan)) field_is ∙ weighted-is ix A f there doc inside table F (byte_at norms n.norms doc) byte_small w n.weight frequency x byte-is in
-        (q, subst (λ (z : Float). AtMost (2 ^ 29) z) (sym q) (weighted-small ix A f there doc inside table F (byte_at norms n.norms doc) byte_small w n.weight frequency x few byte-is))
+      pub field-weighs : Weighs n norms table doc frequency
+      field-weighs =
+          record {
+            frequency-few = few;
+            number = float-number w n.weight x;
+            field-few = omega (arith, field_is, there, A.few_fields);
+            byte-there = λ g. subst (λ (l : List ℕ). n.norms - 1 + doc < length l) L.norms-are (norm-there ix A f there doc inside n.norms norms-is g);
+            inverse-there = subst (λ (i : ℕ). 256 * i + byte_at norms n.norms doc < length table) (sym field_is) (inverse-there ix A f there doc inside table F (byte_at norms n.norms doc) byte_small);
+          }
 
-  module _ (ranges : List ℕ) (places : ℕ) (w : Float) (s : State) (v st : List ℕ) (e : st ≡ words_of s ++ v) (R : Read n s) where
-    abbrev Asks : Leaf → Type 0
-    Asks l = LeafAsks ix ranges table places l w s v doc
+      pub field-answer : (r : Float) → r ≡ answer n norms table doc frequency → (r ≡ field_score ix f w frequency doc) × AtMost (2 ^ 29) r
+      field-answer r e =
+          let q : r ≡ field_score ix f w frequency doc = e ∙ ap (λ (i : ℕ). bm25 (of_bits binary32 n.weight) (of_int binary32 (pos frequency)) (get_or table (256 * i + byte_at norms n.norms doc) nan)) field_is ∙ weighted-is ix A f there doc inside table F (byte_at norms n.norms doc) byte_small w n.weight frequency x byte-is in
+          (q, subst (λ (z : Float). AtMost (2 ^ 29) z) (sym q) (weighted-small ix A f there doc inside table F (byte_at norms n.norms doc) byte_small w n.weight frequency x few byte-is))
 
-    head : get_or st 0 0 ≡ s.kind
-    head = kind-read st v s e
+    -- a leaf whose frequency is known
+    module _ (ranges : List ℕ) (l : Leaf) (w : Float) (s : State) (frequency : ℕ) (st' : List ℕ) (C : Counted ix table n ranges l w s doc frequency st') where
+      pub counted-weighs : Weighs n norms table doc frequency
+      counted-weighs = field-weighs C.field C.there C.tables w C.weight C.field_is C.norms-is frequency C.few
 
-    weight-at : FloatIs w s.weight → FloatIs w n.weight
-    weight-at x = subst (λ (i : ℕ). FloatIs w i) (sym R.weight_is) x
+      pub counted-done : (r : Float) → r ≡ answer n norms table doc frequency → (r ≡ leaf_score ix l (weighted w) doc) × AtMost (2 ^ 29) r × LeafKept ix ranges l s doc st'
+      counted-done r e = let t = field-answer C.field C.there C.tables w C.weight C.field_is C.norms-is frequency C.few r e in (t.0 ∙ C.score, t.1, C.kept)
 
-    abbrev Done : Leaf → Float → List ℕ → Type 0
-    Done l r st' = (r ≡ leaf_score ix l (weighted w) doc) × AtMost (2 ^ 29) r × LeafKept ix ranges l s doc st'
+  module _ (table : List Float) (n : Node) (ranges : List ℕ) where
+    pub counted-byte : (l : Leaf) (w : Float) (s : State) (frequency : ℕ) (st' : List ℕ) → Counted ix table n ranges l w s doc frequency st' → 0 < n.norms → n.norms - 1 + doc < length norms
+    counted-byte l w s frequency st' C g = subst (λ (i : List ℕ). n.norms - 1 + doc < length i) L.norms-are (norm-there ix A C.field C.there doc inside n.norms C.norms-is g)
 
-    -- a term
-    pub term-run : (l : Leaf) → Asks l → get_or st 0 0 ≡ 1 → n.first + n.number ≤ length postings / 3
-    unfolding LeafIs LeafSound
-    term-run nothing p k = absurd (omega (arith, head, p.words.0))
-    term-run (term l) p k = subst (λ (i : List ℕ). n.first + n.number ≤ length i / 3) L.lends.postings-are (omega (arith, (A.leaf l p.sound).run, R.first-is, R.number_is, p.words.0.first-is, p.words.0.number_is))
-    term-run (phrase f ts) p k = absurd (omega (arith, head, p.words.kind-is))
-    term-run (range r) p k = absurd (omega (arith, head, p.words.0.kind-is))
-    term-run everything p k = absurd (omega (arith, head, p.words.0))
+    module _ (places : ℕ) (w : Float) (s : State) (v st : List ℕ) (e : st ≡ words_of s ++ v) (R : Read n s) where
+      abbrev Asks : Leaf → Type 0
+      Asks l = LeafAsks ix ranges table places l w s v doc
 
-    module _ (frequency : ℕ) (h : Scanned postings n.first n.number n.cursor doc frequency) where
-      at-term : (l : ℕ) → Asks (term l) → (frequency ≡ frequency_of ix l (posting_at ix l doc)) × (frequency ≤ largest_frequency)
-      unfolding LeafIs LeafSound leaf_matches
-      at-term l p =
-          let a : n.first ≡ Rattle.meaning.specs.Lent.leaf_first ix l = R.first-is ∙ p.words.0.first-is in
-          let b : n.number ≡ Rattle.meaning.specs.Lent.leaf_number ix l = R.number_is ∙ p.words.0.number_is in
-          let c : n.cursor ≡ s.cursor = R.cursor-is in
-          let d : postings ≡ ix.postings = sym L.lends.postings-are in
-          scanned ix A l p.sound doc s.cursor p.words.0.run p.match frequency (moved _ _ _ _ _ _ _ _ d a b c h)
-        where
-          moved : (ps qs : List ℕ) (f f' m m' c c' : ℕ) → ps ≡ qs → f ≡ f' → m ≡ m' → c ≡ c' → Scanned ps f m c doc frequency → Scanned qs f' m' c' doc frequency
-          moved ps qs f f' m m' c c' i j k l x = subst (λ (z : List ℕ). Scanned z f' m' c' doc frequency) i (subst (λ (z : ℕ). Scanned ps z m' c' doc frequency) j (subst (λ (z : ℕ). Scanned ps f z c' doc frequency) k (subst (λ (z : ℕ). Scanned ps f m z doc frequency) l x)))
+      head : get_or st 0 0 ≡ s.kind
+      head = kind-read st v s e
 
-      pub term-weighs : (l : Leaf) → Asks l → get_or st 0 0 ≡ 1 → Weighs n norms table doc frequency
-      unfolding LeafIs LeafSound LeafTable
-      term-weighs nothing p k = absurd (omega (arith, head, p.words.0))
-      term-weighs (term l) p k = field-weighs (leaf_field ix l) (A.leaf l p.sound).field p.tables w (weight-at p.weight) (R.field_is ∙ p.words.0.field_is) (R.norms-is ∙ p.words.0.norms-is) frequency (at-term l p).1
-      term-weighs (phrase f ts) p k = absurd (omega (arith, head, p.words.kind-is))
-      term-weighs (range r) p k = absurd (omega (arith, head, p.words.0.kind-is))
-      term-weighs everything p k = absurd (omega (arith, head, p.words.0))
+      weight-at : FloatIs w s.weight → FloatIs w n.weight
+      weight-at x = subst (λ (i : ℕ). FloatIs w i) (sym R.weight_is) x
 
-      pub term-done : (l : Leaf) → Asks l → get_or st 0 0 ≡ 1 → (r : Float) → r ≡ answer n norms table doc frequency → Done l r st
-      unfolding LeafIs LeafSound LeafTable leaf_score
-      term-done nothing p k r q = absurd (omega (arith, head, p.words.0))
-      term-done (term l) p k r q =
-          let t = field-answer (leaf_field ix l) (A.leaf l p.sound).field p.tables w (weight-at p.weight) (R.field_is ∙ p.words.0.field_is) (R.norms-is ∙ p.words.0.norms-is) frequency (at-term l p).1 r q in
-          (t.0 ∙ ap (λ (i : ℕ). field_score ix (leaf_field ix l) w i doc) (at-term l p).0, t.1, record { s' = s; v' = v; is = e; same = record { cached = refl; constant = refl; weight = refl; scores = refl }; words = p.words })
-      term-done (phrase f ts) p k r q = absurd (omega (arith, head, p.words.kind-is))
-      term-done (range i) p k r q = absurd (omega (arith, head, p.words.0.kind-is))
-      term-done everything p k r q = absurd (omega (arith, head, p.words.0))
+      kept : (l : Leaf) → Asks l → LeafKept ix ranges l s doc st
+      kept l p = record { s' = s; v' = v; is = e; same = record { cached = refl; constant = refl; weight = refl; scores = refl }; words = p.words }
 
-    -- a phrase
-    pub few-documents : doc < no_more_docs
-    few-documents = omega (arith, inside, A.documents)
+      -- a term
+      pub term-run : (l : Leaf) → Asks l → get_or st 0 0 ≡ 1 → n.first + n.number ≤ length postings / 3
+      unfolding LeafIs LeafSound
+      term-run nothing p k = absurd (omega (arith, head, p.words.0))
+      term-run (term l) p k = subst (λ (i : List ℕ). n.first + n.number ≤ length i / 3) L.lends.postings-are (omega (arith, (A.leaf l p.sound).run, R.first-is, R.number_is, p.words.0.first-is, p.words.0.number_is))
+      term-run (phrase f ts) p k = absurd (omega (arith, head, p.words.kind-is))
+      term-run (range r) p k = absurd (omega (arith, head, p.words.0.kind-is))
+      term-run everything p k = absurd (omega (arith, head, p.words.0))
 
-    held : (f : ℕ) (ts : List PhraseTerm) → LeafSound ix places (phrase f ts) → PhraseIs ix f ts s v doc → PhraseHeld postings positions ix places f ts s v st doc
-    held f ts a i = record { accepted = A; postings-are = L.lends.postings-are; positions-are = L.lends.positions-are; sound = a; words = e; is = i }
+      module _ (frequency : ℕ) (h : Scanned postings n.first n.number n.cursor doc frequency) where
+        at-term : (l : ℕ) → Asks (term l) → (frequency ≡ frequency_of ix l (posting_at ix l doc)) × (frequency ≤ largest_frequency)
+        unfolding LeafIs LeafSound leaf_matches
+        at-term l p =
+            let a : n.first ≡ Rattle.meaning.specs.Lent.leaf_first ix l = R.first-is ∙ p.words.0.first-is in
+            let b : n.number ≡ Rattle.meaning.specs.Lent.leaf_number ix l = R.number_is ∙ p.words.0.number_is in
+            let c : n.cursor ≡ s.cursor = R.cursor-is in
+            let d : postings ≡ ix.postings = sym L.lends.postings-are in
+            scanned ix A l p.sound doc s.cursor p.words.0.run p.match frequency (moved _ _ _ _ _ _ _ _ d a b c h)
+          where
+            moved : (ps qs : List ℕ) (f f' m m' c c' : ℕ) → ps ≡ qs → f ≡ f' → m ≡ m' → c ≡ c' → Scanned ps f m c doc frequency → Scanned qs f' m' c' doc frequency
+            moved ps qs f f' m m' c c' i j k l x = subst (λ (z : List ℕ). Scanned z f' m' c' doc frequency) i (subst (λ (z : ℕ). Scanned ps z m' c' doc frequency) j (subst (λ (z : ℕ). Scanned ps f z c' doc frequency) k (subst (λ (z : ℕ). Scanned ps f m z doc frequency) l x)))
 
-    pub phrase-asks : (l : Leaf) → Asks l → get_or st 0 0 ≡ 2 → (f : ℕ) × (ts : List PhraseTerm) × PhraseHeld postings positions ix places f ts s v st doc × (0 < phrase_frequency ix ts doc)
-    unfolding LeafIs leaf_matches
-    phrase-asks nothing p k = absurd (omega (arith, head, p.words.0))
-    phrase-asks (term l) p k = absurd (omega (arith, head, p.words.0.kind-is))
-    phrase-asks (phrase f ts) p k = (f, ts, held f ts p.sound p.words, ltb-true _ _ p.match)
-    phrase-asks (range r) p k = absurd (omega (arith, head, p.words.0.kind-is))
-    phrase-asks everything p k = absurd (omega (arith, head, p.words.0))
+        pub term-counted : (l : Leaf) → Asks l → get_or st 0 0 ≡ 1 → Counted ix table n ranges l w s doc frequency st
+        unfolding LeafIs LeafSound LeafTable leaf_score
+        term-counted nothing p k = absurd (omega (arith, head, p.words.0))
+        term-counted (term l) p k =
+            let t = at-term l p in
+            record {
+              field = leaf_field ix l;
+              there = (A.leaf l p.sound).field;
+              tables = p.tables;
+              weight = weight-at p.weight;
+              field_is = R.field_is ∙ p.words.0.field_is;
+              norms-is = R.norms-is ∙ p.words.0.norms-is;
+              few = t.1;
+              score = ap (λ (i : ℕ). field_score ix (leaf_field ix l) w i doc) t.0;
+              kept = kept (term l) p;
+            }
+        term-counted (phrase f ts) p k = absurd (omega (arith, head, p.words.kind-is))
+        term-counted (range r) p k = absurd (omega (arith, head, p.words.0.kind-is))
+        term-counted everything p k = absurd (omega (arith, head, p.words.0))
 
-    module _ (frequency : ℕ) (st' : List ℕ) (h : FrequencyPost postings positions st doc frequency st') where
-      pub phrase-weighs : (l : Leaf) → Asks l → get_or st 0 0 ≡ 2 → Weighs n norms table doc frequency
-      unfolding LeafIs LeafSound LeafTable leaf_matches
-      phrase-weighs nothing p k = absurd (omega (arith, head, p.words.0))
-      phrase-weighs (term l) p k = absurd (omega (arith, head, p.words.0.kind-is))
-      phrase-weighs (phrase f ts) p k =
-          let g = h ix places f ts s v (held f ts p.sound p.words) (ltb-true _ _ p.match) in
-          field-weighs f p.sound.0 p.tables w (weight-at p.weight) (R.field_is ∙ p.words.field_is) (R.norms-is ∙ p.words.norms-is) frequency (omega (arith, g.0, phrase-frequency-few ix A f places ts doc p.sound.4))
-      phrase-weighs (range r) p k = absurd (omega (arith, head, p.words.0.kind-is))
-      phrase-weighs everything p k = absurd (omega (arith, head, p.words.0))
+      -- a phrase
+      held : (f : ℕ) (ts : List PhraseTerm) → LeafSound ix places (phrase f ts) → PhraseIs ix f ts s v doc → PhraseHeld postings positions ix places f ts s v st doc
+      held f ts a i = record { accepted = A; postings-are = L.lends.postings-are; positions-are = L.lends.positions-are; sound = a; words = e; is = i }
 
-      pub phrase-done : (l : Leaf) → Asks l → get_or st 0 0 ≡ 2 → (r : Float) → r ≡ answer n norms table doc frequency → Done l r st'
+      pub phrase-asks : (l : Leaf) → Asks l → get_or st 0 0 ≡ 2 → (f : ℕ) × (ts : List PhraseTerm) × PhraseHeld postings positions ix places f ts s v st doc × (0 < phrase_frequency ix ts doc)
+      unfolding LeafIs leaf_matches
+      phrase-asks nothing p k = absurd (omega (arith, head, p.words.0))
+      phrase-asks (term l) p k = absurd (omega (arith, head, p.words.0.kind-is))
+      phrase-asks (phrase f ts) p k = (f, ts, held f ts p.sound p.words, ltb-true _ _ p.match)
+      phrase-asks (range r) p k = absurd (omega (arith, head, p.words.0.kind-is))
+      phrase-asks everything p k = absurd (omega (arith, head, p.words.0))
+
+      pub phrase-counted : (frequency : ℕ) (st' : List ℕ) → FrequencyPost postings positions st doc frequency st' → (l : Leaf) → Asks l → get_or st 0 0 ≡ 2 → Counted ix table n ranges l w s doc frequency st'
       unfolding LeafIs LeafSound LeafTable leaf_matches leaf_score
-      phrase-done nothing p k r q = absurd (omega (arith, head, p.words.0))
-      phrase-done (term l) p k r q = absurd (omega (arith, head, p.words.0.kind-is))
-      phrase-done (phrase f ts) p k r q =
+      phrase-counted frequency st' h nothing p k = absurd (omega (arith, head, p.words.0))
+      phrase-counted frequency st' h (term l) p k = absurd (omega (arith, head, p.words.0.kind-is))
+      phrase-counted frequency st' h (phrase f ts) p k =
           let g = h ix places f ts s v (held f ts p.sound p.words) (ltb-true _ _ p.match) in
-          let t = field-answer f p.sound.0 p.tables w (weight-at p.weight) (R.field_is ∙ p.words.field_is) (R.norms-is ∙ p.words.norms-is) frequency (omega (arith, g.0, phrase-frequency-few ix A f places ts doc p.sound.4)) r q in
-          (t.0 ∙ ap (λ (i : ℕ). field_score ix f w i doc) g.0, t.1, record { s' = g.1.0; v' = g.1.1; is = g.1.2; same = g.1.3; words = g.1.4 })
-      phrase-done (range i) p k r q = absurd (omega (arith, head, p.words.0.kind-is))
-      phrase-done everything p k r q = absurd (omega (arith, head, p.words.0))
+          record {
+            field = f;
+            there = p.sound.0;
+            tables = p.tables;
+            weight = weight-at p.weight;
+            field_is = R.field_is ∙ p.words.field_is;
+            norms-is = R.norms-is ∙ p.words.norms-is;
+            few = omega (arith, g.0, phrase-frequency-few ix A f places ts doc p.sound.4);
+            score = ap (λ (i : ℕ). field_score ix f w i doc) g.0;
+            kept = record { s' = g.1.0; v' = g.1.1; is = g.1.2; same = g.1.3; words = g.1.4 };
+          }
+      phrase-counted frequency st' h (range r) p k = absurd (omega (arith, head, p.words.0.kind-is))
+      phrase-counted frequency st' h everything p k = absurd (omega (arith, head, p.words.0))
 
-    -- what else is there scores 0
-    pub other-done : (l : Leaf) → Asks l → (get_or st 0 0 ≡ 1 → ⊥) → (get_or st 0 0 ≡ 2 → ⊥) → (r : Float) → r ≡ zero_float → Done l r st
-    unfolding LeafIs leaf_score
-    other-done nothing p i j x q = (q, subst (λ (y : Float). AtMost (2 ^ 29) y) (sym q) (zero-atmost _), record { s' = s; v' = v; is = e; same = record { cached = refl; constant = refl; weight = refl; scores = refl }; words = p.words })
-    other-done (term l) p i j x q = absurd (i (head ∙ p.words.0.kind-is))
-    other-done (phrase f ts) p i j x q = absurd (j (head ∙ p.words.kind-is))
-    other-done (range r) p i j x q = (q, subst (λ (y : Float). AtMost (2 ^ 29) y) (sym q) (zero-atmost _), record { s' = s; v' = v; is = e; same = record { cached = refl; constant = refl; weight = refl; scores = refl }; words = p.words })
-    other-done everything p i j x q = (q, subst (λ (y : Float). AtMost (2 ^ 29) y) (sym q) (zero-atmost _), record { s' = s; v' = v; is = e; same = record { cached = refl; constant = refl; weight = refl; scores = refl }; words = p.words })
+      -- what else is there scores 0
+      pub other-done : (l : Leaf) → Asks l → (get_or st 0 0 ≡ 1 → ⊥) → (get_or st 0 0 ≡ 2 → ⊥) → (r : Float) → r ≡ zero_float → (r ≡ leaf_score ix l (weighted w) doc) × AtMost (2 ^ 29) r × LeafKept ix ranges l s doc st
+      unfolding LeafIs leaf_score
+      other-done nothing p i j x q = (q, subst (λ (y : Float). AtMost (2 ^ 29) y) (sym q) (zero-atmost _), kept nothing p)
+      other-done (term l) p i j x q = absurd (i (head ∙ p.words.0.kind-is))
+      other-done (phrase f ts) p i j x q = absurd (j (head ∙ p.words.kind-is))
+      other-done (range r) p i j x q = (q, subst (λ (y : Float). AtMost (2 ^ 29) y) (sym q) (zero-atmost _), kept (range r) p)
+      other-done everything p i j x q = (q, subst (λ (y : Float). AtMost (2 ^ 29) y) (sym q) (zero-atmost _), kept everything p)

@@ -1,19 +1,22 @@
 // The score of a document at a leaf in the lent words: BM25 at a term's or a phrase's frequency.
 #![tactic(auto)]
 
-ghost use Rattle.std.specs.Prelude.{◌≡◌, not, ℕ, ◌+◌, ◌-◌, ◌*◌, ◌/◌, ◌≤◌, ◌<◌, min, T, pos, length, get_or};
+ghost use Rattle.std.specs.Prelude.{◌≡◌, not, ℕ, ◌+◌, ◌-◌, ◌*◌, ◌/◌, ◌≤◌, ◌<◌, T, pos, length, get_or};
 ghost use Rattle.std.specs.Float.{nan, binary32};
 ghost use Rattle.std.specs.Float.Ieee.{nan_bits, of_bits, of_int};
 ghost use Rattle.meaning.specs.Limits.{node_state_words};
 ghost use Rattle.meaning.specs.Bm25.{bm25};
 ghost use Rattle.index.specs.Runs.{posting_document, posting_frequency};
+ghost use Rattle.leaf_scorer.specs.Buffers.{room, other_room, places_in, SameBuffers};
 ghost use Rattle.leaf_score.specs.Words.{NodeIs, constant_score, byte_at};
 ghost use Rattle.leaf_score.specs.Asked.{LeafPre, LeafPost, FrequencyPre, FrequencyPost, TermPre, TermPost};
 
 use index::wide;
+use leaf_scorer::{LeafReader, PhraseBuffers};
 use node::NodeKind;
 
 // What the score reads of a leaf's record.
+// Kept: constant and weight are the words of a record that the caller lends; a float made of any words could be no number. constant_score reads the two as an Option.
 #[derive(Clone, Copy)]
 pub struct Node {
     pub first: usize,
@@ -51,6 +54,16 @@ impl Node {
         }
         None
     }
+
+    // BM25 at the weight, with the inverse of the length that a norm byte stands for.
+    fn score(self, inverses: &[f32], frequency: u32, norm: u8) -> f32
+        requires frequency_bound { (frequency ≤ 16777216) × (T (not (nan_bits binary32 self.weight)) × (self.field ≤ 16)) }
+        requires norm_in_bounds { 256 * self.field + norm < length inverses.now }
+        ensures { result ≡ bm25 (of_bits binary32 self.weight) (of_int binary32 (pos frequency)) (get_or inverses.now (256 * self.field + norm) nan) }
+    {
+        let inverse = inverses[256 * self.field + usize::from(norm)];
+        sim::bm25::Bm25::score(f32::from_bits(self.weight), frequency as f32, inverse)
+    }
 }
 
 // The frequency of the document's posting, which stands at the cursor or behind it.
@@ -69,22 +82,17 @@ fn term_frequency(postings: &[u32], first: usize, number: usize, cursor: usize, 
 // The norm byte of each document where a field has no norms.
 const NO_NORMS: u8 = 1;
 
-// A document's norm byte.
+// A document's norm byte. `begin` is one more than the place of the field's first byte, or 0 where it has no norms.
+// The second clause says what the type does: behind a reader's field it is not known.
 fn norm_byte(norms: &[u8], begin: usize, doc: u32) -> u8
     requires { 0 < begin → begin - 1 + doc < length norms.now }
-    ensures { result ≡ byte_at norms.now begin doc }
+    ensures byte { result ≡ byte_at norms.now begin doc }
+    ensures bytes { (i : ℕ) → get_or norms.now i 0 < 256 }
 {
-    if begin == 0 {
-        NO_NORMS
-    } else {
-        norms[begin - 1 + wide(doc)]
+    match begin.checked_sub(1) {
+        Some(first) => norms[first + wide(doc)],
+        None => NO_NORMS,
     }
-}
-
-fn wide_byte(x: u8) -> usize
-    ensures { result ≡ x }
-{
-    x as usize
 }
 
 // BM25 at a weight, with the inverse of the document's length.
@@ -94,56 +102,51 @@ pub fn weighted(norms: &[u8], inverses: &[f32], n: Node, frequency: u32, doc: u3
     requires doc_in_bounds_2 { 256 * n.field + byte_at norms.now n.norms doc < length inverses.now }
     ensures { result ≡ bm25 (of_bits binary32 n.weight) (of_int binary32 (pos frequency)) (get_or inverses.now (256 * n.field + byte_at norms.now n.norms doc) nan) }
 {
-    let byte = wide_byte(norm_byte(norms, n.norms, doc));
-    let inverse = inverses[256 * n.field + byte];
-    sim::bm25::Bm25::score(f32::from_bits(n.weight), frequency as f32, inverse)
+    n.score(inverses, frequency, norm_byte(norms, n.norms, doc))
 }
 
 // The frequency that the phrase worked out where it stands; else it is worked out now.
 fn phrase_frequency(
     st: &mut [u32],
-    postings: &[u32],
-    positions: &[u32],
-    a: &mut [i32],
-    b: &mut [i32],
+    reader: &LeafReader<'_>,
+    buffers: &mut PhraseBuffers<'_>,
     doc: u32,
 ) -> u32
-    requires { FrequencyPre postings.now positions.now (length a.old) (length b.old) st.old doc }
-    ensures { FrequencyPost postings.now positions.now st.old doc result st.new }
+    requires { FrequencyPre reader.now.postings.now reader.now.positions.now (room buffers.old) (other_room buffers.old) st.old doc }
+    ensures frequency_post { FrequencyPost reader.now.postings.now reader.now.positions.now st.old doc result st.new }
+    ensures same_buffers { SameBuffers buffers.old buffers.new }
 {
     if wide(st[16]) == wide(doc) + 1 {
         return st[17];
     }
-    let _d = leaf_scorer::seek_phrase(st, postings, positions, a, b, doc);
+    let _d = leaf_scorer::seek_phrase(st, reader.postings, reader.positions, buffers, doc);
     st[17]
 }
 
 // The score of a leaf that scores by BM25.
 pub fn leaf_score(
     st: &mut [u32],
-    postings: &[u32],
-    positions: &[u32],
-    norms: &[u8],
-    inverses: &[f32],
-    a: &mut [i32],
-    b: &mut [i32],
+    reader: &LeafReader<'_>,
+    buffers: &mut PhraseBuffers<'_>,
     doc: u32,
 ) -> f32
-    requires { (n : ℕ) × LeafPre st.old n postings.now positions.now norms.now inverses.now (min (length a.old) (length b.old)) doc }
-    ensures { (n : ℕ) → LeafPost st.old n postings.now positions.now norms.now inverses.now (min (length a.old) (length b.old)) doc result st.new }
+    requires { (n : ℕ) × LeafPre st.old n reader.now.postings.now reader.now.positions.now reader.now.norms.now reader.now.inverses.now (places_in buffers.old) doc }
+    ensures leaf_post { (n : ℕ) → LeafPost st.old n reader.now.postings.now reader.now.positions.now reader.now.norms.now reader.now.inverses.now (places_in buffers.old) doc result st.new }
+    ensures same_buffers { SameBuffers buffers.old buffers.new }
 {
     let n = node_at(st);
-    match NodeKind::from(st[0]) {
-        NodeKind::Term => {
-            let frequency = term_frequency(postings, n.first, n.number, n.cursor, doc);
-            weighted(norms, inverses, n, frequency, doc)
+    let frequency = match NodeKind::from(st[0]) {
+        NodeKind::Term => term_frequency(reader.postings, n.first, n.number, n.cursor, doc),
+        NodeKind::Phrase => phrase_frequency(st, reader, buffers, doc),
+        _ => {
+            return 0.0;
         }
-        NodeKind::Phrase => {
-            let frequency = phrase_frequency(st, postings, positions, a, b, doc);
-            weighted(norms, inverses, n, frequency, doc)
-        }
-        _ => 0.0,
-    }
+    };
+    n.score(
+        reader.inverses,
+        frequency,
+        norm_byte(reader.norms, n.norms, doc),
+    )
 }
 
 // The score of a term, which is most of them: it is lent little and changes nothing, so that it costs little to call.

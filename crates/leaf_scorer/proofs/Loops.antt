@@ -1,5 +1,5 @@
 -- What a loop that moves the words of a tree keeps. Assumes nothing.
-use mathlib.Core.Path.{◌≡◌, sym, ◌∙◌}
+use mathlib.Core.Path.{◌≡◌, refl, sym, ◌∙◌}
 use mathlib.Core.Bool.{Bool, false}
 use mathlib.Core.List.{List, ◌++◌}
 use Prim.Native.Nat.{ℕ, ◌-◌, ◌≤◌, ◌<◌}
@@ -7,12 +7,19 @@ use native.Mathlib.Nat.{le_refl}
 use native.Mathlib.Omega.{arith}
 use lib.ListN.{length, take, drop, length-append, length-take, length-drop}
 use Rattle.meaning.specs.First.{First}
+use Rattle.leaf_scorer.specs.declared.PhraseBuffers.{PhraseBuffers}
+use Rattle.leaf_scorer.specs.Buffers.{SameBuffers}
 
--- the lists that a loop changes keep their lengths
-pub record Lengths (kids kids₀ a a₀ b b₀ : ℕ) : Type 0 where
+-- the words that a loop moves, and the buffers, stay as long as they were
+pub record Lengths (kids kids₀ : ℕ) (b₀ b : PhraseBuffers) : Type 0 where
   pub kids-same : kids ≡ kids₀
-  pub a-same : a ≡ a₀
-  pub b-same : b ≡ b₀
+  pub buffers-same : SameBuffers b₀ b
+
+pub same_refl : (b : PhraseBuffers) → SameBuffers b b
+same_refl b = record { starts_length = refl; other_starts_length = refl; starts = refl; other_starts = refl }
+
+pub same_then : {b b' b'' : PhraseBuffers} → SameBuffers b b' → SameBuffers b' b'' → SameBuffers b b''
+same_then s t = record { starts_length = t.starts_length ∙ s.starts_length; other_starts_length = t.other_starts_length ∙ s.other_starts_length; starts = t.starts ∙ s.starts; other_starts = t.other_starts ∙ s.other_starts }
 
 -- a loop that has come to t: the property takes nothing from the target up to it
 pub record Going (P : ℕ → Bool) (target t : ℕ) (H : Type 0) : Type 0 where

@@ -2,3 +2,4 @@
 pub mod Search
 pub mod Phrases
 pub mod Calls
+pub mod Buffers

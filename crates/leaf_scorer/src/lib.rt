@@ -6,6 +6,7 @@ ghost use Rattle.meaning.specs.Limits.{node_state_words, no_more_docs};
 ghost use Rattle.leaf_scorer.specs.Search.{CursorRead, SearchPre, SearchPost, AnyDocument, FirstSet, RangePre, RangePost};
 ghost use Rattle.leaf_scorer.specs.Phrases.{TermsPre, PassTermsPost, LeapfrogPost, PlaceAt, PlaceRead, GatherPre, GatherPost, FrequencyPre, FrequencyPost, PhrasePre, PhrasePost, PhraseAtPost};
 ghost use Rattle.leaf_scorer.specs.Calls.{lent_of, LeafPre, LeafPost};
+ghost use Rattle.leaf_scorer.specs.Buffers.{room, other_room, SameBuffers};
 
 pub use index::postings::NO_MORE_DOCS;
 use index::wide;
@@ -13,15 +14,23 @@ use node::NodeKind;
 use run::{document, lower};
 use weight::NODE_STATE_WORDS;
 
-// What is read of the index beside a tree's words, and the bitmaps of the order's ranges.
+// What is read of the index beside a tree's words, the inverses of its fields' lengths, and the bitmaps of the order's ranges.
 #[derive(Clone, Copy)]
 pub struct LeafReader<'a> {
     pub max_doc: u32,
     pub postings: &'a [u32],
     pub positions: &'a [u32],
     pub norms: &'a [u8],
+    pub inverses: &'a [f32],
     pub ranges: &'a [u32],
     pub live: &'a [u64],
+}
+
+// The two buffers for the starts of a phrase's terms in a document.
+#[derive(Drop)]
+pub struct PhraseBuffers<'a> {
+    pub starts: &'a mut [i32],
+    pub other_starts: &'a mut [i32],
 }
 
 // The words of a posting.
@@ -210,16 +219,16 @@ fn frequency_in<const WORDS: usize>(
     terms: &[u32],
     postings: &[u32],
     positions: &[u32],
-    a: &mut [i32],
-    b: &mut [i32],
+    buffers: &mut PhraseBuffers<'_>,
 ) -> u32
-    requires pre { FrequencyPre postings.now positions.now terms.now (length a.old) (length b.old) }
+    requires pre { FrequencyPre postings.now positions.now terms.now (room buffers.old) (other_room buffers.old) }
     requires room { (3 * length terms.now ≤ node_state_words * WORDS) × (WORDS ≤ 96) }
-    ensures { FrequencyPost postings.now positions.now terms.now result }
+    ensures frequency_post { FrequencyPost postings.now positions.now terms.now result }
+    ensures same_buffers { SameBuffers buffers.old buffers.new }
 {
     let mut words = [0u32; WORDS];
     let n = gather(terms, postings, &mut words);
-    phrase::frequency(positions, &words[..n], a, b)
+    phrase::frequency(positions, &words[..n], buffers.starts, buffers.other_starts)
 }
 
 // A phrase has at most 32 terms. Most have up to four, and zeroing few words is cheaper.
@@ -227,16 +236,16 @@ fn frequency(
     terms: &[u32],
     postings: &[u32],
     positions: &[u32],
-    a: &mut [i32],
-    b: &mut [i32],
+    buffers: &mut PhraseBuffers<'_>,
 ) -> u32
-    requires { FrequencyPre postings.now positions.now terms.now (length a.old) (length b.old) }
-    ensures { FrequencyPost postings.now positions.now terms.now result }
+    requires { FrequencyPre postings.now positions.now terms.now (room buffers.old) (other_room buffers.old) }
+    ensures frequency_post { FrequencyPost postings.now positions.now terms.now result }
+    ensures same_buffers { SameBuffers buffers.old buffers.new }
 {
     if terms.len() <= FOUR_TERMS {
-        return frequency_in::<12>(terms, postings, positions, a, b);
+        return frequency_in::<12>(terms, postings, positions, buffers);
     }
-    frequency_in::<96>(terms, postings, positions, a, b)
+    frequency_in::<96>(terms, postings, positions, buffers)
 }
 
 // The first document at or after the target where a phrase stands; its frequency there is stored.
@@ -244,12 +253,12 @@ pub fn seek_phrase(
     st: &mut [u32],
     postings: &[u32],
     positions: &[u32],
-    a: &mut [i32],
-    b: &mut [i32],
+    buffers: &mut PhraseBuffers<'_>,
     target: u32,
 ) -> u32
-    requires { PhrasePre postings.now positions.now (length a.old) (length b.old) st.old target }
-    ensures { PhrasePost postings.now positions.now st.old target result st.new }
+    requires { PhrasePre postings.now positions.now (room buffers.old) (other_room buffers.old) st.old target }
+    ensures phrase_post { PhrasePost postings.now positions.now st.old target result st.new }
+    ensures same_buffers { SameBuffers buffers.old buffers.new }
 {
     let mut t = target;
     // Kept: each turn begins where the answer of the one before lies; a loop is plainer than an iterator of such steps.
@@ -258,7 +267,7 @@ pub fn seek_phrase(
         if d == NO_MORE_DOCS {
             return d;
         }
-        let n = frequency(&st[NODE_STATE_WORDS..], postings, positions, a, b);
+        let n = frequency(&st[NODE_STATE_WORDS..], postings, positions, buffers);
         if n == 0 {
             t = d + 1;
         } else {
@@ -275,12 +284,12 @@ pub fn phrase_at(
     st: &mut [u32],
     postings: &[u32],
     positions: &[u32],
-    a: &mut [i32],
-    b: &mut [i32],
+    buffers: &mut PhraseBuffers<'_>,
     target: u32,
 ) -> u32
-    requires { PhrasePre postings.now positions.now (length a.old) (length b.old) st.old target }
-    ensures { PhraseAtPost postings.now positions.now st.old target result st.new }
+    requires { PhrasePre postings.now positions.now (room buffers.old) (other_room buffers.old) st.old target }
+    ensures phrase_at_post { PhraseAtPost postings.now positions.now st.old target result st.new }
+    ensures same_buffers { SameBuffers buffers.old buffers.new }
 {
     let p = pass_terms(&mut st[NODE_STATE_WORDS..], postings, target);
     let d = p.doc;
@@ -290,7 +299,7 @@ pub fn phrase_at(
     if d == NO_MORE_DOCS {
         return d;
     }
-    let n = frequency(&st[NODE_STATE_WORDS..], postings, positions, a, b);
+    let n = frequency(&st[NODE_STATE_WORDS..], postings, positions, buffers);
     if n == 0 {
         return d + 1;
     }
@@ -303,16 +312,16 @@ pub fn phrase_at(
 pub fn seek(
     st: &mut [u32],
     reader: &LeafReader<'_>,
-    a: &mut [i32],
-    b: &mut [i32],
+    buffers: &mut PhraseBuffers<'_>,
     target: u32,
 ) -> u32
-    requires { LeafPre (lent_of reader.now) (length a.old) (length b.old) st.old target }
-    ensures { LeafPost (lent_of reader.now) st.old target result st.new }
+    requires { LeafPre (lent_of reader.now) (room buffers.old) (other_room buffers.old) st.old target }
+    ensures leaf_post { LeafPost (lent_of reader.now) st.old target result st.new }
+    ensures same_buffers { SameBuffers buffers.old buffers.new }
 {
     match NodeKind::from(st[0]) {
         NodeKind::Term => search_postings(st, reader.postings, target),
-        NodeKind::Phrase => seek_phrase(st, reader.postings, reader.positions, a, b, target),
+        NodeKind::Phrase => seek_phrase(st, reader.postings, reader.positions, buffers, target),
         NodeKind::Range => seek_range(st, reader.ranges, target),
         _ => everything(reader.max_doc, target),
     }

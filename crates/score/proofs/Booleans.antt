@@ -64,7 +64,7 @@ is-after afterwards rs a b p h = refl
 scorables-at : {ix : Index} {table : List Float} {places places' p : ℕ} {ss : Scorers} → places' ≡ places → Scorables ix table places p ss → Scorables ix table places' p ss
 scorables-at {ix} {table} {p = p} {ss = ss} e s = subst (λ (i : ℕ). Scorables ix table i p ss) (sym e) s
 
-module _ (kids : List ℕ) (node : Boolean) (reader : LeafReader) (table : List Float) (places doc depth : ℕ) where
+module _ (kids : List ℕ) (node : Boolean) (reader : LeafReader) (places doc depth : ℕ) where
   abbrev re : ℕ
   re = node.required_end
 
@@ -75,14 +75,14 @@ module _ (kids : List ℕ) (node : Boolean) (reader : LeafReader) (table : List 
   ga = node.group_at
 
   abbrev Pre : Type 0
-  Pre = JoinPre kids node reader table places doc depth
+  Pre = JoinPre kids node reader places doc depth
 
   -- where the parts lie
   pub record Lies (l : ℕ) : Type 0 where
     pub middle : re ≤ oe
     pub whole : oe ≤ l
 
-  module _ (ix : Index) (j : Joining) (rs os : Scorers) (rest : List ℕ) (K : JoinAsks ix table places j rs os node doc) where
+  module _ (ix : Index) (j : Joining) (rs os : Scorers) (rest : List ℕ) (K : JoinAsks ix reader.inverses.now places j rs os node doc) where
     required-long : (w : List ℕ) → Oks ix reader.ranges.now rs depth w doc → length w ≡ re
     required-long w o = oks-length ix reader.ranges.now rs depth w doc o ∙ sym K.required-end
 
@@ -97,42 +97,42 @@ module _ (kids : List ℕ) (node : Boolean) (reader : LeafReader) (table : List 
       record { middle = omega arith; whole = omega (arith, ap length Q.is, length-append Q.required (Q.optional ++ P.4), length-append Q.optional P.4) }
 
   -- ---- the group
-  module _ (ix : Index) (j : Joining) (rs os : Scorers) (rest : List ℕ) (K : JoinAsks ix table places j rs os node doc) (Q : PartsAre ix reader.ranges.now rs os depth doc rest kids) where
+  module _ (ix : Index) (j : Joining) (rs os : Scorers) (rest : List ℕ) (K : JoinAsks ix reader.inverses.now places j rs os node doc) (Q : PartsAre ix reader.ranges.now rs os depth doc rest kids) where
     group-part : take (oe - re) (drop re kids) ≡ Q.optional
     group-part = mid-part Q.required Q.optional rest kids re oe Q.is (required-long ix j rs os rest K Q.required Q.required-ok) (optional-long ix j rs os rest K Q.optional Q.optional-ok)
 
     group-ok : Oks ix reader.ranges.now os depth (take (oe - re) (drop re kids)) doc
     group-ok = subst (λ (w : List ℕ). Oks ix reader.ranges.now os depth w doc) (sym group-part) Q.optional-ok
 
-  pub group-asks : Pre → OptionalPre (take (oe - re) (drop re kids)) reader table places doc depth
+  pub group-asks : Pre → OptionalPre (take (oe - re) (drop re kids)) reader places doc depth
   group-asks P = (P.0, P.3, P.5, P.6.optional, group-ok P.0 P.1 P.2 P.3 P.4 P.6 P.7)
 
   -- the group's sum, and the words after it
   abbrev pub Grouped : Float → List ℕ → Type 0
   Grouped sum kids₁ =
-      (ix : Index) (j : Joining) (rs os : Scorers) (rest : List ℕ) → LentAt ix reader.max_doc reader.postings.now reader.positions.now reader.norms.now doc → JoinAsks ix table places j rs os node doc → PartsAre ix reader.ranges.now rs os depth doc rest kids → SumIs zero_float (optional_scores ix os doc) (nodes_of os) sum × PartsAre ix reader.ranges.now rs os depth doc rest kids₁
+      (ix : Index) (j : Joining) (rs os : Scorers) (rest : List ℕ) → LentAt ix reader.max_doc reader.postings.now reader.positions.now reader.norms.now doc → JoinAsks ix reader.inverses.now places j rs os node doc → PartsAre ix reader.ranges.now rs os depth doc rest kids → SumIs zero_float (optional_scores ix os doc) (nodes_of os) sum × PartsAre ix reader.ranges.now rs os depth doc rest kids₁
 
-  pub grouped : (sum : Float) (ys : List ℕ) → OptionalPost (take (oe - re) (drop re kids)) reader table places doc depth sum ys → Grouped sum (put kids re oe ys)
+  pub grouped : (sum : Float) (ys : List ℕ) → OptionalPost (take (oe - re) (drop re kids)) reader places doc depth sum ys → Grouped sum (put kids re oe ys)
   grouped sum ys post ix j rs os rest L K Q =
       let q = post ix os L K.optional (group-ok ix j rs os rest K Q) in
       (q.0, record { required = Q.required; optional = ys; is = mid_back Q.required Q.optional rest kids re oe Q.is (required-long ix j rs os rest K Q.required Q.required-ok) (optional-long ix j rs os rest K Q.optional Q.optional-ok) ys; required-ok = Q.required-ok; optional-ok = q.1 })
 
   -- no optional children: a group of 0, and the words as they were
-  no-optional : re ≡ oe → (ix : Index) (j : Joining) (rs os : Scorers) → JoinAsks ix table places j rs os node doc → os ≡ end
+  no-optional : re ≡ oe → (ix : Index) (j : Joining) (rs os : Scorers) → JoinAsks ix reader.inverses.now places j rs os node doc → os ≡ end
   no-optional none ix j rs os K = none_left os (omega (arith, none, K.required-end, K.optional-end))
 
   pub ungrouped : re ≡ oe → Grouped zero_float kids
   ungrouped none ix j rs os rest L K Q = (subst (λ (o : Scorers). SumIs zero_float (optional_scores ix o doc) (nodes_of o) zero_float) (sym (no-optional none ix j rs os K)) (none-summed ix doc), Q)
 
   module _ (osum : Float) (kids₁ : List ℕ) (G : Grouped osum kids₁) (g : Float) (g-is : g ≡ narrow osum) where
-    group_of : (ix : Index) (j : Joining) (rs os : Scorers) (rest : List ℕ) → LentAt ix reader.max_doc reader.postings.now reader.positions.now reader.norms.now doc → JoinAsks ix table places j rs os node doc → PartsAre ix reader.ranges.now rs os depth doc rest kids → (g ≡ narrowed_sum (optional_scores ix os doc)) × AtMost (nodes_of os * 2 ^ 29) g
+    group_of : (ix : Index) (j : Joining) (rs os : Scorers) (rest : List ℕ) → LentAt ix reader.max_doc reader.postings.now reader.positions.now reader.norms.now doc → JoinAsks ix reader.inverses.now places j rs os node doc → PartsAre ix reader.ranges.now rs os depth doc rest kids → (g ≡ narrowed_sum (optional_scores ix os doc)) × AtMost (nodes_of os * 2 ^ 29) g
     group_of ix j rs os rest L K Q = let h : nodes_of os ≤ 256 = omega (arith, K.few) in group-is (optional_scores ix os doc) (nodes_of os) osum g h (G ix j rs os rest L K Q).0 g-is
 
     pub group-number : Pre → T (not (is_nan g))
     group-number P = atmost-number (group_of P.0 P.1 P.2 P.3 P.4 P.5 P.6 P.7).1
 
     -- no required children: the group is the score
-    pub only-done : re ≡ 0 → JoinPost kids node reader table places doc depth g kids₁
+    pub only-done : re ≡ 0 → JoinPost kids node reader places doc depth g kids₁
     only-done none ix j rs os rest L K Q =
         let o = group_of ix j rs os rest L K Q in
         (subst (λ (s : Scorers). JoinIs ix j s os doc g) (sym (none_left rs (sym K.required-end ∙ none))) (joined-only ix doc os j g o.0 o.1), (G ix j rs os rest L K Q).1)
@@ -145,15 +145,15 @@ module _ (kids : List ℕ) (node : Boolean) (reader : LeafReader) (table : List 
       sum_of : (xs : List Float) (p : ℕ) (r : Float) → SumIs z xs (0 + p) r → SumIs zero_float xs p r
       sum_of xs p r s = let e : 0 + p ≡ p = omega arith in subst (λ (y : Float). SumIs y xs p r) z-is (subst (λ (i : ℕ). SumIs z xs i r) e s)
 
-      all-ok : (ix : Index) (j : Joining) (rs os : Scorers) (rest : List ℕ) → JoinAsks ix table places j rs os node doc → PartsAre ix reader.ranges.now rs os depth doc rest kids₁ → Oks ix reader.ranges.now rs depth (take re kids₁) doc
+      all-ok : (ix : Index) (j : Joining) (rs os : Scorers) (rest : List ℕ) → JoinAsks ix reader.inverses.now places j rs os node doc → PartsAre ix reader.ranges.now rs os depth doc rest kids₁ → Oks ix reader.ranges.now rs depth (take re kids₁) doc
       all-ok ix j rs os rest K Q = subst (λ (w : List ℕ). Oks ix reader.ranges.now rs depth w doc) (sym (front-part Q.required (Q.optional ++ rest) kids₁ re Q.is (required-long ix j rs os rest K Q.required Q.required-ok))) Q.required-ok
 
-      pub after-asks : Pre → RequiredPre (take re kids₁) z reader table places' doc depth
+      pub after-asks : Pre → RequiredPre (take re kids₁) z reader places' doc depth
       after-asks P =
           (P.0, P.2, 0, P.5, scorables-at same P.6.required, P.6.all, all-ok P.0 P.1 P.2 P.3 P.4 P.6 (G P.0 P.1 P.2 P.3 P.4 P.5 P.6 P.7).1, zero-small)
 
-      module _ (sum : Float) (ys : List ℕ) (post : RequiredPost (take re kids₁) z reader table places' doc depth sum ys) where
-        after-sum : (ix : Index) (j : Joining) (rs os : Scorers) (rest : List ℕ) → LentAt ix reader.max_doc reader.postings.now reader.positions.now reader.norms.now doc → JoinAsks ix table places j rs os node doc → PartsAre ix reader.ranges.now rs os depth doc rest kids → SumIs zero_float (scoring (required_scores ix rs doc)) (nodes_of rs) sum × Oks ix reader.ranges.now rs depth ys doc
+      module _ (sum : Float) (ys : List ℕ) (post : RequiredPost (take re kids₁) z reader places' doc depth sum ys) where
+        after-sum : (ix : Index) (j : Joining) (rs os : Scorers) (rest : List ℕ) → LentAt ix reader.max_doc reader.postings.now reader.positions.now reader.norms.now doc → JoinAsks ix reader.inverses.now places j rs os node doc → PartsAre ix reader.ranges.now rs os depth doc rest kids → SumIs zero_float (scoring (required_scores ix rs doc)) (nodes_of rs) sum × Oks ix reader.ranges.now rs depth ys doc
         after-sum ix j rs os rest L K Q =
             let q = post ix rs 0 L (scorables-at same K.required) K.all (all-ok ix j rs os rest K (G ix j rs os rest L K Q).1) zero-small in
             (sum_of (scoring (required_scores ix rs doc)) (nodes_of rs) sum q.0, q.1)
@@ -165,7 +165,7 @@ module _ (kids : List ℕ) (node : Boolean) (reader : LeafReader) (table : List 
             subst (λ (y : Float). T (not (is_nan y))) (sym e) (atmost-number (scores-narrow (nodes_of P.2) sum h q.0.small))
 
         -- no optional children: the required sum is the score
-        pub alone-done : re ≡ oe → (r : Float) → r ≡ narrow sum → JoinPost kids node reader table places doc depth r (ys ++ drop re kids₁)
+        pub alone-done : re ≡ oe → (r : Float) → r ≡ narrow sum → JoinPost kids node reader places doc depth r (ys ++ drop re kids₁)
         alone-done none r h ix j rs os rest L K Q =
             let q = after-sum ix j rs os rest L K Q in
             let R = (G ix j rs os rest L K Q).1 in
@@ -175,7 +175,7 @@ module _ (kids : List ℕ) (node : Boolean) (reader : LeafReader) (table : List 
               record { required = ys; optional = R.optional; is = front-back R.required (R.optional ++ rest) kids₁ re R.is (required-long ix j rs os rest K R.required R.required-ok) ys; required-ok = q.1; optional-ok = R.optional-ok },
             )
 
-        pub after-done : node.afterwards ≡ true → (w two r : Float) → w ≡ narrow sum → two ≡ add binary64 w g → r ≡ narrow two → JoinPost kids node reader table places doc depth r (ys ++ drop re kids₁)
+        pub after-done : node.afterwards ≡ true → (w two r : Float) → w ≡ narrow sum → two ≡ add binary64 w g → r ≡ narrow two → JoinPost kids node reader places doc depth r (ys ++ drop re kids₁)
         after-done a w two r e f h ix j rs os rest L K Q =
             let q = after-sum ix j rs os rest L K Q in
             let R = (G ix j rs os rest L K Q).1 in
@@ -200,7 +200,7 @@ module _ (kids : List ℕ) (node : Boolean) (reader : LeafReader) (table : List 
           pub rest_ok : Oks ix reader.ranges.now (rest_of m rs) depth y doc
           pub group-ok : Oks ix reader.ranges.now os depth v doc
 
-        cut : (ix : Index) (j : Joining) (rs os : Scorers) (rest : List ℕ) → JoinAsks ix table places j rs os node doc → PartsAre ix reader.ranges.now rs os depth doc rest kids₁ → Cut ix j rs os rest kids₁
+        cut : (ix : Index) (j : Joining) (rs os : Scorers) (rest : List ℕ) → JoinAsks ix reader.inverses.now places j rs os node doc → PartsAre ix reader.ranges.now rs os depth doc rest kids₁ → Cut ix j rs os rest kids₁
         cut ix j rs os rest K Q =
             let a = no-after j rs (cond node.afterwards 1 0) ga K.joins (not-one node.afterwards other) in
             let s = oks-split ix reader.ranges.now depth doc a.0 rs Q.required Q.required-ok in
@@ -221,22 +221,22 @@ module _ (kids : List ℕ) (node : Boolean) (reader : LeafReader) (table : List 
         pub cut-lies : Pre → ga ≤ re
         cut-lies P = let k = cut P.0 P.1 P.2 P.3 P.4 P.6 (G P.0 P.1 P.2 P.3 P.4 P.5 P.6 P.7).1 in omega (arith, k.rest-long)
 
-        module _ (ix : Index) (j : Joining) (rs os : Scorers) (rest : List ℕ) (K : JoinAsks ix table places j rs os node doc) (m : ℕ) where
-          first-scorables : Scorables ix table places' 0 (first_of m rs)
-          first-scorables = scorables-at same (record { sound = (first-sounds ix places m rs K.required.sound).0; tables = (first-tables ix table m rs K.required.tables).0; few = omega (arith, K.few, first-nodes m rs) })
+        module _ (ix : Index) (j : Joining) (rs os : Scorers) (rest : List ℕ) (K : JoinAsks ix reader.inverses.now places j rs os node doc) (m : ℕ) where
+          first-scorables : Scorables ix reader.inverses.now places' 0 (first_of m rs)
+          first-scorables = scorables-at same (record { sound = (first-sounds ix places m rs K.required.sound).0; tables = (first-tables ix reader.inverses.now m rs K.required.tables).0; few = omega (arith, K.few, first-nodes m rs) })
 
-          rest-scorables : Scorables ix table places' (nodes_of (first_of m rs) + nodes_of os) (rest_of m rs)
-          rest-scorables = scorables-at same (record { sound = (first-sounds ix places m rs K.required.sound).1; tables = (first-tables ix table m rs K.required.tables).1; few = omega (arith, K.few, first-nodes m rs) })
+          rest-scorables : Scorables ix reader.inverses.now places' (nodes_of (first_of m rs) + nodes_of os) (rest_of m rs)
+          rest-scorables = scorables-at same (record { sound = (first-sounds ix places m rs K.required.sound).1; tables = (first-tables ix reader.inverses.now m rs K.required.tables).1; few = omega (arith, K.few, first-nodes m rs) })
 
         front-ok : (ix : Index) (j : Joining) (rs os : Scorers) (rest : List ℕ) (w : List ℕ) (k : Cut ix j rs os rest w) → Oks ix reader.ranges.now (first_of k.m rs) depth (take ga w) doc
         front-ok ix j rs os rest w k = subst (λ (l : List ℕ). Oks ix reader.ranges.now (first_of k.m rs) depth l doc) (sym (front-part k.x (k.y ++ (k.v ++ rest)) w ga k.is k.first-long)) k.first-ok
 
-        pub front-asks : Pre → RequiredPre (take ga kids₁) z reader table places' doc depth
+        pub front-asks : Pre → RequiredPre (take ga kids₁) z reader places' doc depth
         front-asks P =
             let k = cut P.0 P.1 P.2 P.3 P.4 P.6 (G P.0 P.1 P.2 P.3 P.4 P.5 P.6 P.7).1 in
             (P.0, first_of k.m P.2, 0, P.5, first-scorables P.0 P.1 P.2 P.3 P.4 P.6 k.m, (first_matches P.0 doc k.m P.2 P.6.all).0, front-ok P.0 P.1 P.2 P.3 P.4 kids₁ k, zero-small)
 
-        module _ (front : Float) (xs : List ℕ) (long : length xs ≡ length (take ga kids₁)) (post : RequiredPost (take ga kids₁) z reader table places' doc depth front xs) where
+        module _ (front : Float) (xs : List ℕ) (long : length xs ≡ length (take ga kids₁)) (post : RequiredPost (take ga kids₁) z reader places' doc depth front xs) where
           abbrev kids₂ : List ℕ
           kids₂ = xs ++ drop ga kids₁
 
@@ -244,7 +244,7 @@ module _ (kids : List ℕ) (node : Boolean) (reader : LeafReader) (table : List 
             pub parts : Cut ix j rs os rest kids₂
             pub sum_is : SumIs zero_float (scoring (required_scores ix (first_of parts.m rs) doc)) (nodes_of (first_of parts.m rs)) front
 
-          front_of : (ix : Index) (j : Joining) (rs os : Scorers) (rest : List ℕ) → LentAt ix reader.max_doc reader.postings.now reader.positions.now reader.norms.now doc → JoinAsks ix table places j rs os node doc → PartsAre ix reader.ranges.now rs os depth doc rest kids → Front ix j rs os rest
+          front_of : (ix : Index) (j : Joining) (rs os : Scorers) (rest : List ℕ) → LentAt ix reader.max_doc reader.postings.now reader.positions.now reader.norms.now doc → JoinAsks ix reader.inverses.now places j rs os node doc → PartsAre ix reader.ranges.now rs os depth doc rest kids → Front ix j rs os rest
           front_of ix j rs os rest L K Q =
               let k = cut ix j rs os rest K (G ix j rs os rest L K Q).1 in
               let q = post ix (first_of k.m rs) 0 L (first-scorables ix j rs os rest K k.m) (first_matches ix doc k.m rs K.all).0 (front-ok ix j rs os rest kids₁ k) zero-small in
@@ -257,16 +257,16 @@ module _ (kids : List ℕ) (node : Boolean) (reader : LeafReader) (table : List 
             rest_part : (ix : Index) (j : Joining) (rs os : Scorers) (rest : List ℕ) (k : Cut ix j rs os rest kids₂) → Oks ix reader.ranges.now (rest_of k.m rs) depth (take (re - ga) (drop ga kids₂)) doc
             rest_part ix j rs os rest k = subst (λ (l : List ℕ). Oks ix reader.ranges.now (rest_of k.m rs) depth l doc) (sym (mid-part k.x k.y (k.v ++ rest) kids₂ ga re k.is k.first-long k.rest-long)) k.rest_ok
 
-            rest-small : (ix : Index) (j : Joining) (rs os : Scorers) (rest : List ℕ) → LentAt ix reader.max_doc reader.postings.now reader.positions.now reader.norms.now doc → JoinAsks ix table places j rs os node doc → PartsAre ix reader.ranges.now rs os depth doc rest kids → (f : Front ix j rs os rest) → AtMost ((nodes_of (first_of f.parts.m rs) + nodes_of os) * 2 ^ 29) sum
+            rest-small : (ix : Index) (j : Joining) (rs os : Scorers) (rest : List ℕ) → LentAt ix reader.max_doc reader.postings.now reader.positions.now reader.norms.now doc → JoinAsks ix reader.inverses.now places j rs os node doc → PartsAre ix reader.ranges.now rs os depth doc rest kids → (f : Front ix j rs os rest) → AtMost ((nodes_of (first_of f.parts.m rs) + nodes_of os) * 2 ^ 29) sum
             rest-small ix j rs os rest L K Q f = let o = group_of ix j rs os rest L K Q in joined-sum ix doc rs os K.few g o.0 o.1 f.parts.m front sum f.sum_is sum-of-two
 
-            pub rest-asks : Pre → RequiredPre (take (re - ga) (drop ga kids₂)) sum reader table places'' doc depth
+            pub rest-asks : Pre → RequiredPre (take (re - ga) (drop ga kids₂)) sum reader places'' doc depth
             rest-asks P =
                 let f = front_of P.0 P.1 P.2 P.3 P.4 P.5 P.6 P.7 in
                 let k = f.parts in
                 (P.0, rest_of k.m P.2, nodes_of (first_of k.m P.2) + nodes_of P.3, P.5, scorables-at same'' (rest-scorables P.0 P.1 P.2 P.3 P.4 P.6 k.m), (first_matches P.0 doc k.m P.2 P.6.all).1, rest_part P.0 P.1 P.2 P.3 P.4 k, rest-small P.0 P.1 P.2 P.3 P.4 P.5 P.6 P.7 f)
 
-            pub rest-done : (all : Float) (ys : List ℕ) → RequiredPost (take (re - ga) (drop ga kids₂)) sum reader table places'' doc depth all ys → (r : Float) → r ≡ narrow all → JoinPost kids node reader table places doc depth r (put kids₂ ga re ys)
+            pub rest-done : (all : Float) (ys : List ℕ) → RequiredPost (take (re - ga) (drop ga kids₂)) sum reader places'' doc depth all ys → (r : Float) → r ≡ narrow all → JoinPost kids node reader places doc depth r (put kids₂ ga re ys)
             rest-done all ys last r h ix j rs os rest L K Q =
                 let f = front_of ix j rs os rest L K Q in
                 let k = f.parts in

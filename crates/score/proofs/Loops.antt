@@ -22,14 +22,16 @@ use Rattle.node.specs.Words.{ChildThere}
 use Rattle.scorer.specs.Calls as scorer
 use Rattle.scorer.specs.Calls.{lent_of, RoomIn, NodeHeld, AdvancePre, AdvancePost}
 use Rattle.leaf_scorer.specs.declared.LeafReader.{LeafReader}
+use Rattle.leaf_scorer.specs.declared.PhraseBuffers.{PhraseBuffers}
+use Rattle.leaf_scorer.specs.Buffers.{places_in, SameBuffers}
 use Rattle.score.specs.Asked.{Scorables, RequiredPre, RequiredPost, OptionalPre, OptionalPost}
 use Rattle.leaf_score.specs.Asked.{LentAt, Scorable, ScorePre, ScorePost, TermPre, TermPost}
 use Rattle.score.proofs.Parts.{part_same}
 use Rattle.score.proofs.Sums.{counted, scores-word, matches-at, required-counted, optional-counted, required-matched, optional-matched, SumAt, sum-start, sum-end, sum-open, sum-there, sum-scores, sum-size, sum-kind, sum-stop, sum-scorable, sum-matched, sum-part, sum-part-kind, sum-renewed, sum-skipped, sum-took}
 
 -- the phrase buffers keep their lengths
-pub places_same : (x y x' y' : ℕ) → x ≡ x' → y ≡ y' → min x y ≡ min x' y'
-places_same x y x' y' e f = omega arith
+pub places_same : {b b' : PhraseBuffers} → SameBuffers b b' → places_in b' ≡ places_in b
+places_same s = omega (arith, s.starts_length, s.other_starts_length)
 
 pub scorable-at : {ix : Index} {table : List Float} {places places' : ℕ} {S : Scorer} → places' ≡ places → Scorable ix table places S → Scorable ix table places' S
 scorable-at {ix} {table} {S = S} e p = subst (λ (i : ℕ). Scorable ix table i S) (sym e) p
@@ -46,36 +48,36 @@ no-score false w e h = refl
 abbrev pub put : List ℕ → ℕ → ℕ → List ℕ → List ℕ
 put kids at e ys = take at kids ++ (ys ++ drop (e - at) (drop at kids))
 
-module _ (kids₀ : List ℕ) (start : Float) (reader : LeafReader) (table : List Float) (places doc depth : ℕ) where
+module _ (kids₀ : List ℕ) (start : Float) (reader : LeafReader) (places doc depth : ℕ) where
   abbrev pub RequiredAt : List ℕ → ℕ → Float → Type 0
   RequiredAt kids at sum =
-      (ix : Index) (ss : Scorers) (p : ℕ) → LentAt ix reader.max_doc reader.postings.now reader.positions.now reader.norms.now doc → Scorables ix table places p ss → all_match ix ss doc ≡ true → Oks ix reader.ranges.now ss depth kids₀ doc → AtMost (p * 2 ^ 29) start → (g : Scorers) × SumAt scores-word ix reader.ranges.now table places depth doc ss (sum_from start (counted scores-word ix ss doc)) (p + nodes_of ss) g kids at sum
+      (ix : Index) (ss : Scorers) (p : ℕ) → LentAt ix reader.max_doc reader.postings.now reader.positions.now reader.norms.now doc → Scorables ix reader.inverses.now places p ss → all_match ix ss doc ≡ true → Oks ix reader.ranges.now ss depth kids₀ doc → AtMost (p * 2 ^ 29) start → (g : Scorers) × SumAt scores-word ix reader.ranges.now reader.inverses.now places depth doc ss (sum_from start (counted scores-word ix ss doc)) (p + nodes_of ss) g kids at sum
 
   pub required-start : RequiredAt kids₀ 0 start
-  required-start ix ss p L S m o a = (ss, sum-start scores-word ix reader.ranges.now table places depth doc ss start p kids₀ o a S.sound S.tables (required-matched ix ss doc m))
+  required-start ix ss p L S m o a = (ss, sum-start scores-word ix reader.ranges.now reader.inverses.now places depth doc ss start p kids₀ o a S.sound S.tables (required-matched ix ss doc m))
 
   module _ (kids : List ℕ) (at : ℕ) (sum : Float) (I : RequiredAt kids at sum) where
-    pub required-end : length kids ≤ at → RequiredPost kids₀ start reader table places doc depth sum kids
+    pub required-end : length kids ≤ at → RequiredPost kids₀ start reader places doc depth sum kids
     required-end l ix ss p L S m o a =
         let i = I ix ss p L S m o a in
-        let e = sum-end scores-word ix reader.ranges.now table places depth doc ss (sum_from start (counted scores-word ix ss doc)) (p + nodes_of ss) kids at sum S.few i.0 i.1 l in
+        let e = sum-end scores-word ix reader.ranges.now reader.inverses.now places depth doc ss (sum_from start (counted scores-word ix ss doc)) (p + nodes_of ss) kids at sum S.few i.0 i.1 l in
         (record { is = e.0 ∙ ap (λ (xs : List Float). sum_from start xs) (required-counted ix ss doc); small = e.1 }, e.2)
 
     module _ (l : at < length kids) where
       -- the child at the place
-      abbrev open_at : (ix : Index) (ss : Scorers) (p : ℕ) → LentAt ix reader.max_doc reader.postings.now reader.positions.now reader.norms.now doc → Scorables ix table places p ss → all_match ix ss doc ≡ true → Oks ix reader.ranges.now ss depth kids₀ doc → AtMost (p * 2 ^ 29) start → (f : Bool) × (S : Scorer) × (g : Scorers) × SumAt scores-word ix reader.ranges.now table places depth doc ss (sum_from start (counted scores-word ix ss doc)) (p + nodes_of ss) (more f S g) kids at sum
-      open_at ix ss p L S m o a = let i = I ix ss p L S m o a in sum-open scores-word ix reader.ranges.now table places depth doc ss (sum_from start (counted scores-word ix ss doc)) (p + nodes_of ss) kids at sum i.0 i.1 l
+      abbrev open_at : (ix : Index) (ss : Scorers) (p : ℕ) → LentAt ix reader.max_doc reader.postings.now reader.positions.now reader.norms.now doc → Scorables ix reader.inverses.now places p ss → all_match ix ss doc ≡ true → Oks ix reader.ranges.now ss depth kids₀ doc → AtMost (p * 2 ^ 29) start → (f : Bool) × (S : Scorer) × (g : Scorers) × SumAt scores-word ix reader.ranges.now reader.inverses.now places depth doc ss (sum_from start (counted scores-word ix ss doc)) (p + nodes_of ss) (more f S g) kids at sum
+      open_at ix ss p L S m o a = let i = I ix ss p L S m o a in sum-open scores-word ix reader.ranges.now reader.inverses.now places depth doc ss (sum_from start (counted scores-word ix ss doc)) (p + nodes_of ss) kids at sum i.0 i.1 l
 
-      pub required-there : RequiredPre kids₀ start reader table places doc depth → ChildThere kids at
+      pub required-there : RequiredPre kids₀ start reader places doc depth → ChildThere kids at
       required-there P =
           let o = open_at P.0 P.1 P.2 P.3 P.4 P.5 P.6 P.7 in
-          sum-there scores-word P.0 reader.ranges.now table places depth doc P.1 (sum_from start (counted scores-word P.0 P.1 doc)) (P.2 + nodes_of P.1) kids at sum o.0 o.1 o.2 o.3
+          sum-there scores-word P.0 reader.ranges.now reader.inverses.now places depth doc P.1 (sum_from start (counted scores-word P.0 P.1 doc)) (P.2 + nodes_of P.1) kids at sum o.0 o.1 o.2 o.3
 
       -- where a term's part ends
-      pub required-stop : RequiredPre kids₀ start reader table places doc depth → get_or kids at 0 ≡ 1 → (e : ℕ) → e ≡ at + node_state_words → e ≡ at + get_or kids (at + 1) 0
+      pub required-stop : RequiredPre kids₀ start reader places doc depth → get_or kids at 0 ≡ 1 → (e : ℕ) → e ≡ at + node_state_words → e ≡ at + get_or kids (at + 1) 0
       required-stop P t =
           let o = open_at P.0 P.1 P.2 P.3 P.4 P.5 P.6 P.7 in
-          sum-stop scores-word P.0 reader.ranges.now table places depth doc P.1 (sum_from start (counted scores-word P.0 P.1 doc)) (P.2 + nodes_of P.1) kids at sum o.0 o.1 o.2 o.3 t
+          sum-stop scores-word P.0 reader.ranges.now reader.inverses.now places depth doc P.1 (sum_from start (counted scores-word P.0 P.1 doc)) (P.2 + nodes_of P.1) kids at sum o.0 o.1 o.2 o.3 t
 
       module _ (e : ℕ) (stop : e ≡ at + get_or kids (at + 1) 0) where
         pub required-skip : (get_or kids (at + 15) 0 ≡ 1 → ⊥) → RequiredAt kids e sum
@@ -83,30 +85,30 @@ module _ (kids₀ : List ℕ) (start : Float) (reader : LeafReader) (table : Lis
             let i = open_at ix ss p L S m o a in
             let total = sum_from start (counted scores-word ix ss doc) in
             let most = p + nodes_of ss in
-            (i.2, sum-skipped scores-word ix reader.ranges.now table places depth doc ss total most kids at sum i.0 i.1 i.2 i.3 (no-score i.0 (get_or kids (at + 15) 0) (sum-scores scores-word ix reader.ranges.now table places depth doc ss total most kids at sum i.0 i.1 i.2 i.3) w) e stop)
+            (i.2, sum-skipped scores-word ix reader.ranges.now reader.inverses.now places depth doc ss total most kids at sum i.0 i.1 i.2 i.3 (no-score i.0 (get_or kids (at + 15) 0) (sum-scores scores-word ix reader.ranges.now reader.inverses.now places depth doc ss total most kids at sum i.0 i.1 i.2 i.3) w) e stop)
 
         module _ (w : get_or kids (at + 15) 0 ≡ 1) (places' : ℕ) (same : places' ≡ places) where
-          pub required-child : RequiredPre kids₀ start reader table places doc depth → ScorePre (take (e - at) (drop at kids)) reader.max_doc reader.postings.now reader.positions.now reader.norms.now reader.ranges.now table places' doc depth
+          pub required-child : RequiredPre kids₀ start reader places doc depth → ScorePre (take (e - at) (drop at kids)) reader.max_doc reader.postings.now reader.positions.now reader.norms.now reader.ranges.now reader.inverses.now places' doc depth
           required-child P =
               let ix = P.0 in
               let ss = P.1 in
               let o = open_at ix ss P.2 P.3 P.4 P.5 P.6 P.7 in
               let total = sum_from start (counted scores-word ix ss doc) in
               let most = P.2 + nodes_of ss in
-              let f : o.0 ≡ true = must-score o.0 (get_or kids (at + 15) 0) (sum-scores scores-word ix reader.ranges.now table places depth doc ss total most kids at sum o.0 o.1 o.2 o.3) w in
-              (ix, o.1, cond o.0 1 0, P.3, scorable-at same (sum-scorable scores-word ix reader.ranges.now table places depth doc ss total most kids at sum o.0 o.1 o.2 o.3 P.4.few), sum-matched scores-word ix reader.ranges.now table places depth doc ss total most kids at sum o.0 o.1 o.2 o.3 f, sum-part scores-word ix reader.ranges.now table places depth doc ss total most kids at sum o.0 o.1 o.2 o.3 e stop)
+              let f : o.0 ≡ true = must-score o.0 (get_or kids (at + 15) 0) (sum-scores scores-word ix reader.ranges.now reader.inverses.now places depth doc ss total most kids at sum o.0 o.1 o.2 o.3) w in
+              (ix, o.1, cond o.0 1 0, P.3, scorable-at same (sum-scorable scores-word ix reader.ranges.now reader.inverses.now places depth doc ss total most kids at sum o.0 o.1 o.2 o.3 P.4.few), sum-matched scores-word ix reader.ranges.now reader.inverses.now places depth doc ss total most kids at sum o.0 o.1 o.2 o.3 f, sum-part scores-word ix reader.ranges.now reader.inverses.now places depth doc ss total most kids at sum o.0 o.1 o.2 o.3 e stop)
 
-          pub required-term : get_or kids at 0 ≡ 1 → RequiredPre kids₀ start reader table places doc depth → TermPre (take (e - at) (drop at kids)) reader.postings.now reader.norms.now table doc
+          pub required-term : get_or kids at 0 ≡ 1 → RequiredPre kids₀ start reader places doc depth → TermPre (take (e - at) (drop at kids)) reader.postings.now reader.norms.now reader.inverses.now doc
           required-term t P =
               let ix = P.0 in
               let ss = P.1 in
               let o = open_at ix ss P.2 P.3 P.4 P.5 P.6 P.7 in
               let total = sum_from start (counted scores-word ix ss doc) in
               let most = P.2 + nodes_of ss in
-              (sum-part-kind scores-word ix reader.ranges.now table places depth doc ss total most kids at sum o.0 o.1 o.2 o.3 e stop ∙ sym (sum-kind scores-word ix reader.ranges.now table places depth doc ss total most kids at sum o.0 o.1 o.2 o.3) ∙ t, (reader.max_doc, reader.positions.now, reader.ranges.now, places', depth, required-child P))
+              (sum-part-kind scores-word ix reader.ranges.now reader.inverses.now places depth doc ss total most kids at sum o.0 o.1 o.2 o.3 e stop ∙ sym (sum-kind scores-word ix reader.ranges.now reader.inverses.now places depth doc ss total most kids at sum o.0 o.1 o.2 o.3) ∙ t, (reader.max_doc, reader.positions.now, reader.ranges.now, places', depth, required-child P))
 
-          module _ (r : Float) (ys : List ℕ) (post : ScorePost (take (e - at) (drop at kids)) reader.max_doc reader.postings.now reader.positions.now reader.norms.now reader.ranges.now table places' doc depth r ys) where
-            pub required-number : RequiredPre kids₀ start reader table places doc depth → T (not (is_nan r))
+          module _ (r : Float) (ys : List ℕ) (post : ScorePost (take (e - at) (drop at kids)) reader.max_doc reader.postings.now reader.positions.now reader.norms.now reader.ranges.now reader.inverses.now places' doc depth r ys) where
+            pub required-number : RequiredPre kids₀ start reader places doc depth → T (not (is_nan r))
             required-number P = let q = required-child P in atmost-number (post q.0 q.1 q.2 q.3 q.4 q.5 q.6).0.small
 
             pub required-took : (sum' : Float) → sum' ≡ add binary64 sum r → RequiredAt (put kids at e ys) e sum'
@@ -114,80 +116,80 @@ module _ (kids₀ : List ℕ) (start : Float) (reader : LeafReader) (table : Lis
                 let i = open_at ix ss p L S m o a in
                 let total = sum_from start (counted scores-word ix ss doc) in
                 let most = p + nodes_of ss in
-                let f : i.0 ≡ true = must-score i.0 (get_or kids (at + 15) 0) (sum-scores scores-word ix reader.ranges.now table places depth doc ss total most kids at sum i.0 i.1 i.2 i.3) w in
-                let q = post ix i.1 (cond i.0 1 0) L (scorable-at same (sum-scorable scores-word ix reader.ranges.now table places depth doc ss total most kids at sum i.0 i.1 i.2 i.3 S.few)) (sum-matched scores-word ix reader.ranges.now table places depth doc ss total most kids at sum i.0 i.1 i.2 i.3 f) (sum-part scores-word ix reader.ranges.now table places depth doc ss total most kids at sum i.0 i.1 i.2 i.3 e stop) in
-                let z = sum-renewed scores-word ix reader.ranges.now table places depth doc ss total most kids at sum i.0 i.1 i.2 i.3 e stop ys q.1 in
-                let h : e ≡ at + get_or (put kids at e ys) (at + 1) 0 = stop ∙ ap (λ (x : ℕ). at + x) (sum-size scores-word ix reader.ranges.now table places depth doc ss total most kids at sum i.0 i.1 i.2 i.3 ∙ sym (sum-size scores-word ix reader.ranges.now table places depth doc ss total most (put kids at e ys) at sum i.0 i.1 i.2 z)) in
-                (i.2, subst (λ (x : Float). SumAt scores-word ix reader.ranges.now table places depth doc ss total most i.2 (put kids at e ys) e x) (sym s) (sum-took scores-word ix reader.ranges.now table places depth doc ss total most (put kids at e ys) at sum i.0 i.1 i.2 z S.few f e h r q.0))
+                let f : i.0 ≡ true = must-score i.0 (get_or kids (at + 15) 0) (sum-scores scores-word ix reader.ranges.now reader.inverses.now places depth doc ss total most kids at sum i.0 i.1 i.2 i.3) w in
+                let q = post ix i.1 (cond i.0 1 0) L (scorable-at same (sum-scorable scores-word ix reader.ranges.now reader.inverses.now places depth doc ss total most kids at sum i.0 i.1 i.2 i.3 S.few)) (sum-matched scores-word ix reader.ranges.now reader.inverses.now places depth doc ss total most kids at sum i.0 i.1 i.2 i.3 f) (sum-part scores-word ix reader.ranges.now reader.inverses.now places depth doc ss total most kids at sum i.0 i.1 i.2 i.3 e stop) in
+                let z = sum-renewed scores-word ix reader.ranges.now reader.inverses.now places depth doc ss total most kids at sum i.0 i.1 i.2 i.3 e stop ys q.1 in
+                let h : e ≡ at + get_or (put kids at e ys) (at + 1) 0 = stop ∙ ap (λ (x : ℕ). at + x) (sum-size scores-word ix reader.ranges.now reader.inverses.now places depth doc ss total most kids at sum i.0 i.1 i.2 i.3 ∙ sym (sum-size scores-word ix reader.ranges.now reader.inverses.now places depth doc ss total most (put kids at e ys) at sum i.0 i.1 i.2 z)) in
+                (i.2, subst (λ (x : Float). SumAt scores-word ix reader.ranges.now reader.inverses.now places depth doc ss total most i.2 (put kids at e ys) e x) (sym s) (sum-took scores-word ix reader.ranges.now reader.inverses.now places depth doc ss total most (put kids at e ys) at sum i.0 i.1 i.2 z S.few f e h r q.0))
 
           -- a term's part stays as it is
-          pub required-term-took : (r : Float) → TermPost (take (e - at) (drop at kids)) reader.postings.now reader.norms.now table doc r → (sum' : Float) → sum' ≡ add binary64 sum r → RequiredAt kids e sum'
+          pub required-term-took : (r : Float) → TermPost (take (e - at) (drop at kids)) reader.postings.now reader.norms.now reader.inverses.now doc r → (sum' : Float) → sum' ≡ add binary64 sum r → RequiredAt kids e sum'
           required-term-took r post sum' s = subst (λ (l : List ℕ). RequiredAt l e sum') (part_same kids at e) (required-took r (take (e - at) (drop at kids)) (post reader.max_doc reader.positions.now reader.ranges.now places' depth) sum' s)
 
-module _ (kids₀ : List ℕ) (reader : LeafReader) (table : List Float) (places doc depth : ℕ) where
+module _ (kids₀ : List ℕ) (reader : LeafReader) (places doc depth : ℕ) where
   abbrev pub OptionalAt : List ℕ → ℕ → Float → Type 0
   OptionalAt kids at sum =
-      (ix : Index) (ss : Scorers) → LentAt ix reader.max_doc reader.postings.now reader.positions.now reader.norms.now doc → Scorables ix table places 0 ss → Oks ix reader.ranges.now ss depth kids₀ doc → (g : Scorers) × SumAt (matches-at ix doc) ix reader.ranges.now table places depth doc ss (sum_from zero_float (counted (matches-at ix doc) ix ss doc)) (nodes_of ss) g kids at sum
+      (ix : Index) (ss : Scorers) → LentAt ix reader.max_doc reader.postings.now reader.positions.now reader.norms.now doc → Scorables ix reader.inverses.now places 0 ss → Oks ix reader.ranges.now ss depth kids₀ doc → (g : Scorers) × SumAt (matches-at ix doc) ix reader.ranges.now reader.inverses.now places depth doc ss (sum_from zero_float (counted (matches-at ix doc) ix ss doc)) (nodes_of ss) g kids at sum
 
   -- between advance and score: the child at the place stands at the document
   pub record Mid (ix : Index) (ss : Scorers) (kids : List ℕ) (at e : ℕ) (sum : Float) : Type 0 where
     pub f : Bool
     pub S : Scorer
     pub g : Scorers
-    pub at-child : SumAt (matches-at ix doc) ix reader.ranges.now table places depth doc ss (sum_from zero_float (counted (matches-at ix doc) ix ss doc)) (nodes_of ss) (more f S g) kids at sum
+    pub at-child : SumAt (matches-at ix doc) ix reader.ranges.now reader.inverses.now places depth doc ss (sum_from zero_float (counted (matches-at ix doc) ix ss doc)) (nodes_of ss) (more f S g) kids at sum
     pub match : matches ix S doc ≡ true
     pub stop : e ≡ at + get_or kids (at + 1) 0
 
   abbrev pub OptionalMid : List ℕ → ℕ → ℕ → Float → Type 0
   OptionalMid kids at e sum =
-      (ix : Index) (ss : Scorers) → LentAt ix reader.max_doc reader.postings.now reader.positions.now reader.norms.now doc → Scorables ix table places 0 ss → Oks ix reader.ranges.now ss depth kids₀ doc → Mid ix ss kids at e sum
+      (ix : Index) (ss : Scorers) → LentAt ix reader.max_doc reader.postings.now reader.positions.now reader.norms.now doc → Scorables ix reader.inverses.now places 0 ss → Oks ix reader.ranges.now ss depth kids₀ doc → Mid ix ss kids at e sum
 
-  few-0 : {ix : Index} {ss : Scorers} → Scorables ix table places 0 ss → nodes_of ss ≤ 256
+  few-0 : {ix : Index} {ss : Scorers} → Scorables ix reader.inverses.now places 0 ss → nodes_of ss ≤ 256
   few-0 S = omega (arith, S.few)
 
   pub optional-start : (x : Float) → x ≡ zero_float → OptionalAt kids₀ 0 x
   optional-start x e ix ss L S o =
       let z : 0 + nodes_of ss ≡ nodes_of ss = omega arith in
-      (ss, subst (λ (i : ℕ). SumAt (matches-at ix doc) ix reader.ranges.now table places depth doc ss (sum_from zero_float (counted (matches-at ix doc) ix ss doc)) i ss kids₀ 0 x) z (subst (λ (y : Float). SumAt (matches-at ix doc) ix reader.ranges.now table places depth doc ss (sum_from zero_float (counted (matches-at ix doc) ix ss doc)) (0 + nodes_of ss) ss kids₀ 0 y) (sym e) (sum-start (matches-at ix doc) ix reader.ranges.now table places depth doc ss zero_float 0 kids₀ o (zero-atmost _) S.sound S.tables (optional-matched ix ss doc))))
+      (ss, subst (λ (i : ℕ). SumAt (matches-at ix doc) ix reader.ranges.now reader.inverses.now places depth doc ss (sum_from zero_float (counted (matches-at ix doc) ix ss doc)) i ss kids₀ 0 x) z (subst (λ (y : Float). SumAt (matches-at ix doc) ix reader.ranges.now reader.inverses.now places depth doc ss (sum_from zero_float (counted (matches-at ix doc) ix ss doc)) (0 + nodes_of ss) ss kids₀ 0 y) (sym e) (sum-start (matches-at ix doc) ix reader.ranges.now reader.inverses.now places depth doc ss zero_float 0 kids₀ o (zero-atmost _) S.sound S.tables (optional-matched ix ss doc))))
 
   module _ (kids : List ℕ) (at : ℕ) (sum : Float) (I : OptionalAt kids at sum) where
-    pub optional-end : length kids ≤ at → OptionalPost kids₀ reader table places doc depth sum kids
+    pub optional-end : length kids ≤ at → OptionalPost kids₀ reader places doc depth sum kids
     optional-end l ix ss L S o =
         let i = I ix ss L S o in
-        let e = sum-end (matches-at ix doc) ix reader.ranges.now table places depth doc ss (sum_from zero_float (counted (matches-at ix doc) ix ss doc)) (nodes_of ss) kids at sum (few-0 S) i.0 i.1 l in
+        let e = sum-end (matches-at ix doc) ix reader.ranges.now reader.inverses.now places depth doc ss (sum_from zero_float (counted (matches-at ix doc) ix ss doc)) (nodes_of ss) kids at sum (few-0 S) i.0 i.1 l in
         (record { is = e.0 ∙ ap (λ (xs : List Float). sum_from zero_float xs) (optional-counted ix ss doc); small = e.1 }, e.2)
 
     module _ (l : at < length kids) where
-      abbrev opened : (ix : Index) (ss : Scorers) → LentAt ix reader.max_doc reader.postings.now reader.positions.now reader.norms.now doc → Scorables ix table places 0 ss → Oks ix reader.ranges.now ss depth kids₀ doc → (f : Bool) × (S : Scorer) × (g : Scorers) × SumAt (matches-at ix doc) ix reader.ranges.now table places depth doc ss (sum_from zero_float (counted (matches-at ix doc) ix ss doc)) (nodes_of ss) (more f S g) kids at sum
-      opened ix ss L S o = let i = I ix ss L S o in sum-open (matches-at ix doc) ix reader.ranges.now table places depth doc ss (sum_from zero_float (counted (matches-at ix doc) ix ss doc)) (nodes_of ss) kids at sum i.0 i.1 l
+      abbrev opened : (ix : Index) (ss : Scorers) → LentAt ix reader.max_doc reader.postings.now reader.positions.now reader.norms.now doc → Scorables ix reader.inverses.now places 0 ss → Oks ix reader.ranges.now ss depth kids₀ doc → (f : Bool) × (S : Scorer) × (g : Scorers) × SumAt (matches-at ix doc) ix reader.ranges.now reader.inverses.now places depth doc ss (sum_from zero_float (counted (matches-at ix doc) ix ss doc)) (nodes_of ss) (more f S g) kids at sum
+      opened ix ss L S o = let i = I ix ss L S o in sum-open (matches-at ix doc) ix reader.ranges.now reader.inverses.now places depth doc ss (sum_from zero_float (counted (matches-at ix doc) ix ss doc)) (nodes_of ss) kids at sum i.0 i.1 l
 
-      pub optional-there : OptionalPre kids₀ reader table places doc depth → ChildThere kids at
+      pub optional-there : OptionalPre kids₀ reader places doc depth → ChildThere kids at
       optional-there P =
           let o = opened P.0 P.1 P.2 P.3 P.4 in
-          sum-there (matches-at P.0 doc) P.0 reader.ranges.now table places depth doc P.1 (sum_from zero_float (counted (matches-at P.0 doc) P.0 P.1 doc)) (nodes_of P.1) kids at sum o.0 o.1 o.2 o.3
+          sum-there (matches-at P.0 doc) P.0 reader.ranges.now reader.inverses.now places depth doc P.1 (sum_from zero_float (counted (matches-at P.0 doc) P.0 P.1 doc)) (nodes_of P.1) kids at sum o.0 o.1 o.2 o.3
 
-      pub optional-stop : OptionalPre kids₀ reader table places doc depth → get_or kids at 0 ≡ 1 → (e : ℕ) → e ≡ at + node_state_words → e ≡ at + get_or kids (at + 1) 0
+      pub optional-stop : OptionalPre kids₀ reader places doc depth → get_or kids at 0 ≡ 1 → (e : ℕ) → e ≡ at + node_state_words → e ≡ at + get_or kids (at + 1) 0
       optional-stop P t =
           let o = opened P.0 P.1 P.2 P.3 P.4 in
-          sum-stop (matches-at P.0 doc) P.0 reader.ranges.now table places depth doc P.1 (sum_from zero_float (counted (matches-at P.0 doc) P.0 P.1 doc)) (nodes_of P.1) kids at sum o.0 o.1 o.2 o.3 t
+          sum-stop (matches-at P.0 doc) P.0 reader.ranges.now reader.inverses.now places depth doc P.1 (sum_from zero_float (counted (matches-at P.0 doc) P.0 P.1 doc)) (nodes_of P.1) kids at sum o.0 o.1 o.2 o.3 t
 
       module _ (e : ℕ) (stop : e ≡ at + get_or kids (at + 1) 0) (a b : ℕ) (same : min a b ≡ places) where
-        pub optional-ask : OptionalPre kids₀ reader table places doc depth → AdvancePre (lent_of reader) a b (take (e - at) (drop at kids)) doc depth
+        pub optional-ask : OptionalPre kids₀ reader places doc depth → AdvancePre (lent_of reader) a b (take (e - at) (drop at kids)) doc depth
         optional-ask P =
             let ix = P.0 in
             let ss = P.1 in
             let o = opened ix ss P.2 P.3 P.4 in
             let total = sum_from zero_float (counted (matches-at ix doc) ix ss doc) in
-            (omega (arith, P.2.document, P.2.lends.documents, P.2.lends.accepted.documents), (ix, places, o.1, cond o.0 1 0, record { in-a = omega arith; in_b = omega arith }, record { lends = P.2.lends; sound = (sum-scorable (matches-at ix doc) ix reader.ranges.now table places depth doc ss total (nodes_of ss) kids at sum o.0 o.1 o.2 o.3 (few-0 P.3)).sound; ok = sum-part (matches-at ix doc) ix reader.ranges.now table places depth doc ss total (nodes_of ss) kids at sum o.0 o.1 o.2 o.3 e stop }))
+            (omega (arith, P.2.document, P.2.lends.documents, P.2.lends.accepted.documents), (ix, places, o.1, cond o.0 1 0, record { in-a = omega arith; in_b = omega arith }, record { lends = P.2.lends; sound = (sum-scorable (matches-at ix doc) ix reader.ranges.now reader.inverses.now places depth doc ss total (nodes_of ss) kids at sum o.0 o.1 o.2 o.3 (few-0 P.3)).sound; ok = sum-part (matches-at ix doc) ix reader.ranges.now reader.inverses.now places depth doc ss total (nodes_of ss) kids at sum o.0 o.1 o.2 o.3 e stop }))
 
-        pub optional-term-ask : get_or kids at 0 ≡ 1 → OptionalPre kids₀ reader table places doc depth → scorer.TermPre reader.postings.now (take (e - at) (drop at kids)) doc
+        pub optional-term-ask : get_or kids at 0 ≡ 1 → OptionalPre kids₀ reader places doc depth → scorer.TermPre reader.postings.now (take (e - at) (drop at kids)) doc
         optional-term-ask t P =
             let ix = P.0 in
             let ss = P.1 in
             let o = opened ix ss P.2 P.3 P.4 in
             let total = sum_from zero_float (counted (matches-at ix doc) ix ss doc) in
             let q = optional-ask P in
-            (q.0, sum-part-kind (matches-at ix doc) ix reader.ranges.now table places depth doc ss total (nodes_of ss) kids at sum o.0 o.1 o.2 o.3 e stop ∙ sym (sum-kind (matches-at ix doc) ix reader.ranges.now table places depth doc ss total (nodes_of ss) kids at sum o.0 o.1 o.2 o.3) ∙ t, (lent_of reader, refl, q.1.0, q.1.1, q.1.2, depth, q.1.3, q.1.5))
+            (q.0, sum-part-kind (matches-at ix doc) ix reader.ranges.now reader.inverses.now places depth doc ss total (nodes_of ss) kids at sum o.0 o.1 o.2 o.3 e stop ∙ sym (sum-kind (matches-at ix doc) ix reader.ranges.now reader.inverses.now places depth doc ss total (nodes_of ss) kids at sum o.0 o.1 o.2 o.3) ∙ t, (lent_of reader, refl, q.1.0, q.1.1, q.1.2, depth, q.1.3, q.1.5))
 
         module _ (r : ℕ) (ys : List ℕ) (post : AdvancePost (lent_of reader) (take (e - at) (drop at kids)) doc depth r ys) where
           -- what is known of the child after advance
@@ -195,26 +197,26 @@ module _ (kids₀ : List ℕ) (reader : LeafReader) (table : List Float) (places
             pub f : Bool
             pub S : Scorer
             pub g : Scorers
-            pub at-child : SumAt (matches-at ix doc) ix reader.ranges.now table places depth doc ss (sum_from zero_float (counted (matches-at ix doc) ix ss doc)) (nodes_of ss) (more f S g) (put kids at e ys) at sum
+            pub at-child : SumAt (matches-at ix doc) ix reader.ranges.now reader.inverses.now places depth doc ss (sum_from zero_float (counted (matches-at ix doc) ix ss doc)) (nodes_of ss) (more f S g) (put kids at e ys) at sum
             pub first : First (matches ix S) doc r
             pub stop_is : e ≡ at + get_or (put kids at e ys) (at + 1) 0
 
-          moved : (ix : Index) (ss : Scorers) → LentAt ix reader.max_doc reader.postings.now reader.positions.now reader.norms.now doc → Scorables ix table places 0 ss → Oks ix reader.ranges.now ss depth kids₀ doc → Moved ix ss
+          moved : (ix : Index) (ss : Scorers) → LentAt ix reader.max_doc reader.postings.now reader.positions.now reader.norms.now doc → Scorables ix reader.inverses.now places 0 ss → Oks ix reader.ranges.now ss depth kids₀ doc → Moved ix ss
           moved ix ss L S o =
               let i = opened ix ss L S o in
               let total = sum_from zero_float (counted (matches-at ix doc) ix ss doc) in
-              let q = post ix places i.1 (cond i.0 1 0) (record { lends = L.lends; sound = (sum-scorable (matches-at ix doc) ix reader.ranges.now table places depth doc ss total (nodes_of ss) kids at sum i.0 i.1 i.2 i.3 (few-0 S)).sound; ok = sum-part (matches-at ix doc) ix reader.ranges.now table places depth doc ss total (nodes_of ss) kids at sum i.0 i.1 i.2 i.3 e stop }) in
-              let z = sum-renewed (matches-at ix doc) ix reader.ranges.now table places depth doc ss total (nodes_of ss) kids at sum i.0 i.1 i.2 i.3 e stop ys q.1 in
+              let q = post ix places i.1 (cond i.0 1 0) (record { lends = L.lends; sound = (sum-scorable (matches-at ix doc) ix reader.ranges.now reader.inverses.now places depth doc ss total (nodes_of ss) kids at sum i.0 i.1 i.2 i.3 (few-0 S)).sound; ok = sum-part (matches-at ix doc) ix reader.ranges.now reader.inverses.now places depth doc ss total (nodes_of ss) kids at sum i.0 i.1 i.2 i.3 e stop }) in
+              let z = sum-renewed (matches-at ix doc) ix reader.ranges.now reader.inverses.now places depth doc ss total (nodes_of ss) kids at sum i.0 i.1 i.2 i.3 e stop ys q.1 in
               record {
                 f = i.0;
                 S = i.1;
                 g = i.2;
                 at-child = z;
                 first = q.0;
-                stop_is = stop ∙ ap (λ (x : ℕ). at + x) (sum-size (matches-at ix doc) ix reader.ranges.now table places depth doc ss total (nodes_of ss) kids at sum i.0 i.1 i.2 i.3 ∙ sym (sum-size (matches-at ix doc) ix reader.ranges.now table places depth doc ss total (nodes_of ss) (put kids at e ys) at sum i.0 i.1 i.2 z));
+                stop_is = stop ∙ ap (λ (x : ℕ). at + x) (sum-size (matches-at ix doc) ix reader.ranges.now reader.inverses.now places depth doc ss total (nodes_of ss) kids at sum i.0 i.1 i.2 i.3 ∙ sym (sum-size (matches-at ix doc) ix reader.ranges.now reader.inverses.now places depth doc ss total (nodes_of ss) (put kids at e ys) at sum i.0 i.1 i.2 z));
               }
 
-          pub optional-kind : get_or kids at 0 ≡ 1 → OptionalPre kids₀ reader table places doc depth → get_or (take (e - at) (drop at (put kids at e ys))) 0 0 ≡ 1
+          pub optional-kind : get_or kids at 0 ≡ 1 → OptionalPre kids₀ reader places doc depth → get_or (take (e - at) (drop at (put kids at e ys))) 0 0 ≡ 1
           unfolding moved
           optional-kind t P =
               let ix = P.0 in
@@ -222,7 +224,7 @@ module _ (kids₀ : List ℕ) (reader : LeafReader) (table : List Float) (places
               let o = opened ix ss P.2 P.3 P.4 in
               let m = moved ix ss P.2 P.3 P.4 in
               let total = sum_from zero_float (counted (matches-at ix doc) ix ss doc) in
-              sum-part-kind (matches-at ix doc) ix reader.ranges.now table places depth doc ss total (nodes_of ss) (put kids at e ys) at sum m.f m.S m.g m.at-child e m.stop_is ∙ sym (sum-kind (matches-at ix doc) ix reader.ranges.now table places depth doc ss total (nodes_of ss) kids at sum o.0 o.1 o.2 o.3) ∙ t
+              sum-part-kind (matches-at ix doc) ix reader.ranges.now reader.inverses.now places depth doc ss total (nodes_of ss) (put kids at e ys) at sum m.f m.S m.g m.at-child e m.stop_is ∙ sym (sum-kind (matches-at ix doc) ix reader.ranges.now reader.inverses.now places depth doc ss total (nodes_of ss) kids at sum o.0 o.1 o.2 o.3) ∙ t
 
           pub optional-mid : r ≡ doc → OptionalMid (put kids at e ys) at e sum
           optional-mid h ix ss L S o =
@@ -234,33 +236,33 @@ module _ (kids₀ : List ℕ) (reader : LeafReader) (table : List Float) (places
           optional-left h ix ss L S o =
               let m = moved ix ss L S o in
               let after : doc < r = before doc r m.first.from h in
-              (m.g, sum-skipped (matches-at ix doc) ix reader.ranges.now table places depth doc ss (sum_from zero_float (counted (matches-at ix doc) ix ss doc)) (nodes_of ss) (put kids at e ys) at sum m.f m.S m.g m.at-child (m.first.before doc (le_refl _) after) e m.stop_is)
+              (m.g, sum-skipped (matches-at ix doc) ix reader.ranges.now reader.inverses.now places depth doc ss (sum_from zero_float (counted (matches-at ix doc) ix ss doc)) (nodes_of ss) (put kids at e ys) at sum m.f m.S m.g m.at-child (m.first.before doc (le_refl _) after) e m.stop_is)
             where
               before : (a b : ℕ) → a ≤ b → (b ≡ a → ⊥) → a < b
               before a b g w = ⊎_elim (λ q. absurd (w (sym q))) (λ q. q) (eq-or-lt_of_le g)
 
   module _ (kids : List ℕ) (at e : ℕ) (sum : Float) (I : OptionalMid kids at e sum) (places' : ℕ) (same : places' ≡ places) where
-    pub optional-child : OptionalPre kids₀ reader table places doc depth → ScorePre (take (e - at) (drop at kids)) reader.max_doc reader.postings.now reader.positions.now reader.norms.now reader.ranges.now table places' doc depth
+    pub optional-child : OptionalPre kids₀ reader places doc depth → ScorePre (take (e - at) (drop at kids)) reader.max_doc reader.postings.now reader.positions.now reader.norms.now reader.ranges.now reader.inverses.now places' doc depth
     optional-child P =
         let ix = P.0 in
         let ss = P.1 in
         let m = I ix ss P.2 P.3 P.4 in
         let total = sum_from zero_float (counted (matches-at ix doc) ix ss doc) in
-        (ix, m.S, cond m.f 1 0, P.2, scorable-at same (sum-scorable (matches-at ix doc) ix reader.ranges.now table places depth doc ss total (nodes_of ss) kids at sum m.f m.S m.g m.at-child (few-0 P.3)), m.match, sum-part (matches-at ix doc) ix reader.ranges.now table places depth doc ss total (nodes_of ss) kids at sum m.f m.S m.g m.at-child e m.stop)
+        (ix, m.S, cond m.f 1 0, P.2, scorable-at same (sum-scorable (matches-at ix doc) ix reader.ranges.now reader.inverses.now places depth doc ss total (nodes_of ss) kids at sum m.f m.S m.g m.at-child (few-0 P.3)), m.match, sum-part (matches-at ix doc) ix reader.ranges.now reader.inverses.now places depth doc ss total (nodes_of ss) kids at sum m.f m.S m.g m.at-child e m.stop)
 
-    module _ (r : Float) (ys : List ℕ) (post : ScorePost (take (e - at) (drop at kids)) reader.max_doc reader.postings.now reader.positions.now reader.norms.now reader.ranges.now table places' doc depth r ys) where
-      pub optional-number : OptionalPre kids₀ reader table places doc depth → T (not (is_nan r))
+    module _ (r : Float) (ys : List ℕ) (post : ScorePost (take (e - at) (drop at kids)) reader.max_doc reader.postings.now reader.positions.now reader.norms.now reader.ranges.now reader.inverses.now places' doc depth r ys) where
+      pub optional-number : OptionalPre kids₀ reader places doc depth → T (not (is_nan r))
       optional-number P = let q = optional-child P in atmost-number (post q.0 q.1 q.2 q.3 q.4 q.5 q.6).0.small
 
       pub optional-took : (sum' : Float) → sum' ≡ add binary64 sum r → OptionalAt (put kids at e ys) e sum'
       optional-took sum' s ix ss L S o =
           let m = I ix ss L S o in
           let total = sum_from zero_float (counted (matches-at ix doc) ix ss doc) in
-          let q = post ix m.S (cond m.f 1 0) L (scorable-at same (sum-scorable (matches-at ix doc) ix reader.ranges.now table places depth doc ss total (nodes_of ss) kids at sum m.f m.S m.g m.at-child (few-0 S))) m.match (sum-part (matches-at ix doc) ix reader.ranges.now table places depth doc ss total (nodes_of ss) kids at sum m.f m.S m.g m.at-child e m.stop) in
-          let z = sum-renewed (matches-at ix doc) ix reader.ranges.now table places depth doc ss total (nodes_of ss) kids at sum m.f m.S m.g m.at-child e m.stop ys q.1 in
-          let h : e ≡ at + get_or (put kids at e ys) (at + 1) 0 = m.stop ∙ ap (λ (x : ℕ). at + x) (sum-size (matches-at ix doc) ix reader.ranges.now table places depth doc ss total (nodes_of ss) kids at sum m.f m.S m.g m.at-child ∙ sym (sum-size (matches-at ix doc) ix reader.ranges.now table places depth doc ss total (nodes_of ss) (put kids at e ys) at sum m.f m.S m.g z)) in
-          (m.g, subst (λ (x : Float). SumAt (matches-at ix doc) ix reader.ranges.now table places depth doc ss total (nodes_of ss) m.g (put kids at e ys) e x) (sym s) (sum-took (matches-at ix doc) ix reader.ranges.now table places depth doc ss total (nodes_of ss) (put kids at e ys) at sum m.f m.S m.g z (few-0 S) m.match e h r q.0))
+          let q = post ix m.S (cond m.f 1 0) L (scorable-at same (sum-scorable (matches-at ix doc) ix reader.ranges.now reader.inverses.now places depth doc ss total (nodes_of ss) kids at sum m.f m.S m.g m.at-child (few-0 S))) m.match (sum-part (matches-at ix doc) ix reader.ranges.now reader.inverses.now places depth doc ss total (nodes_of ss) kids at sum m.f m.S m.g m.at-child e m.stop) in
+          let z = sum-renewed (matches-at ix doc) ix reader.ranges.now reader.inverses.now places depth doc ss total (nodes_of ss) kids at sum m.f m.S m.g m.at-child e m.stop ys q.1 in
+          let h : e ≡ at + get_or (put kids at e ys) (at + 1) 0 = m.stop ∙ ap (λ (x : ℕ). at + x) (sum-size (matches-at ix doc) ix reader.ranges.now reader.inverses.now places depth doc ss total (nodes_of ss) kids at sum m.f m.S m.g m.at-child ∙ sym (sum-size (matches-at ix doc) ix reader.ranges.now reader.inverses.now places depth doc ss total (nodes_of ss) (put kids at e ys) at sum m.f m.S m.g z)) in
+          (m.g, subst (λ (x : Float). SumAt (matches-at ix doc) ix reader.ranges.now reader.inverses.now places depth doc ss total (nodes_of ss) m.g (put kids at e ys) e x) (sym s) (sum-took (matches-at ix doc) ix reader.ranges.now reader.inverses.now places depth doc ss total (nodes_of ss) (put kids at e ys) at sum m.f m.S m.g z (few-0 S) m.match e h r q.0))
 
     -- a term's part stays as it is
-    pub optional-term-took : (r : Float) → TermPost (take (e - at) (drop at kids)) reader.postings.now reader.norms.now table doc r → (sum' : Float) → sum' ≡ add binary64 sum r → OptionalAt kids e sum'
+    pub optional-term-took : (r : Float) → TermPost (take (e - at) (drop at kids)) reader.postings.now reader.norms.now reader.inverses.now doc r → (sum' : Float) → sum' ≡ add binary64 sum r → OptionalAt kids e sum'
     optional-term-took r post sum' s = subst (λ (l : List ℕ). OptionalAt l e sum') (part_same kids at e) (optional-took r (take (e - at) (drop at kids)) (post reader.max_doc reader.positions.now reader.ranges.now places' depth) sum' s)

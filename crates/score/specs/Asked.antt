@@ -23,22 +23,22 @@ pub record SumIs (x : Float) (xs : List Float) (p : ℕ) (r : Float) : Type 0 wh
   pub small : AtMost (p * 2 ^ 29) r
 
 -- the same of the parts of some children, and of a sum of at most 2^29 for each of p nodes: the required, which all match
-abbrev pub RequiredPre : List ℕ → Float → LeafReader → List Float → ℕ → ℕ → ℕ → Type 0
-RequiredPre kids sum reader table places doc depth =
-    (ix : Index) × (ss : Scorers) × (p : ℕ) × LentAt ix reader.max_doc reader.postings.now reader.positions.now reader.norms.now doc × Scorables ix table places p ss × (all_match ix ss doc ≡ true) × Oks ix reader.ranges.now ss depth kids doc × AtMost (p * 2 ^ 29) sum
+abbrev pub RequiredPre : List ℕ → Float → LeafReader → ℕ → ℕ → ℕ → Type 0
+RequiredPre kids sum reader places doc depth =
+    (ix : Index) × (ss : Scorers) × (p : ℕ) × LentAt ix reader.max_doc reader.postings.now reader.positions.now reader.norms.now doc × Scorables ix reader.inverses.now places p ss × (all_match ix ss doc ≡ true) × Oks ix reader.ranges.now ss depth kids doc × AtMost (p * 2 ^ 29) sum
 
-abbrev pub RequiredPost : List ℕ → Float → LeafReader → List Float → ℕ → ℕ → ℕ → Float → List ℕ → Type 0
-RequiredPost kids sum reader table places doc depth r kids' =
-    (ix : Index) (ss : Scorers) (p : ℕ) → LentAt ix reader.max_doc reader.postings.now reader.positions.now reader.norms.now doc → Scorables ix table places p ss → all_match ix ss doc ≡ true → Oks ix reader.ranges.now ss depth kids doc → AtMost (p * 2 ^ 29) sum → SumIs sum (scoring (required_scores ix ss doc)) (p + nodes_of ss) r × Oks ix reader.ranges.now ss depth kids' doc
+abbrev pub RequiredPost : List ℕ → Float → LeafReader → ℕ → ℕ → ℕ → Float → List ℕ → Type 0
+RequiredPost kids sum reader places doc depth r kids' =
+    (ix : Index) (ss : Scorers) (p : ℕ) → LentAt ix reader.max_doc reader.postings.now reader.positions.now reader.norms.now doc → Scorables ix reader.inverses.now places p ss → all_match ix ss doc ≡ true → Oks ix reader.ranges.now ss depth kids doc → AtMost (p * 2 ^ 29) sum → SumIs sum (scoring (required_scores ix ss doc)) (p + nodes_of ss) r × Oks ix reader.ranges.now ss depth kids' doc
 
 -- and the optional, which match or do not
-abbrev pub OptionalPre : List ℕ → LeafReader → List Float → ℕ → ℕ → ℕ → Type 0
-OptionalPre kids reader table places doc depth =
-    (ix : Index) × (ss : Scorers) × LentAt ix reader.max_doc reader.postings.now reader.positions.now reader.norms.now doc × Scorables ix table places 0 ss × Oks ix reader.ranges.now ss depth kids doc
+abbrev pub OptionalPre : List ℕ → LeafReader → ℕ → ℕ → ℕ → Type 0
+OptionalPre kids reader places doc depth =
+    (ix : Index) × (ss : Scorers) × LentAt ix reader.max_doc reader.postings.now reader.positions.now reader.norms.now doc × Scorables ix reader.inverses.now places 0 ss × Oks ix reader.ranges.now ss depth kids doc
 
-abbrev pub OptionalPost : List ℕ → LeafReader → List Float → ℕ → ℕ → ℕ → Float → List ℕ → Type 0
-OptionalPost kids reader table places doc depth r kids' =
-    (ix : Index) (ss : Scorers) → LentAt ix reader.max_doc reader.postings.now reader.positions.now reader.norms.now doc → Scorables ix table places 0 ss → Oks ix reader.ranges.now ss depth kids doc → SumIs zero_float (optional_scores ix ss doc) (nodes_of ss) r × Oks ix reader.ranges.now ss depth kids' doc
+abbrev pub OptionalPost : List ℕ → LeafReader → ℕ → ℕ → ℕ → Float → List ℕ → Type 0
+OptionalPost kids reader places doc depth r kids' =
+    (ix : Index) (ss : Scorers) → LentAt ix reader.max_doc reader.postings.now reader.positions.now reader.norms.now doc → Scorables ix reader.inverses.now places 0 ss → Oks ix reader.ranges.now ss depth kids doc → SumIs zero_float (optional_scores ix ss doc) (nodes_of ss) r × Oks ix reader.ranges.now ss depth kids' doc
 
 -- where the group joins, in the two words of the record
 unfoldable pub JoinsAt : Joining → Scorers → ℕ → ℕ → Type 0
@@ -63,15 +63,15 @@ pub record JoinAsks (ix : Index) (table : List Float) (places : ℕ) (j : Joinin
   pub optional-end : n.optional_end ≡ sizes_of rs + sizes_of os
   pub joins : JoinsAt j rs (cond n.afterwards 1 0) n.group_at
 
-abbrev pub JoinPre : List ℕ → Boolean → LeafReader → List Float → ℕ → ℕ → ℕ → Type 0
-JoinPre kids node reader table places doc depth =
-    (ix : Index) × (j : Joining) × (rs : Scorers) × (os : Scorers) × (rest : List ℕ) × LentAt ix reader.max_doc reader.postings.now reader.positions.now reader.norms.now doc × JoinAsks ix table places j rs os node doc × PartsAre ix reader.ranges.now rs os depth doc rest kids
+abbrev pub JoinPre : List ℕ → Boolean → LeafReader → ℕ → ℕ → ℕ → Type 0
+JoinPre kids node reader places doc depth =
+    (ix : Index) × (j : Joining) × (rs : Scorers) × (os : Scorers) × (rest : List ℕ) × LentAt ix reader.max_doc reader.postings.now reader.positions.now reader.norms.now doc × JoinAsks ix reader.inverses.now places j rs os node doc × PartsAre ix reader.ranges.now rs os depth doc rest kids
 
 -- the joined score, and the parts as good as before
 pub record JoinIs (ix : Index) (j : Joining) (rs os : Scorers) (doc : ℕ) (r : Float) : Type 0 where
   pub is : r ≡ joined_score j (required_scores ix rs doc) (narrowed_sum (optional_scores ix os doc))
   pub small : AtMost ((nodes_of rs + nodes_of os) * 2 ^ 29) r
 
-abbrev pub JoinPost : List ℕ → Boolean → LeafReader → List Float → ℕ → ℕ → ℕ → Float → List ℕ → Type 0
-JoinPost kids node reader table places doc depth r kids' =
-    (ix : Index) (j : Joining) (rs os : Scorers) (rest : List ℕ) → LentAt ix reader.max_doc reader.postings.now reader.positions.now reader.norms.now doc → JoinAsks ix table places j rs os node doc → PartsAre ix reader.ranges.now rs os depth doc rest kids → JoinIs ix j rs os doc r × PartsAre ix reader.ranges.now rs os depth doc rest kids'
+abbrev pub JoinPost : List ℕ → Boolean → LeafReader → ℕ → ℕ → ℕ → Float → List ℕ → Type 0
+JoinPost kids node reader places doc depth r kids' =
+    (ix : Index) (j : Joining) (rs os : Scorers) (rest : List ℕ) → LentAt ix reader.max_doc reader.postings.now reader.positions.now reader.norms.now doc → JoinAsks ix reader.inverses.now places j rs os node doc → PartsAre ix reader.ranges.now rs os depth doc rest kids → JoinIs ix j rs os doc r × PartsAre ix reader.ranges.now rs os depth doc rest kids'

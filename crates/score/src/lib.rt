@@ -1,12 +1,12 @@
 // The score of a document at the scorers in the lent words.
 #![tactic(auto)]
 
-ghost use Rattle.std.specs.Prelude.{min, length};
+ghost use Rattle.leaf_scorer.specs.Buffers.{places_in, SameBuffers};
 ghost use Rattle.score.specs.Asked.{RequiredPre, RequiredPost, OptionalPre, OptionalPost, JoinPre, JoinPost};
 ghost use Rattle.leaf_score.specs.Asked.{ScorePre, ScorePost};
 
 use leaf_score::{leaf_score, node_at, term_score};
-use leaf_scorer::LeafReader;
+use leaf_scorer::{LeafReader, PhraseBuffers};
 use node::{Boolean, NodeKind, boolean_at, child_at};
 use weight::NODE_STATE_WORDS;
 
@@ -15,14 +15,13 @@ use weight::NODE_STATE_WORDS;
 pub fn score(
     st: &mut [u32],
     reader: &LeafReader<'_>,
-    inverses: &[f32],
-    a: &mut [i32],
-    b: &mut [i32],
+    buffers: &mut PhraseBuffers<'_>,
     doc: u32,
     depth: u32,
 ) -> f32
-    requires { ScorePre st.old reader.now.max_doc reader.now.postings.now reader.now.positions.now reader.now.norms.now reader.now.ranges.now inverses.now (min (length a.old) (length b.old)) doc depth }
-    ensures { ScorePost st.old reader.now.max_doc reader.now.postings.now reader.now.positions.now reader.now.norms.now reader.now.ranges.now inverses.now (min (length a.old) (length b.old)) doc depth result st.new }
+    requires { ScorePre st.old reader.now.max_doc reader.now.postings.now reader.now.positions.now reader.now.norms.now reader.now.ranges.now reader.now.inverses.now (places_in buffers.old) doc depth }
+    ensures score_post { ScorePost st.old reader.now.max_doc reader.now.postings.now reader.now.positions.now reader.now.norms.now reader.now.ranges.now reader.now.inverses.now (places_in buffers.old) doc depth result st.new }
+    ensures same_buffers { SameBuffers buffers.old buffers.new }
 {
     if let Some(score) = node_at(st).constant_score() {
         return score;
@@ -34,23 +33,12 @@ pub fn score(
                 &mut st[NODE_STATE_WORDS..],
                 n,
                 reader,
-                inverses,
-                a,
-                b,
+                buffers,
                 doc,
                 depth - 1,
             )
         }
-        _ => leaf_score(
-            st,
-            reader.postings,
-            reader.positions,
-            reader.norms,
-            inverses,
-            a,
-            b,
-            doc,
-        ),
+        _ => leaf_score(st, reader, buffers, doc),
     }
 }
 
@@ -60,26 +48,23 @@ fn joined(
     kids: &mut [u32],
     n: Boolean,
     reader: &LeafReader<'_>,
-    inverses: &[f32],
-    a: &mut [i32],
-    b: &mut [i32],
+    buffers: &mut PhraseBuffers<'_>,
     doc: u32,
     depth: u32,
 ) -> f32
-    requires { JoinPre kids.old n reader.now inverses.now (min (length a.old) (length b.old)) doc depth }
-    ensures { JoinPost kids.old n reader.now inverses.now (min (length a.old) (length b.old)) doc depth result kids.new }
+    requires { JoinPre kids.old n reader.now (places_in buffers.old) doc depth }
+    ensures join_post { JoinPost kids.old n reader.now (places_in buffers.old) doc depth result kids.new }
+    ensures same_buffers { SameBuffers buffers.old buffers.new }
 {
     let end = n.required_end;
     let optional_end = n.optional_end;
     if end == optional_end {
-        return ieee754::narrow(required(&mut kids[..end], 0.0, reader, inverses, a, b, doc, depth));
+        return ieee754::narrow(required(&mut kids[..end], 0.0, reader, buffers, doc, depth));
     }
     let group = ieee754::narrow(optional(
         &mut kids[end..optional_end],
         reader,
-        inverses,
-        a,
-        b,
+        buffers,
         doc,
         depth,
     ));
@@ -87,14 +72,14 @@ fn joined(
         return group;
     }
     if n.afterwards {
-        let sum = required(&mut kids[..end], 0.0, reader, inverses, a, b, doc, depth);
+        let sum = required(&mut kids[..end], 0.0, reader, buffers, doc, depth);
         let narrowed = ieee754::narrow(sum) as f64;
         return ieee754::narrow(ieee754::add_score(narrowed, group));
     }
     let at = n.group_at;
-    let front = required(&mut kids[..at], 0.0, reader, inverses, a, b, doc, depth);
+    let front = required(&mut kids[..at], 0.0, reader, buffers, doc, depth);
     let sum = ieee754::add_score(front, group);
-    ieee754::narrow(required(&mut kids[at..end], sum, reader, inverses, a, b, doc, depth))
+    ieee754::narrow(required(&mut kids[at..end], sum, reader, buffers, doc, depth))
 }
 
 // The scores of the Must children, in the order of their parts, added to the sum.
@@ -103,14 +88,13 @@ fn required(
     kids: &mut [u32],
     start: f64,
     reader: &LeafReader<'_>,
-    inverses: &[f32],
-    a: &mut [i32],
-    b: &mut [i32],
+    buffers: &mut PhraseBuffers<'_>,
     doc: u32,
     depth: u32,
 ) -> f64
-    requires { RequiredPre kids.old start reader.now inverses.now (min (length a.old) (length b.old)) doc depth }
-    ensures { RequiredPost kids.old start reader.now inverses.now (min (length a.old) (length b.old)) doc depth result kids.new }
+    requires { RequiredPre kids.old start reader.now (places_in buffers.old) doc depth }
+    ensures required_post { RequiredPost kids.old start reader.now (places_in buffers.old) doc depth result kids.new }
+    ensures same_buffers { SameBuffers buffers.old buffers.new }
 {
     let mut sum = start;
     let mut at = 0;
@@ -125,7 +109,7 @@ fn required(
                         &kids[at..end],
                         reader.postings,
                         reader.norms,
-                        inverses,
+                        reader.inverses,
                         doc,
                     );
                     sum = ieee754::add_score(sum, s);
@@ -135,7 +119,7 @@ fn required(
             _ => {
                 let end = child.end;
                 if child.scores {
-                    let s = score(&mut kids[at..end], reader, inverses, a, b, doc, depth);
+                    let s = score(&mut kids[at..end], reader, buffers, doc, depth);
                     sum = ieee754::add_score(sum, s);
                 }
                 at = end;
@@ -150,14 +134,13 @@ fn required(
 fn optional(
     kids: &mut [u32],
     reader: &LeafReader<'_>,
-    inverses: &[f32],
-    a: &mut [i32],
-    b: &mut [i32],
+    buffers: &mut PhraseBuffers<'_>,
     doc: u32,
     depth: u32,
 ) -> f64
-    requires { OptionalPre kids.old reader.now inverses.now (min (length a.old) (length b.old)) doc depth }
-    ensures { OptionalPost kids.old reader.now inverses.now (min (length a.old) (length b.old)) doc depth result kids.new }
+    requires { OptionalPre kids.old reader.now (places_in buffers.old) doc depth }
+    ensures optional_post { OptionalPost kids.old reader.now (places_in buffers.old) doc depth result kids.new }
+    ensures same_buffers { SameBuffers buffers.old buffers.new }
 {
     let mut sum = 0.0;
     let mut at = 0;
@@ -172,7 +155,7 @@ fn optional(
                         &kids[at..end],
                         reader.postings,
                         reader.norms,
-                        inverses,
+                        reader.inverses,
                         doc,
                     );
                     sum = ieee754::add_score(sum, s);
@@ -181,8 +164,8 @@ fn optional(
             }
             _ => {
                 let end = child.end;
-                if scorer::advance(&mut kids[at..end], reader, a, b, doc, depth) == doc {
-                    let s = score(&mut kids[at..end], reader, inverses, a, b, doc, depth);
+                if scorer::advance(&mut kids[at..end], reader, buffers, doc, depth) == doc {
+                    let s = score(&mut kids[at..end], reader, buffers, doc, depth);
                     sum = ieee754::add_score(sum, s);
                 }
                 at = end;

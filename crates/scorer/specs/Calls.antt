@@ -2,7 +2,7 @@
 -- The tree and the index stand in no argument: some must fit the words at entry, and for all that fit them the answer is right.
 use Rattle.std.specs.Prelude.{◌≡◌, List, ◌++◌, ℕ, ◌+◌, ◌≤◌, ◌<◌, length, get_or, leb, ltb}
 use mathlib.Core.Bool.{Bool, true, false, ◌&&◌}
-use Rattle.meaning.specs.Limits.{no_more_docs, node_state_words}
+use Rattle.meaning.specs.Limits.{no_more_docs}
 use Rattle.meaning.specs.Lent.{Index}
 use Rattle.meaning.specs.First.{First}
 use Rattle.weight.specs.ScorerTree.{Scorer, Scorers, matches, all_match, matching}

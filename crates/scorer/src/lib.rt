@@ -1,14 +1,15 @@
 // Scorers over a lent state: the words of a node are its record and then its children's parts, one after the other.
 #![tactic(auto)]
 
-ghost use Rattle.std.specs.Prelude.{ℕ, ◌+◌, ◌≤◌, ◌<◌, ◌≡◌, length, get_or};
+ghost use Rattle.std.specs.Prelude.{ℕ, ◌+◌, ◌≤◌, ◌<◌, ◌≡◌, get_or};
 ghost use Rattle.meaning.specs.Limits.{node_state_words};
 ghost use Rattle.scorer.specs.Calls.{AdvancePre, AdvancePost, TermPre, TermPost, RangePre, RangePost, AskPre, AskPost, PartsPre, Tally, LeastPost, DisjunctionPost, PassPost, LeadPre, StepPost, LeadPost, BooleanPre, BooleanPost};
 ghost use Rattle.leaf_scorer.specs.Calls.{lent_of};
+ghost use Rattle.leaf_scorer.specs.Buffers.{room, other_room, SameBuffers};
 
 use index::wide;
-use leaf_scorer::{LeafReader, NO_MORE_DOCS};
-use node::{NodeKind, boolean_at, child_at};
+use leaf_scorer::{LeafReader, NO_MORE_DOCS, PhraseBuffers};
+use node::{Boolean, NodeKind, boolean_at, child_at};
 use weight::NODE_STATE_WORDS;
 
 // The least of some documents, and how many of them it is.
@@ -67,20 +68,19 @@ fn advance_range(st: &mut [u32], ranges: &[u32], target: u32) -> u32
 // only where no child before it moved the pass, and about no other document.
 fn ask_phrase(
     st: &mut [u32],
-    postings: &[u32],
-    positions: &[u32],
-    a: &mut [i32],
-    b: &mut [i32],
+    reader: &LeafReader<'_>,
+    buffers: &mut PhraseBuffers<'_>,
     from: u32,
     target: u32,
 ) -> u32
-    requires { AskPre postings.now positions.now (length a.old) (length b.old) st.old target }
-    ensures { AskPost postings.now positions.now st.old from target result st.new }
+    requires { AskPre reader.now.postings.now reader.now.positions.now (room buffers.old) (other_room buffers.old) st.old target }
+    ensures ask_post { AskPost reader.now.postings.now reader.now.positions.now st.old from target result st.new }
+    ensures same_buffers { SameBuffers buffers.old buffers.new }
 {
     if from != target {
         return target;
     }
-    let d = leaf_scorer::phrase_at(st, postings, positions, a, b, target);
+    let d = leaf_scorer::phrase_at(st, reader.postings, reader.positions, buffers, target);
     if d != target {
         return d;
     }
@@ -93,14 +93,14 @@ fn ask_phrase(
 pub fn advance(
     st: &mut [u32],
     reader: &LeafReader<'_>,
-    a: &mut [i32],
-    b: &mut [i32],
+    buffers: &mut PhraseBuffers<'_>,
     target: u32,
     depth: u32,
 ) -> u32
-    requires { AdvancePre (lent_of reader.now) (length a.old) (length b.old) st.old target depth }
+    requires { AdvancePre (lent_of reader.now) (room buffers.old) (other_room buffers.old) st.old target depth }
     ensures advance_post { AdvancePost (lent_of reader.now) st.old target depth result st.new }
     ensures st_after { get_or st.new 2 0 ≡ result + 1 }
+    ensures same_buffers { SameBuffers buffers.old buffers.new }
 {
     let cached = st[2];
     if target < cached {
@@ -110,22 +110,12 @@ pub fn advance(
         NodeKind::Boolean => {
             let n = boolean_at(st);
             let kids = &mut st[NODE_STATE_WORDS..];
-            let d = excluding(
-                kids,
-                reader,
-                a,
-                b,
-                n.required_end,
-                n.optional_end,
-                n.need,
-                target,
-                depth - 1,
-            );
+            let d = excluding(kids, reader, buffers, n, target, depth - 1);
             st[2] = d + 1;
             d
         }
         _ => {
-            let d = leaf_scorer::seek(st, reader, a, b, target);
+            let d = leaf_scorer::seek(st, reader, buffers, target);
             st[2] = d + 1;
             d
         }
@@ -137,37 +127,34 @@ pub fn advance(
 fn excluding(
     kids: &mut [u32],
     reader: &LeafReader<'_>,
-    a: &mut [i32],
-    b: &mut [i32],
-    required_end: usize,
-    optional_end: usize,
-    need: u32,
+    buffers: &mut PhraseBuffers<'_>,
+    n: Boolean,
     target: u32,
     depth: u32,
 ) -> u32
-    requires { BooleanPre (lent_of reader.now) (length a.old) (length b.old) kids.old required_end optional_end target depth }
-    ensures { BooleanPost (lent_of reader.now) kids.old required_end optional_end need target depth result kids.new }
+    requires { BooleanPre (lent_of reader.now) (room buffers.old) (other_room buffers.old) kids.old n.required_end n.optional_end target depth }
+    ensures boolean_post { BooleanPost (lent_of reader.now) kids.old n.required_end n.optional_end n.need target depth result kids.new }
+    ensures same_buffers { SameBuffers buffers.old buffers.new }
 {
     let mut t = target;
     // Kept: each turn begins where the answer of the one before lies; a loop is plainer than an iterator of such steps.
     loop {
         let d = lead(
-            &mut kids[..optional_end],
+            &mut kids[..n.optional_end],
             reader,
-            a,
-            b,
-            required_end,
-            need,
+            buffers,
+            n.required_end,
+            n.need,
             t,
             depth,
         );
         if d == NO_MORE_DOCS {
             return d;
         }
-        if optional_end == kids.len() {
+        if n.optional_end == kids.len() {
             return d;
         }
-        let x = least(&mut kids[optional_end..], reader, a, b, d, depth);
+        let x = least(&mut kids[n.optional_end..], reader, buffers, d, depth);
         if x.doc == d {
             t = d + 1;
         } else {
@@ -181,24 +168,24 @@ fn excluding(
 fn lead(
     kids: &mut [u32],
     reader: &LeafReader<'_>,
-    a: &mut [i32],
-    b: &mut [i32],
+    buffers: &mut PhraseBuffers<'_>,
     required_end: usize,
     need: u32,
     target: u32,
     depth: u32,
 ) -> u32
-    requires { LeadPre (lent_of reader.now) (length a.old) (length b.old) kids.old required_end target depth }
-    ensures { LeadPost (lent_of reader.now) kids.old required_end need target depth result kids.new }
+    requires { LeadPre (lent_of reader.now) (room buffers.old) (other_room buffers.old) kids.old required_end target depth }
+    ensures lead_post { LeadPost (lent_of reader.now) kids.old required_end need target depth result kids.new }
+    ensures same_buffers { SameBuffers buffers.old buffers.new }
 {
     if required_end == 0 {
         if need == 0 {
             target
         } else {
-            disjunction(kids, reader, a, b, need, target, depth)
+            disjunction(kids, reader, buffers, need, target, depth)
         }
     } else {
-        conjunction(kids, reader, a, b, required_end, need, target, depth)
+        conjunction(kids, reader, buffers, required_end, need, target, depth)
     }
 }
 
@@ -207,20 +194,20 @@ fn lead(
 fn conjunction(
     kids: &mut [u32],
     reader: &LeafReader<'_>,
-    a: &mut [i32],
-    b: &mut [i32],
+    buffers: &mut PhraseBuffers<'_>,
     required_end: usize,
     need: u32,
     target: u32,
     depth: u32,
 ) -> u32
-    requires { LeadPre (lent_of reader.now) (length a.old) (length b.old) kids.old required_end target depth }
-    ensures { LeadPost (lent_of reader.now) kids.old required_end need target depth result kids.new }
+    requires { LeadPre (lent_of reader.now) (room buffers.old) (other_room buffers.old) kids.old required_end target depth }
+    ensures lead_post { LeadPost (lent_of reader.now) kids.old required_end need target depth result kids.new }
+    ensures same_buffers { SameBuffers buffers.old buffers.new }
 {
     let mut d = target;
     // Kept: each turn begins where the answer of the one before lies; a loop is plainer than an iterator of such steps.
     loop {
-        let e = step(kids, reader, a, b, required_end, need, d, depth);
+        let e = step(kids, reader, buffers, required_end, need, d, depth);
         if e == d {
             return d;
         }
@@ -233,21 +220,21 @@ fn conjunction(
 fn step(
     kids: &mut [u32],
     reader: &LeafReader<'_>,
-    a: &mut [i32],
-    b: &mut [i32],
+    buffers: &mut PhraseBuffers<'_>,
     required_end: usize,
     need: u32,
     target: u32,
     depth: u32,
 ) -> u32
-    requires { LeadPre (lent_of reader.now) (length a.old) (length b.old) kids.old required_end target depth }
-    ensures { StepPost (lent_of reader.now) kids.old required_end need target depth result kids.new }
+    requires { LeadPre (lent_of reader.now) (room buffers.old) (other_room buffers.old) kids.old required_end target depth }
+    ensures step_post { StepPost (lent_of reader.now) kids.old required_end need target depth result kids.new }
+    ensures same_buffers { SameBuffers buffers.old buffers.new }
 {
-    let e = pass(&mut kids[..required_end], reader, a, b, target, depth);
+    let e = pass(&mut kids[..required_end], reader, buffers, target, depth);
     if need == 0 {
         e
     } else {
-        disjunction(&mut kids[required_end..], reader, a, b, need, e, depth)
+        disjunction(&mut kids[required_end..], reader, buffers, need, e, depth)
     }
 }
 
@@ -256,13 +243,13 @@ fn step(
 fn pass(
     kids: &mut [u32],
     reader: &LeafReader<'_>,
-    a: &mut [i32],
-    b: &mut [i32],
+    buffers: &mut PhraseBuffers<'_>,
     target: u32,
     depth: u32,
 ) -> u32
-    requires { PartsPre (lent_of reader.now) (length a.old) (length b.old) kids.old target depth }
-    ensures { PassPost (lent_of reader.now) kids.old target depth result kids.new }
+    requires { PartsPre (lent_of reader.now) (room buffers.old) (other_room buffers.old) kids.old target depth }
+    ensures pass_post { PassPost (lent_of reader.now) kids.old target depth result kids.new }
+    ensures same_buffers { SameBuffers buffers.old buffers.new }
 {
     let mut d = target;
     let mut at = 0;
@@ -286,18 +273,10 @@ fn pass(
                     d = child.cached - 1;
                     at = end;
                 } else if child.kind == NodeKind::Phrase {
-                    d = ask_phrase(
-                        &mut kids[at..end],
-                        reader.postings,
-                        reader.positions,
-                        a,
-                        b,
-                        target,
-                        d,
-                    );
+                    d = ask_phrase(&mut kids[at..end], reader, buffers, target, d);
                     at = end;
                 } else {
-                    d = advance(&mut kids[at..end], reader, a, b, d, depth);
+                    d = advance(&mut kids[at..end], reader, buffers, d, depth);
                     at = end;
                 }
             }
@@ -311,20 +290,20 @@ fn pass(
 fn disjunction(
     kids: &mut [u32],
     reader: &LeafReader<'_>,
-    a: &mut [i32],
-    b: &mut [i32],
+    buffers: &mut PhraseBuffers<'_>,
     need: u32,
     target: u32,
     depth: u32,
 ) -> u32
-    requires { (0 < need) × PartsPre (lent_of reader.now) (length a.old) (length b.old) kids.old target depth }
-    ensures { DisjunctionPost (lent_of reader.now) kids.old need target depth result kids.new }
+    requires { (0 < need) × PartsPre (lent_of reader.now) (room buffers.old) (other_room buffers.old) kids.old target depth }
+    ensures disjunction_post { DisjunctionPost (lent_of reader.now) kids.old need target depth result kids.new }
+    ensures same_buffers { SameBuffers buffers.old buffers.new }
 {
     let enough = wide(need);
     let mut t = target;
     // Kept: each turn begins where the answer of the one before lies; a loop is plainer than an iterator of such steps.
     loop {
-        let x = least(kids, reader, a, b, t, depth);
+        let x = least(kids, reader, buffers, t, depth);
         let d = x.doc;
         if d == NO_MORE_DOCS {
             return d;
@@ -342,13 +321,13 @@ fn disjunction(
 fn least(
     kids: &mut [u32],
     reader: &LeafReader<'_>,
-    a: &mut [i32],
-    b: &mut [i32],
+    buffers: &mut PhraseBuffers<'_>,
     target: u32,
     depth: u32,
 ) -> Standing
-    requires { PartsPre (lent_of reader.now) (length a.old) (length b.old) kids.old target depth }
-    ensures { LeastPost (lent_of reader.now) kids.old target depth result.doc result.count kids.new }
+    requires { PartsPre (lent_of reader.now) (room buffers.old) (other_room buffers.old) kids.old target depth }
+    ensures least_post { LeastPost (lent_of reader.now) kids.old target depth result.doc result.count kids.new }
+    ensures same_buffers { SameBuffers buffers.old buffers.new }
 {
     let mut best = NO_MORE_DOCS;
     let mut count = 0;
@@ -373,7 +352,7 @@ fn least(
             }
             _ => {
                 let end = child.end;
-                let d = advance(&mut kids[at..end], reader, a, b, target, depth);
+                let d = advance(&mut kids[at..end], reader, buffers, target, depth);
                 let x = tally(best, count, d);
                 best = x.doc;
                 count = x.count;

@@ -21,7 +21,8 @@ use Rattle.ieee754.proofs.Bounds.{atmost-number}
 use Rattle.index.specs.Slices.{live_only}
 use Rattle.weight.specs.ScorerTree.{Scorer, matches, scorer_score}
 use Rattle.weight.specs.Held.{Ok}
-use Rattle.scorer.specs.Calls.{Lent, lent, NodeHeld, AdvancePre, AdvancePost}
+use Rattle.scorer.specs.Calls.{Lent, lent_of, NodeHeld, AdvancePre, AdvancePost}
+use Rattle.leaf_scorer.specs.declared.LeafReader.{LeafReader}
 use Rattle.leaf_score.specs.Asked.{LentAt, ScoreIs, ScorePre, ScorePost}
 use Rattle.walk.specs.Walks.{live_match, scored, live_scored, NextPre, NextPost, PageHeld, ListPre, PageIs, ListPost}
 use Rattle.meaning.proofs.Tests.{cmp}
@@ -54,67 +55,68 @@ is-match : (ix : Index) (s : Scorer) (d : ℕ) → d < ix.max_doc → is_live ix
 unfolding live_match
 is-match ix s d l e m = rw (lt-ltb d ix.max_doc l, e, m)
 
-module _ (E : Lent) (live st₀ : List ℕ) (from depth : ℕ) where
-  -- nothing from the start up to the target is a live match
-  abbrev pub WalkAt : List ℕ → ℕ → Type 0
-  WalkAt st target =
-      (ix : Index) (places : ℕ) (s : Scorer) (scores : ℕ) → ix.live ≡ live → NodeHeld E ix places s depth scores st₀ from → ((d : ℕ) → from ≤ d → d < target → live_match ix s d ≡ false) × Ok ix E.ranges s depth scores st target
+-- nothing from the start up to the target is a live match
+pub record WalkAt (E : Lent) (live st₀ : List ℕ) (from depth : ℕ) (st : List ℕ) (target : ℕ) : Type 0 where
+  pub passed : (ix : Index) (places : ℕ) (s : Scorer) (scores : ℕ) → ix.live ≡ live → NodeHeld E ix places s depth scores st₀ from → ((d : ℕ) → from ≤ d → d < target → live_match ix s d ≡ false) × Ok ix E.ranges s depth scores st target
 
-  pub walk_start : WalkAt st₀ from
-  walk_start ix places s scores e H = ((λ d a b. absurd (omega arith)), H.ok)
+pub walk_start : (E : Lent) (live st₀ : List ℕ) (from depth : ℕ) → WalkAt E live st₀ from depth st₀ from
+walk_start E live st₀ from depth = record { passed = λ ix places s scores e H. ((λ d a b. absurd (omega arith)), H.ok) }
 
-  module _ (st : List ℕ) (target : ℕ) (I : WalkAt st target) where
-    pub walk-asks : (a b a' b' : ℕ) → a' ≡ a → b' ≡ b → target ≤ no_more_docs → NextPre E live a b st₀ from depth → AdvancePre E a' b' st target depth
-    walk-asks a b a' b' p q m P =
+module _ {E : Lent} {live st₀ : List ℕ} {from depth : ℕ} {st : List ℕ} {target : ℕ} (I : WalkAt E live st₀ from depth st target) where
+  pub walk-asks : (a b a' b' : ℕ) → a' ≡ a → b' ≡ b → target ≤ no_more_docs → NextPre E live a b st₀ from depth → AdvancePre E a' b' st target depth
+  walk-asks a b a' b' p q m P =
+      let W = P.1 in
+      let H = W.6 in
+      (m, (W.0, W.1, W.2, W.3, record { in-a = omega (arith, W.4.in-a); in_b = omega (arith, W.4.in_b) }, record { lends = H.lends; sound = H.sound; ok = (I.passed W.0 W.1 W.2 W.3 W.5 H).1 }))
+
+  module _ {d : ℕ} (st' : List ℕ) (post : AdvancePost E st target depth d st') where
+    after : (ix : Index) (places : ℕ) (s : Scorer) (scores : ℕ) → ix.live ≡ live → NodeHeld E ix places s depth scores st₀ from → First (matches ix s) target d × Ok ix E.ranges s depth scores st' target
+    after ix places s scores e H = post ix places s scores (record { lends = H.lends; sound = H.sound; ok = (I.passed ix places s scores e H).1 })
+
+    before : (ix : Index) (places : ℕ) (s : Scorer) (scores : ℕ) → ix.live ≡ live → NodeHeld E ix places s depth scores st₀ from → (x : ℕ) → from ≤ x → x < d → live_match ix s x ≡ false
+    before ix places s scores e H x a b = ⊎_elim (λ h. (I.passed ix places s scores e H).0 x a h) (λ h. not-match ix s x ((after ix places s scores e H).0.before x h b)) (cmp x target)
+
+    -- the node's answer is within reach
+    pub walk_top : (a b : ℕ) → NextPre E live a b st₀ from depth → d ≤ no_more_docs
+    walk_top a b P = let W = P.1 in (after W.0 W.1 W.2 W.3 W.5 W.6).0.top
+
+    pub walk_from : (a b : ℕ) → NextPre E live a b st₀ from depth → target ≤ d
+    walk_from a b P = let W = P.1 in (after W.0 W.1 W.2 W.3 W.5 W.6).0.from
+
+    pub walk-live : (a b : ℕ) → NextPre E live a b st₀ from depth → d < E.documents → 0 < length live → d < 64 * length live
+    walk-live a b P l h =
         let W = P.1 in
-        let H = W.6 in
-        (m, (W.0, W.1, W.2, W.3, record { in-a = omega (arith, W.4.in-a); in_b = omega (arith, W.4.in_b) }, record { lends = H.lends; sound = H.sound; ok = (I W.0 W.1 W.2 W.3 W.5 H).1 }))
+        subst (λ (w : List ℕ). d < 64 * length w) W.5 (W.6.lends.accepted.live_bit (subst (λ (w : List ℕ). 0 < length w) (sym W.5) h) d (subst (λ (i : ℕ). d < i) (sym W.6.lends.documents) l))
 
-    module _ (d : ℕ) (st' : List ℕ) (post : AdvancePost E st target depth d st') where
-      after : (ix : Index) (places : ℕ) (s : Scorer) (scores : ℕ) → ix.live ≡ live → NodeHeld E ix places s depth scores st₀ from → First (matches ix s) target d × Ok ix E.ranges s depth scores st' target
-      after ix places s scores e H = post ix places s scores (record { lends = H.lends; sound = H.sound; ok = (I ix places s scores e H).1 })
+    pub walk-stop : from ≤ no_more_docs → target ≤ no_more_docs → E.documents ≤ d → NextPost E live st₀ from depth no_more_docs st'
+    walk-stop m top l ix places s scores e H = (
+      record {
+        from = m;
+        top = le_refl _;
+        before = λ x a b. ⊎_elim (λ h. before ix places s scores e H x a h) (λ h. not-below ix s x (omega (arith, H.lends.documents))) (cmp x d);
+        hit = λ h. absurd (omega arith);
+      },
+      ok-mono ix E.ranges s depth scores st' target no_more_docs top (after ix places s scores e H).1,
+    )
 
-      before : (ix : Index) (places : ℕ) (s : Scorer) (scores : ℕ) → ix.live ≡ live → NodeHeld E ix places s depth scores st₀ from → (x : ℕ) → from ≤ x → x < d → live_match ix s x ≡ false
-      before ix places s scores e H x a b = ⊎_elim (λ h. (I ix places s scores e H).0 x a h) (λ h. not-match ix s x ((after ix places s scores e H).0.before x h b)) (cmp x target)
+    pub walk-found : from ≤ target → d < E.documents → is_live (live_only live) d ≡ true → NextPost E live st₀ from depth d st'
+    walk-found m l y ix places s scores e H =
+        let q = after ix places s scores e H in
+        let n : d < ix.max_doc = omega (arith, H.lends.documents) in
+        let few : d < no_more_docs = omega (arith, n, H.lends.accepted.documents) in (
+          record { from = le_trans m q.0.from; top = q.0.top; before = before ix places s scores e H; hit = λ h. is-match ix s d n (sym (live_of ix live d e) ∙ y) (q.0.hit few) },
+          ok-mono ix E.ranges s depth scores st' target d q.0.from q.1,
+        )
 
-      -- the node's answer is within reach
-      pub walk_top : (a b : ℕ) → NextPre E live a b st₀ from depth → d ≤ no_more_docs
-      walk_top a b P = let W = P.1 in (after W.0 W.1 W.2 W.3 W.5 W.6).0.top
-
-      pub walk_from : (a b : ℕ) → NextPre E live a b st₀ from depth → target ≤ d
-      walk_from a b P = let W = P.1 in (after W.0 W.1 W.2 W.3 W.5 W.6).0.from
-
-      pub walk-live : (a b : ℕ) → NextPre E live a b st₀ from depth → d < E.documents → 0 < length live → d < 64 * length live
-      walk-live a b P l h =
-          let W = P.1 in
-          subst (λ (w : List ℕ). d < 64 * length w) W.5 (W.6.lends.accepted.live_bit (subst (λ (w : List ℕ). 0 < length w) (sym W.5) h) d (subst (λ (i : ℕ). d < i) (sym W.6.lends.documents) l))
-
-      pub walk-stop : from ≤ no_more_docs → target ≤ no_more_docs → E.documents ≤ d → NextPost E live st₀ from depth no_more_docs st'
-      walk-stop m top l ix places s scores e H = (
+    pub walk_more : is_live (live_only live) d ≡ false → WalkAt E live st₀ from depth st' (d + 1)
+    walk_more y =
         record {
-          from = m;
-          top = le_refl _;
-          before = λ x a b. ⊎_elim (λ h. before ix places s scores e H x a h) (λ h. not-below ix s x (omega (arith, H.lends.documents))) (cmp x d);
-          hit = λ h. absurd (omega arith);
-        },
-        ok-mono ix E.ranges s depth scores st' target no_more_docs top (after ix places s scores e H).1,
-      )
-
-      pub walk-found : from ≤ target → d < E.documents → is_live (live_only live) d ≡ true → NextPost E live st₀ from depth d st'
-      walk-found m l y ix places s scores e H =
-          let q = after ix places s scores e H in
-          let n : d < ix.max_doc = omega (arith, H.lends.documents) in
-          let few : d < no_more_docs = omega (arith, n, H.lends.accepted.documents) in (
-            record { from = le_trans m q.0.from; top = q.0.top; before = before ix places s scores e H; hit = λ h. is-match ix s d n (sym (live_of ix live d e) ∙ y) (q.0.hit few) },
-            ok-mono ix E.ranges s depth scores st' target d q.0.from q.1,
-          )
-
-      pub walk_more : is_live (live_only live) d ≡ false → WalkAt st' (d + 1)
-      walk_more y ix places s scores e H =
-          let q = after ix places s scores e H in (
-            (λ x a b. ⊎_elim (λ h. before ix places s scores e H x a h) (λ h. let z : x ≡ d = omega arith in subst (λ (i : ℕ). live_match ix s i ≡ false) (sym z) (not_live ix s d (sym (live_of ix live d e) ∙ y))) (cmp x d)),
-            ok-mono ix E.ranges s depth scores st' target (d + 1) (omega (arith, q.0.from)) q.1,
-          )
+          passed = λ ix places s scores e H.
+              let q = after ix places s scores e H in (
+                (λ x a b. ⊎_elim (λ h. before ix places s scores e H x a h) (λ h. let z : x ≡ d = omega arith in subst (λ (i : ℕ). live_match ix s i ≡ false) (sym z) (not_live ix s d (sym (live_of ix live d e) ∙ y))) (cmp x d)),
+                ok-mono ix E.ranges s depth scores st' target (d + 1) (omega (arith, q.0.from)) q.1,
+              );
+        }
 
 -- ---- the page
 abbrev docs-of : List ScoreDoc → List ℕ
@@ -127,141 +129,140 @@ map_snoc : (f : ScoreDoc → ℕ) (xs : List ScoreDoc) (x : ScoreDoc) → map f 
 map_snoc f [] x = refl
 map_snoc f (y ∷ xs) x = ap (λ (l : List ℕ). f y ∷ l) (map_snoc f xs x)
 
-module _ (n : ℕ) (postings positions norms ranges : List ℕ) (live : List ℕ) (table : List Float) (places : ℕ) (st₁ : List ℕ) (next₁ from depth : ℕ) (docs₀ bits₀ : List ℕ) where
-  abbrev E : Lent
-  E = lent n postings positions ranges
+-- what is given of a page, and what is left
+pub record Given (R : LeafReader) (from depth : ℕ) (docs₀ bits₀ : List ℕ) (ix : Index) (s : Scorer) (scores : ℕ) (st docs bits : List ℕ) (given next : ℕ) : Type 0 where
+  pub xs : List ScoreDoc
+  pub ys : List ScoreDoc
+  pub all : from_target from (live_scored ix s) ≡ xs ++ ys
+  pub number : length xs ≡ given
+  pub docs-are : docs ≡ written (docs-of xs) docs₀
+  pub bits_are : bits ≡ written (bits_of xs) bits₀
+  pub t : ℕ
+  pub left : ys ≡ from_target t (live_scored ix s)
+  pub first : First (live_match ix s) t next
+  pub ok : Ok ix R.ranges.now s depth scores st next
 
-  pub record Given (ix : Index) (s : Scorer) (scores : ℕ) (st docs bits : List ℕ) (given next : ℕ) : Type 0 where
-    pub xs : List ScoreDoc
-    pub ys : List ScoreDoc
-    pub all : from_target from (live_scored ix s) ≡ xs ++ ys
-    pub number : length xs ≡ given
-    pub docs-are : docs ≡ written (docs-of xs) docs₀
-    pub bits_are : bits ≡ written (bits_of xs) bits₀
-    pub t : ℕ
-    pub left : ys ≡ from_target t (live_scored ix s)
-    pub first : First (live_match ix s) t next
-    pub ok : Ok ix ranges s depth scores st next
+-- a tree that the reader's words were lent for
+abbrev Holds : LeafReader → ℕ → List ℕ → ℕ → ℕ → Index → Scorer → ℕ → Type 0
+Holds R places st₀ from depth ix s scores = PageHeld (lent_of R) R.norms.now R.live.now R.inverses.now ix places s depth scores st₀ from
 
-  -- where the loop begins: the first match is known
-  abbrev pub Begun : Index → Scorer → ℕ → Type 0
-  Begun ix s scores = PageHeld E norms live table ix places s depth scores st₁ next₁ × First (live_match ix s) from next₁
+abbrev Asked : LeafReader → ℕ → List ℕ → ℕ → ℕ → List ℕ → List ℕ → Type 0
+Asked R places st₀ from depth docs₀ bits₀ = ListPre (lent_of R) R.norms.now R.live.now R.inverses.now places st₀ from depth docs₀ bits₀
+
+-- .. of each tree
+pub record GivenAt (R : LeafReader) (places : ℕ) (st₀ : List ℕ) (from depth : ℕ) (docs₀ bits₀ : List ℕ) (st docs bits : List ℕ) (given next : ℕ) : Type 0 where
+  pub page : (ix : Index) (s : Scorer) (scores : ℕ) → Holds R places st₀ from depth ix s scores → Given R from depth docs₀ bits₀ ix s scores st docs bits given next
+
+node-held : (R : LeafReader) {places : ℕ} {st₀ : List ℕ} {from depth : ℕ} (ix : Index) (s : Scorer) (scores : ℕ) → Holds R places st₀ from depth ix s scores → (st : List ℕ) (b : ℕ) → Ok ix R.ranges.now s depth scores st b → NodeHeld (lent_of R) ix places s depth scores st b
+node-held R ix s scores H st b o = record { lends = H.lends; sound = H.scorable.sound; ok = o }
+
+pub page-first-asks : (R : LeafReader) (places : ℕ) (st₀ : List ℕ) (from depth : ℕ) (docs₀ bits₀ : List ℕ) (a b : ℕ) → min a b ≡ places → Asked R places st₀ from depth docs₀ bits₀ → NextPre (lent_of R) R.live.now a b st₀ from depth
+page-first-asks R places st₀ from depth docs₀ bits₀ a b e P = let W = P.2 in (P.0, (W.0, places, W.1, W.2, record { in-a = omega arith; in_b = omega arith }, W.3.live-are, record { lends = W.3.lends; sound = W.3.scorable.sound; ok = W.3.ok }))
+
+pub page-start : (R : LeafReader) (places : ℕ) (st₀ : List ℕ) (from depth : ℕ) (docs₀ bits₀ : List ℕ) (next : ℕ) (st : List ℕ) → NextPost (lent_of R) R.live.now st₀ from depth next st → GivenAt R places st₀ from depth docs₀ bits₀ st docs₀ bits₀ 0 next
+page-start R places st₀ from depth docs₀ bits₀ next st post =
+    record {
+      page = λ ix s scores H.
+          let q = post ix places s scores H.live-are (record { lends = H.lends; sound = H.scorable.sound; ok = H.ok }) in
+          record { xs = []; ys = from_target from (live_scored ix s); all = refl; number = refl; docs-are = refl; bits_are = refl; t = from; left = refl; first = q.0; ok = q.1 };
+    }
+
+module _ {R : LeafReader} {places : ℕ} {st₀ : List ℕ} {from depth : ℕ} {docs₀ bits₀ : List ℕ} {st docs bits : List ℕ} {given next : ℕ} (I : GivenAt R places st₀ from depth docs₀ bits₀ st docs bits given next) where
+  abbrev Held : Index → Scorer → ℕ → Type 0
+  Held ix s scores = Holds R places st₀ from depth ix s scores
 
   abbrev Pre : Type 0
-  Pre = (ix : Index) × (s : Scorer) × (scores : ℕ) × Begun ix s scores
+  Pre = Asked R places st₀ from depth docs₀ bits₀
 
   -- the page, and the words behind it
-  abbrev pub Done : ℕ → ℕ → List ℕ → List ℕ → List ℕ → Type 0
-  Done given next st docs bits =
-      (ix : Index) (s : Scorer) (scores : ℕ) → Begun ix s scores → PageIs (page from (length docs₀) (live_scored ix s)) docs₀ bits₀ (record { given = given; next = next }) docs bits × Ok ix ranges s depth scores st next
+  abbrev Done : Type 0
+  Done = ListPost (lent_of R) R.norms.now R.live.now R.inverses.now places st₀ from depth docs₀ bits₀ (record { given = given; next = next }) st docs bits
 
-  abbrev pub GivenAt : List ℕ → List ℕ → List ℕ → ℕ → ℕ → Type 0
-  GivenAt st docs bits given next = (ix : Index) (s : Scorer) (scores : ℕ) → Begun ix s scores → Given ix s scores st docs bits given next
+  -- what the next document is
+  pub page-top : Pre → next ≤ no_more_docs
+  page-top P = let W = P.2 in (I.page W.0 W.1 W.2 W.3).first.top
 
-  node-held : (ix : Index) (s : Scorer) (scores : ℕ) → Begun ix s scores → (st : List ℕ) (b : ℕ) → Ok ix ranges s depth scores st b → NodeHeld E ix places s depth scores st b
-  node-held ix s scores H st b o = record { lends = H.0.lends; sound = H.0.scorable.sound; ok = o }
+  less : next ≤ no_more_docs → (next ≡ no_more_docs → ⊥) → next < no_more_docs
+  less a m = ⊎_elim (λ e. absurd (m e)) (λ l. l) (eq-or-lt_of_le a)
 
-  pub page-start : GivenAt st₁ docs₀ bits₀ 0 next₁
-  page-start ix s scores H =
-      record { xs = []; ys = from_target from (live_scored ix s); all = refl; number = refl; docs-are = refl; bits_are = refl; t = from; left = refl; first = H.1; ok = H.0.ok }
+  lent_at : (ix : Index) (s : Scorer) (scores : ℕ) → Held ix s scores → (next ≡ no_more_docs → ⊥) → LentAt ix R.max_doc R.postings.now R.positions.now R.norms.now next × (matches ix s next ≡ true)
+  lent_at ix s scores H m =
+      let g = I.page ix s scores H in
+      let h = match_is ix s next (g.first.hit (less g.first.top m)) in
+      (record { lends = H.lends; norms-are = H.norms-are; document = subst (λ (i : ℕ). next < i) H.lends.documents h.0 }, h.2)
 
-  module _ (st docs bits : List ℕ) (given next : ℕ) (I : GivenAt st docs bits given next) where
-    -- what the next document is
-    pub page-top : Pre → next ≤ no_more_docs
-    page-top P = let W = P in (I W.0 W.1 W.2 W.3).first.top
+  module _ (m : next ≡ no_more_docs → ⊥) {places' : ℕ} (same : places' ≡ places) where
+    pub page-score-asks : Pre → ScorePre st R.max_doc R.postings.now R.positions.now R.norms.now R.ranges.now R.inverses.now places' next depth
+    page-score-asks P =
+        let W = P.2 in
+        let l = lent_at W.0 W.1 W.2 W.3 m in
+        (W.0, W.1, W.2, l.0, scorable-at same W.3.scorable, l.1, (I.page W.0 W.1 W.2 W.3).ok)
 
-    less : next ≤ no_more_docs → (next ≡ no_more_docs → ⊥) → next < no_more_docs
-    less a m = ⊎_elim (λ e. absurd (m e)) (λ l. l) (eq-or-lt_of_le a)
+    module _ {r : Float} (st' : List ℕ) (post : ScorePost st R.max_doc R.postings.now R.positions.now R.norms.now R.ranges.now R.inverses.now places' next depth r st') where
+      scored-at : (ix : Index) (s : Scorer) (scores : ℕ) → Held ix s scores → ScoreIs ix s next r × Ok ix R.ranges.now s depth scores st' next
+      scored-at ix s scores H = let l = lent_at ix s scores H m in post ix s scores l.0 (scorable-at same H.scorable) l.1 (I.page ix s scores H).ok
 
-    lent_at : (ix : Index) (s : Scorer) (scores : ℕ) → Begun ix s scores → (next ≡ no_more_docs → ⊥) → LentAt ix n postings positions norms next × (matches ix s next ≡ true)
-    lent_at ix s scores H m =
-        let g = I ix s scores H in
-        let h = match_is ix s next (g.first.hit (less g.first.top m)) in
-        (record { lends = H.0.lends; norms-are = H.0.norms-are; document = subst (λ (i : ℕ). next < i) H.0.lends.documents h.0 }, h.2)
+      pub page-number : Pre → T (not (is_nan r))
+      page-number P = let W = P.2 in atmost-number (scored-at W.0 W.1 W.2 W.3).0.small
 
-    module _ (m : next ≡ no_more_docs → ⊥) (places' : ℕ) (same : places' ≡ places) where
-      pub page-score-asks : Pre → ScorePre st n postings positions norms ranges table places' next depth
-      page-score-asks P =
-          let W = P in
-          let l = lent_at W.0 W.1 W.2 W.3 m in
-          (W.0, W.1, W.2, l.0, scorable-at same W.3.0.scorable, l.1, (I W.0 W.1 W.2 W.3).ok)
+      ok-next : (ix : Index) (s : Scorer) (scores : ℕ) → Held ix s scores → Ok ix R.ranges.now s depth scores st' (next + 1)
+      ok-next ix s scores H = ok-mono ix R.ranges.now s depth scores st' next (next + 1) (omega arith) (scored-at ix s scores H).1
 
-      module _ (r : Float) (st' : List ℕ) (post : ScorePost st n postings positions norms ranges table places' next depth r st') where
-        scored-at : (ix : Index) (s : Scorer) (scores : ℕ) → Begun ix s scores → ScoreIs ix s next r × Ok ix ranges s depth scores st' next
-        scored-at ix s scores H = let l = lent_at ix s scores H m in post ix s scores l.0 (scorable-at same H.0.scorable) l.1 (I ix s scores H).ok
+      pub page-next-asks : (a b : ℕ) → min a b ≡ places → Pre → NextPre (lent_of R) R.live.now a b st' (next + 1) depth
+      page-next-asks a b e P =
+          let W = P.2 in
+          let l : next < no_more_docs = less (page-top P) m in
+          (omega arith, (W.0, places, W.1, W.2, record { in-a = omega arith; in_b = omega arith }, W.3.live-are, node-held R W.0 W.1 W.2 W.3 st' (next + 1) (ok-next W.0 W.1 W.2 W.3)))
 
-        pub page-number : Pre → T (not (is_nan r))
-        page-number P = let W = P in atmost-number (scored-at W.0 W.1 W.2 W.3).0.small
+      pub page-more : (next' : ℕ) (st'' : List ℕ) → NextPost (lent_of R) R.live.now st' (next + 1) depth next' st'' → given < length docs₀ → given < length bits₀ → GivenAt R places st₀ from depth docs₀ bits₀ st'' (set docs given next) (set bits given (to_bits binary32 r)) (given + 1) next'
+      page-more next' st'' post' a b =
+          record {
+            page = λ ix s scores H.
+                let g = I.page ix s scores H in
+                let q = post' ix places s scores H.live-are (node-held R ix s scores H st' (next + 1) (ok-next ix s scores H)) in
+                let z = scored ix s next in
+                let w : g.ys ≡ z ∷ from_target (suc next) (live_scored ix s) = g.left ∙ walk-next ix s g.t next g.first (less g.first.top m) in
+                let e : next + 1 ≡ suc next = omega arith in
+                let sc : r ≡ scorer_score ix s next = (scored-at ix s scores H).0.is in
+                let ld : length (docs-of g.xs) ≡ given = length-map g.xs _ ∙ g.number in
+                let lb : length (bits_of g.xs) ≡ given = length-map g.xs _ ∙ g.number in
+                record {
+                  xs = g.xs ++ (z ∷ []);
+                  ys = from_target (suc next) (live_scored ix s);
+                  all = g.all ∙ ap (λ (l : List ScoreDoc). g.xs ++ l) w ∙ sym (append_assoc g.xs (z ∷ []) (from_target (suc next) (live_scored ix s)));
+                  number = omega (arith, length-append g.xs (z ∷ []), g.number);
+                  docs-are = ap (λ (l : List ℕ). set l given next) g.docs-are ∙ write-next (docs-of g.xs) docs₀ next given ld a ∙ ap (λ (l : List ℕ). written l docs₀) (sym (map_snoc (λ h. h.doc) g.xs z));
+                  bits_are = ap (λ (l : List ℕ). set l given (to_bits binary32 r)) g.bits_are ∙ write-next (bits_of g.xs) bits₀ (to_bits binary32 r) given lb b ∙ ap (λ (x : Float). written (bits_of g.xs ++ (to_bits binary32 x ∷ [])) bits₀) sc ∙ ap (λ (l : List ℕ). written l bits₀) (sym (map_snoc (λ h. to_bits binary32 h.score) g.xs z));
+                  t = suc next;
+                  left = refl;
+                  first = subst (λ (i : ℕ). First (live_match ix s) i next') e q.0;
+                  ok = q.1;
+                };
+          }
 
-        ok-next : (ix : Index) (s : Scorer) (scores : ℕ) → Begun ix s scores → Ok ix ranges s depth scores st' (next + 1)
-        ok-next ix s scores H = ok-mono ix ranges s depth scores st' next (next + 1) (omega arith) (scored-at ix s scores H).1
+  few-documents : (ix : Index) (s : Scorer) (scores : ℕ) → Held ix s scores → ix.max_doc ≤ no_more_docs
+  few-documents ix s scores H = omega (arith, H.lends.accepted.documents)
 
-        pub page-next-asks : (a b : ℕ) → min a b ≡ places → Pre → NextPre E live a b st' (next + 1) depth
-        page-next-asks a b e P =
-            let W = P in
-            let l : next < no_more_docs = less (page-top P) m in
-            (omega arith, (W.0, places, W.1, W.2, record { in-a = omega arith; in_b = omega arith }, W.3.0.live-are, node-held W.0 W.1 W.2 W.3 st' (next + 1) (ok-next W.0 W.1 W.2 W.3)))
+  -- no more matches
+  pub page-none : next ≡ no_more_docs → given ≤ length docs₀ → Done
+  page-none m l ix s scores H =
+      let g = I.page ix s scores H in
+      let none : g.ys ≡ [] = g.left ∙ walk_end ix s (few-documents ix s scores H) g.t next g.first (λ h. omega arith) in
+      let p : page from (length docs₀) (live_scored ix s) ≡ record { given = g.xs; next = no_more_docs } = page-all from (length docs₀) (live_scored ix s) g.xs (g.all ∙ ap (λ (y : List ScoreDoc). g.xs ++ y) none ∙ append-nil g.xs) (omega (arith, g.number)) in
+      (subst (λ (o : PageOf). PageIs o docs₀ bits₀ (record { given = given; next = next }) docs bits) (sym p) (record { given_is = sym g.number; next-is = m; documents-are = g.docs-are; scores-are = g.bits_are }), g.ok)
 
-        pub page-more : (next' : ℕ) (st'' : List ℕ) → NextPost E live st' (next + 1) depth next' st'' → given < length docs₀ → given < length bits₀ → GivenAt st'' (set docs given next) (set bits given (to_bits binary32 r)) (given + 1) next'
-        page-more next' st'' post' a b ix s scores H =
-            let g = I ix s scores H in
-            let q = post' ix places s scores H.0.live-are (node-held ix s scores H st' (next + 1) (ok-next ix s scores H)) in
-            let z = scored ix s next in
-            let w : g.ys ≡ z ∷ from_target (suc next) (live_scored ix s) = g.left ∙ walk-next ix s g.t next g.first (less g.first.top m) in
-            let e : next + 1 ≡ suc next = omega arith in
-            let sc : r ≡ scorer_score ix s next = (scored-at ix s scores H).0.is in
-            let ld : length (docs-of g.xs) ≡ given = length-map g.xs _ ∙ g.number in
-            let lb : length (bits_of g.xs) ≡ given = length-map g.xs _ ∙ g.number in
-            record {
-              xs = g.xs ++ (z ∷ []);
-              ys = from_target (suc next) (live_scored ix s);
-              all = g.all ∙ ap (λ (l : List ScoreDoc). g.xs ++ l) w ∙ sym (append_assoc g.xs (z ∷ []) (from_target (suc next) (live_scored ix s)));
-              number = omega (arith, length-append g.xs (z ∷ []), g.number);
-              docs-are = ap (λ (l : List ℕ). set l given next) g.docs-are ∙ write-next (docs-of g.xs) docs₀ next given ld a ∙ ap (λ (l : List ℕ). written l docs₀) (sym (map_snoc (λ h. h.doc) g.xs z));
-              bits_are = ap (λ (l : List ℕ). set l given (to_bits binary32 r)) g.bits_are ∙ write-next (bits_of g.xs) bits₀ (to_bits binary32 r) given lb b ∙ ap (λ (x : Float). written (bits_of g.xs ++ (to_bits binary32 x ∷ [])) bits₀) sc ∙ ap (λ (l : List ℕ). written l bits₀) (sym (map_snoc (λ h. to_bits binary32 h.score) g.xs z));
-              t = suc next;
-              left = refl;
-              first = subst (λ (i : ℕ). First (live_match ix s) i next') e q.0;
-              ok = q.1;
-            }
+  first_of : (ix : Index) (s : Scorer) (scores : ℕ) (H : Held ix s scores) → next ≡ first_doc (I.page ix s scores H).ys
+  unfolding first_doc
+  first_of ix s scores H =
+      let g = I.page ix s scores H in
+      ⊎_elim
+      (λ h. h ∙ ap first_doc (sym (g.left ∙ walk_end ix s (few-documents ix s scores H) g.t next g.first (λ i. omega arith))))
+      (λ h. ap first_doc (sym (g.left ∙ walk-next ix s g.t next g.first h)))
+      (eq-or-lt_of_le g.first.top)
 
-    few-documents : (ix : Index) (s : Scorer) (scores : ℕ) → Begun ix s scores → ix.max_doc ≤ no_more_docs
-    few-documents ix s scores H = omega (arith, H.0.lends.accepted.documents)
-
-    -- no more matches
-    pub page-none : next ≡ no_more_docs → given ≤ length docs₀ → Done given next st docs bits
-    page-none m l ix s scores H =
-        let g = I ix s scores H in
-        let none : g.ys ≡ [] = g.left ∙ walk_end ix s (few-documents ix s scores H) g.t next g.first (λ h. omega arith) in
-        let p : page from (length docs₀) (live_scored ix s) ≡ record { given = g.xs; next = no_more_docs } = page-all from (length docs₀) (live_scored ix s) g.xs (g.all ∙ ap (λ (y : List ScoreDoc). g.xs ++ y) none ∙ append-nil g.xs) (omega (arith, g.number)) in
-        (subst (λ (o : PageOf). PageIs o docs₀ bits₀ (record { given = given; next = next }) docs bits) (sym p) (record { given_is = sym g.number; next-is = m; documents-are = g.docs-are; scores-are = g.bits_are }), g.ok)
-
-    first_of : (ix : Index) (s : Scorer) (scores : ℕ) (H : Begun ix s scores) → next ≡ first_doc (I ix s scores H).ys
-    unfolding first_doc
-    first_of ix s scores H =
-        let g = I ix s scores H in
-        ⊎_elim
-        (λ h. h ∙ ap first_doc (sym (g.left ∙ walk_end ix s (few-documents ix s scores H) g.t next g.first (λ i. omega arith))))
-        (λ h. ap first_doc (sym (g.left ∙ walk-next ix s g.t next g.first h)))
-        (eq-or-lt_of_le g.first.top)
-
-    -- the outputs are full
-    pub page-full : given ≡ length docs₀ → Done given next st docs bits
-    page-full l ix s scores H =
-        let g = I ix s scores H in
-        let p : page from (length docs₀) (live_scored ix s) ≡ record { given = g.xs; next = first_doc g.ys } = page-given from (length docs₀) (live_scored ix s) g.xs g.ys g.all (g.number ∙ l) in
-        (subst (λ (o : PageOf). PageIs o docs₀ bits₀ (record { given = given; next = next }) docs bits) (sym p) (record { given_is = sym g.number; next-is = first_of ix s scores H; documents-are = g.docs-are; scores-are = g.bits_are }), g.ok)
-
--- ---- into the loop, and out of it
-module _ (n : ℕ) (postings positions norms ranges : List ℕ) (live : List ℕ) (table : List Float) (places : ℕ) (st₀ : List ℕ) (from depth : ℕ) (docs₀ bits₀ : List ℕ) where
-  pub page-first-asks : (a b : ℕ) → min a b ≡ places → ListPre (lent n postings positions ranges) norms live table places st₀ from depth docs₀ bits₀ → NextPre (lent n postings positions ranges) live a b st₀ from depth
-  page-first-asks a b e P = let W = P.2 in (P.0, (W.0, places, W.1, W.2, record { in-a = omega arith; in_b = omega arith }, W.3.live-are, record { lends = W.3.lends; sound = W.3.scorable.sound; ok = W.3.ok }))
-
-  module _ (next₁ : ℕ) (st₁ : List ℕ) (post : NextPost (lent n postings positions ranges) live st₀ from depth next₁ st₁) (places₁ : ℕ) (same : places₁ ≡ places) where
-    pub begun : (ix : Index) (s : Scorer) (scores : ℕ) → PageHeld (lent n postings positions ranges) norms live table ix places s depth scores st₀ from → Begun n postings positions norms ranges live table places₁ st₁ next₁ from depth docs₀ bits₀ ix s scores
-    begun ix s scores H =
-        let q = post ix places s scores H.live-are (record { lends = H.lends; sound = H.scorable.sound; ok = H.ok }) in
-        (record { lends = H.lends; norms-are = H.norms-are; live-are = H.live-are; scorable = scorable-at same H.scorable; ok = q.1 }, q.0)
-
-    pub page-done : (given next : ℕ) (st docs bits : List ℕ) → Done n postings positions norms ranges live table places₁ st₁ next₁ from depth docs₀ bits₀ given next st docs bits → ListPost (lent n postings positions ranges) norms live table places st₀ from depth docs₀ bits₀ (record { given = given; next = next }) st docs bits
-    page-done given next st docs bits d ix s scores H = d ix s scores (begun ix s scores H)
+  -- the outputs are full
+  pub page-full : given ≡ length docs₀ → Done
+  page-full l ix s scores H =
+      let g = I.page ix s scores H in
+      let p : page from (length docs₀) (live_scored ix s) ≡ record { given = g.xs; next = first_doc g.ys } = page-given from (length docs₀) (live_scored ix s) g.xs g.ys g.all (g.number ∙ l) in
+      (subst (λ (o : PageOf). PageIs o docs₀ bits₀ (record { given = given; next = next }) docs bits) (sym p) (record { given_is = sym g.number; next-is = first_of ix s scores H; documents-are = g.docs-are; scores-are = g.bits_are }), g.ok)

@@ -1,17 +1,17 @@
 // The walk over the live documents that a scorer matches.
 #![tactic(auto)]
 
-ghost use Rattle.std.specs.Prelude.{min, length};
+ghost use Rattle.leaf_scorer.specs.Buffers.{room, other_room, places_in, SameBuffers};
 ghost use Rattle.scorer.specs.Calls.{lent_of};
 ghost use Rattle.walk.specs.Walks.{NextPre, NextPost, ListPre, ListPost};
 
-use leaf_scorer::LeafReader;
+use leaf_scorer::{LeafReader, PhraseBuffers};
 
 // Above every document.
 pub use index::postings::NO_MORE_DOCS;
 
 // How many were written, and the next live match.
-#[derive(Clone, Copy)]
+#[derive(Clone, Copy, PartialEq, Eq)]
 pub struct Listed {
     pub given: usize,
     pub next: u32,
@@ -21,18 +21,18 @@ pub struct Listed {
 pub fn next_match(
     st: &mut [u32],
     reader: &LeafReader<'_>,
-    a: &mut [i32],
-    b: &mut [i32],
+    buffers: &mut PhraseBuffers<'_>,
     from: u32,
     depth: u32,
 ) -> u32
-    requires { NextPre (lent_of reader.now) reader.now.live.now (length a.old) (length b.old) st.old from depth }
-    ensures { NextPost (lent_of reader.now) reader.now.live.now st.old from depth result st.new }
+    requires { NextPre (lent_of reader.now) reader.now.live.now (room buffers.old) (other_room buffers.old) st.old from depth }
+    ensures next_post { NextPost (lent_of reader.now) reader.now.live.now st.old from depth result st.new }
+    ensures same_buffers { SameBuffers buffers.old buffers.new }
 {
     let mut target = from;
     // Kept: each turn begins where the answer of the one before lies; a loop is plainer than an iterator of such steps.
     loop {
-        let d = scorer::advance(st, reader, a, b, target, depth);
+        let d = scorer::advance(st, reader, buffers, target, depth);
         if d >= reader.max_doc {
             return NO_MORE_DOCS;
         }
@@ -47,28 +47,28 @@ pub fn next_match(
 pub fn list(
     st: &mut [u32],
     reader: &LeafReader<'_>,
-    inverses: &[f32],
-    a: &mut [i32],
-    b: &mut [i32],
+    buffers: &mut PhraseBuffers<'_>,
     from: u32,
     depth: u32,
     docs: &mut [u32],
     bits: &mut [u32],
 ) -> Listed
-    requires { ListPre (lent_of reader.now) reader.now.norms.now reader.now.live.now inverses.now (min (length a.old) (length b.old)) st.old from depth docs.old bits.old }
-    ensures { ListPost (lent_of reader.now) reader.now.norms.now reader.now.live.now inverses.now (min (length a.old) (length b.old)) st.old from depth docs.old bits.old result st.new docs.new bits.new }
+    requires { ListPre (lent_of reader.now) reader.now.norms.now reader.now.live.now reader.now.inverses.now (places_in buffers.old) st.old from depth docs.old bits.old }
+    ensures list_post { ListPost (lent_of reader.now) reader.now.norms.now reader.now.live.now reader.now.inverses.now (places_in buffers.old) st.old from depth docs.old bits.old result st.new docs.new bits.new }
+    ensures same_buffers { SameBuffers buffers.old buffers.new }
 {
-    let mut next = next_match(st, reader, a, b, from, depth);
-    let mut given = 0;
-    while given < docs.len() {
+    let mut next = next_match(st, reader, buffers, from, depth);
+    for given in 0..docs.len() {
         if next == NO_MORE_DOCS {
             return Listed { given, next };
         }
-        let s = score::score(st, reader, inverses, a, b, next, depth);
+        let s = score::score(st, reader, buffers, next, depth);
         docs[given] = next;
         bits[given] = f32::to_bits(s);
-        given += 1;
-        next = next_match(st, reader, a, b, next + 1, depth);
+        next = next_match(st, reader, buffers, next + 1, depth);
     }
-    Listed { given, next }
+    Listed {
+        given: docs.len(),
+        next,
+    }
 }

@@ -1,64 +1,76 @@
--- `leaf_score::leaf_score` meets its contract. Assumes nothing.
+-- `leaf_score::leaf_score` meets its contract: of a term and of a phrase the frequency is known, and all else scores 0. Assumes nothing.
 use native.Mathlib.Omega.{arith}
-use Prim.Native.Nat.{ℕ, ◌≤◌, min}
-use lib.ListN.{length}
-use mathlib.Core.Path.{sym, ap, ◌∙◌}
+use Prim.Native.Nat.{ℕ}
+use mathlib.Core.Path.{◌≡◌, sym, ap, ◌∙◌}
+use mathlib.Core.List.{List, ◌++◌}
+use lib.Ieee.{Float}
+use Rattle.meaning.specs.Lent.{Index}
 use Rattle.node.specs.Kinds.{kind_of}
 use Rattle.node.proofs.Scorers.{term-word, phrase-word}
+use Rattle.weight.specs.ScorerTree.{Leaf}
+use Rattle.weight.specs.State.{State, words_of}
+use Rattle.leaf_scorer.specs.Buffers.{places_in}
+use Rattle.leaf_score.specs.Asked.{LentAt, LeafAsks}
 use Rattle.leaf_score.proofs.Bounds.{zero-32}
-use Rattle.leaf_score.proofs.Leaves.{read, words_long, term-run, term-weighs, term-done, few-documents, phrase-asks, phrase-weighs, phrase-done, other-done}
+use Rattle.leaf_score.proofs.Leaves.{Counted, read, words_long, few-documents, counted-byte, counted-weighs, counted-done, term-run, term-counted, phrase-asks, phrase-counted, other-done}
 use Rattle.leaf_score.proofs.leaf_score.Goals as goal
+use Rattle.leaf_score.proofs.leaf_score.Goals.{After-norm_byte-arg-1, in-Term, in-Phrase}
 
-room : (a b : ℕ) → min a b ≤ a
-room a b = omega arith
-
-room-2 : (a b : ℕ) → min a b ≤ b
-room-2 a b = omega arith
+-- whatever leaf the words hold
+counted : (c : After-norm_byte-arg-1) (m : ℕ) (ix : Index) (ranges : List ℕ) (l : Leaf) (w : Float) (s : State) (v : List ℕ) → LentAt ix m c.args.reader.now.postings.now c.args.reader.now.positions.now c.args.reader.now.norms.now c.args.doc → LeafAsks ix ranges c.args.reader.now.inverses.now (places_in c.args.buffers.now) l w s v c.args.doc → c.args.st.now ≡ words_of s ++ v → Counted ix c.args.reader.now.inverses.now c.node_at-n.result ranges l w s c.args.doc c.match-from.frequency c.match-from.st
+counted c m ix ranges l w s v L p e =
+    let a = c.args in
+    let r = a.reader.now in
+    let R = read a.st.now v s c.node_at-n.result e c.node_at-n.ensures in
+    elim c.match-from.branch [
+      | in-Term x ↦ rw (x.frequency-is, x.st-is) (term-counted ix m r.postings.now r.positions.now r.norms.now a.doc L r.inverses.now c.node_at-n.result ranges _ w s v a.st.now e R _ x.term_frequency-frequency.ensures l p (term-word _ (sym x.in-Term.ensures)))
+      | in-Phrase x ↦ rw (x.frequency-is, x.st-is) (phrase-counted ix m r.postings.now r.positions.now r.norms.now a.doc L r.inverses.now c.node_at-n.result ranges _ w s v a.st.now e R _ _ x.phrase_frequency-frequency.ensures.frequency_post l p (phrase-word _ (sym x.in-Phrase.ensures)))
+    ]
 
 pub node_at-n-requires : goal.node_at-n-requires
 node_at-n-requires c = let p = c.requires.1 in omega (arith, words_long _ p.5 p.4 p.8)
 
-pub term_frequency-frequency-requires : goal.term_frequency-frequency-requires
-term_frequency-frequency-requires c = let s₀ = c in
-    let p = s₀.requires.1 in
-    let n = c.node_at-n.result in
-    term-run p.0 s₀.requires.0 s₀.args.postings.now s₀.args.positions.now s₀.args.norms.now s₀.args.doc p.6 (λ i. omega (arith, c.shared_slice_known-3-1.given i)) s₀.args.inverses.now n p.1 _ p.3 p.4 p.5 s₀.args.st.now p.8 (read s₀.args.st.now p.5 p.4 n p.8 c.node_at-n.ensures) p.2 p.7 (term-word _ (sym c.in-Term.ensures))
-
-pub weighted-requires : goal.weighted-requires
-weighted-requires c = let s₀ = c in
-    let p = s₀.requires.1 in
-    let n = c.node_at-n.result in
-    let q = term-weighs p.0 s₀.requires.0 s₀.args.postings.now s₀.args.positions.now s₀.args.norms.now s₀.args.doc p.6 (λ i. omega (arith, c.shared_slice_known-3-1.given i)) s₀.args.inverses.now n p.1 _ p.3 p.4 p.5 s₀.args.st.now p.8 (read s₀.args.st.now p.5 p.4 n p.8 c.node_at-n.ensures) c.term_frequency-frequency.result c.term_frequency-frequency.ensures p.2 p.7 (term-word _ (sym c.in-Term.ensures)) in
-    record { frequency_bound = (q.frequency-few, (q.number, q.field-few)); doc_in_bounds = q.byte-there; doc_in_bounds_2 = q.inverse-there }
-
-pub returns-in-Term : goal.returns-in-Term
-returns-in-Term c = let s₀ = c in
-    let n = c.node_at-n.result in
-    λ m ix ranges l w s v L K e. term-done ix m s₀.args.postings.now s₀.args.positions.now s₀.args.norms.now s₀.args.doc L (λ i. omega (arith, c.shared_slice_known-3-1.given i)) s₀.args.inverses.now n ranges _ w s v s₀.args.st.now e (read s₀.args.st.now v s n e c.node_at-n.ensures) c.term_frequency-frequency.result c.term_frequency-frequency.ensures l K (term-word _ (sym c.in-Term.ensures)) c.weighted.result c.weighted.ensures
-
-pub phrase_frequency-frequency-requires : goal.phrase_frequency-frequency-requires
-phrase_frequency-frequency-requires c = let s₀ = c in
-    let p = s₀.requires.1 in
-    let n = c.node_at-n.result in
-    let q = phrase-asks p.0 s₀.requires.0 s₀.args.postings.now s₀.args.positions.now s₀.args.norms.now s₀.args.doc p.6 (λ i. omega (arith, c.shared_slice_known-3-1.given i)) s₀.args.inverses.now n p.1 _ p.3 p.4 p.5 s₀.args.st.now p.8 (read s₀.args.st.now p.5 p.4 n p.8 c.node_at-n.ensures) p.2 p.7 (phrase-word _ (sym c.in-Phrase.ensures)) in
-    (few-documents p.0 s₀.requires.0 s₀.args.postings.now s₀.args.positions.now s₀.args.norms.now s₀.args.doc p.6 (λ i. omega (arith, c.shared_slice_known-3-1.given i)) s₀.args.inverses.now n p.1 (min (length s₀.args.a.now) (length s₀.args.b.now)) p.3 p.4 p.5 s₀.args.st.now p.8 (read s₀.args.st.now p.5 p.4 n p.8 c.node_at-n.ensures), (p.0, (min (length s₀.args.a.now) (length s₀.args.b.now)), q.0, q.1, p.4, p.5, room _ _, room-2 _ _, q.2, q.3))
-
-pub weighted-requires-in-Phrase : goal.weighted-requires-in-Phrase
-weighted-requires-in-Phrase c = let s₀ = c in
-    let p = s₀.requires.1 in
-    let n = c.node_at-n.result in
-    let q = phrase-weighs p.0 s₀.requires.0 s₀.args.postings.now s₀.args.positions.now s₀.args.norms.now s₀.args.doc p.6 (λ i. omega (arith, c.shared_slice_known-3-1.given i)) s₀.args.inverses.now n p.1 _ p.3 p.4 p.5 s₀.args.st.now p.8 (read s₀.args.st.now p.5 p.4 n p.8 c.node_at-n.ensures) c.phrase_frequency-frequency.result c.phrase_frequency-frequency.new.st c.phrase_frequency-frequency.ensures p.2 p.7 (phrase-word _ (sym c.in-Phrase.ensures)) in
-    record { frequency_bound = (q.frequency-few, (q.number, q.field-few)); doc_in_bounds = q.byte-there; doc_in_bounds_2 = q.inverse-there }
-
-pub returns-in-Phrase : goal.returns-in-Phrase
-returns-in-Phrase c = let s₀ = c in
-    let n = c.node_at-n.result in
-    λ m ix ranges l w s v L K e. phrase-done ix m s₀.args.postings.now s₀.args.positions.now s₀.args.norms.now s₀.args.doc L (λ i. omega (arith, c.shared_slice_known-3-1.given i)) s₀.args.inverses.now n ranges _ w s v s₀.args.st.now e (read s₀.args.st.now v s n e c.node_at-n.ensures) c.phrase_frequency-frequency.result c.phrase_frequency-frequency.new.st c.phrase_frequency-frequency.ensures l K (phrase-word _ (sym c.in-Phrase.ensures)) c.weighted-in-Phrase.result c.weighted-in-Phrase.ensures
-
-pub returns-in_default : goal.returns-in_default
-returns-in_default c = let s₀ = c in
-    let n = c.node_at-n.result in
-    λ m ix ranges l w s v L K e. other-done ix m s₀.args.postings.now s₀.args.positions.now s₀.args.norms.now s₀.args.doc L (λ i. omega (arith, c.shared_slice_known-3-1.given i)) s₀.args.inverses.now n ranges _ w s v s₀.args.st.now e (read s₀.args.st.now v s n e c.node_at-n.ensures) l K (λ e. c.in_default.not-Term (c.from.ensures ∙ ap kind_of e)) (λ e. c.in_default.not-Phrase (c.from.ensures ∙ ap kind_of e)) _ zero-32
-
 pub bounds-st-0 : goal.bounds-st-0
 bounds-st-0 c = let p = c.requires.1 in omega (arith, words_long _ p.5 p.4 p.8)
+
+pub term_frequency-frequency-requires : goal.term_frequency-frequency-requires
+term_frequency-frequency-requires c =
+    let a = c.args in
+    let r = a.reader.now in
+    let p = c.requires.1 in
+    term-run p.0 c.requires.0 r.postings.now r.positions.now r.norms.now a.doc p.6 r.inverses.now _ p.1 _ p.3 p.4 p.5 a.st.now p.8 (read a.st.now p.5 p.4 _ p.8 c.node_at-n.ensures) p.2 p.7 (term-word _ (sym c.in-Term.ensures))
+
+pub phrase_frequency-frequency-requires : goal.phrase_frequency-frequency-requires
+phrase_frequency-frequency-requires c =
+    let a = c.args in
+    let r = a.reader.now in
+    let p = c.requires.1 in
+    let q = phrase-asks p.0 c.requires.0 r.postings.now r.positions.now r.norms.now a.doc p.6 r.inverses.now _ p.1 _ p.3 p.4 p.5 a.st.now p.8 (read a.st.now p.5 p.4 _ p.8 c.node_at-n.ensures) p.2 p.7 (phrase-word _ (sym c.in-Phrase.ensures)) in
+    (few-documents p.0 c.requires.0 r.postings.now r.positions.now r.norms.now a.doc p.6, (p.0, places_in a.buffers.now, q.0, q.1, p.4, p.5, omega arith, omega arith, q.2, q.3))
+
+pub returns-in_default-clause-leaf_post : goal.returns-in_default-clause-leaf_post
+returns-in_default-clause-leaf_post c =
+    let a = c.args in
+    let r = a.reader.now in
+    λ m ix ranges l w s v L p e. other-done ix m r.postings.now r.positions.now r.norms.now a.doc L r.inverses.now _ ranges _ w s v a.st.now e (read a.st.now v s _ e c.node_at-n.ensures) l p (λ k. c.in_default.not-Term (c.from.ensures ∙ ap kind_of k)) (λ k. c.in_default.not-Phrase (c.from.ensures ∙ ap kind_of k)) _ zero-32
+
+pub norm_byte-requires : goal.norm_byte-requires
+norm_byte-requires c =
+    let a = c.args in
+    let r = a.reader.now in
+    let p = c.requires.1 in
+    counted-byte p.0 c.requires.0 r.postings.now r.positions.now r.norms.now a.doc p.6 r.inverses.now _ p.1 p.2 p.3 p.4 _ _ (counted c c.requires.0 p.0 p.1 p.2 p.3 p.4 p.5 p.6 p.7 p.8)
+
+pub score-requires : goal.score-requires
+score-requires c =
+    let a = c.args in
+    let r = a.reader.now in
+    let p = c.requires.1 in
+    let q = counted-weighs p.0 c.requires.0 r.postings.now r.positions.now r.norms.now a.doc p.6 c.norm_byte.ensures.bytes r.inverses.now _ p.1 p.2 p.3 p.4 _ _ (counted (goal.at.score-requires c).After-norm_byte-arg-1 c.requires.0 p.0 p.1 p.2 p.3 p.4 p.5 p.6 p.7 p.8) in
+    record { frequency_bound = (q.frequency-few, (q.number, q.field-few)); norm_in_bounds = rw c.norm_byte.ensures.byte q.inverse-there }
+
+pub returns-clause-leaf_post : goal.returns-clause-leaf_post
+returns-clause-leaf_post c =
+    let a = c.args in
+    let r = a.reader.now in
+    λ m ix ranges l w s v L p e. counted-done ix m r.postings.now r.positions.now r.norms.now a.doc L c.norm_byte.ensures.bytes r.inverses.now c.node_at-n.result ranges l w s _ _ (counted (goal.at.returns-clause-leaf_post c).After-norm_byte-arg-1 m ix ranges l w s v L p e) _ (rw (← c.norm_byte.ensures.byte) c.score.ensures)

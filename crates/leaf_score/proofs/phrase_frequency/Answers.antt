@@ -47,8 +47,8 @@ bounds-st-16 c = let p = c.requires in omega (arith, words_long _ p.1.5 p.1.4 p.
 pub bounds-st-17 : goal.bounds-st-17
 bounds-st-17 c = let p = c.requires in omega (arith, words_long _ p.1.5 p.1.4 p.1.8.words)
 
-pub returns-then-wide : goal.returns-then-wide
-returns-then-wide c = same-there c.args.st.now c.args.postings.now c.args.positions.now c.args.doc (sym c.wide.ensures ∙ c.if-wide.true ∙ ap (λ (i : ℕ). i + 1) c.wide-2.ensures)
+pub returns-then-wide-clause-frequency_post : goal.returns-then-wide-clause-frequency_post
+returns-then-wide-clause-frequency_post c = same-there c.args.st.now c.args.reader.now.postings.now c.args.reader.now.positions.now c.args.doc (sym c.wide.ensures ∙ c.if-wide.true ∙ ap (λ (i : ℕ). i + 1) c.wide-2.ensures)
 
 pub seek_phrase-d-requires : goal.seek_phrase-d-requires
 seek_phrase-d-requires c = let p = c.requires in (top _ p.0, (p.1.0, p.1.1, p.1.2, p.1.3, p.1.4, p.1.5, p.1.6, p.1.7, p.1.8))
@@ -56,5 +56,5 @@ seek_phrase-d-requires c = let p = c.requires in (top _ p.0, (p.1.0, p.1.1, p.1.
 pub bounds-st-17-2 : goal.bounds-st-17-2
 bounds-st-17-2 c = let p = c.requires in omega (arith, words_long _ p.1.5 p.1.4 p.1.8.words, c.seek_phrase-d.auto.st)
 
-pub returns : goal.returns
-returns c = worked-out-now c.args.st.now c.seek_phrase-d.new.st c.args.postings.now c.args.positions.now c.args.doc c.seek_phrase-d.result c.requires.0 c.seek_phrase-d.ensures
+pub returns-clause-frequency_post : goal.returns-clause-frequency_post
+returns-clause-frequency_post c = worked-out-now c.args.st.now c.seek_phrase-d.new.st c.args.reader.now.postings.now c.args.reader.now.positions.now c.args.doc c.seek_phrase-d.result c.requires.0 c.seek_phrase-d.ensures.phrase_post

@@ -5,7 +5,7 @@ use mathlib.Core.Logic.{⊎_elim}
 use native.Mathlib.Omega.{arith}
 use native.Mathlib.Nat.{eq-or-lt_of_le}
 use borrow.Author.Count.{below_more}
-use Rattle.index.specs.Runs.{posting_document, posting_frequency}
+use Rattle.index.specs.Runs.{posting_frequency}
 use Rattle.meaning.proofs.Tests.{cmp}
 use Rattle.leaf_score.proofs.term_frequency.Goals as goal
 

@@ -14,20 +14,20 @@ bounds-st-0 c = let s = c in let P = s.requires.1 in omega (arith, seek-long (le
 pub search_postings-requires : goal.search_postings-requires
 search_postings-requires c = let s = c in let P = s.requires.1 in let z : length s.args.reader.now.postings.now < 9223372036854775808 = omega (arith, s.well_formed) in seek-term-pre (lent_of s.args.reader.now) s.args.st.now s.args.target (term-word _ (sym c.in-Term.ensures)) z P.0 P.1 P.2 P.3 P.4 P.6
 
-pub returns-in-Term : goal.returns-in-Term
-returns-in-Term c = let s = c in let z : length s.args.reader.now.postings.now < 9223372036854775808 = omega (arith, s.well_formed) in let g = c.search_postings in seek-term-done (lent_of s.args.reader.now) s.args.st.now s.args.target (term-word _ (sym c.in-Term.ensures)) z s.requires.0 g.result g.new.st g.ensures
+pub returns-in-Term-clause-leaf_post : goal.returns-in-Term-clause-leaf_post
+returns-in-Term-clause-leaf_post c = let s = c in let z : length s.args.reader.now.postings.now < 9223372036854775808 = omega (arith, s.well_formed) in let g = c.search_postings in seek-term-done (lent_of s.args.reader.now) s.args.st.now s.args.target (term-word _ (sym c.in-Term.ensures)) z s.requires.0 g.result g.new.st g.ensures
 
 pub seek_phrase-requires : goal.seek_phrase-requires
 seek_phrase-requires c = let s = c in let P = s.requires.1 in let n = seek-phrase-pre (lent_of s.args.reader.now) s.args.st.now s.args.target (phrase-word _ (sym c.in-Phrase.ensures)) P.0 P.1 P.2 P.3 P.4 P.6 in (s.requires.0, (P.0, P.1, n.0, n.1, P.3, P.4, P.5.in-a, P.5.in_b, n.2))
 
-pub returns-in-Phrase : goal.returns-in-Phrase
-returns-in-Phrase c = let s = c in let g = c.seek_phrase in seek-phrase-done (lent_of s.args.reader.now) s.args.st.now s.args.target (phrase-word _ (sym c.in-Phrase.ensures)) g.result g.new.st g.ensures
+pub returns-in-Phrase-clause-leaf_post : goal.returns-in-Phrase-clause-leaf_post
+returns-in-Phrase-clause-leaf_post c = let s = c in let g = c.seek_phrase in seek-phrase-done (lent_of s.args.reader.now) s.args.st.now s.args.target (phrase-word _ (sym c.in-Phrase.ensures)) g.result g.new.st g.ensures.phrase_post
 
 pub seek_range-requires : goal.seek_range-requires
 seek_range-requires c = let s = c in let P = s.requires.1 in seek-range-pre (lent_of s.args.reader.now) s.args.st.now s.args.target (range-word _ (sym c.in-Range.ensures)) P.0 P.1 P.2 P.3 P.4 P.6
 
-pub returns-in-Range : goal.returns-in-Range
-returns-in-Range c = let s = c in let g = c.seek_range in seek-range-done (lent_of s.args.reader.now) s.args.st.now s.args.target (range-word _ (sym c.in-Range.ensures)) s.requires.0 g.result g.ensures
+pub returns-in-Range-clause-leaf_post : goal.returns-in-Range-clause-leaf_post
+returns-in-Range-clause-leaf_post c = let s = c in let g = c.seek_range in seek-range-done (lent_of s.args.reader.now) s.args.st.now s.args.target (range-word _ (sym c.in-Range.ensures)) s.requires.0 g.result g.ensures
 
-pub returns-in_default : goal.returns-in_default
-returns-in_default c = let s = c in let g = c.everything in seek-any-done (lent_of s.args.reader.now) s.args.st.now s.args.target (λ e. c.in_default.not-Term (c.from.ensures ∙ ap kind_of e)) (λ e. c.in_default.not-Phrase (c.from.ensures ∙ ap kind_of e)) (λ e. c.in_default.not-Range (c.from.ensures ∙ ap kind_of e)) s.requires.0 g.result g.ensures
+pub returns-in_default-clause-leaf_post : goal.returns-in_default-clause-leaf_post
+returns-in_default-clause-leaf_post c = let s = c in let g = c.everything in seek-any-done (lent_of s.args.reader.now) s.args.st.now s.args.target (λ e. c.in_default.not-Term (c.from.ensures ∙ ap kind_of e)) (λ e. c.in_default.not-Phrase (c.from.ensures ∙ ap kind_of e)) (λ e. c.in_default.not-Range (c.from.ensures ∙ ap kind_of e)) s.requires.0 g.result g.ensures

@@ -1,6 +1,5 @@
 use Rattle.leaf_scorer.proofs.PhraseLaws.{moved-start, moved-long, leapt-behind, moved-terms, moved-leapt, moved_later, moved-worked, stored_at, held-there, held-frequency, phrase-top, phrase-hit, phrase-more}
-use Rattle.leaf_scorer.proofs.Loops.{going_start}
-use Rattle.leaf_scorer.proofs.Loops.{back-length}
+use Rattle.leaf_scorer.proofs.Loops.{same_refl, same_then, going_start, back-length}
 use Rattle.meaning.specs.Limits.{no_more_docs, node_state_words}
 use lib.ListN.{length, take, drop, length-set}
 use native.Mathlib.Omega.{arith}
@@ -10,7 +9,7 @@ use Prim.Native.Nat.{◌+◌, ◌-◌, ◌<◌}
 use Rattle.leaf_scorer.proofs.seek_phrase.Goals as goal
 
 pub loop-target-init : goal.loop-target-init
-loop-target-init c = let s = c in (record { kids-same = refl; a-same = refl; b-same = refl }, s.requires.0, λ ix p f ts v w h. going_start (moved-start h))
+loop-target-init c = let s = c in (record { kids-same = refl; buffers-same = same_refl _ }, s.requires.0, λ ix p f ts v w h. going_start (moved-start h))
 
 pub slice_bounds-leapfrog-count : goal.slice_bounds-leapfrog-count
 slice_bounds-leapfrog-count c = let s = c in let P = s.requires.1 in let a = c.loop-target in let i = a.invariant.2 P.0 P.1 P.2 P.3 P.4 P.5 P.8 in moved-long i.held
@@ -24,8 +23,8 @@ slice_bounds-leapfrog-end c = let s = c in let P = s.requires.1 in let a = c.loo
 pub leapfrog-d-requires : goal.leapfrog-d-requires
 leapfrog-d-requires c = let s = c in let P = s.requires.1 in let a = c.loop-target in let i = a.invariant.2 P.0 P.1 P.2 P.3 P.4 P.5 P.8 in (a.invariant.1, (P.0, P.3, moved-terms i.held P.8.accepted P.8.postings-are (held-there P.8)))
 
-pub returns-then-d-eq-NO_MORE_DOCS : goal.returns-then-d-eq-NO_MORE_DOCS
-returns-then-d-eq-NO_MORE_DOCS c = let a = c.loop-target in let g = c.leapfrog-d in λ ix p f ts v w h. let i = a.invariant.2 ix p f ts v w h in let q = g.ensures ix ts (moved-terms i.held h.accepted h.postings-are (held-there h)) in (phrase-top i.lo i.before q c.if-d-eq-NO_MORE_DOCS.true, moved-leapt i.held g.result g.new.terms q.are, λ k. absurd (omega (arith, c.if-d-eq-NO_MORE_DOCS.true)))
+pub returns-then-d-eq-NO_MORE_DOCS-clause-phrase_post : goal.returns-then-d-eq-NO_MORE_DOCS-clause-phrase_post
+returns-then-d-eq-NO_MORE_DOCS-clause-phrase_post c = let a = c.loop-target in let g = c.leapfrog-d in λ ix p f ts v w h. let i = a.invariant.2 ix p f ts v w h in let q = g.ensures ix ts (moved-terms i.held h.accepted h.postings-are (held-there h)) in (phrase-top i.lo i.before q c.if-d-eq-NO_MORE_DOCS.true, moved-leapt i.held g.result g.new.terms q.are, λ k. absurd (omega (arith, c.if-d-eq-NO_MORE_DOCS.true)))
 
 pub slice_bounds-frequency-count : goal.slice_bounds-frequency-count
 slice_bounds-frequency-count c = let s = c in let P = s.requires.1 in let a = c.loop-target in let i = a.invariant.2 P.0 P.1 P.2 P.3 P.4 P.5 P.8 in let g = c.leapfrog-d in let q = g.ensures P.0 P.3 (moved-terms i.held P.8.accepted P.8.postings-are (held-there P.8)) in let m = moved-leapt i.held g.result g.new.terms q.are in moved-long m
@@ -46,7 +45,7 @@ pub loop-target-smaller : goal.loop-target-smaller
 loop-target-smaller c = let s = c in let P = s.requires.1 in let a = c.loop-target in let i = a.invariant.2 P.0 P.1 P.2 P.3 P.4 P.5 P.8 in let g = c.leapfrog-d in let q = g.ensures P.0 P.3 (moved-terms i.held P.8.accepted P.8.postings-are (held-there P.8)) in let d : g.result < no_more_docs = omega (arith, q.top, c.if-d-eq-NO_MORE_DOCS.false) in omega (arith, q.from)
 
 pub loop-target-preserved : goal.loop-target-preserved
-loop-target-preserved c = let s = c in let P = s.requires.1 in let a = c.loop-target in let i = a.invariant.2 P.0 P.1 P.2 P.3 P.4 P.5 P.8 in let g = c.leapfrog-d in let x = c.frequency-n in let q = g.ensures P.0 P.3 (moved-terms i.held P.8.accepted P.8.postings-are (held-there P.8)) in let d : g.result < no_more_docs = omega (arith, q.top, c.if-d-eq-NO_MORE_DOCS.false) in (record { kids-same = back-length a.st g.new.terms node_state_words (length a.st) g.auto.terms ∙ a.invariant.0.kids-same; a-same = x.auto.a ∙ a.invariant.0.a-same; b-same = x.auto.b ∙ a.invariant.0.b-same }, omega arith, λ ix p f ts v w h. let i = a.invariant.2 ix p f ts v w h in let q = g.ensures ix ts (moved-terms i.held h.accepted h.postings-are (held-there h)) in let m = moved-leapt i.held g.result g.new.terms q.are in let e = x.ensures ix p f ts g.result (held-frequency h g.result _ (rw (leapt-behind i.held g.new.terms _ refl) (q.stand d))) in record { lo = omega (arith, i.lo, q.from); before = phrase-more i.lo i.before q x.result e c.if-n-eq0.true; held = moved_later m (g.result + 1) (omega arith) })
+loop-target-preserved c = let s = c in let P = s.requires.1 in let a = c.loop-target in let i = a.invariant.2 P.0 P.1 P.2 P.3 P.4 P.5 P.8 in let g = c.leapfrog-d in let x = c.frequency-n in let q = g.ensures P.0 P.3 (moved-terms i.held P.8.accepted P.8.postings-are (held-there P.8)) in let d : g.result < no_more_docs = omega (arith, q.top, c.if-d-eq-NO_MORE_DOCS.false) in (record { kids-same = back-length a.st g.new.terms node_state_words (length a.st) g.auto.terms ∙ a.invariant.0.kids-same; buffers-same = same_then a.invariant.0.buffers-same x.ensures.same_buffers }, omega arith, λ ix p f ts v w h. let i = a.invariant.2 ix p f ts v w h in let q = g.ensures ix ts (moved-terms i.held h.accepted h.postings-are (held-there h)) in let m = moved-leapt i.held g.result g.new.terms q.are in let e = x.ensures.frequency_post ix p f ts g.result (held-frequency h g.result _ (rw (leapt-behind i.held g.new.terms _ refl) (q.stand d))) in record { lo = omega (arith, i.lo, q.from); before = phrase-more i.lo i.before q x.result e c.if-n-eq0.true; held = moved_later m (g.result + 1) (omega arith) })
 
 pub overflow_add-st : goal.overflow_add-st
 overflow_add-st c = let s = c in let P = s.requires.1 in let a = c.loop-target in let i = a.invariant.2 P.0 P.1 P.2 P.3 P.4 P.5 P.8 in let g = c.leapfrog-d in let q = g.ensures P.0 P.3 (moved-terms i.held P.8.accepted P.8.postings-are (held-there P.8)) in omega (arith, q.top)
@@ -57,5 +56,5 @@ bounds-st-16 c = let s = c in let P = s.requires.1 in let a = c.loop-target in l
 pub bounds-st-17 : goal.bounds-st-17
 bounds-st-17 c = let s = c in let P = s.requires.1 in let a = c.loop-target in let i = a.invariant.2 P.0 P.1 P.2 P.3 P.4 P.5 P.8 in let g = c.leapfrog-d in let q = g.ensures P.0 P.3 (moved-terms i.held P.8.accepted P.8.postings-are (held-there P.8)) in let m = moved-leapt i.held g.result g.new.terms q.are in let y = take node_state_words a.st ++ (g.new.terms ++ drop (length a.st - node_state_words) (drop node_state_words a.st)) in omega (arith, moved-long m, length-set y 16 (g.result + 1))
 
-pub returns-else-n-eq0 : goal.returns-else-n-eq0
-returns-else-n-eq0 c = let s = c in let P = s.requires.1 in let a = c.loop-target in let i = a.invariant.2 P.0 P.1 P.2 P.3 P.4 P.5 P.8 in let g = c.leapfrog-d in let x = c.frequency-n in let q = g.ensures P.0 P.3 (moved-terms i.held P.8.accepted P.8.postings-are (held-there P.8)) in let d : g.result < no_more_docs = omega (arith, q.top, c.if-d-eq-NO_MORE_DOCS.false) in λ ix p f ts v w h. let i = a.invariant.2 ix p f ts v w h in let q = g.ensures ix ts (moved-terms i.held h.accepted h.postings-are (held-there h)) in let m = moved-leapt i.held g.result g.new.terms q.are in let e = x.ensures ix p f ts g.result (held-frequency h g.result _ (rw (leapt-behind i.held g.new.terms _ refl) (q.stand d))) in (phrase-hit i.lo i.before q x.result e c.if-n-eq0.false, moved-worked m x.result e, λ k. stored_at (take node_state_words a.st ++ (g.new.terms ++ drop (length a.st - node_state_words) (drop node_state_words a.st))) (g.result + 1) x.result (moved-long m))
+pub returns-else-n-eq0-clause-phrase_post : goal.returns-else-n-eq0-clause-phrase_post
+returns-else-n-eq0-clause-phrase_post c = let s = c in let P = s.requires.1 in let a = c.loop-target in let i = a.invariant.2 P.0 P.1 P.2 P.3 P.4 P.5 P.8 in let g = c.leapfrog-d in let x = c.frequency-n in let q = g.ensures P.0 P.3 (moved-terms i.held P.8.accepted P.8.postings-are (held-there P.8)) in let d : g.result < no_more_docs = omega (arith, q.top, c.if-d-eq-NO_MORE_DOCS.false) in λ ix p f ts v w h. let i = a.invariant.2 ix p f ts v w h in let q = g.ensures ix ts (moved-terms i.held h.accepted h.postings-are (held-there h)) in let m = moved-leapt i.held g.result g.new.terms q.are in let e = x.ensures.frequency_post ix p f ts g.result (held-frequency h g.result _ (rw (leapt-behind i.held g.new.terms _ refl) (q.stand d))) in (phrase-hit i.lo i.before q x.result e c.if-n-eq0.false, moved-worked m x.result e, λ k. stored_at (take node_state_words a.st ++ (g.new.terms ++ drop (length a.st - node_state_words) (drop node_state_words a.st))) (g.result + 1) x.result (moved-long m))

@@ -1,7 +1,8 @@
 -- The cycle's measures, and what its loops keep.
-use Prim.Native.Nat.{min, ◌+◌, ◌-◌, ◌*◌}
+use Prim.Native.Nat.{◌+◌, ◌-◌, ◌*◌}
 use lib.ListN.{length}
 use mathlib.Core.Path.{◌≡◌}
+use Rattle.leaf_scorer.specs.Buffers.{places_in, SameBuffers}
 use Rattle.score.proofs.Loops.{RequiredAt, OptionalAt}
 use Rattle.score.proofs.+joined_optional_required_score.Given as goal
 
@@ -18,13 +19,23 @@ abbrev pub decreases-score : goal.decreases-score
 decreases-score l = l.depth * 8 + 1
 
 abbrev pub invariant-optional-loop-at : goal.invariant-optional-loop-at
-invariant-optional-loop-at l = (length l.kids ≡ length l.initial.kids) × (length l.a ≡ length l.initial.a) × (length l.b ≡ length l.initial.b) × OptionalAt l.initial.kids l.reader l.inverses (min (length l.initial.a) (length l.initial.b)) l.doc l.depth l.kids l.at l.sum
+invariant-optional-loop-at l =
+    record {
+      long : length l.kids ≡ length l.initial.kids;
+      same_buffers : SameBuffers l.initial.buffers l.buffers;
+      sum : OptionalAt l.initial.kids l.reader (places_in l.initial.buffers) l.doc l.depth l.kids l.at l.sum;
+    }
 
 abbrev pub decreases-optional-loop-at : goal.decreases-optional-loop-at
 decreases-optional-loop-at l = length l.kids - l.at
 
 abbrev pub invariant-required-loop-at : goal.invariant-required-loop-at
-invariant-required-loop-at l = (length l.kids ≡ length l.initial.kids) × (length l.a ≡ length l.initial.a) × (length l.b ≡ length l.initial.b) × RequiredAt l.initial.kids l.start l.reader l.inverses (min (length l.initial.a) (length l.initial.b)) l.doc l.depth l.kids l.at l.sum
+invariant-required-loop-at l =
+    record {
+      long : length l.kids ≡ length l.initial.kids;
+      same_buffers : SameBuffers l.initial.buffers l.buffers;
+      sum : RequiredAt l.initial.kids l.start l.reader (places_in l.initial.buffers) l.doc l.depth l.kids l.at l.sum;
+    }
 
 abbrev pub decreases-required-loop-at : goal.decreases-required-loop-at
 decreases-required-loop-at l = length l.kids - l.at
