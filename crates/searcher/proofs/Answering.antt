@@ -1,11 +1,12 @@
 -- What Search and Page answer and leave in their outputs, refused or not. Assumes nothing.
-use mathlib.Core.Path.{◌≡◌, ap, ◌∙◌}
+use mathlib.Core.Path.{◌≡◌, refl, ap, ◌∙◌, subst}
 use mathlib.Core.List.{List, [], ◌∷◌, ◌++◌, map}
-use Prim.Native.Nat.{ℕ, ◌≤◌, ◌<◌}
+use Prim.Native.Nat.{ℕ, ◌≤◌}
 use native.Mathlib.Omega.{arith}
 use lib.ListN.{length, take, drop, length-take}
 use lib.IntN.{ℤ}
 use lib.Ieee.{binary32, to_bits}
+use Rattle.meaning.specs.Limits.{no_more_docs}
 use Rattle.meaning.specs.Lent.{Index}
 use Rattle.meaning.specs.Query.{query_tree}
 use Rattle.meaning.specs.FullList.{full_list}
@@ -21,7 +22,12 @@ use Rattle.std.specs.Prelude.{Result, Ok, Err}
 use Rattle.refusal.specs.declared.Refusal.{Refusal}
 use Rattle.refusal.specs.Numbers.{number_of}
 use Rattle.order_check.proofs.Answered.{number-above}
+use Rattle.order_check.proofs.CallConditions.{Searches, search-lends, Pages, page-lends}
+use Rattle.node_state.specs.Standing.{Standing}
 use Rattle.searcher.specs.Answers.{searched_numbers, paged_numbers, used}
+use Rattle.searcher.specs.declared.buffers.Buffers.{Buffers}
+use Rattle.searcher.specs.WorkBuffers.{lengths_of, KeptBuffers, SameBuffers}
+use Rattle.searcher.proofs.Preparing.{untouched, not-kept, unmoved}
 use Rattle.meaning.proofs.Lowest.{answered-refused, answered-accepted}
 
 -- a call uses no more records than there are
@@ -30,30 +36,60 @@ used-least (Err _) n = omega arith
 used-least (Ok _) n = omega arith
 
 -- ---- Search
-module _ (ix : Index) (q : List ℕ) (k t : ℕ) (w : Work) (buffer : List ℤ) where
-  pub search-refused : (s : Refusal) (a : Result TopDocs Refusal) → a ≡ Err s → number_of s ≡ search_refusal ix q k w (length buffer) → (searched_numbers a ≡ search_answer ix q k t w (length buffer)) × (buffer ≡ search_hits ix q k w buffer)
+module _ (ix : Index) (q : List ℕ) (k t : ℕ) (b : Buffers) (buffer : List ℤ) where
+  abbrev found : ℕ
+  found = search_refusal ix q k (lengths_of b) (length buffer)
+
+  -- what a call promises
+  abbrev pub Searched : Buffers → List ℤ → Result TopDocs Refusal → Type 0
+  Searched b' buffer' r = record {
+    result_value : searched_numbers r ≡ search_answer ix q k t (lengths_of b) (length buffer);
+    hits_after : buffer' ≡ search_hits ix q k (lengths_of b) buffer;
+    kept : KeptBuffers found b b';
+    standing : found ≡ 0 → Standing ix q b'.ranges.now b'.states.now no_more_docs;
+    same_buffers : SameBuffers b b';
+  }
+
+  pub search-refused : (w : Work) → w ≡ lengths_of b → (s : Refusal) → number_of s ≡ search_refusal ix q k w (length buffer) → (a : Result TopDocs Refusal) → a ≡ Err s → Searched b buffer a
   unfolding searched_numbers search_answer search_hits
-  search-refused s a f e =
+  search-refused w same s e a f =
       let h = number-above s in
-      rw (f, ← e) (answered-refused (top_docs k t (full_list ix (query_tree q))) (λ n. n ∷ []) (number_of s) h, answered-refused (written (hits k (full_list ix (query_tree q))) buffer) (λ n. buffer) (number_of s) h)
+      let e = e ∙ ap (λ (v : Work). search_refusal ix q k v (length buffer)) same in
+      record {
+        result_value = rw (f, ← e) (answered-refused (top_docs k t (full_list ix (query_tree q))) (λ n. n ∷ []) (number_of s) h);
+        hits_after = rw (← e) (answered-refused (written (hits k (full_list ix (query_tree q))) buffer) (λ n. buffer) (number_of s) h);
+        kept = untouched _ b;
+        standing = λ z. absurd (h (e ∙ z));
+        same_buffers = unmoved b;
+      }
 
-module _ (ix : Index) (q : List ℕ) (k t : ℕ) (w : Work) (buffer : List ℤ) (r : ℕ) (e : r ≡ search_refusal ix q k w (length buffer)) where
-  pub search-not-refused : r ≡ 0 → 0 < search_refusal ix q k w (length buffer) → ⊥
-  search-not-refused z h = omega (arith, e, z, h)
+  module _ (w : Work) (same : w ≡ lengths_of b) (e : 0 ≡ search_refusal ix q k w (length buffer)) where
+    accepted : 0 ≡ found
+    accepted = e ∙ ap (λ (v : Work). search_refusal ix q k v (length buffer)) same
 
-  -- the hits stand in the first k places
-  pub search-found : r ≡ 0 → k ≤ length buffer → (top : TopDocs) (out : List ℤ) → (top ≡ answer (length (take k buffer)) t (full_list ix (query_tree q))) × (out ≡ written (hits (length (take k buffer)) (full_list ix (query_tree q))) (take k buffer)) → (searched_numbers (Ok top) ≡ search_answer ix q k t w (length buffer)) × (out ++ drop k buffer ≡ search_hits ix q k w buffer)
-  unfolding searched_numbers search_answer search_hits
-  search-found z l top out f =
-      let n : length (take k buffer) ≡ k = length-take k buffer ∙ omega arith in
-      let list = full_list ix (query_tree q) in
-      rw (← e) (
-        ap numbers (f.0 ∙ ap (λ (i : ℕ). answer i t list) n) ∙ answered-accepted (top_docs k t list) (λ n. n ∷ []) r z,
-        ap (λ (o : List ℤ). o ++ drop k buffer) (f.1 ∙ ap (λ (i : ℕ). written (hits i list) (take k buffer)) n) ∙ written-part k list buffer l ∙ answered-accepted (written (hits k list) buffer) (λ n. buffer) r z,
-      )
+    pub search-known : Searches ix q k (lengths_of b) (length buffer)
+    search-known = search-lends ix q k (lengths_of b) (length buffer) 0 accepted refl
+
+    -- the hits stand in the first k places
+    pub search-found : (b' : Buffers) → SameBuffers b b' → Standing ix q b'.ranges.now b'.states.now no_more_docs → (top : TopDocs) (out : List ℤ) → top ≡ answer (length (take k buffer)) t (full_list ix (query_tree q)) → out ≡ written (hits (length (take k buffer)) (full_list ix (query_tree q))) (take k buffer) → Searched b' (out ++ drop k buffer) (Ok top)
+    unfolding searched_numbers search_answer search_hits
+    search-found b' s stands top out f g =
+        let l = search-known.room in
+        let n : length (take k buffer) ≡ k = length-take k buffer ∙ omega arith in
+        let list = full_list ix (query_tree q) in
+        record {
+          result_value = rw (← accepted) (ap numbers (f ∙ ap (λ (i : ℕ). answer i t list) n) ∙ answered-accepted (top_docs k t list) (λ n. n ∷ []) 0 refl);
+          hits_after = rw (← accepted) (ap (λ (o : List ℤ). o ++ drop k buffer) (g ∙ ap (λ (i : ℕ). written (hits i list) (take k buffer)) n) ∙ written-part k list buffer l ∙ answered-accepted (written (hits k list) buffer) (λ n. buffer) 0 refl);
+          kept = not-kept _ b b' (λ h. omega (arith, h, accepted));
+          standing = λ z. stands;
+          same_buffers = s;
+        }
 
 -- ---- Page
-module _ (ix : Index) (q : List ℕ) (target : ℕ) (w : Work) (docs bits : List ℕ) where
+module _ (ix : Index) (q : List ℕ) (target : ℕ) (b : Buffers) (docs bits : List ℕ) where
+  abbrev refused : ℕ
+  refused = page_refusal ix q target (lengths_of b) (length docs) (length bits)
+
   abbrev docs-given : List ℕ
   docs-given = written (map (λ h. h.doc) (page_of ix q target (length docs)).given) docs
 
@@ -63,21 +99,46 @@ module _ (ix : Index) (q : List ℕ) (target : ℕ) (w : Work) (docs bits : List
   abbrev given : List ℕ
   given = 0 ∷ length (page_of ix q target (length docs)).given ∷ (page_of ix q target (length docs)).next ∷ []
 
-  pub page-refused : (s : Refusal) (a : Result Listed Refusal) → a ≡ Err s → number_of s ≡ page_refusal ix q target w (length docs) (length bits) → (paged_numbers a ≡ page_answer ix q target w (length docs) (length bits)) × (docs ≡ page_documents ix q target w docs bits) × (bits ≡ page_scores ix q target w docs bits)
+  -- what a call promises
+  abbrev pub Paged : Buffers → List ℕ → List ℕ → Result Listed Refusal → Type 0
+  Paged b' docs' bits' r = record {
+    result_value : paged_numbers r ≡ page_answer ix q target (lengths_of b) (length docs) (length bits);
+    documents_after : docs' ≡ page_documents ix q target (lengths_of b) docs bits;
+    scores_after : bits' ≡ page_scores ix q target (lengths_of b) docs bits;
+    kept : KeptBuffers refused b b';
+    standing : refused ≡ 0 → Standing ix q b'.ranges.now b'.states.now (page_of ix q target (length docs)).next;
+    same_buffers : SameBuffers b b';
+  }
+
+  pub page-refused : (w : Work) → w ≡ lengths_of b → (s : Refusal) → number_of s ≡ page_refusal ix q target w (length docs) (length bits) → (a : Result Listed Refusal) → a ≡ Err s → Paged b docs bits a
   unfolding paged_numbers page_answer page_documents page_scores
-  page-refused s a f e =
+  page-refused w same s e a f =
       let h = number-above s in
-      rw (f, ← e) (answered-refused given (λ n. n ∷ []) (number_of s) h, answered-refused docs-given (λ n. docs) (number_of s) h, answered-refused bits-given (λ n. bits) (number_of s) h)
+      let e = e ∙ ap (λ (v : Work). page_refusal ix q target v (length docs) (length bits)) same in
+      record {
+        result_value = rw (f, ← e) (answered-refused given (λ n. n ∷ []) (number_of s) h);
+        documents_after = rw (← e) (answered-refused docs-given (λ n. docs) (number_of s) h);
+        scores_after = rw (← e) (answered-refused bits-given (λ n. bits) (number_of s) h);
+        kept = untouched _ b;
+        standing = λ z. absurd (h (e ∙ z));
+        same_buffers = unmoved b;
+      }
 
-  module _ (r : ℕ) (e : r ≡ page_refusal ix q target w (length docs) (length bits)) where
-    pub page-not-refused : r ≡ 0 → 0 < page_refusal ix q target w (length docs) (length bits) → ⊥
-    page-not-refused z h = omega (arith, e, z, h)
+  module _ (w : Work) (same : w ≡ lengths_of b) (e : 0 ≡ page_refusal ix q target w (length docs) (length bits)) where
+    pub page-accepted : 0 ≡ refused
+    page-accepted = e ∙ ap (λ (v : Work). page_refusal ix q target v (length docs) (length bits)) same
 
-    pub page-given : r ≡ 0 → (l : Listed) (docs' bits' : List ℕ) → PageIs (page_of ix q target (length docs)) docs bits l docs' bits' → (paged_numbers (Ok l) ≡ page_answer ix q target w (length docs) (length bits)) × (docs' ≡ page_documents ix q target w docs bits) × (bits' ≡ page_scores ix q target w docs bits)
+    pub page-known : Pages ix q target (lengths_of b) (length docs) (length bits)
+    page-known = page-lends ix q target (lengths_of b) (length docs) (length bits) 0 page-accepted refl
+
+    pub page-given : (b' : Buffers) → SameBuffers b b' → (l : Listed) → Standing ix q b'.ranges.now b'.states.now l.next → (docs' bits' : List ℕ) → PageIs (page_of ix q target (length docs)) docs bits l docs' bits' → Paged b' docs' bits' (Ok l)
     unfolding paged_numbers page_answer page_documents page_scores
-    page-given z l docs' bits' p =
-        rw (← e) (
-          ap (λ (i : ℕ). 0 ∷ i ∷ l.next ∷ []) p.given_is ∙ ap (λ (i : ℕ). 0 ∷ length (page_of ix q target (length docs)).given ∷ i ∷ []) p.next-is ∙ answered-accepted given (λ n. n ∷ []) r z,
-          p.documents-are ∙ answered-accepted docs-given (λ n. docs) r z,
-          p.scores-are ∙ answered-accepted bits-given (λ n. bits) r z,
-        )
+    page-given b' s l stands docs' bits' p =
+        record {
+          result_value = rw (← page-accepted) (ap (λ (i : ℕ). 0 ∷ i ∷ l.next ∷ []) p.given_is ∙ ap (λ (i : ℕ). 0 ∷ length (page_of ix q target (length docs)).given ∷ i ∷ []) p.next-is ∙ answered-accepted given (λ n. n ∷ []) 0 refl);
+          documents_after = rw (← page-accepted) (p.documents-are ∙ answered-accepted docs-given (λ n. docs) 0 refl);
+          scores_after = rw (← page-accepted) (p.scores-are ∙ answered-accepted bits-given (λ n. bits) 0 refl);
+          kept = not-kept _ b b' (λ h. omega (arith, h, page-accepted));
+          standing = λ z. subst (λ (i : ℕ). Standing ix q b'.ranges.now b'.states.now i) p.next-is stands;
+          same_buffers = s;
+        }
