@@ -40,6 +40,7 @@ fn write_top_docs(top: TopDocs, answer: &mut [u64])
     answer[2] = if top.mark { 1 } else { 0 };
 }
 
+// Kept: the C interface hands over each slice and number by itself, so its clauses name them one by one.
 pub fn lot_search(
     max_doc: u32,
     fields: &[u32],
@@ -98,6 +99,7 @@ pub fn lot_search(
     }
 }
 
+// Kept: the C interface hands over each slice and number by itself, so its clauses name them one by one.
 pub fn lot_page(
     max_doc: u32,
     fields: &[u32],

@@ -5,6 +5,7 @@ use refusal::Refusal;
 use token_writer::Outputs;
 use tokens::TokenRecords;
 
+// Kept: the C interface.
 pub fn lot_write_index(
     max_doc: u32,
     fields: &[u32],

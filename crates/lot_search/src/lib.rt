@@ -14,6 +14,7 @@ ghost use Rattle.index.specs.Slices.{lent};
 ghost use Rattle.order_check.specs.Lends.{work};
 ghost use Rattle.border.specs.Border.{border_search, border_page, border_pick, top_numbers, page_numbers};
 
+// Kept: the C interface.
 #[unsafe(no_mangle)]
 pub extern "C" fn lot_search(
     max_doc: u32,
@@ -49,6 +50,7 @@ pub extern "C" fn lot_search(
     )
 }
 
+// Kept: the C interface.
 #[unsafe(no_mangle)]
 pub extern "C" fn lot_page(
     max_doc: u32,

@@ -1,6 +1,7 @@
 // The token writer, as the functions of lib.rt.
 ghost use Rattle.border.specs.Write.{LotWritesIndex};
 
+// Kept: the C interface.
 #[unsafe(no_mangle)]
 pub extern "C" fn lot_write_index(
     max_doc: u32,

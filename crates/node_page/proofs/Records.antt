@@ -1,11 +1,11 @@
 -- Page on the words of as many states as an order can need, and on all records: the same answer, and the same tree. Assumes nothing.
 use mathlib.Core.Path.{◌≡◌, refl, sym, ap, ◌∙◌, subst}
-use mathlib.Core.List.{List, [], ◌∷◌, ◌++◌}
+use mathlib.Core.List.{List, ◌++◌}
 use mathlib.Core.Option.{none}
 use Prim.Native.Nat.{ℕ, ◌*◌, ◌≤◌, ◌<◌}
 use native.Mathlib.Omega.{arith}
 use lib.ListN.{length, take, drop}
-use lib.Seq.{take_at}
+use lib.Seq.{take_at, length-take-le}
 use lib.IntN.{ℤ}
 use Rattle.meaning.specs.Limits.{node_state_words}
 use Rattle.meaning.specs.Lent.{Index}
@@ -28,7 +28,7 @@ use Rattle.searcher.proofs.Fewer.{page-refusal-same, page-answer-by, page-docume
 use Rattle.node_words.specs.declared.state.NodeState.{NodeState}
 use Rattle.node_state.specs.Records.{record_words, held}
 use Rattle.node_state.specs.Standing.{Standing, tree_of}
-use Rattle.node_page.specs.Pages.{Pages, refusal_of, work_of}
+use Rattle.node_page.specs.Pages.{Packed, Pages, refusal_of, work_of}
 
 -- Page over these buffers
 pub page-told : (ix : Index) (q : List ℕ) (target : ℕ) (v v' : Buffers) (documents documents' scores scores' : List ℕ) (r : Result Listed Refusal) (states' : List ℕ) (a' b' : List ℤ) (ranges' : List ℕ) → states' ≡ v'.states.now → a' ≡ v'.starts.now → b' ≡ v'.other_starts.now → ranges' ≡ v'.ranges.now
@@ -70,25 +70,20 @@ module _ (ix : Index) (q : List ℕ) (target n long : ℕ) (nodes : List NodeSta
 
   -- `states'` are the words of the states afterwards, and `rest` those behind them
   module _ (nodes' : List NodeState) (states' rest : List ℕ) (a' b' : List ℤ) (ranges' documents' scores' : List ℕ) (after : length states' ≡ node_state_words * n) where
-    -- what `pack` gives on the first i records
-    abbrev pub Packed : ℕ → Type 0
-    Packed i = (record_words (take i nodes') ≡ take (node_state_words * i) (states' ++ rest)) × (drop i nodes' ≡ drop i nodes)
-
-    kept : (r : Result Listed Refusal) → paged_numbers r ≡ page_answer ix q target v (length documents) (length scores) → Packed (used r n) → Kept (page_refusal ix q target v (length documents) (length scores)) nodes nodes'
+    kept : (r : Result Listed Refusal) → paged_numbers r ≡ page_answer ix q target v (length documents) (length scores) → Packed nodes nodes' (states' ++ rest) (used r n) → Kept (page_refusal ix q target v (length documents) (length scores)) nodes nodes'
     unfolding paged_numbers page_answer
     kept (Err x) e p = λ z. p.1
     kept (Ok l) e p = λ z. absurd (found-several _ _ _ _ e z)
 
-    copied : (r : Result Listed Refusal) → paged_numbers r ≡ page_answer ix q target v (length documents) (length scores) → Packed (used r n) → page_refusal ix q target v (length documents) (length scores) ≡ 0 → record_words (take n nodes') ≡ states'
+    copied : (r : Result Listed Refusal) → paged_numbers r ≡ page_answer ix q target v (length documents) (length scores) → Packed nodes nodes' (states' ++ rest) (used r n) → page_refusal ix q target v (length documents) (length scores) ≡ 0 → record_words (take n nodes') ≡ states'
     unfolding paged_numbers page_answer
     copied (Err x) e p z = absurd (refused-alone _ (number_of x) _ _ e z)
     copied (Ok l) e p z = p.0 ∙ take_at states' rest (node_state_words * n) after
 
     -- the records that the call used were read from the words
-    pub on-records : (r : Result Listed Refusal) → Pages ix q target v documents documents' scores scores' a a' b b' ranges ranges' states' r → (i : ℕ) → i ≡ used r n → Packed i
+    pub on-records : (r : Result Listed Refusal) → Pages ix q target v documents documents' scores scores' a a' b b' ranges ranges' states' r → Packed nodes nodes' (states' ++ rest) (used r n)
         → Pages ix q target (work_of (length nodes) a b ranges) documents documents' scores scores' a a' b b' ranges ranges' (record_words nodes') r × Kept (refusal_of ix q target (length nodes) a b ranges documents scores) nodes nodes'
-    on-records r g i u packed =
-        let p = subst Packed u packed in
+    on-records r g p =
         let w = work_of (length nodes) a b ranges in
         let positive : 0 < refusal_of ix q target (length nodes) a b ranges documents scores → 0 < page_refusal ix q target v (length documents) (length scores) = λ h. subst (λ (z : ℕ). 0 < z) (sym same) h in (
           record {
@@ -102,3 +97,24 @@ module _ (ix : Index) (q : List ℕ) (target n long : ℕ) (nodes : List NodeSta
           },
           λ h. kept r g.numbers p (positive h),
         )
+
+-- a call on the words of the records
+pub over-records : (ix : Index) (q : List ℕ) (target : ℕ) (nodes nodes' : List NodeState) (a a' b b' : List ℤ) (ranges ranges' documents documents' scores scores' words states after : List ℕ) (r : Result Listed Refusal)
+    → node_state_words * held (length nodes) ≤ length words → states ≡ take (node_state_words * held (length nodes)) words → length after ≡ length states
+    → Pages ix q target (work (length states) (length a) (length b) (length ranges)) documents documents' scores scores' a a' b b' ranges ranges' after r
+    → Packed nodes nodes' (after ++ drop (node_state_words * held (length nodes)) words) (used r (held (length nodes)))
+    → Pages ix q target (work_of (length nodes) a b ranges) documents documents' scores scores' a a' b b' ranges ranges' (record_words nodes') r × Kept (refusal_of ix q target (length nodes) a b ranges documents scores) nodes nodes'
+over-records ix q target nodes nodes' a a' b b' ranges ranges' documents documents' scores scores' words states after r long e l g p =
+    let n = held (length nodes) in
+    let room : length states ≡ node_state_words * n = ap length e ∙ length-take-le (node_state_words * n) words long in
+    on-records ix q target n (length states) nodes a b ranges documents scores refl room nodes' after (drop (node_state_words * n) words) a' b' ranges' documents' scores' (l ∙ room) r g p
+
+-- what stands in the records stands in the words that were copied out
+pub states-stand : (ix : Index) (q : List ℕ) (target : ℕ) (nodes : List NodeState) (a b : List ℤ) (ranges documents scores words states : List ℕ)
+    → node_state_words * held (length nodes) ≤ length words → take (node_state_words * held (length nodes)) words ≡ record_words (take (held (length nodes)) nodes) → states ≡ take (node_state_words * held (length nodes)) words
+    → (refusal_of ix q target (length nodes) a b ranges documents scores ≡ 0 → Standing ix q ranges (record_words nodes) target)
+    → page_refusal ix q target (work (length states) (length a) (length b) (length ranges)) (length documents) (length scores) ≡ 0 → Standing ix q ranges states target
+states-stand ix q target nodes a b ranges documents scores words states long w e s =
+    let n = held (length nodes) in
+    let room : length states ≡ node_state_words * n = ap length e ∙ length-take-le (node_state_words * n) words long in
+    copied-out ix q target n (length states) nodes a b ranges documents scores refl room states (sym w ∙ sym e) refl s

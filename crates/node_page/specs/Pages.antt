@@ -1,5 +1,5 @@
 -- What Page gives on node states as words, and on their records. Assumes nothing: these are definitions.
-use Rattle.std.specs.Prelude.{◌≡◌, List, ℕ, ◌*◌, length, ℤ, Result}
+use Rattle.std.specs.Prelude.{◌≡◌, List, ℕ, ◌*◌, length, take, drop, ℤ, Result}
 use Rattle.meaning.specs.Limits.{node_state_words}
 use Rattle.meaning.specs.Lent.{Index}
 use Rattle.meaning.specs.CallRefusals.{Work}
@@ -8,6 +8,8 @@ use Rattle.order_check.specs.Lends.{work}
 use Rattle.walk.specs.declared.Listed.{Listed}
 use Rattle.refusal.specs.declared.Refusal.{Refusal}
 use Rattle.searcher.specs.Answers.{paged_numbers}
+use Rattle.node_words.specs.declared.state.NodeState.{NodeState}
+use Rattle.node_state.specs.Records.{record_words}
 use Rattle.node_state.specs.Standing.{Standing}
 
 -- the work buffers of a call, with so many records of node states
@@ -26,3 +28,7 @@ pub record Pages (ix : Index) (q : List ℕ) (target : ℕ) (w : Work) (document
   pub other-starts-kept : Kept (page_refusal ix q target w (length documents) (length scores)) b b'
   pub ranges-kept : Kept (page_refusal ix q target w (length documents) (length scores)) ranges ranges'
   pub standing : page_refusal ix q target w (length documents) (length scores) ≡ 0 → Standing ix q ranges' words' (page_of ix q target (length documents)).next
+
+-- the first n records are those of the words, and the others as they were
+abbrev pub Packed : List NodeState → List NodeState → List ℕ → ℕ → Type 0
+Packed nodes nodes' words n = (record_words (take n nodes') ≡ take (node_state_words * n) words) × (drop n nodes' ≡ drop n nodes)

@@ -1,13 +1,15 @@
 // Page over node states as records: the word form runs on the words of a local array, and the records are read from them.
 #![tactic(auto)]
 
-ghost use Rattle.std.specs.Prelude.{◌≡◌, length};
+ghost use Rattle.std.specs.Prelude.{◌≡◌, ◌≤◌, ◌*◌, ◌++◌, length, take, drop};
+ghost use Rattle.meaning.specs.Limits.{node_state_words};
 ghost use Rattle.meaning.specs.Entries.{Kept, page_refusal};
 ghost use Rattle.index.specs.IndexOf.{index_of};
 ghost use Rattle.order_check.specs.Lends.{work};
-ghost use Rattle.node_state.specs.Records.{record_words};
+ghost use Rattle.node_state.specs.Records.{record_words, held};
 ghost use Rattle.node_state.specs.Standing.{Standing};
-ghost use Rattle.node_page.specs.Pages.{Pages, refusal_of, work_of};
+ghost use Rattle.searcher.specs.Answers.{used};
+ghost use Rattle.node_page.specs.Pages.{Packed, Pages, refusal_of, work_of};
 
 use index::lent::Lent;
 use node_state::NodeState;
@@ -18,7 +20,7 @@ use walk::Listed;
 use weight::NODE_STATE_WORDS;
 
 // Page on words.
-// Kept: slices in the place of Buffers: tried, and where a struct lends a part of a local array the proof of what is in the array then did not close.
+// Kept: a function of its own, over slices: a `Buffers` made in the closure of `page_nodes` was tried, and its proof did not close: the borrow checker does not cover a field that stays lent beside another.
 fn page_words(
     lent: &Lent,
     query: &[u32],
@@ -42,6 +44,7 @@ fn page_words(
 }
 
 // The same from the tree that stands in the words.
+// Kept: as `page_words`, in the closure of `resume_nodes`.
 fn resume_words(
     lent: &Lent,
     query: &[u32],
@@ -65,7 +68,25 @@ fn resume_words(
     searcher::resume::resume(lent, query, target, &mut buffers, documents, scores)
 }
 
+// A call on the words of the records; the records that it used are read from the words again.
+fn over_records<F: FnMut(&mut [u32]) -> Result<Listed, Refusal>>(
+    words: &mut [u32],
+    nodes: &mut [NodeState],
+    f: &mut F,
+) -> Result<Listed, Refusal>
+    requires long { node_state_words * held (length nodes.old) ≤ length words.old }
+    requires callable { (states : _) → states.now ≡ take (node_state_words * held (length nodes.old)) words.old → F.pre f.old states }
+    ensures { (states : _) × (after : _) × (states.now ≡ take (node_state_words * held (length nodes.old)) words.old) × (length after.now ≡ length states.now) × F.step f.old states result after f.new × Packed nodes.old nodes.new (after.now ++ drop (node_state_words * held (length nodes.old)) words.old) (used result (held (length nodes.old))) }
+{
+    let n = node_state::held(nodes.len());
+    let listed = f(&mut words[..NODE_STATE_WORDS * n]);
+    let m = used(&listed, n);
+    node_state::pack(words, m, nodes);
+    listed
+}
+
 // An accepted call leaves the order's tree in the records, at the next match; a refused one leaves them as they were.
+// Kept: three slices of work buffers: a struct of them would stand beside `Buffers`, which has the same three, and want a clause more that says they are as long as before.
 pub fn page_nodes(
     lent: &Lent,
     query: &[u32],
@@ -81,24 +102,27 @@ pub fn page_nodes(
         × Kept (refusal_of (index_of lent.now) query.now target (length nodes.old) starts.old other_starts.old ranges.old documents.old scores.old) nodes.old nodes.new }
 {
     let mut words = node_state::zeros();
-    let n = node_state::held(nodes.len());
-    let listed = page_words(
-        lent,
-        query,
-        target,
-        &mut words[..NODE_STATE_WORDS * n],
-        starts,
-        other_starts,
-        ranges,
-        documents,
-        scores,
-    );
-    let m = used(&listed, n);
-    node_state::pack(&words, m, nodes);
-    listed
+    over_records(
+        &mut words,
+        nodes,
+        &mut |states: &mut [u32]| {
+            page_words(
+                lent,
+                query,
+                target,
+                states,
+                starts,
+                other_starts,
+                ranges,
+                documents,
+                scores,
+            )
+        },
+    )
 }
 
 // The same where the order's tree stands in the records: the walk goes on from them, and nothing is built.
+// Kept: three slices of work buffers, as `page_nodes`.
 pub fn resume_nodes(
     lent: &Lent,
     query: &[u32],
@@ -115,19 +139,21 @@ pub fn resume_nodes(
         × Kept (refusal_of (index_of lent.now) query.now target (length nodes.old) starts.old other_starts.old ranges.old documents.old scores.old) nodes.old nodes.new }
 {
     let mut words = node_state::unpacked(nodes);
-    let n = node_state::held(nodes.len());
-    let listed = resume_words(
-        lent,
-        query,
-        target,
-        &mut words[..NODE_STATE_WORDS * n],
-        starts,
-        other_starts,
-        ranges,
-        documents,
-        scores,
-    );
-    let m = used(&listed, n);
-    node_state::pack(&words, m, nodes);
-    listed
+    over_records(
+        &mut words,
+        nodes,
+        &mut |states: &mut [u32]| {
+            resume_words(
+                lent,
+                query,
+                target,
+                states,
+                starts,
+                other_starts,
+                ranges,
+                documents,
+                scores,
+            )
+        },
+    )
 }

@@ -41,6 +41,7 @@ fn search_words(
 }
 
 // The records are the node states: an accepted call leaves the order's tree in them, a refused one leaves them as they were.
+// Kept: three slices of work buffers: a struct of them would stand beside `Buffers`, which has the same three, and want a clause more that says they are as long as before.
 pub fn search_nodes(
     lent: &Lent,
     query: &[u32],

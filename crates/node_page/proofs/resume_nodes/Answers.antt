@@ -1,32 +1,17 @@
 -- The records that the call used were read from the words.
-use Rattle.std.proofs.Common.{ℕ, ◌≡◌, ◌∙◌, ◌*◌, sym, subst, take, drop, refl, arith}
-use lib.Seq.{length-take-le}
-use Rattle.meaning.specs.Limits.{node_state_words}
+use Rattle.std.proofs.Common.{rules, arith}
 use Rattle.index.specs.IndexOf.{index_of}
-use Rattle.node_state.specs.Records.{record_words}
-use Rattle.searcher.proofs.Preparing.{same-long}
-use Rattle.searcher.proofs.Answering.{used-least}
-use Rattle.node_page.proofs.Records.{copied-out, on-records}
+use Rattle.node_page.proofs.Records.{over-records, states-stand}
 use Rattle.node_page.proofs.resume_nodes.Goals as goal
 
-pub resume_words-listed-requires : goal.resume_words-listed-requires
-resume_words-listed-requires c =
+pub over_records-requires-clause-callable : goal.over_records-requires-clause-callable
+over_records-requires-clause-callable c = λ states e.
     let a = c.args in
-    let n = c.held-n.result in
-    let words = subst (λ (i : ℕ). record_words (take i a.nodes.now) ≡ take (node_state_words * i) c.unpacked-words.result) (sym c.held-n.ensures) (sym c.unpacked-words.ensures) in
-    copied-out (index_of a.lent.now) a.query.now a.target n _ a.nodes.now a.starts.now a.other_starts.now a.ranges.now a.documents.now a.scores.now c.held-n.ensures (length-take-le (node_state_words * n) c.unpacked-words.result (omega arith)) (take (node_state_words * n) c.unpacked-words.result) words refl c.requires
-
-pub pack-requires : goal.pack-requires
-pack-requires c =
-    let s = c.resume_words-listed in
-    let least = used-least s.result c.held-n.result in
-    let long = same-long c.unpacked-words.result s.new.states (node_state_words * c.held-n.result) (omega arith) s.auto.states in
-    (omega (arith, least), omega (arith, least, long))
+    let h = states-stand (index_of a.lent.now) a.query.now a.target a.nodes.now a.starts.now a.other_starts.now a.ranges.now a.documents.now a.scores.now c.unpacked-words.result states.now (omega arith) c.unpacked-words.ensures e c.requires in
+    search rules
 
 pub returns : goal.returns
 returns c =
     let a = c.args in
-    let n = c.held-n.result in
-    let s = c.resume_words-listed in
-    let front = length-take-le (node_state_words * n) c.unpacked-words.result (omega arith) in
-    on-records (index_of a.lent.now) a.query.now a.target n _ a.nodes.now a.starts.now a.other_starts.now a.ranges.now a.documents.now a.scores.now c.held-n.ensures front c.pack.new.nodes s.new.states (drop (node_state_words * n) c.unpacked-words.result) s.new.starts s.new.other_starts s.new.ranges s.new.documents s.new.scores (s.auto.states ∙ front) s.result s.ensures c.used-m.result c.used-m.ensures c.pack.ensures
+    let e = c.over_records.ensures in
+    over-records (index_of a.lent.now) a.query.now a.target a.nodes.now _ a.starts.now _ a.other_starts.now _ a.ranges.now _ a.documents.now _ a.scores.now _ c.unpacked-words.result e.0.now e.1.now _ (omega arith) e.2 e.3 (search rules) e.5
