@@ -2,10 +2,12 @@
 ghost use Rattle.std.specs.Prelude.{◌≡◌, true};
 ghost use Rattle.bulk.specs.Alone.{AloneWords};
 
+use leaf_score::node_at;
 use node::{NodeKind, boolean_at};
 use weight::NODE_STATE_WORDS;
 
 // The child's scores word.
+// Kept: child_at asks that the part's length is right, which is not known of words that any caller lends; the proof did not close.
 const CHILD_SCORES: usize = NODE_STATE_WORDS + 15;
 
 // Whether the words are such a Boolean, that is not constant and whose child is one record: required and scoring, or optional and needed.
@@ -18,7 +20,7 @@ pub fn alone(st: &[u32]) -> bool
     if NodeKind::from(st[0]) != NodeKind::Boolean {
         return false;
     }
-    if st[11] != 0 {
+    if node_at(st).constant != 0 {
         return false;
     }
     let root = boolean_at(st);

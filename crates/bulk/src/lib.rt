@@ -1,12 +1,12 @@
 // Bulk scorers: every live match of a scorer tree to the collector, by the loop that suits the root.
 #![tactic(auto)]
 
-ghost use Rattle.std.specs.Prelude.{min, length};
-ghost use Rattle.scorer.specs.Calls.{lent_of};
+ghost use Rattle.leaf_scorer.specs.Calls.{lent_of};
+ghost use Rattle.leaf_scorer.specs.Buffers.{places_in, SameBuffers};
 ghost use Rattle.bulk_scorer.specs.Collects.{CollectPre, CollectPost, CollectEnd};
 
 use collector::TopScoreDocCollector;
-use leaf_scorer::LeafReader;
+use leaf_scorer::{LeafReader, PhraseBuffers};
 use node::NodeKind;
 use weight::NODE_STATE_WORDS;
 
@@ -17,21 +17,20 @@ pub mod everything;
 pub fn collect_matches(
     st: &mut [u32],
     reader: &LeafReader<'_>,
-    inverses: &[f32],
-    a: &mut [i32],
-    b: &mut [i32],
+    buffers: &mut PhraseBuffers<'_>,
     depth: u32,
     doc_base: u32,
     c: TopScoreDocCollector,
     heap: &mut [i64],
 ) -> TopScoreDocCollector
-    requires { CollectPre (lent_of reader.now) reader.now.norms.now reader.now.live.now inverses.now (min (length a.old) (length b.old)) st.old depth doc_base c heap.old }
-    ensures collect_post { CollectPost (lent_of reader.now) reader.now.norms.now reader.now.live.now inverses.now (min (length a.old) (length b.old)) st.old depth doc_base c heap.old result heap.new }
-    ensures collect_end { CollectEnd (lent_of reader.now) reader.now.norms.now reader.now.live.now inverses.now (min (length a.old) (length b.old)) st.old depth st.new }
+    requires { CollectPre (lent_of reader.now) reader.now.norms.now reader.now.live.now reader.now.inverses.now (places_in buffers.old) st.old depth doc_base c heap.old }
+    ensures collect_post { CollectPost (lent_of reader.now) reader.now.norms.now reader.now.live.now reader.now.inverses.now (places_in buffers.old) st.old depth doc_base c heap.old result heap.new }
+    ensures collect_end { CollectEnd (lent_of reader.now) reader.now.norms.now reader.now.live.now reader.now.inverses.now (places_in buffers.old) st.old depth st.new }
+    ensures same_buffers { SameBuffers buffers.old buffers.new }
 {
     match NodeKind::from(st[0]) {
         NodeKind::Term => {
-            return bulk_term::collect_term(st, reader, inverses, doc_base, c, heap);
+            return bulk_term::collect_term(st, reader, doc_base, c, heap);
         }
         NodeKind::Everything => {
             return everything::collect_everything(st, reader, doc_base, c, heap);
@@ -42,7 +41,7 @@ pub fn collect_matches(
         let child = &st[NODE_STATE_WORDS..];
         match NodeKind::from(child[0]) {
             NodeKind::Term => {
-                return bulk_term::collect_term(child, reader, inverses, doc_base, c, heap);
+                return bulk_term::collect_term(child, reader, doc_base, c, heap);
             }
             NodeKind::Everything => {
                 return everything::collect_everything(child, reader, doc_base, c, heap);
@@ -50,5 +49,5 @@ pub fn collect_matches(
             _ => {}
         }
     }
-    bulk_window::collect_windows(st, reader, inverses, a, b, depth, doc_base, c, heap)
+    bulk_window::collect_windows(st, reader, buffers, depth, doc_base, c, heap)
 }

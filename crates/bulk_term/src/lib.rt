@@ -15,13 +15,12 @@ pub mod posting;
 pub fn collect_term(
     st: &[u32],
     reader: &LeafReader<'_>,
-    inverses: &[f32],
     doc_base: u32,
     c: TopScoreDocCollector,
     heap: &mut [i64],
 ) -> TopScoreDocCollector
-    requires { (E : Lent) × (places : ℕ) × (depth : ℕ) × (E.postings ≡ reader.now.postings.now) × (get_or st.now 0 0 ≡ 1) × CollectPre E reader.now.norms.now reader.now.live.now inverses.now places st.now depth doc_base c heap.old }
-    ensures { (E : Lent) (places depth : ℕ) → E.postings ≡ reader.now.postings.now → CollectPost E reader.now.norms.now reader.now.live.now inverses.now places st.now depth doc_base c heap.old result heap.new }
+    requires { (E : Lent) × (places : ℕ) × (depth : ℕ) × (E.postings ≡ reader.now.postings.now) × (get_or st.now 0 0 ≡ 1) × CollectPre E reader.now.norms.now reader.now.live.now reader.now.inverses.now places st.now depth doc_base c heap.old }
+    ensures { (E : Lent) (places depth : ℕ) → E.postings ≡ reader.now.postings.now → CollectPost E reader.now.norms.now reader.now.live.now reader.now.inverses.now places st.now depth doc_base c heap.old result heap.new }
 {
     let n = leaf_score::node_at(st);
     let from = 3 * n.first;
@@ -29,6 +28,7 @@ pub fn collect_term(
     // Read once: the heap's stores would have them read again at each posting.
     let live = reader.live;
     let norms = reader.norms;
+    let inverses = reader.inverses;
     let mut c = c;
     for [doc, frequency, _] in postings {
         if index::live::is_live(live, *doc) {

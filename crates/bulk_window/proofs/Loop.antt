@@ -1,6 +1,5 @@
 -- The loop over windows: the live matches before a window are collected. Assumes nothing.
 use Rattle.std.proofs.Common.{◌≡◌, refl, sym, ap, subst, ◌∙◌, Bool, true, false, ◌&&◌, List, [], ◌∷◌, ◌++◌, map, ℕ, ◌+◌, ◌-◌, ◌*◌, ◌≤◌, ◌<◌, min, ltb, length, get_or, ℤ, arith, lt-ltb, le-ltb, ⊎_elim}
-use Rattle.std.specs.Prelude.{Float}
 use mathlib.Core.List.{append_assoc, append-nil}
 use mathlib.Core.Bool.{and_assoc, false≢true}
 use Rattle.meaning.proofs.Tests.{cmp}
@@ -17,13 +16,14 @@ use Rattle.collector.proofs.Beginning.{collected-later}
 use Rattle.index.specs.Slices.{live_only}
 use Rattle.weight.specs.ScorerTree.{Scorer, matches, scorer_score}
 use Rattle.weight.specs.Held.{Ok}
-use Rattle.leaf_scorer.specs.Calls.{Lent, lent, RoomIn}
+use Rattle.leaf_scorer.specs.Calls.{Lent, lent_of, RoomIn}
+use Rattle.leaf_scorer.specs.declared.LeafReader.{LeafReader}
 use Rattle.leaf_scorer.proofs.Bounds.{ok-mono}
 use Rattle.walk.specs.Walks.{live_match, scored, live_scored}
 use Rattle.window_words.specs.Windowed.{nowhere, places_of, Windowed}
 use Rattle.window_words.proofs.Laws.{windowed-less, windowed-forget, windowed-ok}
 use Rattle.window_leaf.specs.Asks.{Answers, Wanted, NodeWindowed, BitsPre, BitsPost}
-use Rattle.window_score.specs.Asked.{WindowLent, NodeAsked}
+use Rattle.window_score.specs.Asked.{Reads, reads, WindowLent, NodeAsked}
 use Rattle.bulk_scorer.specs.Collects.{RootHeld, numbered, Continued}
 use Rattle.bulk_scorer.proofs.LiveMatches.{live_of, live-there, not-match, not-below}
 use Rattle.bulk_window.specs.Windows.{LiveBits, NextWindow, placed, WindowPre, WindowPost}
@@ -52,19 +52,25 @@ map-append {ℓ κ} : {A : Type ℓ} {B : Type κ} (f : A → B) (xs ys : List A
 map-append f [] ys = refl
 map-append f (x ∷ xs) ys = ap (λ l. f x ∷ l) (map-append f xs ys)
 
-module _ (n : ℕ) (postings positions norms ranges live : List ℕ) (table : List Float) (places : ℕ) (st₀ : List ℕ) (depth doc_base : ℕ) (c₀ : TopScoreDocCollector) (heap₀ : List ℤ) where
+module _ (reader : LeafReader) (places : ℕ) (st₀ : List ℕ) (depth doc_base : ℕ) (c₀ : TopScoreDocCollector) (heap₀ : List ℤ) where
+  abbrev n : ℕ
+  n = reader.max_doc
+
   abbrev E : Lent
-  E = lent n postings positions ranges
+  E = lent_of reader
+
+  abbrev V : ℕ → Reads
+  V = reads reader
 
   abbrev pub Held : Index → Scorer → ℕ → Type 0
-  Held ix s scores = RootHeld E norms live table ix places s depth scores st₀
+  Held ix s scores = RootHeld E reader.norms.now reader.live.now reader.inverses.now ix places s depth scores st₀
 
   -- those that are collected before a window
   abbrev before : Index → Scorer → ℕ → List ScoreDoc
   before ix s base = map (numbered doc_base) (map (scored ix s) (list_below base (live_match ix s)))
 
   pub record At (ix : Index) (s : Scorer) (scores : ℕ) (st : List ℕ) (c : TopScoreDocCollector) (heap : List ℤ) (base : ℕ) : Type 0 where
-    pub held : Windowed ix ranges s depth scores st base base nowhere
+    pub held : Windowed ix reader.ranges.now s depth scores st base base nowhere
     pub collected : (k t b : ℕ) (xs : List ScoreDoc) (start : List ℤ) → b ≤ doc_base → Collected k t b xs start c₀ heap₀ → Collected k t (doc_base + min base n) (xs ++ before ix s base) start c heap
 
   abbrev pub AllAt : List ℕ → TopScoreDocCollector → List ℤ → ℕ → Type 0
@@ -79,9 +85,9 @@ module _ (n : ℕ) (postings positions norms ranges live : List ℕ) (table : Li
       }
 
   -- the words still hold the tree
-  pub loop-end : (st : List ℕ) (c : TopScoreDocCollector) (heap : List ℤ) (base : ℕ) → AllAt st c heap base → base ≤ no_more_docs → (ix : Index) (s : Scorer) (scores : ℕ) → Held ix s scores → Ok ix ranges s depth scores st no_more_docs
+  pub loop-end : (st : List ℕ) (c : TopScoreDocCollector) (heap : List ℤ) (base : ℕ) → AllAt st c heap base → base ≤ no_more_docs → (ix : Index) (s : Scorer) (scores : ℕ) → Held ix s scores → Ok ix reader.ranges.now s depth scores st no_more_docs
   loop-end st c heap base I top ix s scores H =
-      ok-mono ix ranges s depth scores st base no_more_docs top (windowed-ok ix ranges s depth scores st base base nowhere (omega arith) (I ix s scores H).held)
+      ok-mono ix reader.ranges.now s depth scores st base no_more_docs top (windowed-ok ix reader.ranges.now s depth scores st base base nowhere (omega arith) (I ix s scores H).held)
 
   live-is : (ix : Index) (s : Scorer) (d : ℕ) → d < ix.max_doc → live_match ix s d ≡ is_live ix d && matches ix s d
   unfolding live_match
@@ -106,24 +112,24 @@ module _ (n : ℕ) (postings positions norms ranges live : List ℕ) (table : Li
       pub window-small : base + 64 ≤ no_more_docs
       window-small = omega (arith, H.lends.documents, H.lends.accepted.documents)
 
-      pub window-live : 0 < length live → n ≤ 64 * length live
-      window-live h = let d : n - 1 < ix.max_doc = omega (arith, H.lends.documents) in omega (arith, live-there ix live (n - 1) H.lends.accepted H.live-are d h)
+      pub window-live : 0 < length reader.live.now → n ≤ 64 * length reader.live.now
+      window-live h = let d : n - 1 < ix.max_doc = omega (arith, H.lends.documents) in omega (arith, live-there ix reader.live.now (n - 1) H.lends.accepted H.live-are d h)
 
       node-windowed : NodeWindowed E ix places s depth scores st base
       node-windowed = record { lends = H.lends; sound = H.scorable.sound; few = H.scorable.few; held = (I ix s scores H).held }
 
-      module _ (a b want : ℕ) (room : min a b ≡ places) (live-bits : LiveBits live base n want) where
+      module _ (a b want : ℕ) (room : min a b ≡ places) (live-bits : LiveBits reader.live.now base n want) where
         wanted : Wanted n base want
-        wanted p h e = below (base + p) n (and-left (ltb (base + p) n) (is_live (live_only live) (base + p)) (sym (live-bits p h) ∙ e))
+        wanted p h e = below (base + p) n (and-left (ltb (base + p) n) (is_live (live_only reader.live.now) (base + p)) (sym (live-bits p h) ∙ e))
 
         rooms : RoomIn places a b
         rooms = record { in-a = omega (arith, room); in_b = omega (arith, room) }
 
-        pub window-asks : BitsPre (lent n postings positions ranges) a b st base want depth
+        pub window-asks : BitsPre (E) a b st base want depth
         window-asks = (window-small, (n, ix, places, s, scores, wanted, rooms, node-windowed))
 
-        module _ (a' b' : ℕ) (room' : min a' b' ≡ places) (found next : ℕ) (st' : List ℕ) (next-is : next ≡ get_or st' 22 0) (post : BitsPost (lent n postings positions ranges) a b st base want depth found st') where
-          answer : Answers (matches ix s) base (places_of want) found (get_or st' 22 0) × Windowed ix ranges s depth scores st' (base + 64) base (places_of want)
+        module _ (a' b' : ℕ) (room' : min a' b' ≡ places) (found next : ℕ) (st' : List ℕ) (next-is : next ≡ get_or st' 22 0) (post : BitsPost (E) a b st base want depth found st') where
+          answer : Answers (matches ix s) base (places_of want) found (get_or st' 22 0) × Windowed ix reader.ranges.now s depth scores st' (base + 64) base (places_of want)
           answer = post n wanted ix places s scores node-windowed
 
           pub window-next : next ≤ no_more_docs
@@ -134,25 +140,25 @@ module _ (n : ℕ) (postings positions norms ranges live : List ℕ) (table : Li
           unfolding live_match
           found-live p h =
               answer.0.bits p h
-              ∙ ap (λ (t : Bool). t && matches ix s (base + p)) (live-bits p h ∙ ap (λ (m : ℕ). ltb (base + p) m && is_live (live_only live) (base + p)) (sym H.lends.documents) ∙ ap (λ (t : Bool). ltb (base + p) ix.max_doc && t) (live_of ix live (base + p) H.live-are))
+              ∙ ap (λ (t : Bool). t && matches ix s (base + p)) (live-bits p h ∙ ap (λ (m : ℕ). ltb (base + p) m && is_live (live_only reader.live.now) (base + p)) (sym H.lends.documents) ∙ ap (λ (t : Bool). ltb (base + p) ix.max_doc && t) (live_of ix reader.live.now (base + p) H.live-are))
               ∙ and_assoc (ltb (base + p) ix.max_doc) (is_live ix (base + p)) (matches ix s (base + p))
 
           found-below : (p : ℕ) → p < 64 → bit p found ≡ true → base + p < n
           found-below p h e = wanted p h (and-left (bit p want) (matches ix s (base + p)) (sym (answer.0.bits p h) ∙ e))
 
-          lent-window : WindowLent ix n postings positions norms places a' b' base found
+          lent-window : WindowLent ix n (V base) places a' b' found
           lent-window = record { lends = H.lends; norms-are = H.norms-are; room = record { in-a = omega (arith, room'); in_b = omega (arith, room') }; small = window-small; wanted = found-below }
 
-          asked : NodeAsked ix ranges table places s depth scores st' base found 0
+          asked : NodeAsked ix (V base) places s depth scores st' found 0
           asked =
               record {
                 scorable = H.scorable;
                 few = omega (arith, H.scorable.few);
                 match = λ p h e. and-right (bit p want) (matches ix s (base + p)) (sym (answer.0.bits p h) ∙ e);
-                held = windowed-less ix ranges s depth scores st' (base + 64) base (places_of want) (places_of found) (λ p h e. and-left (bit p want) (matches ix s (base + p)) (sym (answer.0.bits p h) ∙ e)) answer.1;
+                held = windowed-less ix reader.ranges.now s depth scores st' (base + 64) base (places_of want) (places_of found) (λ p h e. and-left (bit p want) (matches ix s (base + p)) (sym (answer.0.bits p h) ∙ e)) answer.1;
               }
 
-          pub window-scores : doc_base + n ≤ no_more_docs → Ready doc_base c₀ heap₀ → WindowPre st' postings positions norms ranges table a' b' base found depth doc_base c heap
+          pub window-scores : doc_base + n ≤ no_more_docs → Ready doc_base c₀ heap₀ → WindowPre st' (V base) a' b' found depth doc_base c heap
           window-scores few R =
               let q = (I ix s scores H).collected (length heap₀) R.t R.b R.list R.start R.before R.collected in
               let bound : doc_base + min base n ≡ doc_base + base = omega (arith, inside) in
@@ -166,7 +172,7 @@ module _ (n : ℕ) (postings positions norms ranges live : List ℕ) (table : Li
               } in
               (omega (arith, few, inside), (λ p h e. omega (arith, few, found-below p h e)), ready, (n, ix, places, s, scores, lent-window, asked))
 
-          module _ (c' : TopScoreDocCollector) (heap' : List ℤ) (st'' : List ℕ) (done : WindowPost st' postings positions norms ranges table a' b' base found depth doc_base c heap c' heap' st'') (base' : ℕ) (go : NextWindow base next base') where
+          module _ (c' : TopScoreDocCollector) (heap' : List ℤ) (st'' : List ℕ) (done : WindowPost st' (V base) a' b' found depth doc_base c heap c' heap' st'') (base' : ℕ) (go : NextWindow base next base') where
             abbrev m : ℕ
             m = min 64 (n - base)
 
@@ -186,7 +192,7 @@ module _ (n : ℕ) (postings positions norms ranges live : List ℕ) (table : Li
             window-done : At ix s scores st'' c' heap' base'
             window-done =
                 record {
-                  held = windowed-forget ix ranges s depth scores st'' (base + 64) (base + 64) nowhere base' go.after go.after (done n ix places s scores lent-window asked).1;
+                  held = windowed-forget ix reader.ranges.now s depth scores st'' (base + 64) (base + 64) nowhere base' go.after go.after (done n ix places s scores lent-window asked).1;
                   collected = λ k t b xs start l p.
                       let q = subst (λ (i : ℕ). Collected k t i (xs ++ before ix s base) start c heap) (omega (arith, inside)) ((I ix s scores H).collected k t b xs start l p) in
                       let r = collected-window.continued k t (doc_base + base) (xs ++ before ix s base) start (omega arith) q in
@@ -196,6 +202,6 @@ module _ (n : ℕ) (postings positions norms ranges live : List ℕ) (table : Li
                 }
 
     -- one window more
-    pub loop-step : (a b want : ℕ) → min a b ≡ places → LiveBits live base n want → (a' b' : ℕ) → min a' b' ≡ places → (found next : ℕ) (st' : List ℕ) → next ≡ get_or st' 22 0 → BitsPost (lent n postings positions ranges) a b st base want depth found st' → (c' : TopScoreDocCollector) (heap' : List ℤ) (st'' : List ℕ) → WindowPost st' postings positions norms ranges table a' b' base found depth doc_base c heap c' heap' st'' → (base' : ℕ) → NextWindow base next base' → AllAt st'' c' heap' base'
+    pub loop-step : (a b want : ℕ) → min a b ≡ places → LiveBits reader.live.now base n want → (a' b' : ℕ) → min a' b' ≡ places → (found next : ℕ) (st' : List ℕ) → next ≡ get_or st' 22 0 → BitsPost (E) a b st base want depth found st' → (c' : TopScoreDocCollector) (heap' : List ℤ) (st'' : List ℕ) → WindowPost st' (V base) a' b' found depth doc_base c heap c' heap' st'' → (base' : ℕ) → NextWindow base next base' → AllAt st'' c' heap' base'
     loop-step a b want room live-bits a' b' room' found next st' next-is post c' heap' st'' done base' go ix s scores H =
         window-done ix s scores H a b want room live-bits a' b' room' found next st' next-is post c' heap' st'' done base' go

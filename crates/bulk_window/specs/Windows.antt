@@ -15,7 +15,7 @@ use Rattle.weight.specs.ScorerTree.{Scorer, scorer_score}
 use Rattle.bulk_scorer.specs.Collects.{Continued}
 use Rattle.window_words.specs.Windowed.{nowhere, Windowed}
 use Rattle.window_score.specs.Sums.{At}
-use Rattle.window_score.specs.Asked.{WindowLent, NodeAsked}
+use Rattle.window_score.specs.Asked.{Reads, WindowLent, NodeAsked}
 
 -- the live word of a window
 abbrev pub LiveWord : List ℕ → ℕ → ℕ → Type 0
@@ -54,12 +54,12 @@ pub record Cleared (places : ℕ) (sums sums' : List Float) : Type 0 where
   pub at : At (λ p x. zero_float) places sums sums'
 
 -- a tree that was asked of the window and takes the documents at the places, before the collector
-abbrev pub WindowPre : List ℕ → List ℕ → List ℕ → List ℕ → List ℕ → List Float → ℕ → ℕ → ℕ → ℕ → ℕ → ℕ → TopScoreDocCollector → List ℤ → Type 0
-WindowPre st postings positions norms ranges table a b base places depth doc_base c heap =
-    (doc_base + base < no_more_docs) × ((p : ℕ) → p < 64 → bit p places ≡ true → doc_base + base + p < no_more_docs) × Ready (doc_base + base) c heap × ((n : ℕ) × (ix : Index) × (rooms : ℕ) × (s : Scorer) × (scores : ℕ) × WindowLent ix n postings positions norms rooms a b base places × NodeAsked ix ranges table rooms s depth scores st base places 0)
+abbrev pub WindowPre : List ℕ → Reads → ℕ → ℕ → ℕ → ℕ → ℕ → TopScoreDocCollector → List ℤ → Type 0
+WindowPre st V a b places depth doc_base c heap =
+    (doc_base + V.base < no_more_docs) × ((p : ℕ) → p < 64 → bit p places ≡ true → doc_base + V.base + p < no_more_docs) × Ready (doc_base + V.base) c heap × ((n : ℕ) × (ix : Index) × (rooms : ℕ) × (s : Scorer) × (scores : ℕ) × WindowLent ix n V rooms a b places × NodeAsked ix V rooms s depth scores st places 0)
 
 -- its scores are collected, and its words can be asked of the next window
-abbrev pub WindowPost : List ℕ → List ℕ → List ℕ → List ℕ → List ℕ → List Float → ℕ → ℕ → ℕ → ℕ → ℕ → ℕ → TopScoreDocCollector → List ℤ → TopScoreDocCollector → List ℤ → List ℕ → Type 0
-WindowPost st postings positions norms ranges table a b base places depth doc_base c heap c' heap' st' =
-    (n : ℕ) (ix : Index) (rooms : ℕ) (s : Scorer) (scores : ℕ) → WindowLent ix n postings positions norms rooms a b base places → NodeAsked ix ranges table rooms s depth scores st base places 0
-    → ((m : ℕ) → PlacesBelow m places → Continued (doc_base + base) m (placed (λ p. scorer_score ix s (base + p)) places) c heap c' heap') × Windowed ix ranges s depth scores st' (base + 64) (base + 64) nowhere
+abbrev pub WindowPost : List ℕ → Reads → ℕ → ℕ → ℕ → ℕ → ℕ → TopScoreDocCollector → List ℤ → TopScoreDocCollector → List ℤ → List ℕ → Type 0
+WindowPost st V a b places depth doc_base c heap c' heap' st' =
+    (n : ℕ) (ix : Index) (rooms : ℕ) (s : Scorer) (scores : ℕ) → WindowLent ix n V rooms a b places → NodeAsked ix V rooms s depth scores st places 0
+    → ((m : ℕ) → PlacesBelow m places → Continued (doc_base + V.base) m (placed (λ p. scorer_score ix s (V.base + p)) places) c heap c' heap') × Windowed ix V.ranges s depth scores st' (V.base + 64) (V.base + 64) nowhere

@@ -1,17 +1,20 @@
 // Any scorer tree in windows of 64 documents: which documents of a window it matches, then the scores of those, then each to the collector.
 #![tactic(auto)]
 
-ghost use Rattle.std.specs.Prelude.{◌≡◌, ◌+◌, ◌*◌, ◌%◌, ◌≤◌, ◌<◌, length, min};
+ghost use Rattle.std.specs.Prelude.{◌≡◌, ◌+◌, ◌*◌, ◌%◌, ◌≤◌, ◌<◌, length};
 ghost use Rattle.leaf_scorer.specs.Calls.{lent_of};
+ghost use Rattle.leaf_scorer.specs.Buffers.{room, other_room, places_in, SameBuffers};
 ghost use Rattle.bulk_scorer.specs.Collects.{CollectPre, CollectPost, CollectEnd};
 ghost use Rattle.bulk_window.specs.Windows.{LiveWord, LiveBits, NextWindow, PlacesPre, PlacesPost, WindowPre, WindowPost, Cleared};
 ghost use Rattle.window_score.specs.Sums.{Zeros};
+ghost use Rattle.window_score.specs.Asked.{reads_of};
 
 use bits::SetBits;
 use collector::TopScoreDocCollector;
 use index::wide;
-use leaf_scorer::LeafReader;
+use leaf_scorer::{LeafReader, PhraseBuffers};
 use window_bits::node_bits;
+use window_leaf::Window;
 use window_score::root::root_scores;
 
 // Every document of a window.
@@ -78,11 +81,8 @@ fn collect_places(
 // The documents of a window that the tree matches, to the collector with their scores. All sums are 0 before and after.
 fn collect_window(
     st: &mut [u32],
-    reader: &LeafReader<'_>,
-    inverses: &[f32],
-    a: &mut [i32],
-    b: &mut [i32],
-    base: u32,
+    window: &Window<'_>,
+    buffers: &mut PhraseBuffers<'_>,
     places: u64,
     sums: &mut [f64],
     depth: u32,
@@ -91,32 +91,32 @@ fn collect_window(
     heap: &mut [i64],
 ) -> TopScoreDocCollector
     requires zeros { Zeros sums.old }
-    requires window { WindowPre st.old reader.now.postings.now reader.now.positions.now reader.now.norms.now reader.now.ranges.now inverses.now (length a.old) (length b.old) base places depth doc_base c heap.old }
+    requires window { WindowPre st.old (reads_of window.now) (room buffers.old) (other_room buffers.old) places depth doc_base c heap.old }
     ensures zeros { Zeros sums.new }
-    ensures window { WindowPost st.old reader.now.postings.now reader.now.positions.now reader.now.norms.now reader.now.ranges.now inverses.now (length a.old) (length b.old) base places depth doc_base c heap.old result heap.new st.new }
+    ensures window { WindowPost st.old (reads_of window.now) (room buffers.old) (other_room buffers.old) places depth doc_base c heap.old result heap.new st.new }
+    ensures same_buffers { SameBuffers buffers.old buffers.new }
 {
     if places == 0 {
         return c;
     }
-    root_scores(st, reader, inverses, a, b, base, places, sums, depth);
-    collect_places(c, heap, doc_base + base, places, sums)
+    root_scores(st, window, buffers, places, sums, depth);
+    collect_places(c, heap, doc_base + window.base, places, sums)
 }
 
 // The live documents that the tree matches to the collector, numbered on from a document base.
 pub fn collect_windows(
     st: &mut [u32],
     reader: &LeafReader<'_>,
-    inverses: &[f32],
-    a: &mut [i32],
-    b: &mut [i32],
+    buffers: &mut PhraseBuffers<'_>,
     depth: u32,
     doc_base: u32,
     c: TopScoreDocCollector,
     heap: &mut [i64],
 ) -> TopScoreDocCollector
-    requires { CollectPre (lent_of reader.now) reader.now.norms.now reader.now.live.now inverses.now (min (length a.old) (length b.old)) st.old depth doc_base c heap.old }
-    ensures collect_post { CollectPost (lent_of reader.now) reader.now.norms.now reader.now.live.now inverses.now (min (length a.old) (length b.old)) st.old depth doc_base c heap.old result heap.new }
-    ensures collect_end { CollectEnd (lent_of reader.now) reader.now.norms.now reader.now.live.now inverses.now (min (length a.old) (length b.old)) st.old depth st.new }
+    requires { CollectPre (lent_of reader.now) reader.now.norms.now reader.now.live.now reader.now.inverses.now (places_in buffers.old) st.old depth doc_base c heap.old }
+    ensures collect_post { CollectPost (lent_of reader.now) reader.now.norms.now reader.now.live.now reader.now.inverses.now (places_in buffers.old) st.old depth doc_base c heap.old result heap.new }
+    ensures collect_end { CollectEnd (lent_of reader.now) reader.now.norms.now reader.now.live.now reader.now.inverses.now (places_in buffers.old) st.old depth st.new }
+    ensures same_buffers { SameBuffers buffers.old buffers.new }
 {
     let mut c = c;
     let mut sums = [0.0f64; 64];
@@ -124,10 +124,14 @@ pub fn collect_windows(
     // Kept: no plainer: a window's answer says where the next begins, so there is no range to go through.
     while base < reader.max_doc {
         let want = live_bits(reader.live, base, reader.max_doc);
-        let places = node_bits(st, reader, a, b, base, want, depth);
+        let window = Window {
+            reader: *reader,
+            base,
+        };
+        let places = node_bits(st, &window, buffers, want, depth);
         let next = st[22];
         c = collect_window(
-            st, reader, inverses, a, b, base, places, &mut sums, depth, doc_base, c, heap,
+            st, &window, buffers, places, &mut sums, depth, doc_base, c, heap,
         );
         base = next_window(base, next);
     }

@@ -38,7 +38,7 @@ both : (a b : Bool) → a && b ≡ true → (a ≡ true) × (b ≡ true)
 both true b e = (refl, e)
 both false b e = absurd (false≢true e)
 
-joins_at : (j : Joining) (rs : Scorers) (s : State) (a : Bool) (b : ℕ) → a ≡ eqb s.afterwards 1 → b ≡ s.group_at → JoiningIs j rs s → JoinsAt j rs (cond a 1 0) b
+pub joins_at : (j : Joining) (rs : Scorers) (s : State) (a : Bool) (b : ℕ) → a ≡ eqb s.afterwards 1 → b ≡ s.group_at → JoiningIs j rs s → JoinsAt j rs (cond a 1 0) b
 unfolding JoiningIs JoinsAt
 joins_at (one_more n) rs s a b e f p = (ap (λ (x : Bool). cond x 1 0) (e ∙ ap (λ (i : ℕ). eqb i 1) p.0), f ∙ p.1)
 joins_at afterwards rs s a b e f p = ap (λ (x : Bool). cond x 1 0) (e ∙ ap (λ (i : ℕ). eqb i 1) p)

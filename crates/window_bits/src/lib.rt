@@ -4,13 +4,14 @@
 ghost use Rattle.std.specs.Prelude.{◌≡◌, true, cond, not, ℕ, length};
 ghost use Rattle.planes.specs.Counts.{count};
 ghost use Rattle.leaf_scorer.specs.Calls.{lent_of};
+ghost use Rattle.leaf_scorer.specs.Buffers.{room, other_room, SameBuffers};
 ghost use Rattle.window_leaf.specs.Asks.{BitsPre, BitsPost};
 ghost use Rattle.window_bits.specs.Parts.{PassPre, PassPost, PhrasesPost, PartsPre, OptionalPost, CountPost, AnyPost, ExcludedPost, BooleanPre, BooleanPost, phrase_kind, phrases_only};
 
-use leaf_scorer::{LeafReader, NO_MORE_DOCS};
+use leaf_scorer::{NO_MORE_DOCS, PhraseBuffers};
 use node::{Boolean, NodeKind, boolean_at, child_at};
 use weight::NODE_STATE_WORDS;
-use window_leaf::{Found, leaf_bits, put, term_bits};
+use window_leaf::{Found, Window, leaf_bits, put, term_bits};
 
 // Counts of children go up to 255.
 const PLANES: usize = 8;
@@ -48,33 +49,30 @@ pub struct Pass {
 #[cycle(any_bits_boolean_bits_counted_bits_excluded_bits_node_bits_optional_bits_phrase_bits_required_bits)]
 pub fn node_bits(
     st: &mut [u32],
-    reader: &LeafReader<'_>,
-    a: &mut [i32],
-    b: &mut [i32],
-    base: u32,
+    window: &Window<'_>,
+    buffers: &mut PhraseBuffers<'_>,
     want: u64,
     depth: u32,
 ) -> u64
-    requires { BitsPre (lent_of reader.now) (length a.old) (length b.old) st.old base want depth }
-    ensures { BitsPost (lent_of reader.now) (length a.old) (length b.old) st.old base want depth result st.new }
+    requires { BitsPre (lent_of window.now.reader) (room buffers.old) (other_room buffers.old) st.old window.now.base want depth }
+    ensures bits_post { BitsPost (lent_of window.now.reader) (room buffers.old) (other_room buffers.old) st.old window.now.base want depth result st.new }
+    ensures same_buffers { SameBuffers buffers.old buffers.new }
 {
     match NodeKind::from(st[0]) {
         NodeKind::Boolean => {
             let n = boolean_at(st);
             let f = boolean_bits(
                 &mut st[NODE_STATE_WORDS..],
-                reader,
-                a,
-                b,
+                window,
+                buffers,
                 n,
-                base,
                 want,
                 depth - 1,
             );
             put(st, f.bits, f.next);
             f.bits
         }
-        _ => leaf_bits(st, reader, a, b, base, want, depth),
+        _ => leaf_bits(st, window, buffers, want, depth),
     }
 }
 
@@ -82,41 +80,36 @@ pub fn node_bits(
 #[cycle(any_bits_boolean_bits_counted_bits_excluded_bits_node_bits_optional_bits_phrase_bits_required_bits)]
 fn boolean_bits(
     kids: &mut [u32],
-    reader: &LeafReader<'_>,
-    a: &mut [i32],
-    b: &mut [i32],
+    window: &Window<'_>,
+    buffers: &mut PhraseBuffers<'_>,
     n: Boolean,
-    base: u32,
     want: u64,
     depth: u32,
 ) -> Found
-    requires { BooleanPre (lent_of reader.now) (length a.old) (length b.old) kids.old n.required_end n.optional_end n.need base want depth }
-    ensures { BooleanPost (lent_of reader.now) (length a.old) (length b.old) kids.old n.required_end n.optional_end n.need base want depth result.bits result.next kids.new }
+    requires { BooleanPre (lent_of window.now.reader) (room buffers.old) (other_room buffers.old) kids.old n.required_end n.optional_end n.need window.now.base want depth }
+    ensures boolean_post { BooleanPost (lent_of window.now.reader) (room buffers.old) (other_room buffers.old) kids.old n.required_end n.optional_end n.need window.now.base want depth result.bits result.next kids.new }
+    ensures same_buffers { SameBuffers buffers.old buffers.new }
 {
     let end = n.required_end;
     let optional_end = n.optional_end;
     let r = required_bits(
         &mut kids[..end],
-        reader,
-        a,
-        b,
+        window,
+        buffers,
         Asks::AllButPhrases,
-        base,
         want,
         depth,
     );
     let o = optional_bits(
         &mut kids[end..optional_end],
-        reader,
-        a,
-        b,
+        window,
+        buffers,
         n.need,
-        base,
         r.found.bits,
         depth,
     );
-    let w = excluded_bits(&mut kids[optional_end..], reader, a, b, base, o.bits, depth);
-    let p = phrase_bits(&mut kids[..end], reader, a, b, r.skipped, base, w, depth);
+    let w = excluded_bits(&mut kids[optional_end..], window, buffers, o.bits, depth);
+    let p = phrase_bits(&mut kids[..end], window, buffers, r.skipped, w, depth);
     Found {
         bits: p.bits,
         next: r.found.next.max(o.next).max(p.next),
@@ -128,24 +121,23 @@ fn boolean_bits(
 #[cycle(any_bits_boolean_bits_counted_bits_excluded_bits_node_bits_optional_bits_phrase_bits_required_bits)]
 fn phrase_bits(
     kids: &mut [u32],
-    reader: &LeafReader<'_>,
-    a: &mut [i32],
-    b: &mut [i32],
+    window: &Window<'_>,
+    buffers: &mut PhraseBuffers<'_>,
     skipped: bool,
-    base: u32,
     want: u64,
     depth: u32,
 ) -> Found
-    requires { PassPre (lent_of reader.now) (length a.old) (length b.old) kids.old true base want depth }
-    ensures { PhrasesPost (lent_of reader.now) (length a.old) (length b.old) kids.old skipped base want depth result.bits result.next kids.new }
+    requires { PassPre (lent_of window.now.reader) (room buffers.old) (other_room buffers.old) kids.old true window.now.base want depth }
+    ensures phrases_post { PhrasesPost (lent_of window.now.reader) (room buffers.old) (other_room buffers.old) kids.old skipped window.now.base want depth result.bits result.next kids.new }
+    ensures same_buffers { SameBuffers buffers.old buffers.new }
 {
     if skipped {
-        let p = required_bits(kids, reader, a, b, Asks::Phrases, base, want, depth);
+        let p = required_bits(kids, window, buffers, Asks::Phrases, want, depth);
         return p.found;
     }
     Found {
         bits: want,
-        next: base + 64,
+        next: window.base + 64,
     }
 }
 
@@ -153,17 +145,18 @@ fn phrase_bits(
 #[cycle(any_bits_boolean_bits_counted_bits_excluded_bits_node_bits_optional_bits_phrase_bits_required_bits)]
 fn required_bits(
     kids: &mut [u32],
-    reader: &LeafReader<'_>,
-    a: &mut [i32],
-    b: &mut [i32],
+    window: &Window<'_>,
+    buffers: &mut PhraseBuffers<'_>,
     asks: Asks,
-    base: u32,
     want: u64,
     depth: u32,
 ) -> Pass
-    requires { PassPre (lent_of reader.now) (length a.old) (length b.old) kids.old (phrases_only asks) base want depth }
-    ensures { PassPost (lent_of reader.now) (length a.old) (length b.old) kids.old (phrases_only asks) base want depth result.found.bits result.found.next result.skipped kids.new }
+    requires { PassPre (lent_of window.now.reader) (room buffers.old) (other_room buffers.old) kids.old (phrases_only asks) window.now.base want depth }
+    ensures pass_post { PassPost (lent_of window.now.reader) (room buffers.old) (other_room buffers.old) kids.old (phrases_only asks) window.now.base want depth result.found.bits result.found.next result.skipped kids.new }
+    ensures same_buffers { SameBuffers buffers.old buffers.new }
 {
+    let postings = window.reader.postings;
+    let base = window.base;
     let mut w = want;
     let mut next = base + 64;
     let mut skipped = false;
@@ -181,10 +174,10 @@ fn required_bits(
         if asks.takes(k.kind) {
             match k.kind {
                 NodeKind::Term => {
-                    w = bits::both(w, term_bits(&mut kids[at..end], reader.postings, base));
+                    w = bits::both(w, term_bits(&mut kids[at..end], postings, base));
                 }
                 _ => {
-                    w = node_bits(&mut kids[at..end], reader, a, b, base, w, depth);
+                    w = node_bits(&mut kids[at..end], window, buffers, w, depth);
                 }
             }
             next = next.max(kids[at + 22]);
@@ -203,40 +196,39 @@ fn required_bits(
 #[cycle(any_bits_boolean_bits_counted_bits_excluded_bits_node_bits_optional_bits_phrase_bits_required_bits)]
 fn optional_bits(
     kids: &mut [u32],
-    reader: &LeafReader<'_>,
-    a: &mut [i32],
-    b: &mut [i32],
+    window: &Window<'_>,
+    buffers: &mut PhraseBuffers<'_>,
     need: u32,
-    base: u32,
     want: u64,
     depth: u32,
 ) -> Found
-    requires { PartsPre (lent_of reader.now) (length a.old) (length b.old) kids.old base want depth }
-    ensures { OptionalPost (lent_of reader.now) (length a.old) (length b.old) kids.old need base want depth result.bits result.next kids.new }
+    requires { PartsPre (lent_of window.now.reader) (room buffers.old) (other_room buffers.old) kids.old window.now.base want depth }
+    ensures optional_post { OptionalPost (lent_of window.now.reader) (room buffers.old) (other_room buffers.old) kids.old need window.now.base want depth result.bits result.next kids.new }
+    ensures same_buffers { SameBuffers buffers.old buffers.new }
 {
     if need == 0 {
         return Found {
             bits: want,
-            next: base + 64,
+            next: window.base + 64,
         };
     }
     if want == 0 {
         return Found {
             bits: want,
-            next: base + 64,
+            next: window.base + 64,
         };
     }
     if need == 1 {
-        return any_bits(kids, reader, a, b, base, want, depth);
+        return any_bits(kids, window, buffers, want, depth);
     }
     if MOST < need {
         return Found {
             bits: 0,
-            next: base + 64,
+            next: window.base + 64,
         };
     }
     let mut planes = [0u64; PLANES];
-    let next = counted_bits(kids, reader, a, b, &mut planes, base, want, depth);
+    let next = counted_bits(kids, window, buffers, &mut planes, want, depth);
     Found {
         bits: planes::above(&planes, need - 1, want),
         next,
@@ -247,16 +239,17 @@ fn optional_bits(
 #[cycle(any_bits_boolean_bits_counted_bits_excluded_bits_node_bits_optional_bits_phrase_bits_required_bits)]
 fn any_bits(
     kids: &mut [u32],
-    reader: &LeafReader<'_>,
-    a: &mut [i32],
-    b: &mut [i32],
-    base: u32,
+    window: &Window<'_>,
+    buffers: &mut PhraseBuffers<'_>,
     want: u64,
     depth: u32,
 ) -> Found
-    requires { PartsPre (lent_of reader.now) (length a.old) (length b.old) kids.old base want depth }
-    ensures { AnyPost (lent_of reader.now) (length a.old) (length b.old) kids.old base want depth result.bits result.next kids.new }
+    requires { PartsPre (lent_of window.now.reader) (room buffers.old) (other_room buffers.old) kids.old window.now.base want depth }
+    ensures any_post { AnyPost (lent_of window.now.reader) (room buffers.old) (other_room buffers.old) kids.old window.now.base want depth result.bits result.next kids.new }
+    ensures same_buffers { SameBuffers buffers.old buffers.new }
 {
+    let postings = window.reader.postings;
+    let base = window.base;
     let mut w = 0;
     let mut next = NO_MORE_DOCS;
     let mut at = 0;
@@ -268,13 +261,13 @@ fn any_bits(
             NodeKind::Term => {
                 w = bits::either(
                     w,
-                    bits::both(want, term_bits(&mut kids[at..end], reader.postings, base)),
+                    bits::both(want, term_bits(&mut kids[at..end], postings, base)),
                 );
             }
             _ => {
                 w = bits::either(
                     w,
-                    node_bits(&mut kids[at..end], reader, a, b, base, want, depth),
+                    node_bits(&mut kids[at..end], window, buffers, want, depth),
                 );
             }
         }
@@ -288,19 +281,20 @@ fn any_bits(
 #[cycle(any_bits_boolean_bits_counted_bits_excluded_bits_node_bits_optional_bits_phrase_bits_required_bits)]
 fn counted_bits(
     kids: &mut [u32],
-    reader: &LeafReader<'_>,
-    a: &mut [i32],
-    b: &mut [i32],
+    window: &Window<'_>,
+    buffers: &mut PhraseBuffers<'_>,
     planes: &mut [u64],
-    base: u32,
     want: u64,
     depth: u32,
 ) -> u32
     requires empty { (length planes.old ≡ 8) × ((p : ℕ) → count p planes.old ≡ 0) }
-    requires parts_pre { PartsPre (lent_of reader.now) (length a.old) (length b.old) kids.old base want depth }
-    ensures count_post { CountPost (lent_of reader.now) (length a.old) (length b.old) kids.old base want depth (λ p. count p planes.new) result kids.new }
+    requires parts_pre { PartsPre (lent_of window.now.reader) (room buffers.old) (other_room buffers.old) kids.old window.now.base want depth }
+    ensures count_post { CountPost (lent_of window.now.reader) (room buffers.old) (other_room buffers.old) kids.old window.now.base want depth (λ p. count p planes.new) result kids.new }
+    ensures same_buffers { SameBuffers buffers.old buffers.new }
     ensures planes_length { length planes.new ≡ 8 }
 {
+    let postings = window.reader.postings;
+    let base = window.base;
     let mut next = NO_MORE_DOCS;
     let mut at = 0;
     // Kept: no plainer: parts differ in length and are lent for writing, so an iterator would hold `kids` and `at` itself.
@@ -309,15 +303,12 @@ fn counted_bits(
         let end = k.end;
         match k.kind {
             NodeKind::Term => {
-                let _carry = planes::counted(
-                    planes,
-                    term_bits(&mut kids[at..end], reader.postings, base),
-                );
+                let _carry = planes::counted(planes, term_bits(&mut kids[at..end], postings, base));
             }
             _ => {
                 let _carry = planes::counted(
                     planes,
-                    node_bits(&mut kids[at..end], reader, a, b, base, want, depth),
+                    node_bits(&mut kids[at..end], window, buffers, want, depth),
                 );
             }
         }
@@ -331,16 +322,17 @@ fn counted_bits(
 #[cycle(any_bits_boolean_bits_counted_bits_excluded_bits_node_bits_optional_bits_phrase_bits_required_bits)]
 fn excluded_bits(
     kids: &mut [u32],
-    reader: &LeafReader<'_>,
-    a: &mut [i32],
-    b: &mut [i32],
-    base: u32,
+    window: &Window<'_>,
+    buffers: &mut PhraseBuffers<'_>,
     want: u64,
     depth: u32,
 ) -> u64
-    requires { PartsPre (lent_of reader.now) (length a.old) (length b.old) kids.old base want depth }
-    ensures { ExcludedPost (lent_of reader.now) (length a.old) (length b.old) kids.old base want depth result kids.new }
+    requires { PartsPre (lent_of window.now.reader) (room buffers.old) (other_room buffers.old) kids.old window.now.base want depth }
+    ensures excluded_post { ExcludedPost (lent_of window.now.reader) (room buffers.old) (other_room buffers.old) kids.old window.now.base want depth result kids.new }
+    ensures same_buffers { SameBuffers buffers.old buffers.new }
 {
+    let postings = window.reader.postings;
+    let base = window.base;
     let mut w = want;
     let mut at = 0;
     // Kept: no plainer: parts differ in length and are lent for writing, so an iterator would hold `kids` and `at` itself.
@@ -352,13 +344,10 @@ fn excluded_bits(
         let end = k.end;
         match k.kind {
             NodeKind::Term => {
-                w = bits::without(w, term_bits(&mut kids[at..end], reader.postings, base));
+                w = bits::without(w, term_bits(&mut kids[at..end], postings, base));
             }
             _ => {
-                w = bits::without(
-                    w,
-                    node_bits(&mut kids[at..end], reader, a, b, base, w, depth),
-                );
+                w = bits::without(w, node_bits(&mut kids[at..end], window, buffers, w, depth));
             }
         }
         at = end;

@@ -22,8 +22,12 @@ module _ {postings positions : List ℕ} {ix : Index} {places f : ℕ} {ts : Lis
   unfolding LeafSound
   frequency-few = omega (arith, h.sound.3)
 
-  pub frequency-four : length terms ≤ 4 * node_state_words → 3 * length ts ≤ 12
-  frequency-four l = omega (arith, terms-windowed-length ix ts terms h.asked.bound base D h.asked.held)
+  -- three words of each term
+  pub frequency-words : {n : ℕ} → 3 * length terms ≤ node_state_words * n → 3 * length ts ≤ n
+  frequency-words l = omega (arith, terms-windowed-length ix ts terms h.asked.bound base D h.asked.held)
+
+  pub frequency-most : 3 * length terms ≤ node_state_words * 96
+  frequency-most = omega (arith, frequency-few, terms-windowed-length ix ts terms h.asked.bound base D h.asked.held)
 
   pub frequency-gather : (place : ℕ) → place < 64 → D place ≡ true → (room : ℕ) → 3 * length ts ≤ room → GatherPre postings terms base place room
   frequency-gather place l on room many = (l, (ix, ts, D, many, on, h.asked))

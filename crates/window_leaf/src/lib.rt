@@ -4,11 +4,12 @@
 ghost use Rattle.std.specs.Prelude.{◌≡◌, ◌+◌, ◌*◌, ◌≤◌, length, get_or};
 ghost use Rattle.meaning.specs.Limits.{node_state_words};
 ghost use Rattle.leaf_scorer.specs.Calls.{lent_of};
+ghost use Rattle.leaf_scorer.specs.Buffers.{room, other_room, SameBuffers};
 ghost use Rattle.window_leaf.specs.Asks.{TermPre, TermPost, RangePre, RangePost, BitsPre, BitsPost};
 ghost use Rattle.window_leaf.specs.Runs.{PutPre, PutPost, RunPre, RunPost, PartOf, DocumentPre, DocumentPost};
 
 use index::wide;
-use leaf_scorer::{LeafReader, NO_MORE_DOCS};
+use leaf_scorer::{LeafReader, NO_MORE_DOCS, PhraseBuffers};
 use node::NodeKind;
 use window::gathered;
 
@@ -16,6 +17,13 @@ pub mod phrases;
 
 // The words of a posting.
 const POSTING: usize = 3;
+
+// A window of 64 documents: what is read of the index, and its first document.
+#[derive(Clone, Copy)]
+pub struct Window<'a> {
+    pub reader: LeafReader<'a>,
+    pub base: u32,
+}
 
 // What some nodes answer together: bits, and a document before which nothing follows.
 #[derive(Clone, Copy)]
@@ -113,25 +121,22 @@ pub fn range_bits(st: &mut [u32], ranges: &[u32], base: u32) -> u64
 // The wanted documents of the window that a node without children matches.
 pub fn leaf_bits(
     st: &mut [u32],
-    reader: &LeafReader<'_>,
-    a: &mut [i32],
-    b: &mut [i32],
-    base: u32,
+    window: &Window<'_>,
+    buffers: &mut PhraseBuffers<'_>,
     want: u64,
     depth: u32,
 ) -> u64
     requires kind { get_or st.old 0 0 ≡ 3 → ⊥ }
-    requires bits_pre { BitsPre (lent_of reader.now) (length a.old) (length b.old) st.old base want depth }
-    ensures { BitsPost (lent_of reader.now) (length a.old) (length b.old) st.old base want depth result st.new }
+    requires bits_pre { BitsPre (lent_of window.now.reader) (room buffers.old) (other_room buffers.old) st.old window.now.base want depth }
+    ensures bits_post { BitsPost (lent_of window.now.reader) (room buffers.old) (other_room buffers.old) st.old window.now.base want depth result st.new }
+    ensures same_buffers { SameBuffers buffers.old buffers.new }
 {
     match NodeKind::from(st[0]) {
-        NodeKind::Term => bits::both(want, term_bits(st, reader.postings, base)),
-        NodeKind::Phrase => {
-            phrases::phrase_bits(st, reader.postings, reader.positions, a, b, base, want)
-        }
-        NodeKind::Range => bits::both(want, range_bits(st, reader.ranges, base)),
+        NodeKind::Term => bits::both(want, term_bits(st, window.reader.postings, window.base)),
+        NodeKind::Phrase => phrases::phrase_bits(st, window, buffers, want),
+        NodeKind::Range => bits::both(want, range_bits(st, window.reader.ranges, window.base)),
         NodeKind::Everything => {
-            put(st, want, base + 64);
+            put(st, want, window.base + 64);
             want
         }
         _ => {

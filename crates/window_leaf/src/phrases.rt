@@ -1,11 +1,14 @@
 // A phrase in a window: the documents that all its terms have, and then its positions in those alone.
-ghost use Rattle.std.specs.Prelude.{◌≡◌, ◌+◌, ◌*◌, ◌<◌, length, get_or};
+ghost use Rattle.std.specs.Prelude.{◌≡◌, ◌+◌, ◌*◌, ◌<◌, ◌≤◌, length, get_or};
+ghost use Rattle.meaning.specs.Limits.{node_state_words};
+ghost use Rattle.leaf_scorer.specs.Buffers.{room, other_room, SameBuffers};
 ghost use Rattle.window_leaf.specs.Asks.{PhrasePre, PhrasePost};
 ghost use Rattle.window_leaf.specs.Phrases.{TermsPre, TermsPost, rank_at, PostingPre, GatherPre, GatherPost, FrequencyPre, FrequencyPost, Noted, PlanesPre, PlanesPost};
 
-use crate::{Found, POSTING, put, run_bits};
+use crate::{Found, POSTING, Window, put, run_bits};
 use bits::SetBits;
 use index::wide;
+use leaf_scorer::PhraseBuffers;
 use weight::NODE_STATE_WORDS;
 
 // The words of four terms of a phrase.
@@ -59,27 +62,49 @@ fn gather(terms: &[u32], postings: &[u32], base: u32, place: u32, out: &mut [u32
     n
 }
 
-// The frequency of a phrase at a place that all its terms have. Most have up to four, and zeroing few words is cheaper.
-pub fn frequency_at(
+// The frequency of a phrase at a place that all its terms have, by way of an array that has room for three words of each.
+fn frequency_in<const WORDS: usize>(
     terms: &[u32],
-    postings: &[u32],
-    positions: &[u32],
-    a: &mut [i32],
-    b: &mut [i32],
-    base: u32,
+    window: &Window<'_>,
+    buffers: &mut PhraseBuffers<'_>,
     place: u32,
 ) -> u32
-    requires { FrequencyPre postings.now positions.now terms.now (length a.old) (length b.old) base place }
-    ensures { FrequencyPost postings.now positions.now terms.now base place result }
+    requires frequency_pre { FrequencyPre window.now.reader.postings.now window.now.reader.positions.now terms.now (room buffers.old) (other_room buffers.old) window.now.base place }
+    requires room { (3 * length terms.now ≤ node_state_words * WORDS) × (WORDS ≤ 96) }
+    ensures frequency_post { FrequencyPost window.now.reader.postings.now window.now.reader.positions.now terms.now window.now.base place result }
+    ensures same_buffers { SameBuffers buffers.old buffers.new }
+{
+    let mut words = [0u32; WORDS];
+    let n = gather(
+        terms,
+        window.reader.postings,
+        window.base,
+        place,
+        &mut words,
+    );
+    phrase::frequency(
+        window.reader.positions,
+        &words[..n],
+        buffers.starts,
+        buffers.other_starts,
+    )
+}
+
+// Most phrases have up to four terms, and zeroing few words is cheaper.
+pub fn frequency_at(
+    terms: &[u32],
+    window: &Window<'_>,
+    buffers: &mut PhraseBuffers<'_>,
+    place: u32,
+) -> u32
+    requires { FrequencyPre window.now.reader.postings.now window.now.reader.positions.now terms.now (room buffers.old) (other_room buffers.old) window.now.base place }
+    ensures frequency_post { FrequencyPost window.now.reader.postings.now window.now.reader.positions.now terms.now window.now.base place result }
+    ensures same_buffers { SameBuffers buffers.old buffers.new }
 {
     if terms.len() <= FOUR_TERMS {
-        let mut few = [0u32; 12];
-        let m = gather(terms, postings, base, place, &mut few);
-        return phrase::frequency(positions, &few[..m], a, b);
+        return frequency_in::<12>(terms, window, buffers, place);
     }
-    let mut out = [0u32; 96];
-    let n = gather(terms, postings, base, place, &mut out);
-    phrase::frequency(positions, &out[..n], a, b)
+    frequency_in::<96>(terms, window, buffers, place)
 }
 
 // The two lower digits of the frequencies of a window, 3 where they are 3 or more.
@@ -118,19 +143,17 @@ fn noted(planes: Planes, place: u32, frequency: u32) -> Planes
 // The frequencies at the candidates, one by one.
 fn planes_of(
     terms: &[u32],
-    postings: &[u32],
-    positions: &[u32],
-    a: &mut [i32],
-    b: &mut [i32],
-    base: u32,
+    window: &Window<'_>,
+    buffers: &mut PhraseBuffers<'_>,
     candidates: u64,
 ) -> Planes
-    requires { PlanesPre postings.now positions.now terms.now (length a.old) (length b.old) base candidates }
-    ensures { PlanesPost postings.now positions.now terms.now base candidates result.ones result.twos }
+    requires { PlanesPre window.now.reader.postings.now window.now.reader.positions.now terms.now (room buffers.old) (other_room buffers.old) window.now.base candidates }
+    ensures planes_post { PlanesPost window.now.reader.postings.now window.now.reader.positions.now terms.now window.now.base candidates result.ones result.twos }
+    ensures same_buffers { SameBuffers buffers.old buffers.new }
 {
     let mut planes = Planes { ones: 0, twos: 0 };
     for place in (SetBits { left: candidates }) {
-        let f = frequency_at(terms, postings, positions, a, b, base, place);
+        let f = frequency_at(terms, window, buffers, place);
         planes = noted(planes, place, f);
     }
     planes
@@ -139,26 +162,21 @@ fn planes_of(
 // The wanted documents where the phrase stands; their frequencies are stored as planes.
 pub fn phrase_bits(
     st: &mut [u32],
-    postings: &[u32],
-    positions: &[u32],
-    a: &mut [i32],
-    b: &mut [i32],
-    base: u32,
+    window: &Window<'_>,
+    buffers: &mut PhraseBuffers<'_>,
     want: u64,
 ) -> u64
-    requires { PhrasePre postings.now positions.now (length a.old) (length b.old) st.old base }
-    ensures { PhrasePost postings.now positions.now st.old base want result st.new }
+    requires { PhrasePre window.now.reader.postings.now window.now.reader.positions.now (room buffers.old) (other_room buffers.old) st.old window.now.base }
+    ensures phrase_post { PhrasePost window.now.reader.postings.now window.now.reader.positions.now st.old window.now.base want result st.new }
+    ensures same_buffers { SameBuffers buffers.old buffers.new }
 {
-    let t = terms_bits(&mut st[NODE_STATE_WORDS..], postings, base, want);
-    let planes = planes_of(
-        &st[NODE_STATE_WORDS..],
-        postings,
-        positions,
-        a,
-        b,
-        base,
-        t.bits,
+    let t = terms_bits(
+        &mut st[NODE_STATE_WORDS..],
+        window.reader.postings,
+        window.base,
+        want,
     );
+    let planes = planes_of(&st[NODE_STATE_WORDS..], window, buffers, t.bits);
     let w = bits::either(planes.ones, planes.twos);
     st[23] = bits::low(planes.ones);
     st[24] = bits::high(planes.ones);

@@ -14,8 +14,8 @@ use Rattle.weight.specs.Sound.{Sounds, TablesOf, nodes, nodes_of}
 use Rattle.leaf_score.specs.Asked.{Scorable}
 use Rattle.leaf_score.proofs.Bounds.{scores-more}
 use Rattle.score.proofs.Sums.{counted, Matched}
-use Rattle.window_words.specs.Windowed.{Places, nowhere, joined, Windowed, AllWindowed}
-use Rattle.window_words.proofs.Laws.{kind_of, windowed-long, windowed-size, windowed-kind, windowed-scores, windowed-bits}
+use Rattle.window_words.specs.Windowed.{Places, nowhere, Windowed, AllWindowed}
+use Rattle.window_words.proofs.Laws.{kind_of, windowed-long, windowed-size, windowed-kind, windowed-scores}
 use Rattle.window_words.proofs.Parts.{Part, Asked, all-each, each-all, Zip, zip-start, zip-none, zip-end, view, word-at, word-first, part-held, zip-next}
 use Rattle.node.specs.Words.{ChildThere}
 use Rattle.window_score.specs.Sums.{Sums, At, Added}
@@ -132,11 +132,6 @@ module _ {F : Frame} {kids : List ℕ} {at : ℕ} {sums : List Float} where
     walk-scores =
         let v = view w.zip in
         word-at v 15 (omega (arith, long)) ∙ windowed-scores F.ix F.ranges T F.depth (cond f 1 0) v.y F.bound F.base F.asked v.part-is
-
-    pub walk-bits : (p : ℕ) → p < 64 → F.asked p ≡ true → bit p (joined (get_or kids (at + 20) 0) (get_or kids (at + 21) 0)) ≡ matches F.ix T (F.base + p)
-    walk-bits p l e =
-        let v = view w.zip in
-        rw (word-at v 20 (omega (arith, long)), word-at v 21 (omega (arith, long))) (windowed-bits F.ix F.ranges T F.depth (cond f 1 0) v.y F.bound F.base F.asked v.part-is p l e)
 
     pub walk-scorable : F.most ≤ 256 → Scorable F.ix F.table F.places T
     unfolding Sounds TablesOf nodes_of

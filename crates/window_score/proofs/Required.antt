@@ -13,11 +13,11 @@ use Rattle.score.proofs.Sums.{scores-word, required-counted, required-matched}
 use Rattle.window_words.specs.Windowed.{places_of}
 use Rattle.window_words.proofs.Laws.{windowed-kind, windowed-forget}
 use Rattle.node.specs.Words.{ChildThere}
-use Rattle.window_score.specs.Asked.{WindowLent, NodeAsked, ScoresPre, ScoresPost, TermPre, TermPost, RequiredPre, RequiredPost}
+use Rattle.window_score.specs.Asked.{Reads, WindowLent, NodeAsked, ScoresPre, ScoresPost, TermPre, TermPost, RequiredPre, RequiredPost}
 use Rattle.window_score.proofs.Loops.{put, sums-more, added-none, Frame, Walk, walk-start, walk-open, walk-end, walk-there, walk-kind, walk-scores, walk-scorable, walk-few, walk-matched, walk-part, walk-took}
 
 -- the buffers keep their lengths, and fewer documents are wanted
-pub lent-at : {ix : Index} {n : ℕ} {postings positions norms : List ℕ} {places a b base want : ℕ} (a' b' x : ℕ) → a' ≡ a → b' ≡ b → ((p : ℕ) → p < 64 → bit p x ≡ true → bit p want ≡ true) → WindowLent ix n postings positions norms places a b base want → WindowLent ix n postings positions norms places a' b' base x
+pub lent-at : {ix : Index} {n : ℕ} {V : Reads} {places a b want : ℕ} (a' b' x : ℕ) → a' ≡ a → b' ≡ b → ((p : ℕ) → p < 64 → bit p x ≡ true → bit p want ≡ true) → WindowLent ix n V places a b want → WindowLent ix n V places a' b' x
 lent-at a' b' x same-a same-b less L =
     record {
       lends = L.lends;
@@ -35,21 +35,21 @@ no-score : (f : Bool) (w : ℕ) → w ≡ cond f 1 0 → (w ≡ 1 → ⊥) → f
 no-score true w e h = absurd (h e)
 no-score false w e h = refl
 
-module _ (kids₀ postings positions norms ranges : List ℕ) (table : List Float) (a b base want : ℕ) (sums₀ : List Float) (depth : ℕ) where
+module _ (kids₀ : List ℕ) (V : Reads) (a b want : ℕ) (sums₀ : List Float) (depth : ℕ) where
   abbrev pub Asks : Type 0
-  Asks = RequiredPre kids₀ postings positions norms ranges table a b base want sums₀ depth
+  Asks = RequiredPre kids₀ V a b want sums₀ depth
 
   abbrev pub frame : Asks → Frame
   frame w =
       record {
         counts = λ p. scores-word;
         ix = w.1;
-        ranges = ranges;
-        table = table;
+        ranges = V.ranges;
+        table = V.inverses;
         places = w.2;
         depth = depth;
-        bound = base + 64;
-        base = base;
+        bound = V.base + 64;
+        base = V.base;
         asked = places_of want;
         want = want;
         all = w.3;
@@ -60,66 +60,66 @@ module _ (kids₀ postings positions norms ranges : List ℕ) (table : List Floa
   abbrev pub RequiredAt : List ℕ → ℕ → List Float → Type 0
   RequiredAt kids at sums = (w : Asks) → (g : Scorers) × Walk (frame w) g kids at sums
 
-module _ {kids₀ postings positions norms ranges : List ℕ} {table : List Float} {a b base want : ℕ} {sums₀ : List Float} {depth : ℕ} where
-  pub required-start : RequiredAt kids₀ postings positions norms ranges table a b base want sums₀ depth kids₀ 0 sums₀
-  required-start w = (w.3, walk-start (frame kids₀ postings positions norms ranges table a b base want sums₀ depth w) kids₀ w.4 (le_refl _) w.6.held w.7 w.6.scorables.sound w.6.scorables.tables (λ p l i. required-matched w.1 w.3 (base + p) (w.6.match p l i)))
+module _ {kids₀ : List ℕ} {V : Reads} {a b want : ℕ} {sums₀ : List Float} {depth : ℕ} where
+  pub required-start : RequiredAt kids₀ V a b want sums₀ depth kids₀ 0 sums₀
+  required-start w = (w.3, walk-start (frame kids₀ V a b want sums₀ depth w) kids₀ w.4 (le_refl _) w.6.held w.7 w.6.scorables.sound w.6.scorables.tables (λ p l i. required-matched w.1 w.3 (V.base + p) (w.6.match p l i)))
 
-  module _ {kids : List ℕ} {at : ℕ} {sums : List Float} (I : RequiredAt kids₀ postings positions norms ranges table a b base want sums₀ depth kids at sums) where
-    pub required-end : length kids ≤ at → RequiredPost kids₀ postings positions norms ranges table a b base want sums₀ depth kids sums
+  module _ {kids : List ℕ} {at : ℕ} {sums : List Float} (I : RequiredAt kids₀ V a b want sums₀ depth kids at sums) where
+    pub required-end : length kids ≤ at → RequiredPost kids₀ V a b want sums₀ depth kids sums
     required-end l n ix places ss q L A S =
-        let w : Asks kids₀ postings positions norms ranges table a b base want sums₀ depth = (n, ix, places, ss, q, L, A, S) in
+        let w : Asks kids₀ V a b want sums₀ depth = (n, ix, places, ss, q, L, A, S) in
         let E = walk-end (I w).0 (I w).1 l in
-        (record { wanted = λ p m i. E.added.wanted p m i ∙ ap (λ (xs : List Float). sum_from (get_or sums₀ p nan) xs) (required-counted ix ss (base + p)); others = E.added.others }, E.small, E.parts)
+        (record { wanted = λ p m i. E.added.wanted p m i ∙ ap (λ (xs : List Float). sum_from (get_or sums₀ p nan) xs) (required-counted ix ss (V.base + p)); others = E.added.others }, E.small, E.parts)
 
     module _ (l : at < length kids) where
       -- the child at the place
-      abbrev child : (w : Asks kids₀ postings positions norms ranges table a b base want sums₀ depth) → (f : Bool) × (T : Scorer) × (g : Scorers) × Walk (frame kids₀ postings positions norms ranges table a b base want sums₀ depth w) (more f T g) kids at sums
+      abbrev child : (w : Asks kids₀ V a b want sums₀ depth) → (f : Bool) × (T : Scorer) × (g : Scorers) × Walk (frame kids₀ V a b want sums₀ depth w) (more f T g) kids at sums
       child w = walk-open (I w).0 (I w).1 l
 
-      pub required-there : Asks kids₀ postings positions norms ranges table a b base want sums₀ depth → ChildThere kids at
+      pub required-there : Asks kids₀ V a b want sums₀ depth → ChildThere kids at
       required-there w = walk-there (child w).3
 
       module _ (e : ℕ) (stop : e ≡ at + get_or kids (at + 1) 0) where
-        kept : (ys : List ℕ) (sums' : List Float) → ys ≡ (take (e - at) (drop at kids)) → RequiredAt kids₀ postings positions norms ranges table a b base want sums₀ depth (put kids at e ys) e sums' → RequiredAt kids₀ postings positions norms ranges table a b base want sums₀ depth kids e sums'
-        kept ys sums' h = subst (λ (r : List ℕ). RequiredAt kids₀ postings positions norms ranges table a b base want sums₀ depth r e sums') (ap (put kids at e) h ∙ part_same kids at e)
+        kept : (ys : List ℕ) (sums' : List Float) → ys ≡ (take (e - at) (drop at kids)) → RequiredAt kids₀ V a b want sums₀ depth (put kids at e ys) e sums' → RequiredAt kids₀ V a b want sums₀ depth kids e sums'
+        kept ys sums' h = subst (λ (r : List ℕ). RequiredAt kids₀ V a b want sums₀ depth r e sums') (ap (put kids at e) h ∙ part_same kids at e)
 
-        pub required-skip : (get_or kids (at + 15) 0 ≡ 1 → ⊥) → RequiredAt kids₀ postings positions norms ranges table a b base want sums₀ depth kids e sums
+        pub required-skip : (get_or kids (at + 15) 0 ≡ 1 → ⊥) → RequiredAt kids₀ V a b want sums₀ depth kids e sums
         required-skip filter =
             kept (take (e - at) (drop at kids)) sums refl (
             λ w.
             let c = child w in
             let none : c.0 ≡ false = no-score c.0 (get_or kids (at + 15) 0) (walk-scores c.3) filter in (
               c.2,
-              walk-took c.3 e stop 0 sums (λ p m i. bit-zero p ∙ sym none) (λ p m i. bit-zero p) (added-none (λ p. scorer_score w.1 c.1 (base + p)) 0 sums refl) (sums-more c.3.q (c.3.q + nodes c.1) sums (omega arith) c.3.small) (take (e - at) (drop at kids)) refl
-                  (windowed-forget w.1 ranges c.1 depth (cond c.0 1 0) (take (e - at) (drop at kids)) (base + 64) base (places_of want) (base + 64) (le_refl _) (omega arith) (walk-part c.3 e stop)),
+              walk-took c.3 e stop 0 sums (λ p m i. bit-zero p ∙ sym none) (λ p m i. bit-zero p) (added-none (λ p. scorer_score w.1 c.1 (V.base + p)) 0 sums refl) (sums-more c.3.q (c.3.q + nodes c.1) sums (omega arith) c.3.small) (take (e - at) (drop at kids)) refl
+                  (windowed-forget w.1 V.ranges c.1 depth (cond c.0 1 0) (take (e - at) (drop at kids)) (V.base + 64) V.base (places_of want) (V.base + 64) (le_refl _) (omega arith) (walk-part c.3 e stop)),
             )
             )
 
         module _ (must : get_or kids (at + 15) 0 ≡ 1) (a' b' : ℕ) (same-a : a' ≡ a) (same-b : b' ≡ b) where
-          scores : (w : Asks kids₀ postings positions norms ranges table a b base want sums₀ depth) → (child w).0 ≡ true
+          scores : (w : Asks kids₀ V a b want sums₀ depth) → (child w).0 ≡ true
           scores w = must-score (child w).0 (get_or kids (at + 15) 0) (walk-scores (child w).3) must
 
-          node : (w : Asks kids₀ postings positions norms ranges table a b base want sums₀ depth) → NodeAsked w.1 ranges table w.2 (child w).1 depth (cond (child w).0 1 0) (take (e - at) (drop at kids)) base want (child w).3.q
+          node : (w : Asks kids₀ V a b want sums₀ depth) → NodeAsked w.1 V w.2 (child w).1 depth (cond (child w).0 1 0) (take (e - at) (drop at kids)) want (child w).3.q
           node w =
               let c = child w in
               record { scorable = walk-scorable c.3 w.6.scorables.few; few = walk-few c.3 w.6.scorables.few; match = λ p m i. walk-matched c.3 p m i (scores w); held = walk-part c.3 e stop }
 
-          pub required-child : Asks kids₀ postings positions norms ranges table a b base want sums₀ depth → ScoresPre (take (e - at) (drop at kids)) postings positions norms ranges table a' b' base want sums depth
+          pub required-child : Asks kids₀ V a b want sums₀ depth → ScoresPre (take (e - at) (drop at kids)) V a' b' want sums depth
           required-child w =
               let c = child w in
               (w.0, w.1, w.2, c.1, cond c.0 1 0, c.3.q, lent-at a' b' want same-a same-b (λ p m i. i) w.5, node w, c.3.small)
 
-          pub required-term : get_or kids at 0 ≡ 1 → Asks kids₀ postings positions norms ranges table a b base want sums₀ depth → TermPre (take (e - at) (drop at kids)) postings norms table base want sums
+          pub required-term : get_or kids at 0 ≡ 1 → Asks kids₀ V a b want sums₀ depth → TermPre (take (e - at) (drop at kids)) V want sums
           required-term k w =
               let c = child w in
-              (windowed-kind w.1 ranges c.1 depth (cond c.0 1 0) (take (e - at) (drop at kids)) (base + 64) base (places_of want) (walk-part c.3 e stop) ∙ sym (walk-kind c.3) ∙ k, (positions, ranges, a', b', depth, required-child w))
+              (windowed-kind w.1 V.ranges c.1 depth (cond c.0 1 0) (take (e - at) (drop at kids)) (V.base + 64) V.base (places_of want) (walk-part c.3 e stop) ∙ sym (walk-kind c.3) ∙ k, (V.positions, V.ranges, a', b', depth, required-child w))
 
-          pub required-took : (ys : List ℕ) (sums' : List Float) → length ys ≡ length (take (e - at) (drop at kids)) → ScoresPost (take (e - at) (drop at kids)) postings positions norms ranges table a' b' base want sums depth ys sums' → RequiredAt kids₀ postings positions norms ranges table a b base want sums₀ depth (put kids at e ys) e sums'
+          pub required-took : (ys : List ℕ) (sums' : List Float) → length ys ≡ length (take (e - at) (drop at kids)) → ScoresPost (take (e - at) (drop at kids)) V a' b' want sums depth ys sums' → RequiredAt kids₀ V a b want sums₀ depth (put kids at e ys) e sums'
           required-took ys sums' len post w =
               let c = child w in
               let r = post w.0 w.1 w.2 c.1 (cond c.0 1 0) c.3.q (lent-at a' b' want same-a same-b (λ p m i. i) w.5) (node w) c.3.small in
               (c.2, walk-took c.3 e stop want sums' (λ p m i. i ∙ sym (scores w)) (λ p m i. i) r.0 r.1 ys len r.2)
 
           -- a term's part stays as it is
-          pub required-term-took : (sums' : List Float) → TermPost (take (e - at) (drop at kids)) postings norms table base want sums sums' → RequiredAt kids₀ postings positions norms ranges table a b base want sums₀ depth kids e sums'
-          required-term-took sums' post = kept (take (e - at) (drop at kids)) sums' refl (required-took (take (e - at) (drop at kids)) sums' refl (post positions ranges a' b' depth))
+          pub required-term-took : (sums' : List Float) → TermPost (take (e - at) (drop at kids)) V want sums sums' → RequiredAt kids₀ V a b want sums₀ depth kids e sums'
+          required-term-took sums' post = kept (take (e - at) (drop at kids)) sums' refl (required-took (take (e - at) (drop at kids)) sums' refl (post V.positions V.ranges a' b' depth))

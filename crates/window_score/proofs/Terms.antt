@@ -24,7 +24,9 @@ use Rattle.weight.specs.State.{State, words_of}
 use Rattle.weight.specs.Held.{TermIs, FloatIs, ScoringIs}
 use Rattle.weight.specs.Sound.{LeafSound, Sound, LeafTable, Tables, nodes}
 use Rattle.leaf_score.specs.declared.Node.{Node}
-use Rattle.leaf_score.specs.Words.{NodeIs}
+use Rattle.leaf_score.specs.Words.{NodeIs, constant_score}
+use Rattle.leaf_score.proofs.Constants.{constant-some}
+use Rattle.std.specs.Prelude.{Some}
 use Rattle.leaf_score.specs.Asked.{LentAt}
 use Rattle.leaf_score.proofs.Leaves.{Read, read, Weighs, answer, field-weighs, field-answer}
 use Rattle.leaf_score.proofs.Weights.{float_back, float-number}
@@ -34,7 +36,7 @@ use Rattle.window.proofs.Rank.{posting-of-bit}
 use Rattle.window_words.specs.Windowed.{nowhere, places_of, joined, window_bits, TermWindow, TermAsked, LeafWindowed, Windowed}
 use Rattle.window_words.proofs.Laws.{windowed-forget, windowed-kind, windowed-long, kind_of}
 use Rattle.window_score.specs.Sums.{Sums, Added, ConstantPre, ConstantPost}
-use Rattle.window_score.specs.Asked.{WindowLent, NodeAsked, TermPre, TermPost}
+use Rattle.window_score.specs.Asked.{Reads, with_lists, WindowLent, NodeAsked, TermPre, TermPost}
 use Rattle.window_score.proofs.Adding.{added-same, added-small}
 
 -- ---- the posting of a wanted place
@@ -85,14 +87,14 @@ term-one : {ix : Index} {table : List Float} {st : List ℕ} {base want : ℕ} {
 unfolding nodes
 term-one t = ap nodes t.is
 
-module _ (ix : Index) (ranges : List ℕ) (table : List Float) (places depth scores : ℕ) (st : List ℕ) (base want q : ℕ) where
+module _ (ix : Index) (V : Reads) (places depth scores : ℕ) (st : List ℕ) (want q : ℕ) where
   abbrev Asked : Scorer → Type 0
-  Asked S = NodeAsked ix ranges table places S depth scores st base want q
+  Asked S = NodeAsked ix V places S depth scores st want q
 
   kind-of : (S : Scorer) → Asked S → get_or st 0 0 ≡ kind_of S
-  kind-of S H = windowed-kind ix ranges S depth scores st (base + 64) base (places_of want) H.held
+  kind-of S H = windowed-kind ix V.ranges S depth scores st (V.base + 64) V.base (places_of want) H.held
 
-  pub term-in : (S : Scorer) → Asked S → get_or st 0 0 ≡ 1 → TermIn ix table st base want S
+  pub term-in : (S : Scorer) → Asked S → get_or st 0 0 ≡ 1 → TermIn ix V.inverses st V.base want S
   unfolding kind_of Windowed LeafWindowed Sound LeafSound Tables matches leaf_matches
   term-in (leaf nothing sc) H k = absurd (omega (arith, kind-of (leaf nothing sc) H, k))
   term-in (leaf (term l) sc) H k =
@@ -127,6 +129,13 @@ constant-score ix l (constant c) s n R p e =
     (float-number c n.weight f, subst (λ (z : Float). AtMost (2 ^ 29) z) (sym (float_back c n.weight f)) f.small, λ d. float_back c n.weight f)
 constant-score ix l (weighted w) s n R p e = absurd (omega (arith, R.constant-is, p.0))
 
+-- its constant score
+term-constant : {ix : Index} {table : List Float} {st : List ℕ} {base want : ℕ} {S : Scorer} → TermIn ix table st base want S → (n : Node) → NodeIs st n → n.constant ≡ 1 → T (not (nan_bits binary32 n.weight)) × AtMost (2 ^ 29) (of_bits binary32 n.weight) × ((d : ℕ) → of_bits binary32 n.weight ≡ scorer_score ix S d)
+unfolding scorer_score
+term-constant {ix} {st = st} t n N e =
+    let r = constant-score ix t.l t.sc t.s n (read st [] t.s n t.words N) t.scoring e in
+    (r.0, r.1, λ d. r.2 d ∙ ap (λ (x : Scorer). scorer_score ix x d) (sym t.is))
+
 -- what `weighted` is asked at a place, and what it answers
 pub record TermPlace (ix : Index) (S : Scorer) (postings norms : List ℕ) (table : List Float) (n : Node) (first bits base p : ℕ) : Type 0 where
   pub there : first + rank_of bits p < length postings / 3
@@ -149,24 +158,20 @@ module _ {ix : Index} {S : Scorer} {postings norms : List ℕ} {table : List Flo
     pub place-number : T (not (is_nan x))
     place-number = atmost-number (subst (λ (y : Float). AtMost (2 ^ 29) y) (sym place-score) t.small)
 
-module _ (ix : Index) (max : ℕ) (postings positions norms : List ℕ) (places a b base want : ℕ) (L : WindowLent ix max postings positions norms places a b base want) (bytes : (i : ℕ) → get_or norms i 0 < 256) (table : List Float) (st : List ℕ) (n : Node) (N : NodeIs st n) where
-  lent-at : (p : ℕ) → p < 64 → bit p want ≡ true → LentAt ix max postings positions norms (base + p)
+module _ (ix : Index) (max : ℕ) (V : Reads) (places a b want : ℕ) (L : WindowLent ix max V places a b want) (bytes : (i : ℕ) → get_or V.norms i 0 < 256) (st : List ℕ) (n : Node) (N : NodeIs st n) where
+  lent-at : (p : ℕ) → p < 64 → bit p want ≡ true → LentAt ix max V.postings V.positions V.norms (V.base + p)
   lent-at p l e = record { lends = L.lends; norms-are = L.norms-are; document = L.wanted p l e }
 
   -- a leaf that scores by BM25 at a frequency
-  pub field-place : (p : ℕ) → p < 64 → bit p want ≡ true → (f : ℕ) → f < Rattle.meaning.specs.Lent.field_count ix → Rattle.weight.specs.Sound.FieldTable ix table f → (w : Float) → FloatIs w n.weight → n.field ≡ f → n.norms ≡ Rattle.weight.specs.Held.norms_word ix f → (frequency : ℕ) → frequency ≤ largest_frequency → Weighs n norms table (base + p) frequency × (answer n norms table (base + p) frequency ≡ field_score ix f w frequency (base + p)) × AtMost (2 ^ 29) (answer n norms table (base + p) frequency)
+  pub field-place : (p : ℕ) → p < 64 → bit p want ≡ true → (f : ℕ) → f < Rattle.meaning.specs.Lent.field_count ix → Rattle.weight.specs.Sound.FieldTable ix V.inverses f → (w : Float) → FloatIs w n.weight → n.field ≡ f → n.norms ≡ Rattle.weight.specs.Held.norms_word ix f → (frequency : ℕ) → frequency ≤ largest_frequency → Weighs n V.norms V.inverses (V.base + p) frequency × (answer n V.norms V.inverses (V.base + p) frequency ≡ field_score ix f w frequency (V.base + p)) × AtMost (2 ^ 29) (answer n V.norms V.inverses (V.base + p) frequency)
   field-place p l e f o F w x g h frequency few =
       let K = lent-at p l e in
-      let r = field-answer ix max postings positions norms (base + p) K bytes table n f o F w x g h frequency few (answer n norms table (base + p) frequency) refl in
-      (field-weighs ix max postings positions norms (base + p) K bytes table n f o F w x g h frequency few, r.0, r.1)
+      let r = field-answer ix max V.postings V.positions V.norms (V.base + p) K bytes V.inverses n f o F w x g h frequency few (answer n V.norms V.inverses (V.base + p) frequency) refl in
+      (field-weighs ix max V.postings V.positions V.norms (V.base + p) K bytes V.inverses n f o F w x g h frequency few, r.0, r.1)
 
-  module _ (words : (i : ℕ) → get_or st i 0 < 4294967296) (S : Scorer) (t : TermIn ix table st base want S) where
+  module _ (words : (i : ℕ) → get_or st i 0 < 4294967296) (S : Scorer) (t : TermIn ix V.inverses st V.base want S) where
     R : Read n t.s
     R = read st [] t.s n t.words N
-
-    pub term-constant : n.constant ≡ 1 → T (not (nan_bits binary32 n.weight)) × AtMost (2 ^ 29) (of_bits binary32 n.weight) × ((d : ℕ) → of_bits binary32 n.weight ≡ scorer_score ix S d)
-    unfolding scorer_score
-    term-constant e = let r = constant-score ix t.l t.sc t.s n R t.scoring e in (r.0, r.1, λ d. r.2 d ∙ ap (λ (x : Scorer). scorer_score ix x d) (sym t.is))
 
     module _ (first bits : ℕ) (first-is : first ≡ n.first + get_or st 19 0) (bits-are : bits ≡ joined (get_or st 20 0) (get_or st 21 0)) where
       first-at : first ≡ leaf_first ix t.l + t.s.window_first
@@ -182,42 +187,42 @@ module _ (ix : Index) (max : ℕ) (postings positions norms : List ℕ) (places 
         abbrev at : ℕ
         at = t.s.window_first + rank_of (window_bits t.s) p
 
-        here : (at < leaf_number ix t.l) × (leaf_document ix t.l at ≡ base + p)
-        here = posting-there ix L.lends.accepted t.l t.there number-few t.s base (t.asked p l e) p l (t.match p l e)
+        here : (at < leaf_number ix t.l) × (leaf_document ix t.l at ≡ V.base + p)
+        here = posting-there ix L.lends.accepted t.l t.there number-few t.s V.base (t.asked p l e) p l (t.match p l e)
 
         rank-at : rank_of bits p ≡ rank_of (window_bits t.s) p
         rank-at = ap (λ (w : ℕ). rank_of w p) bits-at
 
         abbrev frequency : ℕ
-        frequency = posting_frequency postings first (rank_of bits p)
+        frequency = posting_frequency V.postings first (rank_of bits p)
 
         frequency-read : frequency ≡ leaf_frequency ix t.l at
         frequency-read =
             let i : first + rank_of bits p ≡ leaf_first ix t.l + at = omega (arith, first-at, rank-at) in
             ap (λ (y : List ℕ). get_or y (3 * (first + rank_of bits p) + 1) 0) (sym L.lends.postings-are) ∙ ap (λ (j : ℕ). get_or ix.postings (3 * j + 1) 0) i
 
-        frequency-is : frequency ≡ frequency_of ix t.l (posting_at ix t.l (base + p))
-        frequency-is = frequency-read ∙ sym (ap (frequency_of ix t.l) (posting-at ix t.l (base + p) (L.lends.accepted.ascending t.l t.there) at here.0 here.1))
+        frequency-is : frequency ≡ frequency_of ix t.l (posting_at ix t.l (V.base + p))
+        frequency-is = frequency-read ∙ sym (ap (frequency_of ix t.l) (posting-at ix t.l (V.base + p) (L.lends.accepted.ascending t.l t.there) at here.0 here.1))
 
         frequency-few : frequency ≤ largest_frequency
         frequency-few = omega (arith, frequency-read, (L.lends.accepted.posting t.l at t.there here.0).most)
 
-        place-there : first + rank_of bits p < length postings / 3
+        place-there : first + rank_of bits p < length V.postings / 3
         place-there = omega (arith, first-at, rank-at, here.0, (L.lends.accepted.leaf t.l t.there).run, ap length L.lends.postings-are)
 
-        place-by : (sc : Scoring) → ScoringIs sc t.s → LeafTable ix table (term t.l) sc → (n.constant ≡ 1 → ⊥) → Weighs n norms table (base + p) frequency × (term_score n norms table postings first bits base p ≡ leaf_score ix (term t.l) sc (base + p)) × AtMost (2 ^ 29) (term_score n norms table postings first bits base p)
+        place-by : (sc : Scoring) → ScoringIs sc t.s → LeafTable ix V.inverses (term t.l) sc → (n.constant ≡ 1 → ⊥) → Weighs n V.norms V.inverses (V.base + p) frequency × (term_score n V.norms V.inverses V.postings first bits V.base p ≡ leaf_score ix (term t.l) sc (V.base + p)) × AtMost (2 ^ 29) (term_score n V.norms V.inverses V.postings first bits V.base p)
         unfolding ScoringIs LeafTable leaf_score
         place-by (constant c) k F m = absurd (m (R.constant-is ∙ k.0))
         place-by (weighted w) k F m =
             let x : FloatIs w n.weight = subst (λ (i : ℕ). FloatIs w i) (sym R.weight_is) k.1 in
             let r = field-place p l e (leaf_field ix t.l) (L.lends.accepted.leaf t.l t.there).field F w x (R.field_is ∙ t.term-is.field_is) (R.norms-is ∙ t.term-is.norms-is) frequency frequency-few in
-            (r.0, r.1 ∙ ap (λ (i : ℕ). field_score ix (leaf_field ix t.l) w i (base + p)) frequency-is, r.2)
+            (r.0, r.1 ∙ ap (λ (i : ℕ). field_score ix (leaf_field ix t.l) w i (V.base + p)) frequency-is, r.2)
 
-        pub term-place : (n.constant ≡ 1 → ⊥) → TermPlace ix S postings norms table n first bits base p
+        pub term-place : (n.constant ≡ 1 → ⊥) → TermPlace ix S V.postings V.norms V.inverses n first bits V.base p
         unfolding scorer_score
         term-place m =
             let r = place-by t.sc t.scoring t.tables m in
-            record { there = place-there; weighs = r.0; is = r.1 ∙ ap (λ (x : Scorer). scorer_score ix x (base + p)) (sym t.is); small = r.2 }
+            record { there = place-there; weighs = r.0; is = r.1 ∙ ap (λ (x : Scorer). scorer_score ix x (V.base + p)) (sym t.is); small = r.2 }
 
 -- ---- the end of a loop
 abbrev pub Scores : Index → List ℕ → Scorer → ℕ → ℕ → List ℕ → ℕ → ℕ → ℕ → List Float → List Float → Type 0
@@ -225,44 +230,49 @@ Scores ix ranges S depth scores st base want q sums sums' =
     Added (λ p. scorer_score ix S (base + p)) want sums sums' × Sums (q + nodes S) sums' × Windowed ix ranges S depth scores st (base + 64) (base + 64) nowhere
 
 -- a leaf's scores were added, and its words stay
-pub leaf-added : (ix : Index) (ranges : List ℕ) (table : List Float) (places : ℕ) (S : Scorer) (depth scores : ℕ) (st : List ℕ) (base want q : ℕ) (sums sums' : List Float) → nodes S ≡ 1 → NodeAsked ix ranges table places S depth scores st base want q → Sums q sums → length sums' ≡ 64 → (score : ℕ → Float) → Added score want sums sums' → ((p : ℕ) → p < 64 → bit p want ≡ true → (score p ≡ scorer_score ix S (base + p)) × AtMost (2 ^ 29) (score p)) → Scores ix ranges S depth scores st base want q sums sums'
-leaf-added ix ranges table places S depth scores st base want q sums sums' one H K long score A h = (
-  added-same score want sums sums' A (λ p. scorer_score ix S (base + p)) (λ p l e. (h p l e).0),
+pub leaf-added : (ix : Index) (V : Reads) (places : ℕ) (S : Scorer) (depth scores : ℕ) (st : List ℕ) (want q : ℕ) (sums sums' : List Float) → nodes S ≡ 1 → NodeAsked ix V places S depth scores st want q → Sums q sums → length sums' ≡ 64 → (score : ℕ → Float) → Added score want sums sums' → ((p : ℕ) → p < 64 → bit p want ≡ true → (score p ≡ scorer_score ix S (V.base + p)) × AtMost (2 ^ 29) (score p)) → Scores ix V.ranges S depth scores st V.base want q sums sums'
+leaf-added ix V places S depth scores st want q sums sums' one H K long score A h = (
+  added-same score want sums sums' A (λ p. scorer_score ix S (V.base + p)) (λ p l e. (h p l e).0),
   subst (λ (r : ℕ). Sums (q + r) sums') (sym one) (added-small score want sums sums' A q 1 (omega (arith, one, H.few)) K long (λ p l e. small (score p) (h p l e).1)),
-  windowed-forget ix ranges S depth scores st (base + 64) base (places_of want) (base + 64) (omega arith) (omega arith) H.held,
+  windowed-forget ix V.ranges S depth scores st (V.base + 64) V.base (places_of want) (V.base + 64) (omega arith) (omega arith) H.held,
 )
   where
     small : (x : Float) → AtMost (2 ^ 29) x → AtMost (1 * 2 ^ 29) x
     small x i = i
 
 -- ---- what `term_scores` asks and gives
-module _ (st postings norms : List ℕ) (table : List Float) (base want : ℕ) (sums : List Float) (bytes : (i : ℕ) → get_or norms i 0 < 256) (words : (i : ℕ) → get_or st i 0 < 4294967296) where
-  module _ (P : TermPre st postings norms table base want sums) where
-    pub pre-long : node_state_words ≤ length st
-    pre-long = windowed-long P.1.5.1 P.1.1 P.1.5.3 P.1.4 P.1.5.4 st (base + 64) base (places_of want) P.1.5.7.held
+module _ (V : Reads) {st : List ℕ} {want : ℕ} {sums : List Float} where
+  pub pre-long : TermPre st V want sums → node_state_words ≤ length st
+  pre-long P = windowed-long P.1.5.1 P.1.1 P.1.5.3 P.1.4 P.1.5.4 st (V.base + 64) V.base (places_of want) P.1.5.7.held
 
-    pre-in : TermIn P.1.5.1 table st base want P.1.5.3
-    pre-in = term-in P.1.5.1 P.1.1 table P.1.5.2 P.1.4 P.1.5.4 st base want P.1.5.5 P.1.5.3 P.1.5.7 P.0
+  pre-in : (P : TermPre st V want sums) → TermIn P.1.5.1 V.inverses st V.base want P.1.5.3
+  pre-in P = term-in P.1.5.1 (with_lists V P.1.0 P.1.1) P.1.5.2 P.1.4 P.1.5.4 st want P.1.5.5 P.1.5.3 P.1.5.7 P.0
 
-    module _ (n : Node) (N : NodeIs st n) where
-      pub pre-constant : n.constant ≡ 1 → T (not (nan_bits binary32 n.weight)) × ConstantPre (of_bits binary32 n.weight) sums
-      pre-constant e =
-          let r = term-constant P.1.5.1 P.1.5.0 postings P.1.0 norms P.1.5.2 P.1.2 P.1.3 base want P.1.5.6 bytes table st n N words P.1.5.3 pre-in e in
-          (r.0, (P.1.5.5, 1, (omega (arith, term-one pre-in, P.1.5.7.few), P.1.5.8), r.1))
+  module _ (n : Node) (N : NodeIs st n) where
+    pub pre-number : TermPre st V want sums → n.constant ≡ 1 → T (not (nan_bits binary32 n.weight))
+    pre-number P e = (term-constant (pre-in P) n N e).0
 
-      pub pre-place : (first bits : ℕ) → first ≡ n.first + get_or st 19 0 → bits ≡ joined (get_or st 20 0) (get_or st 21 0) → (p : ℕ) → p < 64 → bit p want ≡ true → (n.constant ≡ 1 → ⊥) → TermPlace P.1.5.1 P.1.5.3 postings norms table n first bits base p
-      pre-place first bits f b p l e m = term-place P.1.5.1 P.1.5.0 postings P.1.0 norms P.1.5.2 P.1.2 P.1.3 base want P.1.5.6 bytes table st n N words P.1.5.3 pre-in first bits f b p l e m
+    module _ (x : Float) (some-is : Some x ≡ constant_score n) where
+      pub pre-constant : TermPre st V want sums → ConstantPre x sums
+      pre-constant P =
+          let k = constant-some n x some-is in
+          (P.1.5.5, 1, (omega (arith, term-one (pre-in P), P.1.5.7.few), P.1.5.8), subst (λ (y : Float). AtMost (1 * 2 ^ 29) y) (sym k.1) (term-constant (pre-in P) n N k.0).1)
 
-  module _ (k : get_or st 0 0 ≡ 1) (n : Node) (N : NodeIs st n) (sums' : List Float) where
-    pub post-constant : n.constant ≡ 1 → ConstantPost (of_bits binary32 n.weight) want sums sums' → TermPost st postings norms table base want sums sums'
-    post-constant c h positions ranges a b depth max ix places S scores q L H K =
-        let i = term-in ix ranges table places depth scores st base want q S H k in
-        let r = term-constant ix max postings positions norms places a b base want L bytes table st n N words S i c in
-        let z = h q 1 (omega (arith, term-one i, H.few), K) r.1 in
-        leaf-added ix ranges table places S depth scores st base want q sums sums' (term-one i) H K z.1.long (λ p. of_bits binary32 n.weight) z.0 (λ p l e. (r.2 (base + p), r.1))
+      pub post-constant : get_or st 0 0 ≡ 1 → (sums' : List Float) → ConstantPost x want sums sums' → TermPost st V want sums sums'
+      post-constant k sums' h positions ranges a b depth max ix places S scores q L H K =
+          let c = constant-some n x some-is in
+          let i = term-in ix (with_lists V positions ranges) places depth scores st want q S H k in
+          let r = term-constant i n N c.0 in
+          let small : AtMost (2 ^ 29) x = subst (λ (y : Float). AtMost (2 ^ 29) y) (sym c.1) r.1 in
+          let z = h q 1 (omega (arith, term-one i, H.few), K) small in
+          leaf-added ix (with_lists V positions ranges) places S depth scores st want q sums sums' (term-one i) H K z.1.long (λ p. x) z.0 (λ p l e. (c.1 ∙ r.2 (V.base + p), small))
 
-    pub post-weighted : (n.constant ≡ 1 → ⊥) → (first bits : ℕ) → first ≡ n.first + get_or st 19 0 → bits ≡ joined (get_or st 20 0) (get_or st 21 0) → length sums' ≡ 64 → Added (term_score n norms table postings first bits base) want sums sums' → TermPost st postings norms table base want sums sums'
-    post-weighted m first bits f g long A positions ranges a b depth max ix places S scores q L H K =
-        let i = term-in ix ranges table places depth scores st base want q S H k in
-        leaf-added ix ranges table places S depth scores st base want q sums sums' (term-one i) H K long (term_score n norms table postings first bits base) A
-        (λ p l e. let t = term-place ix max postings positions norms places a b base want L bytes table st n N words S i first bits f g p l e m in (t.is, t.small))
+    module _ (bytes : (i : ℕ) → get_or V.norms i 0 < 256) (words : (i : ℕ) → get_or st i 0 < 4294967296) (m : n.constant ≡ 1 → ⊥) (first bits : ℕ) (first-is : first ≡ n.first + get_or st 19 0) (bits-are : bits ≡ joined (get_or st 20 0) (get_or st 21 0)) where
+      pub pre-place : (P : TermPre st V want sums) (p : ℕ) → p < 64 → bit p want ≡ true → TermPlace P.1.5.1 P.1.5.3 V.postings V.norms V.inverses n first bits V.base p
+      pre-place P p l e = term-place P.1.5.1 P.1.5.0 (with_lists V P.1.0 P.1.1) P.1.5.2 P.1.2 P.1.3 want P.1.5.6 bytes st n N words P.1.5.3 (pre-in P) first bits first-is bits-are p l e m
+
+      pub post-weighted : get_or st 0 0 ≡ 1 → (sums' : List Float) → length sums' ≡ 64 → Added (term_score n V.norms V.inverses V.postings first bits V.base) want sums sums' → TermPost st V want sums sums'
+      post-weighted k sums' long A positions ranges a b depth max ix places S scores q L H K =
+          let i = term-in ix (with_lists V positions ranges) places depth scores st want q S H k in
+          leaf-added ix (with_lists V positions ranges) places S depth scores st want q sums sums' (term-one i) H K long (term_score n V.norms V.inverses V.postings first bits V.base) A
+          (λ p l e. let t = term-place ix max (with_lists V positions ranges) places a b want L bytes st n N words S i first bits first-is bits-are p l e m in (t.is, t.small))

@@ -1,5 +1,5 @@
 -- What is read of a node's record. Assumes nothing: these are definitions.
-use Rattle.std.specs.Prelude.{◌≡◌, cond, List, ℕ, ◌+◌, ◌*◌, get_or}
+use Rattle.std.specs.Prelude.{◌≡◌, cond, ◌&&◌, List, ℕ, ◌+◌, ◌*◌, get_or}
 use Rattle.bits.specs.Bit.{bit}
 use Rattle.window_words.specs.Windowed.{joined}
 use Rattle.window_leaf.specs.declared.phrases.Planes.{Planes}
@@ -12,3 +12,8 @@ pub record PlanesRead (st : List ℕ) (r : Planes) : Type 0 where
 -- the frequency that two planes have at a place
 abbrev pub PlanedIs : Planes → ℕ → ℕ → Type 0
 PlanedIs planes p r = r ≡ cond (bit p planes.ones) 1 0 + 2 * cond (bit p planes.twos) 1 0
+
+-- of an optional child of which some are needed: the documents that its record has, of those that are wanted; the words stay
+pub record StoredAre (st : List ℕ) (want r : ℕ) (st' : List ℕ) : Type 0 where
+  pub bits : (p : ℕ) → bit p r ≡ (bit p want && bit p (joined (get_or st 20 0) (get_or st 21 0)))
+  pub kept : st' ≡ st

@@ -1,107 +1,106 @@
 // The scores of a window's documents: each node adds its own to the sums of the wanted documents, one node after the other in the order of the parts.
 #![tactic(auto)]
 
-ghost use Rattle.std.specs.Prelude.{◌≡◌, ◌+◌, length, get_or};
-ghost use Rattle.node.specs.Words.{ChildThere};
+ghost use Rattle.std.specs.Prelude.{◌≡◌, ◌≤◌, length, get_or};
+ghost use Rattle.meaning.specs.Limits.{node_state_words};
 ghost use Rattle.window_words.specs.Windowed.{joined};
 ghost use Rattle.leaf_scorer.specs.Calls.{lent_of};
+ghost use Rattle.leaf_scorer.specs.Buffers.{room, other_room, SameBuffers};
 ghost use Rattle.window_leaf.specs.Asks.{BitsPre, BitsPost};
-ghost use Rattle.window_score.specs.Asked.{ScoresPre, ScoresPost, RequiredPre, RequiredPost, OptionalPre, OptionalPost, BooleanPre, BooleanPost, RootPartsPre, RootPartsPost, RootGroupPre, RootGroupPost};
+ghost use Rattle.window_score.specs.Words.{StoredAre};
+ghost use Rattle.window_score.specs.Asked.{reads_of, ScoresPre, ScoresPost, RequiredPre, RequiredPost, OptionalPre, OptionalPost, BooleanPre, BooleanPost, RootPartsPre, RootPartsPost, RootGroupPre, RootGroupPost};
 
-use leaf_scorer::LeafReader;
+use leaf_score::node_at;
+use leaf_scorer::PhraseBuffers;
 use node::{Boolean, NodeKind, boolean_at, child_at};
 use sums::{add_constant, add_narrowed, join_after};
 use weight::NODE_STATE_WORDS;
 use window_bits::node_bits;
-use window_leaf::term_bits;
+use window_leaf::{Window, term_bits};
 
 pub mod leaf;
 pub mod root;
 pub mod sums;
 
 // The documents of the window that a child matches, as its record has them.
-fn stored_bits(kids: &[u32], at: usize) -> u64
-    requires { ChildThere kids.now at }
-    ensures { result ≡ joined (get_or kids.now (at + 20) 0) (get_or kids.now (at + 21) 0) }
+fn stored_bits(st: &[u32]) -> u64
+    requires { node_state_words ≤ length st.now }
+    ensures { result ≡ joined (get_or st.now 20 0) (get_or st.now 21 0) }
 {
-    bits::joined(kids[at + 20], kids[at + 21])
+    bits::joined(st[20], st[21])
 }
 
 // Which of the wanted documents a child matches; a term is asked without the call of node_bits.
 fn child_bits(
     st: &mut [u32],
-    reader: &LeafReader<'_>,
-    a: &mut [i32],
-    b: &mut [i32],
-    base: u32,
+    window: &Window<'_>,
+    buffers: &mut PhraseBuffers<'_>,
     want: u64,
     depth: u32,
 ) -> u64
-    requires { BitsPre (lent_of reader.now) (length a.old) (length b.old) st.old base want depth }
-    ensures { BitsPost (lent_of reader.now) (length a.old) (length b.old) st.old base want depth result st.new }
+    requires { BitsPre (lent_of window.now.reader) (room buffers.old) (other_room buffers.old) st.old window.now.base want depth }
+    ensures bits_post { BitsPost (lent_of window.now.reader) (room buffers.old) (other_room buffers.old) st.old window.now.base want depth result st.new }
+    ensures same_buffers { SameBuffers buffers.old buffers.new }
 {
     match NodeKind::from(st[0]) {
-        NodeKind::Term => bits::both(want, term_bits(st, reader.postings, base)),
-        _ => node_bits(st, reader, a, b, base, want, depth),
+        NodeKind::Term => bits::both(want, term_bits(st, window.reader.postings, window.base)),
+        _ => node_bits(st, window, buffers, want, depth),
     }
+}
+
+// Which of the wanted documents an optional child matches: its record has them, but where none is needed it is asked only now.
+fn optional_child_bits(
+    st: &mut [u32],
+    need: u32,
+    window: &Window<'_>,
+    buffers: &mut PhraseBuffers<'_>,
+    want: u64,
+    depth: u32,
+) -> u64
+    requires long { node_state_words ≤ length st.old }
+    requires unneeded { need ≡ 0 → BitsPre (lent_of window.now.reader) (room buffers.old) (other_room buffers.old) st.old window.now.base want depth }
+    ensures unneeded { need ≡ 0 → BitsPost (lent_of window.now.reader) (room buffers.old) (other_room buffers.old) st.old window.now.base want depth result st.new }
+    ensures needed { (need ≡ 0 → ⊥) → StoredAre st.old want result st.new }
+    ensures same_buffers { SameBuffers buffers.old buffers.new }
+{
+    if need == 0 {
+        return child_bits(st, window, buffers, want, depth);
+    }
+    bits::both(want, stored_bits(st))
 }
 
 // The node's score is added to the sum of each wanted document, all of which it matches.
 #[cycle(boolean_scores_group_scores_node_scores_optional_scores_part_scores_required_scores)]
 pub fn node_scores(
     st: &mut [u32],
-    reader: &LeafReader<'_>,
-    inverses: &[f32],
-    a: &mut [i32],
-    b: &mut [i32],
-    base: u32,
+    window: &Window<'_>,
+    buffers: &mut PhraseBuffers<'_>,
     want: u64,
     sums: &mut [f64],
     depth: u32,
 )
-    requires { ScoresPre st.old reader.now.postings.now reader.now.positions.now reader.now.norms.now reader.now.ranges.now inverses.now (length a.old) (length b.old) base want sums.old depth }
-    ensures { ScoresPost st.old reader.now.postings.now reader.now.positions.now reader.now.norms.now reader.now.ranges.now inverses.now (length a.old) (length b.old) base want sums.old depth st.new sums.new }
+    requires { ScoresPre st.old (reads_of window.now) (room buffers.old) (other_room buffers.old) want sums.old depth }
+    ensures scores_post { ScoresPost st.old (reads_of window.now) (room buffers.old) (other_room buffers.old) want sums.old depth st.new sums.new }
+    ensures same_buffers { SameBuffers buffers.old buffers.new }
 {
-    if st[11] == 1 {
-        add_constant(f32::from_bits(st[12]), want, sums);
+    if let Some(score) = node_at(st).constant_score() {
+        add_constant(score, want, sums);
         return;
     }
     match NodeKind::from(st[0]) {
         NodeKind::Term => {
-            leaf::term_scores(
-                st,
-                reader.postings,
-                reader.norms,
-                inverses,
-                base,
-                want,
-                sums,
-            );
+            leaf::term_scores(st, window, want, sums);
         }
         NodeKind::Phrase => {
-            leaf::phrase_scores(
-                st,
-                reader.postings,
-                reader.positions,
-                reader.norms,
-                inverses,
-                a,
-                b,
-                base,
-                want,
-                sums,
-            );
+            leaf::phrase_scores(st, window, buffers, want, sums);
         }
         NodeKind::Boolean => {
             let n = boolean_at(st);
             boolean_scores(
                 &mut st[NODE_STATE_WORDS..],
                 n,
-                reader,
-                inverses,
-                a,
-                b,
-                base,
+                window,
+                buffers,
                 want,
                 sums,
                 depth - 1,
@@ -116,20 +115,18 @@ pub fn node_scores(
 fn boolean_scores(
     kids: &mut [u32],
     n: Boolean,
-    reader: &LeafReader<'_>,
-    inverses: &[f32],
-    a: &mut [i32],
-    b: &mut [i32],
-    base: u32,
+    window: &Window<'_>,
+    buffers: &mut PhraseBuffers<'_>,
     want: u64,
     sums: &mut [f64],
     depth: u32,
 )
-    requires { BooleanPre kids.old n reader.now.postings.now reader.now.positions.now reader.now.norms.now reader.now.ranges.now inverses.now (length a.old) (length b.old) base want sums.old depth }
-    ensures { BooleanPost kids.old n reader.now.postings.now reader.now.positions.now reader.now.norms.now reader.now.ranges.now inverses.now (length a.old) (length b.old) base want sums.old depth kids.new sums.new }
+    requires { BooleanPre kids.old n (reads_of window.now) (room buffers.old) (other_room buffers.old) want sums.old depth }
+    ensures boolean_post { BooleanPost kids.old n (reads_of window.now) (room buffers.old) (other_room buffers.old) want sums.old depth kids.new sums.new }
+    ensures same_buffers { SameBuffers buffers.old buffers.new }
 {
     let mut own = [0.0f64; 64];
-    part_scores(kids, n, reader, inverses, a, b, base, want, &mut own, depth);
+    part_scores(kids, n, window, buffers, want, &mut own, depth);
     add_narrowed(&own, want, sums);
 }
 
@@ -139,43 +136,28 @@ fn boolean_scores(
 fn part_scores(
     kids: &mut [u32],
     n: Boolean,
-    reader: &LeafReader<'_>,
-    inverses: &[f32],
-    a: &mut [i32],
-    b: &mut [i32],
-    base: u32,
+    window: &Window<'_>,
+    buffers: &mut PhraseBuffers<'_>,
     want: u64,
     sums: &mut [f64],
     depth: u32,
 )
-    requires { RootPartsPre kids.old n reader.now.postings.now reader.now.positions.now reader.now.norms.now reader.now.ranges.now inverses.now (length a.old) (length b.old) base want sums.old depth }
-    ensures { RootPartsPost kids.old n reader.now.postings.now reader.now.positions.now reader.now.norms.now reader.now.ranges.now inverses.now (length a.old) (length b.old) base want sums.old depth kids.new sums.new }
+    requires { RootPartsPre kids.old n (reads_of window.now) (room buffers.old) (other_room buffers.old) want sums.old depth }
+    ensures root_parts_post { RootPartsPost kids.old n (reads_of window.now) (room buffers.old) (other_room buffers.old) want sums.old depth kids.new sums.new }
+    ensures same_buffers { SameBuffers buffers.old buffers.new }
 {
     let end = n.required_end;
     let optional_end = n.optional_end;
     if end == optional_end {
-        required_scores(
-            &mut kids[..end],
-            reader,
-            inverses,
-            a,
-            b,
-            base,
-            want,
-            sums,
-            depth,
-        );
+        required_scores(&mut kids[..end], window, buffers, want, sums, depth);
         return;
     }
     if end == 0 {
         optional_scores(
             &mut kids[end..optional_end],
             n.need,
-            reader,
-            inverses,
-            a,
-            b,
-            base,
+            window,
+            buffers,
             want,
             sums,
             depth,
@@ -186,11 +168,8 @@ fn part_scores(
     optional_scores(
         &mut kids[end..optional_end],
         n.need,
-        reader,
-        inverses,
-        a,
-        b,
-        base,
+        window,
+        buffers,
         want,
         &mut group,
         depth,
@@ -199,11 +178,8 @@ fn part_scores(
         &mut kids[..end],
         n,
         &group,
-        reader,
-        inverses,
-        a,
-        b,
-        base,
+        window,
+        buffers,
         want,
         sums,
         depth,
@@ -216,67 +192,41 @@ fn group_scores(
     kids: &mut [u32],
     n: Boolean,
     group: &[f64],
-    reader: &LeafReader<'_>,
-    inverses: &[f32],
-    a: &mut [i32],
-    b: &mut [i32],
-    base: u32,
+    window: &Window<'_>,
+    buffers: &mut PhraseBuffers<'_>,
     want: u64,
     sums: &mut [f64],
     depth: u32,
 )
-    requires { RootGroupPre kids.old n group.now reader.now.postings.now reader.now.positions.now reader.now.norms.now reader.now.ranges.now inverses.now (length a.old) (length b.old) base want sums.old depth }
-    ensures { RootGroupPost kids.old n group.now reader.now.postings.now reader.now.positions.now reader.now.norms.now reader.now.ranges.now inverses.now (length a.old) (length b.old) base want sums.old depth kids.new sums.new }
+    requires { RootGroupPre kids.old n group.now (reads_of window.now) (room buffers.old) (other_room buffers.old) want sums.old depth }
+    ensures root_group_post { RootGroupPost kids.old n group.now (reads_of window.now) (room buffers.old) (other_room buffers.old) want sums.old depth kids.new sums.new }
+    ensures same_buffers { SameBuffers buffers.old buffers.new }
 {
     if n.afterwards {
-        required_scores(kids, reader, inverses, a, b, base, want, sums, depth);
+        required_scores(kids, window, buffers, want, sums, depth);
         join_after(group, want, sums);
         return;
     }
     let at = n.group_at;
-    required_scores(
-        &mut kids[..at],
-        reader,
-        inverses,
-        a,
-        b,
-        base,
-        want,
-        sums,
-        depth,
-    );
+    required_scores(&mut kids[..at], window, buffers, want, sums, depth);
     add_narrowed(group, want, sums);
-    required_scores(
-        &mut kids[at..],
-        reader,
-        inverses,
-        a,
-        b,
-        base,
-        want,
-        sums,
-        depth,
-    );
+    required_scores(&mut kids[at..], window, buffers, want, sums, depth);
 }
 
 // The scores of the Must children, in the order of their parts.
 #[cycle(boolean_scores_group_scores_node_scores_optional_scores_part_scores_required_scores)]
 fn required_scores(
     kids: &mut [u32],
-    reader: &LeafReader<'_>,
-    inverses: &[f32],
-    a: &mut [i32],
-    b: &mut [i32],
-    base: u32,
+    window: &Window<'_>,
+    buffers: &mut PhraseBuffers<'_>,
     want: u64,
     sums: &mut [f64],
     depth: u32,
 )
-    requires { RequiredPre kids.old reader.now.postings.now reader.now.positions.now reader.now.norms.now reader.now.ranges.now inverses.now (length a.old) (length b.old) base want sums.old depth }
-    ensures { RequiredPost kids.old reader.now.postings.now reader.now.positions.now reader.now.norms.now reader.now.ranges.now inverses.now (length a.old) (length b.old) base want sums.old depth kids.new sums.new }
+    requires { RequiredPre kids.old (reads_of window.now) (room buffers.old) (other_room buffers.old) want sums.old depth }
+    ensures required_post { RequiredPost kids.old (reads_of window.now) (room buffers.old) (other_room buffers.old) want sums.old depth kids.new sums.new }
+    ensures same_buffers { SameBuffers buffers.old buffers.new }
 {
-    let postings = reader.postings;
-    let norms = reader.norms;
     let mut at = 0;
     // Kept: no plainer: parts differ in length and are lent for writing, so an iterator would hold `kids` and `at` itself.
     while at < kids.len() {
@@ -285,20 +235,10 @@ fn required_scores(
         if k.scores {
             match k.kind {
                 NodeKind::Term => {
-                    leaf::term_scores(&kids[at..end], postings, norms, inverses, base, want, sums);
+                    leaf::term_scores(&kids[at..end], window, want, sums);
                 }
                 _ => {
-                    node_scores(
-                        &mut kids[at..end],
-                        reader,
-                        inverses,
-                        a,
-                        b,
-                        base,
-                        want,
-                        sums,
-                        depth,
-                    );
+                    node_scores(&mut kids[at..end], window, buffers, want, sums, depth);
                 }
             }
         }
@@ -311,47 +251,29 @@ fn required_scores(
 fn optional_scores(
     kids: &mut [u32],
     need: u32,
-    reader: &LeafReader<'_>,
-    inverses: &[f32],
-    a: &mut [i32],
-    b: &mut [i32],
-    base: u32,
+    window: &Window<'_>,
+    buffers: &mut PhraseBuffers<'_>,
     want: u64,
     sums: &mut [f64],
     depth: u32,
 )
-    requires { OptionalPre kids.old need reader.now.postings.now reader.now.positions.now reader.now.norms.now reader.now.ranges.now inverses.now (length a.old) (length b.old) base want sums.old depth }
-    ensures { OptionalPost kids.old need reader.now.postings.now reader.now.positions.now reader.now.norms.now reader.now.ranges.now inverses.now (length a.old) (length b.old) base want sums.old depth kids.new sums.new }
+    requires { OptionalPre kids.old need (reads_of window.now) (room buffers.old) (other_room buffers.old) want sums.old depth }
+    ensures optional_post { OptionalPost kids.old need (reads_of window.now) (room buffers.old) (other_room buffers.old) want sums.old depth kids.new sums.new }
+    ensures same_buffers { SameBuffers buffers.old buffers.new }
 {
-    let postings = reader.postings;
-    let norms = reader.norms;
     let mut at = 0;
     // Kept: no plainer: parts differ in length and are lent for writing, so an iterator would hold `kids` and `at` itself.
     while at < kids.len() {
         let k = child_at(kids, at);
         let end = k.end;
-        let x = if need == 0 {
-            child_bits(&mut kids[at..end], reader, a, b, base, want, depth)
-        } else {
-            bits::both(want, stored_bits(kids, at))
-        };
+        let x = optional_child_bits(&mut kids[at..end], need, window, buffers, want, depth);
         if x != 0 {
             match k.kind {
                 NodeKind::Term => {
-                    leaf::term_scores(&kids[at..end], postings, norms, inverses, base, x, sums);
+                    leaf::term_scores(&kids[at..end], window, x, sums);
                 }
                 _ => {
-                    node_scores(
-                        &mut kids[at..end],
-                        reader,
-                        inverses,
-                        a,
-                        b,
-                        base,
-                        x,
-                        sums,
-                        depth,
-                    );
+                    node_scores(&mut kids[at..end], window, buffers, x, sums, depth);
                 }
             }
         }

@@ -1,38 +1,35 @@
 // The scores of a whole tree, from sums that are 0: a Boolean needs no sums of its own but the group's.
-ghost use Rattle.std.specs.Prelude.{◌≡◌, length};
-ghost use Rattle.window_score.specs.Asked.{RootPre, RootPost};
+ghost use Rattle.leaf_scorer.specs.Buffers.{room, other_room, SameBuffers};
+ghost use Rattle.window_score.specs.Asked.{reads_of, RootPre, RootPost};
 
 use crate::{node_scores, part_scores};
-use leaf_scorer::LeafReader;
+use leaf_score::node_at;
+use leaf_scorer::PhraseBuffers;
 use node::{NodeKind, boolean_at};
 use weight::NODE_STATE_WORDS;
+use window_leaf::Window;
 
 // The sum at each wanted place, narrowed, is the tree's score.
 pub fn root_scores(
     st: &mut [u32],
-    reader: &LeafReader<'_>,
-    inverses: &[f32],
-    a: &mut [i32],
-    b: &mut [i32],
-    base: u32,
+    window: &Window<'_>,
+    buffers: &mut PhraseBuffers<'_>,
     want: u64,
     sums: &mut [f64],
     depth: u32,
 )
-    requires { RootPre st.old reader.now.postings.now reader.now.positions.now reader.now.norms.now reader.now.ranges.now inverses.now (length a.old) (length b.old) base want sums.old depth }
-    ensures { RootPost st.old reader.now.postings.now reader.now.positions.now reader.now.norms.now reader.now.ranges.now inverses.now (length a.old) (length b.old) base want sums.old depth st.new sums.new }
+    requires { RootPre st.old (reads_of window.now) (room buffers.old) (other_room buffers.old) want sums.old depth }
+    ensures root_post { RootPost st.old (reads_of window.now) (room buffers.old) (other_room buffers.old) want sums.old depth st.new sums.new }
+    ensures same_buffers { SameBuffers buffers.old buffers.new }
 {
     if let NodeKind::Boolean = NodeKind::from(st[0]) {
-        if st[11] != 1 {
+        if node_at(st).constant_score().is_none() {
             let n = boolean_at(st);
             part_scores(
                 &mut st[NODE_STATE_WORDS..],
                 n,
-                reader,
-                inverses,
-                a,
-                b,
-                base,
+                window,
+                buffers,
                 want,
                 sums,
                 depth - 1,
@@ -40,5 +37,5 @@ pub fn root_scores(
             return;
         }
     }
-    node_scores(st, reader, inverses, a, b, base, want, sums, depth);
+    node_scores(st, window, buffers, want, sums, depth);
 }

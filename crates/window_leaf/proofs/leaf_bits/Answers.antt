@@ -10,35 +10,35 @@ use Rattle.window_leaf.proofs.Nodes.{wanted-answers, wanted-windowed, node-front
 use Rattle.window_leaf.proofs.leaf_bits.Goals as goal
 
 pub bounds-st-0 : goal.bounds-st-0
-bounds-st-0 c = let q = c.requires.bits_pre.1 in let z : node_state_words ≤ length c.args.st.now = windowed-long q.1 c.args.reader.now.ranges.now q.3 c.args.depth q.4 c.args.st.now c.args.base c.args.base nowhere q.7.held in omega (arith, z)
+bounds-st-0 c = let q = c.requires.bits_pre.1 in let z : node_state_words ≤ length c.args.st.now = windowed-long q.1 c.args.window.now.reader.ranges.now q.3 c.args.depth q.4 c.args.st.now c.args.window.now.base c.args.window.now.base nowhere q.7.held in omega (arith, z)
 
-pub returns-in-Term : goal.returns-in-Term
-returns-in-Term c = λ n all ix places s o h.
-    let E = lent n c.args.reader.now.postings.now c.args.reader.now.positions.now c.args.reader.now.ranges.now in
+pub returns-in-Term-clause-bits_post : goal.returns-in-Term-clause-bits_post
+returns-in-Term-clause-bits_post c = λ n all ix places s o h.
+    let E = lent n c.args.window.now.reader.postings.now c.args.window.now.reader.positions.now c.args.window.now.reader.ranges.now in
     let a = c.term_bits.ensures E c.args.depth refl ix places s o h in (
-      wanted-answers (matches ix s) c.args.base c.args.want c.term_bits.result _ c.both.result a.0 c.both.ensures,
-      wanted-windowed ix c.args.reader.now.ranges.now s c.args.depth o c.term_bits.new.st (c.args.base + 64) c.args.base c.args.want a.1,
+      wanted-answers (matches ix s) c.args.window.now.base c.args.want c.term_bits.result _ c.both.result a.0 c.both.ensures,
+      wanted-windowed ix c.args.window.now.reader.ranges.now s c.args.depth o c.term_bits.new.st (c.args.window.now.base + 64) c.args.window.now.base c.args.want a.1,
     )
 
-pub returns-in-Phrase : goal.returns-in-Phrase
-returns-in-Phrase c = λ n all. c.phrase_bits.ensures (lent n c.args.reader.now.postings.now c.args.reader.now.positions.now c.args.reader.now.ranges.now) c.args.depth refl refl
+pub returns-in-Phrase-clause-bits_post : goal.returns-in-Phrase-clause-bits_post
+returns-in-Phrase-clause-bits_post c = λ n all. c.phrase_bits.ensures.phrase_post (lent n c.args.window.now.reader.postings.now c.args.window.now.reader.positions.now c.args.window.now.reader.ranges.now) c.args.depth refl refl
 
-pub returns-in-Range : goal.returns-in-Range
-returns-in-Range c = λ n all ix places s o h.
-    let E = lent n c.args.reader.now.postings.now c.args.reader.now.positions.now c.args.reader.now.ranges.now in
+pub returns-in-Range-clause-bits_post : goal.returns-in-Range-clause-bits_post
+returns-in-Range-clause-bits_post c = λ n all ix places s o h.
+    let E = lent n c.args.window.now.reader.postings.now c.args.window.now.reader.positions.now c.args.window.now.reader.ranges.now in
     let a = c.range_bits.ensures E c.args.depth refl ix places s o h in (
-      wanted-answers (matches ix s) c.args.base c.args.want c.range_bits.result _ c.both-in-Range.result a.0 c.both-in-Range.ensures,
-      wanted-windowed ix c.args.reader.now.ranges.now s c.args.depth o c.range_bits.new.st (c.args.base + 64) c.args.base c.args.want a.1,
+      wanted-answers (matches ix s) c.args.window.now.base c.args.want c.range_bits.result _ c.both-in-Range.result a.0 c.both-in-Range.ensures,
+      wanted-windowed ix c.args.window.now.reader.ranges.now s c.args.depth o c.range_bits.new.st (c.args.window.now.base + 64) c.args.window.now.base c.args.want a.1,
     )
 
 pub put-requires : goal.put-requires
-put-requires c = let q = c.requires.bits_pre.1 in node-front (lent q.0 c.args.reader.now.postings.now c.args.reader.now.positions.now c.args.reader.now.ranges.now) q.1 q.2 c.args.depth q.4 c.args.st.now c.args.base q.3 q.7
+put-requires c = let q = c.requires.bits_pre.1 in node-front (lent q.0 c.args.window.now.reader.postings.now c.args.window.now.reader.positions.now c.args.window.now.reader.ranges.now) q.1 q.2 c.args.depth q.4 c.args.st.now c.args.window.now.base q.3 q.7
 
-pub returns-in-Everything : goal.returns-in-Everything
-returns-in-Everything c = λ n all ix places s o h. all-answer (lent n c.args.reader.now.postings.now c.args.reader.now.positions.now c.args.reader.now.ranges.now) ix places c.args.depth o c.args.st.now c.args.base (word-read _ Everything c.in-Everything.ensures refl) c.args.want c.put.new.st c.requires.bits_pre.0 all c.put.ensures s h
+pub returns-in-Everything-clause-bits_post : goal.returns-in-Everything-clause-bits_post
+returns-in-Everything-clause-bits_post c = λ n all ix places s o h. all-answer (lent n c.args.window.now.reader.postings.now c.args.window.now.reader.positions.now c.args.window.now.reader.ranges.now) ix places c.args.depth o c.args.st.now c.args.window.now.base (word-read _ Everything c.in-Everything.ensures refl) c.args.want c.put.new.st c.requires.bits_pre.0 all c.put.ensures s h
 
 pub put-requires-in_default : goal.put-requires-in_default
-put-requires-in_default c = let q = c.requires.bits_pre.1 in node-front (lent q.0 c.args.reader.now.postings.now c.args.reader.now.positions.now c.args.reader.now.ranges.now) q.1 q.2 c.args.depth q.4 c.args.st.now c.args.base q.3 q.7
+put-requires-in_default c = let q = c.requires.bits_pre.1 in node-front (lent q.0 c.args.window.now.reader.postings.now c.args.window.now.reader.positions.now c.args.window.now.reader.ranges.now) q.1 q.2 c.args.depth q.4 c.args.st.now c.args.window.now.base q.3 q.7
 
-pub returns-in_default : goal.returns-in_default
-returns-in_default c = λ n all ix places s o h. none-answer (lent n c.args.reader.now.postings.now c.args.reader.now.positions.now c.args.reader.now.ranges.now) ix places c.args.depth o c.args.st.now c.args.base (word-unread _ c.from.result Term c.from.ensures c.in_default.not-Term) (word-unread _ c.from.result Phrase c.from.ensures c.in_default.not-Phrase) c.requires.kind (word-unread _ c.from.result Range c.from.ensures c.in_default.not-Range) (word-unread _ c.from.result Everything c.from.ensures c.in_default.not-Everything) c.args.want c.put-in_default.new.st c.put-in_default.ensures s h
+pub returns-in_default-clause-bits_post : goal.returns-in_default-clause-bits_post
+returns-in_default-clause-bits_post c = λ n all ix places s o h. none-answer (lent n c.args.window.now.reader.postings.now c.args.window.now.reader.positions.now c.args.window.now.reader.ranges.now) ix places c.args.depth o c.args.st.now c.args.window.now.base (word-unread _ c.from.result Term c.from.ensures c.in_default.not-Term) (word-unread _ c.from.result Phrase c.from.ensures c.in_default.not-Phrase) c.requires.kind (word-unread _ c.from.result Range c.from.ensures c.in_default.not-Range) (word-unread _ c.from.result Everything c.from.ensures c.in_default.not-Everything) c.args.want c.put-in_default.new.st c.put-in_default.ensures s h

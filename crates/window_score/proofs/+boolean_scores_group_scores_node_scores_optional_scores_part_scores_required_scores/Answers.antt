@@ -1,20 +1,21 @@
 -- The answers of the cycle: a node's scores, a Boolean's, and those of its children. Assumes nothing.
-use Rattle.std.proofs.Common.{refl, sym, ◌∙◌, length, arith}
+use Rattle.std.proofs.Common.{rules, refl, sym, ◌∙◌, arith}
 use Rattle.std.proofs.lemmas.Bool.{eqb-true, eqb-false}
 use Rattle.node.specs.declared.NodeKind.TheVariants.{Term, Phrase, Boolean}
 use Rattle.node.proofs.Windows.{word-read, word-unread}
+use Rattle.leaf_scorer.specs.Buffers.{room, other_room}
 use Rattle.window_score.proofs.Required.{required-start, required-end, required-there, required-skip, required-child, required-term, required-took, required-term-took}
-use Rattle.window_score.proofs.Optional.{OptionalTaken, taken-as, optional-start, optional-end, optional-there, optional-ask, optional-asked, optional-stored, optional-left, optional-child, optional-term, optional-took, optional-term-took}
+use Rattle.window_score.proofs.Optional.{optional-start, optional-end, optional-there, optional-long, optional-ask, optional-answer, optional-left, optional-child, optional-term, optional-took, optional-term-took}
 use Rattle.window_score.proofs.Splits.{zeros, zero-sums}
 use Rattle.window_score.proofs.Groups.{root-group-as, after-ask, after-root-join, after-root, cut-fits, front-ask, group-add, rest-ask, more-root}
 use Rattle.window_score.proofs.Booleans.{parts-lie, required-lies, alone-ask, group-ask, own-ask, own-add, own-done, root-parts-as, root-alone, root-only, root-both-ask, root-both}
-use Rattle.window_score.proofs.Nodes.{node-long, constant-number, constant-ask, constant-done, phrase-weighted, zero-ask, zero-done, boolean-deep, boolean-ask, boolean-done}
+use Rattle.window_score.proofs.Nodes.{node-long, not-constant, constant-number, constant-ask, constant-done, phrase-weighted, zero-ask, zero-done, boolean-deep, boolean-ask, boolean-done}
 use Rattle.leaf_score.proofs.Bounds.{zero-64}
 use Rattle.std.proofs.Math.Seq.{length_front}
 use Rattle.std.proofs.lemmas.List.{length-take}
 use Rattle.window_words.proofs.Parts.{back-length}
+use Rattle.window_score.proofs.Loops.{put}
 use Rattle.window_score.proofs.+boolean_scores_group_scores_node_scores_optional_scores_part_scores_required_scores.Goals as goal
-use Rattle.window_score.proofs.+boolean_scores_group_scores_node_scores_optional_scores_part_scores_required_scores.Goals.{optional_scores-then-need-eq0, optional_scores-else-need-eq0}
 
 pub boolean_scores-part_scores-requires : goal.boolean_scores-part_scores-requires
 boolean_scores-part_scores-requires t c =
@@ -22,11 +23,11 @@ boolean_scores-part_scores-requires t c =
 
 pub boolean_scores-add_narrowed-requires : goal.boolean_scores-add_narrowed-requires
 boolean_scores-add_narrowed-requires t c =
-    own-add c.part_scores.ensures c.requires
+    own-add c.part_scores.ensures.root_parts_post c.requires
 
-pub boolean_scores-returns : goal.boolean_scores-returns
-boolean_scores-returns t c =
-    own-done c.part_scores.ensures c.add_narrowed.ensures
+pub boolean_scores-returns-clause-boolean_post : goal.boolean_scores-returns-clause-boolean_post
+boolean_scores-returns-clause-boolean_post t c =
+    own-done c.part_scores.ensures.root_parts_post c.add_narrowed.ensures
 
 pub part_scores-slice_bounds-required_scores-end : goal.part_scores-slice_bounds-required_scores-end
 part_scores-slice_bounds-required_scores-end t c =
@@ -40,9 +41,9 @@ pub part_scores-required_scores-requires : goal.part_scores-required_scores-requ
 part_scores-required_scores-requires t c =
     (omega (arith, c.decreases), alone-ask c.args.sums.now c.requires.0 (root-parts-as c.requires))
 
-pub part_scores-returns-then-end-optional_end : goal.part_scores-returns-then-end-optional_end
-part_scores-returns-then-end-optional_end t c =
-    root-alone c.requires c.if-end-optional_end.true c.required_scores.new.kids c.required_scores.new.sums c.required_scores.ensures
+pub part_scores-returns-then-end-optional_end-clause-root_parts_post : goal.part_scores-returns-then-end-optional_end-clause-root_parts_post
+part_scores-returns-then-end-optional_end-clause-root_parts_post t c =
+    root-alone c.requires c.if-end-optional_end.true c.required_scores.new.kids c.required_scores.new.sums c.required_scores.ensures.required_post
 
 pub part_scores-slice_bounds-optional_scores-end : goal.part_scores-slice_bounds-optional_scores-end
 part_scores-slice_bounds-optional_scores-end t c =
@@ -60,9 +61,9 @@ pub part_scores-optional_scores-requires : goal.part_scores-optional_scores-requ
 part_scores-optional_scores-requires t c =
     (omega (arith, c.decreases), group-ask c.args.sums.now c.requires.0 (root-parts-as c.requires))
 
-pub part_scores-returns-then-end-eq0 : goal.part_scores-returns-then-end-eq0
-part_scores-returns-then-end-eq0 t c =
-    root-only c.requires c.if-end-eq0.true c.optional_scores.new.kids c.optional_scores.new.sums c.optional_scores.ensures
+pub part_scores-returns-then-end-eq0-clause-root_parts_post : goal.part_scores-returns-then-end-eq0-clause-root_parts_post
+part_scores-returns-then-end-eq0-clause-root_parts_post t c =
+    root-only c.requires c.if-end-eq0.true c.optional_scores.new.kids c.optional_scores.new.sums c.optional_scores.ensures.optional_post
 
 pub part_scores-optional_scores-requires-2 : goal.part_scores-optional_scores-requires-2
 part_scores-optional_scores-requires-2 t c =
@@ -70,11 +71,11 @@ part_scores-optional_scores-requires-2 t c =
 
 pub part_scores-group_scores-requires : goal.part_scores-group_scores-requires
 part_scores-group_scores-requires t c =
-    (omega (arith, c.decreases), root-both-ask c.requires _ (zeros _ zero-64) c.optional_scores-2.new.kids c.optional_scores-2.new.sums c.optional_scores-2.ensures (length c.optional_scores-2.new.a) (length c.optional_scores-2.new.b) c.optional_scores-2.auto.a c.optional_scores-2.auto.b)
+    (omega (arith, c.decreases), root-both-ask c.requires _ (zeros _ zero-64) c.optional_scores-2.new.kids c.optional_scores-2.new.sums c.optional_scores-2.ensures.optional_post (room c.optional_scores-2.new.buffers) (other_room c.optional_scores-2.new.buffers) c.optional_scores-2.ensures.same_buffers.starts_length c.optional_scores-2.ensures.same_buffers.other_starts_length)
 
-pub part_scores-returns : goal.part_scores-returns
-part_scores-returns t c =
-    root-both c.requires _ (zeros _ zero-64) c.optional_scores-2.new.kids c.optional_scores-2.new.sums c.optional_scores-2.ensures (length c.optional_scores-2.new.a) (length c.optional_scores-2.new.b) c.optional_scores-2.auto.a c.optional_scores-2.auto.b c.group_scores.new.kids c.group_scores.new.sums c.group_scores.ensures
+pub part_scores-returns-clause-root_parts_post : goal.part_scores-returns-clause-root_parts_post
+part_scores-returns-clause-root_parts_post t c =
+    root-both c.requires _ (zeros _ zero-64) c.optional_scores-2.new.kids c.optional_scores-2.new.sums c.optional_scores-2.ensures.optional_post (room c.optional_scores-2.new.buffers) (other_room c.optional_scores-2.new.buffers) c.optional_scores-2.ensures.same_buffers.starts_length c.optional_scores-2.ensures.same_buffers.other_starts_length c.group_scores.new.kids c.group_scores.new.sums c.group_scores.ensures.root_group_post
 
 pub group_scores-required_scores-requires : goal.group_scores-required_scores-requires
 group_scores-required_scores-requires t c =
@@ -82,11 +83,11 @@ group_scores-required_scores-requires t c =
 
 pub group_scores-join_after-requires : goal.group_scores-join_after-requires
 group_scores-join_after-requires t c =
-    after-root-join c.args.sums.now c.requires.0 c.required_scores.new.kids c.required_scores.new.sums c.required_scores.ensures (root-group-as c.requires)
+    after-root-join c.args.sums.now c.requires.0 c.required_scores.new.kids c.required_scores.new.sums c.required_scores.ensures.required_post (root-group-as c.requires)
 
-pub group_scores-returns-then-n : goal.group_scores-returns-then-n
-group_scores-returns-then-n t c =
-    λ n ix places j rs os L A. after-root c.args.sums.now c.requires.0 c.required_scores.new.kids c.required_scores.new.sums c.required_scores.ensures c.if-n.true c.join_after.new.sums c.join_after.ensures (n, ix, places, j, rs, os, 0, L, A, zero-sums c.args.sums.now c.requires.0)
+pub group_scores-returns-then-n-clause-root_group_post : goal.group_scores-returns-then-n-clause-root_group_post
+group_scores-returns-then-n-clause-root_group_post t c =
+    λ n ix places j rs os L A. after-root c.args.sums.now c.requires.0 c.required_scores.new.kids c.required_scores.new.sums c.required_scores.ensures.required_post c.if-n.true c.join_after.new.sums c.join_after.ensures (n, ix, places, j, rs, os, 0, L, A, zero-sums c.args.sums.now c.requires.0)
 
 pub group_scores-slice_bounds-required_scores-end : goal.group_scores-slice_bounds-required_scores-end
 group_scores-slice_bounds-required_scores-end t c =
@@ -102,7 +103,7 @@ group_scores-required_scores-requires-2 t c =
 
 pub group_scores-add_narrowed-requires : goal.group_scores-add_narrowed-requires
 group_scores-add_narrowed-requires t c =
-    group-add c.args.sums.now c.requires.0 c.if-n.false c.required_scores-2.new.kids c.required_scores-2.new.sums c.required_scores-2.auto.kids c.required_scores-2.ensures (root-group-as c.requires)
+    group-add c.args.sums.now c.requires.0 c.if-n.false c.required_scores-2.new.kids c.required_scores-2.new.sums c.required_scores-2.auto.kids c.required_scores-2.ensures.required_post (root-group-as c.requires)
 
 pub group_scores-offset_bounds-kids-at : goal.group_scores-offset_bounds-kids-at
 group_scores-offset_bounds-kids-at t c =
@@ -118,47 +119,43 @@ group_scores-slice_bounds-required_scores-start t c =
 
 pub group_scores-required_scores-requires-3 : goal.group_scores-required_scores-requires-3
 group_scores-required_scores-requires-3 t c =
-    (omega (arith, c.decreases), rest-ask c.args.sums.now c.requires.0 c.if-n.false c.required_scores-2.new.kids c.required_scores-2.new.sums c.required_scores-2.auto.kids c.required_scores-2.ensures c.add_narrowed.new.sums c.add_narrowed.ensures (length c.required_scores-2.new.a) (length c.required_scores-2.new.b) c.required_scores-2.auto.a c.required_scores-2.auto.b (root-group-as c.requires))
+    (omega (arith, c.decreases), rest-ask c.args.sums.now c.requires.0 c.if-n.false c.required_scores-2.new.kids c.required_scores-2.new.sums c.required_scores-2.auto.kids c.required_scores-2.ensures.required_post c.add_narrowed.new.sums c.add_narrowed.ensures (room c.required_scores-2.new.buffers) (other_room c.required_scores-2.new.buffers) c.required_scores-2.ensures.same_buffers.starts_length c.required_scores-2.ensures.same_buffers.other_starts_length (root-group-as c.requires))
 
-pub group_scores-returns : goal.group_scores-returns
-group_scores-returns t c =
-    λ n ix places j rs os L A. more-root c.args.sums.now c.requires.0 c.if-n.false c.required_scores-2.new.kids c.required_scores-2.new.sums c.required_scores-2.auto.kids c.required_scores-2.ensures c.add_narrowed.new.sums c.add_narrowed.ensures (length c.required_scores-2.new.a) (length c.required_scores-2.new.b) c.required_scores-2.auto.a c.required_scores-2.auto.b c.required_scores-3.new.kids c.required_scores-3.new.sums c.required_scores-3.ensures (n, ix, places, j, rs, os, 0, L, A, zero-sums c.args.sums.now c.requires.0)
+pub group_scores-returns-clause-root_group_post : goal.group_scores-returns-clause-root_group_post
+group_scores-returns-clause-root_group_post t c =
+    λ n ix places j rs os L A. more-root c.args.sums.now c.requires.0 c.if-n.false c.required_scores-2.new.kids c.required_scores-2.new.sums c.required_scores-2.auto.kids c.required_scores-2.ensures.required_post c.add_narrowed.new.sums c.add_narrowed.ensures (room c.required_scores-2.new.buffers) (other_room c.required_scores-2.new.buffers) c.required_scores-2.ensures.same_buffers.starts_length c.required_scores-2.ensures.same_buffers.other_starts_length c.required_scores-3.new.kids c.required_scores-3.new.sums c.required_scores-3.ensures.required_post (n, ix, places, j, rs, os, 0, L, A, zero-sums c.args.sums.now c.requires.0)
 
 pub node_scores-bounds-st-0 : goal.node_scores-bounds-st-0
 node_scores-bounds-st-0 t c =
     omega (arith, node-long c.requires)
 
-pub node_scores-bounds-st-11 : goal.node_scores-bounds-st-11
-node_scores-bounds-st-11 t c =
-    omega (arith, node-long c.requires)
+pub node_scores-node_at-requires : goal.node_scores-node_at-requires
+node_scores-node_at-requires t c =
+    node-long c.requires
 
-pub node_scores-bounds-st-12 : goal.node_scores-bounds-st-12
-node_scores-bounds-st-12 t c =
-    omega (arith, node-long c.requires)
-
-pub node_scores-float_from_bits-st : goal.node_scores-float_from_bits-st
-node_scores-float_from_bits-st t c =
-    constant-number c.if-st-eq1.true c.requires
+pub node_scores-constant_score-requires : goal.node_scores-constant_score-requires
+node_scores-constant_score-requires t c =
+    constant-number c.node_at.result c.node_at.ensures c.requires
 
 pub node_scores-add_constant-requires : goal.node_scores-add_constant-requires
 node_scores-add_constant-requires t c =
-    constant-ask c.if-st-eq1.true c.requires
+    constant-ask c.node_at.result c.node_at.ensures c.in-Some.score c.in-Some.ensures c.requires
 
-pub node_scores-returns-then-st-eq1 : goal.node_scores-returns-then-st-eq1
-node_scores-returns-then-st-eq1 t c =
-    constant-done c.if-st-eq1.true c.add_constant.new.sums c.add_constant.ensures
+pub node_scores-returns-in-Some-clause-scores_post : goal.node_scores-returns-in-Some-clause-scores_post
+node_scores-returns-in-Some-clause-scores_post t c =
+    constant-done c.node_at.result c.node_at.ensures c.in-Some.score c.in-Some.ensures c.add_constant.new.sums c.add_constant.ensures
 
-pub node_scores-returns-in-Term : goal.node_scores-returns-in-Term
-node_scores-returns-in-Term t c =
-    c.term_scores.ensures c.args.reader.now.positions.now c.args.reader.now.ranges.now (length c.args.a.now) (length c.args.b.now) c.args.depth
+pub node_scores-returns-in-Term-clause-scores_post : goal.node_scores-returns-in-Term-clause-scores_post
+node_scores-returns-in-Term-clause-scores_post t c =
+    c.term_scores.ensures c.args.window.now.reader.positions.now c.args.window.now.reader.ranges.now (room c.args.buffers.now) (other_room c.args.buffers.now) c.args.depth
 
 pub node_scores-phrase_scores-requires : goal.node_scores-phrase_scores-requires
 node_scores-phrase_scores-requires t c =
-    (word-read _ Phrase c.in-Phrase.ensures refl, phrase-weighted c.if-st-eq1.false c.requires, (c.args.reader.now.ranges.now, c.args.depth, c.requires))
+    (word-read _ Phrase c.in-Phrase.ensures refl, phrase-weighted (not-constant c.node_at.ensures c.in_default.ensures) c.requires, (c.args.window.now.reader.ranges.now, c.args.depth, c.requires))
 
-pub node_scores-returns-in-Phrase : goal.node_scores-returns-in-Phrase
-node_scores-returns-in-Phrase t c =
-    c.phrase_scores.ensures c.args.reader.now.ranges.now c.args.depth
+pub node_scores-returns-in-Phrase-clause-scores_post : goal.node_scores-returns-in-Phrase-clause-scores_post
+node_scores-returns-in-Phrase-clause-scores_post t c =
+    c.phrase_scores.ensures.phrase_post c.args.window.now.reader.ranges.now c.args.depth
 
 pub node_scores-boolean_at-n-requires : goal.node_scores-boolean_at-n-requires
 node_scores-boolean_at-n-requires t c =
@@ -176,148 +173,148 @@ node_scores-slice_bounds-boolean_scores-start t c =
 
 pub node_scores-overflow_sub-depth : goal.node_scores-overflow_sub-depth
 node_scores-overflow_sub-depth t c =
-    boolean-deep c.if-st-eq1.false (word-read _ Boolean c.in-Boolean.ensures refl) c.boolean_at-n.result c.boolean_at-n.ensures c.requires
+    boolean-deep (not-constant c.node_at.ensures c.in_default.ensures) (word-read _ Boolean c.in-Boolean.ensures refl) c.boolean_at-n.result c.boolean_at-n.ensures c.requires
 
 pub node_scores-boolean_scores-requires : goal.node_scores-boolean_scores-requires
 node_scores-boolean_scores-requires t c =
-    (omega (arith, c.decreases, boolean-deep c.if-st-eq1.false (word-read _ Boolean c.in-Boolean.ensures refl) c.boolean_at-n.result c.boolean_at-n.ensures c.requires), boolean-ask c.if-st-eq1.false (word-read _ Boolean c.in-Boolean.ensures refl) c.boolean_at-n.result c.boolean_at-n.ensures c.requires)
+    (omega (arith, c.decreases, boolean-deep (not-constant c.node_at.ensures c.in_default.ensures) (word-read _ Boolean c.in-Boolean.ensures refl) c.boolean_at-n.result c.boolean_at-n.ensures c.requires), boolean-ask (not-constant c.node_at.ensures c.in_default.ensures) (word-read _ Boolean c.in-Boolean.ensures refl) c.boolean_at-n.result c.boolean_at-n.ensures c.requires)
 
-pub node_scores-returns-in-Boolean : goal.node_scores-returns-in-Boolean
-node_scores-returns-in-Boolean t c =
-    boolean-done c.if-st-eq1.false (word-read _ Boolean c.in-Boolean.ensures refl) c.boolean_at-n.result c.boolean_at-n.ensures c.boolean_scores.new.kids c.boolean_scores.new.sums c.boolean_scores.ensures
+pub node_scores-returns-in-Boolean-clause-scores_post : goal.node_scores-returns-in-Boolean-clause-scores_post
+node_scores-returns-in-Boolean-clause-scores_post t c =
+    boolean-done (not-constant c.node_at.ensures c.in_default.ensures) (word-read _ Boolean c.in-Boolean.ensures refl) c.boolean_at-n.result c.boolean_at-n.ensures c.boolean_scores.new.kids c.boolean_scores.new.sums c.boolean_scores.ensures.boolean_post
 
-pub node_scores-add_constant-requires-in_default : goal.node_scores-add_constant-requires-in_default
-node_scores-add_constant-requires-in_default t c =
-    zero-ask c.if-st-eq1.false (word-unread _ c.from.result Term c.from.ensures c.in_default.not-Term) (word-unread _ c.from.result Phrase c.from.ensures c.in_default.not-Phrase) (word-unread _ c.from.result Boolean c.from.ensures c.in_default.not-Boolean) c.requires
+pub node_scores-add_constant-requires-in_default-from : goal.node_scores-add_constant-requires-in_default-from
+node_scores-add_constant-requires-in_default-from t c =
+    zero-ask (not-constant c.node_at.ensures c.in_default.ensures) (word-unread _ c.from.result Term c.from.ensures c.in_default-from.not-Term) (word-unread _ c.from.result Phrase c.from.ensures c.in_default-from.not-Phrase) (word-unread _ c.from.result Boolean c.from.ensures c.in_default-from.not-Boolean) c.requires
 
-pub node_scores-returns-in_default : goal.node_scores-returns-in_default
-node_scores-returns-in_default t c =
-    zero-done c.if-st-eq1.false (word-unread _ c.from.result Term c.from.ensures c.in_default.not-Term) (word-unread _ c.from.result Phrase c.from.ensures c.in_default.not-Phrase) (word-unread _ c.from.result Boolean c.from.ensures c.in_default.not-Boolean) c.add_constant-in_default.new.sums c.add_constant-in_default.ensures
+pub node_scores-returns-in_default-from-clause-scores_post : goal.node_scores-returns-in_default-from-clause-scores_post
+node_scores-returns-in_default-from-clause-scores_post t c =
+    zero-done (not-constant c.node_at.ensures c.in_default.ensures) (word-unread _ c.from.result Term c.from.ensures c.in_default-from.not-Term) (word-unread _ c.from.result Phrase c.from.ensures c.in_default-from.not-Phrase) (word-unread _ c.from.result Boolean c.from.ensures c.in_default-from.not-Boolean) c.add_constant-in_default-from.new.sums c.add_constant-in_default-from.ensures
 
 pub optional_scores-loop-at-init : goal.optional_scores-loop-at-init
 optional_scores-loop-at-init t c =
-    (refl, refl, refl, optional-start)
+    record { long = refl; buffers = search rules; at = optional-start }
 
 pub optional_scores-child_at-k-requires : goal.optional_scores-child_at-k-requires
 optional_scores-child_at-k-requires t c =
-    optional-there c.loop-at.invariant.3 c.loop-at-test.true c.requires
+    optional-there c.loop-at.invariant.at c.loop-at-test.true c.requires
 
-pub optional_scores-stored_bits-requires : goal.optional_scores-stored_bits-requires
-optional_scores-stored_bits-requires t c =
-    optional-there c.loop-at.invariant.3 c.loop-at-test.true c.requires
+pub optional_scores-slice_bounds-optional_child_bits-end : goal.optional_scores-slice_bounds-optional_child_bits-end
+optional_scores-slice_bounds-optional_child_bits-end t c =
+    omega (arith, c.child_at-k.ensures.end_is, (optional-there c.loop-at.invariant.at c.loop-at-test.true c.requires).fits)
 
-pub optional_scores-slice_bounds-child_bits-end : goal.optional_scores-slice_bounds-child_bits-end
-optional_scores-slice_bounds-child_bits-end t c =
-    omega (arith, c.child_at-k.ensures.end_is, (optional-there c.loop-at.invariant.3 c.loop-at-test.true c.requires).fits)
+pub optional_scores-optional_child_bits-x-requires-clause-long : goal.optional_scores-optional_child_bits-x-requires-clause-long
+optional_scores-optional_child_bits-x-requires-clause-long t c =
+    optional-long c.loop-at.invariant.at c.loop-at-test.true c.child_at-k.result.end c.child_at-k.ensures.end_is c.requires
 
-pub optional_scores-child_bits-x-requires : goal.optional_scores-child_bits-x-requires
-optional_scores-child_bits-x-requires t c =
-    optional-ask c.loop-at.invariant.3 c.loop-at-test.true c.child_at-k.result.end c.child_at-k.ensures.end_is c.if-need-eq0.true (length c.loop-at.a) (length c.loop-at.b) c.loop-at.invariant.1 c.loop-at.invariant.2 c.requires
+pub optional_scores-optional_child_bits-x-requires-clause-unneeded : goal.optional_scores-optional_child_bits-x-requires-clause-unneeded
+optional_scores-optional_child_bits-x-requires-clause-unneeded t c =
+    λ none. optional-ask c.loop-at.invariant.at c.loop-at-test.true c.child_at-k.result.end c.child_at-k.ensures.end_is none _ _ c.loop-at.invariant.buffers.starts_length c.loop-at.invariant.buffers.other_starts_length c.requires
 
 pub optional_scores-slice_bounds-term_scores-end :
     goal.optional_scores-slice_bounds-term_scores-end
 optional_scores-slice_bounds-term_scores-end t c =
-    omega (arith, c.child_at-k.ensures.end_is, (optional-there c.loop-at.invariant.3 c.loop-at-test.true c.requires).fits, c.if-need-eq0.auto.kids)
+    omega (arith, c.child_at-k.ensures.end_is, (optional-there c.loop-at.invariant.at c.loop-at-test.true c.requires).fits, back-length c.loop-at.kids c.optional_child_bits-x.new.st c.loop-at.at c.child_at-k.result.end c.optional_child_bits-x.auto.st)
 
 pub optional_scores-term_scores-requires : goal.optional_scores-term_scores-requires
 optional_scores-term_scores-requires t c =
-    let T : OptionalTaken c.args.kids.now c.args.need c.args.reader.now.postings.now c.args.reader.now.positions.now c.args.reader.now.norms.now c.args.reader.now.ranges.now c.args.inverses.now (length c.args.a.now) (length c.args.b.now) c.args.base c.args.want c.args.sums.now c.args.depth c.loop-at.kids c.if-need-eq0.kids c.loop-at.at c.child_at-k.result.end c.if-need-eq0.x c.loop-at.sums = elim c.if-need-eq0.branch [ optional_scores-then-need-eq0 w ↦ taken-as w.kids-is w.x-is (optional-asked c.loop-at.invariant.3 c.loop-at-test.true c.child_at-k.result.end c.child_at-k.ensures.end_is w.if-need-eq0.true (length c.loop-at.a) (length c.loop-at.b) c.loop-at.invariant.1 c.loop-at.invariant.2 w.child_bits-x.result w.child_bits-x.new.st w.child_bits-x.auto.st w.child_bits-x.ensures) | optional_scores-else-need-eq0 w ↦ taken-as w.kids-is w.x-is (optional-stored c.loop-at.invariant.3 c.loop-at-test.true c.child_at-k.result.end c.child_at-k.ensures.end_is w.if-need-eq0.false w.both-x.result w.stored_bits.result w.both-x.ensures w.stored_bits.ensures) ] in optional-term T (length c.if-need-eq0.a) (length c.if-need-eq0.b) (c.if-need-eq0.auto.a ∙ c.loop-at.invariant.1) (c.if-need-eq0.auto.b ∙ c.loop-at.invariant.2) (word-read _ Term (sym c.in-Term.is ∙ c.child_at-k.ensures.kind-is) refl) c.requires
+    optional-term (optional-answer c.loop-at.invariant.at c.loop-at-test.true c.child_at-k.result.end c.child_at-k.ensures.end_is c.loop-at.invariant.buffers.starts_length c.loop-at.invariant.buffers.other_starts_length c.optional_child_bits-x.result c.optional_child_bits-x.new.st c.optional_child_bits-x.auto.st c.optional_child_bits-x.ensures.unneeded c.optional_child_bits-x.ensures.needed) _ _ (c.optional_child_bits-x.ensures.same_buffers.starts_length ∙ c.loop-at.invariant.buffers.starts_length) (c.optional_child_bits-x.ensures.same_buffers.other_starts_length ∙ c.loop-at.invariant.buffers.other_starts_length) (word-read _ Term (sym c.in-Term.is ∙ c.child_at-k.ensures.kind-is) refl) c.requires
 
 pub optional_scores-slice_bounds-node_scores-end :
     goal.optional_scores-slice_bounds-node_scores-end
 optional_scores-slice_bounds-node_scores-end t c =
-    omega (arith, c.child_at-k.ensures.end_is, (optional-there c.loop-at.invariant.3 c.loop-at-test.true c.requires).fits, c.if-need-eq0.auto.kids)
+    omega (arith, c.child_at-k.ensures.end_is, (optional-there c.loop-at.invariant.at c.loop-at-test.true c.requires).fits, back-length c.loop-at.kids c.optional_child_bits-x.new.st c.loop-at.at c.child_at-k.result.end c.optional_child_bits-x.auto.st)
 
 pub optional_scores-node_scores-requires : goal.optional_scores-node_scores-requires
 optional_scores-node_scores-requires t c =
-    let T : OptionalTaken c.args.kids.now c.args.need c.args.reader.now.postings.now c.args.reader.now.positions.now c.args.reader.now.norms.now c.args.reader.now.ranges.now c.args.inverses.now (length c.args.a.now) (length c.args.b.now) c.args.base c.args.want c.args.sums.now c.args.depth c.loop-at.kids c.if-need-eq0.kids c.loop-at.at c.child_at-k.result.end c.if-need-eq0.x c.loop-at.sums = elim c.if-need-eq0.branch [ optional_scores-then-need-eq0 w ↦ taken-as w.kids-is w.x-is (optional-asked c.loop-at.invariant.3 c.loop-at-test.true c.child_at-k.result.end c.child_at-k.ensures.end_is w.if-need-eq0.true (length c.loop-at.a) (length c.loop-at.b) c.loop-at.invariant.1 c.loop-at.invariant.2 w.child_bits-x.result w.child_bits-x.new.st w.child_bits-x.auto.st w.child_bits-x.ensures) | optional_scores-else-need-eq0 w ↦ taken-as w.kids-is w.x-is (optional-stored c.loop-at.invariant.3 c.loop-at-test.true c.child_at-k.result.end c.child_at-k.ensures.end_is w.if-need-eq0.false w.both-x.result w.stored_bits.result w.both-x.ensures w.stored_bits.ensures) ] in (omega (arith, c.decreases), optional-child T (length c.if-need-eq0.a) (length c.if-need-eq0.b) (c.if-need-eq0.auto.a ∙ c.loop-at.invariant.1) (c.if-need-eq0.auto.b ∙ c.loop-at.invariant.2) c.requires)
+    (omega (arith, c.decreases), optional-child (optional-answer c.loop-at.invariant.at c.loop-at-test.true c.child_at-k.result.end c.child_at-k.ensures.end_is c.loop-at.invariant.buffers.starts_length c.loop-at.invariant.buffers.other_starts_length c.optional_child_bits-x.result c.optional_child_bits-x.new.st c.optional_child_bits-x.auto.st c.optional_child_bits-x.ensures.unneeded c.optional_child_bits-x.ensures.needed) _ _ (c.optional_child_bits-x.ensures.same_buffers.starts_length ∙ c.loop-at.invariant.buffers.starts_length) (c.optional_child_bits-x.ensures.same_buffers.other_starts_length ∙ c.loop-at.invariant.buffers.other_starts_length) c.requires)
 
 pub optional_scores-loop-at-smaller-in-Term :
     goal.optional_scores-loop-at-smaller-in-Term
 optional_scores-loop-at-smaller-in-Term t c =
-    omega (arith, c.child_at-k.ensures.end_is, (optional-there c.loop-at.invariant.3 c.loop-at-test.true c.requires).long, c.loop-at-test.true, c.if-need-eq0.auto.kids)
+    omega (arith, c.child_at-k.ensures.end_is, (optional-there c.loop-at.invariant.at c.loop-at-test.true c.requires).long, c.loop-at-test.true, back-length c.loop-at.kids c.optional_child_bits-x.new.st c.loop-at.at c.child_at-k.result.end c.optional_child_bits-x.auto.st)
 
 pub optional_scores-loop-at-preserved-in-Term :
     goal.optional_scores-loop-at-preserved-in-Term
 optional_scores-loop-at-preserved-in-Term t c =
-    let T : OptionalTaken c.args.kids.now c.args.need c.args.reader.now.postings.now c.args.reader.now.positions.now c.args.reader.now.norms.now c.args.reader.now.ranges.now c.args.inverses.now (length c.args.a.now) (length c.args.b.now) c.args.base c.args.want c.args.sums.now c.args.depth c.loop-at.kids c.if-need-eq0.kids c.loop-at.at c.child_at-k.result.end c.if-need-eq0.x c.loop-at.sums = elim c.if-need-eq0.branch [ optional_scores-then-need-eq0 w ↦ taken-as w.kids-is w.x-is (optional-asked c.loop-at.invariant.3 c.loop-at-test.true c.child_at-k.result.end c.child_at-k.ensures.end_is w.if-need-eq0.true (length c.loop-at.a) (length c.loop-at.b) c.loop-at.invariant.1 c.loop-at.invariant.2 w.child_bits-x.result w.child_bits-x.new.st w.child_bits-x.auto.st w.child_bits-x.ensures) | optional_scores-else-need-eq0 w ↦ taken-as w.kids-is w.x-is (optional-stored c.loop-at.invariant.3 c.loop-at-test.true c.child_at-k.result.end c.child_at-k.ensures.end_is w.if-need-eq0.false w.both-x.result w.stored_bits.result w.both-x.ensures w.stored_bits.ensures) ] in (c.if-need-eq0.auto.kids ∙ c.loop-at.invariant.0, c.if-need-eq0.auto.a ∙ c.loop-at.invariant.1, c.if-need-eq0.auto.b ∙ c.loop-at.invariant.2, optional-term-took T (length c.if-need-eq0.a) (length c.if-need-eq0.b) (c.if-need-eq0.auto.a ∙ c.loop-at.invariant.1) (c.if-need-eq0.auto.b ∙ c.loop-at.invariant.2) c.term_scores.new.sums c.term_scores.ensures)
+    record { long = back-length c.loop-at.kids c.optional_child_bits-x.new.st c.loop-at.at c.child_at-k.result.end c.optional_child_bits-x.auto.st ∙ c.loop-at.invariant.long; buffers = search rules; at = optional-term-took (optional-answer c.loop-at.invariant.at c.loop-at-test.true c.child_at-k.result.end c.child_at-k.ensures.end_is c.loop-at.invariant.buffers.starts_length c.loop-at.invariant.buffers.other_starts_length c.optional_child_bits-x.result c.optional_child_bits-x.new.st c.optional_child_bits-x.auto.st c.optional_child_bits-x.ensures.unneeded c.optional_child_bits-x.ensures.needed) _ _ (c.optional_child_bits-x.ensures.same_buffers.starts_length ∙ c.loop-at.invariant.buffers.starts_length) (c.optional_child_bits-x.ensures.same_buffers.other_starts_length ∙ c.loop-at.invariant.buffers.other_starts_length) c.term_scores.new.sums c.term_scores.ensures }
 
 pub optional_scores-loop-at-smaller-in_default :
     goal.optional_scores-loop-at-smaller-in_default
 optional_scores-loop-at-smaller-in_default t c =
-    omega (arith, c.child_at-k.ensures.end_is, (optional-there c.loop-at.invariant.3 c.loop-at-test.true c.requires).long, c.loop-at-test.true, c.if-need-eq0.auto.kids, back-length c.if-need-eq0.kids c.node_scores.new.st c.loop-at.at c.child_at-k.result.end c.node_scores.auto.st)
+    omega (arith, c.child_at-k.ensures.end_is, (optional-there c.loop-at.invariant.at c.loop-at-test.true c.requires).long, c.loop-at-test.true, back-length c.loop-at.kids c.optional_child_bits-x.new.st c.loop-at.at c.child_at-k.result.end c.optional_child_bits-x.auto.st, back-length (put c.loop-at.kids c.loop-at.at c.child_at-k.result.end c.optional_child_bits-x.new.st) c.node_scores.new.st c.loop-at.at c.child_at-k.result.end c.node_scores.auto.st)
 
 pub optional_scores-loop-at-preserved-in_default :
     goal.optional_scores-loop-at-preserved-in_default
 optional_scores-loop-at-preserved-in_default t c =
-    let T : OptionalTaken c.args.kids.now c.args.need c.args.reader.now.postings.now c.args.reader.now.positions.now c.args.reader.now.norms.now c.args.reader.now.ranges.now c.args.inverses.now (length c.args.a.now) (length c.args.b.now) c.args.base c.args.want c.args.sums.now c.args.depth c.loop-at.kids c.if-need-eq0.kids c.loop-at.at c.child_at-k.result.end c.if-need-eq0.x c.loop-at.sums = elim c.if-need-eq0.branch [ optional_scores-then-need-eq0 w ↦ taken-as w.kids-is w.x-is (optional-asked c.loop-at.invariant.3 c.loop-at-test.true c.child_at-k.result.end c.child_at-k.ensures.end_is w.if-need-eq0.true (length c.loop-at.a) (length c.loop-at.b) c.loop-at.invariant.1 c.loop-at.invariant.2 w.child_bits-x.result w.child_bits-x.new.st w.child_bits-x.auto.st w.child_bits-x.ensures) | optional_scores-else-need-eq0 w ↦ taken-as w.kids-is w.x-is (optional-stored c.loop-at.invariant.3 c.loop-at-test.true c.child_at-k.result.end c.child_at-k.ensures.end_is w.if-need-eq0.false w.both-x.result w.stored_bits.result w.both-x.ensures w.stored_bits.ensures) ] in (back-length c.if-need-eq0.kids c.node_scores.new.st c.loop-at.at c.child_at-k.result.end c.node_scores.auto.st ∙ c.if-need-eq0.auto.kids ∙ c.loop-at.invariant.0, c.node_scores.auto.a ∙ c.if-need-eq0.auto.a ∙ c.loop-at.invariant.1, c.node_scores.auto.b ∙ c.if-need-eq0.auto.b ∙ c.loop-at.invariant.2, optional-took T (length c.if-need-eq0.a) (length c.if-need-eq0.b) (c.if-need-eq0.auto.a ∙ c.loop-at.invariant.1) (c.if-need-eq0.auto.b ∙ c.loop-at.invariant.2) c.node_scores.new.st c.node_scores.new.sums c.node_scores.auto.st c.node_scores.ensures)
+    record { long = back-length (put c.loop-at.kids c.loop-at.at c.child_at-k.result.end c.optional_child_bits-x.new.st) c.node_scores.new.st c.loop-at.at c.child_at-k.result.end c.node_scores.auto.st ∙ back-length c.loop-at.kids c.optional_child_bits-x.new.st c.loop-at.at c.child_at-k.result.end c.optional_child_bits-x.auto.st ∙ c.loop-at.invariant.long; buffers = search rules; at = optional-took (optional-answer c.loop-at.invariant.at c.loop-at-test.true c.child_at-k.result.end c.child_at-k.ensures.end_is c.loop-at.invariant.buffers.starts_length c.loop-at.invariant.buffers.other_starts_length c.optional_child_bits-x.result c.optional_child_bits-x.new.st c.optional_child_bits-x.auto.st c.optional_child_bits-x.ensures.unneeded c.optional_child_bits-x.ensures.needed) _ _ (c.optional_child_bits-x.ensures.same_buffers.starts_length ∙ c.loop-at.invariant.buffers.starts_length) (c.optional_child_bits-x.ensures.same_buffers.other_starts_length ∙ c.loop-at.invariant.buffers.other_starts_length) c.node_scores.new.st c.node_scores.new.sums c.node_scores.auto.st c.node_scores.ensures.scores_post }
 
 pub optional_scores-loop-at-smaller : goal.optional_scores-loop-at-smaller
 optional_scores-loop-at-smaller t c =
-    omega (arith, c.child_at-k.ensures.end_is, (optional-there c.loop-at.invariant.3 c.loop-at-test.true c.requires).long, c.loop-at-test.true, c.if-need-eq0.auto.kids)
+    omega (arith, c.child_at-k.ensures.end_is, (optional-there c.loop-at.invariant.at c.loop-at-test.true c.requires).long, c.loop-at-test.true, back-length c.loop-at.kids c.optional_child_bits-x.new.st c.loop-at.at c.child_at-k.result.end c.optional_child_bits-x.auto.st)
 
 pub optional_scores-loop-at-preserved : goal.optional_scores-loop-at-preserved
 optional_scores-loop-at-preserved t c =
-    let T : OptionalTaken c.args.kids.now c.args.need c.args.reader.now.postings.now c.args.reader.now.positions.now c.args.reader.now.norms.now c.args.reader.now.ranges.now c.args.inverses.now (length c.args.a.now) (length c.args.b.now) c.args.base c.args.want c.args.sums.now c.args.depth c.loop-at.kids c.if-need-eq0.kids c.loop-at.at c.child_at-k.result.end c.if-need-eq0.x c.loop-at.sums = elim c.if-need-eq0.branch [ optional_scores-then-need-eq0 w ↦ taken-as w.kids-is w.x-is (optional-asked c.loop-at.invariant.3 c.loop-at-test.true c.child_at-k.result.end c.child_at-k.ensures.end_is w.if-need-eq0.true (length c.loop-at.a) (length c.loop-at.b) c.loop-at.invariant.1 c.loop-at.invariant.2 w.child_bits-x.result w.child_bits-x.new.st w.child_bits-x.auto.st w.child_bits-x.ensures) | optional_scores-else-need-eq0 w ↦ taken-as w.kids-is w.x-is (optional-stored c.loop-at.invariant.3 c.loop-at-test.true c.child_at-k.result.end c.child_at-k.ensures.end_is w.if-need-eq0.false w.both-x.result w.stored_bits.result w.both-x.ensures w.stored_bits.ensures) ] in (c.if-need-eq0.auto.kids ∙ c.loop-at.invariant.0, c.if-need-eq0.auto.a ∙ c.loop-at.invariant.1, c.if-need-eq0.auto.b ∙ c.loop-at.invariant.2, optional-left T c.if-x-ne0.false)
+    record { long = back-length c.loop-at.kids c.optional_child_bits-x.new.st c.loop-at.at c.child_at-k.result.end c.optional_child_bits-x.auto.st ∙ c.loop-at.invariant.long; buffers = search rules; at = optional-left (optional-answer c.loop-at.invariant.at c.loop-at-test.true c.child_at-k.result.end c.child_at-k.ensures.end_is c.loop-at.invariant.buffers.starts_length c.loop-at.invariant.buffers.other_starts_length c.optional_child_bits-x.result c.optional_child_bits-x.new.st c.optional_child_bits-x.auto.st c.optional_child_bits-x.ensures.unneeded c.optional_child_bits-x.ensures.needed) c.if-x-ne0.false }
 
-pub optional_scores-returns : goal.optional_scores-returns
-optional_scores-returns t c =
-    optional-end c.loop-at.invariant.3 c.loop-at-test.false
+pub optional_scores-returns-clause-optional_post : goal.optional_scores-returns-clause-optional_post
+optional_scores-returns-clause-optional_post t c =
+    optional-end c.loop-at.invariant.at c.loop-at-test.false
 
 pub required_scores-loop-at-init : goal.required_scores-loop-at-init
 required_scores-loop-at-init t c =
-    (refl, refl, refl, required-start)
+    record { long = refl; buffers = search rules; at = required-start }
 
 pub required_scores-child_at-k-requires : goal.required_scores-child_at-k-requires
 required_scores-child_at-k-requires t c =
-    required-there c.loop-at.invariant.3 c.loop-at-test.true c.requires
+    required-there c.loop-at.invariant.at c.loop-at-test.true c.requires
 
 pub required_scores-slice_bounds-term_scores-end :
     goal.required_scores-slice_bounds-term_scores-end
 required_scores-slice_bounds-term_scores-end t c =
-    omega (arith, c.child_at-k.ensures.end_is, (required-there c.loop-at.invariant.3 c.loop-at-test.true c.requires).fits)
+    omega (arith, c.child_at-k.ensures.end_is, (required-there c.loop-at.invariant.at c.loop-at-test.true c.requires).fits)
 
 pub required_scores-term_scores-requires : goal.required_scores-term_scores-requires
 required_scores-term_scores-requires t c =
-    required-term c.loop-at.invariant.3 c.loop-at-test.true c.child_at-k.result.end c.child_at-k.ensures.end_is (eqb-true _ 1 (sym c.child_at-k.ensures.scores-is ∙ c.if-k.true)) (length c.loop-at.a) (length c.loop-at.b) c.loop-at.invariant.1 c.loop-at.invariant.2 (word-read _ Term (sym c.in-Term.is ∙ c.child_at-k.ensures.kind-is) refl) c.requires
+    required-term c.loop-at.invariant.at c.loop-at-test.true c.child_at-k.result.end c.child_at-k.ensures.end_is (eqb-true _ 1 (sym c.child_at-k.ensures.scores-is ∙ c.if-k.true)) (room c.loop-at.buffers) (other_room c.loop-at.buffers) c.loop-at.invariant.buffers.starts_length c.loop-at.invariant.buffers.other_starts_length (word-read _ Term (sym c.in-Term.is ∙ c.child_at-k.ensures.kind-is) refl) c.requires
 
 pub required_scores-slice_bounds-node_scores-end :
     goal.required_scores-slice_bounds-node_scores-end
 required_scores-slice_bounds-node_scores-end t c =
-    omega (arith, c.child_at-k.ensures.end_is, (required-there c.loop-at.invariant.3 c.loop-at-test.true c.requires).fits)
+    omega (arith, c.child_at-k.ensures.end_is, (required-there c.loop-at.invariant.at c.loop-at-test.true c.requires).fits)
 
 pub required_scores-node_scores-requires : goal.required_scores-node_scores-requires
 required_scores-node_scores-requires t c =
-    (omega (arith, c.decreases), required-child c.loop-at.invariant.3 c.loop-at-test.true c.child_at-k.result.end c.child_at-k.ensures.end_is (eqb-true _ 1 (sym c.child_at-k.ensures.scores-is ∙ c.if-k.true)) (length c.loop-at.a) (length c.loop-at.b) c.loop-at.invariant.1 c.loop-at.invariant.2 c.requires)
+    (omega (arith, c.decreases), required-child c.loop-at.invariant.at c.loop-at-test.true c.child_at-k.result.end c.child_at-k.ensures.end_is (eqb-true _ 1 (sym c.child_at-k.ensures.scores-is ∙ c.if-k.true)) (room c.loop-at.buffers) (other_room c.loop-at.buffers) c.loop-at.invariant.buffers.starts_length c.loop-at.invariant.buffers.other_starts_length c.requires)
 
 pub required_scores-loop-at-smaller-in-Term :
     goal.required_scores-loop-at-smaller-in-Term
 required_scores-loop-at-smaller-in-Term t c =
-    omega (arith, c.child_at-k.ensures.end_is, (required-there c.loop-at.invariant.3 c.loop-at-test.true c.requires).long, c.loop-at-test.true)
+    omega (arith, c.child_at-k.ensures.end_is, (required-there c.loop-at.invariant.at c.loop-at-test.true c.requires).long, c.loop-at-test.true)
 
 pub required_scores-loop-at-preserved-in-Term :
     goal.required_scores-loop-at-preserved-in-Term
 required_scores-loop-at-preserved-in-Term t c =
-    (c.loop-at.invariant.0, c.loop-at.invariant.1, c.loop-at.invariant.2, required-term-took c.loop-at.invariant.3 c.loop-at-test.true c.child_at-k.result.end c.child_at-k.ensures.end_is (eqb-true _ 1 (sym c.child_at-k.ensures.scores-is ∙ c.if-k.true)) (length c.loop-at.a) (length c.loop-at.b) c.loop-at.invariant.1 c.loop-at.invariant.2 c.term_scores.new.sums c.term_scores.ensures)
+    record { long = c.loop-at.invariant.long; buffers = search rules; at = required-term-took c.loop-at.invariant.at c.loop-at-test.true c.child_at-k.result.end c.child_at-k.ensures.end_is (eqb-true _ 1 (sym c.child_at-k.ensures.scores-is ∙ c.if-k.true)) (room c.loop-at.buffers) (other_room c.loop-at.buffers) c.loop-at.invariant.buffers.starts_length c.loop-at.invariant.buffers.other_starts_length c.term_scores.new.sums c.term_scores.ensures }
 
 pub required_scores-loop-at-smaller-in_default :
     goal.required_scores-loop-at-smaller-in_default
 required_scores-loop-at-smaller-in_default t c =
-    omega (arith, c.child_at-k.ensures.end_is, (required-there c.loop-at.invariant.3 c.loop-at-test.true c.requires).long, c.loop-at-test.true, back-length c.loop-at.kids c.node_scores.new.st c.loop-at.at c.child_at-k.result.end c.node_scores.auto.st)
+    omega (arith, c.child_at-k.ensures.end_is, (required-there c.loop-at.invariant.at c.loop-at-test.true c.requires).long, c.loop-at-test.true, back-length c.loop-at.kids c.node_scores.new.st c.loop-at.at c.child_at-k.result.end c.node_scores.auto.st)
 
 pub required_scores-loop-at-preserved-in_default :
     goal.required_scores-loop-at-preserved-in_default
 required_scores-loop-at-preserved-in_default t c =
-    (back-length c.loop-at.kids c.node_scores.new.st c.loop-at.at c.child_at-k.result.end c.node_scores.auto.st ∙ c.loop-at.invariant.0, c.node_scores.auto.a ∙ c.loop-at.invariant.1, c.node_scores.auto.b ∙ c.loop-at.invariant.2, required-took c.loop-at.invariant.3 c.loop-at-test.true c.child_at-k.result.end c.child_at-k.ensures.end_is (eqb-true _ 1 (sym c.child_at-k.ensures.scores-is ∙ c.if-k.true)) (length c.loop-at.a) (length c.loop-at.b) c.loop-at.invariant.1 c.loop-at.invariant.2 c.node_scores.new.st c.node_scores.new.sums c.node_scores.auto.st c.node_scores.ensures)
+    record { long = back-length c.loop-at.kids c.node_scores.new.st c.loop-at.at c.child_at-k.result.end c.node_scores.auto.st ∙ c.loop-at.invariant.long; buffers = search rules; at = required-took c.loop-at.invariant.at c.loop-at-test.true c.child_at-k.result.end c.child_at-k.ensures.end_is (eqb-true _ 1 (sym c.child_at-k.ensures.scores-is ∙ c.if-k.true)) (room c.loop-at.buffers) (other_room c.loop-at.buffers) c.loop-at.invariant.buffers.starts_length c.loop-at.invariant.buffers.other_starts_length c.node_scores.new.st c.node_scores.new.sums c.node_scores.auto.st c.node_scores.ensures.scores_post }
 
 pub required_scores-loop-at-smaller : goal.required_scores-loop-at-smaller
 required_scores-loop-at-smaller t c =
-    omega (arith, c.child_at-k.ensures.end_is, (required-there c.loop-at.invariant.3 c.loop-at-test.true c.requires).long, c.loop-at-test.true)
+    omega (arith, c.child_at-k.ensures.end_is, (required-there c.loop-at.invariant.at c.loop-at-test.true c.requires).long, c.loop-at-test.true)
 
 pub required_scores-loop-at-preserved : goal.required_scores-loop-at-preserved
 required_scores-loop-at-preserved t c =
-    (c.loop-at.invariant.0, c.loop-at.invariant.1, c.loop-at.invariant.2, required-skip c.loop-at.invariant.3 c.loop-at-test.true c.child_at-k.result.end c.child_at-k.ensures.end_is (eqb-false _ 1 (sym c.child_at-k.ensures.scores-is ∙ c.if-k.false)))
+    record { long = c.loop-at.invariant.long; buffers = search rules; at = required-skip c.loop-at.invariant.at c.loop-at-test.true c.child_at-k.result.end c.child_at-k.ensures.end_is (eqb-false _ 1 (sym c.child_at-k.ensures.scores-is ∙ c.if-k.false)) }
 
-pub required_scores-returns : goal.required_scores-returns
-required_scores-returns t c =
-    required-end c.loop-at.invariant.3 c.loop-at-test.false
+pub required_scores-returns-clause-required_post : goal.required_scores-returns-clause-required_post
+required_scores-returns-clause-required_post t c =
+    required-end c.loop-at.invariant.at c.loop-at-test.false

@@ -1,5 +1,7 @@
 -- The measures of the cycle, and what its loops keep. Assumes nothing.
 use Rattle.std.proofs.Common.{length, ◌-◌, ◌≡◌, ◌+◌, ◌*◌}
+use Rattle.leaf_scorer.specs.Buffers.{room, other_room, SameBuffers}
+use Rattle.window_score.specs.Asked.{reads_of}
 use Rattle.window_score.proofs.Required.{RequiredAt}
 use Rattle.window_score.proofs.Optional.{OptionalAt}
 use Rattle.window_score.proofs.+boolean_scores_group_scores_node_scores_optional_scores_part_scores_required_scores.Given as goal
@@ -30,8 +32,16 @@ decreases-required_scores-loop-at l = length l.kids - l.at
 
 abbrev pub invariant-optional_scores-loop-at : goal.invariant-optional_scores-loop-at
 invariant-optional_scores-loop-at l =
-    (length l.kids ≡ length l.fn.kids) × (length l.a ≡ length l.fn.a) × (length l.b ≡ length l.fn.b) × OptionalAt l.fn.kids l.fn.need l.fn.reader.postings.now l.fn.reader.positions.now l.fn.reader.norms.now l.fn.reader.ranges.now l.fn.inverses (length l.fn.a) (length l.fn.b) l.fn.base l.fn.want l.fn.sums l.fn.depth l.kids l.at l.sums
+    record {
+      long : length l.kids ≡ length l.fn.kids;
+      buffers : SameBuffers l.fn.buffers l.buffers;
+      at : OptionalAt l.fn.kids l.fn.need (reads_of l.fn.window) (room l.fn.buffers) (other_room l.fn.buffers) l.fn.want l.fn.sums l.fn.depth l.kids l.at l.sums;
+    }
 
 abbrev pub invariant-required_scores-loop-at : goal.invariant-required_scores-loop-at
 invariant-required_scores-loop-at l =
-    (length l.kids ≡ length l.fn.kids) × (length l.a ≡ length l.fn.a) × (length l.b ≡ length l.fn.b) × RequiredAt l.fn.kids l.fn.reader.postings.now l.fn.reader.positions.now l.fn.reader.norms.now l.fn.reader.ranges.now l.fn.inverses (length l.fn.a) (length l.fn.b) l.fn.base l.fn.want l.fn.sums l.fn.depth l.kids l.at l.sums
+    record {
+      long : length l.kids ≡ length l.fn.kids;
+      buffers : SameBuffers l.fn.buffers l.buffers;
+      at : RequiredAt l.fn.kids (reads_of l.fn.window) (room l.fn.buffers) (other_room l.fn.buffers) l.fn.want l.fn.sums l.fn.depth l.kids l.at l.sums;
+    }

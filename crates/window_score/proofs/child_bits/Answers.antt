@@ -13,18 +13,18 @@ use Rattle.window_score.proofs.child_bits.Goals as goal
 pub bounds-st-0 : goal.bounds-st-0
 bounds-st-0 c =
     let q = c.requires.1 in
-    let z : node_state_words ≤ length c.args.st.now = windowed-long q.1 c.args.reader.now.ranges.now q.3 c.args.depth q.4 c.args.st.now c.args.base c.args.base nowhere q.7.held in
+    let z : node_state_words ≤ length c.args.st.now = windowed-long q.1 c.args.window.now.reader.ranges.now q.3 c.args.depth q.4 c.args.st.now c.args.window.now.base c.args.window.now.base nowhere q.7.held in
     omega (arith, z)
 
 pub term_bits-requires : goal.term_bits-requires
 term_bits-requires c =
     let q = c.requires.1 in
-    (c.requires.0, word-read _ Term c.in-Term.ensures refl, (lent q.0 c.args.reader.now.postings.now c.args.reader.now.positions.now c.args.reader.now.ranges.now, refl, q.1, q.2, q.3, c.args.depth, q.4, q.7))
+    (c.requires.0, word-read _ Term c.in-Term.ensures refl, (lent q.0 c.args.window.now.reader.postings.now c.args.window.now.reader.positions.now c.args.window.now.reader.ranges.now, refl, q.1, q.2, q.3, c.args.depth, q.4, q.7))
 
-pub returns-in-Term : goal.returns-in-Term
-returns-in-Term c = λ n all ix places s o h.
-    let E = lent n c.args.reader.now.postings.now c.args.reader.now.positions.now c.args.reader.now.ranges.now in
+pub returns-in-Term-clause-bits_post : goal.returns-in-Term-clause-bits_post
+returns-in-Term-clause-bits_post c = λ n all ix places s o h.
+    let E = lent n c.args.window.now.reader.postings.now c.args.window.now.reader.positions.now c.args.window.now.reader.ranges.now in
     let a = c.term_bits.ensures E c.args.depth refl ix places s o h in (
-      wanted-answers (matches ix s) c.args.base c.args.want c.term_bits.result _ c.both.result a.0 c.both.ensures,
-      wanted-windowed ix c.args.reader.now.ranges.now s c.args.depth o c.term_bits.new.st (c.args.base + 64) c.args.base c.args.want a.1,
+      wanted-answers (matches ix s) c.args.window.now.base c.args.want c.term_bits.result _ c.both.result a.0 c.both.ensures,
+      wanted-windowed ix c.args.window.now.reader.ranges.now s c.args.depth o c.term_bits.new.st (c.args.window.now.base + 64) c.args.window.now.base c.args.want a.1,
     )

@@ -1,5 +1,5 @@
 -- The documents one after the other: each matches, and those that are live are collected.
-use Rattle.std.proofs.Common.{◌≡◌, refl, sym, ◌∙◌, ◌+◌, ◌≤◌, List, ℤ, length, arith}
+use Rattle.std.proofs.Common.{◌≡◌, refl, sym, ◌∙◌, ◌+◌, List, ℤ, length, arith}
 use Rattle.collector.specs.declared.TopScoreDocCollector.{TopScoreDocCollector}
 use Rattle.bulk_scorer.proofs.Held.{root-page, root-words}
 use Rattle.bulk_scorer.proofs.Sofar.{nonneg-clear}

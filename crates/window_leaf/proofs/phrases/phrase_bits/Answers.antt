@@ -42,10 +42,10 @@ pub put-requires : goal.put-requires
 put-requires c =
     let t = c.terms_bits-t in
     let p = c.planes_of-planes in
-    given-put c.requires c.args.want t.result.bits t.result.next t.new.terms t.ensures p.result.ones p.result.twos c.either-w.result p.ensures c.either-w.ensures c.low.result c.high.result c.low-2.result c.high-2.result c.low.ensures c.high.ensures c.low-2.ensures c.high-2.ensures
+    given-put c.requires c.args.want t.result.bits t.result.next t.new.terms t.ensures p.result.ones p.result.twos c.either-w.result p.ensures.planes_post c.either-w.ensures c.low.result c.high.result c.low-2.result c.high-2.result c.low.ensures c.high.ensures c.low-2.ensures c.high-2.ensures
 
-pub returns : goal.returns
-returns c =
+pub returns-clause-phrase_post : goal.returns-clause-phrase_post
+returns-clause-phrase_post c =
     let t = c.terms_bits-t in
     let p = c.planes_of-planes in
-    given-answer c.requires c.args.want t.result.bits t.result.next t.new.terms t.ensures p.result.ones p.result.twos c.either-w.result p.ensures c.either-w.ensures c.low.result c.high.result c.low-2.result c.high-2.result c.low.ensures c.high.ensures c.low-2.ensures c.high-2.ensures c.put.new.st c.put.ensures
+    given-answer c.requires c.args.want t.result.bits t.result.next t.new.terms t.ensures p.result.ones p.result.twos c.either-w.result p.ensures.planes_post c.either-w.ensures c.low.result c.high.result c.low-2.result c.high-2.result c.low.ensures c.high.ensures c.low-2.ensures c.high-2.ensures c.put.new.st c.put.ensures

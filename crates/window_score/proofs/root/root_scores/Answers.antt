@@ -2,14 +2,17 @@
 use Rattle.std.proofs.Common.{refl, arith}
 use Rattle.node.specs.declared.NodeKind.TheVariants.{Boolean}
 use Rattle.node.proofs.Windows.{word-read}
-use Rattle.window_score.proofs.Nodes.{node-long, root-as, root-done, root-deep, root-ask, root-part}
+use Rattle.window_score.proofs.Nodes.{node-long, constant-number, no-constant, root-as, root-done, root-deep, root-ask, root-part}
 use Rattle.window_score.proofs.root.root_scores.Goals as goal
 
 pub bounds-st-0 : goal.bounds-st-0
 bounds-st-0 c = omega (arith, node-long (root-as c.requires))
 
-pub bounds-st-11 : goal.bounds-st-11
-bounds-st-11 c = omega (arith, node-long (root-as c.requires))
+pub node_at-requires : goal.node_at-requires
+node_at-requires c = node-long (root-as c.requires)
+
+pub constant_score-requires : goal.constant_score-requires
+constant_score-requires c = constant-number c.node_at.result c.node_at.ensures (root-as c.requires)
 
 pub slice_bounds-part_scores-count : goal.slice_bounds-part_scores-count
 slice_bounds-part_scores-count c = omega (arith, node-long (root-as c.requires))
@@ -21,16 +24,16 @@ pub boolean_at-n-requires : goal.boolean_at-n-requires
 boolean_at-n-requires c = node-long (root-as c.requires)
 
 pub overflow_sub-depth : goal.overflow_sub-depth
-overflow_sub-depth c = root-deep c.if-st-ne1.true (word-read _ Boolean c.in-Boolean.ensures refl) c.boolean_at-n.result c.boolean_at-n.ensures c.requires
+overflow_sub-depth c = root-deep (no-constant c.node_at.ensures c.constant_score.result c.constant_score.ensures c.is_none.result c.is_none.ensures c.if-is_none.true) (word-read _ Boolean c.in-Boolean.ensures refl) c.boolean_at-n.result c.boolean_at-n.ensures c.requires
 
 pub part_scores-requires : goal.part_scores-requires
-part_scores-requires c = root-ask c.if-st-ne1.true (word-read _ Boolean c.in-Boolean.ensures refl) c.boolean_at-n.result c.boolean_at-n.ensures c.requires
+part_scores-requires c = root-ask (no-constant c.node_at.ensures c.constant_score.result c.constant_score.ensures c.is_none.result c.is_none.ensures c.if-is_none.true) (word-read _ Boolean c.in-Boolean.ensures refl) c.boolean_at-n.result c.boolean_at-n.ensures c.requires
 
-pub returns-then-st-ne1 : goal.returns-then-st-ne1
-returns-then-st-ne1 c = root-part c.if-st-ne1.true (word-read _ Boolean c.in-Boolean.ensures refl) c.boolean_at-n.result c.boolean_at-n.ensures c.part_scores.new.kids c.part_scores.new.sums c.part_scores.ensures
+pub returns-then-is_none-clause-root_post : goal.returns-then-is_none-clause-root_post
+returns-then-is_none-clause-root_post c = root-part (no-constant c.node_at.ensures c.constant_score.result c.constant_score.ensures c.is_none.result c.is_none.ensures c.if-is_none.true) (word-read _ Boolean c.in-Boolean.ensures refl) c.boolean_at-n.result c.boolean_at-n.ensures c.part_scores.new.kids c.part_scores.new.sums c.part_scores.ensures.root_parts_post
 
 pub node_scores-requires : goal.node_scores-requires
 node_scores-requires c = root-as c.requires
 
-pub returns : goal.returns
-returns c = root-done c.requires c.node_scores.new.st c.node_scores.new.sums c.node_scores.ensures
+pub returns-clause-root_post : goal.returns-clause-root_post
+returns-clause-root_post c = root-done c.requires c.node_scores.new.st c.node_scores.new.sums c.node_scores.ensures.scores_post
