@@ -44,6 +44,7 @@ fn list_tree(
 }
 
 // The page of the walk that goes on from the tree in the node states, over the inverses of the order's fields.
+// Kept: the six parameters of Page and the inverses.
 fn list_by(
     lent: &Lent,
     query: &[u32],
