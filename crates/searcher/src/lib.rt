@@ -4,6 +4,7 @@
 pub mod buffers;
 pub mod length;
 pub mod page;
+mod reader;
 pub mod resume;
 pub mod search;
 mod tables;

@@ -12,14 +12,15 @@ ghost use Rattle.searcher.specs.Answers.{paged_numbers};
 ghost use Rattle.searcher.specs.WorkBuffers.{lengths_of, KeptBuffers, SameBuffers};
 
 use crate::buffers::{Buffers, build_tree};
+use crate::reader::reader_of;
 use crate::tables::over_inverses;
 use index::lent::Lent;
-use leaf_scorer::LeafReader;
+use leaf_scorer::PhraseBuffers;
 use refusal::Refusal;
 use walk::Listed;
 
 // The live matches of the tree from a document on.
-// Kept: slices and no `Buffers`: with the reader over a field's slice in `list_by`, `search` doesn't find that the field ends as it was.
+// Kept: slices and no `Buffers`: tried, and the proof of `list_by` with the reader in it did not close: over the index and a field's slice of `Buffers` it has two lifetimes, which the borrow checker does not cover.
 fn list_tree(
     lent: &Lent,
     inverses: &[f32],
@@ -34,28 +35,16 @@ fn list_tree(
     requires { ListPre (lent_words lent.now.max_doc lent.now.postings.now lent.now.positions.now ranges.now) lent.now.norms.now lent.now.live.now inverses.now (min (length starts.old) (length other_starts.old)) tree.old from 16 documents.old scores.old }
     ensures { ListPost (lent_words lent.now.max_doc lent.now.postings.now lent.now.positions.now ranges.now) lent.now.norms.now lent.now.live.now inverses.now (min (length starts.old) (length other_starts.old)) tree.old from 16 documents.old scores.old result tree.new documents.new scores.new }
 {
-    let reader = LeafReader {
-        max_doc: lent.max_doc,
-        postings: lent.postings,
-        positions: lent.positions,
-        norms: lent.norms,
-        ranges,
-        live: lent.live,
-    };
-    walk::list(
-        tree,
-        &reader,
-        inverses,
+    let reader = reader_of(lent, inverses, ranges);
+    let mut buffers = PhraseBuffers {
         starts,
         other_starts,
-        from,
-        16,
-        documents,
-        scores,
-    )
+    };
+    walk::list(tree, &reader, &mut buffers, from, 16, documents, scores)
 }
 
 // The page of the walk that goes on from the tree in the node states, over the inverses of the order's fields.
+// Kept: the six parameters of Page and the inverses.
 fn list_by(
     lent: &Lent,
     query: &[u32],

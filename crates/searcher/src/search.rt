@@ -17,14 +17,15 @@ ghost use Rattle.searcher.specs.Answers.{searched_numbers};
 ghost use Rattle.searcher.specs.WorkBuffers.{lengths_of, KeptBuffers, SameBuffers};
 
 use crate::buffers::{Buffers, build_tree};
+use crate::reader::reader_of;
 use crate::tables::over_inverses;
 use collector::{TopDocs, TopScoreDocCollector};
 use index::lent::Lent;
-use leaf_scorer::LeafReader;
+use leaf_scorer::PhraseBuffers;
 use refusal::Refusal;
 
 // The live documents that the tree matches to the collector.
-// Kept: slices and no `Buffers`: with the reader over a field's slice in `find_by`, `search` doesn't find that the field ends as it was.
+// Kept: slices and no `Buffers`, as `list_tree` of page.rt.
 fn collect(
     lent: &Lent,
     inverses: &[f32],
@@ -39,20 +40,15 @@ fn collect(
     ensures collect_post { CollectPost (lent_words lent.now.max_doc lent.now.postings.now lent.now.positions.now ranges.now) lent.now.norms.now lent.now.live.now inverses.now (min (length starts.old) (length other_starts.old)) tree.old 16 0 collector heap.old result heap.new }
     ensures collect_end { CollectEnd (lent_words lent.now.max_doc lent.now.postings.now lent.now.positions.now ranges.now) lent.now.norms.now lent.now.live.now inverses.now (min (length starts.old) (length other_starts.old)) tree.old 16 tree.new }
 {
-    let reader = LeafReader {
-        max_doc: lent.max_doc,
-        postings: lent.postings,
-        positions: lent.positions,
-        norms: lent.norms,
-        ranges,
-        live: lent.live,
+    let reader = reader_of(lent, inverses, ranges);
+    let mut buffers = PhraseBuffers {
+        starts,
+        other_starts,
     };
     bulk::collect_matches(
         tree,
         &reader,
-        inverses,
-        starts,
-        other_starts,
+        &mut buffers,
         16,
         0, // one index: its documents keep their numbers
         collector,
