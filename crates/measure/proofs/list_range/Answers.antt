@@ -10,11 +10,6 @@ range_bitmap-requires-clause-right c =
     let lent = c.args.lent.now in
     range-asks c.requires.asks.0 c.args.q.now lent.columns.now lent.values.now lent.max_doc c.args.at c.requires.asks.1 c.requires.asks.2 c.requires.at_bound.0 kind _ c.range_at.ensures
 
-pub range_bitmap-requires-clause-bitmap_fits : goal.range_bitmap-requires-clause-bitmap_fits
-range_bitmap-requires-clause-bitmap_fits c =
-    let kind : record_kind c.args.q.now c.args.at ≡ 4 = search rules in
-    c.requires.at_bound.1 kind
-
 pub returns-clause-value : goal.returns-clause-value
 returns-clause-value c =
     let lent = c.args.lent.now in

@@ -5,11 +5,6 @@ use Rattle.node_words.proofs.place.phrase_idf.Goals as goal
 pub loop-j-init : goal.loop-j-init
 loop-j-init c = λ ix are. idf-none ix c.args.q.now c.args.at
 
-pub idf_of-requires : goal.idf_of-requires
-idf_of-requires c =
-    let a = c.requires.accepted in
-    (a.0, a.1, a.2, rw c.value.ensures (a.3 c.loop-j.j (omega arith)))
-
 pub add_score-sum-requires : goal.add_score-sum-requires
 add_score-sum-requires c =
     let a = c.requires.accepted in

@@ -1,4 +1,4 @@
-use Rattle.std.proofs.Common.{◌-◌, ◌*◌, length, take, drop, length-take, length-drop, arith}
+use Rattle.std.proofs.Common.{◌-◌, ◌*◌, length, take, drop, arith}
 use borrow.Rule.Slice.PartMut.{post_of}
 use Rattle.meaning.specs.Limits.{node_state_words}
 use Rattle.node_words.proofs.PhraseParts.{terms-begin, terms-more, terms-all}
@@ -6,14 +6,6 @@ use Rattle.node_words.proofs.place.place_terms.Goals as goal
 
 pub loop-j-init : goal.loop-j-init
 loop-j-init c = λ ix e. terms-begin ix c.args.records.now.query.now c.args.at c.args.st.now
-
-pub place_phrase_term-requires-clause-node_state_words_in_bounds : goal.place_phrase_term-requires-clause-node_state_words_in_bounds
-place_phrase_term-requires-clause-node_state_words_in_bounds c = rw (length-take, length-drop) (omega arith)
-
-pub place_phrase_term-requires-clause-leaf_lent : goal.place_phrase_term-requires-clause-leaf_lent
-place_phrase_term-requires-clause-leaf_lent c =
-    let a = c.requires.leaf_lent in
-    (a.0, a.1, rw c.value-leaf.ensures (a.2 c.loop-j.j (omega arith)))
 
 pub loop-j-preserved : goal.loop-j-preserved
 loop-j-preserved c =

@@ -1,9 +1,6 @@
-use Rattle.std.proofs.Common.{ap, refl, length, arith}
+use Rattle.std.proofs.Common.{ap, length, arith}
 use Rattle.node_words.proofs.Placing.{put-more, put-long, put_all}
 use Rattle.node_words.proofs.place.put.Goals as goal
-
-pub loop-i-init : goal.loop-i-init
-loop-i-init c = record { written = refl; within = omega arith }
 
 pub bounds-st-i : goal.bounds-st-i
 bounds-st-i c =
