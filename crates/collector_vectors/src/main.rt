@@ -5,12 +5,13 @@
 ghost use Rattle.std.specs.Prelude.{◌≡◌, ◌<◌, ◌≤◌, true, false, not, T, length, is_nan};
 ghost use Rattle.meaning.specs.CallRefusals.{wrong14};
 
-use collector::codes;
+use collector::{TopDocs, codes};
 use std::io;
 use std::io::Write;
 use vectors::Format;
+use vectors::file::first;
 use vectors::numbers::{Seeds, Sequence, below, xorshift};
-use vectors::print::Pattern;
+use vectors::print::{Hits, Pattern};
 
 // Scores in rising order, from 0 to plus infinity.
 const SCORES: [u32; 8] = [
@@ -79,8 +80,9 @@ fn print_picked(
     requires scores_value { wrong14 documents.now scores.now ≡ false }
     requires heap_nonzero { (0 < length heap.old) × (length heap.old ≤ 1024) }
 {
-    let top = collector::pick(documents, scores, t, heap);
-    vectors::print_hits(out, top.count, top.mark, heap, top.held)
+    let TopDocs { held, count, mark } = collector::pick(documents, scores, t, heap);
+    let codes = first(heap, held as usize);
+    writeln!(out, "{}", Hits { count, mark, codes })
 }
 
 fn pick(out: &mut impl Write, documents: &[u32], scores: &[u32], k: usize, t: u32) -> io::Result<()>

@@ -14,8 +14,11 @@ use node_cases::{QUERY, RUBBISH, WHOLE_CASE};
 use node_state::NodeState;
 use refusal::Refusal;
 use searcher::buffers::Buffers;
-use std::io;
+use std::fmt::{Display, Formatter};
 use std::io::Write;
+use std::{fmt, io};
+use vectors::file::first;
+use vectors::print;
 use walk::Listed;
 use weight::NODE_STATE_WORDS;
 
@@ -62,13 +65,12 @@ fn next_of(listed: Result<Listed, Refusal>) -> u32
     }
 }
 
-// From the first document, over the records and a range buffer of their own.
+// From the first document, over the records, a range buffer of their own, and the phrase buffers of the words.
 fn first_page(
     lent: &Lent,
     query: &[u32],
     nodes: &mut [NodeState],
-    starts: &mut [i32],
-    other_starts: &mut [i32],
+    buffers: &mut Buffers<'_>,
     ranges: &mut [u32],
 ) -> Page
     ensures { (next_of result.listed ≡ no_more_docs → ⊥) → Standing (index_of lent.now) query.now ranges.new (record_words nodes.new) (next_of result.listed) }
@@ -80,8 +82,8 @@ fn first_page(
         query,
         0,
         nodes,
-        starts,
-        other_starts,
+        buffers.starts,
+        buffers.other_starts,
         ranges,
         &mut documents,
         &mut scores,
@@ -99,8 +101,7 @@ fn next_page(
     query: &[u32],
     target: u32,
     nodes: &mut [NodeState],
-    starts: &mut [i32],
-    other_starts: &mut [i32],
+    buffers: &mut Buffers<'_>,
     ranges: &mut [u32],
 ) -> Page
     requires { Standing (index_of lent.now) query.now ranges.old (record_words nodes.old) target }
@@ -113,8 +114,8 @@ fn next_page(
         query,
         target,
         nodes,
-        starts,
-        other_starts,
+        buffers.starts,
+        buffers.other_starts,
         ranges,
         &mut documents,
         &mut scores,
@@ -138,10 +139,19 @@ fn page_by_words(lent: &Lent, query: &[u32], target: u32, buffers: &mut Buffers<
     }
 }
 
-fn print_page(out: &mut impl Write, page: Page) -> io::Result<()> {
-    match page.listed {
-        Err(refusal) => writeln!(out, "refused {refusal} "),
-        Ok(l) => vectors::print_page(out, &page.documents, &page.scores, l.given, l.next),
+impl Display for Page {
+    fn fmt<W: fmt::Write>(&self, f: &mut Formatter<W>) -> fmt::Result {
+        match self.listed {
+            Err(refusal) => write!(f, "refused {refusal} "),
+            Ok(Listed { given, next }) => {
+                let page = print::Page {
+                    documents: first(&self.documents, given),
+                    scores: first(&self.scores, given),
+                    next,
+                };
+                write!(f, "{page}")
+            }
+        }
     }
 }
 
@@ -154,15 +164,15 @@ fn numbers(listed: Result<Listed, Refusal>) -> [u64; 3] {
 }
 
 fn print_both(out: &mut impl Write, by_records: Page, by_words: Page) -> io::Result<()> {
-    print_page(out, by_records)?;
-    print_page(out, by_words)?;
+    writeln!(out, "{by_records}")?;
+    writeln!(out, "{by_words}")?;
     let same = (numbers(by_records.listed) == numbers(by_words.listed))
         & (by_records.documents == by_words.documents)
         & (by_records.scores == by_words.scores);
     writeln!(out, "{}", if same { "same" } else { "different" })
 }
 
-// The order page by page from the first document, eight pages at most. The phrase buffers of the words serve the records too.
+// The order page by page from the first document, eight pages at most.
 fn page_through(
     out: &mut impl Write,
     lent: &Lent,
@@ -171,29 +181,14 @@ fn page_through(
     ranges: &mut [u32],
 ) -> io::Result<()> {
     let mut nodes = [RUBBISH; 8];
-    let mut page = first_page(
-        lent,
-        query,
-        &mut nodes,
-        buffers.starts,
-        buffers.other_starts,
-        ranges,
-    );
+    let mut page = first_page(lent, query, &mut nodes, buffers, ranges);
     print_both(out, page, page_by_words(lent, query, 0, buffers))?;
     for _ in 1..8 {
         let target = next_of(page.listed);
         if target == walk::NO_MORE_DOCS {
             return Ok(());
         }
-        page = next_page(
-            lent,
-            query,
-            target,
-            &mut nodes,
-            buffers.starts,
-            buffers.other_starts,
-            ranges,
-        );
+        page = next_page(lent, query, target, &mut nodes, buffers, ranges);
         print_both(out, page, page_by_words(lent, query, target, buffers))?;
     }
     Ok(())

@@ -9,6 +9,8 @@ use refusal::Refusal;
 use searcher::buffers::Buffers;
 use std::io;
 use std::io::Write;
+use vectors::file::first;
+use vectors::print::Hits;
 use weight::NODE_STATE_WORDS;
 
 // The same below three Boosts of 1: nine records, where there are eight states.
@@ -141,7 +143,10 @@ fn print_answer(
 ) -> io::Result<()> {
     match found {
         Err(refusal) => writeln!(out, "refused {refusal} "),
-        Ok(top) => vectors::print_hits(out, top.count, top.mark, hits, top.held),
+        Ok(TopDocs { held, count, mark }) => {
+            let codes = first(hits, held as usize);
+            writeln!(out, "{}", Hits { count, mark, codes })
+        }
     }
 }
 

@@ -41,6 +41,8 @@ fn is_good_term(positions: &[u32], first: usize, freq: usize, offset: u32) -> bo
 }
 
 // Whether a phrase may be asked with so many places for its starts.
+// Kept: no plainer as one with that of collector_vectors, and so `ask` and `ask_each`: the two ask other functions of other lists,
+// and have their names and the numbers from a seed (`vectors`) in common.
 fn is_good(positions: &[u32], terms: &[u32], places: usize) -> bool
     ensures { result ≡ true → Asked positions.now terms.now places }
 {

@@ -4,13 +4,16 @@
 // stands; then the lists' words. Norm bytes stand four to a word, live words as two, the low half first.
 #![tactic(auto)]
 
+use collector::TopDocs;
 use hits_text::words::read_words;
 use index::lent::Lent;
 use searcher::buffers::Buffers;
 use std::io;
 use std::io::Write;
 use std::rt::Files;
-use vectors::file::{bytes_at, list, read_bytes, read_long_words, records};
+use vectors::file::{bytes_at, first, list, read_bytes, read_long_words, records};
+use vectors::print::{Hits, Page};
+use walk::Listed;
 use weight::NODE_STATE_WORDS;
 
 // The most places that a page has.
@@ -31,7 +34,10 @@ fn search(out: &mut impl Write, index: Lent, query: &[u32], k: u32, t: u32) -> i
     };
     match searcher::search::search(&index, query, k, t, &mut buffers, &mut hits) {
         Err(refusal) => writeln!(out, "refused {refusal}"),
-        Ok(top) => vectors::print_hits(out, top.count, top.mark, &hits, top.held),
+        Ok(TopDocs { held, count, mark }) => {
+            let codes = first(&hits, held as usize);
+            writeln!(out, "{}", Hits { count, mark, codes })
+        }
     }
 }
 
@@ -56,7 +62,14 @@ fn page(
     };
     match searcher::page::page(&index, query, target, &mut buffers, documents, scores) {
         Err(refusal) => writeln!(out, "refused {refusal}"),
-        Ok(page) => vectors::print_page(out, documents, scores, page.given, page.next),
+        Ok(Listed { given, next }) => {
+            let page = Page {
+                documents: first(documents, given),
+                scores: first(scores, given),
+                next,
+            };
+            writeln!(out, "{page}")
+        }
     }
 }
 

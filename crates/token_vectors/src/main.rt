@@ -4,10 +4,11 @@
 // stand; then the lists' words.
 #![tactic(auto)]
 
+use hits_text::words::read_words;
 use std::io;
 use std::io::Write;
 use tokens::TokenRecords;
-use vectors::file::{list, read_bytes, read_words, records};
+use vectors::file::{list, read_bytes, records};
 use vectors::print::List;
 
 // So many elements of each output there is room for.
@@ -83,7 +84,7 @@ fn main(rt: HostRuntime) -> io::Result<()> {
     let mut bytes = [0u8; 65_536];
     let mut file = [0u32; 16_384];
     let n = read_bytes(&rt, "rows.rec", &mut bytes)?;
-    read_words(&bytes[..n], &mut file);
-    print_rows(&mut out, &file)?;
+    let file = read_words(&bytes[..n], &mut file);
+    print_rows(&mut out, file)?;
     out.flush()
 }

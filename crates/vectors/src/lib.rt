@@ -6,10 +6,6 @@ pub mod lists;
 pub mod numbers;
 pub mod print;
 
-use print::{Code, Mark};
-use std::io;
-use std::io::Write;
-
 // A binary format: the values of its patterns, and the patterns of its values.
 pub trait Format: Copy + Drop {
     type Bits;
@@ -67,39 +63,4 @@ impl Format for f64 {
             Some(self.to_bits())
         }
     }
-}
-
-// The count, its mark, and the codes of the best hits.
-// Kept: no plainer: `mark` is a part of the answer that is printed, no switch.
-pub fn print_hits(
-    out: &mut impl Write,
-    count: u64,
-    mark: bool,
-    codes: &[i64],
-    held: u32,
-) -> io::Result<()> {
-    write!(out, "{count}{} ", Mark(mark))?;
-    for code in codes.iter().take(held as usize) {
-        write!(out, "{} ", Code(*code))?;
-    }
-    end_line(out)
-}
-
-// A page: each document with its score's bits, and the next match.
-pub fn print_page(
-    out: &mut impl Write,
-    documents: &[u32],
-    scores: &[u32],
-    given: usize,
-    next: u32,
-) -> io::Result<()> {
-    write!(out, "page ")?;
-    for (document, score) in documents.iter().zip(scores).take(given) {
-        write!(out, "{document} {score:08x} ")?;
-    }
-    writeln!(out, "next {next}")
-}
-
-pub fn end_line(out: &mut impl Write) -> io::Result<()> {
-    writeln!(out)
 }

@@ -1,4 +1,4 @@
-// How the programs print a float, a code, a mark and a list.
+// How the programs print a float, a code, a mark, a list, hits and a page.
 use crate::Format;
 use std::fmt;
 use std::fmt::{Display, Formatter};
@@ -49,5 +49,41 @@ impl<T: Display> Display for List<'_, T> {
             write!(f, "{item} ")?;
         }
         Ok(())
+    }
+}
+
+// The count, its mark, and the codes of the best hits.
+#[derive(Clone, Copy)]
+pub struct Hits<'a> {
+    pub count: u64,
+    pub mark: bool,
+    pub codes: &'a [i64],
+}
+
+impl Display for Hits<'_> {
+    fn fmt<W: fmt::Write>(&self, f: &mut Formatter<W>) -> fmt::Result {
+        write!(f, "{}{} ", self.count, Mark(self.mark))?;
+        for code in self.codes {
+            write!(f, "{} ", Code(*code))?;
+        }
+        Ok(())
+    }
+}
+
+// A page: each document with its score's bits, and the next match.
+#[derive(Clone, Copy)]
+pub struct Page<'a> {
+    pub documents: &'a [u32],
+    pub scores: &'a [u32],
+    pub next: u32,
+}
+
+impl Display for Page<'_> {
+    fn fmt<W: fmt::Write>(&self, f: &mut Formatter<W>) -> fmt::Result {
+        write!(f, "page ")?;
+        for (document, score) in self.documents.iter().zip(self.scores) {
+            write!(f, "{document} {score:08x} ")?;
+        }
+        write!(f, "next {}", self.next)
     }
 }
