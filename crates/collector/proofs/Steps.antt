@@ -51,9 +51,6 @@ pub updated-early : (c : TopScoreDocCollector) → c.total_hits ≤ c.total_hits
 updated-early c h =
     sym (ap (λ (z : Bool). cond (z && lt c.min_competitive_score (next_up c.top_score)) (raised c (next_up c.top_score) refl) c) (le-ltb c.total_hits_threshold c.total_hits h))
 
-pub passed_is : (c : TopScoreDocCollector) (v : Bool) → eqb c.total_hits c.total_hits_threshold ≡ v → passed c ≡ cond v (updated (counted c c.held c.top_score)) (counted c c.held c.top_score)
-passed_is c v e = ap (λ (z : Bool). cond z (updated (counted c c.held c.top_score)) (counted c c.held c.top_score)) e
-
 -- ---- the top score
 pub top-few : (held : ℕ) (heap : List ℤ) → held < length heap → top_score held heap ≡ inf true
 top-few held heap h = ap (λ (b : Bool). cond b (inf true) (to_score (at heap 0))) (lt-ltb held (length heap) h)
