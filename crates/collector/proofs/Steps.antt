@@ -4,7 +4,7 @@ use mathlib.Core.Bool.{Bool, true, false, cond, ◌&&◌}
 use mathlib.Core.List.{List}
 use Prim.Native.Nat.{ℕ, ◌≤◌, ◌<◌}
 use borrow.Author.Tests.{lt-ltb, le-ltb}
-use lib.Dec.{ltb, eqb}
+use lib.Dec.{ltb}
 use lib.ListN.{length}
 use lib.IntN.{ℤ}
 use lib.Ieee.{Float, inf, lt, binary32, of_bits, nan_bits}
@@ -14,7 +14,7 @@ use Rattle.meaning.specs.Ieee754.{zero_float, next_up}
 use Rattle.meaning.specs.Hits.{to_score}
 use Rattle.collector.specs.declared.TopScoreDocCollector.{TopScoreDocCollector}
 use Rattle.collector.specs.Heap.{at}
-use Rattle.collector.specs.State.{top_score, counted, updated, passed}
+use Rattle.collector.specs.State.{top_score, updated}
 use Rattle.collector.proofs.Marks.{new_least, new_mark}
 
 -- ---- the state, field by field

@@ -19,7 +19,7 @@ use Rattle.token_index.proofs.Runs.{run_none, run-longer, run-other, run-grows}
 use Rattle.tokens.specs.declared.Token.{Token}
 use Rattle.tokens.specs.Records.{token_of}
 use Rattle.token_writer.specs.declared.postings.Cursor.{Cursor}
-use Rattle.token_writer.specs.Writing.{Begins, PostingsPre, PostingsPost, RunPre, RunPost}
+use Rattle.token_writer.specs.Writing.{Begins, PostingsPre, PostingsPost, RunPost}
 use Rattle.meaning.proofs.Stores.{sets_behind, sets_over}
 
 -- the run of leaf l in the first i tokens

@@ -1,7 +1,5 @@
 -- `token_writer::accept` meets its contract. Assumes nothing.
-use Rattle.std.proofs.Common.{◌≡◌, false, sym, ◌∙◌}
-use Rattle.meaning.specs.Tokens.{fields_lent}
-use Rattle.meaning.specs.IndexRefusals.{wrong1, wrong2}
+use Rattle.std.proofs.Common.{sym, ◌∙◌}
 use Rattle.token_writer.proofs.Ways.{one-is, two_is, refused-1, refused-2, handed-on, refused-16, accepted}
 use Rattle.token_writer.proofs.accept.Goals as goal
 

@@ -1,5 +1,5 @@
 -- `postings::write_postings` meets its contract. Assumes nothing.
-use Rattle.std.proofs.Common.{◌≡◌, refl, sym, ap, ◌∙◌, inl, inr, ◌+◌, ◌-◌, ◌*◌, ◌<◌, ◌≤◌, ℕ, true, false, not, cond, eqb, Option, Some, None, length, lit<, arith}
+use Rattle.std.proofs.Common.{◌≡◌, refl, sym, ap, ◌∙◌, inl, inr, ◌+◌, ◌-◌, ◌*◌, ◌≤◌, ℕ, true, false, not, cond, eqb, Option, Some, None, length, lit<, arith}
 use Rattle.std.specs.Option.{option_eq}
 use Rattle.std.proofs.lemmas.Bool.{true≢false, false≢true}
 use borrow.Author.Tests.{eq-eqb, eqb-true, not-false}
