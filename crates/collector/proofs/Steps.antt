@@ -4,7 +4,7 @@ use mathlib.Core.Bool.{Bool, true, false, cond, ◌&&◌}
 use mathlib.Core.List.{List}
 use Prim.Native.Nat.{ℕ, ◌≤◌, ◌<◌}
 use borrow.Author.Tests.{lt-ltb, le-ltb}
-use lib.Dec.{ltb, eqb}
+use lib.Dec.{ltb}
 use lib.ListN.{length}
 use lib.IntN.{ℤ}
 use lib.Ieee.{Float, inf, lt, binary32, of_bits, nan_bits}
@@ -14,7 +14,7 @@ use Rattle.meaning.specs.Ieee754.{zero_float, next_up}
 use Rattle.meaning.specs.Hits.{to_score}
 use Rattle.collector.specs.declared.TopScoreDocCollector.{TopScoreDocCollector}
 use Rattle.collector.specs.Heap.{at}
-use Rattle.collector.specs.State.{top_score, counted, updated, passed}
+use Rattle.collector.specs.State.{top_score, updated}
 use Rattle.collector.proofs.Marks.{new_least, new_mark}
 
 -- ---- the state, field by field
@@ -50,9 +50,6 @@ module _ (c : TopScoreDocCollector) (x : Float) (i : x ≡ next_up c.top_score) 
 pub updated-early : (c : TopScoreDocCollector) → c.total_hits ≤ c.total_hits_threshold → c ≡ updated c
 updated-early c h =
     sym (ap (λ (z : Bool). cond (z && lt c.min_competitive_score (next_up c.top_score)) (raised c (next_up c.top_score) refl) c) (le-ltb c.total_hits_threshold c.total_hits h))
-
-pub passed_is : (c : TopScoreDocCollector) (v : Bool) → eqb c.total_hits c.total_hits_threshold ≡ v → passed c ≡ cond v (updated (counted c c.held c.top_score)) (counted c c.held c.top_score)
-passed_is c v e = ap (λ (z : Bool). cond z (updated (counted c c.held c.top_score)) (counted c c.held c.top_score)) e
 
 -- ---- the top score
 pub top-few : (held : ℕ) (heap : List ℤ) → held < length heap → top_score held heap ≡ inf true

@@ -71,9 +71,6 @@ drop_more part (suc k) f q e g l m =
     let fits : (get_or part (suc k) 0 + (4294967296 - q)) % 4294967296 < 4294967296 = omega arith in
     rw (g, drop-is part (suc k) _ (omega arith) back fits p) (sym (count-more (suc k) (drop_at part)))
 
-pub drop-end : (part : List ℕ) (k n f : ℕ) → f ≡ count_below k (drop_at part) → k ≡ n → f ≡ count_below n (drop_at part)
-drop-end part k n f g e = g ∙ ap (λ (z : ℕ). count_below z (drop_at part)) e
-
 -- ---- both parts of a true `&&`
 pub and_left : (a b : Bool) → (a && b) ≡ true → a ≡ true
 and_left true b e = refl

@@ -1,5 +1,5 @@
 -- A posting's positions as a part of the positions. Assumes nothing.
-use Rattle.std.proofs.Common.{◌≡◌, ℕ, ◌+◌, ◌-◌, ◌*◌, ◌<◌, ◌≤◌, Bool, true, List, [], length, lit<, get_or, take, drop, ◌∙◌, arith, length-drop, length-take, get_or-drop, get_or-take, le-ltb, lt-ltb}
+use Rattle.std.proofs.Common.{◌≡◌, ℕ, ◌+◌, ◌-◌, ◌<◌, ◌≤◌, true, List, [], length, lit<, get_or, take, drop, arith, length-drop, length-take, get_or-drop, get_or-take, le-ltb, lt-ltb}
 use Rattle.std.specs.Simd.{first_chunks}
 use Rattle.meaning.specs.Below.{any_below}
 use Rattle.meaning.specs.Lent.{Index, leaf_positions_index}

@@ -1,4 +1,4 @@
-use Rattle.std.proofs.Common.{◌≡◌, ◌≤◌, rules, arith}
+use Rattle.std.proofs.Common.{◌≡◌, rules, arith}
 use Rattle.std.proofs.iter.runs.Made.{chains}
 use Rattle.std.specs.List.{fold}
 use lib.Bits.{bit_or}

@@ -1,4 +1,4 @@
-use Rattle.std.proofs.Common.{◌≡◌, ℕ, ◌+◌, ◌-◌, ◌*◌, ◌<◌, ◌/◌, eqb, leb, length, get_or, length-drop, length-take, refl, arith, eqb-true, leb-true}
+use Rattle.std.proofs.Common.{◌+◌, ◌-◌, ◌*◌, ◌<◌, ◌/◌, eqb, leb, length, get_or, length-drop, length-take, refl, arith, eqb-true, leb-true}
 use Rattle.posting_positions.proofs.Gaps.{and_left, and_right}
 use Rattle.posting_positions.proofs.Joined.{begins-before, falls-right, ones-right, seam-within}
 use Rattle.posting_positions.proofs.plain_positions.Goals.{Start}

@@ -1,5 +1,5 @@
 -- `FieldRuns::write_field` meets its contract. Assumes nothing.
-use Rattle.std.proofs.Common.{◌≡◌, ap, ◌∙◌, ◌+◌, ◌-◌, ◌*◌, ◌≤◌, ℕ, min, length, arith}
+use Rattle.std.proofs.Common.{◌≡◌, ap, ◌∙◌, ◌+◌, ◌-◌, ◌*◌, ℕ, min, length, arith}
 use Rattle.std.proofs.lemmas.List.Edits.{sets}
 use Rattle.meaning.specs.Below.{list_to}
 use Rattle.meaning.specs.SmallFloat.{int_to_byte4}
