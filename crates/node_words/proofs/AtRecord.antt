@@ -29,7 +29,8 @@ use Rattle.std.specs.Option.{unwrap_or}
 use Rattle.node_words.proofs.Kept.{kept-or}
 use Rattle.node_words.specs.declared.place.Records.{Records as Lent}
 use Rattle.node_words.specs.Placed.{kept_of, kept_score}
-use Rattle.node_words.specs.Prepared.{Records, given, RecordsLent, Prepared, TreeAsked, TreePre}
+use Rattle.node_words.specs.Prepared.{Records, given, given_with, RecordsLent, Prepared, TreeAsked, TreePre}
+use Rattle.measure.specs.Measures.{nexts_of, costs_of}
 use Rattle.node_words.proofs.Weighing.{weigh-range, weigh-all, weigh-none, term-nothing, phrase-nothing, phrase-room, size-least}
 
 -- a score that is kept, or the boost
@@ -130,10 +131,10 @@ pub record TreeHere (r : Lent) (at : ℕ) (kept : Maybe Float) (boost : Float) (
   pub score-small : AtMost (2 ^ 29) (unwrap_or kept boost)
   pub lent : (ix : Index) × Asks ix r.query.now × RecordsLent ix r
 
-pub tree-here : (r : Lent) (at : ℕ) (kept : Maybe Float) (boost : Float) (words depth : ℕ) → TreePre (given r) at (is_some kept) (kept_score kept) boost words depth → TreeHere r at kept boost words depth
-tree-here r at kept boost words depth t =
+pub tree-with : (r : Lent) (nexts costs : List ℕ) (at : ℕ) (kept : Maybe Float) (boost : Float) (words depth : ℕ) → TreePre (given_with r nexts costs) at (is_some kept) (kept_score kept) boost words depth → TreeHere r at kept boost words depth
+tree-with r nexts costs at kept boost words depth t =
     let ix = t.0 in
-    let E = given r in
+    let E = given_with r nexts costs in
     let p = t.4 in
     let a = t.5 in
     let here = at_here ix E t.1 t.2 at t.3 (is_some kept) (kept_score kept) boost words p a in
@@ -153,3 +154,6 @@ tree-here r at kept boost words depth t =
       score-small = score-small ix E t.1 t.2 at t.3 (is_some kept) (kept_score kept) boost words p a (unwrap_or kept boost) (kept-or kept boost);
       lent = (ix, p.asks, p.lent);
     }
+
+pub tree-here : (r : Lent) (at : ℕ) (kept : Maybe Float) (boost : Float) (words depth : ℕ) → TreePre (given r) at (is_some kept) (kept_score kept) boost words depth → TreeHere r at kept boost words depth
+tree-here r = tree-with r (nexts_of r.measures.now) (costs_of r.measures.now)

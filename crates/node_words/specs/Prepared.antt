@@ -27,10 +27,14 @@ abbrev pub records : List ℕ → ℕ → List ℕ → List ℕ → List ℕ →
 records q n fields leaves nexts presents costs places =
     record { query = q; documents = n; fields = fields; leaves = leaves; nexts = nexts; presents = presents; costs = costs; places = places }
 
--- as the code has them: one struct of each record's measure, one of each range
+-- as the code has them, one struct of each record's measure, one of each range; the records after the trees and the costs, which a leaf does not read, are these
+abbrev pub given_with : Lent → List ℕ → List ℕ → Records
+given_with r nexts costs =
+    records r.query.now r.max_doc r.fields.now r.leaves.now nexts (presents_of r.measures.now) costs (places_of r.listed.now)
+
+-- all as the code has them
 abbrev pub given : Lent → Records
-given r =
-    records r.query.now r.max_doc r.fields.now r.leaves.now (nexts_of r.measures.now) (presents_of r.measures.now) (costs_of r.measures.now) (places_of r.listed.now)
+given r = given_with r (nexts_of r.measures.now) (costs_of r.measures.now)
 
 -- an accepted index of which this is lent
 abbrev pub RecordsLent : Index → Lent → Type 0

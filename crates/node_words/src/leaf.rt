@@ -1,7 +1,7 @@
 // The words of a record without trees below it: Term, Phrase, Range, MatchAll, MatchNone.
-ghost use Rattle.std.specs.Prelude.{◌≡◌, is_some, ℕ, length};
+ghost use Rattle.std.specs.Prelude.{◌≡◌, is_some, List, ℕ, length};
 ghost use Rattle.meaning.specs.Query.{record_kind};
-ghost use Rattle.node_words.specs.Prepared.{given, TreePre, TreePost};
+ghost use Rattle.node_words.specs.Prepared.{given_with, TreePre, TreePost};
 ghost use Rattle.node_words.specs.Placed.{kept_score};
 
 use crate::place::{
@@ -12,8 +12,8 @@ use query::{Kind, kind_at};
 // The tree at `at`, whose kind is none of Boolean, ConstantScore and Boost.
 pub fn place_leaf(st: &mut [u32], records: &Records, at: usize, passed: Passed) -> usize
     requires fact { (record_kind records.now.query.now at ≡ 3 → ⊥) × (record_kind records.now.query.now at ≡ 6 → ⊥) × (record_kind records.now.query.now at ≡ 7 → ⊥) }
-    requires by_index { (depth : ℕ) × TreePre (given records.now) at (is_some passed.kept) (kept_score passed.kept) passed.boost (length st.old) depth }
-    ensures by_index_2 { (depth : ℕ) → TreePost (given records.now) at (is_some passed.kept) (kept_score passed.kept) passed.boost (length st.old) depth passed.scores result st.new }
+    requires by_index { (nexts : List ℕ) × (costs : List ℕ) × (depth : ℕ) × TreePre (given_with records.now nexts costs) at (is_some passed.kept) (kept_score passed.kept) passed.boost (length st.old) depth }
+    ensures by_index_2 { (nexts costs : List ℕ) (depth : ℕ) → TreePost (given_with records.now nexts costs) at (is_some passed.kept) (kept_score passed.kept) passed.boost (length st.old) depth passed.scores result st.new }
     ensures st_len_unchanged { length st.new ≡ length st.old }
 {
     if !records.measures[at].present {

@@ -104,7 +104,7 @@ place-returns-in-Some-Boost-clause-tree_post t c =
 
 pub place-returns-in_default-clause-tree_post : goal.place-returns-in_default-clause-tree_post
 place-returns-in_default-clause-tree_post t c =
-    c.place_leaf.ensures.by_index_2 c.args.depth
+    c.place_leaf.ensures.by_index_2 _ _ c.args.depth
 
 -- ---- a Boolean
 boolean : (t : _) (c : goal.place_boolean-Start t) → TreeHere c.args.records.now c.args.at c.args.passed.kept c.args.passed.boost (length c.args.st.now) c.args.depth
