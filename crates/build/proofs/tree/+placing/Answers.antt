@@ -144,7 +144,8 @@ place_boolean-has_required-required-requires t c =
     let pre = c.requires.tree_pre in
     let kind = c.requires.at_value in
     let there = marked c.args.records.now.measures.now at c.if-not-records-at.false in
-    boolean-known E at fixed kept boost words depth kind there c.args.records.now.measures.now (refl, refl, refl) pre
+    let s = boolean-known E at fixed kept boost words depth kind there c.args.records.now.measures.now (refl, refl, refl) pre in
+    (s.0, s.1, s.2, s.3, record { measures = c.args.records.now.measures.now; nexts = refl; known = s.4 })
 
 pub place_boolean-slice_bounds-place_required-count : goal.place_boolean-slice_bounds-place_required-count
 place_boolean-slice_bounds-place_required-count t c = (boolean t (goal.at.place_boolean-slice_bounds-place_required-count t c).Start).room
@@ -369,7 +370,7 @@ place_boolean-returns-clause-tree_post t c =
     let part₃ = mid_len (node_state_words + (e₁ + e₂)) (length st₂) st₂ (omega arith) ∙ ap (λ (z : ℕ). z - (node_state_words + (e₁ + e₂))) long₂ in
     let d = c.place_others-nots in
     let e₃ = d.result in
-    whole-placed E at fixed kept boost words depth kind there _ part₁ a.result.group_at e₁ a.new.st a.ensures.required_post _ part₂ e₂ b.new.st b.ensures.others_post _ part₃ e₃ d.new.st d.ensures.others_post c.args.records.now.measures.now (refl, refl, refl) st₀ (post_of node_state_words (words - node_state_words) st₀) (post_of (node_state_words + e₁) (length st₁ - (node_state_words + e₁)) st₁) (post_of (node_state_words + (e₁ + e₂)) (length st₂ - (node_state_words + (e₁ + e₂))) st₂) c.put_boolean.new.st c.args.passed.scores c.shoulds_needed-need.result c.value-msm.result c.has_required-required.result c.joins_afterwards-afterwards.result refl pre c.put_boolean.ensures.score_fits c.value-msm.ensures c.has_required-required.ensures c.shoulds_needed-need.ensures c.joins_afterwards-afterwards.ensures c.put_boolean.ensures.written
+    whole-placed E at fixed kept boost words depth kind there _ part₁ a.result.group_at e₁ a.new.st a.ensures.required_post _ part₂ e₂ b.new.st b.ensures.others_post _ part₃ e₃ d.new.st d.ensures.others_post c.args.records.now.measures.now (refl, refl, refl) st₀ (post_of node_state_words (words - node_state_words) st₀) (post_of (node_state_words + e₁) (length st₁ - (node_state_words + e₁)) st₁) (post_of (node_state_words + (e₁ + e₂)) (length st₂ - (node_state_words + (e₁ + e₂))) st₂) c.put_boolean.new.st c.args.passed.scores c.shoulds_needed-need.result c.value-msm.result c.has_required-required.result c.joins_afterwards-afterwards.result refl pre c.put_boolean.ensures.score_fits c.value-msm.ensures (λ ix k C b known. c.has_required-required.ensures ix k C b (record { measures = c.args.records.now.measures.now; nexts = refl; known = known })) c.shoulds_needed-need.ensures c.joins_afterwards-afterwards.ensures c.put_boolean.ensures.written
 
 pub place_list-loop-at-init : goal.place_list-loop-at-init
 place_list-loop-at-init t c =
