@@ -19,7 +19,7 @@ use Rattle.token_index.proofs.Runs.{run_none, run-longer, run-other, run-grows}
 use Rattle.tokens.specs.declared.Token.{Token}
 use Rattle.tokens.specs.Records.{token_of}
 use Rattle.token_writer.specs.declared.postings.Cursor.{Cursor}
-use Rattle.token_writer.specs.Writing.{Begins, PostingsPre, PostingsPost, RunPost}
+use Rattle.token_writer.specs.Writing.{Begins, PostingsPre, PostingsPost, RunPre, RunPost}
 use Rattle.meaning.proofs.Stores.{sets_behind, sets_over}
 
 -- the run of leaf l in the first i tokens
@@ -327,6 +327,9 @@ module _ (n m : ℕ) (ws : List ℕ) (l : ℕ) (p : Bool) (from posting position
         }
 
 -- ---- the postings and then the positions
+pub run-postings : (n m : ℕ) (ws : List ℕ) (l : ℕ) (p : Bool) (from posting position a b : ℕ) → RunPre n m ws l p from posting position a b → PostingsPre n m ws l p from posting position a
+run-postings n m ws l p from posting position a b h = record { few_documents = h.few_documents; tokens = h.tokens; begins = h.begins; few_postings = h.few_postings; few_positions = h.few_positions; postings_fit = h.postings_fit }
+
 pub run-placed : (n : ℕ) (ws : List ℕ) (l : ℕ) (p : Bool) (from posting position : ℕ) (postings positions postings' positions' : List ℕ) (r : Cursor)
     → PostingsPost n ws l p from posting position postings postings' r
     → positions' ≡ sets positions position (list_to (r.position - position) (λ j. (token_at ws (from + j)).position))
