@@ -21,8 +21,8 @@ use Rattle.index.specs.Slices.{live_only}
 use Rattle.weight.specs.ScorerTree.{nothing, term, phrase, range, everything, Scoring, constant, weighted, Scorer, leaf, boolean, matches, leaf_matches, leaf_score, scorer_score}
 use Rattle.weight.specs.Held.{LeafIs, Ok}
 use Rattle.scorer.specs.Calls.{Lent}
-use Rattle.leaf_score.specs.declared.Node.{Node}
-use Rattle.leaf_score.specs.Words.{NodeIs}
+use Rattle.leaf_score.specs.declared.ScoreNode.{ScoreNode}
+use Rattle.leaf_score.specs.Words.{ScoreNodeIs}
 use Rattle.walk.specs.Walks.{live_match, live_scored, PageHeld}
 use Rattle.leaf_score.proofs.Leaves.{read, kind-read}
 use Rattle.leaf_score.proofs.Bounds.{zero-32}
@@ -35,17 +35,17 @@ use Rattle.bulk_scorer.proofs.Sofar.{Sofar, sofar-start, sofar-skip, sofar-ready
 use Rattle.bulk_term.proofs.Roots.{node-scores}
 
 -- ---- the score
-pub constant_number : (sc : Scoring) (n : Node) → NodeScores sc n → T (not (nan_bits binary32 n.weight))
+pub constant_number : (sc : Scoring) (n : ScoreNode) → NodeScores sc n → T (not (nan_bits binary32 n.weight))
 unfolding NodeScores
 constant_number (constant c) n p = float-number c n.weight p.1
 constant_number (weighted w) n p = float-number w n.weight p.1
 
-pub constant-score : (n : Node) → n.constant ≡ 1 → (ix : Index) (sc : Scoring) (doc : ℕ) → NodeScores sc n → (of_bits binary32 n.weight ≡ leaf_score ix everything sc doc) × AtMost (2 ^ 29) (of_bits binary32 n.weight)
+pub constant-score : (n : ScoreNode) → n.constant ≡ 1 → (ix : Index) (sc : Scoring) (doc : ℕ) → NodeScores sc n → (of_bits binary32 n.weight ≡ leaf_score ix everything sc doc) × AtMost (2 ^ 29) (of_bits binary32 n.weight)
 unfolding NodeScores leaf_score
 constant-score n e ix (constant c) doc p = (float_back c n.weight p.1, subst (λ (z : Float). AtMost (2 ^ 29) z) (sym (float_back c n.weight p.1)) p.1.small)
 constant-score n e ix (weighted w) doc p = absurd (omega (arith, p.0))
 
-pub weighted-zero : (n : Node) → (n.constant ≡ 1 → ⊥) → (ix : Index) (sc : Scoring) (doc : ℕ) → NodeScores sc n → (of_bits binary32 0 ≡ leaf_score ix everything sc doc) × AtMost (2 ^ 29) (of_bits binary32 0)
+pub weighted-zero : (n : ScoreNode) → (n.constant ≡ 1 → ⊥) → (ix : Index) (sc : Scoring) (doc : ℕ) → NodeScores sc n → (of_bits binary32 0 ≡ leaf_score ix everything sc doc) × AtMost (2 ^ 29) (of_bits binary32 0)
 unfolding NodeScores leaf_score
 weighted-zero n m ix (constant c) doc p = absurd (m p.0)
 weighted-zero n m ix (weighted w) doc p = (zero-32, subst (λ (z : Float). AtMost (2 ^ 29) z) (sym zero-32) (zero-atmost _))
@@ -53,7 +53,7 @@ weighted-zero n m ix (weighted w) doc p = (zero-32, subst (λ (z : Float). AtMos
 -- ---- the root
 module _ (documents : ℕ) (live : List ℕ) where
   -- the words of kind 5, over an accepted index that is lent; n is what is read of them
-  module _ (n : Node) where
+  module _ (n : ScoreNode) where
     pub record AnyIs (ix : Index) (s : Scorer) : Type 0 where
       pub sc : Scoring
       pub is : s ≡ leaf everything sc
@@ -62,7 +62,7 @@ module _ (documents : ℕ) (live : List ℕ) where
       pub live-are : ix.live ≡ live
       pub scores : NodeScores sc n
 
-    module _ (E : Lent) (norms : List ℕ) (table : List Float) (places depth : ℕ) (st : List ℕ) (N : NodeIs st n) (k : get_or st 0 0 ≡ 5) (same : E.documents ≡ documents) where
+    module _ (E : Lent) (norms : List ℕ) (table : List Float) (places depth : ℕ) (st : List ℕ) (N : ScoreNodeIs st n) (k : get_or st 0 0 ≡ 5) (same : E.documents ≡ documents) where
       pub any-is : (ix : Index) (s : Scorer) (scores : ℕ) → PageHeld E norms live table ix places s depth scores st 0 → AnyIs ix s
       unfolding Ok LeafIs
       any-is ix (leaf nothing sc) m H = absurd (omega (arith, kind-read st H.ok.1 H.ok.0 H.ok.2, H.ok.4.0))
@@ -86,7 +86,7 @@ module _ (documents : ℕ) (live : List ℕ) where
     Asked st doc_base c heap = (E : Lent) × (norms : List ℕ) × (table : List Float) × (places : ℕ) × (depth : ℕ) × (E.documents ≡ documents) × (get_or st 0 0 ≡ 5) × CollectPre E norms live table places st depth doc_base c heap
 
     module _ (st : List ℕ) (doc_base : ℕ) (c : TopScoreDocCollector) (heap : List ℤ) (q : Asked st doc_base c heap) where
-      pub asked-any : NodeIs st n → AnyIs q.7.2.0 q.7.2.1
+      pub asked-any : ScoreNodeIs st n → AnyIs q.7.2.0 q.7.2.1
       asked-any N = any-is q.0 q.1 q.2 q.3 q.4 st N q.6 q.5 q.7.2.0 q.7.2.1 q.7.2.2 (root-page q.0 q.1 live q.2 q.7.2.0 q.3 q.7.2.1 q.4 q.7.2.2 st q.7.2.3)
 
       -- so many documents are numbered on
@@ -102,7 +102,7 @@ module _ (documents : ℕ) (live : List ℕ) where
       pub score-is : (doc : ℕ) → r ≡ leaf_score ix everything sc doc
       pub small : AtMost (2 ^ 29) r
 
-    pub any-root : (n : Node) → ((ix : Index) (sc : Scoring) (doc : ℕ) → NodeScores sc n → (r ≡ leaf_score ix everything sc doc) × AtMost (2 ^ 29) r) → (ix : Index) (s : Scorer) → (W : AnyIs n ix s) → AnyRoot ix W.sc
+    pub any-root : (n : ScoreNode) → ((ix : Index) (sc : Scoring) (doc : ℕ) → NodeScores sc n → (r ≡ leaf_score ix everything sc doc) × AtMost (2 ^ 29) r) → (ix : Index) (s : Scorer) → (W : AnyIs n ix s) → AnyRoot ix W.sc
     any-root n post ix s W = record { accepted = W.accepted; documents-are = W.documents-are; live-are = W.live-are; score-is = λ doc. (post ix W.sc doc W.scores).0; small = (post ix W.sc 0 W.scores).1 }
 
     module _ (doc_base : ℕ) (c₀ : TopScoreDocCollector) (heap₀ : List ℤ) where

@@ -2,7 +2,7 @@
 ghost use Rattle.std.specs.Prelude.{◌≡◌, true};
 ghost use Rattle.bulk.specs.Alone.{AloneWords};
 
-use leaf_score::node_at;
+use leaf_score::score_node_at;
 use node::{NodeKind, boolean_at};
 use weight::NODE_STATE_WORDS;
 
@@ -20,7 +20,7 @@ pub fn alone(st: &[u32]) -> bool
     if NodeKind::from(st[0]) != NodeKind::Boolean {
         return false;
     }
-    if node_at(st).constant != 0 {
+    if score_node_at(st).constant != 0 {
         return false;
     }
     let root = boolean_at(st);

@@ -8,11 +8,11 @@ ghost use Rattle.bulk_scorer.specs.Collects.{CollectPre, CollectPost};
 ghost use Rattle.bulk_term.specs.Postings.{NodeScores};
 
 use collector::TopScoreDocCollector;
-use leaf_score::Node;
+use leaf_score::ScoreNode;
 use leaf_scorer::LeafReader;
 
 // The score of each document: what has no frequencies scores 0 by BM25.
-fn one_score(n: Node) -> f32
+fn one_score(n: ScoreNode) -> f32
     requires { (sc : Scoring) × NodeScores sc n }
     ensures { (ix : Index) (sc : Scoring) (doc : ℕ) → NodeScores sc n → (result ≡ leaf_score ix everything sc doc) × AtMost (2 ^ 29) result }
 {
@@ -33,7 +33,7 @@ pub fn collect_everything(
     requires { (E : Lent) × (norms : List ℕ) × (table : List Float) × (places : ℕ) × (depth : ℕ) × (E.documents ≡ reader.now.max_doc) × (get_or st.now 0 0 ≡ 5) × CollectPre E norms reader.now.live.now table places st.now depth doc_base c heap.old }
     ensures { (E : Lent) (norms : List ℕ) (table : List Float) (places depth : ℕ) → E.documents ≡ reader.now.max_doc → CollectPost E norms reader.now.live.now table places st.now depth doc_base c heap.old result heap.new }
 {
-    let s = one_score(leaf_score::node_at(st));
+    let s = one_score(leaf_score::score_node_at(st));
     let live = reader.live;
     let mut c = c;
     for doc in 0..reader.max_doc {

@@ -17,7 +17,7 @@ use Rattle.index.specs.Accepted.{Accepted}
 use Rattle.index.proofs.PostingAt.{posting-is}
 use Rattle.weight.specs.ScorerTree.{term, Scoring, constant, weighted, leaf_score}
 use Rattle.weight.specs.Sound.{LeafTable}
-use Rattle.leaf_score.specs.declared.Node.{Node}
+use Rattle.leaf_score.specs.declared.ScoreNode.{ScoreNode}
 use Rattle.leaf_score.specs.Asked.{LentAt}
 use Rattle.leaf_score.proofs.Leaves.{Weighs, answer, field-weighs, field-answer}
 use Rattle.leaf_score.proofs.Weights.{float_back, float-number}
@@ -27,7 +27,7 @@ frequency-few : (ix : Index) → Accepted ix → (l doc : ℕ) → l < leaf_coun
 frequency-few ix A l doc there none e f = absurd (false≢true f)
 frequency-few ix A l doc there (some i) e f = omega (arith, (A.posting l i there (posting-is ix l doc i e).0).most)
 
-module _ (norms : List ℕ) (table : List Float) (n : Node) (frequency doc : ℕ) (ix : Index) (l : ℕ) where
+module _ (norms : List ℕ) (table : List Float) (n : ScoreNode) (frequency doc : ℕ) (ix : Index) (l : ℕ) where
   -- the same score for each document
   pub posting-constant : (sc : Scoring) → PostingAsks ix table norms l sc n frequency doc → n.constant ≡ 1 → T (not (nan_bits binary32 n.weight)) × ((of_bits binary32 n.weight ≡ leaf_score ix (term l) sc doc) × AtMost (2 ^ 29) (of_bits binary32 n.weight))
   unfolding NodeScores leaf_score

@@ -12,13 +12,13 @@ use Rattle.weight.specs.ScorerTree.{Scoring, constant, weighted, Scorer, leaf, b
 use Rattle.weight.specs.State.{State}
 use Rattle.weight.specs.Held.{ScoringIs, FloatIs, Ok}
 use Rattle.scorer.specs.Calls.{Lent}
-use Rattle.leaf_score.specs.declared.Node.{Node}
+use Rattle.leaf_score.specs.declared.ScoreNode.{ScoreNode}
 use Rattle.walk.specs.Walks.{PageHeld}
 use Rattle.leaf_score.proofs.Leaves.{words_long}
 use Rattle.bulk_term.specs.Postings.{NodeScores}
 
 -- its scoring, as it is read
-pub node-scores : (sc : Scoring) (s : State) (n : Node) → n.constant ≡ s.constant → n.weight ≡ s.weight → ScoringIs sc s → NodeScores sc n
+pub node-scores : (sc : Scoring) (s : State) (n : ScoreNode) → n.constant ≡ s.constant → n.weight ≡ s.weight → ScoringIs sc s → NodeScores sc n
 unfolding ScoringIs NodeScores
 node-scores (constant c) s n e f p = (e ∙ p.0, subst (λ (i : ℕ). FloatIs c i) (sym f) p.1)
 node-scores (weighted w) s n e f p = (e ∙ p.0, subst (λ (i : ℕ). FloatIs w i) (sym f) p.1)

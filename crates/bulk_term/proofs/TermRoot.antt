@@ -27,8 +27,8 @@ use Rattle.weight.specs.Sound.{LeafSound, Sound, LeafTable, Tables}
 use Rattle.scorer.specs.Calls.{Lent}
 use Rattle.meaning.proofs.Tests.{cmp}
 use Rattle.leaf_scorer.specs.declared.LeafReader.{LeafReader}
-use Rattle.leaf_score.specs.declared.Node.{Node}
-use Rattle.leaf_score.specs.Words.{NodeIs}
+use Rattle.leaf_score.specs.declared.ScoreNode.{ScoreNode}
+use Rattle.leaf_score.specs.Words.{ScoreNodeIs}
 use Rattle.walk.specs.Walks.{live_match, PageHeld}
 use Rattle.leaf_score.proofs.Leaves.{read, kind-read}
 use Rattle.bulk_scorer.specs.Collects.{CollectPre, CollectPost}
@@ -41,7 +41,7 @@ use Rattle.bulk_scorer.proofs.Sofar.{nonneg-clear, Sofar, sofar-start, sofar-ski
 use Rattle.bulk_scorer.proofs.Held.{root-page}
 
 -- n is what is read of the words of leaf l of an accepted index that is lent
-pub record TermRoot (R : LeafReader) (n : Node) (ix : Index) (l : ℕ) (sc : Scoring) : Type 0 where
+pub record TermRoot (R : LeafReader) (n : ScoreNode) (ix : Index) (l : ℕ) (sc : Scoring) : Type 0 where
   pub accepted : Accepted ix
   pub postings-are : ix.postings ≡ R.postings.now
   pub norms-are : ix.norms ≡ R.norms.now
@@ -54,14 +54,14 @@ pub record TermRoot (R : LeafReader) (n : Node) (ix : Index) (l : ℕ) (sc : Sco
   pub norms-is : n.norms ≡ norms_word ix (leaf_field ix l)
   pub scores : NodeScores sc n
 
-pub record RootIs (R : LeafReader) (n : Node) (ix : Index) (s : Scorer) : Type 0 where
+pub record RootIs (R : LeafReader) (n : ScoreNode) (ix : Index) (s : Scorer) : Type 0 where
   pub l : ℕ
   pub sc : Scoring
   pub is : s ≡ leaf (term l) sc
   pub root : TermRoot R n ix l sc
 
 -- the words of kind 1 are a term's
-module _ (R : LeafReader) (n : Node) (E : Lent) (places depth : ℕ) (st : List ℕ) (N : NodeIs st n) (k : get_or st 0 0 ≡ 1) (same : E.postings ≡ R.postings.now) where
+module _ (R : LeafReader) (n : ScoreNode) (E : Lent) (places depth : ℕ) (st : List ℕ) (N : ScoreNodeIs st n) (k : get_or st 0 0 ≡ 1) (same : E.postings ≡ R.postings.now) where
   term-root : (ix : Index) (s : Scorer) (scores : ℕ) → PageHeld E R.norms.now R.live.now R.inverses.now ix places s depth scores st 0 → RootIs R n ix s
   unfolding Ok LeafIs Sound LeafSound Tables
   term-root ix (leaf nothing sc) m H = absurd (omega (arith, kind-read st H.ok.1 H.ok.0 H.ok.2, H.ok.4.0))
@@ -93,7 +93,7 @@ module _ (R : LeafReader) (n : Node) (E : Lent) (places depth : ℕ) (st : List 
   term-root ix (boolean c j need rs os ps) m H = let p = H.ok in absurd (omega (arith, kind-read st (p.1 ++ (p.2 ++ p.3)) p.0 p.4, p.7.kind-is))
 
 -- a root that a call asks of
-pub record RootAt (R : LeafReader) (n : Node) (doc_base : ℕ) : Type 0 where
+pub record RootAt (R : LeafReader) (n : ScoreNode) (doc_base : ℕ) : Type 0 where
   pub ix : Index
   pub l : ℕ
   pub sc : Scoring
@@ -103,7 +103,7 @@ pub record RootAt (R : LeafReader) (n : Node) (doc_base : ℕ) : Type 0 where
   -- the last posting ends within the postings
   pub ends : 3 * (n.first + n.number) ≤ length R.postings.now
 
-pub asked-root : (R : LeafReader) (n : Node) (st : List ℕ) (doc_base : ℕ) (c : TopScoreDocCollector) (heap : List ℤ) → (E : Lent) × (places : ℕ) × (depth : ℕ) × (E.postings ≡ R.postings.now) × (get_or st 0 0 ≡ 1) × CollectPre E R.norms.now R.live.now R.inverses.now places st depth doc_base c heap → NodeIs st n → RootAt R n doc_base
+pub asked-root : (R : LeafReader) (n : ScoreNode) (st : List ℕ) (doc_base : ℕ) (c : TopScoreDocCollector) (heap : List ℤ) → (E : Lent) × (places : ℕ) × (depth : ℕ) × (E.postings ≡ R.postings.now) × (get_or st 0 0 ≡ 1) × CollectPre E R.norms.now R.live.now R.inverses.now places st depth doc_base c heap → ScoreNodeIs st n → RootAt R n doc_base
 asked-root R n st doc_base c heap q N =
     let w = term-root R n q.0 q.1 q.2 st N q.4 q.3 q.5.2.0 q.5.2.1 q.5.2.2 (root-page q.0 R.norms.now R.live.now R.inverses.now q.5.2.0 q.1 q.5.2.1 q.2 q.5.2.2 st q.5.2.3) in
     let r = w.root in
@@ -118,13 +118,13 @@ asked-root R n st doc_base c heap q N =
     }
 
 -- posting i of the root's run
-pub record PostingIs (R : LeafReader) (n : Node) (i doc frequency : ℕ) : Type 0 where
+pub record PostingIs (R : LeafReader) (n : ScoreNode) (i doc frequency : ℕ) : Type 0 where
   pub below : i < n.number
   pub doc-is : doc ≡ get_or R.postings.now (3 * (n.first + i)) 0
   pub frequency-is : frequency ≡ get_or R.postings.now (3 * (n.first + i) + 1) 0
 
 -- .. as it is read from the run's chunks
-pub posting-read : {R : LeafReader} {n : Node} {doc_base : ℕ} → RootAt R n doc_base → (records : List (List ℕ)) → records ≡ first_chunks 3 (length (run-words R.postings.now n.first n.number) / 3) (run-words R.postings.now n.first n.number) → (i : ℕ) → i < length (run-words R.postings.now n.first n.number) / 3 → PostingIs R n i (get_or (get_or records i []) 0 0) (get_or (get_or records i []) 1 0)
+pub posting-read : {R : LeafReader} {n : ScoreNode} {doc_base : ℕ} → RootAt R n doc_base → (records : List (List ℕ)) → records ≡ first_chunks 3 (length (run-words R.postings.now n.first n.number) / 3) (run-words R.postings.now n.first n.number) → (i : ℕ) → i < length (run-words R.postings.now n.first n.number) / 3 → PostingIs R n i (get_or (get_or records i []) 0 0) (get_or (get_or records i []) 1 0)
 posting-read {R} {n} W records e i h =
     let b : i < n.number = omega (arith, h, run_length R.postings.now n.first n.number W.ends) in
     record {
@@ -134,7 +134,7 @@ posting-read {R} {n} W records e i h =
     }
 
 -- the loop stands at posting i: those before it are passed
-pub record TermAt (n : Node) (doc_base : ℕ) (c₀ : TopScoreDocCollector) (heap₀ : List ℤ) (ix : Index) (l : ℕ) (sc : Scoring) (c : TopScoreDocCollector) (heap : List ℤ) (i : ℕ) : Type 0 where
+pub record TermAt (n : ScoreNode) (doc_base : ℕ) (c₀ : TopScoreDocCollector) (heap₀ : List ℤ) (ix : Index) (l : ℕ) (sc : Scoring) (c : TopScoreDocCollector) (heap : List ℤ) (i : ℕ) : Type 0 where
   pub from : ℕ
   pub few : from ≤ ix.max_doc
   pub passed : (j : ℕ) → j < i → leaf_document ix l j < from
@@ -142,10 +142,10 @@ pub record TermAt (n : Node) (doc_base : ℕ) (c₀ : TopScoreDocCollector) (hea
   pub sofar : Sofar ix (leaf (term l) sc) doc_base c₀ heap₀ c heap from
 
 -- .. of each root
-pub record TermsAt (R : LeafReader) (n : Node) (doc_base : ℕ) (c₀ : TopScoreDocCollector) (heap₀ : List ℤ) (c : TopScoreDocCollector) (heap : List ℤ) (i : ℕ) : Type 0 where
+pub record TermsAt (R : LeafReader) (n : ScoreNode) (doc_base : ℕ) (c₀ : TopScoreDocCollector) (heap₀ : List ℤ) (c : TopScoreDocCollector) (heap : List ℤ) (i : ℕ) : Type 0 where
   pub of : (ix : Index) (l : ℕ) (sc : Scoring) → TermRoot R n ix l sc → TermAt n doc_base c₀ heap₀ ix l sc c heap i
 
-pub term-start : (R : LeafReader) (n : Node) (doc_base : ℕ) (c₀ : TopScoreDocCollector) (heap₀ : List ℤ) → TermsAt R n doc_base c₀ heap₀ c₀ heap₀ 0
+pub term-start : (R : LeafReader) (n : ScoreNode) (doc_base : ℕ) (c₀ : TopScoreDocCollector) (heap₀ : List ℤ) → TermsAt R n doc_base c₀ heap₀ c₀ heap₀ 0
 term-start R n doc_base c₀ heap₀ =
     record {
       of = λ ix l sc W.
@@ -157,7 +157,7 @@ other : (ix : Index) (l : ℕ) (sc : Scoring) (d : ℕ) → ((j : ℕ) → j < l
 unfolding matches leaf_matches
 other ix l sc d h = not-match ix (leaf (term l) sc) d (ap found (posting-none ix l d h))
 
-module _ {R : LeafReader} {n : Node} {i doc frequency : ℕ} (Q : PostingIs R n i doc frequency) where
+module _ {R : LeafReader} {n : ScoreNode} {i doc frequency : ℕ} (Q : PostingIs R n i doc frequency) where
   inside : (ix : Index) (l : ℕ) (sc : Scoring) → TermRoot R n ix l sc → i < leaf_number ix l
   inside ix l sc W = omega (arith, Q.below, W.number_is)
 
@@ -199,8 +199,8 @@ module _ {R : LeafReader} {n : Node} {i doc frequency : ℕ} (Q : PostingIs R n 
     pub term-clear : (r : Float) → ((ix : Index) (l : ℕ) (sc : Scoring) → PostingAsks ix R.inverses.now R.norms.now l sc n frequency doc → (r ≡ leaf_score ix (term l) sc doc) × AtMost (2 ^ 29) r) → T (sign_clear r)
     term-clear r post = let p = term_asks in nonneg-clear r (post p.0 p.1 p.2 p.3).1.sign
 
-module _ {R : LeafReader} {n : Node} {doc_base : ℕ} {c₀ : TopScoreDocCollector} {heap₀ : List ℤ} {c : TopScoreDocCollector} {heap : List ℤ} {i : ℕ} (I : TermsAt R n doc_base c₀ heap₀ c heap i) where
-  pub term-done : n.number ≤ i → (st : List ℕ) → NodeIs st n → get_or st 0 0 ≡ 1 → (E : Lent) (places depth : ℕ) → E.postings ≡ R.postings.now → CollectPost E R.norms.now R.live.now R.inverses.now places st depth doc_base c₀ heap₀ c heap
+module _ {R : LeafReader} {n : ScoreNode} {doc_base : ℕ} {c₀ : TopScoreDocCollector} {heap₀ : List ℤ} {c : TopScoreDocCollector} {heap : List ℤ} {i : ℕ} (I : TermsAt R n doc_base c₀ heap₀ c heap i) where
+  pub term-done : n.number ≤ i → (st : List ℕ) → ScoreNodeIs st n → get_or st 0 0 ≡ 1 → (E : Lent) (places depth : ℕ) → E.postings ≡ R.postings.now → CollectPost E R.norms.now R.live.now R.inverses.now places st depth doc_base c₀ heap₀ c heap
   term-done h st N k E places depth same ix s scores H =
       let W = term-root R n E places depth st N k same ix s scores (root-page E R.norms.now R.live.now R.inverses.now ix places s depth scores st H) in
       let p = I.of ix W.l W.sc W.root in

@@ -6,15 +6,15 @@ use Rattle.index.specs.Accepted.{Accepted}
 use Rattle.weight.specs.ScorerTree.{term, Scoring, constant, weighted}
 use Rattle.weight.specs.Held.{norms_word, FloatIs}
 use Rattle.weight.specs.Sound.{LeafTable}
-use Rattle.leaf_score.specs.declared.Node.{Node}
+use Rattle.leaf_score.specs.declared.ScoreNode.{ScoreNode}
 
 -- how the node scores, in the two words that say it
-unfoldable pub NodeScores : Scoring → Node → Type 0
+unfoldable pub NodeScores : Scoring → ScoreNode → Type 0
 NodeScores (constant c) n = (n.constant ≡ 1) × FloatIs c n.weight
 NodeScores (weighted w) n = (n.constant ≡ 0) × FloatIs w n.weight
 
 -- n is what is read of the node of leaf l, which stands in the document with this frequency
-pub record PostingAsks (ix : Index) (table : List Float) (norms : List ℕ) (l : ℕ) (sc : Scoring) (n : Node) (frequency doc : ℕ) : Type 0 where
+pub record PostingAsks (ix : Index) (table : List Float) (norms : List ℕ) (l : ℕ) (sc : Scoring) (n : ScoreNode) (frequency doc : ℕ) : Type 0 where
   pub accepted : Accepted ix
   pub norms-are : ix.norms ≡ norms
   pub document : doc < ix.max_doc

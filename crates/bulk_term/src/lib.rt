@@ -22,7 +22,7 @@ pub fn collect_term(
     requires { (E : Lent) × (places : ℕ) × (depth : ℕ) × (E.postings ≡ reader.now.postings.now) × (get_or st.now 0 0 ≡ 1) × CollectPre E reader.now.norms.now reader.now.live.now reader.now.inverses.now places st.now depth doc_base c heap.old }
     ensures { (E : Lent) (places depth : ℕ) → E.postings ≡ reader.now.postings.now → CollectPost E reader.now.norms.now reader.now.live.now reader.now.inverses.now places st.now depth doc_base c heap.old result heap.new }
 {
-    let n = leaf_score::node_at(st);
+    let n = leaf_score::score_node_at(st);
     let from = 3 * n.first;
     let (postings, _) = reader.postings[from..from + 3 * n.number].as_chunks::<3>();
     // Read once: the heap's stores would have them read again at each posting.

@@ -6,7 +6,7 @@ use lib.Dec.{eqb}
 use lib.Ieee.{Float, binary32, of_bits}
 use borrow.Author.Tests.{eq-eqb}
 use Rattle.std.proofs.Common.{eqb-true}
-use Rattle.leaf_score.specs.declared.Node.{Node}
+use Rattle.leaf_score.specs.declared.ScoreNode.{ScoreNode}
 use Rattle.leaf_score.specs.Words.{constant_score}
 
 held_or : Float → Option Float → Float
@@ -27,8 +27,8 @@ unfolding is-there
 not-taken true y e = absurd (false≢true (ap is-there e))
 not-taken false y e = refl
 
-pub constant-some : (n : Node) (x : Float) → Some x ≡ constant_score n → (n.constant ≡ 1) × (x ≡ of_bits binary32 n.weight)
+pub constant-some : (n : ScoreNode) (x : Float) → Some x ≡ constant_score n → (n.constant ≡ 1) × (x ≡ of_bits binary32 n.weight)
 constant-some n x e = let q = taken (eqb n.constant 1) x (of_bits binary32 n.weight) e in (eqb-true n.constant 1 q.0, q.1)
 
-pub constant-none : (n : Node) → None ≡ constant_score n → n.constant ≡ 1 → ⊥
+pub constant-none : (n : ScoreNode) → None ≡ constant_score n → n.constant ≡ 1 → ⊥
 constant-none n e h = false≢true (sym (not-taken (eqb n.constant 1) (of_bits binary32 n.weight) e) ∙ eq-eqb n.constant 1 h)

@@ -23,15 +23,15 @@ use Rattle.weight.specs.ScorerTree.{Leaf, nothing, term, phrase, range, everythi
 use Rattle.weight.specs.State.{State, words_of}
 use Rattle.weight.specs.Held.{norms_word, PhraseIs, LeafIs, FloatIs}
 use Rattle.weight.specs.Sound.{LeafSound, FieldTable, LeafTable}
-use Rattle.leaf_score.specs.declared.Node.{Node}
-use Rattle.leaf_score.specs.Words.{NodeIs, byte_at}
+use Rattle.leaf_score.specs.declared.ScoreNode.{ScoreNode}
+use Rattle.leaf_score.specs.Words.{ScoreNodeIs, byte_at}
 use Rattle.leaf_scorer.specs.Phrases.{PhraseHeld}
 use Rattle.leaf_score.specs.Asked.{LentAt, LeafAsks, LeafKept, FrequencyPost}
 use Rattle.leaf_score.proofs.Frequencies.{Scanned, scanned, phrase-frequency-few}
 use Rattle.leaf_score.proofs.Weights.{float-number, norm-there, norm-is, inverse-there, weighted-is, weighted-small}
 
 -- the record's words, as they are read
-pub record Read (n : Node) (s : State) : Type 0 where
+pub record Read (n : ScoreNode) (s : State) : Type 0 where
   pub first-is : n.first ≡ s.first
   pub number_is : n.number ≡ s.number
   pub cursor-is : n.cursor ≡ s.cursor
@@ -40,7 +40,7 @@ pub record Read (n : Node) (s : State) : Type 0 where
   pub weight_is : n.weight ≡ s.weight
   pub norms-is : n.norms ≡ s.norms
 
-pub read : (st v : List ℕ) (s : State) (n : Node) → st ≡ words_of s ++ v → NodeIs st n → Read n s
+pub read : (st v : List ℕ) (s : State) (n : ScoreNode) → st ≡ words_of s ++ v → ScoreNodeIs st n → Read n s
 read st v s n e r =
     record {
       first-is = r.first-is ∙ ap (λ (l : List ℕ). get_or l 6 0) e;
@@ -59,7 +59,7 @@ pub words_long : (st v : List ℕ) (s : State) → st ≡ words_of s ++ v → no
 words_long st v s e = omega (arith, ap length e)
 
 -- what `weighted` asks, and its answer
-pub record Weighs (n : Node) (norms : List ℕ) (table : List Float) (doc frequency : ℕ) : Type 0 where
+pub record Weighs (n : ScoreNode) (norms : List ℕ) (table : List Float) (doc frequency : ℕ) : Type 0 where
   pub frequency-few : frequency ≤ 16777216
   pub number : T (not (nan_bits binary32 n.weight))
   pub field-few : n.field ≤ 16
@@ -67,7 +67,7 @@ pub record Weighs (n : Node) (norms : List ℕ) (table : List Float) (doc freque
   pub inverse-there : 256 * n.field + byte_at norms n.norms doc < length table
 
 -- a leaf that scores by BM25: its field, its frequency in the document, and the words where that is known
-pub record Counted (ix : Index) (table : List Float) (n : Node) (ranges : List ℕ) (l : Leaf) (w : Float) (s : State) (doc frequency : ℕ) (st' : List ℕ) : Type 0 where
+pub record Counted (ix : Index) (table : List Float) (n : ScoreNode) (ranges : List ℕ) (l : Leaf) (w : Float) (s : State) (doc frequency : ℕ) (st' : List ℕ) : Type 0 where
   pub field : ℕ
   pub there : field < field_count ix
   pub tables : FieldTable ix table field
@@ -78,7 +78,7 @@ pub record Counted (ix : Index) (table : List Float) (n : Node) (ranges : List �
   pub score : field_score ix field w frequency doc ≡ leaf_score ix l (weighted w) doc
   pub kept : LeafKept ix ranges l s doc st'
 
-abbrev pub answer : Node → List ℕ → List Float → ℕ → ℕ → Float
+abbrev pub answer : ScoreNode → List ℕ → List Float → ℕ → ℕ → Float
 answer n norms table doc frequency = bm25 (of_bits binary32 n.weight) (of_int binary32 (pos frequency)) (get_or table (256 * n.field + byte_at norms n.norms doc) nan)
 
 module _ (ix : Index) (max : ℕ) (postings positions norms : List ℕ) (doc : ℕ) (L : LentAt ix max postings positions norms doc) where
@@ -92,7 +92,7 @@ module _ (ix : Index) (max : ℕ) (postings positions norms : List ℕ) (doc : �
   few-documents = omega (arith, inside, A.documents)
 
   -- where the norms are bytes
-  module _ (bytes : (i : ℕ) → get_or norms i 0 < 256) (table : List Float) (n : Node) where
+  module _ (bytes : (i : ℕ) → get_or norms i 0 < 256) (table : List Float) (n : ScoreNode) where
     byte_small : byte_at norms n.norms doc < 256
     byte_small = go (lib.Dec.eqb n.norms 0)
       where
@@ -128,7 +128,7 @@ module _ (ix : Index) (max : ℕ) (postings positions norms : List ℕ) (doc : �
       pub counted-done : (r : Float) → r ≡ answer n norms table doc frequency → (r ≡ leaf_score ix l (weighted w) doc) × AtMost (2 ^ 29) r × LeafKept ix ranges l s doc st'
       counted-done r e = let t = field-answer C.field C.there C.tables w C.weight C.field_is C.norms-is frequency C.few r e in (t.0 ∙ C.score, t.1, C.kept)
 
-  module _ (table : List Float) (n : Node) (ranges : List ℕ) where
+  module _ (table : List Float) (n : ScoreNode) (ranges : List ℕ) where
     pub counted-byte : (l : Leaf) (w : Float) (s : State) (frequency : ℕ) (st' : List ℕ) → Counted ix table n ranges l w s doc frequency st' → 0 < n.norms → n.norms - 1 + doc < length norms
     counted-byte l w s frequency st' C g = subst (λ (i : List ℕ). n.norms - 1 + doc < length i) L.norms-are (norm-there ix A C.field C.there doc inside n.norms C.norms-is g)
 

@@ -18,8 +18,8 @@ use Rattle.weight.specs.State.{State, words_of}
 use Rattle.weight.specs.Held.{Cache, LeafIs, ScoringIs, KeptIs, FloatIs, Ok}
 use Rattle.weight.specs.Sound.{Sound, Tables, nodes, nodes_of}
 use Rattle.meaning.proofs.Tests.{cmp}
-use Rattle.leaf_score.specs.declared.Node.{Node}
-use Rattle.leaf_score.specs.Words.{NodeIs}
+use Rattle.leaf_score.specs.declared.ScoreNode.{ScoreNode}
+use Rattle.leaf_score.specs.Words.{ScoreNodeIs}
 use Rattle.leaf_score.specs.Asked.{Scorable, ScoreIs, LeafAsks, LeafKept}
 use Rattle.leaf_score.proofs.Leaves.{read, kind-read}
 use Rattle.leaf_score.proofs.Weights.{float_back, float-number}
@@ -32,7 +32,7 @@ at-most-there P doc cached y h = ⊎_elim (λ l. go l (h doc (le_refl _) l).from
     go l a b (inl m) = absurd (false≢true (sym (b m) ∙ y))
     go l a b (inr m) = omega arith
 
-module _ (ix : Index) (ranges : List ℕ) (table : List Float) (places k doc : ℕ) (st : List ℕ) (n : Node) (N : NodeIs st n) where
+module _ (ix : Index) (ranges : List ℕ) (table : List Float) (places k doc : ℕ) (st : List ℕ) (n : ScoreNode) (N : ScoreNodeIs st n) where
   -- a score that is the same for each document
   pub constant-is : (S : Scorer) (sc : ℕ) → Ok ix ranges S k sc st doc → n.constant ≡ 1 → T (not (nan_bits binary32 n.weight)) × ScoreIs ix S doc (of_bits binary32 n.weight)
   unfolding Ok ScoringIs KeptIs scorer_score leaf_score nodes

@@ -2,10 +2,10 @@
 use Rattle.std.specs.Prelude.{◌≡◌, cond, Option, Some, None, Float, List, ℕ, ◌+◌, ◌-◌, eqb, get_or}
 use Rattle.std.specs.Float.{binary32}
 use Rattle.std.specs.Float.Ieee.{of_bits}
-use Rattle.leaf_score.specs.declared.Node.{Node}
+use Rattle.leaf_score.specs.declared.ScoreNode.{ScoreNode}
 
 -- the words of the record that the score looks at
-pub record NodeIs (st : List ℕ) (n : Node) : Type 0 where
+pub record ScoreNodeIs (st : List ℕ) (n : ScoreNode) : Type 0 where
   pub first-is : n.first ≡ get_or st 6 0
   pub number_is : n.number ≡ get_or st 7 0
   pub cursor-is : n.cursor ≡ get_or st 8 0
@@ -15,7 +15,7 @@ pub record NodeIs (st : List ℕ) (n : Node) : Type 0 where
   pub norms-is : n.norms ≡ get_or st 18 0
 
 -- the score of every document, where the two words say one
-abbrev pub constant_score : Node → Option Float
+abbrev pub constant_score : ScoreNode → Option Float
 constant_score n = cond (eqb n.constant 1) (Some (of_bits binary32 n.weight)) None
 
 -- a document's norm byte, where the field's bytes begin at a word − 1; 1 without norms

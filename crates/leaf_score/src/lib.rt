@@ -8,7 +8,7 @@ ghost use Rattle.meaning.specs.Limits.{node_state_words};
 ghost use Rattle.meaning.specs.Bm25.{bm25};
 ghost use Rattle.index.specs.Runs.{posting_document, posting_frequency};
 ghost use Rattle.leaf_scorer.specs.Buffers.{room, other_room, places_in, SameBuffers};
-ghost use Rattle.leaf_score.specs.Words.{NodeIs, constant_score, byte_at};
+ghost use Rattle.leaf_score.specs.Words.{ScoreNodeIs, constant_score, byte_at};
 ghost use Rattle.leaf_score.specs.Asked.{LeafPre, LeafPost, FrequencyPre, FrequencyPost, TermPre, TermPost};
 
 use index::wide;
@@ -18,7 +18,7 @@ use node::NodeKind;
 // What the score reads of a leaf's record.
 // Kept: constant and weight are the words of a record that the caller lends; a float made of any words could be no number. constant_score reads the two as an Option.
 #[derive(Clone, Copy)]
-pub struct Node {
+pub struct ScoreNode {
     pub first: usize,
     pub number: usize,
     pub cursor: usize,
@@ -28,11 +28,11 @@ pub struct Node {
     pub norms: usize,
 }
 
-pub fn node_at(st: &[u32]) -> Node
+pub fn score_node_at(st: &[u32]) -> ScoreNode
     requires { node_state_words ≤ length st.now }
-    ensures { NodeIs st.now result }
+    ensures { ScoreNodeIs st.now result }
 {
-    Node {
+    ScoreNode {
         first: wide(st[6]),
         number: wide(st[7]),
         cursor: wide(st[8]),
@@ -43,7 +43,7 @@ pub fn node_at(st: &[u32]) -> Node
     }
 }
 
-impl Node {
+impl ScoreNode {
     // The score of every document, where the query says it.
     pub fn constant_score(self) -> Option<f32>
         requires { self.constant ≡ 1 → T (not (nan_bits binary32 self.weight)) }
@@ -96,7 +96,7 @@ fn norm_byte(norms: &[u8], begin: usize, doc: u32) -> u8
 }
 
 // BM25 at a weight, with the inverse of the document's length.
-pub fn weighted(norms: &[u8], inverses: &[f32], n: Node, frequency: u32, doc: u32) -> f32
+pub fn weighted(norms: &[u8], inverses: &[f32], n: ScoreNode, frequency: u32, doc: u32) -> f32
     requires frequency_bound { (frequency ≤ 16777216) × (T (not (nan_bits binary32 n.weight)) × (n.field ≤ 16)) }
     requires doc_in_bounds { 0 < n.norms → n.norms - 1 + doc < length norms.now }
     requires doc_in_bounds_2 { 256 * n.field + byte_at norms.now n.norms doc < length inverses.now }
@@ -134,7 +134,7 @@ pub fn leaf_score(
     ensures leaf_post { (n : ℕ) → LeafPost st.old n reader.now.postings.now reader.now.positions.now reader.now.norms.now reader.now.inverses.now (places_in buffers.old) doc result st.new }
     ensures same_buffers { SameBuffers buffers.old buffers.new }
 {
-    let n = node_at(st);
+    let n = score_node_at(st);
     let frequency = match NodeKind::from(st[0]) {
         NodeKind::Term => term_frequency(reader.postings, n.first, n.number, n.cursor, doc),
         NodeKind::Phrase => phrase_frequency(st, reader, buffers, doc),
@@ -154,7 +154,7 @@ pub fn term_score(st: &[u32], postings: &[u32], norms: &[u8], inverses: &[f32], 
     requires { TermPre st.now postings.now norms.now inverses.now doc }
     ensures { TermPost st.now postings.now norms.now inverses.now doc result }
 {
-    let n = node_at(st);
+    let n = score_node_at(st);
     match n.constant_score() {
         Some(score) => score,
         None => {

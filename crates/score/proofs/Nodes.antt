@@ -19,8 +19,8 @@ use Rattle.weight.specs.Held.{LeafIs, KeptIs, JoiningIs, Ok, Oks}
 use Rattle.weight.specs.Sound.{Sound, Tables, nodes, nodes_of}
 use Rattle.node.specs.declared.Boolean.{Boolean}
 use Rattle.node.specs.Words.{BooleanIs}
-use Rattle.leaf_score.specs.declared.Node.{Node}
-use Rattle.leaf_score.specs.Words.{NodeIs}
+use Rattle.leaf_score.specs.declared.ScoreNode.{ScoreNode}
+use Rattle.leaf_score.specs.Words.{ScoreNodeIs}
 use Rattle.score.specs.Asked.{JoinAsks, JoinIs, JoinsAt, PartsAre}
 use Rattle.leaf_score.specs.Asked.{Scorable, ScoreIs}
 use Rattle.leaf_score.proofs.Nodes.{at-most-there}
@@ -43,7 +43,7 @@ unfolding JoiningIs JoinsAt
 joins_at (one_more n) rs s a b e f p = (ap (λ (x : Bool). cond x 1 0) (e ∙ ap (λ (i : ℕ). eqb i 1) p.0), f ∙ p.1)
 joins_at afterwards rs s a b e f p = ap (λ (x : Bool). cond x 1 0) (e ∙ ap (λ (i : ℕ). eqb i 1) p)
 
-module _ (ix : Index) (ranges : List ℕ) (table : List Float) (places k doc : ℕ) (st : List ℕ) (n : Node) (N : NodeIs st n) (m : Boolean) (M : BooleanIs st m) where
+module _ (ix : Index) (ranges : List ℕ) (table : List Float) (places k doc : ℕ) (st : List ℕ) (n : ScoreNode) (N : ScoreNodeIs st n) (m : Boolean) (M : BooleanIs st m) where
   -- a Boolean
   pub record NodeAt (T : Scorer) (sc : ℕ) (kids : List ℕ) : Type 0 where
     pub j : Joining
@@ -55,11 +55,11 @@ module _ (ix : Index) (ranges : List ℕ) (table : List Float) (places k doc : �
     pub parts : PartsAre ix ranges rs os (k - 1) doc rest kids
     pub done : (r : Float) (kids' : List ℕ) → length kids' ≡ length kids → JoinIs ix j rs os doc r → PartsAre ix ranges rs os (k - 1) doc rest kids' → ScoreIs ix T doc r × Ok ix ranges T k sc (take node_state_words st ++ (kids' ++ drop (length st - node_state_words) (drop node_state_words st))) doc
 
-  pub node_at : (T : Scorer) (sc : ℕ) → Scorable ix table places T → matches ix T doc ≡ true → Ok ix ranges T k sc st doc → (n.constant ≡ 1 → ⊥) → get_or st 0 0 ≡ 3 → NodeAt T sc (take (length st - node_state_words) (drop node_state_words st))
+  pub score_node_at : (T : Scorer) (sc : ℕ) → Scorable ix table places T → matches ix T doc ≡ true → Ok ix ranges T k sc st doc → (n.constant ≡ 1 → ⊥) → get_or st 0 0 ≡ 3 → NodeAt T sc (take (length st - node_state_words) (drop node_state_words st))
   unfolding Ok KeptIs scorer_score nodes matches Sound Tables
-  node_at (leaf l c) sc g y p i h = absurd (leaf-kind ix ranges l p.0 p.1 (max doc (p.0.cached - 1)) p.4 (sym (kind-read st p.1 p.0 p.2) ∙ h))
-  node_at (boolean (some c) j need rs os ps) sc g y p i h = let R = read st (p.1 ++ (p.2 ++ p.3)) p.0 n p.4 N in absurd (i (R.constant-is ∙ p.7.kept.0))
-  node_at (boolean none j need rs os ps) sc g y p i h =
+  score_node_at (leaf l c) sc g y p i h = absurd (leaf-kind ix ranges l p.0 p.1 (max doc (p.0.cached - 1)) p.4 (sym (kind-read st p.1 p.0 p.2) ∙ h))
+  score_node_at (boolean (some c) j need rs os ps) sc g y p i h = let R = read st (p.1 ++ (p.2 ++ p.3)) p.0 n p.4 N in absurd (i (R.constant-is ∙ p.7.kept.0))
+  score_node_at (boolean none j need rs os ps) sc g y p i h =
       let S : Scorer = boolean none j need rs os ps in
       let b : max doc (p.0.cached - 1) ≡ doc = at-most-there (matches ix S) doc p.0.cached y p.8 in
       let w : List ℕ = p.1 ++ (p.2 ++ p.3) in

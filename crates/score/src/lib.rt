@@ -5,7 +5,7 @@ ghost use Rattle.leaf_scorer.specs.Buffers.{places_in, SameBuffers};
 ghost use Rattle.score.specs.Asked.{RequiredPre, RequiredPost, OptionalPre, OptionalPost, JoinPre, JoinPost};
 ghost use Rattle.leaf_score.specs.Asked.{ScorePre, ScorePost};
 
-use leaf_score::{leaf_score, node_at, term_score};
+use leaf_score::{leaf_score, score_node_at, term_score};
 use leaf_scorer::{LeafReader, PhraseBuffers};
 use node::{Boolean, NodeKind, boolean_at, child_at};
 use weight::NODE_STATE_WORDS;
@@ -23,7 +23,7 @@ pub fn score(
     ensures score_post { ScorePost st.old reader.now.max_doc reader.now.postings.now reader.now.positions.now reader.now.norms.now reader.now.ranges.now reader.now.inverses.now (places_in buffers.old) doc depth result st.new }
     ensures same_buffers { SameBuffers buffers.old buffers.new }
 {
-    if let Some(score) = node_at(st).constant_score() {
+    if let Some(score) = score_node_at(st).constant_score() {
         return score;
     }
     match NodeKind::from(st[0]) {

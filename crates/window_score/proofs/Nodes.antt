@@ -30,8 +30,8 @@ use Rattle.window_score.proofs.Groups.{added-as}
 use Rattle.window_score.proofs.Splits.{zero-sums}
 use Rattle.window_score.proofs.Alone.{sum-narrowed}
 use Rattle.score.proofs.Small.{ok-weighted}
-use Rattle.leaf_score.specs.declared.Node.{Node}
-use Rattle.leaf_score.specs.Words.{NodeIs, constant_score}
+use Rattle.leaf_score.specs.declared.ScoreNode.{ScoreNode}
+use Rattle.leaf_score.specs.Words.{ScoreNodeIs, constant_score}
 use Rattle.leaf_score.proofs.Constants.{constant-some, constant-none}
 use Rattle.score.proofs.Nodes.{joins_at}
 
@@ -81,10 +81,10 @@ weighted-at ix R (boolean none j need rs os ps) k o y b base D p h = ap (λ (w :
 weighted-at ix R (boolean (some c) j need rs os ps) k o y b base D p h = absurd (h (ap (λ (w : List ℕ). get_or w 11 0) p.4 ∙ p.7.kept.0))
 
 -- no constant score is read
-pub not-constant : {st : List ℕ} {m : Node} → NodeIs st m → None ≡ constant_score m → get_or st 11 0 ≡ 1 → ⊥
+pub not-constant : {st : List ℕ} {m : ScoreNode} → ScoreNodeIs st m → None ≡ constant_score m → get_or st 11 0 ≡ 1 → ⊥
 not-constant {m = m} M e h = constant-none m e (M.constant-is ∙ h)
 
-pub no-constant : {st : List ℕ} {m : Node} → NodeIs st m → (o : Option Float) → o ≡ constant_score m → (b : Bool) → b ≡ is_some o → b ≡ false → get_or st 11 0 ≡ 1 → ⊥
+pub no-constant : {st : List ℕ} {m : ScoreNode} → ScoreNodeIs st m → (o : Option Float) → o ≡ constant_score m → (b : Bool) → b ≡ is_some o → b ≡ false → get_or st 11 0 ≡ 1 → ⊥
 no-constant M None f b e t = not-constant M f
 no-constant M (Some x) f b e t = absurd (true≢false (sym e ∙ t))
 
@@ -187,7 +187,7 @@ module _ {st : List ℕ} {V : Reads} {a b want : ℕ} {sums : List Float} {depth
         let z = add q (nodes S) (A.few, s) (each w).1 in
         (added-as (λ p. score) (λ p. scorer_score ix S (V.base + p)) want sums sums' (λ p l e. (each w).0 (V.base + p)) z.0, z.1, windowed-forget ix V.ranges S depth sc st (V.base + 64) V.base (places_of want) (V.base + 64) (le_refl _) (omega arith) A.held)
 
-  module _ (m : Node) (M : NodeIs st m) where
+  module _ (m : ScoreNode) (M : ScoreNodeIs st m) where
     same : m.constant ≡ 1 → (w : ScoresPre st V a b want sums depth) → Same w.1 w.3 m.weight
     same e w = subst (Same w.1 w.3) (sym M.weight_is) (same-at w.1 V.ranges w.3 depth w.4 st (V.base + 64) V.base (places_of want) w.7.held (sym M.constant-is ∙ e))
 

@@ -23,8 +23,8 @@ use Rattle.weight.specs.Held.{FloatIs, ScoringIs}
 use Rattle.weight.specs.Sound.{LeafSound, Sound, FieldTable, LeafTable, Tables, nodes}
 use Rattle.leaf_scorer.specs.Phrases.{all_found}
 use Rattle.leaf_scorer.proofs.PhraseLaws.{leaves-there, lacking}
-use Rattle.leaf_score.specs.declared.Node.{Node}
-use Rattle.leaf_score.specs.Words.{NodeIs}
+use Rattle.leaf_score.specs.declared.ScoreNode.{ScoreNode}
+use Rattle.leaf_score.specs.Words.{ScoreNodeIs}
 use Rattle.leaf_score.proofs.Frequencies.{phrase-frequency-few}
 use Rattle.leaf_score.proofs.Leaves.{Read, read, Weighs, answer}
 use Rattle.bits.specs.Bit.{bit, LowestBit}
@@ -110,7 +110,7 @@ module _ {postings positions st : List ℕ} {base p planed r : ℕ} where
 few-is : (n r : ℕ) → r ≡ min 3 n → (r ≡ 3 → ⊥) → r ≡ n
 few-is n r e h = ⊎_elim (λ (l : n < 3). omega arith) (λ (g : 3 ≤ n). absurd (h (omega arith))) (cmp n 3)
 
-module _ (ix : Index) (max : ℕ) (V : Reads) (places a b want : ℕ) (L : WindowLent ix max V places a b want) (bytes : (i : ℕ) → get_or V.norms i 0 < 256) (st : List ℕ) (n : Node) (N : NodeIs st n) (S : Scorer) (t : PhraseIn ix V.inverses places st V.base want S) where
+module _ (ix : Index) (max : ℕ) (V : Reads) (places a b want : ℕ) (L : WindowLent ix max V places a b want) (bytes : (i : ℕ) → get_or V.norms i 0 < 256) (st : List ℕ) (n : ScoreNode) (N : ScoreNodeIs st n) (S : Scorer) (t : PhraseIn ix V.inverses places st V.base want S) where
   R : Read n t.s
   R = read st t.v t.s n t.words N
 
@@ -193,7 +193,7 @@ module _ (st : List ℕ) (V : Reads) (a b want : ℕ) (sums : List Float) where
     pre-in = phrase-in P.2.2.1 (with_ranges V P.2.0) P.2.2.2 P.2.1 P.2.2.4 st want P.2.2.5 P.2.2.3 P.2.2.7 P.0 P.1
 
     module _ (p : ℕ) (l : p < 64) (e : bit p want ≡ true) where
-      pub pre-frequency : (a' b' : ℕ) → a' ≡ a → b' ≡ b → (bytes : (i : ℕ) → get_or V.norms i 0 < 256) (n : Node) → NodeIs st n → FrequencyPre V.postings V.positions (behind st) a' b' V.base p
+      pub pre-frequency : (a' b' : ℕ) → a' ≡ a → b' ≡ b → (bytes : (i : ℕ) → get_or V.norms i 0 < 256) (n : ScoreNode) → ScoreNodeIs st n → FrequencyPre V.postings V.positions (behind st) a' b' V.base p
       pre-frequency a' b' f g bytes n N =
           let i = pre-in in (
             l,
@@ -210,7 +210,7 @@ module _ (st : List ℕ) (V : Reads) (a b want : ℕ) (sums : List Float) where
             ),
           )
 
-      module _ (bytes : (i : ℕ) → get_or V.norms i 0 < 256) (n : Node) (N : NodeIs st n) (planes : Planes) (K : PlanesRead st planes) (planed : ℕ) (planed-is : PlanedIs planes p planed) (r : ℕ) (F : Frequency V.postings V.positions st V.base p planed r) where
+      module _ (bytes : (i : ℕ) → get_or V.norms i 0 < 256) (n : ScoreNode) (N : ScoreNodeIs st n) (planes : Planes) (K : PlanesRead st planes) (planed : ℕ) (planed-is : PlanedIs planes p planed) (r : ℕ) (F : Frequency V.postings V.positions st V.base p planed r) where
         place : Weighs n V.norms V.inverses (V.base + p) r × (answer n V.norms V.inverses (V.base + p) r ≡ scorer_score P.2.2.1 P.2.2.3 (V.base + p)) × AtMost (2 ^ 29) (answer n V.norms V.inverses (V.base + p) r)
         place = phrase-place P.2.2.1 P.2.2.0 (with_ranges V P.2.0) P.2.2.2 a b want P.2.2.6 bytes st n N P.2.2.3 pre-in p l e planes K planed planed-is r F
 
@@ -220,7 +220,7 @@ module _ (st : List ℕ) (V : Reads) (a b want : ℕ) (sums : List Float) where
         pub pre-number : (x : Float) → x ≡ answer n V.norms V.inverses (V.base + p) r → T (not (is_nan x))
         pre-number x u = atmost-number (subst (λ (y : Float). AtMost (2 ^ 29) y) (sym u) place.2)
 
-  module _ (kind : get_or st 0 0 ≡ 2) (scored : get_or st 11 0 ≡ 0) (bytes : (i : ℕ) → get_or V.norms i 0 < 256) (n : Node) (N : NodeIs st n) (planes : Planes) (K : PlanesRead st planes) (left : ℕ) (sums' : List Float) (A : PhraseAdding st V a b want left sums sums') where
+  module _ (kind : get_or st 0 0 ≡ 2) (scored : get_or st 11 0 ≡ 0) (bytes : (i : ℕ) → get_or V.norms i 0 < 256) (n : ScoreNode) (N : ScoreNodeIs st n) (planes : Planes) (K : PlanesRead st planes) (left : ℕ) (sums' : List Float) (A : PhraseAdding st V a b want left sums sums') where
     -- the score at the lowest place is added
     pub phrase-step : (p : ℕ) → LowestBit left p → (left' : ℕ) → ((q : ℕ) → bit q left' ≡ (bit q left && not (lib.Dec.eqb q p))) → (planed : ℕ) → PlanedIs planes p planed → (r : ℕ) → Frequency V.postings V.positions st V.base p planed r → (at : ℕ) → at ≡ p → (x y : Float) → y ≡ answer n V.norms V.inverses (V.base + p) r → x ≡ add binary64 (get_or sums' at nan) y → PhraseAdding st V a b want left' sums (set sums' at x)
     phrase-step p B left' rest planed d r F at f x y u z =

@@ -23,8 +23,8 @@ use Rattle.weight.specs.ScorerTree.{nothing, term, phrase, range, everything, Sc
 use Rattle.weight.specs.State.{State, words_of}
 use Rattle.weight.specs.Held.{TermIs, FloatIs, ScoringIs}
 use Rattle.weight.specs.Sound.{LeafSound, Sound, LeafTable, Tables, nodes}
-use Rattle.leaf_score.specs.declared.Node.{Node}
-use Rattle.leaf_score.specs.Words.{NodeIs, constant_score}
+use Rattle.leaf_score.specs.declared.ScoreNode.{ScoreNode}
+use Rattle.leaf_score.specs.Words.{ScoreNodeIs, constant_score}
 use Rattle.leaf_score.proofs.Constants.{constant-some}
 use Rattle.std.specs.Prelude.{Some}
 use Rattle.leaf_score.specs.Asked.{LentAt}
@@ -118,11 +118,11 @@ module _ (ix : Index) (V : Reads) (places depth scores : ℕ) (st : List ℕ) (w
   term-in (boolean c j need rs os ps) H k = absurd (omega (arith, kind-of (boolean c j need rs os ps) H, k))
 
 -- the score at a place, as the loop works it out
-abbrev pub term_score : Node → List ℕ → List Float → List ℕ → ℕ → ℕ → ℕ → ℕ → Float
+abbrev pub term_score : ScoreNode → List ℕ → List Float → List ℕ → ℕ → ℕ → ℕ → ℕ → Float
 term_score n norms table postings first bits base p = answer n norms table (base + p) (posting_frequency postings first (rank_of bits p))
 
 -- a constant score
-constant-score : (ix : Index) (l : ℕ) (sc : Scoring) (s : State) (n : Node) (R : Read n s) → ScoringIs sc s → n.constant ≡ 1 → T (not (nan_bits binary32 n.weight)) × AtMost (2 ^ 29) (of_bits binary32 n.weight) × ((d : ℕ) → of_bits binary32 n.weight ≡ leaf_score ix (term l) sc d)
+constant-score : (ix : Index) (l : ℕ) (sc : Scoring) (s : State) (n : ScoreNode) (R : Read n s) → ScoringIs sc s → n.constant ≡ 1 → T (not (nan_bits binary32 n.weight)) × AtMost (2 ^ 29) (of_bits binary32 n.weight) × ((d : ℕ) → of_bits binary32 n.weight ≡ leaf_score ix (term l) sc d)
 unfolding ScoringIs leaf_score
 constant-score ix l (constant c) s n R p e =
     let f : FloatIs c n.weight = subst (λ (i : ℕ). FloatIs c i) (sym R.weight_is) p.1 in
@@ -130,21 +130,21 @@ constant-score ix l (constant c) s n R p e =
 constant-score ix l (weighted w) s n R p e = absurd (omega (arith, R.constant-is, p.0))
 
 -- its constant score
-term-constant : {ix : Index} {table : List Float} {st : List ℕ} {base want : ℕ} {S : Scorer} → TermIn ix table st base want S → (n : Node) → NodeIs st n → n.constant ≡ 1 → T (not (nan_bits binary32 n.weight)) × AtMost (2 ^ 29) (of_bits binary32 n.weight) × ((d : ℕ) → of_bits binary32 n.weight ≡ scorer_score ix S d)
+term-constant : {ix : Index} {table : List Float} {st : List ℕ} {base want : ℕ} {S : Scorer} → TermIn ix table st base want S → (n : ScoreNode) → ScoreNodeIs st n → n.constant ≡ 1 → T (not (nan_bits binary32 n.weight)) × AtMost (2 ^ 29) (of_bits binary32 n.weight) × ((d : ℕ) → of_bits binary32 n.weight ≡ scorer_score ix S d)
 unfolding scorer_score
 term-constant {ix} {st = st} t n N e =
     let r = constant-score ix t.l t.sc t.s n (read st [] t.s n t.words N) t.scoring e in
     (r.0, r.1, λ d. r.2 d ∙ ap (λ (x : Scorer). scorer_score ix x d) (sym t.is))
 
 -- what `weighted` is asked at a place, and what it answers
-pub record TermPlace (ix : Index) (S : Scorer) (postings norms : List ℕ) (table : List Float) (n : Node) (first bits base p : ℕ) : Type 0 where
+pub record TermPlace (ix : Index) (S : Scorer) (postings norms : List ℕ) (table : List Float) (n : ScoreNode) (first bits base p : ℕ) : Type 0 where
   pub there : first + rank_of bits p < length postings / 3
   pub weighs : Weighs n norms table (base + p) (posting_frequency postings first (rank_of bits p))
   pub is : term_score n norms table postings first bits base p ≡ scorer_score ix S (base + p)
   pub small : AtMost (2 ^ 29) (term_score n norms table postings first bits base p)
 
 -- the frequency and the score as they are read
-module _ {ix : Index} {S : Scorer} {postings norms : List ℕ} {table : List Float} {n : Node} {first bits base p : ℕ} (t : TermPlace ix S postings norms table n first bits base p) (i r : ℕ) (at : i ≡ rank_of bits p) (read-is : r ≡ posting_frequency postings first i) where
+module _ {ix : Index} {S : Scorer} {postings norms : List ℕ} {table : List Float} {n : ScoreNode} {first bits base p : ℕ} (t : TermPlace ix S postings norms table n first bits base p) (i r : ℕ) (at : i ≡ rank_of bits p) (read-is : r ≡ posting_frequency postings first i) where
   frequency-at : r ≡ posting_frequency postings first (rank_of bits p)
   frequency-at = read-is ∙ ap (posting_frequency postings first) at
 
@@ -158,7 +158,7 @@ module _ {ix : Index} {S : Scorer} {postings norms : List ℕ} {table : List Flo
     pub place-number : T (not (is_nan x))
     place-number = atmost-number (subst (λ (y : Float). AtMost (2 ^ 29) y) (sym place-score) t.small)
 
-module _ (ix : Index) (max : ℕ) (V : Reads) (places a b want : ℕ) (L : WindowLent ix max V places a b want) (bytes : (i : ℕ) → get_or V.norms i 0 < 256) (st : List ℕ) (n : Node) (N : NodeIs st n) where
+module _ (ix : Index) (max : ℕ) (V : Reads) (places a b want : ℕ) (L : WindowLent ix max V places a b want) (bytes : (i : ℕ) → get_or V.norms i 0 < 256) (st : List ℕ) (n : ScoreNode) (N : ScoreNodeIs st n) where
   lent-at : (p : ℕ) → p < 64 → bit p want ≡ true → LentAt ix max V.postings V.positions V.norms (V.base + p)
   lent-at p l e = record { lends = L.lends; norms-are = L.norms-are; document = L.wanted p l e }
 
@@ -248,7 +248,7 @@ module _ (V : Reads) {st : List ℕ} {want : ℕ} {sums : List Float} where
   pre-in : (P : TermPre st V want sums) → TermIn P.1.5.1 V.inverses st V.base want P.1.5.3
   pre-in P = term-in P.1.5.1 (with_lists V P.1.0 P.1.1) P.1.5.2 P.1.4 P.1.5.4 st want P.1.5.5 P.1.5.3 P.1.5.7 P.0
 
-  module _ (n : Node) (N : NodeIs st n) where
+  module _ (n : ScoreNode) (N : ScoreNodeIs st n) where
     pub pre-number : TermPre st V want sums → n.constant ≡ 1 → T (not (nan_bits binary32 n.weight))
     pre-number P e = (term-constant (pre-in P) n N e).0
 

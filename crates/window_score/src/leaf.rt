@@ -10,7 +10,7 @@ use bits::SetBits;
 use ieee754::add_score;
 use index::postings::posting_frequency;
 use index::wide;
-use leaf_score::{node_at, weighted};
+use leaf_score::{score_node_at, weighted};
 use leaf_scorer::PhraseBuffers;
 use weight::NODE_STATE_WORDS;
 use window_leaf::Window;
@@ -32,7 +32,7 @@ pub fn term_scores(st: &[u32], window: &Window<'_>, want: u64, sums: &mut [f64])
     let inverses = window.reader.inverses;
     let base = window.base;
     bytes(norms);
-    let n = node_at(st);
+    let n = score_node_at(st);
     if let Some(score) = n.constant_score() {
         add_constant(score, want, sums);
         return;
@@ -89,7 +89,7 @@ pub fn phrase_scores(
     let inverses = window.reader.inverses;
     let base = window.base;
     bytes(norms);
-    let n = node_at(st);
+    let n = score_node_at(st);
     let planes = planes_at(st);
     for place in (SetBits { left: want }) {
         let mut frequency = planed(planes, place);

@@ -10,7 +10,7 @@ ghost use Rattle.window_leaf.specs.Asks.{BitsPre, BitsPost};
 ghost use Rattle.window_score.specs.Words.{StoredAre};
 ghost use Rattle.window_score.specs.Asked.{reads_of, ScoresPre, ScoresPost, RequiredPre, RequiredPost, OptionalPre, OptionalPost, BooleanPre, BooleanPost, RootPartsPre, RootPartsPost, RootGroupPre, RootGroupPost};
 
-use leaf_score::node_at;
+use leaf_score::score_node_at;
 use leaf_scorer::PhraseBuffers;
 use node::{Boolean, NodeKind, boolean_at, child_at};
 use sums::{add_constant, add_narrowed, join_after};
@@ -83,7 +83,7 @@ pub fn node_scores(
     ensures scores_post { ScoresPost st.old (reads_of window.now) (room buffers.old) (other_room buffers.old) want sums.old depth st.new sums.new }
     ensures same_buffers { SameBuffers buffers.old buffers.new }
 {
-    if let Some(score) = node_at(st).constant_score() {
+    if let Some(score) = score_node_at(st).constant_score() {
         add_constant(score, want, sums);
         return;
     }

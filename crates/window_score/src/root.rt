@@ -3,7 +3,7 @@ ghost use Rattle.leaf_scorer.specs.Buffers.{room, other_room, SameBuffers};
 ghost use Rattle.window_score.specs.Asked.{reads_of, RootPre, RootPost};
 
 use crate::{node_scores, part_scores};
-use leaf_score::node_at;
+use leaf_score::score_node_at;
 use leaf_scorer::PhraseBuffers;
 use node::{NodeKind, boolean_at};
 use weight::NODE_STATE_WORDS;
@@ -23,7 +23,7 @@ pub fn root_scores(
     ensures same_buffers { SameBuffers buffers.old buffers.new }
 {
     if let NodeKind::Boolean = NodeKind::from(st[0]) {
-        let constant = node_at(st).constant_score().is_some();
+        let constant = score_node_at(st).constant_score().is_some();
         if !constant {
             let n = boolean_at(st);
             part_scores(

@@ -17,18 +17,18 @@ use Rattle.leaf_score.proofs.leaf_score.Goals as goal
 use Rattle.leaf_score.proofs.leaf_score.Goals.{After-norm_byte-arg-1, in-Term, in-Phrase}
 
 -- whatever leaf the words hold
-counted : (c : After-norm_byte-arg-1) (m : ℕ) (ix : Index) (ranges : List ℕ) (l : Leaf) (w : Float) (s : State) (v : List ℕ) → LentAt ix m c.args.reader.now.postings.now c.args.reader.now.positions.now c.args.reader.now.norms.now c.args.doc → LeafAsks ix ranges c.args.reader.now.inverses.now (places_in c.args.buffers.now) l w s v c.args.doc → c.args.st.now ≡ words_of s ++ v → Counted ix c.args.reader.now.inverses.now c.node_at-n.result ranges l w s c.args.doc c.match-from.frequency c.match-from.st
+counted : (c : After-norm_byte-arg-1) (m : ℕ) (ix : Index) (ranges : List ℕ) (l : Leaf) (w : Float) (s : State) (v : List ℕ) → LentAt ix m c.args.reader.now.postings.now c.args.reader.now.positions.now c.args.reader.now.norms.now c.args.doc → LeafAsks ix ranges c.args.reader.now.inverses.now (places_in c.args.buffers.now) l w s v c.args.doc → c.args.st.now ≡ words_of s ++ v → Counted ix c.args.reader.now.inverses.now c.score_node_at-n.result ranges l w s c.args.doc c.match-from.frequency c.match-from.st
 counted c m ix ranges l w s v L p e =
     let a = c.args in
     let r = a.reader.now in
-    let R = read a.st.now v s c.node_at-n.result e c.node_at-n.ensures in
+    let R = read a.st.now v s c.score_node_at-n.result e c.score_node_at-n.ensures in
     elim c.match-from.branch [
-      | in-Term x ↦ rw (x.frequency-is, x.st-is) (term-counted ix m r.postings.now r.positions.now r.norms.now a.doc L r.inverses.now c.node_at-n.result ranges _ w s v a.st.now e R _ x.term_frequency-frequency.ensures l p (term-word _ (sym x.in-Term.ensures)))
-      | in-Phrase x ↦ rw (x.frequency-is, x.st-is) (phrase-counted ix m r.postings.now r.positions.now r.norms.now a.doc L r.inverses.now c.node_at-n.result ranges _ w s v a.st.now e R _ _ x.phrase_frequency-frequency.ensures.frequency_post l p (phrase-word _ (sym x.in-Phrase.ensures)))
+      | in-Term x ↦ rw (x.frequency-is, x.st-is) (term-counted ix m r.postings.now r.positions.now r.norms.now a.doc L r.inverses.now c.score_node_at-n.result ranges _ w s v a.st.now e R _ x.term_frequency-frequency.ensures l p (term-word _ (sym x.in-Term.ensures)))
+      | in-Phrase x ↦ rw (x.frequency-is, x.st-is) (phrase-counted ix m r.postings.now r.positions.now r.norms.now a.doc L r.inverses.now c.score_node_at-n.result ranges _ w s v a.st.now e R _ _ x.phrase_frequency-frequency.ensures.frequency_post l p (phrase-word _ (sym x.in-Phrase.ensures)))
     ]
 
-pub node_at-n-requires : goal.node_at-n-requires
-node_at-n-requires c = let p = c.requires.1 in omega (arith, words_long _ p.5 p.4 p.8)
+pub score_node_at-n-requires : goal.score_node_at-n-requires
+score_node_at-n-requires c = let p = c.requires.1 in omega (arith, words_long _ p.5 p.4 p.8)
 
 pub bounds-st-0 : goal.bounds-st-0
 bounds-st-0 c = let p = c.requires.1 in omega (arith, words_long _ p.5 p.4 p.8)
@@ -38,21 +38,21 @@ term_frequency-frequency-requires c =
     let a = c.args in
     let r = a.reader.now in
     let p = c.requires.1 in
-    term-run p.0 c.requires.0 r.postings.now r.positions.now r.norms.now a.doc p.6 r.inverses.now _ p.1 _ p.3 p.4 p.5 a.st.now p.8 (read a.st.now p.5 p.4 _ p.8 c.node_at-n.ensures) p.2 p.7 (term-word _ (sym c.in-Term.ensures))
+    term-run p.0 c.requires.0 r.postings.now r.positions.now r.norms.now a.doc p.6 r.inverses.now _ p.1 _ p.3 p.4 p.5 a.st.now p.8 (read a.st.now p.5 p.4 _ p.8 c.score_node_at-n.ensures) p.2 p.7 (term-word _ (sym c.in-Term.ensures))
 
 pub phrase_frequency-frequency-requires : goal.phrase_frequency-frequency-requires
 phrase_frequency-frequency-requires c =
     let a = c.args in
     let r = a.reader.now in
     let p = c.requires.1 in
-    let q = phrase-asks p.0 c.requires.0 r.postings.now r.positions.now r.norms.now a.doc p.6 r.inverses.now _ p.1 _ p.3 p.4 p.5 a.st.now p.8 (read a.st.now p.5 p.4 _ p.8 c.node_at-n.ensures) p.2 p.7 (phrase-word _ (sym c.in-Phrase.ensures)) in
+    let q = phrase-asks p.0 c.requires.0 r.postings.now r.positions.now r.norms.now a.doc p.6 r.inverses.now _ p.1 _ p.3 p.4 p.5 a.st.now p.8 (read a.st.now p.5 p.4 _ p.8 c.score_node_at-n.ensures) p.2 p.7 (phrase-word _ (sym c.in-Phrase.ensures)) in
     (few-documents p.0 c.requires.0 r.postings.now r.positions.now r.norms.now a.doc p.6, (p.0, places_in a.buffers.now, q.0, q.1, p.4, p.5, omega arith, omega arith, q.2, q.3))
 
 pub returns-in_default-clause-leaf_post : goal.returns-in_default-clause-leaf_post
 returns-in_default-clause-leaf_post c =
     let a = c.args in
     let r = a.reader.now in
-    λ m ix ranges l w s v L p e. other-done ix m r.postings.now r.positions.now r.norms.now a.doc L r.inverses.now _ ranges _ w s v a.st.now e (read a.st.now v s _ e c.node_at-n.ensures) l p (λ k. c.in_default.not-Term (c.from.ensures ∙ ap kind_of k)) (λ k. c.in_default.not-Phrase (c.from.ensures ∙ ap kind_of k)) _ zero-32
+    λ m ix ranges l w s v L p e. other-done ix m r.postings.now r.positions.now r.norms.now a.doc L r.inverses.now _ ranges _ w s v a.st.now e (read a.st.now v s _ e c.score_node_at-n.ensures) l p (λ k. c.in_default.not-Term (c.from.ensures ∙ ap kind_of k)) (λ k. c.in_default.not-Phrase (c.from.ensures ∙ ap kind_of k)) _ zero-32
 
 pub norm_byte-requires : goal.norm_byte-requires
 norm_byte-requires c =
@@ -73,4 +73,4 @@ pub returns-clause-leaf_post : goal.returns-clause-leaf_post
 returns-clause-leaf_post c =
     let a = c.args in
     let r = a.reader.now in
-    λ m ix ranges l w s v L p e. counted-done ix m r.postings.now r.positions.now r.norms.now a.doc L c.norm_byte.ensures.bytes r.inverses.now c.node_at-n.result ranges l w s _ _ (counted (goal.at.returns-clause-leaf_post c).After-norm_byte-arg-1 m ix ranges l w s v L p e) _ (rw (← c.norm_byte.ensures.byte) c.score.ensures)
+    λ m ix ranges l w s v L p e. counted-done ix m r.postings.now r.positions.now r.norms.now a.doc L c.norm_byte.ensures.bytes r.inverses.now c.score_node_at-n.result ranges l w s _ _ (counted (goal.at.returns-clause-leaf_post c).After-norm_byte-arg-1 m ix ranges l w s v L p e) _ (rw (← c.norm_byte.ensures.byte) c.score.ensures)

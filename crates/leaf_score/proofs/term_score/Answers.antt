@@ -13,8 +13,8 @@ use Rattle.leaf_score.proofs.term_score.Goals as goal
 no-boolean : (kind : ℕ) → kind ≡ 1 → kind ≡ 3 → ⊥
 no-boolean kind e f = omega arith
 
-pub node_at-n-requires : goal.node_at-n-requires
-node_at-n-requires c = let s₀ = c in
+pub score_node_at-n-requires : goal.score_node_at-n-requires
+score_node_at-n-requires c = let s₀ = c in
     let p = s₀.requires.1 in
     let q = p.5 in
     omega (arith, ok-long q.0 p.2 q.1 p.4 q.2 s₀.args.st.now s₀.args.doc q.6)
@@ -23,12 +23,12 @@ pub constant_score-requires : goal.constant_score-requires
 constant_score-requires c = λ e. let s₀ = c in
     let p = s₀.requires.1 in
     let q = p.5 in
-    let a = c.node_at-n in
+    let a = c.score_node_at-n in
     (constant-is q.0 p.2 s₀.args.inverses.now p.3 p.4 s₀.args.doc s₀.args.st.now a.result a.ensures q.1 q.2 q.6 e).0
 
 pub returns-in-Some : goal.returns-in-Some
 returns-in-Some c = let s₀ = c in
-    let a = c.node_at-n in
+    let a = c.score_node_at-n in
     let k = constant-some a.result c.in-Some.score c.in-Some.ensures in
     λ n positions ranges places depth ix S sc L g m o. (subst (λ (z : Float). ScoreIs ix S s₀.args.doc z) (sym k.1) (constant-is ix ranges s₀.args.inverses.now places depth s₀.args.doc s₀.args.st.now a.result a.ensures S sc o k.0).1, o)
 
@@ -36,7 +36,7 @@ pub term_frequency-frequency-requires : goal.term_frequency-frequency-requires
 term_frequency-frequency-requires c = let s₀ = c in
     let p = s₀.requires.1 in
     let q = p.5 in
-    let a = c.node_at-n in
+    let a = c.score_node_at-n in
     let d = leaf-at q.0 p.2 s₀.args.inverses.now p.3 p.4 s₀.args.doc s₀.args.st.now a.result a.ensures q.1 q.2 q.4 q.5 q.6 (constant-none a.result c.in-None.ensures) (no-boolean _ s₀.requires.0) in
     term-run q.0 p.0 s₀.args.postings.now p.1 s₀.args.norms.now s₀.args.doc q.3 s₀.args.inverses.now a.result p.2 p.3 d.w d.s d.v s₀.args.st.now d.is (read s₀.args.st.now d.v d.s a.result d.is a.ensures) d.l d.asks s₀.requires.0
 
@@ -44,7 +44,7 @@ pub weighted-requires : goal.weighted-requires
 weighted-requires c = let s₀ = c in
     let p = s₀.requires.1 in
     let q = p.5 in
-    let a = c.node_at-n in
+    let a = c.score_node_at-n in
     let d = leaf-at q.0 p.2 s₀.args.inverses.now p.3 p.4 s₀.args.doc s₀.args.st.now a.result a.ensures q.1 q.2 q.4 q.5 q.6 (constant-none a.result c.in-None.ensures) (no-boolean _ s₀.requires.0) in
     let f = term-counted q.0 p.0 s₀.args.postings.now p.1 s₀.args.norms.now s₀.args.doc q.3 s₀.args.inverses.now a.result p.2 p.3 d.w d.s d.v s₀.args.st.now d.is (read s₀.args.st.now d.v d.s a.result d.is a.ensures) c.term_frequency-frequency.result c.term_frequency-frequency.ensures d.l d.asks s₀.requires.0 in
     let w = counted-weighs q.0 p.0 s₀.args.postings.now p.1 s₀.args.norms.now s₀.args.doc q.3 (λ i. omega (arith, c.shared_slice_known-3-1.given i)) s₀.args.inverses.now a.result p.2 d.l d.w d.s _ _ f in
@@ -52,7 +52,7 @@ weighted-requires c = let s₀ = c in
 
 pub returns-in-None : goal.returns-in-None
 returns-in-None c = let s₀ = c in
-    let a = c.node_at-n in
+    let a = c.score_node_at-n in
     λ n positions ranges places depth ix S sc L g m o.
     let d = leaf-at ix ranges s₀.args.inverses.now places depth s₀.args.doc s₀.args.st.now a.result a.ensures S sc g m o (constant-none a.result c.in-None.ensures) (no-boolean _ s₀.requires.0) in
     let f = term-counted ix n s₀.args.postings.now positions s₀.args.norms.now s₀.args.doc L s₀.args.inverses.now a.result ranges places d.w d.s d.v s₀.args.st.now d.is (read s₀.args.st.now d.v d.s a.result d.is a.ensures) c.term_frequency-frequency.result c.term_frequency-frequency.ensures d.l d.asks s₀.requires.0 in

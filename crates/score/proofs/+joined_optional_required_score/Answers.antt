@@ -20,7 +20,7 @@ use Rattle.leaf_scorer.proofs.Loops.{same_refl, same_then}
 use Rattle.leaf_scorer.proofs.Bounds.{ok-long}
 use Rattle.node.specs.Kinds.{kind_of}
 use Rattle.node.proofs.Scorers.{term-word, boolean-word, scores-one, scores-none}
-use Rattle.score.proofs.Nodes.{node_at}
+use Rattle.score.proofs.Nodes.{score_node_at}
 use Rattle.leaf_score.specs.Asked.{ScoreIs}
 use Rattle.leaf_score.proofs.Constants.{constant-some, constant-none}
 use Rattle.leaf_score.proofs.Nodes.{constant-is, leaf-at}
@@ -144,8 +144,8 @@ joined-returns-clause-join_post t c = rest-done (group t (goal.at.joined-returns
 record-there : (t : _) (c : score-Start t) → node_state_words ≤ length c.args.st.now
 record-there t c = let p = c.requires in ok-long p.0 c.args.reader.now.ranges.now p.1 c.args.depth p.2 c.args.st.now c.args.doc p.6
 
-pub score-node_at-requires : goal.score-node_at-requires
-score-node_at-requires t c = omega (arith, record-there t (goal.at.score-node_at-requires t c).Start)
+pub score-score_node_at-requires : goal.score-score_node_at-requires
+score-score_node_at-requires t c = omega (arith, record-there t (goal.at.score-score_node_at-requires t c).Start)
 
 pub score-bounds-st-0 : goal.score-bounds-st-0
 score-bounds-st-0 t c = omega (arith, record-there t (goal.at.score-bounds-st-0 t c).Start)
@@ -165,35 +165,35 @@ score-slice_bounds-joined-end t c = omega (arith, record-there t (goal.at.score-
 pub score-constant_score-requires : goal.score-constant_score-requires
 score-constant_score-requires t c = λ e. let p = c.requires in
     let st = c.args.st.now in
-    (constant-is p.0 c.args.reader.now.ranges.now c.args.reader.now.inverses.now (places_in c.args.buffers.now) c.args.depth c.args.doc st c.node_at.result c.node_at.ensures p.1 p.2 p.6 e).0
+    (constant-is p.0 c.args.reader.now.ranges.now c.args.reader.now.inverses.now (places_in c.args.buffers.now) c.args.depth c.args.doc st c.score_node_at.result c.score_node_at.ensures p.1 p.2 p.6 e).0
 
 pub score-returns-in-Some-clause-score_post : goal.score-returns-in-Some-clause-score_post
 score-returns-in-Some-clause-score_post t c = let st = c.args.st.now in
-    let k = constant-some c.node_at.result c.in-Some.score c.in-Some.ensures in
-    λ ix S sc L g m o. (subst (λ (z : Float). ScoreIs ix S c.args.doc z) (sym k.1) (constant-is ix c.args.reader.now.ranges.now c.args.reader.now.inverses.now (places_in c.args.buffers.now) c.args.depth c.args.doc st c.node_at.result c.node_at.ensures S sc o k.0).1, o)
+    let k = constant-some c.score_node_at.result c.in-Some.score c.in-Some.ensures in
+    λ ix S sc L g m o. (subst (λ (z : Float). ScoreIs ix S c.args.doc z) (sym k.1) (constant-is ix c.args.reader.now.ranges.now c.args.reader.now.inverses.now (places_in c.args.buffers.now) c.args.depth c.args.doc st c.score_node_at.result c.score_node_at.ensures S sc o k.0).1, o)
 
 pub score-overflow_sub-depth : goal.score-overflow_sub-depth
 score-overflow_sub-depth t c = let p = c.requires in
     let st = c.args.st.now in
-    omega (arith, (node_at p.0 c.args.reader.now.ranges.now c.args.reader.now.inverses.now (places_in c.args.buffers.now) c.args.depth c.args.doc st c.node_at.result c.node_at.ensures c.boolean_at-n.result c.boolean_at-n.ensures p.1 p.2 p.4 p.5 p.6 (constant-none c.node_at.result c.in_default.ensures) (boolean-word _ (sym c.in-Boolean.ensures))).deep)
+    omega (arith, (score_node_at p.0 c.args.reader.now.ranges.now c.args.reader.now.inverses.now (places_in c.args.buffers.now) c.args.depth c.args.doc st c.score_node_at.result c.score_node_at.ensures c.boolean_at-n.result c.boolean_at-n.ensures p.1 p.2 p.4 p.5 p.6 (constant-none c.score_node_at.result c.in_default.ensures) (boolean-word _ (sym c.in-Boolean.ensures))).deep)
 
 pub score-joined-requires : goal.score-joined-requires
 score-joined-requires t c = let p = c.requires in
     let st = c.args.st.now in
-    let d = node_at p.0 c.args.reader.now.ranges.now c.args.reader.now.inverses.now (places_in c.args.buffers.now) c.args.depth c.args.doc st c.node_at.result c.node_at.ensures c.boolean_at-n.result c.boolean_at-n.ensures p.1 p.2 p.4 p.5 p.6 (constant-none c.node_at.result c.in_default.ensures) (boolean-word _ (sym c.in-Boolean.ensures)) in
+    let d = score_node_at p.0 c.args.reader.now.ranges.now c.args.reader.now.inverses.now (places_in c.args.buffers.now) c.args.depth c.args.doc st c.score_node_at.result c.score_node_at.ensures c.boolean_at-n.result c.boolean_at-n.ensures p.1 p.2 p.4 p.5 p.6 (constant-none c.score_node_at.result c.in_default.ensures) (boolean-word _ (sym c.in-Boolean.ensures)) in
     (omega (arith, d.deep), (p.0, d.j, d.rs, d.os, d.rest, p.3, d.asks, d.parts))
 
 pub score-leaf_score-requires : goal.score-leaf_score-requires
 score-leaf_score-requires t c = let p = c.requires in
     let st = c.args.st.now in
-    let d = leaf-at p.0 c.args.reader.now.ranges.now c.args.reader.now.inverses.now (places_in c.args.buffers.now) c.args.depth c.args.doc st c.node_at.result c.node_at.ensures p.1 p.2 p.4 p.5 p.6 (constant-none c.node_at.result c.in_default.ensures) (λ e. c.in_default-from.not-Boolean (c.from.ensures ∙ ap kind_of e)) in
+    let d = leaf-at p.0 c.args.reader.now.ranges.now c.args.reader.now.inverses.now (places_in c.args.buffers.now) c.args.depth c.args.doc st c.score_node_at.result c.score_node_at.ensures p.1 p.2 p.4 p.5 p.6 (constant-none c.score_node_at.result c.in_default.ensures) (λ e. c.in_default-from.not-Boolean (c.from.ensures ∙ ap kind_of e)) in
     (c.args.reader.now.max_doc, (p.0, c.args.reader.now.ranges.now, d.l, d.w, d.s, d.v, p.3, d.asks, d.is))
 
 pub score-returns-in-Boolean-clause-score_post : goal.score-returns-in-Boolean-clause-score_post
 score-returns-in-Boolean-clause-score_post t c = let p = c.requires in
     let st = c.args.st.now in
     λ ix S sc L g m o.
-    let d = node_at ix c.args.reader.now.ranges.now c.args.reader.now.inverses.now (places_in c.args.buffers.now) c.args.depth c.args.doc st c.node_at.result c.node_at.ensures c.boolean_at-n.result c.boolean_at-n.ensures S sc g m o (constant-none c.node_at.result c.in_default.ensures) (boolean-word _ (sym c.in-Boolean.ensures)) in
+    let d = score_node_at ix c.args.reader.now.ranges.now c.args.reader.now.inverses.now (places_in c.args.buffers.now) c.args.depth c.args.doc st c.score_node_at.result c.score_node_at.ensures c.boolean_at-n.result c.boolean_at-n.ensures S sc g m o (constant-none c.score_node_at.result c.in_default.ensures) (boolean-word _ (sym c.in-Boolean.ensures)) in
     let q = c.joined.ensures.join_post ix d.j d.rs d.os d.rest L d.asks d.parts in
     d.done c.joined.result c.joined.new.kids c.joined.auto.kids q.0 q.1
 
@@ -201,7 +201,7 @@ pub score-returns-in_default-from-clause-score_post : goal.score-returns-in_defa
 score-returns-in_default-from-clause-score_post t c = let p = c.requires in
     let st = c.args.st.now in
     λ ix S sc L g m o.
-    let d = leaf-at ix c.args.reader.now.ranges.now c.args.reader.now.inverses.now (places_in c.args.buffers.now) c.args.depth c.args.doc st c.node_at.result c.node_at.ensures S sc g m o (constant-none c.node_at.result c.in_default.ensures) (λ e. c.in_default-from.not-Boolean (c.from.ensures ∙ ap kind_of e)) in
+    let d = leaf-at ix c.args.reader.now.ranges.now c.args.reader.now.inverses.now (places_in c.args.buffers.now) c.args.depth c.args.doc st c.score_node_at.result c.score_node_at.ensures S sc g m o (constant-none c.score_node_at.result c.in_default.ensures) (λ e. c.in_default-from.not-Boolean (c.from.ensures ∙ ap kind_of e)) in
     d.done c.leaf_score.result c.leaf_score.new.st (c.leaf_score.ensures.leaf_post c.args.reader.now.max_doc ix c.args.reader.now.ranges.now d.l d.w d.s d.v L d.asks d.is)
 
 pub optional-loop-at-init : goal.optional-loop-at-init

@@ -129,21 +129,21 @@ pub node_scores-bounds-st-0 : goal.node_scores-bounds-st-0
 node_scores-bounds-st-0 t c =
     omega (arith, node-long c.requires)
 
-pub node_scores-node_at-requires : goal.node_scores-node_at-requires
-node_scores-node_at-requires t c =
+pub node_scores-score_node_at-requires : goal.node_scores-score_node_at-requires
+node_scores-score_node_at-requires t c =
     node-long c.requires
 
 pub node_scores-constant_score-requires : goal.node_scores-constant_score-requires
 node_scores-constant_score-requires t c =
-    constant-number c.node_at.result c.node_at.ensures c.requires
+    constant-number c.score_node_at.result c.score_node_at.ensures c.requires
 
 pub node_scores-add_constant-requires : goal.node_scores-add_constant-requires
 node_scores-add_constant-requires t c =
-    constant-ask c.node_at.result c.node_at.ensures c.in-Some.score c.in-Some.ensures c.requires
+    constant-ask c.score_node_at.result c.score_node_at.ensures c.in-Some.score c.in-Some.ensures c.requires
 
 pub node_scores-returns-in-Some-clause-scores_post : goal.node_scores-returns-in-Some-clause-scores_post
 node_scores-returns-in-Some-clause-scores_post t c =
-    constant-done c.node_at.result c.node_at.ensures c.in-Some.score c.in-Some.ensures c.add_constant.new.sums c.add_constant.ensures
+    constant-done c.score_node_at.result c.score_node_at.ensures c.in-Some.score c.in-Some.ensures c.add_constant.new.sums c.add_constant.ensures
 
 pub node_scores-returns-in-Term-clause-scores_post : goal.node_scores-returns-in-Term-clause-scores_post
 node_scores-returns-in-Term-clause-scores_post t c =
@@ -151,7 +151,7 @@ node_scores-returns-in-Term-clause-scores_post t c =
 
 pub node_scores-phrase_scores-requires : goal.node_scores-phrase_scores-requires
 node_scores-phrase_scores-requires t c =
-    (word-read _ Phrase c.in-Phrase.ensures refl, phrase-weighted (not-constant c.node_at.ensures c.in_default.ensures) c.requires, (c.args.window.now.reader.ranges.now, c.args.depth, c.requires))
+    (word-read _ Phrase c.in-Phrase.ensures refl, phrase-weighted (not-constant c.score_node_at.ensures c.in_default.ensures) c.requires, (c.args.window.now.reader.ranges.now, c.args.depth, c.requires))
 
 pub node_scores-returns-in-Phrase-clause-scores_post : goal.node_scores-returns-in-Phrase-clause-scores_post
 node_scores-returns-in-Phrase-clause-scores_post t c =
@@ -173,23 +173,23 @@ node_scores-slice_bounds-boolean_scores-start t c =
 
 pub node_scores-overflow_sub-depth : goal.node_scores-overflow_sub-depth
 node_scores-overflow_sub-depth t c =
-    boolean-deep (not-constant c.node_at.ensures c.in_default.ensures) (word-read _ Boolean c.in-Boolean.ensures refl) c.boolean_at-n.result c.boolean_at-n.ensures c.requires
+    boolean-deep (not-constant c.score_node_at.ensures c.in_default.ensures) (word-read _ Boolean c.in-Boolean.ensures refl) c.boolean_at-n.result c.boolean_at-n.ensures c.requires
 
 pub node_scores-boolean_scores-requires : goal.node_scores-boolean_scores-requires
 node_scores-boolean_scores-requires t c =
-    (omega (arith, c.decreases, boolean-deep (not-constant c.node_at.ensures c.in_default.ensures) (word-read _ Boolean c.in-Boolean.ensures refl) c.boolean_at-n.result c.boolean_at-n.ensures c.requires), boolean-ask (not-constant c.node_at.ensures c.in_default.ensures) (word-read _ Boolean c.in-Boolean.ensures refl) c.boolean_at-n.result c.boolean_at-n.ensures c.requires)
+    (omega (arith, c.decreases, boolean-deep (not-constant c.score_node_at.ensures c.in_default.ensures) (word-read _ Boolean c.in-Boolean.ensures refl) c.boolean_at-n.result c.boolean_at-n.ensures c.requires), boolean-ask (not-constant c.score_node_at.ensures c.in_default.ensures) (word-read _ Boolean c.in-Boolean.ensures refl) c.boolean_at-n.result c.boolean_at-n.ensures c.requires)
 
 pub node_scores-returns-in-Boolean-clause-scores_post : goal.node_scores-returns-in-Boolean-clause-scores_post
 node_scores-returns-in-Boolean-clause-scores_post t c =
-    boolean-done (not-constant c.node_at.ensures c.in_default.ensures) (word-read _ Boolean c.in-Boolean.ensures refl) c.boolean_at-n.result c.boolean_at-n.ensures c.boolean_scores.new.kids c.boolean_scores.new.sums c.boolean_scores.ensures.boolean_post
+    boolean-done (not-constant c.score_node_at.ensures c.in_default.ensures) (word-read _ Boolean c.in-Boolean.ensures refl) c.boolean_at-n.result c.boolean_at-n.ensures c.boolean_scores.new.kids c.boolean_scores.new.sums c.boolean_scores.ensures.boolean_post
 
 pub node_scores-add_constant-requires-in_default-from : goal.node_scores-add_constant-requires-in_default-from
 node_scores-add_constant-requires-in_default-from t c =
-    zero-ask (not-constant c.node_at.ensures c.in_default.ensures) (word-unread _ c.from.result Term c.from.ensures c.in_default-from.not-Term) (word-unread _ c.from.result Phrase c.from.ensures c.in_default-from.not-Phrase) (word-unread _ c.from.result Boolean c.from.ensures c.in_default-from.not-Boolean) c.requires
+    zero-ask (not-constant c.score_node_at.ensures c.in_default.ensures) (word-unread _ c.from.result Term c.from.ensures c.in_default-from.not-Term) (word-unread _ c.from.result Phrase c.from.ensures c.in_default-from.not-Phrase) (word-unread _ c.from.result Boolean c.from.ensures c.in_default-from.not-Boolean) c.requires
 
 pub node_scores-returns-in_default-from-clause-scores_post : goal.node_scores-returns-in_default-from-clause-scores_post
 node_scores-returns-in_default-from-clause-scores_post t c =
-    zero-done (not-constant c.node_at.ensures c.in_default.ensures) (word-unread _ c.from.result Term c.from.ensures c.in_default-from.not-Term) (word-unread _ c.from.result Phrase c.from.ensures c.in_default-from.not-Phrase) (word-unread _ c.from.result Boolean c.from.ensures c.in_default-from.not-Boolean) c.add_constant-in_default-from.new.sums c.add_constant-in_default-from.ensures
+    zero-done (not-constant c.score_node_at.ensures c.in_default.ensures) (word-unread _ c.from.result Term c.from.ensures c.in_default-from.not-Term) (word-unread _ c.from.result Phrase c.from.ensures c.in_default-from.not-Phrase) (word-unread _ c.from.result Boolean c.from.ensures c.in_default-from.not-Boolean) c.add_constant-in_default-from.new.sums c.add_constant-in_default-from.ensures
 
 pub optional_scores-loop-at-init : goal.optional_scores-loop-at-init
 optional_scores-loop-at-init t c =

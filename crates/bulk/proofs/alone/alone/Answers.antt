@@ -9,7 +9,7 @@ returns-then-root-eq0 c = λ e.
     record {
       long = c.if-st.false;
       kind-is = boolean-word _ (sym c.from.ensures ∙ is-boolean _ (sym c.ne.ensures ∙ c.if-ne.false));
-      kept = sym c.node_at.ensures.constant-is ∙ c.if-node_at-ne0.false;
+      kept = sym c.score_node_at.ensures.constant-is ∙ c.if-score_node_at-ne0.false;
       optional-end = sym r.optional-end ∙ c.if-root-ne-NODE_STATE_WORDS.false;
       optional = λ z. sym r.need-is ∙ eqb-true c.boolean_at-root.result.need 1 e;
       need-is = λ n. absurd (n (sym r.required-end ∙ c.if-root-eq0.true));
@@ -22,7 +22,7 @@ returns c = λ e.
     record {
       long = c.if-st.false;
       kind-is = boolean-word _ (sym c.from.ensures ∙ is-boolean _ (sym c.ne.ensures ∙ c.if-ne.false));
-      kept = sym c.node_at.ensures.constant-is ∙ c.if-node_at-ne0.false;
+      kept = sym c.score_node_at.ensures.constant-is ∙ c.if-score_node_at-ne0.false;
       optional-end = sym r.optional-end ∙ c.if-root-ne-NODE_STATE_WORDS.false;
       optional = λ z. absurd (c.if-root-eq0.false (r.required-end ∙ z));
       need-is = λ n. sym r.need-is ∙ c.if-root-ne0.false;

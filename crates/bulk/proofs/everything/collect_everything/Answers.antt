@@ -8,8 +8,8 @@ use Rattle.bulk.proofs.AnyRoot.{AnysAt, asked-any, asked-few, any-is, any-root, 
 use Rattle.bulk.proofs.everything.collect_everything.Goals as goal
 use Rattle.bulk.proofs.everything.collect_everything.Goals.{then-is_live, else-is_live}
 
-pub node_at-requires : goal.node_at-requires
-node_at-requires c =
+pub score_node_at-requires : goal.score_node_at-requires
+score_node_at-requires c =
     let a = c.args in
     let live = a.reader.now.live.now in
     let q = c.requires in
@@ -20,7 +20,7 @@ one_score-s-requires c =
     let a = c.args in
     let documents = a.reader.now.max_doc in
     let live = a.reader.now.live.now in
-    let W = asked-any documents live c.node_at.result a.st.now a.doc_base a.c a.heap.now c.requires c.node_at.ensures in
+    let W = asked-any documents live c.score_node_at.result a.st.now a.doc_base a.c a.heap.now c.requires c.score_node_at.ensures in
     (W.sc, W.scores)
 
 pub loop-doc-init : goal.loop-doc-init
@@ -36,8 +36,8 @@ is_live-requires c =
     let documents = a.reader.now.max_doc in
     let live = a.reader.now.live.now in
     let l = c.loop-doc in
-    let W = asked-any documents live c.node_at.result a.st.now a.doc_base a.c a.heap.now c.requires c.node_at.ensures in
-    let R = any-root documents live c.one_score-s.result c.node_at.result c.one_score-s.ensures c.requires.7.2.0 c.requires.7.2.1 W in
+    let W = asked-any documents live c.score_node_at.result a.st.now a.doc_base a.c a.heap.now c.requires c.score_node_at.ensures in
+    let R = any-root documents live c.one_score-s.result c.score_node_at.result c.one_score-s.ensures c.requires.7.2.0 c.requires.7.2.1 W in
     any-bit documents live c.one_score-s.result a.doc_base a.c a.heap.now l.c l.heap l.doc l.invariant.collected c.loop-doc-test.true c.requires.7.2.0 W.sc R
 
 pub overflow_add-doc_base : goal.overflow_add-doc_base
@@ -46,7 +46,7 @@ overflow_add-doc_base c =
     let documents = a.reader.now.max_doc in
     let live = a.reader.now.live.now in
     let l = c.loop-doc in
-    omega (arith, any-few documents live c.one_score-s.result a.doc_base a.c a.heap.now l.c l.heap l.doc l.invariant.collected c.loop-doc-test.true (asked-few documents live c.node_at.result a.st.now a.doc_base a.c a.heap.now c.requires))
+    omega (arith, any-few documents live c.one_score-s.result a.doc_base a.c a.heap.now l.c l.heap l.doc l.invariant.collected c.loop-doc-test.true (asked-few documents live c.score_node_at.result a.st.now a.doc_base a.c a.heap.now c.requires))
 
 pub stepped-c-requires-clause-ready : goal.stepped-c-requires-clause-ready
 stepped-c-requires-clause-ready c =
@@ -54,8 +54,8 @@ stepped-c-requires-clause-ready c =
     let documents = a.reader.now.max_doc in
     let live = a.reader.now.live.now in
     let l = c.loop-doc in
-    let W = asked-any documents live c.node_at.result a.st.now a.doc_base a.c a.heap.now c.requires c.node_at.ensures in
-    let R = any-root documents live c.one_score-s.result c.node_at.result c.one_score-s.ensures c.requires.7.2.0 c.requires.7.2.1 W in
+    let W = asked-any documents live c.score_node_at.result a.st.now a.doc_base a.c a.heap.now c.requires c.score_node_at.ensures in
+    let R = any-root documents live c.one_score-s.result c.score_node_at.result c.one_score-s.ensures c.requires.7.2.0 c.requires.7.2.1 W in
     any-ready documents live c.one_score-s.result a.doc_base a.c a.heap.now l.c l.heap l.doc l.invariant.collected c.requires.7.2.0 W.sc R c.requires.7.1 (a.doc_base + l.doc) (omega arith)
 
 pub stepped-c-requires-clause-doc_lt_no_more_docs : goal.stepped-c-requires-clause-doc_lt_no_more_docs
@@ -64,15 +64,15 @@ stepped-c-requires-clause-doc_lt_no_more_docs c =
     let documents = a.reader.now.max_doc in
     let live = a.reader.now.live.now in
     let l = c.loop-doc in
-    any-few documents live c.one_score-s.result a.doc_base a.c a.heap.now l.c l.heap l.doc l.invariant.collected c.loop-doc-test.true (asked-few documents live c.node_at.result a.st.now a.doc_base a.c a.heap.now c.requires)
+    any-few documents live c.one_score-s.result a.doc_base a.c a.heap.now l.c l.heap l.doc l.invariant.collected c.loop-doc-test.true (asked-few documents live c.score_node_at.result a.st.now a.doc_base a.c a.heap.now c.requires)
 
 pub stepped-c-requires-clause-t : goal.stepped-c-requires-clause-t
 stepped-c-requires-clause-t c =
     let a = c.args in
     let documents = a.reader.now.max_doc in
     let live = a.reader.now.live.now in
-    let W = asked-any documents live c.node_at.result a.st.now a.doc_base a.c a.heap.now c.requires c.node_at.ensures in
-    let R = any-root documents live c.one_score-s.result c.node_at.result c.one_score-s.ensures c.requires.7.2.0 c.requires.7.2.1 W in
+    let W = asked-any documents live c.score_node_at.result a.st.now a.doc_base a.c a.heap.now c.requires c.score_node_at.ensures in
+    let R = any-root documents live c.one_score-s.result c.score_node_at.result c.one_score-s.ensures c.requires.7.2.0 c.requires.7.2.1 W in
     nonneg-clear c.one_score-s.result R.small.sign
 
 pub loop-doc-preserved : goal.loop-doc-preserved
@@ -95,5 +95,5 @@ returns c =
     let live = a.reader.now.live.now in
     let l = c.loop-doc in
     λ E norms table places depth same ix s scores H.
-    let W = any-is documents live c.node_at.result E norms table places depth a.st.now c.node_at.ensures c.requires.6 same ix s scores (root-page E norms live table ix places s depth scores a.st.now H) in
-    rw same (any-done documents live c.one_score-s.result a.doc_base a.c a.heap.now l.c l.heap l.doc l.invariant.collected (omega (arith, c.loop-doc-test.false, c.loop-doc.auto.doc-end)) ix s W.sc W.is (any-root documents live c.one_score-s.result c.node_at.result c.one_score-s.ensures ix s W))
+    let W = any-is documents live c.score_node_at.result E norms table places depth a.st.now c.score_node_at.ensures c.requires.6 same ix s scores (root-page E norms live table ix places s depth scores a.st.now H) in
+    rw same (any-done documents live c.one_score-s.result a.doc_base a.c a.heap.now l.c l.heap l.doc l.invariant.collected (omega (arith, c.loop-doc-test.false, c.loop-doc.auto.doc-end)) ix s W.sc W.is (any-root documents live c.one_score-s.result c.score_node_at.result c.one_score-s.ensures ix s W))

@@ -6,8 +6,8 @@ use Rattle.window_score.proofs.Phrases.{Frequency, read-worked-out, read-planed,
 use Rattle.window_score.proofs.leaf.phrase_scores.Goals as goal
 use Rattle.window_score.proofs.leaf.phrase_scores.Goals.{then-frequency-eq3, else-frequency-eq3}
 
-pub node_at-n-requires : goal.node_at-n-requires
-node_at-n-requires c = pre-long c.args.st.now (reads_of c.args.window.now) (room c.args.buffers.now) (other_room c.args.buffers.now) c.args.want c.args.sums.now c.requires
+pub score_node_at-n-requires : goal.score_node_at-n-requires
+score_node_at-n-requires c = pre-long c.args.st.now (reads_of c.args.window.now) (room c.args.buffers.now) (other_room c.args.buffers.now) c.args.want c.args.sums.now c.requires
 
 pub planes_at-planes-requires : goal.planes_at-planes-requires
 planes_at-planes-requires c = pre-long c.args.st.now (reads_of c.args.window.now) (room c.args.buffers.now) (other_room c.args.buffers.now) c.args.want c.args.sums.now c.requires
@@ -20,16 +20,16 @@ slice_bounds-frequency_at-start c = omega (arith, pre-long c.args.st.now (reads_
 
 pub frequency_at-frequency-requires : goal.frequency_at-frequency-requires
 frequency_at-frequency-requires c =
-    pre-frequency c.args.st.now (reads_of c.args.window.now) (room c.args.buffers.now) (other_room c.args.buffers.now) c.args.want c.args.sums.now c.requires c.in-Some.place c.in-Some.ensures.steps.0.within (c.loop-place.invariant.adding.wants c.in-Some.place c.in-Some.ensures.steps.0.set) (room c.loop-place.buffers) (other_room c.loop-place.buffers) c.loop-place.invariant.buffers.starts_length c.loop-place.invariant.buffers.other_starts_length c.bytes.ensures c.node_at-n.result c.node_at-n.ensures
+    pre-frequency c.args.st.now (reads_of c.args.window.now) (room c.args.buffers.now) (other_room c.args.buffers.now) c.args.want c.args.sums.now c.requires c.in-Some.place c.in-Some.ensures.steps.0.within (c.loop-place.invariant.adding.wants c.in-Some.place c.in-Some.ensures.steps.0.set) (room c.loop-place.buffers) (other_room c.loop-place.buffers) c.loop-place.invariant.buffers.starts_length c.loop-place.invariant.buffers.other_starts_length c.bytes.ensures c.score_node_at-n.result c.score_node_at-n.ensures
 
 -- the frequency at the place, and what `weighted` asks
-at-frequency : (c : goal.Joined-frequency-eq3) → Weighs c.node_at-n.result c.args.window.now.reader.norms.now c.args.window.now.reader.inverses.now (c.args.window.now.base + c.in-Some.place) c.if-frequency-eq3.frequency
+at-frequency : (c : goal.Joined-frequency-eq3) → Weighs c.score_node_at-n.result c.args.window.now.reader.norms.now c.args.window.now.reader.inverses.now (c.args.window.now.base + c.in-Some.place) c.if-frequency-eq3.frequency
 at-frequency c =
     let F : Frequency c.args.window.now.reader.postings.now c.args.window.now.reader.positions.now c.args.st.now c.args.window.now.base c.in-Some.place c.planed-frequency.result c.if-frequency-eq3.frequency = elim c.if-frequency-eq3.branch as (λ _. Frequency c.args.window.now.reader.postings.now c.args.window.now.reader.positions.now c.args.st.now c.args.window.now.base c.in-Some.place c.planed-frequency.result c.if-frequency-eq3.frequency) [
       | then-frequency-eq3 w ↦ read-worked-out w.if-frequency-eq3.true w.frequency-is w.frequency_at-frequency.ensures.frequency_post
       | else-frequency-eq3 w ↦ read-planed w.if-frequency-eq3.false w.frequency-is
     ] in
-    pre-weighs c.args.st.now (reads_of c.args.window.now) (room c.args.buffers.now) (other_room c.args.buffers.now) c.args.want c.args.sums.now c.requires c.in-Some.place c.in-Some.ensures.steps.0.within (c.loop-place.invariant.adding.wants c.in-Some.place c.in-Some.ensures.steps.0.set) c.bytes.ensures c.node_at-n.result c.node_at-n.ensures c.planes_at-planes.result c.planes_at-planes.ensures c.planed-frequency.result c.planed-frequency.ensures c.if-frequency-eq3.frequency F
+    pre-weighs c.args.st.now (reads_of c.args.window.now) (room c.args.buffers.now) (other_room c.args.buffers.now) c.args.want c.args.sums.now c.requires c.in-Some.place c.in-Some.ensures.steps.0.within (c.loop-place.invariant.adding.wants c.in-Some.place c.in-Some.ensures.steps.0.set) c.bytes.ensures c.score_node_at-n.result c.score_node_at-n.ensures c.planes_at-planes.result c.planes_at-planes.ensures c.planed-frequency.result c.planed-frequency.ensures c.if-frequency-eq3.frequency F
 
 pub weighted-s-requires-clause-frequency_bound : goal.weighted-s-requires-clause-frequency_bound
 weighted-s-requires-clause-frequency_bound c = let q = at-frequency c in (q.frequency-few, (q.number, q.field-few))
@@ -46,7 +46,7 @@ add_score-requires c =
       | then-frequency-eq3 w ↦ read-worked-out w.if-frequency-eq3.true w.frequency-is w.frequency_at-frequency.ensures.frequency_post
       | else-frequency-eq3 w ↦ read-planed w.if-frequency-eq3.false w.frequency-is
     ] in
-    pre-number c.args.st.now (reads_of c.args.window.now) (room c.args.buffers.now) (other_room c.args.buffers.now) c.args.want c.args.sums.now c.requires c.in-Some.place c.in-Some.ensures.steps.0.within (c.loop-place.invariant.adding.wants c.in-Some.place c.in-Some.ensures.steps.0.set) c.bytes.ensures c.node_at-n.result c.node_at-n.ensures c.planes_at-planes.result c.planes_at-planes.ensures c.planed-frequency.result c.planed-frequency.ensures c.if-frequency-eq3.frequency F c.weighted-s.result c.weighted-s.ensures
+    pre-number c.args.st.now (reads_of c.args.window.now) (room c.args.buffers.now) (other_room c.args.buffers.now) c.args.want c.args.sums.now c.requires c.in-Some.place c.in-Some.ensures.steps.0.within (c.loop-place.invariant.adding.wants c.in-Some.place c.in-Some.ensures.steps.0.set) c.bytes.ensures c.score_node_at-n.result c.score_node_at-n.ensures c.planes_at-planes.result c.planes_at-planes.ensures c.planed-frequency.result c.planed-frequency.ensures c.if-frequency-eq3.frequency F c.weighted-s.result c.weighted-s.ensures
 
 pub loop-place-preserved : goal.loop-place-preserved
 loop-place-preserved c =
@@ -56,9 +56,9 @@ loop-place-preserved c =
       | then-frequency-eq3 w ↦ read-worked-out w.if-frequency-eq3.true w.frequency-is w.frequency_at-frequency.ensures.frequency_post
       | else-frequency-eq3 w ↦ read-planed w.if-frequency-eq3.false w.frequency-is
     ] in
-    record { buffers = search rules; adding = phrase-step c.args.st.now (reads_of c.args.window.now) (room c.args.buffers.now) (other_room c.args.buffers.now) c.args.want c.args.sums.now c.requires.0 c.requires.1 c.bytes.ensures c.node_at-n.result c.node_at-n.ensures c.planes_at-planes.result c.planes_at-planes.ensures l.place-iterator.left l.sums l.invariant.adding c.in-Some.place n.0 c.next.new.self.left n.1 c.planed-frequency.result c.planed-frequency.ensures c.if-frequency-eq3.frequency F c.in-Some.place refl c.add_score.result c.weighted-s.result c.weighted-s.ensures c.add_score.ensures }
+    record { buffers = search rules; adding = phrase-step c.args.st.now (reads_of c.args.window.now) (room c.args.buffers.now) (other_room c.args.buffers.now) c.args.want c.args.sums.now c.requires.0 c.requires.1 c.bytes.ensures c.score_node_at-n.result c.score_node_at-n.ensures c.planes_at-planes.result c.planes_at-planes.ensures l.place-iterator.left l.sums l.invariant.adding c.in-Some.place n.0 c.next.new.self.left n.1 c.planed-frequency.result c.planed-frequency.ensures c.if-frequency-eq3.frequency F c.in-Some.place refl c.add_score.result c.weighted-s.result c.weighted-s.ensures c.add_score.ensures }
 
 pub returns-clause-phrase_post : goal.returns-clause-phrase_post
 returns-clause-phrase_post c =
     let l = c.loop-place in
-    phrase-done c.args.st.now (reads_of c.args.window.now) (room c.args.buffers.now) (other_room c.args.buffers.now) c.args.want c.args.sums.now c.requires.0 c.requires.1 c.bytes.ensures c.node_at-n.result c.node_at-n.ensures c.planes_at-planes.result c.planes_at-planes.ensures l.place-iterator.left l.sums l.invariant.adding c.in-None.ensures.steps.0
+    phrase-done c.args.st.now (reads_of c.args.window.now) (room c.args.buffers.now) (other_room c.args.buffers.now) c.args.want c.args.sums.now c.requires.0 c.requires.1 c.bytes.ensures c.score_node_at-n.result c.score_node_at-n.ensures c.planes_at-planes.result c.planes_at-planes.ensures l.place-iterator.left l.sums l.invariant.adding c.in-None.ensures.steps.0
