@@ -90,7 +90,13 @@ fn place_others(
     ensures st_len_unchanged { length st.new ≡ length st.old }
 {
     let mut buffer = [0; 64];
-    let list = clauses_of(records.query, records.measures, at, occurrence, &mut buffer);
+    let list = clauses_of(
+        records.query,
+        records.measures,
+        at,
+        Some(occurrence),
+        &mut buffer,
+    );
     place_list(st, records, list, boost, depth)
 }
 

@@ -441,7 +441,7 @@ place_others-place_list-requires t c =
     let words = length c.args.st.now in
     let depth = c.args.depth in
     let ms = c.args.records.now.measures.now in
-    (omega (arith, c.decreases), others-listed E ms (refl, refl, refl) at boost words depth (occur_number c.args.occurrence) c.clauses_of-list.result.now c.clauses_of-list.ensures.readies_at c.requires)
+    (omega (arith, c.decreases), others-listed E ms (refl, refl, refl) at boost words depth (occur_number c.args.occurrence) c.clauses_of-list.result.now (c.clauses_of-list.ensures.readies_at _ refl) c.requires)
 
 pub place_others-returns-clause-others_post : goal.place_others-returns-clause-others_post
 place_others-returns-clause-others_post t c =
@@ -451,7 +451,7 @@ place_others-returns-clause-others_post t c =
     let words = length c.args.st.now in
     let depth = c.args.depth in
     let ms = c.args.records.now.measures.now in
-    others-placed E ms (refl, refl, refl) at boost words depth (occur_number c.args.occurrence) c.clauses_of-list.result.now c.clauses_of-list.ensures.readies_at c.place_list.result c.place_list.new.st c.place_list.ensures.list_post
+    others-placed E ms (refl, refl, refl) at boost words depth (occur_number c.args.occurrence) c.clauses_of-list.result.now (c.clauses_of-list.ensures.readies_at _ refl) c.place_list.result c.place_list.new.st c.place_list.ensures.list_post
 
 pub place_required-group_cost-group-requires : goal.place_required-group_cost-group-requires
 place_required-group_cost-group-requires t c =
