@@ -171,7 +171,7 @@ fn scored_by(passed: Passed, idf: f32) -> f32
 }
 
 // The Term at `at`, with the score that is kept or at the boost that reaches it.
-pub(crate) fn place_term(st: &mut [u32], records: &Records, at: usize, passed: Passed) -> usize
+pub fn place_term(st: &mut [u32], records: &Records, at: usize, passed: Passed) -> usize
     requires at_in_bounds { (node_state_words ≤ length st.old) × (at < record_count records.now.query.now) × (record_kind records.now.query.now at ≡ 1) × AtMost (2 ^ 29) (kept_score passed.kept) × AtMost (2 ^ 16) passed.boost }
     requires asks { (ix : Index) × Asks ix records.now.query.now × RecordsLent ix records.now }
     ensures placed { (ix : Index) (ranges : List ℕ) (d k : ℕ) (D : Decoded) → RecordsLent ix records.now → decode records.now.query.now k at ≡ some D → has_scorer ix D.tree ≡ true → Placed ix ranges (weigh ix D.tree passed.boost (kept_of (is_some passed.kept) (kept_score passed.kept))) d passed.scores result st.new }
@@ -235,7 +235,7 @@ fn place_terms(st: &mut [u32], records: &Records, at: usize)
 }
 
 // The Phrase at `at`, with the score that is kept or at the boost that reaches it: its record, then its terms.
-pub(crate) fn place_phrase(st: &mut [u32], records: &Records, at: usize, passed: Passed) -> usize
+pub fn place_phrase(st: &mut [u32], records: &Records, at: usize, passed: Passed) -> usize
     requires at_in_bounds { (node_state_words + node_state_words * record_children records.now.query.now at ≤ length st.old) × (at < record_count records.now.query.now) × (record_kind records.now.query.now at ≡ 2) × AtMost (2 ^ 29) (kept_score passed.kept) × AtMost (2 ^ 16) passed.boost }
     requires asks { (ix : Index) × Asks ix records.now.query.now × RecordsLent ix records.now }
     ensures placed { (ix : Index) (ranges : List ℕ) (d k : ℕ) (D : Decoded) → RecordsLent ix records.now → decode records.now.query.now k at ≡ some D → has_scorer ix D.tree ≡ true → Placed ix ranges (weigh ix D.tree passed.boost (kept_of (is_some passed.kept) (kept_score passed.kept))) d passed.scores result st.new }
