@@ -14,6 +14,7 @@ pub mod alone;
 pub mod everything;
 
 // The live documents that the tree matches to the collector, numbered on from a document base.
+// Kept: seven parameters, as in `bulk_window` `collect_windows`.
 pub fn collect_matches(
     st: &mut [u32],
     reader: &LeafReader<'_>,

@@ -79,6 +79,7 @@ fn collect_places(
 }
 
 // The documents of a window that the tree matches, to the collector with their scores. All sums are 0 before and after.
+// Kept: no plainer: what a call of a window asks (`root_scores`) and what the collector takes (`collect_places`) meet here alone.
 fn collect_window(
     st: &mut [u32],
     window: &Window<'_>,
@@ -104,6 +105,7 @@ fn collect_window(
 }
 
 // The live documents that the tree matches to the collector, numbered on from a document base.
+// Kept: seven parameters: the collector goes through by value, and a struct of it and its heap would be made for each call.
 pub fn collect_windows(
     st: &mut [u32],
     reader: &LeafReader<'_>,

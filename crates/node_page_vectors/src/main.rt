@@ -48,7 +48,7 @@ const PHRASE_QUERY: [u32; 54] = [
 const RUBBISH_WORD: u32 = 0xfeed_face;
 
 // A page of one document.
-#[derive(Clone, Copy)]
+#[derive(Clone, Copy, PartialEq, Eq)]
 struct Page {
     listed: Result<Listed, Refusal>,
     documents: [u32; 1],
@@ -155,20 +155,10 @@ impl Display for Page {
     }
 }
 
-// The answer's numbers: the refusal's, or 0, how many were given and the next match.
-fn numbers(listed: Result<Listed, Refusal>) -> [u64; 3] {
-    match listed {
-        Err(refusal) => [u64::from(refusal.number()), 0, 0],
-        Ok(l) => [0, l.given as u64, u64::from(l.next)],
-    }
-}
-
 fn print_both(out: &mut impl Write, by_records: Page, by_words: Page) -> io::Result<()> {
     writeln!(out, "{by_records}")?;
     writeln!(out, "{by_words}")?;
-    let same = (numbers(by_records.listed) == numbers(by_words.listed))
-        & (by_records.documents == by_words.documents)
-        & (by_records.scores == by_words.scores);
+    let same = by_records == by_words;
     writeln!(out, "{}", if same { "same" } else { "different" })
 }
 

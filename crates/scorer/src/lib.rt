@@ -164,6 +164,7 @@ fn excluding(
 }
 
 // Every required child and, where some are needed, so many of the optional.
+// Kept: two numbers of the Boolean; no plainer by its struct: `kids` ends where the optional do, so `optional_end` would say it again.
 #[cycle(advance_conjunction_disjunction_excluding_lead_least_pass_step)]
 fn lead(
     kids: &mut [u32],
@@ -190,6 +191,7 @@ fn lead(
 }
 
 // Passes until one moves nothing.
+// Kept: seven parameters, as in `lead`.
 #[cycle(advance_conjunction_disjunction_excluding_lead_least_pass_step)]
 fn conjunction(
     kids: &mut [u32],
@@ -216,6 +218,7 @@ fn conjunction(
 }
 
 // One pass over the required children and then, where some are needed, the optional.
+// Kept: seven parameters, as in `lead`.
 #[cycle(advance_conjunction_disjunction_excluding_lead_least_pass_step)]
 fn step(
     kids: &mut [u32],

@@ -44,6 +44,7 @@ pub fn next_match(
 }
 
 // The first live matches at or after a document with their scores' bits, as many as the outputs have places for.
+// Kept: no plainer: the two outputs are lent by the caller as two, and nothing else takes them together.
 pub fn list(
     st: &mut [u32],
     reader: &LeafReader<'_>,

@@ -111,6 +111,7 @@ pub fn node_scores(
 }
 
 // A Boolean has sums of its own, which are added to its parent's, narrowed.
+// Kept: seven parameters: `want` and `sums` change from call to call, each by itself, so a struct of them is no plainer.
 #[cycle(boolean_scores_group_scores_node_scores_optional_scores_part_scores_required_scores)]
 fn boolean_scores(
     kids: &mut [u32],
@@ -131,6 +132,7 @@ fn boolean_scores(
 }
 
 // A Boolean's children, into sums that are 0. Where there are only required ones or only optional ones, they need no other sums. Inlined at both calls: one call more for each Boolean of a window costs a deep tree a twentieth.
+// Kept: seven parameters, as in `boolean_scores`.
 #[inline(always)]
 #[cycle(boolean_scores_group_scores_node_scores_optional_scores_part_scores_required_scores)]
 fn part_scores(
@@ -187,6 +189,7 @@ fn part_scores(
 }
 
 // The required children, into sums that are 0: the group, whose sums are given, joins as one more, or after theirs are narrowed.
+// Kept: eight parameters, as in `boolean_scores`, and the group's sums.
 #[cycle(boolean_scores_group_scores_node_scores_optional_scores_part_scores_required_scores)]
 fn group_scores(
     kids: &mut [u32],
@@ -247,6 +250,7 @@ fn required_scores(
 }
 
 // The scores of the optional children at those of the wanted documents that they match; where none is needed they are asked only now.
+// Kept: seven parameters, as in `boolean_scores`.
 #[cycle(boolean_scores_group_scores_node_scores_optional_scores_part_scores_required_scores)]
 fn optional_scores(
     kids: &mut [u32],
