@@ -8,14 +8,12 @@ ghost use Rattle.meaning.specs.Query.{record_count, record_kind, record_children
 ghost use Rattle.meaning.specs.Range.{range_documents};
 ghost use Rattle.meaning.specs.CallRefusals.{ranges_needed};
 ghost use Rattle.meaning.specs.Cost.{least};
-ghost use Rattle.index.specs.Ranges.{asked};
 ghost use Rattle.weight.specs.Measured.{Asks, Columns, RangesListed, Known, term_numbers};
 ghost use Rattle.weight.specs.ScorerTree.{range, leaf_matches};
 ghost use Rattle.bits.specs.Bit.{bitmap_words, Bitmap};
 ghost use Rattle.measure.specs.Measures.{Held, AllMeasured, TreeMeasured, places_of, counts_of};
 ghost use Rattle.measure.specs.Tallied.{tallied, tallied_at, tally_present, tally_cost};
 
-use index::columns::NumericRange;
 use query::{Kind, Occur, kind_at, occur_at};
 
 // Of a tree: the record after it, whether it has a scorer, and its cost.
@@ -279,19 +277,6 @@ fn range_words(q: &[u32], max_doc: u32, at: usize) -> usize
     }
 }
 
-// The range of the Range record at `at`.
-fn range_at(q: &[u32], at: usize) -> NumericRange
-    requires { at < record_count q.now }
-    ensures { asked result ≡ range_of q.now at }
-{
-    NumericRange {
-        column: query::value(q, at, 0),
-        kinds: query::value(q, at, 1),
-        lower: column_keys::joined(query::value(q, at, 2), query::value(q, at, 3)),
-        upper: column_keys::joined(query::value(q, at, 4), query::value(q, at, 5)),
-    }
-}
-
 // The documents of the Range record at `at` as a bitmap at the front of the output, and how many there are; another record has none.
 // The words beyond may hold anything.
 fn list_range(q: &[u32], lent: &doc_values::Columns, at: usize, output: &mut [u32]) -> u32
@@ -303,7 +288,7 @@ fn list_range(q: &[u32], lent: &doc_values::Columns, at: usize, output: &mut [u3
     if kind_at(q, at) != Some(Kind::Range) {
         return 0;
     }
-    doc_values::range_bitmap(lent, range_at(q, at), output)
+    doc_values::range_bitmap(lent, query::range_at(q, at), output)
 }
 
 // The documents of every Range record as bitmaps, one record's after the other's: where each begins, how many documents it has.

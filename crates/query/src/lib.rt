@@ -7,9 +7,12 @@ pub mod occurrences;
 pub mod shape;
 
 ghost use Rattle.std.specs.Prelude.{◌≡◌, ◌<◌};
-ghost use Rattle.meaning.specs.Query.{record_count, record_kind, record_occurrence, record_children, record_value};
+ghost use Rattle.meaning.specs.Query.{record_count, record_kind, record_occurrence, record_children, record_value, range_of};
+ghost use Rattle.index.specs.Ranges.{asked};
 ghost use Rattle.query.specs.Kinds.{IsKind, IsOccur};
 
+use column_keys::joined;
+use index::columns::NumericRange;
 pub use kinds::{Kind, UnknownKind};
 pub use occurrences::{Occur, UnknownOccur};
 
@@ -64,4 +67,17 @@ pub fn value(q: &[u32], at: usize, v: usize) -> u32
     ensures { result ≡ record_value q.now at v }
 {
     q[9 * at + 3 + v]
+}
+
+// The range of the Range record at `at`.
+pub fn range_at(q: &[u32], at: usize) -> NumericRange
+    requires { at < record_count q.now }
+    ensures { asked result ≡ range_of q.now at }
+{
+    NumericRange {
+        column: value(q, at, 0),
+        kinds: value(q, at, 1),
+        lower: joined(value(q, at, 2), value(q, at, 3)),
+        upper: joined(value(q, at, 4), value(q, at, 5)),
+    }
 }

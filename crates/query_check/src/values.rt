@@ -6,8 +6,7 @@ ghost use Rattle.meaning.specs.QueryRefusals.{wrong7, wrong8, unused_from, wrong
 ghost use Rattle.query.specs.Read.{Lends};
 ghost use Rattle.query_check.specs.Inner.{term_wrong, phrase_wrong, any_other_field, boost_wrong, phrase_term_wrong};
 
-use bits::joined;
-use index::columns::{NumericRange, wrong_range};
+use index::columns::wrong_range;
 use index::postings::NO_MORE_DOCS;
 use query::{Kind, children, kind_at, record_count, value};
 
@@ -57,13 +56,7 @@ fn wrong_range_record(q: &[u32], columns: &[u32], at: usize) -> bool
     requires { at < record_count q.now }
     ensures { (ix : Index) → ix.columns ≡ columns.now → result ≡ wrong_range ix (range_of q.now at) }
 {
-    let range = NumericRange {
-        column: query::value(q, at, 0),
-        kinds: query::value(q, at, 1),
-        lower: joined(query::value(q, at, 2), query::value(q, at, 3)),
-        upper: joined(query::value(q, at, 4), query::value(q, at, 5)),
-    };
-    wrong_range(columns, range)
+    wrong_range(columns, query::range_at(q, at))
 }
 
 fn wrong_boost_value(q: &[u32], at: usize) -> bool
