@@ -133,7 +133,7 @@ fn norms_word(max_doc: u32, fields: &[u32], field: u32) -> u32
     ensures { (ix : Index) → FieldLent ix max_doc fields.now → result ≡ norms_word ix field }
 {
     let f = field as usize;
-    if fields[3 * f + 1] != 1 {
+    if !index::fields::field_at(fields, f).has_norms() {
         return 0;
     }
     index::norms::norms_offset(max_doc, fields, f) as u32 + 1

@@ -1,15 +1,13 @@
 use Rattle.node_words.proofs.Norms.{field-here, norms-none, norms-some, norms-small}
 use native.Mathlib.Omega.{arith}
-use mathlib.Core.Path.{refl}
+use mathlib.Core.Path.{ap, sym, ◌∙◌}
+use borrow.Author.Tests.{eqb-true, eqb-false}
+use Rattle.index.specs.declared.fields.Field.{Field}
 use Rattle.node_words.proofs.place.norms_word.Goals as goal
 
-pub bounds-fields-f : goal.bounds-fields-f
-bounds-fields-f c =
-    let a = c.requires in let h = field-here a.0 c.args.max_doc c.args.fields.now c.args.field a.1 a.2 in omega (arith, h.there)
-
-pub returns-then-fields-f-ne1 : goal.returns-then-fields-f-ne1
-returns-then-fields-f-ne1 c =
-    λ ix l. norms-none ix c.args.max_doc c.args.fields.now c.args.field l _ (refl) c.if-fields-f-ne1.true
+pub returns-then-not-has_norms : goal.returns-then-not-has_norms
+returns-then-not-has_norms c =
+    λ ix l. norms-none ix c.args.max_doc c.args.fields.now c.args.field l c.field_at.result.norms (ap (λ (f : Field). f.norms) c.field_at.ensures) (eqb-false _ _ (sym c.has_norms.ensures ∙ c.if-not-has_norms.true))
 
 pub norms_offset-requires : goal.norms_offset-requires
 norms_offset-requires c =
@@ -25,4 +23,4 @@ overflow_add-result c =
 
 pub returns : goal.returns
 returns c =
-    λ ix l. norms-some ix c.args.max_doc c.args.fields.now c.args.field l _ c.norms_offset.result (refl) c.if-fields-f-ne1.false (c.norms_offset.ensures)
+    λ ix l. norms-some ix c.args.max_doc c.args.fields.now c.args.field l c.field_at.result.norms c.norms_offset.result (ap (λ (f : Field). f.norms) c.field_at.ensures) (eqb-true _ _ (sym c.has_norms.ensures ∙ c.if-not-has_norms.false)) c.norms_offset.ensures
