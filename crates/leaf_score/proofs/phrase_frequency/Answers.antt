@@ -47,8 +47,8 @@ bounds-st-16 c = let p = c.requires in omega (arith, words_long _ p.1.5 p.1.4 p.
 pub bounds-st-17 : goal.bounds-st-17
 bounds-st-17 c = let p = c.requires in omega (arith, words_long _ p.1.5 p.1.4 p.1.8.words)
 
-pub returns-then-wide-clause-frequency_post : goal.returns-then-wide-clause-frequency_post
-returns-then-wide-clause-frequency_post c = same-there c.args.st.now c.args.reader.now.postings.now c.args.reader.now.positions.now c.args.doc (sym c.wide.ensures ∙ c.if-wide.true ∙ ap (λ (i : ℕ). i + 1) c.wide-2.ensures)
+pub returns-then-st-doc-clause-frequency_post : goal.returns-then-st-doc-clause-frequency_post
+returns-then-st-doc-clause-frequency_post c = same-there c.args.st.now c.args.reader.now.postings.now c.args.reader.now.positions.now c.args.doc c.if-st-doc.true
 
 pub seek_phrase-d-requires : goal.seek_phrase-d-requires
 seek_phrase-d-requires c = let p = c.requires in (top _ p.0, (p.1.0, p.1.1, p.1.2, p.1.3, p.1.4, p.1.5, p.1.6, p.1.7, p.1.8))

@@ -62,7 +62,7 @@ conjunction-loop-d-preserved t c =
 
 pub disjunction-loop-x-init : goal.disjunction-loop-x-init
 disjunction-loop-x-init t c =
-    (record { kids-same = refl; buffers-same = same_refl _ }, c.requires.1.0, c.wide-enough.ensures, λ ix p ss h. going_start h)
+    (record { kids-same = refl; buffers-same = same_refl _ }, c.requires.1.0, refl, λ ix p ss h. going_start h)
 
 pub disjunction-returns-then-d-eq-NO_MORE_DOCS-clause-disjunction_post : goal.disjunction-returns-then-d-eq-NO_MORE_DOCS-clause-disjunction_post
 disjunction-returns-then-d-eq-NO_MORE_DOCS-clause-disjunction_post t c =
