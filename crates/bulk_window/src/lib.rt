@@ -11,7 +11,6 @@ ghost use Rattle.window_score.specs.Asked.{reads_of};
 
 use bits::SetBits;
 use collector::TopScoreDocCollector;
-use index::wide;
 use leaf_scorer::{LeafReader, PhraseBuffers};
 use window_bits::node_bits;
 use window_leaf::Window;
@@ -29,7 +28,7 @@ fn live_word(live: &[u64], base: u32) -> u64
     if live.len() == 0 {
         return ALL;
     }
-    live[wide(base / 64)]
+    live[(base / 64) as usize]
 }
 
 // The live documents of the window from base on, cut at max_doc.

@@ -17,13 +17,6 @@ ghost use Rattle.index.specs.Slices.{lent};
 // N at most 1,048,576.
 pub const MAX_DOCUMENTS: u32 = 1048576;
 
-// A word as a place in a slice.
-pub fn wide(x: u32) -> usize
-    ensures { result ≡ x }
-{
-    x as usize
-}
-
 // 1, N above the limit.
 pub fn wrong_max_doc(max_doc: u32) -> bool
     ensures { result ≡ wrong1 (lent max_doc [] [] [] [] [] [] [] []) }

@@ -11,7 +11,6 @@ ghost use Rattle.leaf_scorer.specs.Buffers.{room, other_room, places_in, SameBuf
 ghost use Rattle.leaf_score.specs.Words.{ScoreNodeIs, constant_score, byte_at};
 ghost use Rattle.leaf_score.specs.Asked.{LeafPre, LeafPost, FrequencyPre, FrequencyPost, TermPre, TermPost};
 
-use index::wide;
 use leaf_scorer::{LeafReader, PhraseBuffers};
 use node::NodeKind;
 
@@ -33,13 +32,13 @@ pub fn score_node_at(st: &[u32]) -> ScoreNode
     ensures { ScoreNodeIs st.now result }
 {
     ScoreNode {
-        first: wide(st[6]),
-        number: wide(st[7]),
-        cursor: wide(st[8]),
-        field: wide(st[10]),
+        first: st[6] as usize,
+        number: st[7] as usize,
+        cursor: st[8] as usize,
+        field: st[10] as usize,
         constant: st[11],
         weight: st[12],
-        norms: wide(st[18]),
+        norms: st[18] as usize,
     }
 }
 
@@ -90,7 +89,7 @@ fn norm_byte(norms: &[u8], begin: usize, doc: u32) -> u8
     ensures bytes { (i : ℕ) → get_or norms.now i 0 < 256 }
 {
     match begin.checked_sub(1) {
-        Some(first) => norms[first + wide(doc)],
+        Some(first) => norms[first + doc as usize],
         None => NO_NORMS,
     }
 }
@@ -116,7 +115,7 @@ fn phrase_frequency(
     ensures frequency_post { FrequencyPost reader.now.postings.now reader.now.positions.now st.old doc result st.new }
     ensures same_buffers { SameBuffers buffers.old buffers.new }
 {
-    if wide(st[16]) == wide(doc) + 1 {
+    if st[16] as usize == doc as usize + 1 {
         return st[17];
     }
     let _d = leaf_scorer::seek_phrase(st, reader.postings, reader.positions, buffers, doc);

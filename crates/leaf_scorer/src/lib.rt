@@ -9,7 +9,6 @@ ghost use Rattle.leaf_scorer.specs.Calls.{lent_of, LeafPre, LeafPost};
 ghost use Rattle.leaf_scorer.specs.Buffers.{room, other_room, SameBuffers};
 
 pub use index::postings::NO_MORE_DOCS;
-use index::wide;
 use node::NodeKind;
 use run::{document, lower};
 use weight::NODE_STATE_WORDS;
@@ -52,9 +51,9 @@ fn cursor_at(st: &[u32]) -> Cursor
     ensures { CursorRead st.now result.first result.number result.cursor }
 {
     Cursor {
-        first: wide(st[6]),
-        number: wide(st[7]),
-        cursor: wide(st[8]),
+        first: st[6] as usize,
+        number: st[7] as usize,
+        cursor: st[8] as usize,
     }
 }
 
@@ -102,7 +101,7 @@ fn next_set(words: &[u32], first: usize, number: usize, target: u32) -> u32
     ensures { FirstSet words.now first number target result }
 {
     let mut skip = target % 32;
-    for at in wide(target / 32)..number {
+    for at in (target / 32) as usize..number {
         let below = bits::first_bits(skip);
         let w = bits::without(words[first + at] as u64, below);
         if w != 0 {
@@ -118,7 +117,7 @@ pub fn seek_range(st: &[u32], ranges: &[u32], target: u32) -> u32
     requires { RangePre ranges.now st.now }
     ensures { RangePost ranges.now st.now target result }
 {
-    next_set(ranges, wide(st[6]), wide(st[7]), target)
+    next_set(ranges, st[6] as usize, st[7] as usize, target)
 }
 
 fn everything(max_doc: u32, target: u32) -> u32
@@ -183,7 +182,7 @@ fn posting_of(terms: &[u32], at: usize) -> usize
     requires { at + node_state_words ≤ length terms.now }
     ensures { result ≡ 3 * (get_or terms.now (at + 6) 0 + get_or terms.now (at + 8) 0) }
 {
-    POSTING * (wide(terms[at + 6]) + wide(terms[at + 8]))
+    POSTING * (terms[at + 6] as usize + terms[at + 8] as usize)
 }
 
 // Of each term's posting in a document: the index of its first position there, its frequency and its offset. `posting` says where the

@@ -7,7 +7,6 @@ ghost use Rattle.scorer.specs.Calls.{AdvancePre, AdvancePost, TermPre, TermPost,
 ghost use Rattle.leaf_scorer.specs.Calls.{lent_of};
 ghost use Rattle.leaf_scorer.specs.Buffers.{room, other_room, SameBuffers};
 
-use index::wide;
 use leaf_scorer::{LeafReader, NO_MORE_DOCS, PhraseBuffers};
 use node::{Boolean, NodeKind, boolean_at, child_at};
 use weight::NODE_STATE_WORDS;
@@ -302,7 +301,7 @@ fn disjunction(
     ensures disjunction_post { DisjunctionPost (lent_of reader.now) kids.old need target depth result kids.new }
     ensures same_buffers { SameBuffers buffers.old buffers.new }
 {
-    let enough = wide(need);
+    let enough = need as usize;
     let mut t = target;
     // Kept: each turn begins where the answer of the one before lies; a loop is plainer than an iterator of such steps.
     loop {

@@ -8,7 +8,6 @@ ghost use Rattle.leaf_scorer.specs.Buffers.{room, other_room, SameBuffers};
 ghost use Rattle.window_leaf.specs.Asks.{TermPre, TermPost, RangePre, RangePost, BitsPre, BitsPost};
 ghost use Rattle.window_leaf.specs.Runs.{PutPre, PutPost, RunPre, RunPost, PartOf, DocumentPre, DocumentPost};
 
-use index::wide;
 use leaf_scorer::{LeafReader, NO_MORE_DOCS, PhraseBuffers};
 use node::NodeKind;
 use window::gathered;
@@ -59,9 +58,9 @@ pub fn run_bits(st: &mut [u32], words: &[u32], stride: usize, base: u32) -> u64
     requires { RunPre words.now stride st.old base }
     ensures { RunPost words.now stride st.old base result st.new }
 {
-    let first = wide(st[6]);
-    let number = wide(st[7]);
-    let from = run::lower(words, stride, first, number, wide(st[8]), base);
+    let first = st[6] as usize;
+    let number = st[7] as usize;
+    let from = run::lower(words, stride, first, number, st[8] as usize, base);
     let g = gathered(words, stride, first, number, from, base);
     st[8] = g.at as u32;
     st[19] = from as u32;
@@ -94,7 +93,7 @@ fn bits_from(words: &[u32], first: usize, number: usize, at: u32) -> u32
     requires { first + number ≤ length words.now }
     ensures { PartOf words.now first number at result }
 {
-    let word = wide(at / 32);
+    let word = (at / 32) as usize;
     let low = word_at(words, first, number, word);
     let skip = at % 32;
     if skip == 0 {
@@ -109,8 +108,8 @@ pub fn range_bits(st: &mut [u32], ranges: &[u32], base: u32) -> u64
     requires { RangePre ranges.now st.old base }
     ensures { RangePost ranges.now st.old base result st.new }
 {
-    let first = wide(st[6]);
-    let number = wide(st[7]);
+    let first = st[6] as usize;
+    let number = st[7] as usize;
     let low = bits_from(ranges, first, number, base);
     let high = bits_from(ranges, first, number, base + 32);
     let bits = bits::joined(low, high);

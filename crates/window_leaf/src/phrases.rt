@@ -6,7 +6,6 @@ ghost use Rattle.window_leaf.specs.Phrases.{TermsPre, TermsPost, rank_at, Postin
 
 use crate::{Found, POSTING, Window, put, run_bits};
 use bits::SetBits;
-use index::wide;
 use leaf_scorer::{PhraseBuffers, frequency_by};
 use weight::NODE_STATE_WORDS;
 
@@ -35,7 +34,7 @@ fn posting_at(terms: &[u32], at: usize, place: u32) -> usize
 {
     let bits = bits::joined(terms[at + 20], terms[at + 21]);
     let before = bits::rank(bits, place);
-    POSTING * (wide(terms[at + 6]) + wide(terms[at + 19]) + wide(before))
+    POSTING * (terms[at + 6] as usize + terms[at + 19] as usize + before as usize)
 }
 
 // The frequency of a phrase at a place that all its terms have.

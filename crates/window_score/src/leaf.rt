@@ -9,7 +9,6 @@ use crate::sums::add_constant;
 use bits::SetBits;
 use ieee754::add_score;
 use index::postings::posting_frequency;
-use index::wide;
 use leaf_score::{score_node_at, weighted};
 use leaf_scorer::PhraseBuffers;
 use weight::NODE_STATE_WORDS;
@@ -37,10 +36,10 @@ pub fn term_scores(st: &[u32], window: &Window<'_>, want: u64, sums: &mut [f64])
         add_constant(score, want, sums);
         return;
     }
-    let first = n.first + wide(st[19]);
+    let first = n.first + st[19] as usize;
     let bits = bits::joined(st[20], st[21]);
     for place in (SetBits { left: want }) {
-        let frequency = posting_frequency(postings, first, wide(bits::rank(bits, place)));
+        let frequency = posting_frequency(postings, first, bits::rank(bits, place) as usize);
         let s = weighted(norms, inverses, n, frequency, base + place);
         let at = place as usize;
         sums[at] = add_score(sums[at], s);

@@ -1,6 +1,5 @@
 -- No words at all have every bit set; else the word of a window has the live bits of its documents.
-use Rattle.std.proofs.Common.{sym, ap, ◌∙◌, ◌+◌, get_or}
-use Rattle.bits.specs.Bit.{bit}
+use Rattle.std.proofs.Common.{sym, ◌∙◌, ◌+◌}
 use Rattle.bits.proofs.Laws.{full}
 use Rattle.bulk_window.proofs.Live.{all-live, word-live}
 use Rattle.bulk_window.proofs.live_word.Goals as goal
@@ -9,4 +8,4 @@ pub returns-then-live-eq0 : goal.returns-then-live-eq0
 returns-then-live-eq0 c = λ p h. full p h ∙ sym (all-live c.args.live.now (c.args.base + p) c.if-live-eq0.true)
 
 pub returns : goal.returns
-returns c = λ p h. ap (λ i. bit p (get_or c.args.live.now i 0)) c.wide.ensures ∙ word-live c.args.live.now c.args.base p c.requires.whole h c.if-live-eq0.false
+returns c = λ p h. word-live c.args.live.now c.args.base p c.requires.whole h c.if-live-eq0.false

@@ -12,7 +12,7 @@ use Rattle.weight.specs.State.{State, words_of}
 use Rattle.leaf_scorer.specs.Buffers.{places_in}
 use Rattle.leaf_score.specs.Asked.{LentAt, LeafAsks}
 use Rattle.leaf_score.proofs.Bounds.{zero-32}
-use Rattle.leaf_score.proofs.Leaves.{Counted, read, words_long, few-documents, counted-byte, counted-weighs, counted-done, term-run, term-counted, phrase-asks, phrase-counted, other-done}
+use Rattle.leaf_score.proofs.Leaves.{Counted, read, few-documents, counted-byte, counted-weighs, counted-done, term-run, term-counted, phrase-asks, phrase-counted, other-done}
 use Rattle.leaf_score.proofs.leaf_score.Goals as goal
 use Rattle.leaf_score.proofs.leaf_score.Goals.{After-norm_byte-arg-1, in-Term, in-Phrase}
 
@@ -26,12 +26,6 @@ counted c m ix ranges l w s v L p e =
       | in-Term x ↦ rw (x.frequency-is, x.st-is) (term-counted ix m r.postings.now r.positions.now r.norms.now a.doc L r.inverses.now c.score_node_at-n.result ranges _ w s v a.st.now e R _ x.term_frequency-frequency.ensures l p (term-word _ (sym x.in-Term.ensures)))
       | in-Phrase x ↦ rw (x.frequency-is, x.st-is) (phrase-counted ix m r.postings.now r.positions.now r.norms.now a.doc L r.inverses.now c.score_node_at-n.result ranges _ w s v a.st.now e R _ _ x.phrase_frequency-frequency.ensures.frequency_post l p (phrase-word _ (sym x.in-Phrase.ensures)))
     ]
-
-pub score_node_at-n-requires : goal.score_node_at-n-requires
-score_node_at-n-requires c = let p = c.requires.1 in omega (arith, words_long _ p.5 p.4 p.8)
-
-pub bounds-st-0 : goal.bounds-st-0
-bounds-st-0 c = let p = c.requires.1 in omega (arith, words_long _ p.5 p.4 p.8)
 
 pub term_frequency-frequency-requires : goal.term_frequency-frequency-requires
 term_frequency-frequency-requires c =

@@ -1,7 +1,7 @@
 -- `leaf_score::phrase_frequency` meets its contract: what is stored for the document is its frequency. Assumes nothing.
 use native.Mathlib.Omega.{arith}
-use Prim.Native.Nat.{ℕ, suc, ◌+◌, ◌≤◌, ◌<◌}
-use mathlib.Core.Path.{◌≡◌, refl, sym, ap, subst, ◌∙◌}
+use Prim.Native.Nat.{ℕ, suc, ◌+◌, ◌<◌}
+use mathlib.Core.Path.{◌≡◌, sym, ap, subst, ◌∙◌}
 use mathlib.Core.List.{List}
 use lib.ListN.{get_or}
 use mathlib.Core.Bool.{Bool, true, false≢true}
@@ -15,16 +15,10 @@ use Rattle.meaning.specs.Phrase.{phrase_frequency}
 use Rattle.weight.specs.Held.{PhraseIs}
 use Rattle.leaf_scorer.specs.Phrases.{PhrasePost}
 use Rattle.leaf_score.specs.Asked.{FrequencyPost}
-use Rattle.leaf_score.proofs.Leaves.{words_long}
 use Rattle.leaf_score.proofs.phrase_frequency.Goals as goal
 
 more : (d : ℕ) → d + 1 ≡ suc d
 more d = omega arith
-
-same-there : (st : List ℕ) (postings positions : List ℕ) (doc : ℕ) → get_or st 16 0 ≡ doc + 1 → FrequencyPost postings positions st doc (get_or st 17 0) st
-same-there st postings positions doc e ix places f ts s w H m =
-    let a : s.frequency_of ≡ suc doc = sym (ap (λ (l : List ℕ). get_or l 16 0) H.words) ∙ e ∙ more doc in
-    (ap (λ (l : List ℕ). get_or l 17 0) H.words ∙ H.is.worked-out doc a, (s, w, H.words, record { cached = refl; constant = refl; weight = refl; scores = refl }, H.is))
 
 -- a phrase that stands in the document is found there
 stays : (P : ℕ → Bool) (doc r : ℕ) → First P doc r → P doc ≡ true → r ≡ doc
@@ -37,24 +31,6 @@ worked-out-now st st' postings positions doc r few post ix places f ts s w H m =
     let e : r ≡ doc = stays (λ d. ltb 0 (phrase_frequency ix ts d)) doc r q.0 (lt-ltb 0 (phrase_frequency ix ts doc) m) in
     let a : z.state.frequency_of ≡ suc r = sym (ap (λ (l : List ℕ). get_or l 16 0) z.words) ∙ q.2 (omega arith) ∙ more r in
     (ap (λ (l : List ℕ). get_or l 17 0) z.words ∙ z.is.worked-out r a ∙ ap (λ (d : ℕ). phrase_frequency ix ts d) e, (z.state, z.behind, z.words, record { cached = z.cached; constant = z.constant; weight = z.weight; scores = z.scores }, subst (λ (d : ℕ). PhraseIs ix f ts z.state z.behind d) e z.is))
-
-top : (d : ℕ) → d < no_more_docs → d ≤ no_more_docs
-top d h = omega arith
-
-pub bounds-st-16 : goal.bounds-st-16
-bounds-st-16 c = let p = c.requires in omega (arith, words_long _ p.1.5 p.1.4 p.1.8.words)
-
-pub bounds-st-17 : goal.bounds-st-17
-bounds-st-17 c = let p = c.requires in omega (arith, words_long _ p.1.5 p.1.4 p.1.8.words)
-
-pub returns-then-wide-clause-frequency_post : goal.returns-then-wide-clause-frequency_post
-returns-then-wide-clause-frequency_post c = same-there c.args.st.now c.args.reader.now.postings.now c.args.reader.now.positions.now c.args.doc (sym c.wide.ensures ∙ c.if-wide.true ∙ ap (λ (i : ℕ). i + 1) c.wide-2.ensures)
-
-pub seek_phrase-d-requires : goal.seek_phrase-d-requires
-seek_phrase-d-requires c = let p = c.requires in (top _ p.0, (p.1.0, p.1.1, p.1.2, p.1.3, p.1.4, p.1.5, p.1.6, p.1.7, p.1.8))
-
-pub bounds-st-17-2 : goal.bounds-st-17-2
-bounds-st-17-2 c = let p = c.requires in omega (arith, words_long _ p.1.5 p.1.4 p.1.8.words, c.seek_phrase-d.auto.st)
 
 pub returns-clause-frequency_post : goal.returns-clause-frequency_post
 returns-clause-frequency_post c = worked-out-now c.args.st.now c.seek_phrase-d.new.st c.args.reader.now.postings.now c.args.reader.now.positions.now c.args.doc c.seek_phrase-d.result c.requires.0 c.seek_phrase-d.ensures.phrase_post

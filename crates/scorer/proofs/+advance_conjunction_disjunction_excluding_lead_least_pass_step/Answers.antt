@@ -62,14 +62,14 @@ conjunction-loop-d-preserved t c =
 
 pub disjunction-loop-x-init : goal.disjunction-loop-x-init
 disjunction-loop-x-init t c =
-    (record { kids-same = refl; buffers-same = same_refl _ }, c.requires.1.0, c.wide-enough.ensures, λ ix p ss h. going_start h)
+    (record { kids-same = refl; buffers-same = same_refl _ }, c.requires.1.0, λ ix p ss h. going_start h)
 
 pub disjunction-returns-then-d-eq-NO_MORE_DOCS-clause-disjunction_post : goal.disjunction-returns-then-d-eq-NO_MORE_DOCS-clause-disjunction_post
 disjunction-returns-then-d-eq-NO_MORE_DOCS-clause-disjunction_post t c =
     let a = c.loop-x in
     let g = c.least-x in
     λ ix p ss h.
-    let i = a.invariant.3 ix p ss h in
+    let i = a.invariant.2 ix p ss h in
     let q = g.ensures.least_post ix p ss i.held in
     (enough-top c.requires.0 i.lo i.before q.0 c.if-d-eq-NO_MORE_DOCS.true, parts-later g.result.doc q.0.first.from q.1)
 
@@ -77,17 +77,16 @@ pub disjunction-loop-x-preserved : goal.disjunction-loop-x-preserved
 disjunction-loop-x-preserved t c =
     let P = c.requires.1.1 in
     let a = c.loop-x in
-    let i = a.invariant.3 P.0 P.1 P.2 P.4 in
+    let i = a.invariant.2 P.0 P.1 P.2 P.4 in
     let g = c.least-x in
     let q = g.ensures.least_post P.0 P.1 P.2 i.held in
     let d : g.result.doc < no_more_docs = omega (arith, q.0.first.top, c.if-d-eq-NO_MORE_DOCS.false) in (
       record { kids-same = g.auto.kids ∙ a.invariant.0.kids-same; buffers-same = same_then a.invariant.0.buffers-same g.ensures.same_buffers },
       omega arith,
-      a.invariant.2,
       λ ix p ss h.
-          let i = a.invariant.3 ix p ss h in
+          let i = a.invariant.2 ix p ss h in
           let q = g.ensures.least_post ix p ss i.held in
-          record { lo = omega (arith, i.lo, q.0.first.from); before = enough-more c.requires.0 i.lo i.before q.0 d (omega (arith, c.if-x-enough.true, a.invariant.2)); held = parts-later (g.result.doc + 1) (omega (arith, q.0.first.from)) q.1 },
+          record { lo = omega (arith, i.lo, q.0.first.from); before = enough-more c.requires.0 i.lo i.before q.0 d c.if-x-enough.true; held = parts-later (g.result.doc + 1) (omega (arith, q.0.first.from)) q.1 },
     )
 
 pub disjunction-returns-else-x-enough-clause-disjunction_post : goal.disjunction-returns-else-x-enough-clause-disjunction_post
@@ -95,9 +94,9 @@ disjunction-returns-else-x-enough-clause-disjunction_post t c =
     let a = c.loop-x in
     let g = c.least-x in
     λ ix p ss h.
-    let i = a.invariant.3 ix p ss h in
+    let i = a.invariant.2 ix p ss h in
     let q = g.ensures.least_post ix p ss i.held in
-    (enough-hit c.requires.0 i.lo i.before q.0 (omega (arith, c.if-x-enough.false, a.invariant.2)), parts-later g.result.doc q.0.first.from q.1)
+    (enough-hit c.requires.0 i.lo i.before q.0 c.if-x-enough.false, parts-later g.result.doc q.0.first.from q.1)
 
 pub lead-disjunction-requires : goal.lead-disjunction-requires
 lead-disjunction-requires t c =

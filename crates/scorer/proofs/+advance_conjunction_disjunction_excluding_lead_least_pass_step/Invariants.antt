@@ -1,6 +1,5 @@
 -- The cycle's measures, and what its loops keep.
 use Prim.Native.Nat.{◌+◌, ◌-◌, ◌*◌, ◌≤◌, ℕ}
-use mathlib.Core.Path.{◌≡◌}
 use lib.ListN.{length}
 use lib.Dec.{leb}
 use Rattle.meaning.specs.Limits.{no_more_docs}
@@ -43,7 +42,7 @@ abbrev pub decreases-conjunction-loop-d : goal.decreases-conjunction-loop-d
 decreases-conjunction-loop-d l = no_more_docs - l.d
 
 abbrev pub invariant-disjunction-loop-x : goal.invariant-disjunction-loop-x
-invariant-disjunction-loop-x l = Lengths (length l.kids) (length l.initial.kids) l.initial.buffers l.buffers × (l.t ≤ no_more_docs) × (l.enough ≡ l.need) × ((ix : Index) (p : ℕ) (ss : Scorers) → PartsHeld (lent_of l.reader) ix p ss l.depth l.initial.kids l.target → Going (λ x. leb l.need (matching ix ss x)) l.target l.t (PartsHeld (lent_of l.reader) ix p ss l.depth l.kids l.t))
+invariant-disjunction-loop-x l = Lengths (length l.kids) (length l.initial.kids) l.initial.buffers l.buffers × (l.t ≤ no_more_docs) × ((ix : Index) (p : ℕ) (ss : Scorers) → PartsHeld (lent_of l.reader) ix p ss l.depth l.initial.kids l.target → Going (λ x. leb l.need (matching ix ss x)) l.target l.t (PartsHeld (lent_of l.reader) ix p ss l.depth l.kids l.t))
 
 abbrev pub decreases-disjunction-loop-x : goal.decreases-disjunction-loop-x
 decreases-disjunction-loop-x l = no_more_docs - l.t

@@ -1,3 +1,4 @@
+use Rattle.std.proofs.Common.{refl}
 use Rattle.window_leaf.proofs.Records.{placed, placed-words, run-answer}
 use Rattle.window_leaf.proofs.run_bits.Goals as goal
 
@@ -7,4 +8,4 @@ put-requires c = let h = c.requires.1 in (placed h.0 c.gathered-g.result.at c.lo
 
 -- src/lib.rt:68:1
 pub returns : goal.returns
-returns c = run-answer c.args.words.now c.args.stride c.args.base c.args.st.now c.lower-from.result c.gathered-g.result.at c.wide-first.result c.wide-number.result c.wide.result c.wide-first.ensures c.wide-number.ensures c.wide.ensures c.gathered-g.result.bits c.document_or_end.result c.put.new.st c.lower-from.ensures c.gathered-g.ensures c.document_or_end.ensures c.put.ensures
+returns c = run-answer c.args.words.now c.args.stride c.args.base c.args.st.now c.lower-from.result c.gathered-g.result.at _ _ _ refl refl refl c.gathered-g.result.bits c.document_or_end.result c.put.new.st c.lower-from.ensures c.gathered-g.ensures c.document_or_end.ensures c.put.ensures

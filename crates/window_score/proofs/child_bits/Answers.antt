@@ -3,8 +3,6 @@ use Rattle.std.proofs.Common.{refl, ◌+◌, ◌≤◌, length, arith}
 use Rattle.meaning.specs.Limits.{node_state_words}
 use Rattle.weight.specs.ScorerTree.{matches}
 use Rattle.leaf_scorer.specs.Calls.{lent}
-use Rattle.node.specs.declared.NodeKind.TheVariants.{Term}
-use Rattle.node.proofs.Windows.{word-read}
 use Rattle.window_words.specs.Windowed.{nowhere}
 use Rattle.window_words.proofs.Laws.{windowed-long}
 use Rattle.window_leaf.proofs.Nodes.{wanted-answers, wanted-windowed}
@@ -15,11 +13,6 @@ bounds-st-0 c =
     let q = c.requires.1 in
     let z : node_state_words ≤ length c.args.st.now = windowed-long q.1 c.args.window.now.reader.ranges.now q.3 c.args.depth q.4 c.args.st.now c.args.window.now.base c.args.window.now.base nowhere q.7.held in
     omega (arith, z)
-
-pub term_bits-requires : goal.term_bits-requires
-term_bits-requires c =
-    let q = c.requires.1 in
-    (c.requires.0, word-read _ Term c.in-Term.ensures refl, (lent q.0 c.args.window.now.reader.postings.now c.args.window.now.reader.positions.now c.args.window.now.reader.ranges.now, refl, q.1, q.2, q.3, c.args.depth, q.4, q.7))
 
 pub returns-in-Term-clause-bits_post : goal.returns-in-Term-clause-bits_post
 returns-in-Term-clause-bits_post c = λ n all ix places s o h.

@@ -32,8 +32,5 @@ part_scores-requires c = root-ask (no-constant c.score_node_at.ensures c.constan
 pub returns-then-not-constant-clause-root_post : goal.returns-then-not-constant-clause-root_post
 returns-then-not-constant-clause-root_post c = root-part (no-constant c.score_node_at.ensures c.constant_score.result c.constant_score.ensures c.is_some-constant.result c.is_some-constant.ensures c.if-not-constant.true) (word-read _ Boolean c.in-Boolean.ensures refl) c.boolean_at-n.result c.boolean_at-n.ensures c.part_scores.new.kids c.part_scores.new.sums c.part_scores.ensures.root_parts_post
 
-pub node_scores-requires : goal.node_scores-requires
-node_scores-requires c = root-as c.requires
-
 pub returns-clause-root_post : goal.returns-clause-root_post
 returns-clause-root_post c = root-done c.requires c.node_scores.new.st c.node_scores.new.sums c.node_scores.ensures.scores_post
