@@ -2,8 +2,5 @@
 use Rattle.node_page_vectors.proofs.Standings.{stands-next}
 use Rattle.node_page_vectors.proofs.next_page.Goals as goal
 
-pub resume_nodes-listed-requires : goal.resume_nodes-listed-requires
-resume_nodes-listed-requires c = λ z. c.requires
-
 pub returns : goal.returns
 returns c = λ h. stands-next _ _ _ _ _ _ _ _ _ _ _ _ _ _ _ c.resume_nodes-listed.result c.resume_nodes-listed.ensures.0 h

@@ -3,20 +3,8 @@ use Rattle.std.proofs.Common.{◌∙◌, ◌*◌, drop, arith}
 use lib.Seq.{length-take-le}
 use Rattle.meaning.specs.Limits.{node_state_words}
 use Rattle.index.specs.IndexOf.{index_of}
-use Rattle.searcher.proofs.Preparing.{same-long}
-use Rattle.searcher.proofs.Answering.{used-least}
 use Rattle.node_search.proofs.Words.{on-records}
 use Rattle.node_search.proofs.search_nodes.Goals as goal
-
-pub search_words-found-requires : goal.search_words-found-requires
-search_words-found-requires c = length-take-le (node_state_words * c.held-n.result) c.zeros-words.result (omega arith)
-
-pub pack-requires : goal.pack-requires
-pack-requires c =
-    let s = c.search_words-found in
-    let least = used-least s.result c.held-n.result in
-    let long = same-long c.zeros-words.result s.new.states (node_state_words * c.held-n.result) (omega arith) s.auto.states in
-    (omega (arith, least), omega (arith, least, long))
 
 pub returns : goal.returns
 returns c =
