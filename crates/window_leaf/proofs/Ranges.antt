@@ -25,11 +25,11 @@ shifted w skip p h =
     whole : (x : ℕ) → x / 4294967296 * 2 ^ 32 + x % 4294967296 ≡ x
     whole x = omega arith
 
-module _ (words : List ℕ) (first number at word low : ℕ) (is : word ≡ at / 32) (low-part : PartOf words first number (32 * word) low) where
+module _ (words : List ℕ) (first number at low : ℕ) (low-part : PartOf words first number (32 * (at / 32)) low) where
   pub part-even : at % 32 ≡ 0 → PartOf words first number at low
   part-even e P B over p h = low-part P B over p h ∙ ap P (omega arith)
 
-  pub part-across : (high w r : ℕ) → PartOf words first number (32 * (word + 1)) high → ((q : ℕ) → q < 32 → bit q w ≡ bit q low) → ((q : ℕ) → 32 ≤ q → bit q w ≡ bit (q - 32) high) → r ≡ w / 2 ^ (at % 32) % 4294967296 → PartOf words first number at r
+  pub part-across : (high w r : ℕ) → PartOf words first number (32 * (at / 32 + 1)) high → ((q : ℕ) → q < 32 → bit q w ≡ bit q low) → ((q : ℕ) → 32 ≤ q → bit q w ≡ bit (q - 32) high) → r ≡ w / 2 ^ (at % 32) % 4294967296 → PartOf words first number at r
   part-across high w r high-part lows highs e P B over p h =
       ap (bit p) e ∙ shifted w (at % 32) p h
       ∙ ⊎_elim

@@ -121,18 +121,17 @@ module _ (words : List ℕ) (stride base : ℕ) (st : List ℕ) (from at : ℕ) 
   pub placed-words : (s : State) (w : List ℕ) → st ≡ words_of s ++ w → set (set st 8 at) 19 from ≡ words_of (placed s at from) ++ w
   placed-words s w e = rw e
 
-  module _ (f n u : ℕ) (ef : f ≡ get_or st 6 0) (en : n ≡ get_or st 7 0) (eu : u ≡ get_or st 8 0) where
-    pub run-answer : (r next : ℕ) (st' : List ℕ) → Lower words stride f n u base from → Gathers words stride f n base from r at → DocumentPost words stride f n at next → PutPost (set (set st 8 at) 19 from) r next st' → RunPost words stride st base r st'
-    run-answer r next st' l g d post s w h =
-        let zf : f ≡ s.first = rw (ef, h.words_are) in
-        let zn : n ≡ s.number = rw (en, h.words_are) in
-        let zu : u ≡ s.cursor = rw (eu, h.words_are) in
-        run-moved words stride base s w st h from at r next
-        (lower-cursor words stride base s w st h u from zu (rw (zf, zn) at l))
-        (rw (zf, zn) at g)
-        (rw (zf, zn) at d)
-        st'
-        (post (placed s at from) w (placed-words s w h.words_are))
+  pub run-answer : (r next : ℕ) (st' : List ℕ) → Lower words stride (get_or st 6 0) (get_or st 7 0) (get_or st 8 0) base from → Gathers words stride (get_or st 6 0) (get_or st 7 0) base from r at → DocumentPost words stride (get_or st 6 0) (get_or st 7 0) at next → PutPost (set (set st 8 at) 19 from) r next st' → RunPost words stride st base r st'
+  run-answer r next st' l g d post s w h =
+      let first : get_or st 6 0 ≡ s.first = rw h.words_are in
+      let number : get_or st 7 0 ≡ s.number = rw h.words_are in
+      let cursor : get_or st 8 0 ≡ s.cursor = rw h.words_are in
+      run-moved words stride base s w st h from at r next
+      (lower-cursor words stride base s w st h (get_or st 8 0) from cursor (rw (first, number) at l))
+      (rw (first, number) at g)
+      (rw (first, number) at d)
+      st'
+      (post (placed s at from) w (placed-words s w h.words_are))
 
 -- a run that is the documents of P
 pub run-like : (words : List ℕ) (stride first n : ℕ) (P : ℕ → Bool) → ((i : ℕ) → i < n → P (document_at words stride first i) ≡ true) → ((d : ℕ) → ((i : ℕ) → i < n → document_at words stride first i ≡ d → ⊥) → P d ≡ false) → (d : ℕ) → in_run words stride first n d ≡ P d

@@ -1,4 +1,4 @@
-use Rattle.std.proofs.Common.{ap, ◌≤◌, length, get_or, arith}
+use Rattle.std.proofs.Common.{ap, ◌≤◌, length, arith}
 use Rattle.meaning.specs.Limits.{node_state_words}
 use Rattle.window_words.specs.Windowed.{nowhere}
 use Rattle.window_words.proofs.Laws.{windowed-long}
@@ -30,5 +30,5 @@ put-requires c = let q = c.requires.2 in node-front q.0 q.2 q.3 q.5 q.6 c.args.s
 pub returns : goal.returns
 returns c = λ E k same ix places s o h.
     let R = c.args.ranges.now in
-    let part = window-part R (get_or c.args.st.now 6 0) (get_or c.args.st.now 7 0) c.args.base c.bits_from-low.result c.bits_from-high.result c.joined-bits.result c.bits_from-low.ensures c.bits_from-high.ensures c.joined-bits.ensures.low_bits c.joined-bits.ensures.high_bits in
+    let part = window-part R _ _ c.args.base c.bits_from-low.result c.bits_from-high.result c.joined-bits.result c.bits_from-low.ensures c.bits_from-high.ensures c.joined-bits.ensures.low_bits c.joined-bits.ensures.high_bits in
     range-answer E ix places k o c.args.st.now c.args.base c.requires.1 c.joined-bits.result c.put.new.st c.requires.0 c.put.ensures (rw same part) s h

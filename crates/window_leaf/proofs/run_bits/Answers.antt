@@ -1,4 +1,3 @@
-use Rattle.std.proofs.Common.{refl}
 use Rattle.window_leaf.proofs.Records.{placed, placed-words, run-answer}
 use Rattle.window_leaf.proofs.run_bits.Goals as goal
 
@@ -8,4 +7,4 @@ put-requires c = let h = c.requires.1 in (placed h.0 c.gathered-g.result.at c.lo
 
 -- src/lib.rt:68:1
 pub returns : goal.returns
-returns c = run-answer c.args.words.now c.args.stride c.args.base c.args.st.now c.lower-from.result c.gathered-g.result.at _ _ _ refl refl refl c.gathered-g.result.bits c.document_or_end.result c.put.new.st c.lower-from.ensures c.gathered-g.ensures c.document_or_end.ensures c.put.ensures
+returns c = run-answer c.args.words.now c.args.stride c.args.base c.args.st.now c.lower-from.result c.gathered-g.result.at c.gathered-g.result.bits c.document_or_end.result c.put.new.st c.lower-from.ensures c.gathered-g.ensures c.document_or_end.ensures c.put.ensures
