@@ -74,13 +74,3 @@ pub returns-in-Everything-from-clause-collect_end : goal.returns-in-Everything-f
 returns-in-Everything-from-clause-collect_end c =
     let a = c.args in
     λ ix s scores H. root-end (lent_of a.reader.now) a.reader.now.norms.now a.reader.now.live.now a.reader.now.inverses.now ix (places_in a.buffers.now) s a.depth scores a.st.now H
-
-pub collect_term-requires : goal.collect_term-requires
-collect_term-requires c =
-    let a = c.args in
-    (lent_of a.reader.now, places_in a.buffers.now, a.depth, refl, term-word _ (sym c.in-Term.ensures), c.requires)
-
-pub collect_everything-requires : goal.collect_everything-requires
-collect_everything-requires c =
-    let a = c.args in
-    (lent_of a.reader.now, a.reader.now.norms.now, a.reader.now.inverses.now, places_in a.buffers.now, a.depth, refl, everything-word _ (sym c.in-Everything.ensures), c.requires)

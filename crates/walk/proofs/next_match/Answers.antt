@@ -1,33 +1,19 @@
 -- `walk::next_match` meets its contract: what the loop has passed is no live match. Assumes nothing.
 use mathlib.Core.Path.{sym, ◌∙◌}
 use native.Mathlib.Omega.{arith}
-use Rattle.leaf_scorer.proofs.Loops.{same_refl, same_then}
-use Rattle.walk.proofs.Walking.{walk_start, walk-asks, walk_top, walk_from, walk-live, walk-stop, walk-found, walk_more}
+use Rattle.leaf_scorer.proofs.Loops.{same_then}
+use Rattle.walk.proofs.Walking.{walk_from, walk-stop, walk-found, walk_more}
 use Rattle.walk.proofs.next_match.Goals as goal
-
-pub loop-from-init : goal.loop-from-init
-loop-from-init c = record { same_buffers = same_refl _; from = omega arith; top = c.requires.0; passed = walk_start _ _ _ _ _ }
-
-pub advance-d-requires : goal.advance-d-requires
-advance-d-requires c =
-    let i = c.loop-from.invariant in
-    walk-asks i.passed _ _ _ _ i.same_buffers.starts_length i.same_buffers.other_starts_length i.top c.requires
 
 pub returns-then-d-reader-clause-next_post : goal.returns-then-d-reader-clause-next_post
 returns-then-d-reader-clause-next_post c =
     let i = c.loop-from.invariant in
     walk-stop i.passed _ c.advance-d.ensures.advance_post c.requires.0 i.top (omega arith)
 
-pub is_live-requires : goal.is_live-requires
-is_live-requires c = walk-live c.loop-from.invariant.passed _ c.advance-d.ensures.advance_post _ _ c.requires (omega arith)
-
 pub returns-then-is_live-clause-next_post : goal.returns-then-is_live-clause-next_post
 returns-then-is_live-clause-next_post c =
     let i = c.loop-from.invariant in
     walk-found i.passed _ c.advance-d.ensures.advance_post i.from (omega arith) (sym c.is_live.ensures ∙ c.if-is_live.true)
-
-pub overflow_add-target : goal.overflow_add-target
-overflow_add-target c = omega (arith, walk_top c.loop-from.invariant.passed _ c.advance-d.ensures.advance_post _ _ c.requires)
 
 pub loop-from-smaller : goal.loop-from-smaller
 loop-from-smaller c =

@@ -4,7 +4,7 @@ use Rattle.collector.specs.declared.TopScoreDocCollector.{TopScoreDocCollector}
 use Rattle.bulk_scorer.proofs.Held.{root-page, root-words}
 use Rattle.bulk_scorer.proofs.Sofar.{nonneg-clear}
 use Rattle.bulk_term.proofs.Roots.{joined}
-use Rattle.bulk.proofs.AnyRoot.{AnysAt, asked-any, asked-few, any-is, any-root, any-start, any-ready, any-done, any-few, any-bit, any-pass, any-take}
+use Rattle.bulk.proofs.AnyRoot.{AnysAt, asked-any, any-is, any-root, any-start, any-ready, any-done, any-pass, any-take}
 use Rattle.bulk.proofs.everything.collect_everything.Goals as goal
 use Rattle.bulk.proofs.everything.collect_everything.Goals.{then-is_live, else-is_live}
 
@@ -30,24 +30,6 @@ loop-doc-init c =
     let live = a.reader.now.live.now in
     record { long = refl; collected = any-start documents live c.one_score-s.result a.doc_base a.c a.heap.now }
 
-pub is_live-requires : goal.is_live-requires
-is_live-requires c =
-    let a = c.args in
-    let documents = a.reader.now.max_doc in
-    let live = a.reader.now.live.now in
-    let l = c.loop-doc in
-    let W = asked-any documents live c.score_node_at.result a.st.now a.doc_base a.c a.heap.now c.requires c.score_node_at.ensures in
-    let R = any-root documents live c.one_score-s.result c.score_node_at.result c.one_score-s.ensures c.requires.7.2.0 c.requires.7.2.1 W in
-    any-bit documents live c.one_score-s.result a.doc_base a.c a.heap.now l.c l.heap l.doc l.invariant.collected c.loop-doc-test.true c.requires.7.2.0 W.sc R
-
-pub overflow_add-doc_base : goal.overflow_add-doc_base
-overflow_add-doc_base c =
-    let a = c.args in
-    let documents = a.reader.now.max_doc in
-    let live = a.reader.now.live.now in
-    let l = c.loop-doc in
-    omega (arith, any-few documents live c.one_score-s.result a.doc_base a.c a.heap.now l.c l.heap l.doc l.invariant.collected c.loop-doc-test.true (asked-few documents live c.score_node_at.result a.st.now a.doc_base a.c a.heap.now c.requires))
-
 pub stepped-c-requires-clause-ready : goal.stepped-c-requires-clause-ready
 stepped-c-requires-clause-ready c =
     let a = c.args in
@@ -57,14 +39,6 @@ stepped-c-requires-clause-ready c =
     let W = asked-any documents live c.score_node_at.result a.st.now a.doc_base a.c a.heap.now c.requires c.score_node_at.ensures in
     let R = any-root documents live c.one_score-s.result c.score_node_at.result c.one_score-s.ensures c.requires.7.2.0 c.requires.7.2.1 W in
     any-ready documents live c.one_score-s.result a.doc_base a.c a.heap.now l.c l.heap l.doc l.invariant.collected c.requires.7.2.0 W.sc R c.requires.7.1 (a.doc_base + l.doc) (omega arith)
-
-pub stepped-c-requires-clause-doc_lt_no_more_docs : goal.stepped-c-requires-clause-doc_lt_no_more_docs
-stepped-c-requires-clause-doc_lt_no_more_docs c =
-    let a = c.args in
-    let documents = a.reader.now.max_doc in
-    let live = a.reader.now.live.now in
-    let l = c.loop-doc in
-    any-few documents live c.one_score-s.result a.doc_base a.c a.heap.now l.c l.heap l.doc l.invariant.collected c.loop-doc-test.true (asked-few documents live c.score_node_at.result a.st.now a.doc_base a.c a.heap.now c.requires)
 
 pub stepped-c-requires-clause-t : goal.stepped-c-requires-clause-t
 stepped-c-requires-clause-t c =
