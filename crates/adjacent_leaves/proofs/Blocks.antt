@@ -14,7 +14,8 @@ use Rattle.meaning.proofs.Tests.{cmp}
 use Rattle.meaning.proofs.Below.{any_none, none_below}
 use Rattle.posting_positions.specs.Places.{apart_at, wrong_places}
 use Rattle.adjacent_leaves.specs.Plain.{Plain, document_fall}
-use Rattle.posting_positions.proofs.Prefix.{count-like, count_add}
+use Rattle.index.proofs.Chains.{count-like}
+use Rattle.posting_positions.proofs.Prefix.{count_add}
 
 -- the first n records are plainly right but for their documents, of which so many are not above the one before; of the positions
 -- it speaks as soon as there are two records
@@ -32,6 +33,10 @@ apart-first run i l = rw (le-ltb 0 i (omega arith))
 fall-first : (run : List ℕ) → count_below 1 (document_fall run) ≡ 0
 unfolding count_below
 fall-first run = refl
+
+-- the same of a count by another name
+pub passed-at : (run positions : List ℕ) (n m falls : ℕ) → n ≡ m → Passed run positions n falls → Passed run positions m falls
+passed-at run positions n m falls e p = subst (λ (z : ℕ). Passed run positions z falls) e p
 
 -- before the first block
 pub passed-none : (run positions : List ℕ) → Passed run positions 1 0

@@ -15,7 +15,8 @@ use Rattle.posting_positions.specs.Places.{apart_at, gap}
 use Rattle.posting_rows.specs.Rows.{up_at, off_at, Over}
 use Rattle.adjacent_leaves.specs.Plain.{Plain, document_fall}
 use Rattle.posting_rows.specs.declared.Tally.{Tally}
-use Rattle.posting_positions.proofs.Prefix.{count-like, count_add}
+use Rattle.index.proofs.Chains.{count-like}
+use Rattle.posting_positions.proofs.Prefix.{count_add}
 use Rattle.posting_positions.proofs.Gaps.{gap-small}
 
 -- as many as there can be are all

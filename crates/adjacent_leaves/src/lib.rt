@@ -1,7 +1,7 @@
 // Leaves whose runs follow one another, as a writer lays them: whether nothing in them is wrong, where that shows at once.
 #![tactic(auto)]
 
-ghost use Rattle.std.specs.Prelude.{◌≡◌, true, false, not, ◌&&◌, ℕ, ◌<◌, ◌≤◌, ◌+◌, ◌-◌, ◌/◌, eqb, length, IfSome, IfOk, MatchResult};
+ghost use Rattle.std.specs.Prelude.{◌≡◌, true, false, not, ◌&&◌, ℕ, ◌<◌, ◌≤◌, ◌+◌, ◌-◌, ◌*◌, ◌/◌, min, eqb, length, get_or, IfSome, IfOk, MatchResult};
 ghost use Rattle.meaning.specs.Below.{any_below};
 ghost use Rattle.meaning.specs.Lent.{has_positions, leaf_field, leaf_first, leaf_number};
 ghost use Rattle.meaning.specs.IndexRefusals.{wrong4, wrong_posting};
@@ -14,17 +14,19 @@ ghost use Rattle.adjacent_leaves.specs.Together.{Together};
 use index::fields::field_at;
 use index::leaves::leaf_at;
 use index::lent::Lent;
-use index::postings::{LARGEST_FREQUENCY, NO_MORE_DOCS};
+use index::postings::{
+    LARGEST_FREQUENCY, NO_MORE_DOCS, POSTING, posting_document, posting_frequency,
+};
 use posting_positions::plain_positions;
 use posting_rows::{Tally, gathered};
 
-// Whether what was gathered of records shows that they are right but for the documents, of which as many are not above the one
-// before as did not ascend. What it does not show may still be so.
+// Whether what was gathered of a run's records shows that nothing in them is wrong, but that a document may not be above the one
+// before: so often as there were no ascents. Where that does not show, it may still be so.
 fn plain(run: &[u32], t: Tally) -> bool
     requires { (0 < length run.now / 3) × Over run.now (length run.now / 3) t }
     ensures { result ≡ true → (t.ascents ≤ length run.now / 3 - 1) × Plain run.now (length run.now / 3) (length run.now / 3 - 1 - t.ascents) }
 {
-    let count = run.len() / 3;
+    let count = run.len() / POSTING;
     if (t.advances as usize != count - 1) | (t.apart != 0) {
         return false;
     }
@@ -34,8 +36,8 @@ fn plain(run: &[u32], t: Tally) -> bool
     if t.frequencies >= LARGEST_FREQUENCY {
         return false;
     }
-    let last = 3 * count - 2;
-    run[last] > 0
+    // what was gathered shows of each frequency but the last that it is not 0
+    posting_frequency(run, count - 1, 0) > 0
 }
 
 // How many records are looked at together: so few that their positions and seams are read while they are near.
@@ -54,13 +56,13 @@ fn looked_at(part: &[u32], positions: &[u32]) -> Option<usize>
     if !plain_positions(part, positions, t.frequencies) {
         return None;
     }
-    Some(part.len() / 3 - 1 - t.ascents as usize)
+    Some(part.len() / POSTING - 1 - t.ascents as usize)
 }
 
 // The end of the block that follows so many records.
 fn block_end(done: usize, count: usize) -> usize
     requires { done < count }
-    ensures { (done < result) × (result ≤ count) × (result ≤ done + 4096) }
+    ensures { (done < result) × (result ≤ count) × (result ≤ done + 4096) × (result ≡ min (done + 4096) count) }
 {
     done + BLOCK.min(count - done)
 }
@@ -70,31 +72,28 @@ fn block_end(done: usize, count: usize) -> usize
 fn plain_run(run: &[u32], positions: &[u32], falls: usize) -> bool
     ensures { result ≡ true → Plain run.now (length run.now / 3) falls × (any_below (length run.now / 3) (wrong_places run.now positions.now) ≡ false) }
 {
-    let count = run.len() / 3;
+    let count = run.len() / POSTING;
     if count < 2 {
         return false;
     }
-    let mut done = 1;
     let mut fallen = 0;
-    // Kept: no plainer: a block begins with a record of the one before, so neither chunks nor windows gives it.
-    while done < count {
+    for done in (1..count).step_by(BLOCK) {
         let end = block_end(done, count);
-        let from = 3 * done - 3;
-        let to = 3 * end;
+        let from = POSTING * done - POSTING;
+        let to = POSTING * end;
         let Some(fall) = looked_at(&run[from..to], positions) else {
             return false;
         };
         fallen += fall;
-        done = end;
     }
     fallen == falls
 }
 
-// Leaves up to `end`: where the last run ends, and how many first documents are not above the one before.
+// Leaves up to `end`: the posting where their runs end, and how many first documents are not above the one before.
 #[derive(Clone, Copy)]
 pub struct Stretch {
     pub end: usize,
-    pub last: usize,
+    pub runs_end: usize,
     pub falls: usize,
 }
 
@@ -106,14 +105,22 @@ fn run_end(lent: &Lent, l: usize) -> usize
     leaf_at(lent.leaves, l).end()
 }
 
-// Whether the run of leaf l begins at posting `last`, is not empty, and its field has positions.
-fn follows(lent: &Lent, l: usize, last: usize) -> bool
+// The document of the posting before one.
+fn document_before(postings: &[u32], end: usize) -> u32
+    requires { (0 < end) × (end ≤ length postings.now / 3) }
+    ensures { result ≡ get_or postings.now (3 * end - 3) 0 }
+{
+    posting_document(postings, end - 1, 0)
+}
+
+// Whether the run of leaf l begins at this posting, is not empty, and its field has positions.
+fn follows(lent: &Lent, l: usize, begin: usize) -> bool
     requires { (l < length lent.now.leaves.now / 4) × (leaf_field (index_of lent.now) l < length lent.now.fields.now / 3) }
-    ensures { result ≡ ((eqb (leaf_first (index_of lent.now) l) last && not (eqb (leaf_number (index_of lent.now) l) 0)) && has_positions (index_of lent.now) (leaf_field (index_of lent.now) l)) }
+    ensures { result ≡ ((eqb (leaf_first (index_of lent.now) l) begin && not (eqb (leaf_number (index_of lent.now) l) 0)) && has_positions (index_of lent.now) (leaf_field (index_of lent.now) l)) }
 {
     let leaf = leaf_at(lent.leaves, l);
     let field = field_at(lent.fields, leaf.field as usize);
-    (leaf.first as usize == last) & !leaf.is_empty() & field.has_positions()
+    (leaf.first as usize == begin) & !leaf.is_empty() & field.has_positions()
 }
 
 // The leaves from l on, below a limit, whose runs follow one another in fields with positions; or, as an error, where they end if
@@ -121,36 +128,42 @@ fn follows(lent: &Lent, l: usize, last: usize) -> bool
 fn adjacent(lent: &Lent, l: usize, limit: usize) -> Result<Stretch, usize>
     requires leaves_right { wrong4 (index_of lent.now) ≡ false }
     requires l_lt_limit { (l < limit) × (limit ≤ length lent.now.leaves.now / 4) × (0 < leaf_number (index_of lent.now) l) }
-    ensures { MatchResult result (λ s. (m : ℕ) × ((s.end ≡ l + m) × (0 < m) × (l + m ≤ limit) × Together (index_of lent.now) l m s.last s.falls false)) (λ end. (l < end) × (end ≤ limit)) }
+    ensures { MatchResult result (λ s. (m : ℕ) × ((s.end ≡ l + m) × (0 < m) × (l + m ≤ limit) × Together (index_of lent.now) l m s.runs_end s.falls false)) (λ end. (l < end) × (end ≤ limit)) }
 {
-    let mut last = run_end(lent, l);
-    if lent.postings[3 * last - 3] >= lent.max_doc {
+    let mut runs_end = run_end(lent, l);
+    if document_before(lent.postings, runs_end) >= lent.max_doc {
         return Err(l + 1);
     }
     let mut falls: usize = 0;
-    // Kept: no plainer: the loop also ends early, with either answer, and carries where the last run ended; a count apart would read
-    // the leaves twice.
+    // Kept: no plainer with `filter` and `count`: the loop ends early, with either answer, and carries where the runs end, so a
+    // count would read the leaves twice.
     for end in l + 1..limit {
-        if !follows(lent, end, last) {
-            return Ok(Stretch { end, last, falls });
+        if !follows(lent, end, runs_end) {
+            return Ok(Stretch {
+                end,
+                runs_end,
+                falls,
+            });
         }
-        if lent.postings[3 * last] <= lent.postings[3 * last - 3] {
+        let first = posting_document(lent.postings, runs_end, 0);
+        if first <= document_before(lent.postings, runs_end) {
             falls += 1;
         }
-        last = run_end(lent, end);
-        if lent.postings[3 * last - 3] >= lent.max_doc {
+        runs_end = run_end(lent, end);
+        if document_before(lent.postings, runs_end) >= lent.max_doc {
             return Err(end + 1);
         }
     }
     Ok(Stretch {
         end: limit,
-        last,
+        runs_end,
         falls,
     })
 }
 
 // The end of those leaves from l on, below a limit, that can be read together: nothing in their runs is wrong. Where that does
 // not show, it is an error, though it may still be so.
+// Kept: no plainer, here and in `adjacent`: a struct of the `Lent` with the fact of it would be made by `posting_check` for this one call.
 pub fn plain_leaves(lent: &Lent, l: usize, limit: usize) -> Result<usize, usize>
     requires leaves_right { wrong4 (index_of lent.now) ≡ false }
     requires l_lt_limit { (l < limit) × (limit ≤ length lent.now.leaves.now / 4) }
@@ -163,8 +176,8 @@ pub fn plain_leaves(lent: &Lent, l: usize, limit: usize) -> Result<usize, usize>
         return Err(l + 1);
     }
     let s = adjacent(lent, l, limit)?;
-    let from = 3 * leaf.first as usize;
-    let to = 3 * s.last;
+    let from = POSTING * leaf.first as usize;
+    let to = POSTING * s.runs_end;
     let run = &lent.postings[from..to];
     if !plain_run(run, lent.positions, s.falls) {
         return Err(s.end);

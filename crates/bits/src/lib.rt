@@ -6,6 +6,7 @@ ghost use Rattle.meaning.specs.Below.{count_below};
 ghost use Rattle.bits.specs.Bit.{bit, set_bits, LowestBit, NextSet, bitmap_words};
 ghost use Rattle.std.specs.Iterator.{at_most};
 
+// Kept: no plainer, here and below: a type for a place below 64 would be made of a number at each call.
 pub fn set_bit(w: u64, p: u32) -> u64
     requires { p < 64 }
     ensures { (q : ℕ) → bit q result ≡ bit q w || eqb q p }

@@ -2,14 +2,14 @@
 use mathlib.Core.Path.{◌≡◌, refl, sym, ◌∙◌}
 use mathlib.Core.Bool.{Bool, true, false, cond, or-true, or-false, ◌||◌}
 use mathlib.Core.List.{List, [], ◌∷◌, ◌++◌}
-use Prim.Native.Nat.{ℕ, ◌≤◌, ◌<◌, min}
+use Prim.Native.Nat.{ℕ, zero, suc, ◌≤◌, ◌<◌, min}
 use native.Mathlib.Omega.{arith}
 use lib.Dec.{eqb, ltb}
 use borrow.Author.Tests.{lt-ltb, le-ltb, ltb-true, ltb-false, eqb-false, eq-eqb, ne_eqb}
 use Rattle.meaning.specs.Lent.{Index}
 use Rattle.meaning.specs.Refusals.{Condition, ◌when◌, lowest}
 use Rattle.meaning.specs.CallRefusals.{Work, wrong11, wrong12_search, wrong12_page, wrong12_pick, wrong13_page, wrong14}
-use Rattle.meaning.specs.Entries.{order_conditions, search_refusal, page_refusal, pick_refusal}
+use Rattle.meaning.specs.Entries.{answered, order_conditions, search_refusal, page_refusal, pick_refusal}
 use Rattle.meaning.proofs.Tests.{or_left}
 use Rattle.border.specs.Border.{short_answer, border_search, border_page, border_pick}
 
@@ -39,6 +39,11 @@ short-least n h = by (ltb 12 n) refl
         let l : n ≤ 12 = ltb-false 12 n e in
         let m : min n 12 ≡ n = omega (arith, l) in
         m ∙ sym (short-stays n h l)
+
+-- the two ways in which it is said
+pub short-of : (n : ℕ) → answered n 12 (λ m. min m 12) ≡ short_answer n
+short-of zero = sym (short-of-none zero refl)
+short-of (suc n) = short-least (suc n) (λ e. omega (arith, e))
 
 -- a call with a slice that is too short is refused
 pub short-refuses : (n : ℕ) → 0 < short_answer n

@@ -1,6 +1,5 @@
 -- What an entry's answer says of its refusal and of its numbers, and what follows at the border. Assumes nothing.
 use mathlib.Core.Path.{◌≡◌, refl, sym, ap, ◌∙◌}
-use mathlib.Core.Bool.{cond}
 use mathlib.Core.List.{List, [], ◌∷◌, map}
 use Prim.Native.Nat.{ℕ, zero, suc, ◌≤◌, ◌<◌}
 use native.Mathlib.Omega.{arith}
@@ -17,10 +16,10 @@ use Rattle.collector.specs.declared.TopDocs.{TopDocs}
 use Rattle.walk.specs.declared.Listed.{Listed}
 use Rattle.std.specs.Prelude.{Result, Ok, Err}
 use Rattle.refusal.specs.declared.Refusal.{Refusal}
-use Rattle.refusal.specs.Numbers.{number_of}
+use Rattle.refusal.specs.Numbers.{number_of, refusal_of}
 use Rattle.searcher.specs.Answers.{searched_numbers, paged_numbers}
 use Rattle.pick_entry.specs.Answers.{picked_numbers}
-use Rattle.border.specs.Border.{short_answer, border_search, border_page, border_pick, top_numbers, page_numbers}
+use Rattle.border.specs.Border.{short_answer, border_search, border_page, border_pick, top_numbers, top_answer, page_numbers}
 use Rattle.border.proofs.Short.{short-refuses, search-short, search-long, page-short, page-long, pick-short, pick-long}
 
 -- ---- an answer as a list of numbers
@@ -80,21 +79,18 @@ pub pick-written : (documents scores : List ℕ) (k b : ℕ) (heap : List ℤ) �
 unfolding pick_hits
 pick-written documents scores k b heap e = rw e refl
 
-pub pick-told-refused : (documents scores : List ℕ) (k t : ℕ) (heap heap' : List ℤ) (answer : List ℕ) (a : Result TopDocs Refusal) (s : Refusal) (n : ℕ) → 3 ≤ length answer → a ≡ Err s → n ≡ number_of s → picked_numbers a ≡ pick_answer documents scores k t (length heap) → heap' ≡ pick_hits documents scores k heap → PickTold documents scores k t heap answer n heap' answer
+pub pick-told : (documents scores : List ℕ) (k t : ℕ) (heap heap' : List ℤ) (answer answer' : List ℕ) (a : Result TopDocs Refusal) (n : ℕ) → 3 ≤ length answer → n ≡ refusal_of a → answer' ≡ top_answer a answer → picked_numbers a ≡ pick_answer documents scores k t (length heap) → heap' ≡ pick_hits documents scores k heap → PickTold documents scores k t heap answer n heap' answer'
 unfolding picked_numbers pick_answer
-pick-told-refused documents scores k t heap heap' answer a s n h e m f g =
+pick-told documents scores k t heap heap' answer answer' (Err s) n h m v f g =
     let l = pick-long documents scores k (length heap) (length answer) h in
-    let y = refused-number (pick_refusal documents scores k (length heap)) (number_of s) _ _ (sym (ap picked_numbers e) ∙ f) in
+    let y = refused-number (pick_refusal documents scores k (length heap)) (number_of s) _ _ f in
     let z = m ∙ y.0 in
     let p : 0 < n = rw z y.1 in
-    (z ∙ sym l, (g ∙ pick-written documents scores k _ heap z, refused-keeps _ _ answer p))
-
-pub pick-told-found : (documents scores : List ℕ) (k t : ℕ) (heap heap' : List ℤ) (answer answer' : List ℕ) (a : Result TopDocs Refusal) (top : TopDocs) → 3 ≤ length answer → a ≡ Ok top → picked_numbers a ≡ pick_answer documents scores k t (length heap) → heap' ≡ pick_hits documents scores k heap → answer' ≡ written (top.held ∷ top.count ∷ cond top.mark 1 0 ∷ []) answer → PickTold documents scores k t heap answer 0 heap' answer'
-unfolding picked_numbers pick_answer
-pick-told-found documents scores k t heap heap' answer answer' a top h e f g w =
+    (z ∙ sym l, (g ∙ pick-written documents scores k _ heap z, v ∙ refused-keeps _ _ answer p))
+pick-told documents scores k t heap heap' answer answer' (Ok top) n h m v f g =
     let l = pick-long documents scores k (length heap) (length answer) h in
-    let z = found-numbers (pick_refusal documents scores k (length heap)) top.held _ _ (sym (ap picked_numbers e) ∙ f) in
-    (sym (l ∙ z.0), (g ∙ pick-written documents scores k _ heap (sym z.0), w ∙ ap (λ (xs : List ℕ). written xs answer) z.1))
+    let z = found-numbers (pick_refusal documents scores k (length heap)) top.held _ _ f in
+    rw m (sym (l ∙ z.0), (g ∙ pick-written documents scores k _ heap (sym z.0), v ∙ ap (λ (xs : List ℕ). written xs answer) z.1))
 
 -- ---- Search: what the border's entry is to answer and to leave, with the four work buffers before and after
 abbrev SearchTold : (ix : Index) (q : List ℕ) (k t : ℕ) (w : Work) (heap : List ℤ) (answer states : List ℕ) (starts others : List ℤ) (ranges : List ℕ) (r : ℕ) (heap' : List ℤ) (answer' states' : List ℕ) (starts' others' : List ℤ) (ranges' : List ℕ) → Type 0
@@ -114,21 +110,18 @@ pub search-written : (ix : Index) (q : List ℕ) (k : ℕ) (w : Work) (b : ℕ) 
 unfolding search_hits
 search-written ix q k w b heap e = rw e refl
 
-pub search-told-refused : (ix : Index) (q : List ℕ) (k t : ℕ) (w : Work) (heap heap' : List ℤ) (answer states states' : List ℕ) (starts starts' others others' : List ℤ) (ranges ranges' : List ℕ) (a : Result TopDocs Refusal) (s : Refusal) (n : ℕ) → 3 ≤ length answer → a ≡ Err s → n ≡ number_of s → searched_numbers a ≡ search_answer ix q k t w (length heap) → heap' ≡ search_hits ix q k w heap → Kept (search_refusal ix q k w (length heap)) states states' → Kept (search_refusal ix q k w (length heap)) starts starts' → Kept (search_refusal ix q k w (length heap)) others others' → Kept (search_refusal ix q k w (length heap)) ranges ranges' → SearchTold ix q k t w heap answer states starts others ranges n heap' answer states' starts' others' ranges'
+pub search-told : (ix : Index) (q : List ℕ) (k t : ℕ) (w : Work) (heap heap' : List ℤ) (answer answer' states states' : List ℕ) (starts starts' others others' : List ℤ) (ranges ranges' : List ℕ) (a : Result TopDocs Refusal) (n : ℕ) → 3 ≤ length answer → n ≡ refusal_of a → answer' ≡ top_answer a answer → searched_numbers a ≡ search_answer ix q k t w (length heap) → heap' ≡ search_hits ix q k w heap → Kept (search_refusal ix q k w (length heap)) states states' → Kept (search_refusal ix q k w (length heap)) starts starts' → Kept (search_refusal ix q k w (length heap)) others others' → Kept (search_refusal ix q k w (length heap)) ranges ranges' → SearchTold ix q k t w heap answer states starts others ranges n heap' answer' states' starts' others' ranges'
 unfolding searched_numbers search_answer
-search-told-refused ix q k t w heap heap' answer states states' starts starts' others others' ranges ranges' a s n h e m f g ks ka kb kr =
+search-told ix q k t w heap heap' answer answer' states states' starts starts' others others' ranges ranges' (Err s) n h m v f g ks ka kb kr =
     let l = search-long ix q k w (length heap) (length answer) h in
-    let y = refused-number (search_refusal ix q k w (length heap)) (number_of s) _ _ (sym (ap searched_numbers e) ∙ f) in
+    let y = refused-number (search_refusal ix q k w (length heap)) (number_of s) _ _ f in
     let z = m ∙ y.0 in
     let p : 0 < n = rw z y.1 in
-    (z ∙ sym l, (g ∙ search-written ix q k w _ heap z, (refused-keeps _ _ answer p, (kept_by _ _ states states' z ks, (kept_by _ _ starts starts' z ka, (kept_by _ _ others others' z kb, kept_by _ _ ranges ranges' z kr))))))
-
-pub search-told-found : (ix : Index) (q : List ℕ) (k t : ℕ) (w : Work) (heap heap' : List ℤ) (answer answer' states states' : List ℕ) (starts starts' others others' : List ℤ) (ranges ranges' : List ℕ) (a : Result TopDocs Refusal) (top : TopDocs) → 3 ≤ length answer → a ≡ Ok top → searched_numbers a ≡ search_answer ix q k t w (length heap) → heap' ≡ search_hits ix q k w heap → answer' ≡ written (top.held ∷ top.count ∷ cond top.mark 1 0 ∷ []) answer → Kept (search_refusal ix q k w (length heap)) states states' → Kept (search_refusal ix q k w (length heap)) starts starts' → Kept (search_refusal ix q k w (length heap)) others others' → Kept (search_refusal ix q k w (length heap)) ranges ranges' → SearchTold ix q k t w heap answer states starts others ranges 0 heap' answer' states' starts' others' ranges'
-unfolding searched_numbers search_answer
-search-told-found ix q k t w heap heap' answer answer' states states' starts starts' others others' ranges ranges' a top h e f g v ks ka kb kr =
+    (z ∙ sym l, (g ∙ search-written ix q k w _ heap z, (v ∙ refused-keeps _ _ answer p, (kept_by _ _ states states' z ks, (kept_by _ _ starts starts' z ka, (kept_by _ _ others others' z kb, kept_by _ _ ranges ranges' z kr))))))
+search-told ix q k t w heap heap' answer answer' states states' starts starts' others others' ranges ranges' (Ok top) n h m v f g ks ka kb kr =
     let l = search-long ix q k w (length heap) (length answer) h in
-    let z = found-numbers (search_refusal ix q k w (length heap)) top.held _ _ (sym (ap searched_numbers e) ∙ f) in
-    (sym (l ∙ z.0), (g ∙ search-written ix q k w _ heap (sym z.0), (v ∙ ap (λ (xs : List ℕ). written xs answer) z.1, (kept_by _ _ states states' (sym z.0) ks, (kept_by _ _ starts starts' (sym z.0) ka, (kept_by _ _ others others' (sym z.0) kb, kept_by _ _ ranges ranges' (sym z.0) kr))))))
+    let z = found-numbers (search_refusal ix q k w (length heap)) top.held _ _ f in
+    rw m (sym (l ∙ z.0), (g ∙ search-written ix q k w _ heap (sym z.0), (v ∙ ap (λ (xs : List ℕ). written xs answer) z.1, (kept_by _ _ states states' (sym z.0) ks, (kept_by _ _ starts starts' (sym z.0) ka, (kept_by _ _ others others' (sym z.0) kb, kept_by _ _ ranges ranges' (sym z.0) kr))))))
 
 -- ---- Page, in the same way, with its two outputs
 abbrev PageTold : (ix : Index) (q : List ℕ) (target : ℕ) (w : Work) (documents scores answer states : List ℕ) (starts others : List ℤ) (ranges : List ℕ) (r : ℕ) (documents' scores' answer' states' : List ℕ) (starts' others' : List ℤ) (ranges' : List ℕ) → Type 0

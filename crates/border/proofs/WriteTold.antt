@@ -3,23 +3,22 @@ use Rattle.std.proofs.Common.{Result, Ok, Err}
 use mathlib.Core.Path.{◌≡◌, refl, sym, ap, ◌∙◌}
 use mathlib.Core.Bool.{Bool, true, false, or-false, ◌||◌}
 use mathlib.Core.List.{List, [], ◌∷◌}
-use Prim.Native.Nat.{ℕ, ◌≤◌, ◌<◌}
+use Prim.Native.Nat.{ℕ, zero, suc, ◌≤◌, ◌<◌, min}
 use native.Mathlib.Omega.{arith}
 use lib.ListN.{length}
 use borrow.Author.Tests.{lt-ltb, le-ltb}
 use Rattle.meaning.specs.Refusals.{◌when◌, lowest}
 use Rattle.meaning.specs.TokenRefusals.{Outputs, wrong16, write_refusal, write_answer, written_norms, written_postings, written_positions, written_runs}
 use Rattle.meaning.specs.Entries.{written, answered}
-use Rattle.meaning.proofs.Lowest.{answered-refused}
 use Rattle.refusal.specs.declared.Refusal.{Refusal}
-use Rattle.refusal.specs.Numbers.{number_of}
+use Rattle.refusal.specs.Numbers.{number_of, refusal_of}
 use Rattle.tokens.specs.declared.Numbers.{Numbers}
 use Rattle.token_writer.specs.Answers.{written_numbers, outputs, WritesIndex}
 use Rattle.border.specs.Write.{write_numbers, border_write, LotWritesIndex}
 use Rattle.border.proofs.Told.{refused-number, found-numbers, refused-keeps}
 
 -- 16 held by a slice that is too short: a lower number stays, and 16 is what is left
-sixteen : (a b c d : Bool) → lowest ((1 when a) ∷ (2 when b) ∷ (15 when c) ∷ (16 when (d || true)) ∷ []) ≡ answered (lowest ((1 when a) ∷ (2 when b) ∷ (15 when c) ∷ (16 when d) ∷ [])) 16 (λ m. m)
+sixteen : (a b c d : Bool) → lowest ((1 when a) ∷ (2 when b) ∷ (15 when c) ∷ (16 when (d || true)) ∷ []) ≡ answered (lowest ((1 when a) ∷ (2 when b) ∷ (15 when c) ∷ (16 when d) ∷ [])) 16 (λ m. min m 16)
 unfolding lowest
 sixteen true b c d = refl
 sixteen false true c d = refl
@@ -32,7 +31,7 @@ module _ (n : ℕ) (fields leaf_fields ws : List ℕ) (o : Outputs) (places : �
   unfolding border_write write_refusal
   write-long h = rw (le-ltb places 2 h, or-false (wrong16 n fields leaf_fields ws o))
 
-  pub write-short : places < 2 → border_write n fields leaf_fields ws o places ≡ answered (write_refusal n fields leaf_fields ws o) 16 (λ m. m)
+  pub write-short : places < 2 → border_write n fields leaf_fields ws o places ≡ answered (write_refusal n fields leaf_fields ws o) 16 (λ m. min m 16)
   unfolding border_write write_refusal
   write-short h = rw (lt-ltb places 2 h) (sixteen _ _ _ _)
 
@@ -66,19 +65,19 @@ module _ (n : ℕ) (fields leaf_fields ws norms postings positions runs answer :
         numbers = refused-keeps r _ answer h;
       }
 
-  pub write-told-short : (a : Result Numbers Refusal) (k : Refusal) → length answer < 2 → a ≡ Err k → written_numbers a ≡ write_answer n fields leaf_fields ws o → LotWritesIndex n fields leaf_fields ws norms postings positions runs answer norms postings positions runs answer (number_of k)
-  write-told-short a k h e f =
-      let z = refused-is a k e f in
-      let stays : answered refusal 16 (λ m. m) ≡ refusal = sym (refused-stays refusal z.1) in
-      told-refused (number_of k) (z.0 ∙ sym (write-short n fields leaf_fields ws o (length answer) h ∙ stays)) (rw z.0 z.1)
-    where
-      refused-stays : (m : ℕ) → 0 < m → m ≡ answered m 16 (λ i. i)
-      refused-stays m p = answered-refused 16 (λ i. i) m (λ e. omega (arith, e, p))
+  refusal-is : (a : Result Numbers Refusal) → written_numbers a ≡ write_answer n fields leaf_fields ws o → refusal_of a ≡ refusal
+  refusal-is (Err k) f = (refused-is (Err k) k refl f).0
+  refusal-is (Ok numbers) f = sym (done-is (Ok numbers) numbers refl f).0
 
-  pub write-told-sixteen : (a : Result Numbers Refusal) (numbers : Numbers) → length answer < 2 → a ≡ Ok numbers → written_numbers a ≡ write_answer n fields leaf_fields ws o → LotWritesIndex n fields leaf_fields ws norms postings positions runs answer norms postings positions runs answer 16
-  write-told-sixteen a numbers h e f =
-      let z = (done-is a numbers e f).0 in
-      told-refused 16 (sym (write-short n fields leaf_fields ws o (length answer) h ∙ ap (λ (m : ℕ). answered m 16 (λ i. i)) z)) (omega arith)
+  above : (m : ℕ) → 0 < answered m 16 (λ i. min i 16)
+  above zero = omega arith
+  above (suc m) = omega arith
+
+  pub write-told-short : (a : Result Numbers Refusal) (r : ℕ) → length answer < 2 → r ≡ answered (refusal_of a) 16 (λ m. min m 16) → written_numbers a ≡ write_answer n fields leaf_fields ws o → LotWritesIndex n fields leaf_fields ws norms postings positions runs answer norms postings positions runs answer r
+  write-told-short a r h is f =
+      let e = is ∙ ap (λ (m : ℕ). answered m 16 (λ i. min i 16)) (refusal-is a f) in
+      let p : 0 < r = rw e (above refusal) in
+      told-refused r (e ∙ sym (write-short n fields leaf_fields ws o (length answer) h)) p
 
   module _ (a : Result Numbers Refusal) (norms' postings' positions' runs' : List ℕ) (h : 2 ≤ length answer) (w : WritesIndex n fields leaf_fields ws norms postings positions runs norms' postings' positions' runs' a) where
     by : (r : ℕ) (answer' : List ℕ) → r ≡ refusal → answer' ≡ answered r (written (write_numbers n fields leaf_fields ws) answer) (λ m. answer) → LotWritesIndex n fields leaf_fields ws norms postings positions runs answer norms' postings' positions' runs' answer' r

@@ -1,16 +1,23 @@
 -- How Search, Page and Pick answer at the border: the refusal's number is returned, and the numbers stand in a lent slice, which is one buffer more for 12. Assumes nothing: these are definitions.
-use Rattle.std.specs.Prelude.{cond, ◌||◌, List, [], ◌∷◌, ◌++◌, ℕ, eqb, ltb, length}
+use Rattle.std.specs.Prelude.{cond, ◌||◌, List, [], ◌∷◌, ◌++◌, ℕ, eqb, ltb, length, Result, Ok, Err}
 use Rattle.meaning.specs.Lent.{Index}
 use Rattle.meaning.specs.FullList.{ScoreDoc}
 use Rattle.meaning.specs.Hits.{hits, mark}
 use Rattle.meaning.specs.Pages.{PageOf}
 use Rattle.meaning.specs.Refusals.{◌when◌, lowest}
 use Rattle.meaning.specs.CallRefusals.{Work, wrong11, wrong12_search, wrong12_page, wrong12_pick, wrong13_page, wrong14}
-use Rattle.meaning.specs.Entries.{order_conditions}
+use Rattle.meaning.specs.Entries.{order_conditions, written}
+use Rattle.collector.specs.declared.TopDocs.{TopDocs}
+use Rattle.refusal.specs.declared.Refusal.{Refusal}
 
 -- hits held, count, and 1 for the mark
 abbrev pub top_numbers : ℕ → ℕ → List ScoreDoc → List ℕ
 top_numbers k t list = length (hits k list) ∷ length list ∷ cond (mark k t (length list)) 1 0 ∷ []
+
+-- the slice for the answer after what Search or Pick found: the same numbers of it, and as it was where the call is refused
+abbrev pub top_answer : Result TopDocs Refusal → List ℕ → List ℕ
+top_answer (Ok top) xs = written (top.held ∷ top.count ∷ cond top.mark 1 0 ∷ []) xs
+top_answer (Err r) xs = xs
 
 -- how many are given, and the next match
 abbrev pub page_numbers : PageOf → List ℕ

@@ -3,7 +3,7 @@
 
 pub mod write_index;
 
-ghost use Rattle.std.specs.Prelude.{◌≡◌, cond, [], ◌∷◌, map, ◌≤◌, length};
+ghost use Rattle.std.specs.Prelude.{◌≡◌, map, ◌≤◌, length, min};
 ghost use Rattle.std.specs.Float.{binary32};
 ghost use Rattle.std.specs.Float.Ieee.{to_bits};
 ghost use Rattle.meaning.specs.Query.{query_tree};
@@ -12,32 +12,39 @@ ghost use Rattle.meaning.specs.Hits.{hits as hits_of};
 ghost use Rattle.meaning.specs.Entries.{written, answered, Kept, page_of, picked_list};
 ghost use Rattle.index.specs.Slices.{lent};
 ghost use Rattle.order_check.specs.Lends.{work};
-ghost use Rattle.refusal.specs.Numbers.{refusal_of};
-ghost use Rattle.border.specs.Border.{short_answer, border_search, border_page, border_pick, top_numbers, page_numbers};
+ghost use Rattle.refusal.specs.Numbers.{number_of, refusal_of};
+ghost use Rattle.border.specs.Border.{border_search, border_page, border_pick, top_numbers, top_answer, page_numbers};
 
 use collector::TopDocs;
 use index::lent::Lent;
 use refusal::Refusal;
 use searcher::buffers::Buffers;
 
-// A slice for the answer that is too short is a buffer too short.
-fn short_answer(answer: Result<(), Refusal>) -> u32
-    ensures { result ≡ short_answer (refusal_of answer) }
+// A slice for the answer that is too short is refused as any buffer of the entry is, where no lower number is.
+fn short_answer<T>(answer: &Result<T, Refusal>, own: Refusal) -> u32
+    ensures { result ≡ answered (refusal_of answer.now) (number_of own) (λ n. min n (number_of own)) }
 {
     match answer {
-        Ok(()) => Refusal::Buffers.number(),
-        Err(refusal) => refusal.number().min(Refusal::Buffers.number()),
+        Ok(_) => own.number(),
+        Err(refusal) => refusal.number().min(own.number()),
     }
 }
 
-// Hits held, count, and 1 for the mark.
-fn write_top_docs(top: TopDocs, answer: &mut [u64])
+// A refusal's number; or 0, with hits held, count, and 1 for the mark in the answer.
+fn answer_top_docs(found: Result<TopDocs, Refusal>, answer: &mut [u64]) -> u32
     requires { 3 ≤ length answer.old }
-    ensures { answer.new ≡ written (top.held ∷ top.count ∷ cond top.mark 1 0 ∷ []) answer.old }
+    ensures number { result ≡ refusal_of found }
+    ensures answer_after { answer.new ≡ top_answer found answer.old }
 {
-    answer[0] = top.held as u64;
-    answer[1] = top.count;
-    answer[2] = if top.mark { 1 } else { 0 };
+    match found {
+        Ok(top) => {
+            answer[0] = u64::from(top.held);
+            answer[1] = top.count;
+            answer[2] = u64::from(top.mark);
+            0
+        }
+        Err(refusal) => refusal.number(),
+    }
 }
 
 // Kept: the C interface hands over each slice and number by itself, so its clauses name them one by one.
@@ -88,15 +95,11 @@ pub fn lot_search(
     };
     if answer.len() < 3 {
         let work = buffers.lengths();
-        return short_answer(order_check::search_refusal(&lent, q, k, work, hits.len()));
+        let refused = order_check::search_refusal(&lent, q, k, work, hits.len());
+        return short_answer(&refused, Refusal::Buffers);
     }
-    match searcher::search::search(&lent, q, k, t, &mut buffers, hits) {
-        Err(refusal) => refusal.number(),
-        Ok(top) => {
-            write_top_docs(top, answer);
-            0
-        }
-    }
+    let found = searcher::search::search(&lent, q, k, t, &mut buffers, hits);
+    answer_top_docs(found, answer)
 }
 
 // Kept: the C interface hands over each slice and number by itself, so its clauses name them one by one.
@@ -148,14 +151,15 @@ pub fn lot_page(
     };
     if answer.len() < 2 {
         let work = buffers.lengths();
-        return short_answer(order_check::page_refusal(
+        let refused = order_check::page_refusal(
             &lent,
             q,
             target,
             work,
             documents.len(),
             scores.len(),
-        ));
+        );
+        return short_answer(&refused, Refusal::Buffers);
     }
     match searcher::page::page(&lent, q, target, &mut buffers, documents, scores) {
         Err(refusal) => refusal.number(),
@@ -167,6 +171,7 @@ pub fn lot_page(
     }
 }
 
+// Kept: the C interface hands over documents and scores as two slices, and takes a refusal as its number.
 pub fn lot_pick(
     documents: &[u32],
     scores: &[u32],
@@ -180,13 +185,9 @@ pub fn lot_pick(
     ensures answer_after { answer.new ≡ answered result (written (top_numbers k t (picked_list documents.now scores.now)) answer.old) (λ n. answer.old) }
 {
     if answer.len() < 3 {
-        return short_answer(pick_entry::pick_refusal(documents, scores, k, hits.len()));
+        let refused = pick_entry::pick_refusal(documents, scores, k, hits.len());
+        return short_answer(&refused, Refusal::Buffers);
     }
-    match pick_entry::pick(documents, scores, k, t, hits) {
-        Err(refusal) => refusal.number(),
-        Ok(top) => {
-            write_top_docs(top, answer);
-            0
-        }
-    }
+    let found = pick_entry::pick(documents, scores, k, t, hits);
+    answer_top_docs(found, answer)
 }

@@ -1,11 +1,12 @@
 // The border's token writer.
 ghost use Rattle.border.specs.Write.{LotWritesIndex};
 
+use crate::short_answer;
 use refusal::Refusal;
 use token_writer::Outputs;
 use tokens::TokenRecords;
 
-// Kept: the C interface.
+// Kept: the C interface hands over each slice and number by itself, so its clause names them one by one.
 pub fn lot_write_index(
     max_doc: u32,
     fields: &[u32],
@@ -32,10 +33,8 @@ pub fn lot_write_index(
             positions: positions.len(),
             runs: runs.len(),
         };
-        return match token_writer::accept(records, room) {
-            Ok(_) => Refusal::Outputs.number(),
-            Err(refusal) => refusal.number(),
-        };
+        let accepted = token_writer::accept(records, room);
+        return short_answer(&accepted, Refusal::Outputs);
     }
     match token_writer::write_index(records, norms, postings, positions, runs) {
         Ok(numbers) => {

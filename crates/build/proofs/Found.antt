@@ -1,5 +1,5 @@
 -- What the first pass found, as one list of structs. Assumes nothing.
-use mathlib.Core.Path.{◌≡◌, sym, ◌∙◌, ap, subst}
+use mathlib.Core.Path.{◌≡◌, refl, sym, ◌∙◌, ap, subst}
 use mathlib.Core.Bool.{true}
 use mathlib.Core.List.{List}
 use Prim.Native.Nat.{ℕ, ◌-◌, ◌≤◌}
@@ -12,10 +12,15 @@ use Rattle.measure.specs.declared.Measure.{Measure}
 use Rattle.measure.specs.Measures.{nexts_of, presents_of, costs_of, AllMeasured}
 use Rattle.measure.proofs.Arrays.{no_measure, present-at, presents-long}
 use Rattle.node_words.proofs.Kept.{not-none}
-use Rattle.node_words.specs.Prepared.{Records}
+use Rattle.node_words.specs.declared.place.Records.{Records as Lent}
+use Rattle.node_words.specs.Prepared.{Records, given}
 
 abbrev pub MeasuresAre : Records → List Measure → Type 0
 MeasuresAre E ms = (E.nexts ≡ nexts_of ms) × (E.presents ≡ presents_of ms) × (E.costs ≡ costs_of ms)
+
+-- what a call is given
+pub found : (r : Lent) → MeasuresAre (given r) r.measures.now
+found r = (refl, refl, refl)
 
 pub all-measured : (E : Records) (ms : List Measure) → MeasuresAre E ms → (ix : Index) → Measured ix E.query E.nexts E.presents E.costs 0 → AllMeasured ix E.query ms 0
 all-measured E ms are ix m =

@@ -45,22 +45,22 @@ record Below (ix : Index) (q : List ℕ) (k at : ℕ) (D : Decoded) (fixed : Boo
   asked : TreeAsked ix q (k - 1) (at + 1) child fixed' kept' boost' words
   scorer-is : weigh ix D.tree boost (kept_of fixed kept) ≡ weigh ix child.tree boost' (kept_of fixed' kept')
 
-module _ (E : Records) (at : ℕ) (fixed : Bool) (kept boost : Float) (words depth : ℕ) where
+module _ {E : Records} {at : ℕ} {fixed : Bool} {kept boost : Float} {words depth : ℕ} (pre : TreePre E at fixed kept boost words depth) where
   module _ (fixed' : Bool) (kept' boost' : Float) (below : (ix : Index) (ranges : List ℕ) (k : ℕ) (D : Decoded) → Prepared ix E ranges → TreeAsked ix E.query k at D fixed kept boost words → Below ix E.query k at D fixed kept boost fixed' kept' boost' words) where
-    below-asked : TreePre E at fixed kept boost words depth → TreePre E (at + 1) fixed' kept' boost' words (depth - 1)
-    below-asked a =
-        let b = below a.0 a.1 a.2 a.3 a.4 a.5 in
-        let levels = a.6 in
-        (a.0, a.1, a.2 - 1, b.child, a.4, b.asked, omega (arith, levels))
+    below-asked : TreePre E (at + 1) fixed' kept' boost' words (depth - 1)
+    below-asked =
+        let b = below pre.0 pre.1 pre.2 pre.3 pre.4 pre.5 in
+        let levels = pre.6 in
+        (pre.0, pre.1, pre.2 - 1, b.child, pre.4, b.asked, omega (arith, levels))
 
-    below-placed : (scores r : ℕ) (st : List ℕ) → TreePost E (at + 1) fixed' kept' boost' words (depth - 1) scores r st → TreePost E at fixed kept boost words depth scores r st
-    below-placed scores r st post ix ranges k D p a levels =
+    below-placed : {scores r : ℕ} {st : List ℕ} → TreePost E (at + 1) fixed' kept' boost' words (depth - 1) scores r st → TreePost E at fixed kept boost words depth scores r st
+    below-placed {scores} {r} {st} post ix ranges k D p a levels =
         let b = below ix ranges k D p a in
         rw b.scorer-is
         (placed-deeper ix ranges (weigh ix b.child.tree boost' (kept_of fixed' kept')) (depth - 1) depth scores r st (omega arith) (post ix ranges (k - 1) b.child p b.asked (omega (arith, levels))))
 
   -- ---- a ConstantScore: below it the boost is 0, and its score is kept
-  module _ (kind : record_kind E.query at ≡ 6) (score : Float) (score-is : score ≡ cond fixed kept boost) where
+  module _ (kind : record_kind E.query at ≡ 6) {score : Float} (score-is : score ≡ cond fixed kept boost) where
     constant-below : (ix : Index) (ranges : List ℕ) (k : ℕ) (D : Decoded) → Prepared ix E ranges → TreeAsked ix E.query k at D fixed kept boost words → Below ix E.query k at D fixed kept boost true score (of_bits binary32 0) words
     constant-below ix ranges k D p a =
         let q = E.query in
@@ -84,14 +84,14 @@ module _ (E : Records) (at : ℕ) (fixed : Bool) (kept boost : Float) (words dep
           scorer-is = same;
         }
 
-    pub constant-asked : TreePre E at fixed kept boost words depth → TreePre E (at + 1) true score (of_bits binary32 0) words (depth - 1)
+    pub constant-asked : TreePre E (at + 1) true score (of_bits binary32 0) words (depth - 1)
     constant-asked = below-asked true score (of_bits binary32 0) constant-below
 
-    pub constant-placed : (scores r : ℕ) (st : List ℕ) → TreePost E (at + 1) true score (of_bits binary32 0) words (depth - 1) scores r st → TreePost E at fixed kept boost words depth scores r st
+    pub constant-placed : {scores r : ℕ} {st : List ℕ} → TreePost E (at + 1) true score (of_bits binary32 0) words (depth - 1) scores r st → TreePost E at fixed kept boost words depth scores r st
     constant-placed = below-placed true score (of_bits binary32 0) constant-below
 
   -- ---- a Boost: its value is in the boost below it
-  module _ (kind : record_kind E.query at ≡ 7) (value : ℕ) (value-is : value ≡ record_value E.query at 0) where
+  module _ (kind : record_kind E.query at ≡ 7) {value : ℕ} (value-is : value ≡ record_value E.query at 0) where
     value-within : {ix : Index} {ranges : List ℕ} → Prepared ix E ranges → at < record_count E.query → value ≤ largest_boost
     value-within {ix} p here = subst (λ (z : ℕ). z ≤ largest_boost) (sym value-is) (boost-within ix E.query p.asks.values-right at here kind)
 
@@ -119,12 +119,12 @@ module _ (E : Records) (at : ℕ) (fixed : Bool) (kept boost : Float) (words dep
           scorer-is = same;
         }
 
-    pub boost-asked : TreePre E at fixed kept boost words depth → TreePre E (at + 1) fixed kept (boosted boost value) words (depth - 1)
+    pub boost-asked : TreePre E (at + 1) fixed kept (boosted boost value) words (depth - 1)
     boost-asked = below-asked fixed kept (boosted boost value) boost-below
 
-    pub boost-placed : (scores r : ℕ) (st : List ℕ) → TreePost E (at + 1) fixed kept (boosted boost value) words (depth - 1) scores r st → TreePost E at fixed kept boost words depth scores r st
+    pub boost-placed : {scores r : ℕ} {st : List ℕ} → TreePost E (at + 1) fixed kept (boosted boost value) words (depth - 1) scores r st → TreePost E at fixed kept boost words depth scores r st
     boost-placed = below-placed fixed kept (boosted boost value) boost-below
 
     -- its value is a number
-    pub boost-number-here : TreePre E at fixed kept boost words depth → T (not (nan_bits binary32 value))
-    boost-number-here a = boost-number value (value-within a.4 (at_here a.0 E a.1 a.2 at a.3 fixed kept boost words a.4 a.5))
+    pub boost-number-here : T (not (nan_bits binary32 value))
+    boost-number-here = boost-number value (value-within pre.4 (at_here pre.0 E pre.1 pre.2 at pre.3 fixed kept boost words pre.4 pre.5))

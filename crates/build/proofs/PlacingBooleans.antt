@@ -95,22 +95,22 @@ module _ (ix : Index) (E : Records) (ranges : List ℕ) (k at : ℕ) (D : Decode
       ap (λ (t : Tree). weigh ix t boost (kept_of fixed kept)) b.tree_is
       ∙ weigh-boolean-none ix (record_value q at 0) b.inside.clauses boost fixed kept (ap (has_scorer ix) (sym b.tree_is) ∙ absent (get_or E.presents at 0) (has_scorer ix D.tree) (present-word ix E ranges k at D fixed kept boost words p a) none)
 
-module _ (E : Records) (at : ℕ) (fixed : Bool) (kept boost : Float) (words depth : ℕ) where
-  pub tree-here : TreePre E at fixed kept boost words depth → at < record_count E.query
-  tree-here a = at_here a.0 E a.1 a.2 at a.3 fixed kept boost words a.4 a.5
+module _ {E : Records} {at : ℕ} {fixed : Bool} {kept boost : Float} {words depth : ℕ} (pre : TreePre E at fixed kept boost words depth) where
+  pub tree-here : at < record_count E.query
+  tree-here = at_here pre.0 E pre.1 pre.2 at pre.3 fixed kept boost words pre.4 pre.5
 
-  pub tree-room : TreePre E at fixed kept boost words depth → node_state_words ≤ words
-  tree-room a = record-room a.0 E a.1 a.2 at a.3 fixed kept boost words a.4 a.5
+  pub tree-room : node_state_words ≤ words
+  tree-room = record-room pre.0 E pre.1 pre.2 at pre.3 fixed kept boost words pre.4 pre.5
 
-  pub tree-deep : TreePre E at fixed kept boost words depth → 1 ≤ depth
-  tree-deep a = let l = level E.query a.2 at a.3 a.5.decoded in let k = a.6 in omega (arith, l, k)
+  pub tree-deep : 1 ≤ depth
+  tree-deep = let l = level E.query pre.2 at pre.3 pre.5.decoded in let k = pre.6 in omega (arith, l, k)
 
-  pub tree-kept : TreePre E at fixed kept boost words depth → AtMost (2 ^ 29) kept
-  tree-kept a = a.5.kept_small
+  pub tree-kept : AtMost (2 ^ 29) kept
+  tree-kept = pre.5.kept_small
 
   -- what is found and lent has a place for each record
-  pub tree-present : TreePre E at fixed kept boost words depth → at < length E.presents
-  tree-present a = let h = tree-here a in let l = a.4.presents-long in omega (arith, h, l)
+  pub tree-present : at < length E.presents
+  tree-present = let h = tree-here in let l = pre.4.presents-long in omega (arith, h, l)
 
   module _ (kind : record_kind E.query at ≡ 3) where
     pub nothing_placed : (scores r : ℕ) (st : List ℕ) → get_or E.presents at 0 ≡ 0 → ((ix : Index) (ranges : List ℕ) (d : ℕ) → Placed ix ranges no_scorer d scores r st) → TreePost E at fixed kept boost words depth scores r st
@@ -124,36 +124,36 @@ module _ (E : Records) (at : ℕ) (fixed : Bool) (kept boost : Float) (words dep
       asks : (ix : Index) (ranges : List ℕ) (k : ℕ) (D : Decoded) (p : Prepared ix E ranges) (a : TreeAsked ix E.query k at D fixed kept boost words) → k ≤ depth → (n : ℕ) (rs : List Ready) → sizes_of (scorers_of rs) ≤ n → PartAsked ix E ranges (k - 1) at (here ix ranges k D p a).inside boost rs n (depth - 1)
       asks ix ranges k D p a levels n rs room = record { prepared = p; asked = (here ix ranges k D p a).asked; room = room; levels = omega (arith, levels) }
 
-      pub boolean-known : (ms : List Measure) → MeasuresAre E ms → TreePre E at fixed kept boost words depth → SomeClauses E.query ms at
-      boolean-known ms are a =
-          let h = here a.0 a.1 a.2 a.3 a.4 a.5 in
+      pub boolean-known : {ms : List Measure} → MeasuresAre E ms → SomeClauses E.query ms at
+      boolean-known are =
+          let h = here pre.0 pre.1 pre.2 pre.3 pre.4 pre.5 in
           let r = h.room in
-          (a.0, a.2 - 1, h.inside, boost, part-known E ms are at boost words (depth - 1) (asks a.0 a.1 a.2 a.3 a.4 a.5 a.6 words (required_of a.0 h.inside boost) (omega (arith, r))))
+          (pre.0, pre.2 - 1, h.inside, boost, part-known are (asks pre.0 pre.1 pre.2 pre.3 pre.4 pre.5 pre.6 words (required_of pre.0 h.inside boost) (omega (arith, r))))
 
       -- ---- the required, after the record
-      module _ (n₁ : ℕ) (n₁-is : n₁ ≡ words - node_state_words) where
+      module _ {n₁ : ℕ} (n₁-is : n₁ ≡ words - node_state_words) where
         required-asked : (ix : Index) (ranges : List ℕ) (k : ℕ) (D : Decoded) (p : Prepared ix E ranges) (a : TreeAsked ix E.query k at D fixed kept boost words) → k ≤ depth → PartAsked ix E ranges (k - 1) at (here ix ranges k D p a).inside boost (required_of ix (here ix ranges k D p a).inside boost) n₁ (depth - 1)
         required-asked ix ranges k D p a levels =
             let h = here ix ranges k D p a in
             let r = h.room in
             asks ix ranges k D p a levels n₁ (required_of ix h.inside boost) (omega (arith, r, n₁-is))
 
-        pub boolean-required : TreePre E at fixed kept boost words depth → RequiredPre E at boost n₁ (depth - 1)
-        boolean-required a = (a.0, a.1, a.2 - 1, (here a.0 a.1 a.2 a.3 a.4 a.5).inside, required-asked a.0 a.1 a.2 a.3 a.4 a.5 a.6)
+        pub boolean-required : RequiredPre E at boost n₁ (depth - 1)
+        boolean-required = (pre.0, pre.1, pre.2 - 1, (here pre.0 pre.1 pre.2 pre.3 pre.4 pre.5).inside, required-asked pre.0 pre.1 pre.2 pre.3 pre.4 pre.5 pre.6)
 
-        module _ (group_at e₁ : ℕ) (out₁ : List ℕ) (post₁ : RequiredPost E at boost n₁ (depth - 1) group_at e₁ out₁) where
+        module _ {group_at e₁ : ℕ} {out₁ : List ℕ} (post₁ : RequiredPost E at boost n₁ (depth - 1) group_at e₁ out₁) where
           -- its size is that of the required
           first-size : (ix : Index) (ranges : List ℕ) (k : ℕ) (D : Decoded) (p : Prepared ix E ranges) (a : TreeAsked ix E.query k at D fixed kept boost words) → k ≤ depth → e₁ ≡ sizes_of (scorers_of (required_of ix (here ix ranges k D p a).inside boost))
           first-size ix ranges k D p a levels = (post₁ ix ranges (k - 1) (here ix ranges k D p a).inside (required-asked ix ranges k D p a levels)).0.size_is
 
-          pub first_fits : TreePre E at fixed kept boost words depth → node_state_words + e₁ ≤ words
-          first_fits a =
-              let r = (here a.0 a.1 a.2 a.3 a.4 a.5).room in
-              let s = first-size a.0 a.1 a.2 a.3 a.4 a.5 a.6 in
+          pub first_fits : node_state_words + e₁ ≤ words
+          first_fits =
+              let r = (here pre.0 pre.1 pre.2 pre.3 pre.4 pre.5).room in
+              let s = first-size pre.0 pre.1 pre.2 pre.3 pre.4 pre.5 pre.6 in
               omega (arith, r, s)
 
           -- ---- the optional, after them
-          module _ (n₂ : ℕ) (n₂-is : n₂ ≡ words - (node_state_words + e₁)) where
+          module _ {n₂ : ℕ} (n₂-is : n₂ ≡ words - (node_state_words + e₁)) where
             optional-asked : (ix : Index) (ranges : List ℕ) (k : ℕ) (D : Decoded) (p : Prepared ix E ranges) (a : TreeAsked ix E.query k at D fixed kept boost words) → k ≤ depth → PartAsked ix E ranges (k - 1) at (here ix ranges k D p a).inside boost (others_of ix (here ix ranges k D p a).inside boost 2) n₂ (depth - 1)
             optional-asked ix ranges k D p a levels =
                 let h = here ix ranges k D p a in
@@ -161,22 +161,22 @@ module _ (E : Records) (at : ℕ) (fixed : Bool) (kept boost : Float) (words dep
                 let s = first-size ix ranges k D p a levels in
                 asks ix ranges k D p a levels n₂ (others_of ix h.inside boost 2) (omega (arith, r, s, n₂-is))
 
-            pub boolean-optional : TreePre E at fixed kept boost words depth → OthersPre E at 2 boost n₂ (depth - 1)
-            boolean-optional a = (a.0, a.1, a.2 - 1, (here a.0 a.1 a.2 a.3 a.4 a.5).inside, optional-asked a.0 a.1 a.2 a.3 a.4 a.5 a.6)
+            pub boolean-optional : OthersPre E at 2 boost n₂ (depth - 1)
+            boolean-optional = (pre.0, pre.1, pre.2 - 1, (here pre.0 pre.1 pre.2 pre.3 pre.4 pre.5).inside, optional-asked pre.0 pre.1 pre.2 pre.3 pre.4 pre.5 pre.6)
 
-            module _ (e₂ : ℕ) (out₂ : List ℕ) (post₂ : OthersPost E at 2 boost n₂ (depth - 1) e₂ out₂) where
+            module _ {e₂ : ℕ} {out₂ : List ℕ} (post₂ : OthersPost E at 2 boost n₂ (depth - 1) e₂ out₂) where
               second-size : (ix : Index) (ranges : List ℕ) (k : ℕ) (D : Decoded) (p : Prepared ix E ranges) (a : TreeAsked ix E.query k at D fixed kept boost words) → k ≤ depth → e₂ ≡ sizes_of (scorers_of (others_of ix (here ix ranges k D p a).inside boost 2))
               second-size ix ranges k D p a levels = (post₂ ix ranges (k - 1) (here ix ranges k D p a).inside (optional-asked ix ranges k D p a levels)).size_is
 
-              pub second_fits : TreePre E at fixed kept boost words depth → node_state_words + (e₁ + e₂) ≤ words
-              second_fits a =
-                  let r = (here a.0 a.1 a.2 a.3 a.4 a.5).room in
-                  let s = first-size a.0 a.1 a.2 a.3 a.4 a.5 a.6 in
-                  let t = second-size a.0 a.1 a.2 a.3 a.4 a.5 a.6 in
+              pub second_fits : node_state_words + (e₁ + e₂) ≤ words
+              second_fits =
+                  let r = (here pre.0 pre.1 pre.2 pre.3 pre.4 pre.5).room in
+                  let s = first-size pre.0 pre.1 pre.2 pre.3 pre.4 pre.5 pre.6 in
+                  let t = second-size pre.0 pre.1 pre.2 pre.3 pre.4 pre.5 pre.6 in
                   omega (arith, r, s, t)
 
               -- ---- the prohibited, after those
-              module _ (n₃ : ℕ) (n₃-is : n₃ ≡ words - (node_state_words + (e₁ + e₂))) where
+              module _ {n₃ : ℕ} (n₃-is : n₃ ≡ words - (node_state_words + (e₁ + e₂))) where
                 prohibited-asked : (ix : Index) (ranges : List ℕ) (k : ℕ) (D : Decoded) (p : Prepared ix E ranges) (a : TreeAsked ix E.query k at D fixed kept boost words) → k ≤ depth → PartAsked ix E ranges (k - 1) at (here ix ranges k D p a).inside boost (others_of ix (here ix ranges k D p a).inside boost 3) n₃ (depth - 1)
                 prohibited-asked ix ranges k D p a levels =
                     let h = here ix ranges k D p a in
@@ -185,56 +185,56 @@ module _ (E : Records) (at : ℕ) (fixed : Bool) (kept boost : Float) (words dep
                     let t = second-size ix ranges k D p a levels in
                     asks ix ranges k D p a levels n₃ (others_of ix h.inside boost 3) (omega (arith, r, s, t, n₃-is))
 
-                pub boolean-prohibited : TreePre E at fixed kept boost words depth → OthersPre E at 3 boost n₃ (depth - 1)
-                boolean-prohibited a = (a.0, a.1, a.2 - 1, (here a.0 a.1 a.2 a.3 a.4 a.5).inside, prohibited-asked a.0 a.1 a.2 a.3 a.4 a.5 a.6)
+                pub boolean-prohibited : OthersPre E at 3 boost n₃ (depth - 1)
+                boolean-prohibited = (pre.0, pre.1, pre.2 - 1, (here pre.0 pre.1 pre.2 pre.3 pre.4 pre.5).inside, prohibited-asked pre.0 pre.1 pre.2 pre.3 pre.4 pre.5 pre.6)
 
-                module _ (e₃ : ℕ) (out₃ : List ℕ) (post₃ : OthersPost E at 3 boost n₃ (depth - 1) e₃ out₃) where
+                module _ {e₃ : ℕ} {out₃ : List ℕ} (post₃ : OthersPost E at 3 boost n₃ (depth - 1) e₃ out₃) where
                   third-size : (ix : Index) (ranges : List ℕ) (k : ℕ) (D : Decoded) (p : Prepared ix E ranges) (a : TreeAsked ix E.query k at D fixed kept boost words) → k ≤ depth → e₃ ≡ sizes_of (scorers_of (others_of ix (here ix ranges k D p a).inside boost 3))
                   third-size ix ranges k D p a levels = (post₃ ix ranges (k - 1) (here ix ranges k D p a).inside (prohibited-asked ix ranges k D p a levels)).size_is
 
                   -- the whole part
-                  pub whole-fits : TreePre E at fixed kept boost words depth → node_state_words + (e₁ + e₂) + e₃ ≤ words
-                  whole-fits a =
-                      let r = (here a.0 a.1 a.2 a.3 a.4 a.5).room in
-                      let s = first-size a.0 a.1 a.2 a.3 a.4 a.5 a.6 in
-                      let t = second-size a.0 a.1 a.2 a.3 a.4 a.5 a.6 in
-                      let u = third-size a.0 a.1 a.2 a.3 a.4 a.5 a.6 in
+                  pub whole-fits : node_state_words + (e₁ + e₂) + e₃ ≤ words
+                  whole-fits =
+                      let r = (here pre.0 pre.1 pre.2 pre.3 pre.4 pre.5).room in
+                      let s = first-size pre.0 pre.1 pre.2 pre.3 pre.4 pre.5 pre.6 in
+                      let t = second-size pre.0 pre.1 pre.2 pre.3 pre.4 pre.5 pre.6 in
+                      let u = third-size pre.0 pre.1 pre.2 pre.3 pre.4 pre.5 pre.6 in
                       omega (arith, r, s, t, u)
 
-                  pub whole-small : TreePre E at fixed kept boost words depth → node_state_words + (e₁ + e₂) + e₃ ≤ node_state_words * max_records
-                  whole-small a =
-                      let r = (here a.0 a.1 a.2 a.3 a.4 a.5).small in
-                      let s = first-size a.0 a.1 a.2 a.3 a.4 a.5 a.6 in
-                      let t = second-size a.0 a.1 a.2 a.3 a.4 a.5 a.6 in
-                      let u = third-size a.0 a.1 a.2 a.3 a.4 a.5 a.6 in
+                  pub whole-small : node_state_words + (e₁ + e₂) + e₃ ≤ node_state_words * max_records
+                  whole-small =
+                      let r = (here pre.0 pre.1 pre.2 pre.3 pre.4 pre.5).small in
+                      let s = first-size pre.0 pre.1 pre.2 pre.3 pre.4 pre.5 pre.6 in
+                      let t = second-size pre.0 pre.1 pre.2 pre.3 pre.4 pre.5 pre.6 in
+                      let u = third-size pre.0 pre.1 pre.2 pre.3 pre.4 pre.5 pre.6 in
                       omega (arith, r, s, t, u)
 
                   -- the group joins within the required
-                  pub group-within : TreePre E at fixed kept boost words depth → group_at ≤ e₁
-                  group-within a =
-                      let C = (here a.0 a.1 a.2 a.3 a.4 a.5).inside in
-                      let rs = required_of a.0 C boost in
-                      let n = up_to_cost (disjunction_cost (costs a.0 C.clauses)) rs in
-                      let g = (post₁ a.0 a.1 (a.2 - 1) C (required-asked a.0 a.1 a.2 a.3 a.4 a.5 a.6)).1 in
+                  pub group-within : group_at ≤ e₁
+                  group-within =
+                      let C = (here pre.0 pre.1 pre.2 pre.3 pre.4 pre.5).inside in
+                      let rs = required_of pre.0 C boost in
+                      let n = up_to_cost (disjunction_cost (costs pre.0 C.clauses)) rs in
+                      let g = (post₁ pre.0 pre.1 (pre.2 - 1) C (required-asked pre.0 pre.1 pre.2 pre.3 pre.4 pre.5 pre.6)).1 in
                       let f = sizes-first n rs in
                       let b = sizes-split n rs in
-                      let s = first-size a.0 a.1 a.2 a.3 a.4 a.5 a.6 in
+                      let s = first-size pre.0 pre.1 pre.2 pre.3 pre.4 pre.5 pre.6 in
                       omega (arith, g, f, b, s)
 
-                  pub whole-placed : (ms : List Measure) → MeasuresAre E ms → (st₀ rest₁ rest₂ rest₃ st : List ℕ) (scores need msm : ℕ) (required after : Bool) → length st₀ ≡ words → TreePre E at fixed kept boost words depth → T (fits binary32 kept) → msm ≡ record_value E.query at 0 → ((ix : Index) (k : ℕ) (C : DecodedClauses) (b : Float) → ClausesKnown ix E.query ms k at C b → required ≡ has_required C.clauses) → need ≡ cond required msm (max 1 msm) → after ≡ (required && eqb msm 0) → st ≡ words_of (boolean_state (node_state_words + (e₁ + e₂) + e₃) need e₁ (e₁ + e₂) fixed (to_bits binary32 kept) after group_at scores) ++ drop node_state_words (take (node_state_words + (e₁ + e₂)) (take (node_state_words + e₁) (take node_state_words st₀ ++ (out₁ ++ rest₁)) ++ (out₂ ++ rest₂)) ++ (out₃ ++ rest₃)) → TreePost E at fixed kept boost words depth scores (node_state_words + (e₁ + e₂) + e₃) st
+                  pub whole-placed : {ms : List Measure} → MeasuresAre E ms → (st₀ rest₁ rest₂ rest₃ st : List ℕ) (scores need msm : ℕ) (required after : Bool) → length st₀ ≡ words → T (fits binary32 kept) → msm ≡ record_value E.query at 0 → ((ix : Index) (k : ℕ) (C : DecodedClauses) (b : Float) → ClausesKnown ix E.query ms k at C b → required ≡ has_required C.clauses) → need ≡ cond required msm (max 1 msm) → after ≡ (required && eqb msm 0) → st ≡ words_of (boolean_state (node_state_words + (e₁ + e₂) + e₃) need e₁ (e₁ + e₂) fixed (to_bits binary32 kept) after group_at scores) ++ drop node_state_words (take (node_state_words + (e₁ + e₂)) (take (node_state_words + e₁) (take node_state_words st₀ ++ (out₁ ++ rest₁)) ++ (out₂ ++ rest₂)) ++ (out₃ ++ rest₃)) → TreePost E at fixed kept boost words depth scores (node_state_words + (e₁ + e₂) + e₃) st
                   unfolding shoulds_needed
-                  whole-placed ms are st₀ rest₁ rest₂ rest₃ st scores need msm required after all pre held m required-is need-is after_is st-is ix ranges k D p a levels =
+                  whole-placed are st₀ rest₁ rest₂ rest₃ st scores need msm required after all held m required-is need-is after_is st-is ix ranges k D p a levels =
                       let h = here ix ranges k D p a in
                       let C = h.inside in
                       let asked = required-asked ix ranges k D p a levels in
-                      let has = required-is ix (k - 1) C boost (part-known E ms are at boost n₁ (depth - 1) asked) in
+                      let has = required-is ix (k - 1) C boost (part-known are asked) in
                       let one = post₁ ix ranges (k - 1) C asked in
                       let two = subst (λ (zs : List Ready). PlacedAll ix ranges zs (depth - 1) e₂ out₂) (others-should ix C boost) (post₂ ix ranges (k - 1) C (optional-asked ix ranges k D p a levels)) in
                       let three = subst (λ (zs : List Ready). PlacedAll ix ranges zs (depth - 1) e₃ out₃) (others-not ix C boost) (post₃ ix ranges (k - 1) C (prohibited-asked ix ranges k D p a levels)) in
-                      let some-room = tree-room pre in
-                      let some-levels = tree-deep pre in
+                      let some-room = tree-room in
+                      let some-levels = tree-deep in
                       rw (h.scorer-is, ← m)
-                      (boolean-whole ix ranges msm C.clauses fixed kept boost st₀ out₁ out₂ out₃ rest₁ rest₂ rest₃ st depth scores need e₁ e₂ e₃ group_at after (omega (arith, some-room, all)) some-levels held (tree-kept pre) one.0 two three
+                      (boolean-whole ix ranges msm C.clauses fixed kept boost st₀ out₁ out₂ out₃ rest₁ rest₂ rest₃ st depth scores need e₁ e₂ e₃ group_at after (omega (arith, some-room, all)) some-levels held tree-kept one.0 two three
                       (need-is ∙ ap (λ (z : Bool). cond z msm (max 1 msm)) has)
                       (after_is ∙ ap (λ (z : Bool). z && eqb msm 0) has)
                       one.1

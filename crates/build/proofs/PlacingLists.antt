@@ -96,17 +96,17 @@ clear-passed should b c = c
 clear-passed must_not b c = tt
 clear-passed filter b c = tt
 
-module _ (E : Records) (list : List ℕ) (boost : Float) (words depth : ℕ) where
+module _ {E : Records} (list : List ℕ) (boost : Float) {words depth : ℕ} (pre : ListPre E list boost words depth) where
   pub list-starts : (st : List ℕ) → ListAt E list boost words depth 0 0 st
   list-starts st = record { placed = λ ix ranges k rs p h room levels. placed-none ix ranges depth st }
 
   -- the record is one of the query's
-  pub list-here : (i : ℕ) → ListPre E list boost words depth → i < length list → get_or list i 0 < record_count E.query
-  list-here i a h = readies-here a.0 E.query a.2 boost list a.3 a.5 i h
+  pub list-here : {i : ℕ} → i < length list → get_or list i 0 < record_count E.query
+  list-here {i} h = readies-here pre.0 E.query pre.2 boost list pre.3 pre.5 i h
 
-  module _ (i used : ℕ) (st : List ℕ) (l : ListAt E list boost words depth i used st) where
-    pub list-within : ListPre E list boost words depth → used ≤ length st
-    list-within a = (l.placed a.0 a.1 a.2 a.3 a.4 a.5 a.7 a.8).within
+  module _ {i used : ℕ} {st : List ℕ} (l : ListAt E list boost words depth i used st) where
+    pub list-within : used ≤ length st
+    list-within = (l.placed pre.0 pre.1 pre.2 pre.3 pre.4 pre.5 pre.7 pre.8).within
 
     pub list-ends : length list ≤ i → ListPost E list boost words depth used st
     list-ends h ix ranges k rs p readies room levels =
@@ -114,7 +114,7 @@ module _ (E : Records) (list : List ℕ) (boost : Float) (words depth : ℕ) whe
         subst (λ (zs : List Ready). PlacedAll ix ranges zs depth used st) (take_all i rs (omega (arith, same, h))) (l.placed ix ranges k rs p readies room levels)
 
     -- the clause at the next record: what the code reads of it, and the boost that reaches it
-    module _ (at : ℕ) (occurrence : ReadOccur) (kept x : Float) (there : i < length list) (at-is : at ≡ get_or list i 0) (occurrence-is : IsOccur (record_occurrence E.query at) occurrence) (x-is : x ≡ passed_at occurrence boost) (kept_small : AtMost (2 ^ 29) kept) (clear : T (sign_clear boost)) (all : length st ≡ words) (n : ℕ) (n-is : n ≡ length st - used) where
+    module _ {at : ℕ} (occurrence : ReadOccur) {kept x : Float} (there : i < length list) (at-is : at ≡ get_or list i 0) (occurrence-is : IsOccur (record_occurrence E.query at) occurrence) (x-is : x ≡ passed_at occurrence boost) (kept_small : AtMost (2 ^ 29) kept) (clear : T (sign_clear boost)) (all : length st ≡ words) {n : ℕ} (n-is : n ≡ length st - used) where
       -- the clause's occurrence is what the code read
       read : (o : Occur) → occur_of (record_occurrence E.query at) ≡ some o → Read occurrence o
       read o is = occur-read (record_occurrence E.query at) occurrence o occurrence-is is
@@ -141,21 +141,21 @@ module _ (E : Records) (list : List ℕ) (boost : Float) (words depth : ℕ) whe
       at_there : (ix : Index) (k : ℕ) (rs : List Ready) → ReadiesAt ix E.query k boost list rs → ReadyThere ix E.query k boost at rs i
       at_there ix k rs readies = subst (λ (z : ℕ). ReadyThere ix E.query k boost z rs i) (sym at-is) (ready-there ix E.query k boost list rs readies i there)
 
-      pub list-tree : ListPre E list boost words depth → TreePre E at false kept x n depth
-      list-tree a =
-          let t = at_there a.0 a.2 a.3 a.5 in
-          (a.0, a.1, a.2, t.ready.tree, a.4, asked a.0 a.1 a.2 a.3 a.4 a.5 a.7 a.8 t, a.8)
+      pub list-tree : TreePre E at false kept x n depth
+      list-tree =
+          let t = at_there pre.0 pre.2 pre.3 pre.5 in
+          (pre.0, pre.1, pre.2, t.ready.tree, pre.4, asked pre.0 pre.1 pre.2 pre.3 pre.4 pre.5 pre.7 pre.8 t, pre.8)
 
       -- its part ends within the words
-      pub list-fits : (scores r : ℕ) (out : List ℕ) → ListPre E list boost words depth → length out ≡ n → TreePost E at false kept x n depth scores r out → used + r ≤ length st
-      list-fits scores r out a long tree =
-          let t = at_there a.0 a.2 a.3 a.5 in
-          let part = (tree a.0 a.1 a.2 t.ready.tree a.4 (asked a.0 a.1 a.2 a.3 a.4 a.5 a.7 a.8 t) a.8).within in
-          let before = list-within a in
+      pub list-fits : {scores r : ℕ} {out : List ℕ} → length out ≡ n → TreePost E at false kept x n depth scores r out → used + r ≤ length st
+      list-fits long tree =
+          let t = at_there pre.0 pre.2 pre.3 pre.5 in
+          let part = (tree pre.0 pre.1 pre.2 t.ready.tree pre.4 (asked pre.0 pre.1 pre.2 pre.3 pre.4 pre.5 pre.7 pre.8 t) pre.8).within in
+          let before = list-within in
           omega (arith, part, before, long, n-is)
 
-      pub list-more : (scores r : ℕ) (out post : List ℕ) → scores ≡ cond (wanted_at is_must occurrence) 1 0 → TreePost E at false kept x n depth scores r out → ListAt E list boost words depth (i + 1) (used + r) (take used st ++ (out ++ post))
-      list-more scores r out post s tree = record { placed = one_more }
+      pub list-more : {scores r : ℕ} {out : List ℕ} (post : List ℕ) → scores ≡ cond (wanted_at is_must occurrence) 1 0 → TreePost E at false kept x n depth scores r out → ListAt E list boost words depth (i + 1) (used + r) (take used st ++ (out ++ post))
+      list-more {scores} {r} {out} post s tree = record { placed = one_more }
         where
           one_more : (ix : Index) (ranges : List ℕ) (k : ℕ) (rs : List Ready) → Prepared ix E ranges → ReadiesAt ix E.query k boost list rs → sizes_of (scorers_of rs) ≤ words → k ≤ depth → PlacedAll ix ranges (take (i + 1) rs) depth (used + r) (take used st ++ (out ++ post))
           one_more ix ranges k rs p readies room levels =

@@ -16,12 +16,10 @@ ghost use Rattle.node_words.specs.Placed.{Placed, LeafLent};
 use index::lent::Lent;
 use measure::{Measure, RangeList};
 use node_words::place::{Passed, Records};
-use query::record_count;
+use query::{MAX_DEPTH, MAX_RECORDS, record_count};
 
 // An order of so many records gets by with small arrays: to clear the largest takes longer than such an order.
 const FEW_RECORDS: usize = 16;
-
-const MAX_RECORDS: usize = 256;
 
 // The whole query: its scorer tree in the node states, the documents of its Range records in the range buffer; how many words of the states it takes.
 pub fn build(lent: &Lent, query: &[u32], states: &mut [u32], ranges: &mut [u32]) -> usize
@@ -74,5 +72,5 @@ fn build_in<const N: usize>(
         boost: 1.0,
         scores: 0,
     };
-    tree::place(states, &records, 0, passed, 16)
+    tree::place(states, &records, 0, passed, MAX_DEPTH)
 }

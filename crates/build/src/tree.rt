@@ -12,7 +12,7 @@ ghost use Rattle.node_words.specs.Prepared.{given, TreePre, TreePost};
 ghost use Rattle.build.specs.Parts.{passed_at, ListPre, ListPost, RequiredPre, RequiredPost, OthersPre, OthersPost};
 
 use clauses::{clauses_of, group_cost, has_required, no_dearer, required_clauses};
-use node::NodeKind;
+use node::{Boolean, NodeKind};
 use node_words::leaf::place_leaf;
 use node_words::place::{Passed, Records, place_nothing, put};
 use node_words::state::NodeState;
@@ -100,43 +100,26 @@ fn place_others(
     place_list(st, records, list, boost, depth)
 }
 
-// Where the parts of a Boolean's children end: the required, the optional, all; and where its group joins.
-#[derive(Clone, Copy)]
-pub struct Parts {
-    pub required_end: usize,
-    pub optional_end: usize,
-    pub size: usize,
-    pub group_at: usize,
-}
-
-// The record of a Boolean.
-// Kept: `afterwards` is a word of the record, and turns no step on.
-fn put_boolean(
-    st: &mut [u32],
-    parts: Parts,
-    need: u32,
-    afterwards: bool,
-    kept: Option<f32>,
-    scores: u32,
-)
-    requires { (node_state_words ≤ length st.old) × (parts.size < 4294967296) × (parts.required_end ≤ parts.size) × (parts.optional_end ≤ parts.size) × (parts.group_at ≤ parts.size) × AtMost (2 ^ 29) (kept_score kept) }
-    ensures written { st.new ≡ words_of (boolean_state parts.size need parts.required_end parts.optional_end (is_some kept) (to_bits binary32 (kept_score kept)) afterwards parts.group_at scores) ++ drop node_state_words st.old }
-    ensures score_fits { T (fits binary32 (kept_score kept)) }
+// The record of a Boolean of so many words.
+fn put_boolean(st: &mut [u32], boolean: Boolean, size: usize, passed: Passed)
+    requires { (node_state_words ≤ length st.old) × (size < 4294967296) × (boolean.required_end ≤ size) × (boolean.optional_end ≤ size) × (boolean.group_at ≤ size) × AtMost (2 ^ 29) (kept_score passed.kept) }
+    ensures written { st.new ≡ words_of (boolean_state size boolean.need boolean.required_end boolean.optional_end (is_some passed.kept) (to_bits binary32 (kept_score passed.kept)) boolean.afterwards boolean.group_at passed.scores) ++ drop node_state_words st.old }
+    ensures score_fits { T (fits binary32 (kept_score passed.kept)) }
 {
     put(
         st,
         &NodeState {
             kind: NodeKind::Boolean.word(),
-            size: parts.size as u32,
-            need,
-            required_end: parts.required_end as u32,
-            optional_end: parts.optional_end as u32,
-            constant: u32::from(kept.is_some()),
-            weight: f32::to_bits(kept.unwrap_or(0.0)),
-            afterwards: u32::from(afterwards),
-            group_at: parts.group_at as u32,
-            scores,
-            ..NodeState::EMPTY
+            size: size as u32,
+            need: boolean.need,
+            required_end: boolean.required_end as u32,
+            optional_end: boolean.optional_end as u32,
+            constant: u32::from(passed.kept.is_some()),
+            weight: f32::to_bits(passed.kept.unwrap_or(0.0)),
+            afterwards: u32::from(boolean.afterwards),
+            group_at: boolean.group_at as u32,
+            scores: passed.scores,
+            ..NodeState::default()
         },
     );
 }
@@ -180,19 +163,20 @@ fn place_boolean(st: &mut [u32], records: &Records, at: usize, passed: Passed, d
     );
     let size = NODE_STATE_WORDS + optional_end + nots;
     let need = measure::shoulds_needed(required, msm);
-    let parts = Parts {
+    let afterwards = joins_afterwards(required, msm);
+    let boolean = Boolean {
+        need,
         required_end: first.end,
         optional_end,
-        size,
+        afterwards,
         group_at: first.group_at,
     };
-    let afterwards = joins_afterwards(required, msm);
-    put_boolean(st, parts, need, afterwards, passed.kept, passed.scores);
+    put_boolean(st, boolean, size, passed);
     size
 }
 
 // With msm 0 and something required, the Should sum is added to the required score.
-// Kept: `required` is what is true of the clauses, a value of the equation, and turns no step on.
+// Kept: no plainer: no switch: both are facts of the clauses, from which this one is worked out.
 fn joins_afterwards(required: bool, msm: u32) -> bool
     ensures { result ≡ (required && eqb msm 0) }
 {

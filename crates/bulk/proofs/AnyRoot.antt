@@ -2,14 +2,13 @@
 use mathlib.Core.Path.{◌≡◌, refl, sym, subst, ◌∙◌}
 use mathlib.Core.Bool.{true, false, not}
 use mathlib.Core.List.{List, ◌++◌}
-use Prim.Native.Nat.{ℕ, ◌+◌, ◌*◌, ◌^◌, ◌≤◌, ◌<◌}
+use Prim.Native.Nat.{ℕ, ◌+◌, ◌^◌, ◌≤◌, ◌<◌}
 use native.Mathlib.Omega.{arith}
 use borrow.Author.Tests.{lt-ltb}
 use lib.Dec.{T}
-use lib.ListN.{length, get_or}
+use lib.ListN.{get_or}
 use lib.IntN.{ℤ}
 use lib.Ieee.{Float, binary32, nan_bits, of_bits}
-use Rattle.meaning.specs.Limits.{no_more_docs}
 use Rattle.meaning.specs.Lent.{Index}
 use Rattle.meaning.specs.Live.{is_live}
 use Rattle.ieee754.specs.Nonneg.{AtMost}
@@ -22,13 +21,16 @@ use Rattle.weight.specs.ScorerTree.{nothing, term, phrase, range, everything, Sc
 use Rattle.weight.specs.Held.{LeafIs, Ok}
 use Rattle.scorer.specs.Calls.{Lent}
 use Rattle.leaf_score.specs.declared.ScoreNode.{ScoreNode}
-use Rattle.leaf_score.specs.Words.{ScoreNodeIs}
+use Rattle.std.specs.Prelude.{Option, Some, None}
+use Rattle.std.specs.Option.{unwrap_or}
+use Rattle.leaf_score.specs.Words.{ScoreNodeIs, constant_score}
+use Rattle.leaf_score.proofs.Constants.{constant-some, constant-none}
 use Rattle.walk.specs.Walks.{live_match, live_scored, PageHeld}
 use Rattle.leaf_score.proofs.Leaves.{read, kind-read}
 use Rattle.leaf_score.proofs.Bounds.{zero-32}
 use Rattle.leaf_score.proofs.Weights.{float_back, float-number}
 use Rattle.bulk_term.specs.Postings.{NodeScores}
-use Rattle.bulk_scorer.proofs.LiveMatches.{live_of, live-there, not_live, not-below, is-match}
+use Rattle.bulk_scorer.proofs.LiveMatches.{live_of, not_live, not-below, is-match}
 use Rattle.bulk_scorer.specs.Collects.{Continued, CollectPre}
 use Rattle.bulk_scorer.proofs.Held.{root-page}
 use Rattle.bulk_scorer.proofs.Sofar.{Sofar, sofar-start, sofar-skip, sofar-ready, sofar-take, sofar-done}
@@ -49,6 +51,10 @@ pub weighted-zero : (n : ScoreNode) → (n.constant ≡ 1 → ⊥) → (ix : Ind
 unfolding NodeScores leaf_score
 weighted-zero n m ix (constant c) doc p = absurd (m p.0)
 weighted-zero n m ix (weighted w) doc p = (zero-32, subst (λ (z : Float). AtMost (2 ^ 29) z) (sym zero-32) (zero-atmost _))
+
+pub score-or-zero : (n : ScoreNode) (o : Option Float) → o ≡ constant_score n → (ix : Index) (sc : Scoring) (doc : ℕ) → NodeScores sc n → (unwrap_or o (of_bits binary32 0) ≡ leaf_score ix everything sc doc) × AtMost (2 ^ 29) (unwrap_or o (of_bits binary32 0))
+score-or-zero n (Some x) e ix sc doc p = let k = constant-some n x e in subst (λ (z : Float). (z ≡ leaf_score ix everything sc doc) × AtMost (2 ^ 29) z) (sym k.1) (constant-score n k.0 ix sc doc p)
+score-or-zero n None e ix sc doc p = weighted-zero n (constant-none n e) ix sc doc p
 
 -- ---- the root
 module _ (documents : ℕ) (live : List ℕ) where
@@ -89,10 +95,6 @@ module _ (documents : ℕ) (live : List ℕ) where
       pub asked-any : ScoreNodeIs st n → AnyIs q.7.2.0 q.7.2.1
       asked-any N = any-is q.0 q.1 q.2 q.3 q.4 st N q.6 q.5 q.7.2.0 q.7.2.1 q.7.2.2 (root-page q.0 q.1 live q.2 q.7.2.0 q.3 q.7.2.1 q.4 q.7.2.2 st q.7.2.3)
 
-      -- so many documents are numbered on
-      pub asked-few : doc_base + documents ≤ no_more_docs
-      asked-few = omega (arith, q.7.0, q.5)
-
   module _ (r : Float) where
     -- and r is the score of each document
     pub record AnyRoot (ix : Index) (sc : Scoring) : Type 0 where
@@ -122,12 +124,6 @@ module _ (documents : ℕ) (live : List ℕ) where
             (sofar-done ix (leaf everything sc) doc_base c₀ heap₀ c heap doc (I ix sc R) documents (omega (arith, h)) (λ y a. not-below ix (leaf everything sc) y (omega (arith, h, R.documents-are))))
 
         module _ (below : doc < documents) where
-          pub any-few : doc_base + documents ≤ no_more_docs → doc_base + doc < no_more_docs
-          any-few few = omega (arith, few, below)
-
-          pub any-bit : (ix : Index) (sc : Scoring) → AnyRoot ix sc → 0 < length live → doc < 64 * length live
-          any-bit ix sc R = live-there ix live doc R.accepted R.live-are (omega (arith, R.documents-are))
-
           -- a document that is not live is passed over
           pub any-pass : is_live (live_only live) doc ≡ false → AnysAt c heap (doc + 1)
           any-pass e ix sc R =

@@ -1,5 +1,5 @@
 -- A Boolean whose only child gives its matches and their scores: the words behind its record hold the child, whose live matches with their scores are the Boolean's. Assumes nothing.
-use Rattle.std.proofs.Common.{◌≡◌, refl, sym, ap, subst, ◌∙◌, Bool, true, false, not, cond, ◌&&◌, List, [], ◌∷◌, ◌++◌, map, ℕ, ◌+◌, ◌-◌, ◌*◌, ◌^◌, ◌≤◌, ◌<◌, leb, length, get_or, take, drop, append_assoc, append-nil, length-append, get_or-take, get_or-drop, arith}
+use Rattle.std.proofs.Common.{take_all, ◌≡◌, refl, sym, ap, subst, ◌∙◌, Bool, true, false, not, cond, ◌&&◌, List, [], ◌∷◌, ◌++◌, map, ℕ, ◌+◌, ◌-◌, ◌*◌, ◌^◌, ◌≤◌, ◌<◌, leb, length, get_or, take, drop, append_assoc, append-nil, length-append, get_or-take, get_or-drop, arith}
 use Rattle.std.proofs.lemmas.Bool.{false≢true, and_parts}
 use Rattle.std.specs.Prelude.{Float}
 use mathlib.Core.Path.{fun_ext}
@@ -193,3 +193,21 @@ module _ (E : Lent) (norms live : List ℕ) (table : List Float) (ix : Index) (p
         let S : Scorable ix table places t = record { sound = H.scorable.sound.0.0; tables = H.scorable.tables.0.0; few = omega (arith, H.scorable.few) } in
         let tree : T ≡ boolean none j 0 (more true t end) end end = ap (λ (i : ℕ). boolean none j i (more f t g) os ps) zero ∙ ap (λ (i : Bool). boolean none j 0 (more i t g) os ps) m ∙ ap (λ (i : Scorers). boolean none j 0 (more true t i) os ps) g-end ∙ ap (λ (i : Scorers). boolean none j 0 (more true t end) i ps) o-end ∙ ap (λ (i : Scorers). boolean none j 0 (more true t end) end i) p-end in
         child-held T o H t f q.0 B.0 own S (ap (live_scored ix) tree ∙ required-scored ix j t H.lends.accepted places (child-weighted T o H t f q.0 B.0 own S) S.sound S.few)
+
+-- The part by whose root the loop is chosen: its live matches with their scores are the tree's.
+module _ (E : Lent) (norms live : List ℕ) (table : List Float) (places depth : ℕ) (st : List ℕ) where
+  pub record PartOf (part : List ℕ) (ix : Index) (s : Scorer) : Type 0 where
+    pub child : Scorer
+    pub deep : ℕ
+    pub scores : ℕ
+    pub held : RootHeld E norms live table ix places child deep scores part
+    pub same : live_scored ix s ≡ live_scored ix child
+
+  abbrev pub Part : List ℕ → Type 0
+  Part part = (ix : Index) (s : Scorer) (o : ℕ) → RootHeld E norms live table ix places s depth o st → PartOf part ix s
+
+  pub whole-part : (at : ℕ) → at ≡ 0 → Part (take (length st - at) (drop at st))
+  whole-part at e = let all : take (length st - 0) (drop 0 st) ≡ st = take_all (length st - 0) st (omega arith) in rw (e, all) (λ ix s o H. record { child = s; deep = depth; scores = o; held = H; same = refl })
+
+  pub alone-part : AloneWords st → (at : ℕ) → at ≡ node_state_words → Part (take (length st - at) (drop at st))
+  alone-part W at e = rw e (λ ix s o H. let O = only-child E norms live table ix places depth st W s o H in record { child = O.child; deep = depth - 1; scores = O.scores; held = O.held; same = O.same })

@@ -7,7 +7,7 @@ use node::{NodeKind, boolean_at};
 use weight::NODE_STATE_WORDS;
 
 // The child's scores word.
-// Kept: child_at asks that the part's length is right, which is not known of words that any caller lends; the proof did not close.
+// Kept: no plainer: child_at asks that a record of the length it says stands there, and of words that any caller lends that would be one test more.
 const CHILD_SCORES: usize = NODE_STATE_WORDS + 15;
 
 // Whether the words are such a Boolean, that is not constant and whose child is one record: required and scoring, or optional and needed.

@@ -16,10 +16,7 @@ fn one_score(n: ScoreNode) -> f32
     requires { (sc : Scoring) × NodeScores sc n }
     ensures { (ix : Index) (sc : Scoring) (doc : ℕ) → NodeScores sc n → (result ≡ leaf_score ix everything sc doc) × AtMost (2 ^ 29) result }
 {
-    match n.constant_score() {
-        Some(score) => score,
-        None => 0.0,
-    }
+    n.constant_score().unwrap_or(0.0)
 }
 
 // The live documents to the collector, numbered on from a document base; the root's words stay as they are.

@@ -14,7 +14,7 @@ pub mod alone;
 pub mod everything;
 
 // The live documents that the tree matches to the collector, numbered on from a document base.
-// Kept: seven parameters, as in `bulk_window` `collect_windows`.
+// Kept: seven parameters: no plainer, as in `bulk_window` `collect_windows`.
 pub fn collect_matches(
     st: &mut [u32],
     reader: &LeafReader<'_>,
@@ -29,26 +29,15 @@ pub fn collect_matches(
     ensures collect_end { CollectEnd (lent_of reader.now) reader.now.norms.now reader.now.live.now reader.now.inverses.now (places_in buffers.old) st.old depth st.new }
     ensures same_buffers { SameBuffers buffers.old buffers.new }
 {
-    match NodeKind::from(st[0]) {
-        NodeKind::Term => {
-            return bulk_term::collect_term(st, reader, doc_base, c, heap);
-        }
-        NodeKind::Everything => {
-            return everything::collect_everything(st, reader, doc_base, c, heap);
-        }
-        _ => {}
+    let at = if alone::alone(st) {
+        NODE_STATE_WORDS
+    } else {
+        0
+    };
+    let part = &st[at..];
+    match NodeKind::from(part[0]) {
+        NodeKind::Term => bulk_term::collect_term(part, reader, doc_base, c, heap),
+        NodeKind::Everything => everything::collect_everything(part, reader, doc_base, c, heap),
+        _ => bulk_window::collect_windows(st, reader, buffers, depth, doc_base, c, heap),
     }
-    if alone::alone(st) {
-        let child = &st[NODE_STATE_WORDS..];
-        match NodeKind::from(child[0]) {
-            NodeKind::Term => {
-                return bulk_term::collect_term(child, reader, doc_base, c, heap);
-            }
-            NodeKind::Everything => {
-                return everything::collect_everything(child, reader, doc_base, c, heap);
-            }
-            _ => {}
-        }
-    }
-    bulk_window::collect_windows(st, reader, buffers, depth, doc_base, c, heap)
 }

@@ -19,7 +19,8 @@ use Rattle.weight.specs.ScorerTree.{term, Scoring, constant, weighted, leaf_scor
 use Rattle.weight.specs.Sound.{LeafTable}
 use Rattle.leaf_score.specs.declared.ScoreNode.{ScoreNode}
 use Rattle.leaf_score.specs.Asked.{LentAt}
-use Rattle.leaf_score.proofs.Leaves.{Weighs, answer, field-weighs, field-answer}
+use Rattle.leaf_score.specs.Words.{Bytes, Weighs, answer}
+use Rattle.leaf_score.proofs.Leaves.{field-weighs, field-answer}
 use Rattle.leaf_score.proofs.Weights.{float_back, float-number}
 use Rattle.bulk_term.specs.Postings.{NodeScores, PostingAsks}
 
@@ -42,17 +43,16 @@ module _ (norms : List ℕ) (table : List Float) (n : ScoreNode) (frequency doc 
   few : (sc : Scoring) → PostingAsks ix table norms l sc n frequency doc → frequency ≤ largest_frequency
   few sc p = omega (arith, p.frequency-is, frequency-few ix p.accepted l doc p.leaf-there (posting_at ix l doc) refl p.match)
 
-  module _ (bytes : (i : ℕ) → get_or norms i 0 < 256) where
-    -- BM25
-    pub posting-weighs : (sc : Scoring) → PostingAsks ix table norms l sc n frequency doc → (n.constant ≡ 1 → ⊥) → Weighs n norms table doc frequency
-    unfolding NodeScores LeafTable
-    posting-weighs (constant c) p m = absurd (m p.scores.0)
-    posting-weighs (weighted w) p m =
-        field-weighs ix ix.max_doc ix.postings ix.positions norms doc (lends-at (weighted w) p) bytes table n (leaf_field ix l) (p.accepted.leaf l p.leaf-there).field p.tables w p.scores.1 p.field_is p.norms-is frequency (few (weighted w) p)
+  -- BM25
+  pub posting-weighs : (sc : Scoring) → PostingAsks ix table norms l sc n frequency doc → (n.constant ≡ 1 → ⊥) → Weighs n norms table doc frequency
+  unfolding NodeScores LeafTable
+  posting-weighs (constant c) p m = absurd (m p.scores.0)
+  posting-weighs (weighted w) p m =
+      field-weighs ix ix.max_doc ix.postings ix.positions norms doc (lends-at (weighted w) p) table n (leaf_field ix l) (p.accepted.leaf l p.leaf-there).field p.tables w p.scores.1 p.field_is p.norms-is frequency (few (weighted w) p)
 
-    pub posting-weighted : (sc : Scoring) → PostingAsks ix table norms l sc n frequency doc → (n.constant ≡ 1 → ⊥) → (r : Float) → r ≡ answer n norms table doc frequency → (r ≡ leaf_score ix (term l) sc doc) × AtMost (2 ^ 29) r
-    unfolding NodeScores LeafTable leaf_score
-    posting-weighted (constant c) p m r q = absurd (m p.scores.0)
-    posting-weighted (weighted w) p m r q =
-        let t = field-answer ix ix.max_doc ix.postings ix.positions norms doc (lends-at (weighted w) p) bytes table n (leaf_field ix l) (p.accepted.leaf l p.leaf-there).field p.tables w p.scores.1 p.field_is p.norms-is frequency (few (weighted w) p) r q in
-        (t.0 ∙ ap (λ (i : ℕ). field_score ix (leaf_field ix l) w i doc) p.frequency-is, t.1)
+  pub posting-weighted : (sc : Scoring) → PostingAsks ix table norms l sc n frequency doc → (n.constant ≡ 1 → ⊥) → Bytes norms → (r : Float) → r ≡ answer n norms table doc frequency → (r ≡ leaf_score ix (term l) sc doc) × AtMost (2 ^ 29) r
+  unfolding NodeScores LeafTable leaf_score
+  posting-weighted (constant c) p m bytes r q = absurd (m p.scores.0)
+  posting-weighted (weighted w) p m bytes r q =
+      let t = field-answer ix ix.max_doc ix.postings ix.positions norms doc (lends-at (weighted w) p) table n (leaf_field ix l) (p.accepted.leaf l p.leaf-there).field p.tables w p.scores.1 p.field_is p.norms-is frequency (few (weighted w) p) bytes r q in
+      (t.0 ∙ ap (λ (i : ℕ). field_score ix (leaf_field ix l) w i doc) p.frequency-is, t.1)

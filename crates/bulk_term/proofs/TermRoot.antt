@@ -28,7 +28,7 @@ use Rattle.scorer.specs.Calls.{Lent}
 use Rattle.meaning.proofs.Tests.{cmp}
 use Rattle.leaf_scorer.specs.declared.LeafReader.{LeafReader}
 use Rattle.leaf_score.specs.declared.ScoreNode.{ScoreNode}
-use Rattle.leaf_score.specs.Words.{ScoreNodeIs}
+use Rattle.leaf_score.specs.Words.{ScoreNodeIs, first_byte}
 use Rattle.walk.specs.Walks.{live_match, PageHeld}
 use Rattle.leaf_score.proofs.Leaves.{read, kind-read}
 use Rattle.bulk_scorer.specs.Collects.{CollectPre, CollectPost}
@@ -51,7 +51,7 @@ pub record TermRoot (R : LeafReader) (n : ScoreNode) (ix : Index) (l : ℕ) (sc 
   pub first-is : n.first ≡ leaf_first ix l
   pub number_is : n.number ≡ leaf_number ix l
   pub field_is : n.field ≡ leaf_field ix l
-  pub norms-is : n.norms ≡ norms_word ix (leaf_field ix l)
+  pub norms-is : n.norms ≡ first_byte (norms_word ix (leaf_field ix l))
   pub scores : NodeScores sc n
 
 pub record RootIs (R : LeafReader) (n : ScoreNode) (ix : Index) (s : Scorer) : Type 0 where
@@ -83,7 +83,7 @@ module _ (R : LeafReader) (n : ScoreNode) (E : Lent) (places depth : ℕ) (st : 
           first-is = W.first-is ∙ i.first-is;
           number_is = W.number_is ∙ i.number_is;
           field_is = W.field_is ∙ i.field_is;
-          norms-is = W.norms-is ∙ i.norms-is;
+          norms-is = W.norms-is ∙ ap first_byte i.norms-is;
           scores = node-scores sc p.0 n W.constant-is W.weight_is p.5;
         };
       }

@@ -7,6 +7,7 @@ use Rattle.weight.specs.ScorerTree.{term, Scoring, constant, weighted}
 use Rattle.weight.specs.Held.{norms_word, FloatIs}
 use Rattle.weight.specs.Sound.{LeafTable}
 use Rattle.leaf_score.specs.declared.ScoreNode.{ScoreNode}
+use Rattle.leaf_score.specs.Words.{first_byte}
 
 -- how the node scores, in the two words that say it
 unfoldable pub NodeScores : Scoring → ScoreNode → Type 0
@@ -21,7 +22,7 @@ pub record PostingAsks (ix : Index) (table : List Float) (norms : List ℕ) (l :
   pub leaf-there : l < leaf_count ix
   pub tables : LeafTable ix table (term l) sc
   pub field_is : n.field ≡ leaf_field ix l
-  pub norms-is : n.norms ≡ norms_word ix (leaf_field ix l)
+  pub norms-is : n.norms ≡ first_byte (norms_word ix (leaf_field ix l))
   pub scores : NodeScores sc n
   pub match : found (posting_at ix l doc) ≡ true
   pub frequency-is : frequency ≡ frequency_of ix l (posting_at ix l doc)

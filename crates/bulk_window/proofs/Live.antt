@@ -1,5 +1,5 @@
 -- The live word of a window, and its cut at the number of documents. Assumes nothing.
-use Rattle.std.proofs.Common.{◌≡◌, refl, sym, ap, ◌∙◌, Bool, true, false, ◌&&◌, List, ℕ, ◌+◌, ◌-◌, ◌/◌, ◌%◌, ◌≤◌, ◌<◌, eqb, ltb, length, get_or, arith, lt-ltb, le-ltb, ne_eqb}
+use Rattle.std.proofs.Common.{◌≡◌, refl, sym, ap, ◌∙◌, Bool, true, false, ◌&&◌, List, ℕ, ◌+◌, ◌-◌, ◌/◌, ◌%◌, ◌≤◌, ◌<◌, eqb, ltb, length, get_or, arith, lt-ltb, le-ltb}
 use Rattle.meaning.specs.Live.{is_live}
 use Rattle.index.specs.Slices.{live_only}
 use Rattle.meaning.proofs.Tests.{cmp}
@@ -7,16 +7,15 @@ use mathlib.Core.Logic.{⊎_elim}
 use Rattle.bits.specs.Bit.{bit}
 use Rattle.bits.proofs.Laws.{bit-tested}
 
-pub all-live : (live : List ℕ) (d : ℕ) → length live ≡ 0 → is_live (live_only live) d ≡ true
+pub all-live : (live : List ℕ) (d : ℕ) → eqb (length live) 0 ≡ true → is_live (live_only live) d ≡ true
 unfolding is_live
 all-live live d e = rw e refl
 
-pub word-live : (live : List ℕ) (base p : ℕ) → base % 64 ≡ 0 → p < 64 → (length live ≡ 0 → ⊥) → bit p (get_or live (base / 64) 0) ≡ is_live (live_only live) (base + p)
+pub word-live : (live : List ℕ) (base p : ℕ) → base % 64 ≡ 0 → p < 64 → eqb (length live) 0 ≡ false → bit p (get_or live (base / 64) 0) ≡ is_live (live_only live) (base + p)
 unfolding is_live
-word-live live base p e h n =
+word-live live base p e h z =
     let q : (base + p) / 64 ≡ base / 64 = omega arith in
     let r : (base + p) % 64 ≡ p = omega arith in
-    let z : eqb (length live) 0 ≡ false = ne_eqb (length live) 0 n in
     rw (z, q, r) (sym (bit-tested p (get_or live (base / 64) 0)))
 
 and-turned : (a b : Bool) → a && b ≡ b && a

@@ -3,11 +3,9 @@
 
 ghost use Rattle.std.specs.Prelude.{◌≡◌, ◌+◌, ◌*◌, ◌%◌, ◌≤◌, ◌<◌, length};
 ghost use Rattle.leaf_scorer.specs.Calls.{lent_of};
-ghost use Rattle.leaf_scorer.specs.Buffers.{room, other_room, places_in, SameBuffers};
+ghost use Rattle.leaf_scorer.specs.Buffers.{places_in, SameBuffers};
 ghost use Rattle.bulk_scorer.specs.Collects.{CollectPre, CollectPost, CollectEnd};
-ghost use Rattle.bulk_window.specs.Windows.{LiveWord, LiveBits, NextWindow, PlacesPre, PlacesPost, WindowPre, WindowPost, Cleared};
-ghost use Rattle.window_score.specs.Sums.{Zeros};
-ghost use Rattle.window_score.specs.Asked.{reads_of};
+ghost use Rattle.bulk_window.specs.Windows.{LiveWord, LiveBits, NextWindow, PlacesPre, PlacesPost, Cleared};
 
 use bits::SetBits;
 use collector::TopScoreDocCollector;
@@ -16,17 +14,14 @@ use window_bits::node_bits;
 use window_leaf::Window;
 use window_score::root::root_scores;
 
-// Every document of a window.
-const ALL: u64 = 18446744073709551615;
-
 // The live words of a window; no words at all means that all are live.
 fn live_word(live: &[u64], base: u32) -> u64
     requires whole { base % 64 ≡ 0 }
     requires there { 0 < length live.now → base < 64 * length live.now }
     ensures { LiveWord live.now base result }
 {
-    if live.len() == 0 {
-        return ALL;
+    if live.is_empty() {
+        return u64::MAX;
     }
     live[(base / 64) as usize]
 }
@@ -77,34 +72,9 @@ fn collect_places(
     c
 }
 
-// The documents of a window that the tree matches, to the collector with their scores. All sums are 0 before and after.
-// Kept: no plainer: what a call of a window asks (`root_scores`) and what the collector takes (`collect_places`) meet here alone.
-fn collect_window(
-    st: &mut [u32],
-    window: &Window<'_>,
-    buffers: &mut PhraseBuffers<'_>,
-    places: u64,
-    sums: &mut [f64],
-    depth: u32,
-    doc_base: u32,
-    c: TopScoreDocCollector,
-    heap: &mut [i64],
-) -> TopScoreDocCollector
-    requires zeros { Zeros sums.old }
-    requires window { WindowPre st.old (reads_of window.now) (room buffers.old) (other_room buffers.old) places depth doc_base c heap.old }
-    ensures zeros { Zeros sums.new }
-    ensures window { WindowPost st.old (reads_of window.now) (room buffers.old) (other_room buffers.old) places depth doc_base c heap.old result heap.new st.new }
-    ensures same_buffers { SameBuffers buffers.old buffers.new }
-{
-    if places == 0 {
-        return c;
-    }
-    root_scores(st, window, buffers, places, sums, depth);
-    collect_places(c, heap, doc_base + window.base, places, sums)
-}
-
-// The live documents that the tree matches to the collector, numbered on from a document base.
-// Kept: seven parameters: the collector goes through by value, and a struct of it and its heap would be made for each call.
+// The live documents that the tree matches to the collector, numbered on from a document base. All sums are 0 between two windows.
+// Kept: seven parameters: no plainer by a struct lent with the collector, its heap and doc_base: the loops keep the collector by value
+// (`stepped`), so each would take it out and put it back.
 pub fn collect_windows(
     st: &mut [u32],
     reader: &LeafReader<'_>,
@@ -131,9 +101,10 @@ pub fn collect_windows(
         };
         let places = node_bits(st, &window, buffers, want, depth);
         let next = st[22];
-        c = collect_window(
-            st, &window, buffers, places, &mut sums, depth, doc_base, c, heap,
-        );
+        if places != 0 {
+            root_scores(st, &window, buffers, places, &mut sums, depth);
+            c = collect_places(c, heap, doc_base + base, places, &mut sums);
+        }
         base = next_window(base, next);
     }
     c

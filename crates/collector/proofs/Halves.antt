@@ -14,6 +14,7 @@ use mir.Val.{SFits, of_z, to_z}
 use mir.ValLaws.{to_z_pos, to_z-neg, to_z-of_z}
 use Rattle.meaning.specs.Ieee754.{sortable_int, sortable_bits}
 use Rattle.meaning.specs.Hits.{low_word}
+use Rattle.collector.specs.Flipped.{flipped}
 
 abbrev half : ℕ
 half = 2147483648
@@ -47,9 +48,6 @@ sign_clear : (b : ℕ) → b < 2 ^ 31 → b / half ≡ 0
 sign_clear b h = omega arith
 
 -- ---- an int whose 31 lower bits are turned over where it is negative
-abbrev pub flipped : ℤ → ℤ
-flipped (pos n) = pos n
-flipped (negsuc n) = negsuc (half - 1 - n)
 
 over : (n : ℕ) → n < 2 ^ 31 → bit_xor (full - suc n) 2147483647 ≡ full - suc (half - 1 - n)
 over n h =

@@ -5,22 +5,29 @@ ghost use Rattle.std.specs.Float.{binary32};
 ghost use Rattle.std.specs.Float.Ieee.{of_bits, to_bits, is_nan, nan_bits};
 ghost use Rattle.meaning.specs.Limits.{no_more_docs};
 ghost use Rattle.meaning.specs.Ieee754.{sortable_int, sortable_bits};
-ghost use Rattle.meaning.specs.Hits.{code, low_word, to_doc, to_score};
+ghost use Rattle.meaning.specs.Hits.{code, to_doc, to_score};
+ghost use Rattle.collector.specs.Flipped.{flipped};
 
-// floatToSortableInt: a negative pattern has its 31 lower bits turned over.
+// A negative int has its 31 lower bits turned over, and by that once more its own.
+fn flipped(i: i32) -> i32
+    ensures { result ≡ flipped i }
+{
+    i ^ ((i >> 31) & 0x7fff_ffff)
+}
+
+// floatToSortableInt.
 pub fn float_to_sortable_int(f: f32) -> i32
     requires { T (not (is_nan f)) }
     ensures { result ≡ sortable_int (to_bits binary32 f) }
 {
-    let bits = f32::to_bits(f).cast_signed();
-    bits ^ ((bits >> 31) & 0x7fff_ffff)
+    flipped(f32::to_bits(f).cast_signed())
 }
 
 // The pattern that has a sortable int: the way back, and of every int.
 pub fn sortable_bits(i: i32) -> u32
     ensures { result ≡ sortable_bits i }
 {
-    (i ^ ((i >> 31) & 0x7fff_ffff)).cast_unsigned()
+    flipped(i).cast_unsigned()
 }
 
 // sortableIntToFloat.
@@ -40,16 +47,23 @@ pub fn encode(doc: u32, score: f32) -> i64
     (i64::from(float_to_sortable_int(score)) << 32) | i64::from(2147483647 - doc)
 }
 
+// The bits of a code's score.
+pub fn score_bits(code: i64) -> u32
+    ensures { result ≡ sortable_bits (shr_z code (2 ^ 32)) }
+{
+    sortable_bits((code >> 32) as i32)
+}
+
 pub fn to_score(code: i64) -> f32
     requires { T (not (nan_bits binary32 (sortable_bits (shr_z code (2 ^ 32))))) }
     ensures { result ≡ to_score code }
 {
-    sortable_int_to_float((code >> 32) as i32)
+    f32::from_bits(score_bits(code))
 }
 
+// 0 where the lower word is no document's.
 pub fn to_doc(code: i64) -> u32
-    requires { low_word code ≤ no_more_docs }
     ensures { result ≡ to_doc code }
 {
-    2147483647 - ((code & 0xffff_ffff) as u32)
+    2147483647u32.saturating_sub((code & 0xffff_ffff) as u32)
 }

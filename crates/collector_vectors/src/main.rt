@@ -2,15 +2,16 @@
 // unchanged Rust's TopScoreDocCollector, and of its own functions for codes (harness, `record`).
 #![tactic(auto)]
 
-ghost use Rattle.std.specs.Prelude.{◌≡◌, ◌<◌, ◌≤◌, true, false, not, T, length, is_nan};
+ghost use Rattle.std.specs.Prelude.{◌≡◌, ◌<◌, ◌≤◌, true, false, not, T, length, is_nan, All};
 ghost use Rattle.meaning.specs.CallRefusals.{wrong14};
 
 use collector::{TopDocs, codes};
+use index::postings::NO_MORE_DOCS;
 use std::io;
 use std::io::Write;
 use vectors::Format;
 use vectors::file::first;
-use vectors::numbers::{Seeds, Sequence, below, xorshift};
+use vectors::numbers::{Seeds, Sequence, below};
 use vectors::print::{Hits, Pattern};
 
 // Scores in rising order, from 0 to plus infinity.
@@ -45,7 +46,16 @@ const PATTERNS: [u32; 16] = [
     0x7f80_0000,
 ];
 
+// A score's bits are at most these.
+const PLUS_INFINITY: u32 = 0x7f80_0000;
+
+// The most documents of a list, and the most hits that are asked for.
+const DOCUMENTS: usize = 150;
+
+const HITS: usize = 40;
+
 // Whether the lists may be picked from: of one length, the documents rising and below 2147483647, the scores not negative.
+// Kept: tried `is_sorted_by` and two `all`, and the proof did not close: that each answers its closure's test was not found.
 fn is_good(documents: &[u32], scores: &[u32]) -> bool
     ensures { result ≡ true → wrong14 documents.now scores.now ≡ false }
 {
@@ -58,10 +68,10 @@ fn is_good(documents: &[u32], scores: &[u32]) -> bool
         if document < least {
             return false;
         }
-        if document >= 2147483647 {
+        if document >= NO_MORE_DOCS {
             return false;
         }
-        if scores[i] > 0x7f80_0000 {
+        if scores[i] > PLUS_INFINITY {
             return false;
         }
         least = document + 1;
@@ -86,9 +96,9 @@ fn print_picked(
 }
 
 fn pick(out: &mut impl Write, documents: &[u32], scores: &[u32], k: usize, t: u32) -> io::Result<()>
-    requires { (0 < k) × (k ≤ 40) }
+    requires { (0 < k) × (k ≤ HITS) }
 {
-    let mut heap = [0i64; 40];
+    let mut heap = [0i64; HITS];
     if is_good(documents, scores) {
         print_picked(out, documents, scores, t, &mut heap[..k])
     } else {
@@ -123,7 +133,7 @@ const ORDERS: [Order; 7] = [
 impl Order {
     // The i-th score, where a sequence's number is x.
     fn score(self, i: usize, x: u64) -> u32
-        requires { i < 150 }
+        requires { i < DOCUMENTS }
     {
         match self {
             Order::RisingTwelve => SCORES[i * 2 / 3 % 8],
@@ -131,8 +141,8 @@ impl Order {
             Order::OneOfTwo => SCORES[3 + (x % 2) as usize],
             Order::OneOfEight => SCORES[(x % 8) as usize],
             Order::Rising => 0x3f80_0000 + i as u32,
-            Order::Falling => 0x3f80_0000 + (150 - i) as u32,
-            Order::Any => (x % 0x7f80_0001) as u32,
+            Order::Falling => 0x3f80_0000 + (DOCUMENTS - i) as u32,
+            Order::Any => below(x, PLUS_INFINITY + 1),
         }
     }
 }
@@ -146,27 +156,23 @@ struct Lists {
 
 impl Lists {
     // Documents, each above the one before by 1 to 3.
-    fn documents(self, seed: u64) -> [u32; 150]
-        ensures { 150 ≡ length result }
+    fn documents(self, seed: u64) -> [u32; DOCUMENTS]
+        ensures { DOCUMENTS ≡ length result }
     {
-        let mut documents = [0u32; 150];
-        let mut x = seed;
+        let mut documents = [0u32; DOCUMENTS];
         let mut document = self.base;
-        for place in documents.iter_mut() {
-            x = xorshift(x);
+        for (place, x) in documents.iter_mut().zip(Sequence(seed)) {
             *place = document;
             document = document.wrapping_add(1 + below(x, 3));
         }
         documents
     }
 
-    fn scores(self, seed: u64) -> [u32; 150]
-        ensures { 150 ≡ length result }
+    fn scores(self, seed: u64) -> [u32; DOCUMENTS]
+        ensures { DOCUMENTS ≡ length result }
     {
-        let mut scores = [0u32; 150];
-        let mut x = seed;
-        for (i, place) in scores.iter_mut().enumerate() {
-            x = xorshift(x);
+        let mut scores = [0u32; DOCUMENTS];
+        for ((i, place), x) in scores.iter_mut().enumerate().zip(Sequence(seed)) {
             *place = self.order.score(i, x);
         }
         scores
@@ -174,8 +180,8 @@ impl Lists {
 
     // n documents and scores from a seed.
     fn ask(self, out: &mut impl Write, seed: u64, n: usize, k: usize, t: u32) -> io::Result<()>
-        requires n_bound { n ≤ 150 }
-        requires k_nonzero { (0 < k) × (k ≤ 40) }
+        requires n_bound { n ≤ DOCUMENTS }
+        requires k_nonzero { (0 < k) × (k ≤ HITS) }
     {
         let documents = self.documents(seed);
         let scores = self.scores(seed ^ 0x5555_5555_5555_5555);
@@ -206,10 +212,10 @@ impl Lists {
 }
 
 fn length_of(i: usize, seed: u64) -> usize
-    ensures { result ≤ 150 }
+    ensures { result ≤ DOCUMENTS }
 {
     if i % 2 == 0 {
-        150
+        DOCUMENTS
     } else {
         12 + below(seed >> 32, 138) as usize
     }
@@ -244,40 +250,42 @@ fn print_coded(out: &mut impl Write, score: f32, document: u32) -> io::Result<()
     writeln!(out, "{high} {low} {doc} {}", Pattern(back))
 }
 
-// A score alone, then with the first and the last documents.
-fn print_pattern(out: &mut impl Write, score: f32) -> io::Result<()> {
-    if score.is_nan() {
-        return writeln!(out, "nan");
-    }
-    print_sortable(out, score)?;
-    for document in [0, 1, 2147483646, 2147483647] {
-        print_coded(out, score, document)?;
-    }
-    Ok(())
-}
-
-fn codes_of_patterns(out: &mut impl Write) -> io::Result<()> {
-    for bits in PATTERNS {
-        print_pattern(out, f32::of(bits))?;
-        print_pattern(out, f32::of(bits ^ 0x8000_0000))?;
-    }
-    Ok(())
-}
-
-fn print_any(out: &mut impl Write, score: f32, document: u32) -> io::Result<()>
-    requires { document ≤ 2147483647 }
+// A score alone, then with each of these documents.
+fn print_pattern(out: &mut impl Write, score: f32, documents: &[u32]) -> io::Result<()>
+    requires { All (λ document. document ≤ 2147483647) documents.now }
 {
     if score.is_nan() {
         return writeln!(out, "nan");
     }
     print_sortable(out, score)?;
-    print_coded(out, score, document)
+    for &document in documents {
+        print_coded(out, score, document)?;
+    }
+    Ok(())
+}
+
+// A score's pattern and that of the other sign, with the first and the last documents.
+fn print_signs(out: &mut impl Write, bits: u32) -> io::Result<()> {
+    let documents = [0, 1, NO_MORE_DOCS - 1, NO_MORE_DOCS];
+    print_pattern(out, f32::of(bits), &documents)?;
+    print_pattern(out, f32::of(bits ^ 0x8000_0000), &documents)
+}
+
+fn codes_of_patterns(out: &mut impl Write) -> io::Result<()> {
+    for bits in PATTERNS {
+        print_signs(out, bits)?;
+    }
+    Ok(())
 }
 
 // Patterns and documents from a seed.
 fn codes_of_any(out: &mut impl Write) -> io::Result<()> {
     for x in Sequence(3).take(128) {
-        print_any(out, f32::of((x % 0x1_0000_0000) as u32), (x >> 33) as u32)?;
+        print_pattern(
+            out,
+            f32::of((x % 0x1_0000_0000) as u32),
+            &[(x >> 33) as u32],
+        )?;
     }
     Ok(())
 }

@@ -48,11 +48,7 @@ impl ColumnType {
     pub(crate) fn end_key(self, end: Bound<u64>) -> Bound<u64>
         ensures { result ≡ bound_map (value_key (type_number self)) end }
     {
-        match end {
-            Bound::Included(bits) => Bound::Included(self.value_key(bits)),
-            Bound::Excluded(bits) => Bound::Excluded(self.value_key(bits)),
-            Bound::Unbounded => Bound::Unbounded,
-        }
+        end.map(|bits| self.value_key(bits))
     }
 
     // Whether a pattern is no number of the type: a NaN of either sign, in a column that is not i64.
@@ -70,8 +66,7 @@ impl ColumnType {
         ensures { result ≡ end_good (end_kind end) (type_number self) (end_value end) }
     {
         match end {
-            Bound::Included(bits) => !self.failed(bits),
-            Bound::Excluded(bits) => !self.failed(bits),
+            Bound::Included(bits) | Bound::Excluded(bits) => !self.failed(bits),
             Bound::Unbounded => true,
         }
     }

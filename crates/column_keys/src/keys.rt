@@ -5,6 +5,7 @@ ghost use Rattle.column_keys.specs.Keys.{between, key_at_lower, key_at_upper, en
 use std::ops::Bound;
 
 // The keys from one to another, both included; none where `from` is above `to`.
+// Kept: no plainer as a RangeInclusive, which is no Copy value: the scan is lent this by value.
 #[derive(Clone, Copy)]
 pub struct Keys {
     pub from: u64,

@@ -11,16 +11,17 @@ ghost use Rattle.column_keys.specs.Keys.{between, range_key, value_in, type_numb
 use column_type::ColumnType;
 use keys::{Keys, end_of, lower_keys, upper_keys};
 
-// A 64-bit pattern from its low and its high half.
-// Kept: no plainer as that of `bits`, whose promises are of a word's bits: this one is document 01's, for whoever reads a value or an end.
+// A 64-bit pattern from its low and its high half, for whoever reads a value or an end.
+// Kept: no plainer as `bits::joined` alone: its clause is document 01's `joined` by name; `bits`' spells the sum out and says more, for the windows.
 pub fn joined(low: u32, high: u32) -> u64
     ensures { result ≡ joined low high }
 {
-    u64::from(low) + u64::from(high) * 0x1_0000_0000
+    bits::joined(low, high)
 }
 
 // The keys of the numbers that a range lets in: none where a given end is no number. The kinds are the lower end's + 3 × the upper's.
 // The scan is lent an interval and nothing else, so it has no test for NaN.
+// Kept: the C interface lends both kinds in one word; here each end becomes a `Bound`, once.
 pub fn range_keys(column_type: ColumnType, kinds: u32, lower: u64, upper: u64) -> Keys
     ensures { (k : ℕ) → k < 2 ^ 64 → between result.from result.to k ≡ range_key (type_number column_type) kinds lower upper k }
 {

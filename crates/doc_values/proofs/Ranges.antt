@@ -2,11 +2,12 @@
 use mathlib.Core.Path.{◌≡◌, refl, ap, ◌∙◌}
 use mathlib.Core.Bool.{Bool, true, false, not, ◌&&◌}
 use mathlib.Core.List.{List}
-use Prim.Native.Nat.{ℕ, suc, ◌+◌, ◌*◌, ◌/◌, ◌%◌, ◌^◌, ◌≤◌, ◌<◌}
+use Prim.Native.Nat.{ℕ, suc, ◌+◌, ◌-◌, ◌*◌, ◌/◌, ◌%◌, ◌^◌, ◌≤◌, ◌<◌}
 use native.Mathlib.Nat.{mul-le-mul_right, suc-mul}
 use native.Mathlib.Omega.{arith}
 use lib.Dec.{eqb, ltb}
-use lib.ListN.{length, get_or}
+use lib.ListN.{length, get_or, take, drop, length-drop}
+use lib.Seq.{get_or-drop, take_all}
 use borrow.Author.Tests.{leb-false, eqb-true, not-false}
 use Rattle.meaning.specs.Limits.{max_columns}
 use Rattle.meaning.specs.Below.{list_below, any_below}
@@ -86,6 +87,15 @@ module _ (ix : Index) (r : NumericRange) where
   column_fits e f =
       let more : suc r.column * ix.max_doc ≤ length ix.columns * ix.max_doc = mul-le-mul_right ix.max_doc (column-there f) in
       omega (arith, values_length e, suc-mul r.column ix.max_doc)
+
+-- ---- a value of a column, by the words from the column's first on
+pub value_in-from : (xs : List ℕ) (s d t from to : ℕ) → value_in (take (length xs - s) (drop s xs)) (3 * d) t from to ≡ value_in xs (s + 3 * d) t from to
+unfolding value_in
+value_in-from xs s d t from to =
+    let whole : take (length xs - s) (drop s xs) ≡ drop s xs = let left = length-drop s xs in take_all (length xs - s) (drop s xs) (omega (arith, left)) in
+    let one : s + (3 * d + 1) ≡ s + 3 * d + 1 = omega arith in
+    let two : s + (3 * d + 2) ≡ s + 3 * d + 2 = omega arith in
+    rw (whole, get_or-drop s xs (3 * d) 0, get_or-drop s xs (3 * d + 1) 0, get_or-drop s xs (3 * d + 2) 0, one, two)
 
 -- ---- the scan of a column by keys lists the range
 and-all : (p n g h l u : Bool) → (p && (n && g && h && l && u)) ≡ (p && n && g && h && l && u)

@@ -79,6 +79,7 @@ fn end_at(i: usize) -> u64
 }
 
 // An unbounded end is lent as 0.
+// Kept: the C interface lends both kinds as one number, here and below; `print_kinds` goes through all nine.
 fn end_of(kind: u32, end: u64) -> u64
     ensures { kind ≡ 0 → result ≡ 0 }
 {

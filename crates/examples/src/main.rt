@@ -2,7 +2,7 @@
 // crates/examples/stdout is written from the document's text: a hit is its document and its score's bits.
 #![tactic(auto)]
 
-use collector::TopDocs;
+use collector::{TopDocs, codes};
 use index::columns::NumericRange;
 use index::lent::Lent;
 use range_entry::Columns;
@@ -51,21 +51,20 @@ const ONE_TERM: [u32; 18] = [2, 0, 1, 0, 0, 0, 0, 0, 0, 9, 0, 0, 2, 1, 0, 0, 0, 
 // A column of i64 values: 17, 18, 18, absent.
 const VALUES: [u32; 12] = [1, 17, 0, 1, 18, 0, 1, 18, 0, 0, 0, 0];
 
+// Three documents, and nothing else of an index.
+const THREE: Lent<'static> = Lent {
+    max_doc: 3,
+    ..EMPTY
+};
+
 // A document and its score's bits.
-fn print_scored(out: &mut impl Write, document: u64, bits: u64) -> io::Result<()> {
+fn print_scored(out: &mut impl Write, document: u32, bits: u32) -> io::Result<()> {
     write!(out, " {document} {bits:08x}")
 }
 
-// A code: the score's bits above 2147483647 - document.
+// The document of a hit's code, and its score's bits.
 fn print_hit(out: &mut impl Write, code: i64) -> io::Result<()> {
-    if code >= 0 {
-        let bits = code as u64;
-        let low = bits % 0x1_0000_0000;
-        if low <= 2147483647 {
-            print_scored(out, 2147483647 - low, bits / 0x1_0000_0000)?;
-        }
-    }
-    Ok(())
+    print_scored(out, codes::to_doc(code), codes::score_bits(code))
 }
 
 // The count, its mark, and the hits.
@@ -82,24 +81,22 @@ fn print_found(out: &mut impl Write, top: TopDocs, hits: &[i64]) -> io::Result<(
     writeln!(out)
 }
 
+// Node states and nothing else: MatchAll asks for no other work buffer.
+fn states_alone(states: &mut [u32]) -> Buffers<'_> {
+    Buffers {
+        states,
+        starts: &mut [],
+        other_starts: &mut [],
+        ranges: &mut [],
+    }
+}
+
 // MatchAll over three documents.
 fn search_all(out: &mut impl Write, k: u32) -> io::Result<()> {
     let mut states = [0u32; NODE_STATE_WORDS];
-    let mut starts = [0i32; 0];
-    let mut other_starts = [0i32; 0];
-    let mut ranges = [0u32; 0];
+    let mut buffers = states_alone(&mut states);
     let mut hits = [0i64; 1024];
-    let lent = Lent {
-        max_doc: 3,
-        ..EMPTY
-    };
-    let mut buffers = Buffers {
-        states: &mut states,
-        starts: &mut starts,
-        other_starts: &mut other_starts,
-        ranges: &mut ranges,
-    };
-    match searcher::search::search(&lent, &MATCH_ALL, k, 10, &mut buffers, &mut hits) {
+    match searcher::search::search(&THREE, &MATCH_ALL, k, 10, &mut buffers, &mut hits) {
         Err(refusal) => writeln!(out, "refused {refusal}"),
         Ok(top) => print_found(out, top, &hits),
     }
@@ -113,31 +110,19 @@ fn print_listed(
     scores: &[u32],
 ) -> io::Result<()> {
     for (document, bits) in documents.iter().zip(scores).take(listed.given) {
-        print_scored(out, u64::from(*document), u64::from(*bits))?;
+        print_scored(out, *document, *bits)?;
     }
     writeln!(out, " next {}", listed.next)
 }
 
-// The same, from a target, to two places.
+// MatchAll over three documents, from a target, to two places.
 fn page_all(out: &mut impl Write, target: u32) -> io::Result<()> {
     let mut states = [0u32; NODE_STATE_WORDS];
-    let mut starts = [0i32; 0];
-    let mut other_starts = [0i32; 0];
-    let mut ranges = [0u32; 0];
+    let mut buffers = states_alone(&mut states);
     let mut documents = [0u32; 2];
     let mut scores = [0u32; 2];
-    let lent = Lent {
-        max_doc: 3,
-        ..EMPTY
-    };
-    let mut buffers = Buffers {
-        states: &mut states,
-        starts: &mut starts,
-        other_starts: &mut other_starts,
-        ranges: &mut ranges,
-    };
     let paged = searcher::page::page(
-        &lent,
+        &THREE,
         &MATCH_ALL,
         target,
         &mut buffers,

@@ -5,24 +5,28 @@ ghost use Rattle.hits.specs.Text.{search_text, hits_text};
 ghost use Rattle.hits_text.specs.Contents.{files_of};
 
 use arrayvec::ArrayVec;
-use hits_text::files::{Contents, taken};
+use hits_text::files::{Contents, MAX_BYTES, taken};
 use hits_text::hit::{found, refused};
 use hits_text::words::{read_longs, read_words, word_at};
 use index::lent::Lent;
+use query::MAX_RECORDS;
 use searcher::buffers::Buffers;
 use weight::NODE_STATE_WORDS;
 
 // As much as 1024 hits take, and more.
 type Text = ArrayVec<u8, 32768>;
 
+// The words of the longest file that is taken.
+const MAX_WORDS: usize = MAX_BYTES / 4;
+
 // Searches with the program's own buffers.
 fn answer(index: Lent, query: &[u32], k: u32, t: u32) -> Text
     ensures { result.items ≡ search_text (index_of index.entry) query.now k t }
 {
-    let mut states = [0u32; 256 * NODE_STATE_WORDS];
-    let mut starts = [0i32; 16384];
-    let mut other_starts = [0i32; 16384];
-    let mut ranges = [0u32; 16384];
+    let mut states = [0u32; MAX_RECORDS * NODE_STATE_WORDS];
+    let mut starts = [0i32; MAX_WORDS];
+    let mut other_starts = [0i32; MAX_WORDS];
+    let mut ranges = [0u32; MAX_WORDS];
     let mut hits = [0i64; 1024];
     let mut buffers = Buffers {
         states: &mut states,
@@ -47,14 +51,14 @@ pub fn report(files: Contents) -> Text
     if !taken(files) {
         return refused(0);
     }
-    let mut fields = [0u32; 16384];
-    let mut leaves = [0u32; 16384];
-    let mut postings = [0u32; 16384];
-    let mut positions = [0u32; 16384];
-    let mut live = [0u64; 8192];
-    let mut columns = [0u32; 16384];
-    let mut values = [0u32; 16384];
-    let mut query = [0u32; 16384];
+    let mut fields = [0u32; MAX_WORDS];
+    let mut leaves = [0u32; MAX_WORDS];
+    let mut postings = [0u32; MAX_WORDS];
+    let mut positions = [0u32; MAX_WORDS];
+    let mut live = [0u64; MAX_BYTES / 8];
+    let mut columns = [0u32; MAX_WORDS];
+    let mut values = [0u32; MAX_WORDS];
+    let mut query = [0u32; MAX_WORDS];
     let index = Lent {
         max_doc: word_at(files.run, 0),
         fields: read_words(files.fields, &mut fields),

@@ -1,24 +1,43 @@
--- A list that is filled place by place from the front. Assumes nothing.
-use Rattle.std.proofs.Common.{◌≡◌, sym, ◌∙◌, ap, subst, List, ◌++◌, length, take, get_or, ℕ, ◌+◌, ◌<◌, arith}
+-- A list that is filled place by place from the front, by the words of a file. Assumes nothing.
+use Rattle.std.proofs.Common.{◌≡◌, ap, ◌∙◌, List, [], ◌∷◌, ◌++◌, length, lit<, take, ℕ, ◌+◌, ◌*◌, ◌<◌, sym, arith, w32, w64}
+use Rattle.std.specs.Simd.{first_chunks}
+use Rattle.std.specs.Int.{from_le_bytes}
 use Rattle.std.proofs.Math.ListN.{set}
-use Rattle.std.proofs.lemmas.Grind.{get_or-set_at, same_number_lists}
-use Rattle.std.proofs.lemmas.List.{get_or-set_other}
-use lib.Seq.{take-append_seam}
-use mathlib.Core.Logic.{⊎_elim}
+use native.Mathlib.Numerals.{add-one}
+use lib.ListN.{get_or}
+use lib.Seq.{take-suc-set}
 use Rattle.meaning.specs.Below.{list_to}
-use Rattle.meaning.proofs.Below.{last-or-below, length-list_to, get_or-list_to}
+use Rattle.meaning.proofs.Below.{list_to-next}
+use Rattle.index.proofs.Chains.{chunk_word}
+use Rattle.hits_text.specs.Text.{word_at, long_at}
 
 -- one place more
-pub filled_more : {X : Type 0} (P : ℕ → X → Type 0) (xs : List X) (i : ℕ) (x : X) → i < length xs → ((k : ℕ) (d : X) → k < i → P k (get_or xs k d)) → P i x → (k : ℕ) (d : X) → k < i + 1 → P k (get_or (set xs i x) k d)
-filled_more {X} P xs i x h below here k d g =
-    ⊎_elim
-    (λ (e : k ≡ i). subst (λ (y : X). P k y) (sym (get_or-set_at xs i k x d e h)) (subst (λ (n : ℕ). P n x) (sym e) here))
-    (λ (s : k < i). subst (λ (y : X). P k y) (sym (get_or-set_other xs i k x d (λ (e : k ≡ i). absurd (omega arith)))) (below k d s))
-    (last-or-below k i (omega arith))
+pub filled_more : (xs : List ℕ) (i x : ℕ) (f : ℕ → ℕ) → i < length xs → take i xs ≡ list_to i f → x ≡ f i → take (i + 1) (set xs i x) ≡ list_to (i + 1) f
+filled_more xs i x f h front here =
+    ap (λ (n : ℕ). take n (set xs i x)) (add-one i)
+    ∙ take-suc-set xs i x h
+    ∙ ap (λ (l : List ℕ). l ++ (x ∷ [])) front
+    ∙ ap (λ (y : ℕ). list_to i f ++ (y ∷ [])) here
+    ∙ sym (list_to-next f i)
 
--- the numbers of a function at the front of a list
-pub filled_front : (xs rest : List ℕ) (n : ℕ) (f : ℕ → ℕ) → length xs ≡ n → ((k : ℕ) (d : ℕ) → k < length xs → get_or xs k d ≡ f k) → take n (xs ++ rest) ≡ list_to n f
-filled_front xs rest n f e each =
-    ap (λ (m : ℕ). take m (xs ++ rest)) (sym e)
-    ∙ take-append_seam xs rest
-    ∙ same_number_lists xs (list_to n f) (e ∙ sym (length-list_to n f)) (λ (k : ℕ) (h : k < length xs). each k 0 h ∙ sym (get_or-list_to n f 0 k (omega arith)))
+-- a byte of a chunk
+byte : (size n : ℕ) (bytes : List ℕ) (i k p : ℕ) → i < n → k < size → size * i + k ≡ p → get_or (get_or (first_chunks size n bytes) i []) k 0 ≡ get_or bytes p 0
+byte size n bytes i k p h l e = chunk_word size n bytes i k h l ∙ ap (λ (q : ℕ). get_or bytes q 0) e
+
+-- a chunk of four bytes is a word
+pub chunk-word : (bytes : List ℕ) (n i : ℕ) → i < n → from_le_bytes w32 (get_or (first_chunks 4 n bytes) i []) ≡ word_at bytes i
+chunk-word bytes n i h =
+    let at : (k p : ℕ) → k < 4 → 4 * i + k ≡ p → get_or (get_or (first_chunks 4 n bytes) i []) k 0 ≡ get_or bytes p 0 = λ k p. byte 4 n bytes i k p h in
+    omega (arith, at 0 (4 * i) (lit< tt) (omega arith), at 1 (4 * i + 1) (lit< tt) (omega arith), at 2 (4 * i + 2) (lit< tt) (omega arith), at 3 (4 * i + 3) (lit< tt) (omega arith))
+
+-- a chunk of eight is a long word
+pub chunk-long : (bytes : List ℕ) (n i : ℕ) → i < n → from_le_bytes w64 (get_or (first_chunks 8 n bytes) i []) ≡ long_at bytes i
+chunk-long bytes n i h =
+    let at : (k p : ℕ) → k < 8 → 8 * i + k ≡ p → get_or (get_or (first_chunks 8 n bytes) i []) k 0 ≡ get_or bytes p 0 = λ k p. byte 8 n bytes i k p h in
+    let low = 4 * (2 * i) in
+    let high = 4 * (2 * i + 1) in
+    omega (arith, at 0 low (lit< tt) (omega arith), at 1 (low + 1) (lit< tt) (omega arith), at 2 (low + 2) (lit< tt) (omega arith), at 3 (low + 3) (lit< tt) (omega arith), at 4 high (lit< tt) (omega arith), at 5 (high + 1) (lit< tt) (omega arith), at 6 (high + 2) (lit< tt) (omega arith), at 7 (high + 3) (lit< tt) (omega arith))
+
+-- all places
+pub filled-all : (xs : List ℕ) (i m n : ℕ) (f : ℕ → ℕ) → take i xs ≡ list_to i f → i ≡ m → m ≡ n → take m xs ≡ list_to n f
+filled-all xs i m n f e g h = ap (λ (k : ℕ). take k xs) (sym g) ∙ e ∙ ap (λ (k : ℕ). list_to k f) (g ∙ h)

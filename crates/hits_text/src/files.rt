@@ -3,6 +3,9 @@ ghost use Rattle.std.specs.Prelude.{◌≡◌, ◌<◌};
 ghost use Rattle.hits_text.specs.Text.{whole as whole_file, taken as taken_files};
 ghost use Rattle.hits_text.specs.Contents.{files_of};
 
+// A longer file is not taken.
+pub const MAX_BYTES: usize = 65536;
+
 // What was read of each of the ten files.
 #[derive(Clone, Copy)]
 pub struct Contents<'a> {
@@ -23,7 +26,7 @@ fn whole(bytes: &[u8], size: usize) -> bool
     requires { 0 < size }
     ensures { result ≡ whole_file size bytes.now }
 {
-    bytes.len() <= 65536 && bytes.len() % size == 0
+    bytes.len() <= MAX_BYTES && bytes.len() % size == 0
 }
 
 // Whether each file is one that the program takes.

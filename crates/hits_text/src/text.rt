@@ -5,14 +5,15 @@ ghost use Rattle.hits_text.specs.Text.{digit_of, decimal, hex_digits};
 
 use arrayvec::ArrayVec;
 
-pub(crate) fn push_bytes<const N: usize>(text: &mut ArrayVec<u8, N>, bytes: &[u8])
+pub fn push_bytes<const N: usize>(text: &mut ArrayVec<u8, N>, bytes: &[u8])
     requires { array_vec_len text.old + length bytes.now ≤ N }
     ensures { text.new.items ≡ text.old.items ++ bytes.now }
 {
     text.try_extend_from_slice(bytes).unwrap();
 }
 
-pub(crate) fn push_decimal<const N: usize>(text: &mut ArrayVec<u8, N>, n: u64)
+// Kept: tried `write!(text, "{n}")`: std says what it writes and not that it never fails, and the proof of `unwrap` did not close.
+pub fn push_decimal<const N: usize>(text: &mut ArrayVec<u8, N>, n: u64)
     requires { array_vec_len text.old + length (decimal n) ≤ N }
     ensures { text.new.items ≡ text.old.items ++ decimal n }
 {
@@ -25,14 +26,12 @@ fn digit(d: u32) -> u8
     requires { d < 16 }
     ensures { result ≡ digit_of d }
 {
-    if d < 10 {
-        return b'0' + d as u8;
-    }
-    b'a' - 10 + d as u8
+    char::from_digit(d, 16).unwrap() as u8
 }
 
 // The last so many hexadecimal digits.
-pub(crate) fn push_hex<const N: usize>(text: &mut ArrayVec<u8, N>, n: u32, digits: u32)
+// Kept: no plainer by `write!`: its `unwrap` would need what `push_decimal` says is missing, that it never fails.
+pub fn push_hex<const N: usize>(text: &mut ArrayVec<u8, N>, n: u64, digits: u32)
     requires { array_vec_len text.old + digits ≤ N }
     ensures { text.new.items ≡ text.old.items ++ hex_digits digits n }
 {
@@ -40,5 +39,5 @@ pub(crate) fn push_hex<const N: usize>(text: &mut ArrayVec<u8, N>, n: u32, digit
         return;
     }
     push_hex(text, n / 16, digits - 1);
-    text.push(digit(n % 16));
+    text.push(digit((n % 16) as u32));
 }

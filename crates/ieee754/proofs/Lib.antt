@@ -8,6 +8,5 @@ pub mod NarrowSteps
 pub mod InSteps
 pub mod PatternSteps
 pub mod Successor
-pub mod Lengths
 pub mod Bounds
 pub mod Sums

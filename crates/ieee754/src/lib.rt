@@ -1,4 +1,4 @@
-// The IEEE 754 operations that the machine does not have, worked out from bits.
+// The IEEE 754 operations that scores and columns need: the order of patterns and narrowing, worked out from bits; the others by std.
 #![tactic(auto)]
 
 pub mod convert_format;
@@ -9,7 +9,10 @@ ghost use Rattle.std.specs.Float.Ieee.{is_nan, add, of_int};
 ghost use Rattle.meaning.specs.Ieee754.{total_below, narrow, next_up};
 ghost use Rattle.ieee754.specs.TotalOrder.{total_key};
 
+use std::num;
+
 // A number in the order of the patterns: the negative ones turned over, below the positive ones.
+// Kept: no plainer by `f64::total_cmp`, here and below: it asks that neither is a NaN, which columns have, and a range needs the key itself.
 pub fn total_key(bits: u64) -> u64
     ensures { result ≡ total_key bits }
 {
@@ -20,7 +23,7 @@ pub fn total_key(bits: u64) -> u64
     }
 }
 
-// Whether the first of two patterns is strictly below the other.
+// Whether the first of two patterns is strictly below the other. Columns compare keys; a program of vectors asks this.
 pub fn total_below(a: u64, b: u64) -> bool
     ensures { result ≡ total_below a b }
 {
@@ -34,14 +37,11 @@ pub fn narrow(x: f64) -> f32
     convert_format::narrow_in_steps(x)
 }
 
-// A length as the nearest f32: most lengths are exact; binary64 holds the others, so that they are rounded once.
+// A length as the nearest f32, for programs of vectors: the code's lengths are f32 values, and its frequencies at most 2^24.
 pub fn length_to_f32(n: u32) -> f32
     ensures { result ≡ of_int binary32 (pos n) }
 {
-    if n <= 0x100_0000 {
-        return n as f32;
-    }
-    narrow(f64::from(n))
+    num::nearest_u32_to_f32(n)
 }
 
 // The least value above f; from the largest one on, plus infinity.
@@ -52,7 +52,7 @@ pub fn next_up(f: f32) -> f32
 }
 
 // One more score in a sum, which is kept in binary64.
-// Kept: `f64::from` tests for NaN first; sums of a window's 64 scores took 37 ns for 17 with it (measured).
+// Kept: `f64::from` tests for NaN first; sums of a window's 64 scores took 37 ns in place of 17 with it (measured).
 pub fn add_score(sum: f64, score: f32) -> f64
     requires { T (not (is_nan score)) }
     ensures { result ≡ add binary64 sum score }

@@ -69,10 +69,15 @@ fn narrowed(out: &mut impl Write, bits: u64) -> io::Result<()> {
 
 // A pattern, the ones beside it, and its negative.
 fn narrowed_around(out: &mut impl Write, bits: u64) -> io::Result<()> {
-    narrowed(out, bits.wrapping_sub(1))?;
-    narrowed(out, bits)?;
-    narrowed(out, bits.wrapping_add(1))?;
-    narrowed(out, bits ^ SIGN)
+    for near in [
+        bits.wrapping_sub(1),
+        bits,
+        bits.wrapping_add(1),
+        bits ^ SIGN,
+    ] {
+        narrowed(out, near)?;
+    }
+    Ok(())
 }
 
 // Half of the distance of f32 values where a binary64 exponent's field is e, as a number of binary64 digits.
@@ -160,18 +165,13 @@ fn narrowed_near(out: &mut impl Write) -> io::Result<()> {
     Ok(())
 }
 
+// A length and the ones beside it.
+// Kept: no plainer as one with that of patterns, and so what calls it: the widths differ, a pattern has a negative, and each prints its own.
 fn lengths_around(out: &mut impl Write, n: u32) -> io::Result<()> {
-    writeln!(
-        out,
-        "{}",
-        Pattern(ieee754::length_to_f32(n.wrapping_sub(1)))
-    )?;
-    writeln!(out, "{}", Pattern(ieee754::length_to_f32(n)))?;
-    writeln!(
-        out,
-        "{}",
-        Pattern(ieee754::length_to_f32(n.wrapping_add(1)))
-    )
+    for near in [n.wrapping_sub(1), n, n.wrapping_add(1)] {
+        writeln!(out, "{}", Pattern(ieee754::length_to_f32(near)))?;
+    }
+    Ok(())
 }
 
 // The lengths of k + 25 digits: the first, two ties above it, and the last tie below the next first.

@@ -11,6 +11,7 @@ ghost use Rattle.index.specs.Ranges.{asked};
 const MAX_COLUMNS: usize = 8;
 
 // A range of a column: the lower end's kind + 3 × the upper end's, and both ends as 64-bit patterns.
+// Kept: the C interface lends both kinds as one number, which may be wrong; of a right one `column_keys` makes two `Bound`s.
 #[derive(Clone, Copy)]
 pub struct NumericRange {
     pub column: u32,

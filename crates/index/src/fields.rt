@@ -1,6 +1,7 @@
 // Field records, three words each: average length as f32 bits, norms 0 or 1, positions 0 or 1.
 ghost use Rattle.std.specs.Prelude.{◌≡◌, ◌<◌, ◌/◌, eqb, length};
 ghost use Rattle.meaning.specs.IndexRefusals.{wrong_field, wrong2};
+ghost use Rattle.meaning.specs.Lent.{field_count};
 ghost use Rattle.index.specs.Slices.{fields_only};
 ghost use Rattle.index.specs.Records.{field_of};
 
@@ -14,6 +15,7 @@ const LEAST_AVERAGE: u32 = 0x3f80_0000;
 const LARGEST_AVERAGE: u32 = 0x4b80_0000;
 
 // A field's record by value.
+// Kept: the C interface lends each flag as a word, of which `wrong_field` must see those above 1.
 #[derive(Clone, Copy)]
 pub struct Field {
     pub average: u32,
@@ -35,7 +37,15 @@ impl Field {
     }
 }
 
+// How many whole fields there are.
+pub fn field_count(fields: &[u32]) -> usize
+    ensures { result ≡ field_count (fields_only fields.now) }
+{
+    fields.len() / 3
+}
+
 // Field number f.
+// Kept: no plainer by From: what is lent is a slice of many records, so one record's words would first be made an array.
 pub fn field_at(fields: &[u32], f: usize) -> Field
     requires { f < length fields.now / 3 }
     ensures { result ≡ field_of (fields_only fields.now) f }

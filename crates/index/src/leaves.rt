@@ -1,13 +1,16 @@
 // Leaf records, four words each: field, first posting, number of postings, idf as f32 bits.
 ghost use Rattle.std.specs.Prelude.{◌≡◌, [], ◌<◌, ◌+◌, ◌/◌, eqb, length};
 ghost use Rattle.meaning.specs.IndexRefusals.{wrong_leaf, wrong4};
+ghost use Rattle.meaning.specs.Lent.{leaf_count};
 ghost use Rattle.index.specs.Slices.{leaves_only};
 ghost use Rattle.index.specs.Records.{leaf_of};
 
+use super::fields::field_count;
+use super::postings::POSTING;
 use super::wrong_records;
 
 // The limits of document 01: 512 leaves, an idf of 0 to 64 as f32 bits.
-const MAX_LEAVES: usize = 512;
+pub const MAX_LEAVES: usize = 512;
 
 const LARGEST_IDF: u32 = 0x4280_0000;
 
@@ -35,7 +38,15 @@ impl Leaf {
     }
 }
 
+// How many whole leaves there are.
+pub fn leaf_count(leaves: &[u32]) -> usize
+    ensures { result ≡ leaf_count (leaves_only [] leaves.now []) }
+{
+    leaves.len() / 4
+}
+
 // Leaf number l.
+// Kept: no plainer by From: what is lent is a slice of many records, so one record's words would first be made an array.
 pub fn leaf_at(leaves: &[u32], l: usize) -> Leaf
     requires { l < length leaves.now / 4 }
     ensures { result ≡ leaf_of (leaves_only [] leaves.now []) l }
@@ -54,8 +65,8 @@ fn wrong_leaf(fields: &[u32], leaves: &[u32], postings: &[u32], l: usize) -> boo
     ensures { result ≡ wrong_leaf (leaves_only fields.now leaves.now postings.now) l }
 {
     let leaf = leaf_at(leaves, l);
-    (leaf.field as usize >= fields.len() / 3)
-        | (leaf.end() > postings.len() / 3)
+    (leaf.field as usize >= field_count(fields))
+        | (leaf.end() > postings.len() / POSTING)
         | (leaf.idf > LARGEST_IDF)
 }
 

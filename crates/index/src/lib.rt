@@ -41,10 +41,5 @@ fn wrong_records<const SIZE: usize, F: Fn(usize) -> bool>(
     if count > limit {
         return true;
     }
-    for i in 0..count {
-        if wrong(i) {
-            return true;
-        }
-    }
-    false
+    (0..count).any(wrong)
 }

@@ -11,6 +11,5 @@ pub fn is_live(live: &[u64], doc: u32) -> bool
     if live.is_empty() {
         return true;
     }
-    let word = live[(doc / 64) as usize];
-    (word >> (doc % 64)) % 2 == 1
+    bits::is_set(live[(doc / 64) as usize], doc % 64)
 }

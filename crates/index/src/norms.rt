@@ -5,7 +5,7 @@ ghost use Rattle.meaning.specs.Lent.{has_norms};
 ghost use Rattle.meaning.specs.IndexRefusals.{wrong2, wrong3};
 ghost use Rattle.index.specs.Slices.{fields_only, lengths_only};
 
-use super::fields::field_at;
+use super::fields::{field_at, field_count};
 
 // How many of the fields before field f have norms.
 fn norms_before(fields: &[u32], f: usize) -> usize
@@ -30,7 +30,7 @@ pub fn wrong_lengths(max_doc: u32, fields: &[u32], norms: &[u8], live: &[u64]) -
     requires { wrong2 (fields_only fields.now) ≡ false }
     ensures { result ≡ wrong3 (lengths_only max_doc fields.now norms.now live.now) }
 {
-    let bytes = norms_offset(max_doc, fields, fields.len() / 3);
+    let bytes = norms_offset(max_doc, fields, field_count(fields));
     let words = (max_doc as usize).div_ceil(64);
     (norms.len() != bytes) | !(live.is_empty() | (live.len() == words))
 }

@@ -9,13 +9,16 @@ pub const NO_MORE_DOCS: u32 = 2147483647;
 
 pub const LARGEST_FREQUENCY: u32 = 16777216;
 
+// The words of a posting.
+pub const POSTING: usize = 3;
+
 // The document of the i-th posting at or after posting first.
-// Kept: no plainer: each of the three is one line, and its name says which word it reads.
+// Kept: no plainer as a struct, which fields and leaves have: each who reads a posting here wants one word of it, or two.
 pub fn posting_document(postings: &[u32], first: usize, i: usize) -> u32
     requires { first + i < length postings.now / 3 }
     ensures { result ≡ posting_document postings.now first i }
 {
-    postings[3 * (first + i)]
+    postings[POSTING * (first + i)]
 }
 
 // Its frequency.
@@ -23,7 +26,7 @@ pub fn posting_frequency(postings: &[u32], first: usize, i: usize) -> u32
     requires { first + i < length postings.now / 3 }
     ensures { result ≡ posting_frequency postings.now first i }
 {
-    postings[3 * (first + i) + 1]
+    postings[POSTING * (first + i) + 1]
 }
 
 // The index of its first position.
@@ -31,5 +34,5 @@ pub fn posting_index(postings: &[u32], first: usize, i: usize) -> u32
     requires { first + i < length postings.now / 3 }
     ensures { result ≡ posting_index postings.now first i }
 {
-    postings[3 * (first + i) + 2]
+    postings[POSTING * (first + i) + 2]
 }

@@ -3,7 +3,7 @@ use mathlib.Core.Path.{◌≡◌, refl, sym, ◌∙◌, ap, subst}
 use mathlib.Core.Bool.{Bool, true, false, cond, ◌||◌, false≢true}
 use mathlib.Core.List.{List, ◌++◌, append_assoc}
 use mathlib.Core.Logic.{inl, inr}
-use Prim.Native.Nat.{ℕ, ◌+◌, ◌-◌, ◌*◌, ◌≤◌, ◌<◌}
+use Prim.Native.Nat.{ℕ, ◌+◌, ◌-◌, ◌*◌, ◌/◌, ◌≤◌, ◌<◌}
 use native.Mathlib.Omega.{arith}
 use lib.Dec.{eqb}
 use lib.ListN.{length, take, drop, set, get_or, replicate, length-append, length-drop, get_or-replicate, take-append-drop, get_or-append, get_or-eq_default}
@@ -22,7 +22,8 @@ use Rattle.query.proofs.Accepted.{term-leaf, phrase-right}
 use Rattle.weight.specs.Measured.{Asks}
 use Rattle.weight.specs.Sound.{FieldTable}
 use Rattle.node_words.specs.Placed.{LeafLent}
-use Rattle.inverses.specs.Inverses.{field_at, has_field}
+use Rattle.std.specs.Prelude.{Option, Some, None}
+use Rattle.inverses.specs.Inverses.{field_at, has_field, IsField}
 use Rattle.node_words.proofs.Norms.{field-here}
 
 -- ---- the table with one field's places filled
@@ -104,7 +105,7 @@ module _ (ix : Index) (q : List ℕ) (at : ℕ) where
 -- what the code reads of it
 pub record FieldRead (fields : List ℕ) (f : ℕ) : Type 0 where
   pub few : f < 16
-  pub there : 3 * f < length fields
+  pub there : f < length fields / 3
   pub least : least_average ≤ get_or fields (3 * f) 0
   pub largest : get_or fields (3 * f) 0 ≤ largest_average
 
@@ -113,14 +114,20 @@ field-read ix n q fields leaves at f a lent h has e =
     let are = lent.field-lent.fields-are in
     let there : f < field_count ix = subst (λ (z : ℕ). z < field_count ix) (sym e) (field-there ix q at a h has) in
     let here = field-here ix n fields f lent.field-lent there in
-    let low = here.there in
     let ok = a.accepted.field f there in
     record {
       few = here.few;
-      there = omega (arith, low);
+      there = here.there;
       least = subst (λ (z : List ℕ). least_average ≤ get_or z (3 * f) 0) are ok.least;
       largest = subst (λ (z : List ℕ). get_or z (3 * f) 0 ≤ largest_average) are ok.largest;
     }
+
+-- a record that has a field
+pub field-some : (ix : Index) (q : List ℕ) (at f : ℕ) (o : Option ℕ) → o ≡ Some f → IsField ix q at o → (has_field q at ≡ true) × (f ≡ field_at ix q at)
+field-some ix q at f o e h = subst (IsField ix q at) e h
+
+pub field_none : (ix : Index) (q : List ℕ) (at : ℕ) (o : Option ℕ) → o ≡ None → IsField ix q at o → has_field q at ≡ false
+field_none ix q at o e h = subst (IsField ix q at) e h
 
 -- the fields that are filled have their inverses, and those of the records before `at` are filled
 pub record Filled (ix : Index) (q : List ℕ) (table : List Float) (filled : List Bool) (at : ℕ) : Type 0 where

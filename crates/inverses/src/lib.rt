@@ -11,8 +11,10 @@ ghost use Rattle.meaning.specs.Bm25.{length_of, inverse};
 ghost use Rattle.meaning.specs.Query.{record_count};
 ghost use Rattle.weight.specs.Measured.{Asks};
 ghost use Rattle.node_words.specs.Placed.{LeafLent};
-ghost use Rattle.inverses.specs.Inverses.{field_at, has_field, FieldTables};
+ghost use Rattle.inverses.specs.Inverses.{IsField, FieldTables};
 
+use index::fields::field_at;
+use index::leaves::leaf_at;
 use query::{Kind, kind_at, record_count, value};
 use sim::bm25::Bm25;
 
@@ -36,24 +38,16 @@ fn fill_field(average: u32, table: &mut [f32])
     table[..256].copy_from_slice(&bm25.cache);
 }
 
-// Whether the record at `at` is a Term or a Phrase.
-fn has_field(q: &[u32], at: usize) -> bool
-    requires { at < record_count q.now }
-    ensures { result ≡ has_field q.now at }
+// The field of the record at `at`, or `None` where it is no Term and no Phrase.
+// Kept: no plainer, here and in `fill_inverses`: a struct of the query with a ghost field for `Asks` would be taken apart for `kind_at(q, at)`.
+fn scored_field(q: &[u32], leaves: &[u32], at: usize) -> Option<u32>
+    requires { (ix : Index) × Asks ix q.now × (ix.leaves ≡ leaves.now) × (at < record_count q.now) }
+    ensures { (ix : Index) → ix.leaves ≡ leaves.now → IsField ix q.now at result }
 {
-    matches!(kind_at(q, at), Some(Kind::Term | Kind::Phrase))
-}
-
-// The field of the Term or Phrase at `at`.
-fn field_at(q: &[u32], leaves: &[u32], at: usize) -> u32
-    requires { (ix : Index) × Asks ix q.now × (ix.leaves ≡ leaves.now) × (at < record_count q.now) × (has_field q.now at ≡ true) }
-    ensures { (ix : Index) → ix.leaves ≡ leaves.now → result ≡ field_at ix q.now at }
-{
-    let v = value(q, at, 0);
-    if kind_at(q, at) == Some(Kind::Term) {
-        leaves[4 * v as usize]
-    } else {
-        v
+    match kind_at(q, at) {
+        Some(Kind::Term) => Some(leaf_at(leaves, value(q, at, 0) as usize).field),
+        Some(Kind::Phrase) => Some(value(q, at, 0)),
+        _ => None,
     }
 }
 
@@ -63,12 +57,13 @@ pub fn fill_inverses(fields: &[u32], leaves: &[u32], q: &[u32], table: &mut [f32
     ensures field_table { (ix : Index) (n : ℕ) → Asks ix q.now → LeafLent ix n fields.now leaves.now → FieldTables ix q.now table.new }
     ensures table_len { length table.new ≡ 4096 }
 {
+    // Kept: no plainer as Options in the table: scores read bare inverses there, and `filled` is asked only while the table is filled.
     let mut filled: [bool; 16] = [false; 16];
     for at in 0..record_count(q) {
-        if has_field(q, at) {
-            let f = field_at(q, leaves, at) as usize;
+        if let Some(field) = scored_field(q, leaves, at) {
+            let f = field as usize;
             if !filled[f] {
-                fill_field(fields[3 * f], &mut table[256 * f..]);
+                fill_field(field_at(fields, f).average, &mut table[256 * f..]);
                 filled[f] = true;
             }
         }

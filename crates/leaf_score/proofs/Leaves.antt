@@ -1,13 +1,12 @@
 -- The score of a leaf that scores by BM25, by its kind. Assumes nothing.
 use mathlib.Core.Path.{◌≡◌, refl, sym, ap, subst, ◌∙◌}
-use mathlib.Core.Bool.{Bool, true, false, not, cond}
 use mathlib.Core.List.{List, ◌++◌}
-use Prim.Native.Nat.{ℕ, ◌+◌, ◌-◌, ◌*◌, ◌/◌, ◌^◌, ◌≤◌, ◌<◌}
+use Rattle.std.specs.Prelude.{Option, Some, None}
+use Prim.Native.Nat.{ℕ, ◌+◌, ◌*◌, ◌/◌, ◌^◌, ◌≤◌, ◌<◌}
 use native.Mathlib.Omega.{arith}
-use lib.Dec.{T, lit≤}
 use lib.IntN.{pos}
 use lib.ListN.{length, get_or}
-use lib.Ieee.{Float, nan, binary32, nan_bits, of_bits, of_int}
+use lib.Ieee.{Float, nan, binary32, of_bits, of_int}
 use borrow.Author.Tests.{ltb-true}
 use Rattle.meaning.specs.Limits.{no_more_docs, largest_frequency, node_state_words}
 use Rattle.meaning.specs.Lent.{Index, field_count, leaf_field, norm_byte}
@@ -24,7 +23,7 @@ use Rattle.weight.specs.State.{State, words_of}
 use Rattle.weight.specs.Held.{norms_word, PhraseIs, LeafIs, FloatIs}
 use Rattle.weight.specs.Sound.{LeafSound, FieldTable, LeafTable}
 use Rattle.leaf_score.specs.declared.ScoreNode.{ScoreNode}
-use Rattle.leaf_score.specs.Words.{ScoreNodeIs, byte_at}
+use Rattle.leaf_score.specs.Words.{ScoreNodeIs, first_byte, byte_at, Bytes, Weighs, answer}
 use Rattle.leaf_scorer.specs.Phrases.{PhraseHeld}
 use Rattle.leaf_score.specs.Asked.{LentAt, LeafAsks, LeafKept, FrequencyPost}
 use Rattle.leaf_score.proofs.Frequencies.{Scanned, scanned, phrase-frequency-few}
@@ -38,7 +37,7 @@ pub record Read (n : ScoreNode) (s : State) : Type 0 where
   pub field_is : n.field ≡ s.field
   pub constant-is : n.constant ≡ s.constant
   pub weight_is : n.weight ≡ s.weight
-  pub norms-is : n.norms ≡ s.norms
+  pub norms-is : n.norms ≡ first_byte s.norms
 
 pub read : (st v : List ℕ) (s : State) (n : ScoreNode) → st ≡ words_of s ++ v → ScoreNodeIs st n → Read n s
 read st v s n e r =
@@ -49,7 +48,7 @@ read st v s n e r =
       field_is = r.field_is ∙ ap (λ (l : List ℕ). get_or l 10 0) e;
       constant-is = r.constant-is ∙ ap (λ (l : List ℕ). get_or l 11 0) e;
       weight_is = r.weight_is ∙ ap (λ (l : List ℕ). get_or l 12 0) e;
-      norms-is = r.norms-is ∙ ap (λ (l : List ℕ). get_or l 18 0) e;
+      norms-is = r.norms-is ∙ ap (λ (l : List ℕ). first_byte (get_or l 18 0)) e;
     }
 
 pub kind-read : (st v : List ℕ) (s : State) → st ≡ words_of s ++ v → get_or st 0 0 ≡ s.kind
@@ -58,14 +57,6 @@ kind-read st v s e = ap (λ (l : List ℕ). get_or l 0 0) e
 pub words_long : (st v : List ℕ) (s : State) → st ≡ words_of s ++ v → node_state_words ≤ length st
 words_long st v s e = omega (arith, ap length e)
 
--- what `weighted` asks, and its answer
-pub record Weighs (n : ScoreNode) (norms : List ℕ) (table : List Float) (doc frequency : ℕ) : Type 0 where
-  pub frequency-few : frequency ≤ 16777216
-  pub number : T (not (nan_bits binary32 n.weight))
-  pub field-few : n.field ≤ 16
-  pub byte-there : 0 < n.norms → n.norms - 1 + doc < length norms
-  pub inverse-there : 256 * n.field + byte_at norms n.norms doc < length table
-
 -- a leaf that scores by BM25: its field, its frequency in the document, and the words where that is known
 pub record Counted (ix : Index) (table : List Float) (n : ScoreNode) (ranges : List ℕ) (l : Leaf) (w : Float) (s : State) (doc frequency : ℕ) (st' : List ℕ) : Type 0 where
   pub field : ℕ
@@ -73,13 +64,10 @@ pub record Counted (ix : Index) (table : List Float) (n : ScoreNode) (ranges : L
   pub tables : FieldTable ix table field
   pub weight : FloatIs w n.weight
   pub field_is : n.field ≡ field
-  pub norms-is : n.norms ≡ norms_word ix field
+  pub norms-is : n.norms ≡ first_byte (norms_word ix field)
   pub few : frequency ≤ largest_frequency
   pub score : field_score ix field w frequency doc ≡ leaf_score ix l (weighted w) doc
   pub kept : LeafKept ix ranges l s doc st'
-
-abbrev pub answer : ScoreNode → List ℕ → List Float → ℕ → ℕ → Float
-answer n norms table doc frequency = bm25 (of_bits binary32 n.weight) (of_int binary32 (pos frequency)) (get_or table (256 * n.field + byte_at norms n.norms doc) nan)
 
 module _ (ix : Index) (max : ℕ) (postings positions norms : List ℕ) (doc : ℕ) (L : LentAt ix max postings positions norms doc) where
   A : Accepted ix
@@ -91,17 +79,14 @@ module _ (ix : Index) (max : ℕ) (postings positions norms : List ℕ) (doc : �
   pub few-documents : doc < no_more_docs
   few-documents = omega (arith, inside, A.documents)
 
-  -- where the norms are bytes
-  module _ (bytes : (i : ℕ) → get_or norms i 0 < 256) (table : List Float) (n : ScoreNode) where
-    byte_small : byte_at norms n.norms doc < 256
-    byte_small = go (lib.Dec.eqb n.norms 0)
-      where
-        go : (b : Bool) → cond b 1 (get_or norms (n.norms - 1 + doc) 0) < 256
-        go true = omega arith
-        go false = bytes (n.norms - 1 + doc)
+  byte_small : Bytes norms → (begin : Option ℕ) → byte_at norms begin doc < 256
+  unfolding byte_at
+  byte_small bytes (Some first) = bytes (first + doc)
+  byte_small bytes None = omega arith
 
+  module _ (table : List Float) (n : ScoreNode) where
     -- of a field
-    module _ (f : ℕ) (there : f < field_count ix) (F : FieldTable ix table f) (w : Float) (x : FloatIs w n.weight) (field_is : n.field ≡ f) (norms-is : n.norms ≡ norms_word ix f) (frequency : ℕ) (few : frequency ≤ largest_frequency) where
+    module _ (f : ℕ) (there : f < field_count ix) (F : FieldTable ix table f) (w : Float) (x : FloatIs w n.weight) (field_is : n.field ≡ f) (norms-is : n.norms ≡ first_byte (norms_word ix f)) (frequency : ℕ) (few : frequency ≤ largest_frequency) where
       byte-is : byte_at norms n.norms doc ≡ norm_byte ix f doc
       byte-is = ap (λ (l : List ℕ). byte_at l n.norms doc) (sym L.norms-are) ∙ norm-is ix A f there doc inside n.norms norms-is
 
@@ -111,27 +96,24 @@ module _ (ix : Index) (max : ℕ) (postings positions norms : List ℕ) (doc : �
             frequency-few = few;
             number = float-number w n.weight x;
             field-few = omega (arith, field_is, there, A.few_fields);
-            byte-there = λ g. subst (λ (l : List ℕ). n.norms - 1 + doc < length l) L.norms-are (norm-there ix A f there doc inside n.norms norms-is g);
-            inverse-there = subst (λ (i : ℕ). 256 * i + byte_at norms n.norms doc < length table) (sym field_is) (inverse-there ix A f there doc inside table F (byte_at norms n.norms doc) byte_small);
+            byte-there = λ first g. subst (λ (l : List ℕ). first + doc < length l) L.norms-are (norm-there ix A f there doc inside n.norms norms-is first g);
+            inverse-there = λ bytes. subst (λ (i : ℕ). 256 * i + byte_at norms n.norms doc < length table) (sym field_is) (inverse-there ix A f there doc inside table F (byte_at norms n.norms doc) (byte_small bytes n.norms));
           }
 
-      pub field-answer : (r : Float) → r ≡ answer n norms table doc frequency → (r ≡ field_score ix f w frequency doc) × AtMost (2 ^ 29) r
-      field-answer r e =
-          let q : r ≡ field_score ix f w frequency doc = e ∙ ap (λ (i : ℕ). bm25 (of_bits binary32 n.weight) (of_int binary32 (pos frequency)) (get_or table (256 * i + byte_at norms n.norms doc) nan)) field_is ∙ weighted-is ix A f there doc inside table F (byte_at norms n.norms doc) byte_small w n.weight frequency x byte-is in
-          (q, subst (λ (z : Float). AtMost (2 ^ 29) z) (sym q) (weighted-small ix A f there doc inside table F (byte_at norms n.norms doc) byte_small w n.weight frequency x few byte-is))
+      pub field-answer : Bytes norms → (r : Float) → r ≡ answer n norms table doc frequency → (r ≡ field_score ix f w frequency doc) × AtMost (2 ^ 29) r
+      field-answer bytes r e =
+          let q : r ≡ field_score ix f w frequency doc = e ∙ ap (λ (i : ℕ). bm25 (of_bits binary32 n.weight) (of_int binary32 (pos frequency)) (get_or table (256 * i + byte_at norms n.norms doc) nan)) field_is ∙ weighted-is ix A f there doc inside table F (byte_at norms n.norms doc) (byte_small bytes n.norms) w n.weight frequency x byte-is in
+          (q, subst (λ (z : Float). AtMost (2 ^ 29) z) (sym q) (weighted-small ix A f there doc inside table F (byte_at norms n.norms doc) (byte_small bytes n.norms) w n.weight frequency x few byte-is))
 
     -- a leaf whose frequency is known
     module _ (ranges : List ℕ) (l : Leaf) (w : Float) (s : State) (frequency : ℕ) (st' : List ℕ) (C : Counted ix table n ranges l w s doc frequency st') where
       pub counted-weighs : Weighs n norms table doc frequency
       counted-weighs = field-weighs C.field C.there C.tables w C.weight C.field_is C.norms-is frequency C.few
 
-      pub counted-done : (r : Float) → r ≡ answer n norms table doc frequency → (r ≡ leaf_score ix l (weighted w) doc) × AtMost (2 ^ 29) r × LeafKept ix ranges l s doc st'
-      counted-done r e = let t = field-answer C.field C.there C.tables w C.weight C.field_is C.norms-is frequency C.few r e in (t.0 ∙ C.score, t.1, C.kept)
+      pub counted-done : Bytes norms → (r : Float) → r ≡ answer n norms table doc frequency → (r ≡ leaf_score ix l (weighted w) doc) × AtMost (2 ^ 29) r × LeafKept ix ranges l s doc st'
+      counted-done bytes r e = let t = field-answer C.field C.there C.tables w C.weight C.field_is C.norms-is frequency C.few bytes r e in (t.0 ∙ C.score, t.1, C.kept)
 
   module _ (table : List Float) (n : ScoreNode) (ranges : List ℕ) where
-    pub counted-byte : (l : Leaf) (w : Float) (s : State) (frequency : ℕ) (st' : List ℕ) → Counted ix table n ranges l w s doc frequency st' → 0 < n.norms → n.norms - 1 + doc < length norms
-    counted-byte l w s frequency st' C g = subst (λ (i : List ℕ). n.norms - 1 + doc < length i) L.norms-are (norm-there ix A C.field C.there doc inside n.norms C.norms-is g)
-
     module _ (places : ℕ) (w : Float) (s : State) (v st : List ℕ) (e : st ≡ words_of s ++ v) (R : Read n s) where
       abbrev Asks : Leaf → Type 0
       Asks l = LeafAsks ix ranges table places l w s v doc
@@ -178,7 +160,7 @@ module _ (ix : Index) (max : ℕ) (postings positions norms : List ℕ) (doc : �
               tables = p.tables;
               weight = weight-at p.weight;
               field_is = R.field_is ∙ p.words.0.field_is;
-              norms-is = R.norms-is ∙ p.words.0.norms-is;
+              norms-is = R.norms-is ∙ ap first_byte p.words.0.norms-is;
               few = t.1;
               score = ap (λ (i : ℕ). field_score ix (leaf_field ix l) w i doc) t.0;
               kept = kept (term l) p;
@@ -211,7 +193,7 @@ module _ (ix : Index) (max : ℕ) (postings positions norms : List ℕ) (doc : �
             tables = p.tables;
             weight = weight-at p.weight;
             field_is = R.field_is ∙ p.words.field_is;
-            norms-is = R.norms-is ∙ p.words.norms-is;
+            norms-is = R.norms-is ∙ ap first_byte p.words.norms-is;
             few = omega (arith, g.0, phrase-frequency-few ix A f places ts doc p.sound.4);
             score = ap (λ (i : ℕ). field_score ix f w i doc) g.0;
             kept = record { s' = g.1.0; v' = g.1.1; is = g.1.2; same = g.1.3; words = g.1.4 };

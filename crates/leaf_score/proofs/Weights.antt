@@ -1,7 +1,8 @@
 -- BM25 at a field, a frequency and a document's norm byte, as the words give them. Assumes nothing.
 use mathlib.Core.Path.{◌≡◌, refl, sym, ap, subst, ◌∙◌}
 use mathlib.Core.Logic.{⊎_elim}
-use mathlib.Core.Bool.{Bool, true, false, not, cond}
+use mathlib.Core.Bool.{Bool, true, false, not, cond, false≢true}
+use Rattle.std.specs.Prelude.{Option, Some, None}
 use mathlib.Core.List.{List}
 use Prim.Native.Nat.{ℕ, suc, ◌+◌, ◌-◌, ◌*◌, ◌^◌, ◌≤◌, ◌<◌}
 use native.Mathlib.Omega.{arith}
@@ -23,7 +24,7 @@ use Rattle.sim.proofs.ScoreBounds.{score-atmost}
 use Rattle.index.specs.Accepted.{Accepted}
 use Rattle.weight.specs.Held.{norms_word, FloatIs}
 use Rattle.weight.specs.Sound.{FieldTable}
-use Rattle.leaf_score.specs.Words.{byte_at}
+use Rattle.leaf_score.specs.Words.{first_byte, byte_at}
 use Rattle.meaning.proofs.Tests.{cmp}
 
 -- a score in words
@@ -37,21 +38,41 @@ not-nan : (x : Float) → T (nonneg x) → nan ≡ x → ⊥
 not-nan x s e = subst (λ (z : Float). T (nonneg z)) (sym e) s
 
 -- ---- norms
-module _ (ix : Index) (A : Accepted ix) (f : ℕ) (there : f < field_count ix) (doc : ℕ) (inside : doc < ix.max_doc) where
-  norm-cases : (h : Bool) → has_norms ix f ≡ h → (begin : ℕ) → begin ≡ cond h (suc (count_below f (has_norms ix) * ix.max_doc)) 0 → (0 < begin → begin - 1 + doc < length ix.norms) × (byte_at ix.norms begin doc ≡ cond h (get_or ix.norms (count_below f (has_norms ix) * ix.max_doc + doc) 0) 1)
-  norm-cases true e begin b =
-      let k : begin - 1 + doc ≡ count_below f (has_norms ix) * ix.max_doc + doc = omega arith in
-      ((λ g. subst (λ (i : ℕ). i < length ix.norms) (sym k) (A.norm_byte f doc there e inside)), byte-is k b)
-    where
-      byte-is : begin - 1 + doc ≡ count_below f (has_norms ix) * ix.max_doc + doc → begin ≡ suc (count_below f (has_norms ix) * ix.max_doc) → byte_at ix.norms begin doc ≡ get_or ix.norms (count_below f (has_norms ix) * ix.max_doc + doc) 0
-      byte-is k b = let z : eqb begin 0 ≡ false = ne_eqb begin 0 (λ q. omega arith) in rw (z, k)
-  norm-cases false e begin b = ((λ g. absurd (omega arith)), rw b)
+first_byte_suc : (m : ℕ) → first_byte (suc m) ≡ Some m
+first_byte_suc m =
+    let z : eqb (suc m) 0 ≡ false = ne_eqb (suc m) 0 (λ q. omega arith) in
+    let k : suc m - 1 ≡ m = omega arith in
+    rw z (ap Some k)
 
-  pub norm-there : (begin : ℕ) → begin ≡ norms_word ix f → 0 < begin → begin - 1 + doc < length ix.norms
+place-of : Option ℕ → ℕ
+place-of (Some m) = m
+place-of None = 0
+
+some_same : (m n : ℕ) → Some m ≡ Some n → m ≡ n
+unfolding place-of
+some_same m n e = ap place-of e
+
+is-some : Option ℕ → Bool
+is-some (Some m) = true
+is-some None = false
+
+none-some : (m : ℕ) → None ≡ Some m → ⊥
+unfolding is-some
+none-some m e = false≢true (ap is-some e)
+
+module _ (ix : Index) (A : Accepted ix) (f : ℕ) (there : f < field_count ix) (doc : ℕ) (inside : doc < ix.max_doc) where
+  norm-cases : (h : Bool) → has_norms ix f ≡ h → (begin : Option ℕ) → begin ≡ first_byte (cond h (suc (count_below f (has_norms ix) * ix.max_doc)) 0) → ((first : ℕ) → begin ≡ Some first → first + doc < length ix.norms) × (byte_at ix.norms begin doc ≡ cond h (get_or ix.norms (count_below f (has_norms ix) * ix.max_doc + doc) 0) 1)
+  unfolding byte_at
+  norm-cases true e begin b =
+      let k : begin ≡ Some (count_below f (has_norms ix) * ix.max_doc) = b ∙ first_byte_suc (count_below f (has_norms ix) * ix.max_doc) in
+      ((λ first g. omega (arith, some_same first (count_below f (has_norms ix) * ix.max_doc) (sym g ∙ k), A.norm_byte f doc there e inside)), ap (λ (o : Option ℕ). byte_at ix.norms o doc) k)
+  norm-cases false e begin b = ((λ first g. absurd (none-some first (sym b ∙ g))), ap (λ (o : Option ℕ). byte_at ix.norms o doc) b)
+
+  pub norm-there : (begin : Option ℕ) → begin ≡ first_byte (norms_word ix f) → (first : ℕ) → begin ≡ Some first → first + doc < length ix.norms
   unfolding norms_word
   norm-there begin b = (norm-cases (has_norms ix f) refl begin b).0
 
-  pub norm-is : (begin : ℕ) → begin ≡ norms_word ix f → byte_at ix.norms begin doc ≡ norm_byte ix f doc
+  pub norm-is : (begin : Option ℕ) → begin ≡ first_byte (norms_word ix f) → byte_at ix.norms begin doc ≡ norm_byte ix f doc
   unfolding norms_word
   norm-is begin b = (norm-cases (has_norms ix f) refl begin b).1
 

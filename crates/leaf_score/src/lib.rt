@@ -1,7 +1,7 @@
 // The score of a document at a leaf in the lent words: BM25 at a term's or a phrase's frequency.
 #![tactic(auto)]
 
-ghost use Rattle.std.specs.Prelude.{◌≡◌, not, ℕ, ◌+◌, ◌-◌, ◌*◌, ◌/◌, ◌≤◌, ◌<◌, T, pos, length, get_or};
+ghost use Rattle.std.specs.Prelude.{◌≡◌, Option, Some, not, ℕ, ◌+◌, ◌*◌, ◌/◌, ◌≤◌, ◌<◌, T, pos, length, get_or};
 ghost use Rattle.std.specs.Float.{nan, binary32};
 ghost use Rattle.std.specs.Float.Ieee.{nan_bits, of_bits, of_int};
 ghost use Rattle.meaning.specs.Limits.{node_state_words};
@@ -14,8 +14,9 @@ ghost use Rattle.leaf_score.specs.Asked.{LeafPre, LeafPost, FrequencyPre, Freque
 use leaf_scorer::{LeafReader, PhraseBuffers};
 use node::NodeKind;
 
-// What the score reads of a leaf's record.
-// Kept: constant and weight are the words of a record that the caller lends; a float made of any words could be no number. constant_score reads the two as an Option.
+// What the score reads of a leaf's record. `norms` is the place of its field's first norm byte, if the field has norms.
+// Kept: no plainer: `constant` and `weight` are words as the caller lends them; for a float each caller of `score_node_at` would have to say
+// that the word is a number. `constant_score` reads the two as an Option.
 #[derive(Clone, Copy)]
 pub struct ScoreNode {
     pub first: usize,
@@ -24,7 +25,7 @@ pub struct ScoreNode {
     pub field: usize,
     pub constant: u32,
     pub weight: u32,
-    pub norms: usize,
+    pub norms: Option<usize>,
 }
 
 pub fn score_node_at(st: &[u32]) -> ScoreNode
@@ -38,7 +39,7 @@ pub fn score_node_at(st: &[u32]) -> ScoreNode
         field: st[10] as usize,
         constant: st[11],
         weight: st[12],
-        norms: st[18] as usize,
+        norms: (st[18] as usize).checked_sub(1),
     }
 }
 
@@ -66,6 +67,7 @@ impl ScoreNode {
 }
 
 // The frequency of the document's posting, which stands at the cursor or behind it.
+// Kept: no plainer: `ScoreNode` has the three among seven fields, and a `Cursor` would be made anew for each call.
 fn term_frequency(postings: &[u32], first: usize, number: usize, cursor: usize, doc: u32) -> u32
     requires { first + number ≤ length postings.now / 3 }
     ensures { (i : ℕ) → cursor ≤ i → i < number → posting_document postings.now first i ≡ doc → ((k : ℕ) → k < i → posting_document postings.now first k ≡ doc → ⊥) → result ≡ posting_frequency postings.now first i }
@@ -81,25 +83,28 @@ fn term_frequency(postings: &[u32], first: usize, number: usize, cursor: usize, 
 // The norm byte of each document where a field has no norms.
 const NO_NORMS: u8 = 1;
 
-// A document's norm byte. `begin` is one more than the place of the field's first byte, or 0 where it has no norms.
+// A document's norm byte, where the field's first byte stands at `begin`.
 // The second clause says what the type does: behind a reader's field it is not known.
-fn norm_byte(norms: &[u8], begin: usize, doc: u32) -> u8
-    requires { 0 < begin → begin - 1 + doc < length norms.now }
+#[tactic(auto, unfolding(crate::specs::Words::byte_at))]
+fn norm_byte(norms: &[u8], begin: Option<usize>, doc: u32) -> u8
+    requires { (first : ℕ) → begin ≡ Some first → first + doc < length norms.now }
     ensures byte { result ≡ byte_at norms.now begin doc }
     ensures bytes { (i : ℕ) → get_or norms.now i 0 < 256 }
 {
-    match begin.checked_sub(1) {
+    match begin {
         Some(first) => norms[first + doc as usize],
         None => NO_NORMS,
     }
 }
 
-// BM25 at a weight, with the inverse of the document's length.
+// BM25 at a weight, with the inverse of the document's length. The second clause is `norm_byte`'s.
+// Kept: no plainer by the reader: `bulk_term` reads both slices out of it once, before its loop over postings.
 pub fn weighted(norms: &[u8], inverses: &[f32], n: ScoreNode, frequency: u32, doc: u32) -> f32
     requires frequency_bound { (frequency ≤ 16777216) × (T (not (nan_bits binary32 n.weight)) × (n.field ≤ 16)) }
-    requires doc_in_bounds { 0 < n.norms → n.norms - 1 + doc < length norms.now }
-    requires doc_in_bounds_2 { 256 * n.field + byte_at norms.now n.norms doc < length inverses.now }
-    ensures { result ≡ bm25 (of_bits binary32 n.weight) (of_int binary32 (pos frequency)) (get_or inverses.now (256 * n.field + byte_at norms.now n.norms doc) nan) }
+    requires doc_in_bounds { (first : ℕ) → n.norms ≡ Some first → first + doc < length norms.now }
+    requires doc_in_bounds_2 { ((i : ℕ) → get_or norms.now i 0 < 256) → 256 * n.field + byte_at norms.now n.norms doc < length inverses.now }
+    ensures score { result ≡ bm25 (of_bits binary32 n.weight) (of_int binary32 (pos frequency)) (get_or inverses.now (256 * n.field + byte_at norms.now n.norms doc) nan) }
+    ensures bytes { (i : ℕ) → get_or norms.now i 0 < 256 }
 {
     n.score(inverses, frequency, norm_byte(norms, n.norms, doc))
 }
@@ -118,7 +123,7 @@ fn phrase_frequency(
     if st[16] as usize == doc as usize + 1 {
         return st[17];
     }
-    let _d = leaf_scorer::seek_phrase(st, reader.postings, reader.positions, buffers, doc);
+    let _d = leaf_scorer::seek_phrase(st, reader, buffers, doc);
     st[17]
 }
 
@@ -141,24 +146,20 @@ pub fn leaf_score(
             return 0.0;
         }
     };
-    n.score(
-        reader.inverses,
-        frequency,
-        norm_byte(reader.norms, n.norms, doc),
-    )
+    weighted(reader.norms, reader.inverses, n, frequency, doc)
 }
 
 // The score of a term, which is most of them: it is lent little and changes nothing, so that it costs little to call.
-pub fn term_score(st: &[u32], postings: &[u32], norms: &[u8], inverses: &[f32], doc: u32) -> f32
-    requires { TermPre st.now postings.now norms.now inverses.now doc }
-    ensures { TermPost st.now postings.now norms.now inverses.now doc result }
+pub fn term_score(st: &[u32], reader: &LeafReader<'_>, doc: u32) -> f32
+    requires { TermPre st.now reader.now.postings.now reader.now.norms.now reader.now.inverses.now doc }
+    ensures { TermPost st.now reader.now.postings.now reader.now.norms.now reader.now.inverses.now doc result }
 {
     let n = score_node_at(st);
     match n.constant_score() {
         Some(score) => score,
         None => {
-            let frequency = term_frequency(postings, n.first, n.number, n.cursor, doc);
-            weighted(norms, inverses, n, frequency, doc)
+            let frequency = term_frequency(reader.postings, n.first, n.number, n.cursor, doc);
+            weighted(reader.norms, reader.inverses, n, frequency, doc)
         }
     }
 }

@@ -156,13 +156,3 @@ ok-long ix R T k o y b p = front_long (ok-front ix R T k o y b p)
 -- the document of the cached word
 pub ok-cached : (ix : Index) (R : List ℕ) (T : Scorer) (k o : ℕ) (y : List ℕ) (b : ℕ) → Ok ix R T k o y b → Cache (matches ix T) b (get_or y 2 0)
 ok-cached ix R T k o y b p = let f = ok-front ix R T k o y b p in rw f.is f.cache
-
--- a node that is neither a phrase nor a Boolean: its part is one record
-pub ok-single : (ix : Index) (R : List ℕ) (T : Scorer) (k o : ℕ) (y : List ℕ) (b : ℕ) → Ok ix R T k o y b → (get_or y 0 0 ≡ 2 → ⊥) → (get_or y 0 0 ≡ 3 → ⊥) → length y ≡ node_state_words
-unfolding Ok LeafIs
-ok-single ix R (leaf nothing sc) k o y b p n2 n3 = omega (arith, ap length p.2, ap length p.4.3)
-ok-single ix R (leaf (term l) sc) k o y b p n2 n3 = omega (arith, ap length p.2, ap length p.4.1)
-ok-single ix R (leaf (phrase f ts) sc) k o y b p n2 n3 = absurd (n2 (ap (λ (l : List ℕ). get_or l 0 0) p.2 ∙ p.4.kind-is))
-ok-single ix R (leaf (range r) sc) k o y b p n2 n3 = omega (arith, ap length p.2, ap length p.4.1)
-ok-single ix R (leaf everything sc) k o y b p n2 n3 = omega (arith, ap length p.2, ap length p.4.2)
-ok-single ix R (boolean c j need rs os ps) k o y b p n2 n3 = absurd (n3 (ap (λ (l : List ℕ). get_or l 0 0) p.4 ∙ p.7.kind-is))

@@ -3,11 +3,11 @@ use mathlib.Core.Path.{◌≡◌, refl, sym, ap, subst}
 use mathlib.Core.Logic.{⊎_elim}
 use mathlib.Core.Bool.{Bool, true, false, ◌&&◌}
 use mathlib.Core.List.{List, ◌++◌}
-use Prim.Native.Nat.{ℕ, ◌+◌, ◌*◌, ◌≤◌, ◌<◌}
+use Prim.Native.Nat.{ℕ, zero, suc, ◌+◌, ◌*◌, ◌≤◌, ◌<◌}
 use native.Mathlib.Nat.{eq-or-lt_of_le}
 use native.Mathlib.Omega.{arith}
 use lib.Dec.{ltb}
-use lib.ListN.{get_or, length, set}
+use lib.ListN.{get_or, set}
 use borrow.Author.Tests.{lt-ltb, le-ltb}
 use Rattle.meaning.specs.Limits.{no_more_docs, max_documents}
 use Rattle.meaning.specs.Lent.{Index, leaf_number, leaf_document, leaf_count}
@@ -87,10 +87,21 @@ module _ (P : ℕ → Bool) (doc : ℕ → ℕ) (n t u r : ℕ) (top : t ≤ no_
   pub run-first : First P t r
   run-first = ⊎_elim run-here run-over (cmp u n)
 
+-- ---- how long a run is
+-- the i-th of some ascending numbers is at least i
+above : (f : ℕ → ℕ) (n : ℕ) → ((i j : ℕ) → i < j → j < n → f i < f j) → (i : ℕ) → i < n → i ≤ f i
+above f n up zero h = omega arith
+above f n up (suc i) h = omega (arith, above f n up i (omega arith), up i (suc i) (omega arith) h)
+
+-- .. so there are at most m of them below m
+few-above : (f : ℕ → ℕ) (n m : ℕ) → ((i j : ℕ) → i < j → j < n → f i < f j) → ((i : ℕ) → i < n → f i < m) → n ≤ m
+few-above f zero m up low = omega arith
+few-above f (suc n) m up low = omega (arith, above f (suc n) up n (omega arith), low n (omega arith))
+
 -- ---- a term
 module _ (ix : Index) (acc : Accepted ix) (k l : ℕ) (there : l < leaf_count ix) (s : State) (t : ℕ) (is : TermIs ix k l s t) where
-  pub term-run : length ix.postings < 9223372036854775808 → (w st : List ℕ) → st ≡ words_of s ++ w → SearchHeld ix.postings 3 s w st t
-  term-run size w st e =
+  pub term-run : (w st : List ℕ) → st ≡ words_of s ++ w → SearchHeld ix.postings 3 s w st t
+  term-run w st e =
       let o = acc.leaf l there in
       let f = is.first-is in
       let n = is.number_is in
@@ -98,7 +109,7 @@ module _ (ix : Index) (acc : Accepted ix) (k l : ℕ) (there : l < leaf_count ix
         words_are = e;
         run = record {
           step = omega arith;
-          few = omega (arith, o.words);
+          few = omega (arith, few-above (leaf_document ix l) (leaf_number ix l) ix.max_doc (acc.ascending l there) (λ i g. (acc.posting l i there g).document), acc.documents);
           within = λ i g. omega (arith, o.words);
           ascending = rw (f, n) (acc.ascending l there);
         };

@@ -111,7 +111,7 @@ module _ {postings : List ℕ} {ix : Index} {ts : List PhraseTerm} {from : ℕ} 
       go [] r b s = record { from = q.lo; top = q.top; before = q.before; are = rw q.is (b d (le_refl _) q.z r); stand = λ e h. rw q.is (s (stood e) h q.z r); moved = λ e. q.rise (went e) }
       go (t ∷ g) r b s = absurd (omega (arith, ap length q.is, length-append q.x q.z, ap length r.2, q.place))
 
-  module _ (l : at < length terms) (e : ℕ) (stop : e ≡ at + node_state_words) (size : length postings < 9223372036854775808) where
+  module _ (l : at < length terms) (e : ℕ) (stop : e ≡ at + node_state_words) where
     pub terms-next : (at + node_state_words ≤ length terms) × ((s : State) × (w : List ℕ) × SearchHeld postings 3 s w (take (e - at) (drop at terms)) d)
     unfolding TermsAre LeavesThere
     terms-next = go q.left q.rest q.there
@@ -121,7 +121,7 @@ module _ {postings : List ℕ} {ix : Index} {ts : List PhraseTerm} {from : ℕ} 
         go (t ∷ g) r h =
             let is = q.is ∙ ap (λ (y : List ℕ). q.x ++ y) r.2 in (
               record-fits terms q.x r.1 r.0 at e is q.place stop,
-              (r.0, [], subst (λ (y : List ℕ). SearchHeld y 3 r.0 [] (take (e - at) (drop at terms)) d) q.postings-are (term-run ix q.accepted 9 t.leaf h.0 r.0 d r.3 (omega (arith, ap length q.postings-are)) [] (take (e - at) (drop at terms)) (record-part terms q.x r.1 r.0 at e is q.place stop))),
+              (r.0, [], subst (λ (y : List ℕ). SearchHeld y 3 r.0 [] (take (e - at) (drop at terms)) d) q.postings-are (term-run ix q.accepted 9 t.leaf h.0 r.0 d r.3 [] (take (e - at) (drop at terms)) (record-part terms q.x r.1 r.0 at e is q.place stop))),
             )
 
     -- the term stands at r, which is d, or moved it there
@@ -136,7 +136,7 @@ module _ {postings : List ℕ} {ix : Index} {ts : List PhraseTerm} {from : ℕ} 
             let st = take (e - at) (drop at terms) in
             let part : st ≡ words_of h.0 = record-part terms q.x h.1 h.0 at e is q.place stop in
             let own : SearchPost ix.postings 3 st d r ys = subst (λ (y : List ℕ). SearchPost y 3 st d r ys) (sym q.postings-are) post in
-            let m = own h.0 [] (term-run ix q.accepted 9 t.leaf k.0 h.0 d h.3 (omega (arith, ap length q.postings-are)) [] st part) in
+            let m = own h.0 [] (term-run ix q.accepted 9 t.leaf k.0 h.0 d h.3 [] st part) in
             let first = term-first ix q.accepted 9 t.leaf k.0 h.0 d h.3 [] ys r m q.top in
             let moved = term_moved ix q.accepted 9 t.leaf k.0 h.0 d h.3 [] ys r m in
             let here : ys ≡ words_of (cursor_at h.0 m.cursor) = m.words_are in

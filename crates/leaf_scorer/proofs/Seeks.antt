@@ -1,9 +1,9 @@
 -- A leaf's move by its kind. Assumes nothing.
-use mathlib.Core.Path.{◌≡◌, refl, sym, ap, subst, ◌∙◌}
+use mathlib.Core.Path.{◌≡◌, refl, sym, subst, ◌∙◌}
 use mathlib.Core.List.{List}
-use Prim.Native.Nat.{ℕ, ◌≤◌, ◌<◌}
+use Prim.Native.Nat.{ℕ, ◌≤◌}
 use native.Mathlib.Omega.{arith}
-use lib.ListN.{get_or, length}
+use lib.ListN.{get_or}
 use Rattle.meaning.specs.Limits.{no_more_docs}
 use Rattle.meaning.specs.Lent.{Index}
 use Rattle.weight.specs.ScorerTree.{Leaf, nothing, term, phrase, range, everything, leaf_matches}
@@ -22,11 +22,11 @@ module _ (E : Lent) (st : List ℕ) (t : ℕ) where
   kind-of h = rw h.words
 
   -- ---- a term
-  module _ (e : get_or st 0 0 ≡ 1) (size : length E.postings < 9223372036854775808) where
+  module _ (e : get_or st 0 0 ≡ 1) where
     pub seek-term-pre : (ix : Index) (p : ℕ) (l : Leaf) (s : State) (w : List ℕ) → LeafHeld E ix p l s w st t → SearchPre E.postings 3 st t
     unfolding LeafIs LeafSound
     seek-term-pre ix p nothing s w h = absurd (omega (arith, kind-of h, h.is.0))
-    seek-term-pre ix p (term l) s w h = (s, w, subst (λ (y : List ℕ). Rattle.leaf_scorer.specs.Search.SearchHeld y 3 s w st t) h.lends.postings-are (term-run ix h.lends.accepted 1 l h.sound s t h.is.0 (omega (arith, ap length h.lends.postings-are)) w st h.words))
+    seek-term-pre ix p (term l) s w h = (s, w, subst (λ (y : List ℕ). Rattle.leaf_scorer.specs.Search.SearchHeld y 3 s w st t) h.lends.postings-are (term-run ix h.lends.accepted 1 l h.sound s t h.is.0 w st h.words))
     seek-term-pre ix p (phrase f ts) s w h = absurd (omega (arith, kind-of h, h.is.kind-is))
     seek-term-pre ix p (range r) s w h = absurd (omega (arith, kind-of h, h.is.0.kind-is))
     seek-term-pre ix p everything s w h = absurd (omega (arith, kind-of h, h.is.0))
@@ -37,7 +37,7 @@ module _ (E : Lent) (st : List ℕ) (t : ℕ) where
     seek-term-done top r st' post ix p (term l) s w h =
         let acc = h.lends.accepted in
         let own : SearchPost ix.postings 3 st t r st' = subst (λ (y : List ℕ). SearchPost y 3 st t r st') (sym h.lends.postings-are) post in
-        let m = own s w (term-run ix acc 1 l h.sound s t h.is.0 (omega (arith, ap length h.lends.postings-are)) w st h.words) in
+        let m = own s w (term-run ix acc 1 l h.sound s t h.is.0 w st h.words) in
         let first = term-first ix acc 1 l h.sound s t h.is.0 w st' r m top in (
           first-like (λ d. refl) first,
           record {

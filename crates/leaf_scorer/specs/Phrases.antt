@@ -132,41 +132,7 @@ FrequencyPost postings positions terms r = (ix : Index) (places f : ℕ) (ts : L
 -- ---- the phrase
 -- a record with another frequency that was worked out
 abbrev pub worked_at : State → ℕ → ℕ → State
-worked_at s d n =
-    record {
-      kind = s.kind;
-      size = s.size;
-      cached = s.cached;
-      need = s.need;
-      required_end = s.required_end;
-      optional_end = s.optional_end;
-      first = s.first;
-      number = s.number;
-      cursor = s.cursor;
-      offset = s.offset;
-      field = s.field;
-      constant = s.constant;
-      weight = s.weight;
-      afterwards = s.afterwards;
-      group_at = s.group_at;
-      scores = s.scores;
-      frequency_of = d;
-      frequency = n;
-      norms = s.norms;
-      window_first = s.window_first;
-      window_low = s.window_low;
-      window_high = s.window_high;
-      window_next = s.window_next;
-      ones_low = s.ones_low;
-      ones_high = s.ones_high;
-      twos_low = s.twos_low;
-      twos_high = s.twos_high;
-      spare1 = s.spare1;
-      spare2 = s.spare2;
-      spare3 = s.spare3;
-      spare4 = s.spare4;
-      spare5 = s.spare5;
-    }
+worked_at s d n = record s { frequency_of = d; frequency = n }
 
 pub record PhraseHeld (postings positions : List ℕ) (ix : Index) (places f : ℕ) (ts : List PhraseTerm) (s : State) (w st : List ℕ) (b : ℕ) : Type 0 where
   pub accepted : Accepted ix

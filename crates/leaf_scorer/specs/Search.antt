@@ -8,41 +8,7 @@ use Rattle.run.specs.Run.{document_at, Run}
 
 -- a record with another cursor
 abbrev pub cursor_at : State → ℕ → State
-cursor_at s u =
-    record {
-      kind = s.kind;
-      size = s.size;
-      cached = s.cached;
-      need = s.need;
-      required_end = s.required_end;
-      optional_end = s.optional_end;
-      first = s.first;
-      number = s.number;
-      cursor = u;
-      offset = s.offset;
-      field = s.field;
-      constant = s.constant;
-      weight = s.weight;
-      afterwards = s.afterwards;
-      group_at = s.group_at;
-      scores = s.scores;
-      frequency_of = s.frequency_of;
-      frequency = s.frequency;
-      norms = s.norms;
-      window_first = s.window_first;
-      window_low = s.window_low;
-      window_high = s.window_high;
-      window_next = s.window_next;
-      ones_low = s.ones_low;
-      ones_high = s.ones_high;
-      twos_low = s.twos_low;
-      twos_high = s.twos_high;
-      spare1 = s.spare1;
-      spare2 = s.spare2;
-      spare3 = s.spare3;
-      spare4 = s.spare4;
-      spare5 = s.spare5;
-    }
+cursor_at s u = record s { cursor = u }
 
 -- what a search reads of a record
 pub record CursorRead (st : List ℕ) (f n u : ℕ) : Type 0 where

@@ -9,8 +9,9 @@ ghost use Rattle.leaf_scorer.specs.Calls.{lent_of, LeafPre, LeafPost};
 ghost use Rattle.leaf_scorer.specs.Buffers.{room, other_room, SameBuffers};
 
 pub use index::postings::NO_MORE_DOCS;
+use index::postings::POSTING;
 use node::NodeKind;
-use run::{document, lower};
+use run::{Postings, document};
 use weight::NODE_STATE_WORDS;
 
 // What is read of the index beside a tree's words, the inverses of its fields' lengths, and the bitmaps of the order's ranges.
@@ -31,9 +32,6 @@ pub struct PhraseBuffers<'a> {
     pub starts: &'a mut [i32],
     pub other_starts: &'a mut [i32],
 }
-
-// The words of a posting.
-const POSTING: usize = 3;
 
 // The words of four terms of a phrase.
 const FOUR_TERMS: usize = 4 * NODE_STATE_WORDS;
@@ -58,17 +56,26 @@ fn cursor_at(st: &[u32]) -> Cursor
 }
 
 // Moves a record's cursor to the first document at or after the target.
+// Kept: a rule of the project: a public function keeps what it promised, and this one promises it of every stride.
 pub fn search(st: &mut [u32], words: &[u32], stride: usize, target: u32) -> u32
     requires { SearchPre words.now stride st.old target }
     ensures { SearchPost words.now stride st.old target result st.new }
 {
-    let c = cursor_at(st);
-    let first = c.first;
-    let number = c.number;
-    let at = lower(words, stride, first, number, c.cursor, target);
+    let Cursor {
+        first,
+        number: count,
+        cursor,
+    } = cursor_at(st);
+    let run = Postings {
+        words,
+        stride,
+        first,
+        count,
+    };
+    let at = run.lower(cursor, target);
     st[8] = at as u32;
-    if at < number {
-        document(words, stride, first, at)
+    if at < run.count {
+        run.document(at)
     } else {
         NO_MORE_DOCS
     }
@@ -79,31 +86,31 @@ pub fn search_postings(st: &mut [u32], postings: &[u32], target: u32) -> u32
     requires { SearchPre postings.now 3 st.old target }
     ensures { SearchPost postings.now 3 st.old target result st.new }
 {
-    let c = cursor_at(st);
-    let first = c.first;
-    let cursor = c.cursor;
+    let Cursor {
+        first,
+        number,
+        cursor,
+    } = cursor_at(st);
     let next = cursor + 1;
-    if next < c.number {
-        if document(postings, POSTING, first, cursor) < target {
-            let d = document(postings, POSTING, first, next);
-            if target <= d {
-                st[8] = next as u32;
-                return d;
-            }
+    if next < number && document(postings, POSTING, first, cursor) < target {
+        let d = document(postings, POSTING, first, next);
+        if target <= d {
+            st[8] = next as u32;
+            return d;
         }
     }
     search(st, postings, POSTING, target)
 }
 
 // The next bit that is set in a bitmap, at or after the target.
-fn next_set(words: &[u32], first: usize, number: usize, target: u32) -> u32
-    requires { (first + number ≤ length words.now) × (32 * number ≤ no_more_docs) }
-    ensures { FirstSet words.now first number target result }
+fn next_set(bitmap: &[u32], target: u32) -> u32
+    requires { 32 * length bitmap.now ≤ no_more_docs }
+    ensures { FirstSet bitmap.now 0 (length bitmap.now) target result }
 {
     let mut skip = target % 32;
-    for at in (target / 32) as usize..number {
+    for at in (target / 32) as usize..bitmap.len() {
         let below = bits::first_bits(skip);
-        let w = bits::without(words[first + at] as u64, below);
+        let w = bits::without(u64::from(bitmap[at]), below);
         if w != 0 {
             return 32 * at as u32 + bits::lowest(w);
         }
@@ -117,7 +124,9 @@ pub fn seek_range(st: &[u32], ranges: &[u32], target: u32) -> u32
     requires { RangePre ranges.now st.now }
     ensures { RangePost ranges.now st.now target result }
 {
-    next_set(ranges, st[6] as usize, st[7] as usize, target)
+    let first = st[6] as usize;
+    let end = first + st[7] as usize;
+    next_set(&ranges[first..end], target)
 }
 
 fn everything(max_doc: u32, target: u32) -> u32
@@ -131,7 +140,7 @@ fn everything(max_doc: u32, target: u32) -> u32
 }
 
 // Where a pass over the terms of a phrase got, and whether all of them stand there.
-// Kept: the document is there whether or not they all stand at it, so this is no Option.
+// Kept: no plainer as a Result: the document is there whether or not they all stand at it, and `phrase_at` asks for it alone.
 #[derive(Clone, Copy)]
 pub struct Pass {
     pub doc: u32,
@@ -145,17 +154,12 @@ fn pass_terms(terms: &mut [u32], postings: &[u32], target: u32) -> Pass
 {
     let mut d = target;
     let mut hit = true;
-    let mut at = 0;
-    // Kept: std's chunks_exact_mut and as_chunks_mut don't say what the slice ends as, and the terms are moved in place.
-    while at < terms.len() {
+    for at in (0..terms.len()).step_by(NODE_STATE_WORDS) {
         let end = at + NODE_STATE_WORDS;
         let e = search(&mut terms[at..end], postings, POSTING, d);
-        if e == d {
-            at = end;
-        } else {
+        if e != d {
             d = e;
             hit = at == 0;
-            at = end;
         }
     }
     Pass { doc: d, hit }
@@ -187,6 +191,7 @@ fn posting_of(terms: &[u32], at: usize) -> usize
 
 // Of each term's posting in a document: the index of its first position there, its frequency and its offset. `posting` says where the
 // posting's words begin, by where the term's record does.
+// Kept: no plainer as the front lent on: its one caller cuts it where it lends it to `phrase`.
 #[inline(always)]
 fn gather<F: Fn(usize) -> usize>(
     terms: &[u32],
@@ -217,89 +222,79 @@ fn gather<F: Fn(usize) -> usize>(
 // The frequency of a phrase in a document that all its terms have, by way of an array that has room for three words of each.
 fn frequency_in<const WORDS: usize, F: Fn(usize) -> usize>(
     terms: &[u32],
-    postings: &[u32],
-    positions: &[u32],
+    reader: &LeafReader<'_>,
     buffers: &mut PhraseBuffers<'_>,
     posting: F,
 ) -> u32
     requires may_ask { EachRecord (F.pre posting) (length terms.now) }
-    requires held { PostingsPre postings.now positions.now terms.now (F.post posting) (room buffers.old) (other_room buffers.old) }
+    requires held { PostingsPre reader.now.postings.now reader.now.positions.now terms.now (F.post posting) (room buffers.old) (other_room buffers.old) }
     requires room { (3 * length terms.now ≤ node_state_words * WORDS) × (WORDS ≤ 96) }
-    ensures frequency_post { PostingsPost postings.now positions.now terms.now (F.post posting) result }
+    ensures frequency_post { PostingsPost reader.now.postings.now reader.now.positions.now terms.now (F.post posting) result }
     ensures same_buffers { SameBuffers buffers.old buffers.new }
 {
     let mut words = [0u32; WORDS];
-    let n = gather(terms, postings, &mut words, posting);
-    phrase::frequency(positions, &words[..n], buffers.starts, buffers.other_starts)
+    let n = gather(terms, reader.postings, &mut words, posting);
+    phrase::frequency(
+        reader.positions,
+        &words[..n],
+        buffers.starts,
+        buffers.other_starts,
+    )
 }
 
 // The frequency of a phrase in a document that all its terms have; `posting` is as in `gather`. A phrase has at most 32 terms. Most
 // have up to four, and zeroing few words is cheaper.
 pub fn frequency_by<F: Fn(usize) -> usize>(
     terms: &[u32],
-    postings: &[u32],
-    positions: &[u32],
+    reader: &LeafReader<'_>,
     buffers: &mut PhraseBuffers<'_>,
     posting: F,
 ) -> u32
     requires may_ask { EachRecord (F.pre posting) (length terms.now) }
-    requires held { PostingsPre postings.now positions.now terms.now (F.post posting) (room buffers.old) (other_room buffers.old) }
-    ensures frequency_post { PostingsPost postings.now positions.now terms.now (F.post posting) result }
+    requires held { PostingsPre reader.now.postings.now reader.now.positions.now terms.now (F.post posting) (room buffers.old) (other_room buffers.old) }
+    ensures frequency_post { PostingsPost reader.now.postings.now reader.now.positions.now terms.now (F.post posting) result }
     ensures same_buffers { SameBuffers buffers.old buffers.new }
 {
     if terms.len() <= FOUR_TERMS {
-        return frequency_in::<12, _>(terms, postings, positions, buffers, posting);
+        return frequency_in::<12, _>(terms, reader, buffers, posting);
     }
-    frequency_in::<96, _>(terms, postings, positions, buffers, posting)
+    frequency_in::<96, _>(terms, reader, buffers, posting)
 }
 
 // The frequency in the document where the terms stand.
-fn frequency(
-    terms: &[u32],
-    postings: &[u32],
-    positions: &[u32],
-    buffers: &mut PhraseBuffers<'_>,
-) -> u32
-    requires { FrequencyPre postings.now positions.now terms.now (room buffers.old) (other_room buffers.old) }
-    ensures frequency_post { FrequencyPost postings.now positions.now terms.now result }
+fn frequency(terms: &[u32], reader: &LeafReader<'_>, buffers: &mut PhraseBuffers<'_>) -> u32
+    requires { FrequencyPre reader.now.postings.now reader.now.positions.now terms.now (room buffers.old) (other_room buffers.old) }
+    ensures frequency_post { FrequencyPost reader.now.postings.now reader.now.positions.now terms.now result }
     ensures same_buffers { SameBuffers buffers.old buffers.new }
 {
-    frequency_by(
-        terms,
-        postings,
-        positions,
-        buffers,
-        |at| posting_of(terms, at),
-    )
+    frequency_by(terms, reader, buffers, |at| posting_of(terms, at))
 }
 
 // The first document at or after the target where a phrase stands; its frequency there is stored.
 pub fn seek_phrase(
     st: &mut [u32],
-    postings: &[u32],
-    positions: &[u32],
+    reader: &LeafReader<'_>,
     buffers: &mut PhraseBuffers<'_>,
     target: u32,
 ) -> u32
-    requires { PhrasePre postings.now positions.now (room buffers.old) (other_room buffers.old) st.old target }
-    ensures phrase_post { PhrasePost postings.now positions.now st.old target result st.new }
+    requires { PhrasePre reader.now.postings.now reader.now.positions.now (room buffers.old) (other_room buffers.old) st.old target }
+    ensures phrase_post { PhrasePost reader.now.postings.now reader.now.positions.now st.old target result st.new }
     ensures same_buffers { SameBuffers buffers.old buffers.new }
 {
     let mut t = target;
     // Kept: each turn begins where the answer of the one before lies; a loop is plainer than an iterator of such steps.
     loop {
-        let d = leapfrog(&mut st[NODE_STATE_WORDS..], postings, t);
+        let d = leapfrog(&mut st[NODE_STATE_WORDS..], reader.postings, t);
         if d == NO_MORE_DOCS {
             return d;
         }
-        let n = frequency(&st[NODE_STATE_WORDS..], postings, positions, buffers);
-        if n == 0 {
-            t = d + 1;
-        } else {
+        let n = frequency(&st[NODE_STATE_WORDS..], reader, buffers);
+        if n != 0 {
             st[16] = d + 1;
             st[17] = n;
             return d;
         }
+        t = d + 1;
     }
 }
 
@@ -307,16 +302,15 @@ pub fn seek_phrase(
 // which it stands nowhere. Positions are read only at the target.
 pub fn phrase_at(
     st: &mut [u32],
-    postings: &[u32],
-    positions: &[u32],
+    reader: &LeafReader<'_>,
     buffers: &mut PhraseBuffers<'_>,
     target: u32,
 ) -> u32
-    requires { PhrasePre postings.now positions.now (room buffers.old) (other_room buffers.old) st.old target }
-    ensures phrase_at_post { PhraseAtPost postings.now positions.now st.old target result st.new }
+    requires { PhrasePre reader.now.postings.now reader.now.positions.now (room buffers.old) (other_room buffers.old) st.old target }
+    ensures phrase_at_post { PhraseAtPost reader.now.postings.now reader.now.positions.now st.old target result st.new }
     ensures same_buffers { SameBuffers buffers.old buffers.new }
 {
-    let p = pass_terms(&mut st[NODE_STATE_WORDS..], postings, target);
+    let p = pass_terms(&mut st[NODE_STATE_WORDS..], reader.postings, target);
     let d = p.doc;
     if d != target {
         return d;
@@ -324,7 +318,7 @@ pub fn phrase_at(
     if d == NO_MORE_DOCS {
         return d;
     }
-    let n = frequency(&st[NODE_STATE_WORDS..], postings, positions, buffers);
+    let n = frequency(&st[NODE_STATE_WORDS..], reader, buffers);
     if n == 0 {
         return d + 1;
     }
@@ -346,7 +340,7 @@ pub fn seek(
 {
     match NodeKind::from(st[0]) {
         NodeKind::Term => search_postings(st, reader.postings, target),
-        NodeKind::Phrase => seek_phrase(st, reader.postings, reader.positions, buffers, target),
+        NodeKind::Phrase => seek_phrase(st, reader, buffers, target),
         NodeKind::Range => seek_range(st, reader.ranges, target),
         _ => everything(reader.max_doc, target),
     }

@@ -14,7 +14,7 @@ ghost use Rattle.index.specs.Slices.{lent};
 ghost use Rattle.order_check.specs.Lends.{work};
 ghost use Rattle.border.specs.Border.{border_search, border_page, border_pick, top_numbers, page_numbers};
 
-// Kept: the C interface.
+// Kept: the C interface hands over each slice and number by itself, so its clauses name them one by one.
 #[unsafe(no_mangle)]
 pub extern "C" fn lot_search(
     max_doc: u32,
@@ -50,7 +50,7 @@ pub extern "C" fn lot_search(
     )
 }
 
-// Kept: the C interface.
+// Kept: the C interface hands over each slice and number by itself, so its clauses name them one by one.
 #[unsafe(no_mangle)]
 pub extern "C" fn lot_page(
     max_doc: u32,
@@ -87,6 +87,7 @@ pub extern "C" fn lot_page(
     )
 }
 
+// Kept: the C interface hands over documents and scores as two slices, and takes a refusal as its number.
 #[unsafe(no_mangle)]
 pub extern "C" fn lot_pick(
     documents: &[u32],

@@ -1,7 +1,7 @@
 // The token writer, as the functions of lib.rt.
 ghost use Rattle.border.specs.Write.{LotWritesIndex};
 
-// Kept: the C interface.
+// Kept: the C interface hands over each slice and number by itself, so its clause names them one by one.
 #[unsafe(no_mangle)]
 pub extern "C" fn lot_write_index(
     max_doc: u32,

@@ -12,12 +12,10 @@ use Rattle.meaning.specs.Query.{record_count, Decoded, decode}
 use Rattle.weight.proofs.Measures.{measured-more, none_after, measured-down}
 use Rattle.measure.specs.declared.Measure.{Measure}
 use Rattle.measure.specs.declared.RangeList.{RangeList}
+pub use Rattle.measure.specs.NextClause.{no_measure}
 use Rattle.measure.specs.Measures.{nexts_of, presents_of, costs_of, AllMeasured, TreeMeasured, places_of, counts_of}
 
 -- of a record past the last
-abbrev pub no_measure : Measure
-no_measure = record { next = 0; present = false; cost = 0 }
-
 abbrev pub no_list : RangeList
 no_list = record { place = 0; count = 0 }
 

@@ -322,11 +322,11 @@ module _ (ix : Index) (q : List ℕ) (k at : ℕ) (C : DecodedClauses) where
       let few = l.few in
       record { here = omega (arith, inside, past); few-records = records; fits = omega (arith, ahead, small, more, inside, records); few = omega (arith, few, clauses) }
 
--- at the clause that a loop comes to, after i of them
-pub clause-left : {q : List ℕ} {at : ℕ} (ms : List Measure) (a : (ix : Index) × Asks ix q × AllMeasured ix q ms (at + 1)) → at < record_count q → record_kind q at ≡ 3 → (i next : ℕ) (t : Tally) → ((ix : Index) (k : ℕ) (C : DecodedClauses) → AllMeasured ix q ms (at + 1) → decode_clauses q (decode q k) (record_children q at) (at + 1) ≡ some C → Left ix q k at (record_children q at - i) next t C) → i < record_children q at → OneLeft q next t (get_or ms next no_measure)
-clause-left {q} {at} ms a here kind i next t left more =
+-- at the clause that a loop comes to
+pub clause-left : {q : List ℕ} {at : ℕ} (ms : List Measure) (a : (ix : Index) × Asks ix q × AllMeasured ix q ms (at + 1)) → at < record_count q → record_kind q at ≡ 3 → {left next : ℕ} {t : Tally} → ((ix : Index) (k : ℕ) (C : DecodedClauses) → AllMeasured ix q ms (at + 1) → decode_clauses q (decode q k) (record_children q at) (at + 1) ≡ some C → Left ix q k at left next t C) → 0 < left → OneLeft q next t (get_or ms next no_measure)
+clause-left {q} {at} ms a here kind {left} {next} {t} l more =
     let ks = clauses-at q at a.1.records-right here kind in
-    one_left a.0 q ks.level at ks.inside ms (record_children q at - i) next t ks.few-records ks.few-clauses a.2 (left a.0 ks.level ks.inside a.2 ks.decoded) (omega (arith, more))
+    one_left a.0 q ks.level at ks.inside ms left next t ks.few-records ks.few-clauses a.2 (l a.0 ks.level ks.inside a.2 ks.decoded) more
 
 -- the tally's cost is no more than the costs in it
 conjunction-small : (f : Option ℕ) (msm group : ℕ) → conjunction f msm group ≤ max (or_zero f) group

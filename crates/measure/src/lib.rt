@@ -1,6 +1,8 @@
 // The first pass over a query's records: of each tree the record after it, whether it has a scorer, and its cost.
 #![tactic(auto)]
 
+pub mod boolean_clauses;
+
 ghost use Rattle.std.specs.Prelude.{◌≡◌, Bool, true, false, cond, not, ◌&&◌, ◌||◌, List, ℕ, ◌+◌, ◌*◌, ◌/◌, ◌≤◌, ◌<◌, max, min, eqb, leb, ltb, length, get_or};
 ghost use Rattle.std.proofs.Math.Option.{some};
 ghost use Rattle.meaning.specs.Lent.{Index, leaf_number};
@@ -14,10 +16,12 @@ ghost use Rattle.bits.specs.Bit.{bitmap_words, Bitmap};
 ghost use Rattle.measure.specs.Measures.{Held, AllMeasured, TreeMeasured, places_of, counts_of};
 ghost use Rattle.measure.specs.Tallied.{tallied, tallied_at, tally_present, tally_cost};
 
-use query::{Kind, Occur, kind_at, occur_at};
+use boolean_clauses::Clauses;
+use index::leaves::leaf_at;
+use query::{Kind, Occur, kind_at};
 
 // Of a tree: the record after it, whether it has a scorer, and its cost.
-// Kept: `present` is no Option's: a tree without a scorer has a cost too.
+// Kept: no Option of a cost: `measure_all` promises the cost of a tree without a scorer too, which a Boolean's sum may make more than 0.
 #[derive(Clone, Copy)]
 pub struct Measure {
     pub next: usize,
@@ -32,8 +36,10 @@ pub struct RangeList {
     pub count: u32,
 }
 
-// Of a Boolean's clauses: some is required; one of those lacks a scorer; the least cost of those that have one; the Shoulds with a scorer, and their cost together.
-// Kept: an Option or enum would say no more: `least` is None where nothing is required and where nothing required has a scorer.
+// Of a Boolean's clauses: some is required; one of those lacks a scorer; the least cost of those that have one; the Shoulds with a scorer, and
+// their cost together.
+// Kept: no plainer: an enum would hold `least` in two of its variants, as an Option where a required clause lacks a scorer, and each
+// clause would be a match on all three.
 #[derive(Clone, Copy)]
 pub struct Tally {
     pub required: bool,
@@ -48,10 +54,12 @@ fn postings_of(leaves: &[u32], leaf: u32) -> u64
     requires { leaf < length leaves.now / 4 }
     ensures { (result ≡ get_or leaves.now (4 * leaf + 2) 0) × (result < 4294967296) }
 {
-    leaves[4 * leaf as usize + 2] as u64
+    u64::from(leaf_at(leaves, leaf as usize).number)
 }
 
 // The fewest postings that a term of the phrase at `at` has.
+// Kept: no plainer, here and below: a struct of `q, leaves, at`, or of the query with a ghost field for `Asks`, would be taken apart again for
+// `value(q, at, i)` and `leaf_at(leaves, l)`.
 fn phrase_postings(q: &[u32], leaves: &[u32], at: usize) -> u64
     requires at_bound { (at + 1 + record_children q.now at ≤ record_count q.now) × (1 ≤ record_children q.now at) }
     requires by_index { (j : ℕ) → j < record_children q.now at → record_value q.now (at + 1 + j) 0 < length leaves.now / 4 }
@@ -114,7 +122,7 @@ fn tally_clause(t: Tally, occurrence: Option<Occur>, m: Measure) -> Tally
 }
 
 // How many Shoulds must match: without Must and Filter at least one.
-// Kept: `required` is what is true of the clauses, a value of the equation, and turns no step on.
+// Kept: no plainer: no switch: `required` is a fact of the clauses, a `Tally`'s field, and no choice of a step.
 pub fn shoulds_needed(required: bool, msm: u32) -> u32
     ensures { result ≡ cond required msm (max 1 msm) }
 {
@@ -161,10 +169,9 @@ fn measure_boolean(q: &[u32], measures: &[Measure], at: usize) -> Measure
         group: 0,
     };
     let mut next = at + 1;
-    for _i in 0..query::children(q, at) {
-        let m = measures[next];
-        t = tally_clause(t, occur_at(q, next), m);
-        next = m.next;
+    for clause in Clauses::of(q, measures, at) {
+        t = tally_clause(t, clause.occurrence, clause.measure);
+        next = clause.measure.next;
     }
     Measure {
         next,
@@ -304,6 +311,7 @@ pub fn list_ranges(
     ensures listed_len_unchanged { (length listed.new ≡ length listed.old) × (length ranges.new ≡ length ranges.old) }
 {
     let mut used = 0;
+    // Kept: no plainer with `enumerate` over the first of `listed`: `at` would still be needed for the record that is read.
     for at in 0..query::record_count(q) {
         let place = used as u32;
         let count = list_range(q, lent, at, &mut ranges[used..]);

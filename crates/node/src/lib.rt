@@ -37,6 +37,7 @@ impl From<u32> for NodeKind {
 
 impl NodeKind {
     // The word that a record of this kind begins with.
+    // Kept: no plainer by From: `as u32` is the whole of it, and `NodeKind::Term.word()` says what the number is for.
     pub fn word(self) -> u32
         ensures { result ≡ kind_word self }
     {
@@ -45,6 +46,7 @@ impl NodeKind {
 }
 
 // Of a child's record: its kind, where its part ends, the document where it stands + 1, and whether it is a Must.
+// Kept: no plainer: `cached` as an Option would want a match where `target < cached` asks it at once; 0 is below every document + 1.
 #[derive(Clone, Copy)]
 pub struct Child {
     pub kind: NodeKind,
@@ -68,6 +70,7 @@ pub fn child_at(kids: &[u32], at: usize) -> Child
 
 // Of a Boolean's record: how many of the optional must match, where the required children's parts end and the optional ones', and
 // where the group joins the required sum: after that is narrowed, or at a place among the parts.
+// Kept: no plainer: `boolean_at` promises both words, also where `afterwards` is set, and an enum would have no place for `group_at` there.
 #[derive(Clone, Copy)]
 pub struct Boolean {
     pub need: u32,

@@ -4,28 +4,37 @@ use mathlib.Core.List.{List, [], ◌∷◌}
 use Prim.Native.Nat.{ℕ, zero, suc}
 use native.Mathlib.Omega.{arith}
 use lib.ListN.{length, get_or}
-use lib.IntN.{ℤ}
 use Rattle.meaning.specs.Limits.{no_more_docs}
 use Rattle.meaning.specs.Lent.{Index}
-use Rattle.meaning.specs.CallRefusals.{Work}
 use Rattle.meaning.specs.Entries.{answered, page_answer}
-use Rattle.std.specs.Prelude.{Result, Ok, Err}
+use Rattle.std.specs.Prelude.{Bool, true, false, cond, eqb, Some, None, IfSome, Result, Ok, Err}
 use Rattle.walk.specs.declared.Listed.{Listed}
 use Rattle.refusal.specs.declared.Refusal.{Refusal}
 use Rattle.searcher.specs.Answers.{paged_numbers}
+use Rattle.searcher.specs.declared.buffers.Buffers.{Buffers}
+use Rattle.node_words.specs.declared.state.NodeState.{NodeState}
+use Rattle.node_state.specs.Records.{record_words}
 use Rattle.node_state.specs.Standing.{Standing}
 use Rattle.node_page.specs.Pages.{Pages}
-use Rattle.node_page_vectors.specs.Next.{next_of}
+use Rattle.node_page_vectors.specs.Next.{next_of, StandsNext}
 
 -- three numbers are an accepted call's answer
 given-answer : (z g n given next : ℕ) → (0 ∷ g ∷ n ∷ []) ≡ answered z (0 ∷ given ∷ next ∷ []) (λ m. m ∷ []) → (z ≡ 0) × (n ≡ next)
 given-answer zero g n given next e = (refl, ap (λ (l : List ℕ). get_or l 2 0) e)
 given-answer (suc z) g n given next e = let l = ap length e in absurd (omega (arith, l))
 
-module _ (ix : Index) (q : List ℕ) (target : ℕ) (w : Work) (documents documents' scores scores' : List ℕ) (a a' b b' : List ℤ) (ranges ranges' words' : List ℕ) where
-  pub stands-next : (r : Result Listed Refusal) → Pages ix q target w documents documents' scores scores' a a' b b' ranges ranges' words' r → (next_of r ≡ no_more_docs → ⊥) → Standing ix q ranges' words' (next_of r)
-  unfolding next_of paged_numbers page_answer
-  stands-next (Err x) g h = absurd (h refl)
-  stands-next (Ok l) g h =
-      let s = given-answer _ l.given l.next _ _ g.numbers in
-      subst (λ (m : ℕ). Standing ix q ranges' words' m) (sym s.1) (g.standing s.0)
+module _ (ix : Index) (q : List ℕ) (target : ℕ) (b b' : Buffers NodeState) (documents documents' scores scores' : List ℕ) where
+  stands : (r : Result Listed Refusal) → Pages ix q target b b' documents documents' scores scores' r → IfSome (next_of r) (Standing ix q b'.ranges.now (record_words b'.states.now))
+  unfolding paged_numbers page_answer
+  stands (Err x) g = tt
+  stands (Ok l) g = at_most (eqb l.next no_more_docs)
+    where
+      there : Standing ix q b'.ranges.now (record_words b'.states.now) l.next
+      there = let s = given-answer _ l.given l.next _ _ g.numbers in subst (λ (m : ℕ). Standing ix q b'.ranges.now (record_words b'.states.now) m) (sym s.1) (g.standing s.0)
+
+      at_most : (h : Bool) → IfSome (cond h None (Some l.next)) (Standing ix q b'.ranges.now (record_words b'.states.now))
+      at_most true = tt
+      at_most false = there
+
+  pub stands-next : (r : Result Listed Refusal) → Pages ix q target b b' documents documents' scores scores' r → StandsNext ix q r b'
+  stands-next r g = record { stands = stands r g }

@@ -2,18 +2,19 @@
 // crates/node_page_vectors/stdout is written from document 01's text: a page is its documents, each with its score's bits, and the next match.
 #![tactic(auto)]
 
-ghost use Rattle.std.specs.Prelude.{◌≡◌};
-ghost use Rattle.meaning.specs.Limits.{no_more_docs};
+ghost use Rattle.std.specs.Prelude.{◌≡◌, ◌≤◌};
 ghost use Rattle.index.specs.IndexOf.{index_of};
 ghost use Rattle.node_state.specs.Records.{record_words};
 ghost use Rattle.node_state.specs.Standing.{Standing};
-ghost use Rattle.node_page_vectors.specs.Next.{next_of};
+ghost use Rattle.node_page_vectors.specs.Next.{next_of, StandsNext};
 
 use index::lent::Lent;
 use node_cases::{QUERY, RUBBISH, WHOLE_CASE};
+use node_page::{page_nodes, resume_nodes};
 use node_state::NodeState;
 use refusal::Refusal;
 use searcher::buffers::Buffers;
+use searcher::page::page;
 use std::fmt::{Display, Formatter};
 use std::io::Write;
 use std::{fmt, io};
@@ -55,88 +56,57 @@ struct Page {
     scores: [u32; 1],
 }
 
-// The next match, and none where the call was refused.
-fn next_of(listed: Result<Listed, Refusal>) -> u32
+// The next match, where there is one and the call was not refused.
+fn next_of(listed: Result<Listed, Refusal>) -> Option<u32>
     ensures { result ≡ next_of listed }
 {
     match listed {
-        Err(_) => walk::NO_MORE_DOCS,
-        Ok(l) => l.next,
+        Ok(Listed { next, .. }) if next != walk::NO_MORE_DOCS => Some(next),
+        _ => None,
     }
 }
 
-// From the first document, over the records, a range buffer of their own, and the phrase buffers of the words.
-fn first_page(
-    lent: &Lent,
-    query: &[u32],
-    nodes: &mut [NodeState],
-    buffers: &mut Buffers<'_>,
-    ranges: &mut [u32],
-) -> Page
-    ensures { (next_of result.listed ≡ no_more_docs → ⊥) → Standing (index_of lent.now) query.now ranges.new (record_words nodes.new) (next_of result.listed) }
+// The page that a call fills.
+fn page_of<F: FnMut(&mut [u32], &mut [u32]) -> Result<Listed, Refusal>>(f: &mut F) -> Page
+    requires callable { (documents : _) (scores : _) → F.pre f.old documents scores }
+    ensures { (documents : _) × (scores : _) × (given : _) × (bits : _) × F.step f.old documents scores result.listed given bits f.new }
 {
     let mut documents = [0u32; 1];
     let mut scores = [0u32; 1];
-    let listed = node_page::page_nodes(
-        lent,
-        query,
-        0,
-        nodes,
-        buffers.starts,
-        buffers.other_starts,
-        ranges,
-        &mut documents,
-        &mut scores,
-    );
+    let listed = f(&mut documents, &mut scores);
     Page {
         listed,
         documents,
         scores,
     }
+}
+
+// From the first document, over the records.
+fn first_page(lent: &Lent, query: &[u32], buffers: &mut Buffers<'_, NodeState>) -> Page
+    ensures { StandsNext (index_of lent.now) query.now result.listed buffers.new }
+{
+    page_of(&mut |documents: &mut [u32], scores: &mut [u32]| page_nodes(
+        lent, query, 0, buffers, documents, scores,
+    ))
 }
 
 // From the records as the page before it left them.
-fn next_page(
-    lent: &Lent,
-    query: &[u32],
-    target: u32,
-    nodes: &mut [NodeState],
-    buffers: &mut Buffers<'_>,
-    ranges: &mut [u32],
-) -> Page
-    requires { Standing (index_of lent.now) query.now ranges.old (record_words nodes.old) target }
-    ensures { (next_of result.listed ≡ no_more_docs → ⊥) → Standing (index_of lent.now) query.now ranges.new (record_words nodes.new) (next_of result.listed) }
+fn next_page(lent: &Lent, query: &[u32], target: u32, buffers: &mut Buffers<'_, NodeState>) -> Page
+    requires { Standing (index_of lent.now) query.now buffers.old.ranges.now (record_words buffers.old.states.now) target }
+    ensures { StandsNext (index_of lent.now) query.now result.listed buffers.new }
 {
-    let mut documents = [0u32; 1];
-    let mut scores = [0u32; 1];
-    let listed = node_page::resume_nodes(
-        lent,
-        query,
-        target,
-        nodes,
-        buffers.starts,
-        buffers.other_starts,
-        ranges,
-        &mut documents,
-        &mut scores,
-    );
-    Page {
-        listed,
-        documents,
-        scores,
-    }
+    page_of(
+        &mut |documents: &mut [u32], scores: &mut [u32]| resume_nodes(
+            lent, query, target, buffers, documents, scores,
+        ),
+    )
 }
 
 // The same page from words that are built anew.
 fn page_by_words(lent: &Lent, query: &[u32], target: u32, buffers: &mut Buffers<'_>) -> Page {
-    let mut documents = [0u32; 1];
-    let mut scores = [0u32; 1];
-    let listed = searcher::page::page(lent, query, target, buffers, &mut documents, &mut scores);
-    Page {
-        listed,
-        documents,
-        scores,
-    }
+    page_of(&mut |documents: &mut [u32], scores: &mut [u32]| page(
+        lent, query, target, buffers, documents, scores,
+    ))
 }
 
 impl Display for Page {
@@ -162,63 +132,52 @@ fn print_both(out: &mut impl Write, by_records: Page, by_words: Page) -> io::Res
     writeln!(out, "{}", if same { "same" } else { "different" })
 }
 
-// The order page by page from the first document, eight pages at most.
+// The order page by page from the first document, eight pages at most: over records, and over words.
 fn page_through(
     out: &mut impl Write,
     lent: &Lent,
     query: &[u32],
-    buffers: &mut Buffers<'_>,
-    ranges: &mut [u32],
+    records: &mut Buffers<'_, NodeState>,
+    words: &mut Buffers<'_>,
 ) -> io::Result<()> {
-    let mut nodes = [RUBBISH; 8];
-    let mut page = first_page(lent, query, &mut nodes, buffers, ranges);
-    print_both(out, page, page_by_words(lent, query, 0, buffers))?;
+    let mut page = first_page(lent, query, records);
+    print_both(out, page, page_by_words(lent, query, 0, words))?;
     for _ in 1..8 {
-        let target = next_of(page.listed);
-        if target == walk::NO_MORE_DOCS {
+        let Some(target) = next_of(page.listed) else {
             return Ok(());
-        }
-        page = next_page(lent, query, target, &mut nodes, buffers, ranges);
-        print_both(out, page, page_by_words(lent, query, target, buffers))?;
+        };
+        page = next_page(lent, query, target, records);
+        print_both(out, page, page_by_words(lent, query, target, words))?;
     }
     Ok(())
 }
 
-// Words for eight states, where six are needed.
-fn whole_case(out: &mut impl Write) -> io::Result<()> {
-    let mut states = [RUBBISH_WORD; 8 * NODE_STATE_WORDS];
-    let mut starts = [0i32; 0];
-    let mut other_starts = [0i32; 0];
-    let mut ranges = [0u32; 0];
-    let mut other_ranges = [0u32; 0];
-    let mut buffers = Buffers {
-        states: &mut states,
-        starts: &mut starts,
-        other_starts: &mut other_starts,
-        ranges: &mut other_ranges,
+// Eight states, where at most six are needed, so many starts in each phrase buffer and words in each range buffer.
+fn print_case<const STARTS: usize, const WORDS: usize>(
+    out: &mut impl Write,
+    lent: &Lent,
+    query: &[u32],
+) -> io::Result<()>
+    requires { (STARTS ≤ 12) × (WORDS ≤ 12) }
+{
+    let mut records = Buffers {
+        states: &mut [RUBBISH; 8],
+        starts: &mut [0i32; STARTS],
+        other_starts: &mut [0i32; STARTS],
+        ranges: &mut [RUBBISH_WORD; WORDS],
     };
-    page_through(out, &WHOLE_CASE, &QUERY, &mut buffers, &mut ranges)
-}
-
-// A phrase and a range, a record each and one for each term.
-fn phrase_and_range(out: &mut impl Write) -> io::Result<()> {
-    let mut states = [RUBBISH_WORD; 8 * NODE_STATE_WORDS];
-    let mut starts = [0i32; 1];
-    let mut other_starts = [0i32; 1];
-    let mut ranges = [RUBBISH_WORD; 12];
-    let mut other_ranges = [RUBBISH_WORD; 12];
-    let mut buffers = Buffers {
-        states: &mut states,
-        starts: &mut starts,
-        other_starts: &mut other_starts,
-        ranges: &mut other_ranges,
+    let mut words = Buffers {
+        states: &mut [RUBBISH_WORD; 8 * NODE_STATE_WORDS],
+        starts: &mut [0i32; STARTS],
+        other_starts: &mut [0i32; STARTS],
+        ranges: &mut [RUBBISH_WORD; WORDS],
     };
-    page_through(out, &PHRASE_CASE, &PHRASE_QUERY, &mut buffers, &mut ranges)
+    page_through(out, lent, query, &mut records, &mut words)
 }
 
 fn main(rt: HostRuntime) -> io::Result<()> {
     let mut out = io::writer(&rt);
-    whole_case(&mut out)?;
-    phrase_and_range(&mut out)?;
+    print_case::<0, 0>(&mut out, &WHOLE_CASE, &QUERY)?;
+    print_case::<1, 12>(&mut out, &PHRASE_CASE, &PHRASE_QUERY)?;
     out.flush()
 }

@@ -1,4 +1,5 @@
-// Search with node states as words and as records, side by side, on document 01's whole case: both answers, whether they agree, and what a refused call left in the lent records.
+// Search with node states as words and as records, side by side, on document 01's whole case: both answers, whether they agree, and what a
+// refused call left in the lent records.
 // crates/node_search_vectors/stdout is written from the document's text: a hit is its code.
 #![tactic(auto)]
 
@@ -101,14 +102,11 @@ const LONGER: [u32; 81] = [
 // Search over words that hold other rubbish.
 fn with_words(query: &[u32], k: u32, t: u32, hits: &mut [i64]) -> Result<TopDocs, Refusal> {
     let mut states = [0xdead_beefu32; 8 * NODE_STATE_WORDS];
-    let mut starts = [0i32; 0];
-    let mut other_starts = [0i32; 0];
-    let mut ranges = [0u32; 0];
     let mut buffers = Buffers {
         states: &mut states,
-        starts: &mut starts,
-        other_starts: &mut other_starts,
-        ranges: &mut ranges,
+        starts: &mut [],
+        other_starts: &mut [],
+        ranges: &mut [],
     };
     searcher::search::search(&WHOLE_CASE, query, k, t, &mut buffers, hits)
 }
@@ -120,20 +118,13 @@ fn with_records(
     nodes: &mut [NodeState],
     hits: &mut [i64],
 ) -> Result<TopDocs, Refusal> {
-    let mut starts = [0i32; 0];
-    let mut other_starts = [0i32; 0];
-    let mut ranges = [0u32; 0];
-    node_search::search_nodes(
-        &WHOLE_CASE,
-        query,
-        k,
-        t,
-        nodes,
-        &mut starts,
-        &mut other_starts,
-        &mut ranges,
-        hits,
-    )
+    let mut buffers = Buffers {
+        states: nodes,
+        starts: &mut [],
+        other_starts: &mut [],
+        ranges: &mut [],
+    };
+    node_search::search_nodes(&WHOLE_CASE, query, k, t, &mut buffers, hits)
 }
 
 fn print_answer(

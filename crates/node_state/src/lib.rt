@@ -7,10 +7,8 @@ ghost use Rattle.weight.specs.State.{words_of};
 ghost use Rattle.node_state.specs.Records.{state_of, record_words, node_from, held};
 
 pub use node_words::state::NodeState;
+use query::MAX_RECORDS;
 use weight::NODE_STATE_WORDS;
-
-// The most query records of an order: as `max_records` in meaning's Limits.
-const MAX_RECORDS: usize = 256;
 
 // How many of so many records a call can need.
 pub fn held(nodes: usize) -> usize
@@ -29,6 +27,7 @@ fn put_node(words: &mut [u32], i: usize, s: &NodeState)
 }
 
 // The record of the first words.
+// Kept: no plainer by From: what is lent is a slice that may go on behind them, so its front would first be made an array.
 fn first_node(words: &[u32]) -> NodeState
     requires { node_state_words ≤ length words.now }
     ensures { result ≡ node_from words.now }
@@ -79,10 +78,12 @@ fn node_at(words: &[u32], i: usize) -> NodeState
 }
 
 // The first n records to the words.
+// Kept: no plainer without n, here and in `pack`: each caller would cut both slices, and `pack` says that the records behind n stay.
 pub fn unpack(nodes: &[NodeState], n: usize, words: &mut [u32])
     requires { (n ≤ length nodes.now) × (node_state_words * n ≤ length words.old) }
     ensures { words.new ≡ record_words (take n nodes.now) ++ drop (node_state_words * n) words.old }
 {
+    // Kept: no plainer with `enumerate` over `nodes[..n]`: `i` would still be needed for where the words stand.
     for i in 0..n {
         put_node(words, i, &nodes[i]);
     }
@@ -108,6 +109,7 @@ pub fn pack(words: &[u32], n: usize, nodes: &mut [NodeState])
     requires { (n ≤ length nodes.old) × (node_state_words * n ≤ length words.now) }
     ensures { (record_words (take n nodes.new) ≡ take (node_state_words * n) words.now) × (drop n nodes.new ≡ drop n nodes.old) }
 {
+    // Kept: no plainer with `enumerate` over the first n: `i` would still be needed for where the words stand.
     for i in 0..n {
         nodes[i] = node_at(words, i);
     }

@@ -4,5 +4,6 @@ pub mod Norms
 pub mod PhraseParts
 pub mod Idf
 pub mod Weighing
+pub mod Zeros
 pub mod AtRecord
 pub mod Kept

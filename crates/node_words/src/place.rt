@@ -29,6 +29,8 @@ use query::{children, value};
 use weight::NODE_STATE_WORDS;
 
 // What the second pass goes by: the query, what is lent of the index, and what the first pass found at each record.
+// Kept: no plainer: the first pass reads `listed` while it fills `measures`; in one list of both each of them would be half a record.
+// Kept: no plainer with `RecordsLent` as a ghost field: the clauses promise for every index that is lent so, and a field would name one.
 #[derive(Clone, Copy)]
 pub struct Records<'a> {
     pub query: &'a [u32],
@@ -40,6 +42,7 @@ pub struct Records<'a> {
 }
 
 // What is passed down to a tree: the score that it keeps, if any, from a ConstantScore above it; the boost; 1 where it is a Must clause.
+// Kept: no plainer: `scores`, here and below, is the word of the node's record; callers may pass any word, and a bool would ask for 0 or 1.
 #[derive(Clone, Copy)]
 pub struct Passed {
     pub kept: Option<f32>,
@@ -57,14 +60,13 @@ pub fn put(st: &mut [u32], state: &NodeState)
     ensures { st.new ≡ words_of (state_of state.now) ++ drop node_state_words st.old }
 {
     let words = state.words();
-    let mut i = 0;
-    while i < NODE_STATE_WORDS {
+    for i in 0..NODE_STATE_WORDS {
         st[i] = words[i];
-        i += 1;
     }
 }
 
 // A node that matches nothing stands at the end from the start.
+// Kept: no plainer as an array of one record's words, here and below: what is lent goes on behind the part, and a phrase's part is as long as its terms.
 pub fn place_nothing(st: &mut [u32], scores: u32) -> usize
     requires { node_state_words ≤ length st.old }
     ensures placed { (ix : Index) (ranges : List ℕ) (d : ℕ) → Placed ix ranges no_scorer d scores result st.new }
@@ -78,7 +80,7 @@ pub fn place_nothing(st: &mut [u32], scores: u32) -> usize
             cached: NO_MORE_DOCS + 1,
             constant: 1,
             scores,
-            ..NodeState::EMPTY
+            ..NodeState::default()
         },
     );
     NODE_STATE_WORDS
@@ -98,7 +100,7 @@ pub fn place_everything(st: &mut [u32], score: f32, scores: u32) -> usize
             constant: 1,
             weight: f32::to_bits(score),
             scores,
-            ..NodeState::EMPTY
+            ..NodeState::default()
         },
     );
     NODE_STATE_WORDS
@@ -120,14 +122,14 @@ pub fn place_range(st: &mut [u32], max_doc: u32, first: u32, score: f32, scores:
             constant: 1,
             weight: f32::to_bits(score),
             scores,
-            ..NodeState::EMPTY
+            ..NodeState::default()
         },
     );
     NODE_STATE_WORDS
 }
 
 // Where a field's norm bytes begin, + 1; 0 without norms.
-// Kept: it is the word as the node's record in lent memory holds it; an Option would be made a word again at once.
+// Kept: no plainer: the node's record holds the word, and all three callers would make it of an Option at once.
 fn norms_word(max_doc: u32, fields: &[u32], field: u32) -> u32
     requires { (ix : Index) × FieldLent ix max_doc fields.now × (field < field_count ix) }
     ensures { (ix : Index) → FieldLent ix max_doc fields.now → result ≡ norms_word ix field }
@@ -144,7 +146,7 @@ fn idf_of(leaves: &[u32], leaf: u32) -> f32
     requires { (ix : Index) × Accepted ix × (ix.leaves ≡ leaves.now) × (leaf < leaf_count ix) }
     ensures { (ix : Index) → ix.leaves ≡ leaves.now → result ≡ of_bits binary32 (leaf_idf ix leaf) }
 {
-    f32::from_bits(leaves[4 * leaf as usize + 3])
+    f32::from_bits(leaf_at(leaves, leaf as usize).idf)
 }
 
 // A phrase's idf: its terms' added in f64 in record order, then narrowed.
@@ -192,7 +194,7 @@ pub fn place_term(st: &mut [u32], records: &Records, at: usize, passed: Passed) 
             weight: f32::to_bits(score),
             scores: passed.scores,
             norms: norms_word(records.max_doc, records.fields, run.field),
-            ..NodeState::EMPTY
+            ..NodeState::default()
         },
     );
     NODE_STATE_WORDS
@@ -215,7 +217,7 @@ fn place_phrase_term(st: &mut [u32], records: &Records, leaf: u32, offset: u32)
             offset,
             field: run.field,
             norms: norms_word(records.max_doc, records.fields, run.field),
-            ..NodeState::EMPTY
+            ..NodeState::default()
         },
     );
 }
@@ -255,7 +257,7 @@ pub fn place_phrase(st: &mut [u32], records: &Records, at: usize, passed: Passed
             weight: f32::to_bits(score),
             scores: passed.scores,
             norms: norms_word(records.max_doc, records.fields, field),
-            ..NodeState::EMPTY
+            ..NodeState::default()
         },
     );
     size as usize

@@ -5,8 +5,9 @@ ghost use Rattle.node_words.specs.Words.{state_of};
 
 use weight::NODE_STATE_WORDS;
 
-// One scorer of the tree, or one term of a phrase.
-#[derive(Clone, Copy, PartialEq, Eq)]
+// One scorer of the tree, or one term of a phrase. By default its words are 0.
+// Kept: no plainer: kind and flags are words as a caller lends them, of which any may be wrong; `node` reads them as an enum and as bools.
+#[derive(Clone, Copy, Default, PartialEq, Eq)]
 pub struct NodeState {
     pub kind: u32,
     pub size: u32,
@@ -43,43 +44,8 @@ pub struct NodeState {
 }
 
 impl NodeState {
-    // The words that a record does not name are 0.
-    pub const EMPTY: NodeState = NodeState {
-        kind: 0,
-        size: 0,
-        cached: 0,
-        need: 0,
-        required_end: 0,
-        optional_end: 0,
-        first: 0,
-        number: 0,
-        cursor: 0,
-        offset: 0,
-        field: 0,
-        constant: 0,
-        weight: 0,
-        afterwards: 0,
-        group_at: 0,
-        scores: 0,
-        frequency_of: 0,
-        frequency: 0,
-        norms: 0,
-        window_first: 0,
-        window_low: 0,
-        window_high: 0,
-        window_next: 0,
-        ones_low: 0,
-        ones_high: 0,
-        twos_low: 0,
-        twos_high: 0,
-        spare1: 0,
-        spare2: 0,
-        spare3: 0,
-        spare4: 0,
-        spare5: 0,
-    };
-
     // The record's words, in order.
+    // Kept: no plainer by From: its callers have the record by reference, and `state.words()` says what comes of it.
     pub fn words(&self) -> [u32; NODE_STATE_WORDS]
         ensures { result ≡ words_of (state_of self.now) }
     {

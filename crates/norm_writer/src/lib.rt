@@ -12,6 +12,7 @@ ghost use Rattle.index.specs.Slices.{fields_only};
 ghost use Rattle.norm_writer.specs.Lengths.{in_run, length_in, before, norm_bytes, RunOk, RunsOk, cursors_at};
 
 use index::fields;
+use index::leaves::MAX_LEAVES;
 use index::postings::{posting_document, posting_frequency};
 use sim::small_float::int_to_byte4;
 
@@ -20,6 +21,7 @@ const WINDOW: usize = 4096;
 
 // Adds the frequencies of a run's postings to the counts of the documents from base on, from the cursor up to the window's end;
 // the cursor behind them.
+// Kept: no plainer as the run's own slice: `index` reads a posting by its run's first place, and `RunOk` and `before` say it so.
 fn add_run(
     postings: &[u32],
     first: usize,
@@ -49,12 +51,14 @@ fn code_lengths(lengths: &[u32], norms: &mut [u8])
     requires by_index { (j : ℕ) → j < length lengths.now → get_or lengths.now j 0 ≤ 2147483647 }
     ensures { norms.new ≡ list_to (length norms.old) (λ j. int_to_byte4 (get_or lengths.now j 0)) }
 {
+    // Kept: tried `lengths` zipped with `iter_mut`: an invariant cannot speak of the bytes that `iter_mut` lends behind the zip, and the proof did not close.
     for (j, norm) in norms.iter_mut().enumerate() {
         *norm = int_to_byte4(lengths[j]);
     }
 }
 
 // A field, and the leaves' fields, postings and runs, in which those of the field are found.
+// Kept: no plainer with `RunsOk` as a ghost field: each method's clause would stand all the same, for what it asks beside it.
 #[derive(Clone, Copy)]
 struct FieldRuns<'a> {
     field: u32,
@@ -65,7 +69,8 @@ struct FieldRuns<'a> {
 
 impl FieldRuns<'_> {
     // Adds up the runs of the field's leaves over the window from base on.
-    // Kept: no parallel arrays: a cursor is a leaf's, a count a document's of the window.
+    // Kept: no plainer as one list of records: a cursor is a leaf's, a count a document's of the window.
+    // Kept: no plainer zipped: the zip would be of three (fields, runs by two, cursors), one of them lent for writing.
     fn add_leaves(self, base: usize, cursors: &mut [usize], counts: &mut [u32])
         requires runs_ok { RunsOk self.leaf_fields.now self.postings.now self.runs.now × (base + length counts.old < 2 ^ 32) }
         requires cursors_value { cursors.old ≡ list_to 512 (cursors_at self.leaf_fields.now self.postings.now self.runs.now self.field base) }
@@ -105,7 +110,7 @@ impl FieldRuns<'_> {
         requires { RunsOk self.leaf_fields.now self.postings.now self.runs.now × (length norms.old ≤ 1048576) }
         ensures { norms.new ≡ list_to (length norms.old) (λ d. int_to_byte4 (length_in self.entry.leaf_fields.now self.entry.postings.now self.entry.runs.now self.entry.field d)) }
     {
-        let mut cursors = [0usize; 512];
+        let mut cursors = [0usize; MAX_LEAVES];
         for window in 0..norms.len().div_ceil(WINDOW) {
             self.write_window(window * WINDOW, &mut cursors, norms);
         }
@@ -126,7 +131,7 @@ pub fn write_norms(
     ensures { norms.new ≡ written (norm_bytes max_doc fields.now leaf_fields.now postings.now runs.now) norms.old }
 {
     let mut at = 0;
-    for f in 0..fields.len() / 3 {
+    for f in 0..fields::field_count(fields) {
         if fields::field_at(fields, f).has_norms() {
             let end = at + max_doc as usize;
             let field_runs = FieldRuns {

@@ -18,18 +18,6 @@ use Rattle.weight.specs.Measured.{Asks}
 use Rattle.order_check.proofs.Refusing.{first_holds, second_holds, neither-holds, neither-held, order-asks, order-refused, order-passed, order-accepted}
 
 -- ---- 11
-hits-none : (k : ℕ) → k < 1 → wrong11 k ≡ true
-unfolding wrong11
-hits-none k h = rw (lt-ltb k 1 h)
-
-hits-many : (k : ℕ) → 1 ≤ k → max_hits < k → wrong11 k ≡ true
-unfolding wrong11
-hits-many k h g = rw (le-ltb k 1 h, lt-ltb max_hits k g)
-
-hits-right : (k : ℕ) → 1 ≤ k → k ≤ max_hits → wrong11 k ≡ false
-unfolding wrong11
-hits-right k h g = rw (le-ltb k 1 h, le-ltb max_hits k g)
-
 hits-within : (k : ℕ) → wrong11 k ≡ false → (0 < k) × (k ≤ max_hits)
 unfolding wrong11
 hits-within k e = (omega (arith, ltb-false k 1 (or_left (ltb k 1) (ltb max_hits k) e)), ltb-false max_hits k (or_right (ltb k 1) (ltb max_hits k) e))
@@ -76,21 +64,18 @@ module _ (ix : Index) (q : List ℕ) (k : ℕ) (w : Work) (places : ℕ) where
       unfolding search_refusal
       search-passed = order-passed ix q ((11 when wrong11 k) ∷ (12 when wrong12_search ix q w k places) ∷ []) (sym o ∙ e)
 
-      pub search-no-hits : k < 1 → 11 ≡ search_refusal ix q k w places
-      search-no-hits h = search-passed 11 (first_holds 11 12 (wrong11 k) (wrong12_search ix q w k places) (hits-none k h))
+      pub search-wrong-hits : wrong11 k ≡ true → 11 ≡ search_refusal ix q k w places
+      search-wrong-hits h = search-passed 11 (first_holds 11 12 (wrong11 k) (wrong12_search ix q w k places) h)
 
-      pub search-many-hits : 1 ≤ k → max_hits < k → 11 ≡ search_refusal ix q k w places
-      search-many-hits h g = search-passed 11 (first_holds 11 12 (wrong11 k) (wrong12_search ix q w k places) (hits-many k h g))
-
-      module _ (h : 1 ≤ k) (g : k ≤ max_hits) (b : Bool) (d : b ≡ work_short ix q w) where
+      module _ (h : wrong11 k ≡ false) (b : Bool) (d : b ≡ work_short ix q w) where
         pub search-short : b ≡ true → 12 ≡ search_refusal ix q k w places
-        search-short f = search-passed 12 (second_holds 11 12 (wrong11 k) (wrong12_search ix q w k places) (hits-right k h g) (places-short b d f))
+        search-short f = search-passed 12 (second_holds 11 12 (wrong11 k) (wrong12_search ix q w k places) h (places-short b d f))
 
         pub search-few-places : b ≡ false → places < k → 12 ≡ search_refusal ix q k w places
-        search-few-places f l = search-passed 12 (second_holds 11 12 (wrong11 k) (wrong12_search ix q w k places) (hits-right k h g) (places-few b d f l))
+        search-few-places f l = search-passed 12 (second_holds 11 12 (wrong11 k) (wrong12_search ix q w k places) h (places-few b d f l))
 
         pub search-accepted : b ≡ false → k ≤ places → 0 ≡ search_refusal ix q k w places
-        search-accepted f l = search-passed 0 (neither-holds 11 12 (wrong11 k) (wrong12_search ix q w k places) (hits-right k h g) (places-right b d f l))
+        search-accepted f l = search-passed 0 (neither-holds 11 12 (wrong11 k) (wrong12_search ix q w k places) h (places-right b d f l))
 
   pub search-lends : (r : ℕ) → r ≡ search_refusal ix q k w places → r ≡ 0 → Searches ix q k w places
   unfolding search_refusal

@@ -23,29 +23,21 @@ pub struct Work {
 }
 
 // The first of the refusals 1 to 10 whose condition holds.
+// Kept: no plainer, here and below: `lent, query` as the entries have them; a struct of the two would be made in each entry, only to be taken apart here.
 pub fn check_order(lent: &Lent, query: &[u32]) -> Result<(), Refusal>
     ensures { refusal_of result ≡ lowest (order_conditions (index_of lent.now) query.now) }
 {
     index_check::check_index(lent)?;
-    query_check::check_query(query, lent.fields, lent.leaves, lent.columns)
+    query_check::check_query(lent, query)
 }
 
 // Whether a phrase buffer is too short for the query.
-pub fn starts_short(
-    leaves: &[u32],
-    postings: &[u32],
-    query: &[u32],
-    starts: usize,
-    other_starts: usize,
-) -> bool
-    requires { (ix : Index) × (n : ℕ) × QueryLent ix n leaves.now postings.now query.now }
-    ensures { (ix : Index) (n : ℕ) → QueryLent ix n leaves.now postings.now query.now → result ≡ starts_short ix query.now (work 0 starts other_starts 0) }
+pub fn starts_short(lent: &Lent, query: &[u32], starts: usize, other_starts: usize) -> bool
+    requires { (ix : Index) × (n : ℕ) × QueryLent ix n lent.now.leaves.now lent.now.postings.now query.now }
+    ensures { (ix : Index) (n : ℕ) → QueryLent ix n lent.now.leaves.now lent.now.postings.now query.now → result ≡ starts_short ix query.now (work 0 starts other_starts 0) }
 {
-    let needed = query_check::buffers::starts_needed(query, leaves, postings) as usize;
-    if starts < needed {
-        return true;
-    }
-    other_starts < needed
+    let needed = query_check::buffers::starts_needed(lent, query) as usize;
+    starts < needed || other_starts < needed
 }
 
 // Whether a work buffer is too short for the query.
@@ -53,19 +45,9 @@ pub fn work_short(lent: &Lent, query: &[u32], work: Work) -> bool
     requires { (ix : Index) × QueryLent ix lent.now.max_doc lent.now.leaves.now lent.now.postings.now query.now }
     ensures { (ix : Index) → QueryLent ix lent.now.max_doc lent.now.leaves.now lent.now.postings.now query.now → result ≡ work_short ix query.now (work_of work) }
 {
-    if (work.states as u64) < query_check::buffers::states_needed(query) {
-        return true;
-    }
-    if starts_short(
-        lent.leaves,
-        lent.postings,
-        query,
-        work.starts,
-        work.other_starts,
-    ) {
-        return true;
-    }
-    (work.ranges as u64) < query_check::buffers::ranges_needed(lent.max_doc, query)
+    (work.states as u64) < query_check::buffers::states_needed(query)
+        || starts_short(lent, query, work.starts, work.other_starts)
+        || (work.ranges as u64) < query_check::buffers::ranges_needed(lent.max_doc, query)
 }
 
 // The first of the refusals 1 to 12 whose condition holds.
@@ -79,16 +61,10 @@ pub fn search_refusal(
     ensures { refusal_of result ≡ search_refusal (index_of lent.now) query.now k (work_of work) places }
 {
     check_order(lent, query)?;
-    if k < 1 {
+    if collector::wrong_hits(k) {
         return Err(Refusal::Hits);
     }
-    if 1024 < k {
-        return Err(Refusal::Hits);
-    }
-    if work_short(lent, query, work) {
-        return Err(Refusal::Buffers);
-    }
-    if places < k as usize {
+    if work_short(lent, query, work) || places < k as usize {
         return Err(Refusal::Buffers);
     }
     Ok(())
@@ -106,10 +82,7 @@ pub fn page_refusal(
     ensures { refusal_of result ≡ page_refusal (index_of lent.now) query.now target (work_of work) documents scores }
 {
     check_order(lent, query)?;
-    if work_short(lent, query, work) {
-        return Err(Refusal::Buffers);
-    }
-    if documents != scores {
+    if work_short(lent, query, work) || documents != scores {
         return Err(Refusal::Buffers);
     }
     if lent.max_doc < target {

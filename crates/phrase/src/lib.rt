@@ -2,7 +2,7 @@
 // with the smallest multiplicity. A term is a record of three words: index of its first position, frequency, offset.
 #![tactic(auto)]
 
-ghost use Rattle.std.specs.Prelude.{◌≡◌, ◌≤◌, ◌<◌, ◌+◌, ◌%◌, length, take, SomeIff};
+ghost use Rattle.std.specs.Prelude.{◌≡◌, ◌≤◌, ◌<◌, ◌+◌, ◌%◌, length, SomeIff};
 ghost use Rattle.meaning.specs.Phrase.{common_size};
 ghost use Rattle.phrase_starts.specs.Terms.{start_lists, Good, Room, Rarest};
 ghost use Rattle.phrase_starts.specs.Common.{Common};
@@ -12,6 +12,7 @@ ghost use Rattle.phrase.specs.Place.{PlacedIn};
 use phrase_starts::{intersect, pair, term_at, write_starts};
 
 // The first record with the least frequency.
+// Kept: tried `min_by_key`, and the proof did not close: what its closure asks (a whole record there) at each number of a `step_by`.
 fn rarest(terms: &[u32]) -> usize
     requires { (0 < length terms.now) × (length terms.now % 3 ≡ 0) }
     ensures { Rarest terms.now result }
@@ -37,32 +38,25 @@ fn unmet(terms: &[u32], rarest: usize, at: usize) -> Option<usize>
     (next < terms.len()).then_some(next)
 }
 
-// What one more term leaves: so many candidates, and the record to meet next, if there is one and any is left.
-#[derive(Clone, Copy)]
-struct Met {
-    n: usize,
-    next: Option<usize>,
-}
-
-fn meet(
+// What one more term leaves of the candidates, and the record to meet next, if there is one and any is left.
+fn meet<'a>(
     positions: &[u32],
     terms: &[u32],
     rarest: usize,
     at: usize,
     cands: &[i32],
-    spare: &mut [i32],
-) -> Met
+    spare: &'a mut [i32],
+) -> (&'a mut [i32], Option<usize>)
     requires { Candidates positions.now terms.now rarest at cands.now (length spare.old) }
-    ensures { (result.n ≤ length cands.now) × Meets positions.now terms.now rarest at cands.now (take result.n spare.new) result.next }
+    ensures { Meets positions.now terms.now rarest at cands.now result.0.now result.1 }
 {
     let n = intersect(positions, term_at(terms, at), cands, spare);
-    if n == 0 {
-        return Met { n, next: None };
-    }
-    Met {
-        n,
-        next: unmet(terms, rarest, at + 3),
-    }
+    let next = if n == 0 {
+        None
+    } else {
+        unmet(terms, rarest, at + 3)
+    };
+    (&mut spare[..n], next)
 }
 
 // The candidates that every term from `at` on has, but for the rarest, which they came from: a part of whichever buffer was
@@ -78,15 +72,17 @@ fn survivors<'a>(
     requires { Candidates positions.now terms.now rarest at cands.old (length spare.old) }
     ensures { Left positions.now terms.now at cands.old result.now }
 {
-    let Met { n, next } = meet(positions, terms, rarest, at, cands, spare);
+    let (left, next) = meet(positions, terms, rarest, at, cands, spare);
     match next {
-        None => &mut spare[..n],
-        Some(next) => survivors(positions, terms, rarest, next, &mut spare[..n], cands),
+        None => left,
+        Some(next) => survivors(positions, terms, rarest, next, left, cands),
     }
 }
 
 // The common part of all the terms' starts: the rarest term's first, then whatever the others leave of them. The first of
 // the others is met here, so that a phrase of two terms makes no further call.
+// Kept: no plainer as a struct of the four, here and in `frequency` and `place`: `leaf_scorer` has the positions, the gathered words
+// and the two buffers each from elsewhere, and would make one for each document.
 fn common<'a>(positions: &[u32], terms: &[u32], a: &'a mut [i32], b: &'a mut [i32]) -> &'a mut [i32]
     requires { Good positions.now terms.now × (Room terms.now (length a.old) × Room terms.now (length b.old)) }
     ensures { Common (start_lists positions.now terms.now) result.now × (length result.now < 4294967296) }
@@ -97,10 +93,10 @@ fn common<'a>(positions: &[u32], terms: &[u32], a: &'a mut [i32], b: &'a mut [i3
     let Some(at) = unmet(terms, best, 0) else {
         return &mut a[..t.freq];
     };
-    let Met { n, next } = meet(positions, terms, best, at, &a[..t.freq], b);
+    let (left, next) = meet(positions, terms, best, at, &a[..t.freq], b);
     match next {
-        None => &mut b[..n],
-        Some(next) => survivors(positions, terms, best, next, &mut b[..n], &mut a[..t.freq]),
+        None => left,
+        Some(next) => survivors(positions, terms, best, next, left, &mut a[..t.freq]),
     }
 }
 

@@ -24,6 +24,8 @@ fn start(position: u32, offset: u32) -> i32
     position as i32 - offset as i32
 }
 
+// Kept: no plainer as a slice of Terms: `leaf_scorer` gathers bare words for each document, as many as the phrase's terms have, and
+// here those of one are read.
 pub fn term_at(terms: &[u32], at: usize) -> Term
     requires { at + 2 < length terms.now }
     ensures { result ≡ term_at terms.now at }
@@ -36,6 +38,8 @@ pub fn term_at(terms: &[u32], at: usize) -> Term
 }
 
 // The starts of one term, written to the front of `out`.
+// Kept: no plainer: a phrase has one list of positions and many terms, so a struct of both would be made anew for each call; so in
+// `intersect` and `pair`.
 pub fn write_starts(positions: &[u32], t: Term, out: &mut [i32])
     requires { GoodTerm positions.now t × (t.freq ≤ length out.old) }
     ensures { take t.freq out.new ≡ starts_of positions.now t }
@@ -48,13 +52,16 @@ pub fn write_starts(positions: &[u32], t: Term, out: &mut [i32])
 
 // The candidates that one more term has too, written to the front of `out`: a merge of two ascending lists that uses up a
 // candidate with each match, and reads no position after the last candidate is passed.
+// Kept: no plainer as the front lent on: the promise is of `out` itself, and with the front as the result it would be of that alone.
 pub fn intersect(positions: &[u32], t: Term, cands: &[i32], out: &mut [i32]) -> usize
     requires { GoodTerm positions.now t × ((length cands.now ≤ length out.old) × Ascending cands.now) }
     ensures { (result ≤ length cands.now) × Common (cands.now ∷ starts_of positions.now t ∷ []) (take result out.new) }
 {
-    let first = t.first;
-    let freq = t.freq;
-    let offset = t.offset;
+    let Term {
+        first,
+        freq,
+        offset,
+    } = t;
     let mut i = 0;
     let mut c = 0;
     let mut n = 0;
@@ -86,12 +93,16 @@ pub fn pair(positions: &[u32], s: Term, t: Term) -> usize
     requires { GoodTerm positions.now s × GoodTerm positions.now t }
     ensures { result ≡ common_size (starts_of positions.now s ∷ starts_of positions.now t ∷ []) }
 {
-    let first = s.first;
-    let freq = s.freq;
-    let offset = s.offset;
-    let other_first = t.first;
-    let other_freq = t.freq;
-    let other_offset = t.offset;
+    let Term {
+        first,
+        freq,
+        offset,
+    } = s;
+    let Term {
+        first: other_first,
+        freq: other_freq,
+        offset: other_offset,
+    } = t;
     let mut i = 0;
     let mut j = 0;
     let mut n = 0;

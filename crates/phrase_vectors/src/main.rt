@@ -6,62 +6,39 @@ ghost use Rattle.std.specs.Prelude.{◌≡◌, ◌≤◌, true, length};
 ghost use Rattle.phrase.specs.Terms.{GoodTerm};
 ghost use Rattle.phrase_vectors.specs.Asked.{Asked};
 
+use index::postings::NO_MORE_DOCS;
+use phrase_starts::{Term, term_at};
 use std::io;
 use std::io::Write;
-use vectors::numbers::{Seeds, below, xorshift};
+use vectors::numbers::{Seeds, Sequence, below};
 
 // Near the largest position and offset.
 const HIGH: u32 = 2_147_483_600;
 
 // Whether a term's positions are there, do not fall and, like its offset, are at most 2147483647.
-fn is_good_term(positions: &[u32], first: usize, freq: usize, offset: u32) -> bool
-    ensures { result ≡ true → GoodTerm positions.now (record { first = first; freq = freq; offset = offset }) }
+fn is_good_term(positions: &[u32], t: Term) -> bool
+    ensures { result ≡ true → GoodTerm positions.now t }
 {
-    if offset > 2147483647 {
+    if NO_MORE_DOCS < t.offset || positions.len() < t.first || positions.len() - t.first < t.freq {
         return false;
     }
-    if first > positions.len() {
-        return false;
-    }
-    if freq > positions.len() - first {
-        return false;
-    }
-    let mut last = 0;
-    for j in 0..freq {
-        let position = positions[first + j];
-        if position < last {
-            return false;
-        }
-        if position > 2147483647 {
-            return false;
-        }
-        last = position;
-    }
-    true
+    let own = &positions[t.first..t.first + t.freq];
+    own.is_sorted() && own.iter().all(|position| *position <= NO_MORE_DOCS)
 }
 
 // Whether a phrase may be asked with so many places for its starts.
 // Kept: no plainer as one with that of collector_vectors, and so `ask` and `ask_each`: the two ask other functions of other lists,
 // and have their names and the numbers from a seed (`vectors`) in common.
+// Kept: no plainer as a struct of `positions` and `terms`, here and below: `phrase` takes the two as they are.
 fn is_good(positions: &[u32], terms: &[u32], places: usize) -> bool
     ensures { result ≡ true → Asked positions.now terms.now places }
 {
-    if terms.len() == 0 {
+    if terms.is_empty() || terms.len() % 3 != 0 || places < terms[1] as usize {
         return false;
     }
-    if terms.len() % 3 != 0 {
-        return false;
-    }
-    if terms[1] as usize > places {
-        return false;
-    }
+    // Kept: tried `all`, and the proof did not close: what its closure asks (a whole record there) at each number of a `step_by`.
     for at in (0..terms.len()).step_by(3) {
-        if !is_good_term(
-            positions,
-            terms[at] as usize,
-            terms[at + 1] as usize,
-            terms[at + 2],
-        ) {
+        if !is_good_term(positions, term_at(terms, at)) {
             return false;
         }
     }
@@ -103,10 +80,8 @@ fn positions_of(base: u32, spread: u32, seed: u64) -> [u32; 40]
     ensures { 40 ≡ length result }
 {
     let mut positions = [0u32; 40];
-    let mut x = seed;
     let mut position = base;
-    for (i, place) in positions.iter_mut().enumerate() {
-        x = xorshift(x);
+    for ((i, place), x) in positions.iter_mut().enumerate().zip(Sequence(seed)) {
         if i % 8 == 0 {
             position = base;
         }
@@ -121,12 +96,13 @@ fn terms_of(base: u32, seed: u64) -> [u32; 15]
     ensures { 15 ≡ length result }
 {
     let mut terms = [0u32; 15];
-    let mut x = seed;
-    for i in 0..5 {
-        x = xorshift(x);
-        terms[3 * i] = 8 * i as u32;
-        terms[3 * i + 1] = 1 + below(x, 8);
-        terms[3 * i + 2] = base.wrapping_add(below(x >> 8, 4));
+    let (records, _) = terms.as_chunks_mut::<3>();
+    for ((record, first), x) in records
+        .iter_mut()
+        .zip((0..40).step_by(8))
+        .zip(Sequence(seed))
+    {
+        *record = [first, 1 + below(x, 8), base.wrapping_add(below(x >> 8, 4))];
     }
     terms
 }

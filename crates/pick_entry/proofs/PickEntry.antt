@@ -13,7 +13,7 @@ use Rattle.meaning.specs.Hits.{hits}
 use Rattle.meaning.specs.Refusals.{lowest}
 use Rattle.meaning.specs.CallRefusals.{wrong11, wrong12_pick, wrong_picked, wrong14}
 use Rattle.meaning.specs.Entries.{written, pick_refusal, picked_list, pick_answer, pick_hits}
-use Rattle.meaning.proofs.Tests.{true-left, true-right, or_left, or_right}
+use Rattle.meaning.proofs.Tests.{or_left, or_right}
 use Rattle.meaning.proofs.Below.{any-zero}
 use Rattle.collector.specs.declared.TopDocs.{TopDocs}
 use Rattle.collector.specs.Collected.{answer}
@@ -49,19 +49,11 @@ module _ (documents scores : List ℕ) where
 
   module _ (k places : ℕ) where
     -- ---- each way out
-    pub pick_low : k < 1 → 11 ≡ pick_refusal documents scores k places
-    unfolding pick_refusal wrong11
-    pick_low h = lowest-here 11 _ _ (true-left _ _ (lt-ltb k 1 h))
+    pub pick-hits : wrong11 k ≡ true → 11 ≡ pick_refusal documents scores k places
+    unfolding pick_refusal
+    pick-hits h = lowest-here 11 _ _ h
 
-    pub pick-high : 1024 < k → 11 ≡ pick_refusal documents scores k places
-    unfolding pick_refusal wrong11
-    pick-high h = lowest-here 11 _ _ (true-right (ltb k 1) _ (lt-ltb 1024 k h))
-
-    module _ (low : 1 ≤ k) (high : k ≤ 1024) where
-      k-right : wrong11 k ≡ false
-      unfolding wrong11
-      k-right = rw (le-ltb k 1 low, le-ltb 1024 k high)
-
+    module _ (k-right : wrong11 k ≡ false) where
       pub pick-short : places < k → 12 ≡ pick_refusal documents scores k places
       unfolding pick_refusal wrong12_pick
       pick-short h = lowest-past 11 _ _ 12 k-right (lowest-here 12 _ _ (lt-ltb places k h))

@@ -8,14 +8,14 @@ ghost use Rattle.refusal.specs.Numbers.{refusal_of};
 ghost use Rattle.pick_entry.specs.Answers.{picked_numbers};
 
 use collector::TopDocs;
+use index::postings::NO_MORE_DOCS;
 use refusal::Refusal;
 
-// A document is below this, and a score's bits are at most those of plus infinity.
-const NO_MORE_DOCS: u32 = 2147483647;
-
+// A score's bits are at most these.
 const PLUS_INFINITY: u32 = 0x7f80_0000;
 
 // Whether one after the first is out of order, or no document or score that can be ranked.
+// Kept: the C interface lends documents and scores as two lists, here and below, and 14 refuses lists of unequal length.
 fn wrong_picked(documents: &[u32], scores: &[u32], i: usize) -> bool
     requires { (0 < i) × (i < length documents.now) × (i < length scores.now) }
     ensures { result ≡ wrong_picked documents.now scores.now i }
@@ -48,7 +48,7 @@ fn wrong_lists(documents: &[u32], scores: &[u32]) -> bool
 pub fn pick_refusal(documents: &[u32], scores: &[u32], k: u32, places: usize) -> Result<(), Refusal>
     ensures { refusal_of result ≡ pick_refusal documents.now scores.now k places }
 {
-    if k < 1 || 1024 < k {
+    if collector::wrong_hits(k) {
         return Err(Refusal::Hits);
     }
     if places < k as usize {

@@ -187,6 +187,3 @@ module _ (ix : Index) (q : List ℕ) (r d starts other_starts : ℕ) where
     pub place-given : (start : Found.Option ℤ) → PlaceFound ix q r d (placed_numbers (Ok start)) → PlaceAnswer ix q r d room (placed_numbers (Ok start))
     unfolding PlaceAnswer
     place-given start h = rw (← is, z) h
-
-    pub place-not-refused : 0 < place_refusal ix q r d room → ⊥
-    place-not-refused h = omega (arith, is, z, h)

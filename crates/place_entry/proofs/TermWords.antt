@@ -3,14 +3,14 @@ use mathlib.Core.Path.{◌≡◌, refl, sym, ap, subst, ◌∙◌}
 use mathlib.Core.Logic.{⊎_elim}
 use mathlib.Core.List.{List, [], ◌∷◌, ◌++◌, append_assoc}
 use mathlib.Core.Option.{none, some}
-use Prim.Native.Nat.{ℕ, suc, ◌+◌, ◌*◌, ◌/◌, ◌≤◌, ◌<◌}
+use Prim.Native.Nat.{ℕ, suc, ◌+◌, ◌*◌, ◌≤◌, ◌<◌}
 use native.Mathlib.Nat.{eq-or-lt_of_le}
 use native.Mathlib.Omega.{arith}
 use lib.ListN.{length, get_or, take, set, length-set}
 use lib.Seq.{take-suc-set}
 use Rattle.meaning.specs.Below.{list_to}
 use Rattle.meaning.specs.Phrase.{PhraseTerm}
-use Rattle.meaning.specs.Query.{record_count, record_kind, record_children, record_value, phrase_terms_of}
+use Rattle.meaning.specs.Query.{record_count, record_kind, record_children, record_value}
 use Rattle.meaning.specs.Lent.{Index, leaf_count, leaf_first, leaf_number}
 use Rattle.meaning.specs.Postings.{posting_at, frequency_of}
 use Rattle.meaning.proofs.Tests.{cmp}
@@ -18,7 +18,7 @@ use Rattle.meaning.proofs.Below.{list_to-next}
 use Rattle.index.specs.Records.{leaf_of}
 use Rattle.index.specs.declared.leaves.Leaf.{Leaf}
 use Rattle.index.proofs.PostingAt.{posting-at, posting-none}
-use Rattle.run.specs.Run.{document_at, Run, Lower}
+use Rattle.run.specs.Run.{document_at, Lower}
 use Rattle.phrase.specs.Words.{first_of, phrase_words}
 use Rattle.weight.proofs.Measures.{TermsHere, terms-here}
 use Rattle.weight.specs.Measured.{Asks}
@@ -40,16 +40,6 @@ module _ (ix : Index) (l d : ℕ) (run : RunOk ix l) (leaf : Leaf) (is : leaf �
 
   rises : (i j : ℕ) → i < j → j < n → document_at ix.postings 3 f i < document_at ix.postings 3 f j
   rises = rw (first, number) run.ascending
-
-  pub run-asked : length ix.postings < 9223372036854775808 → Run ix.postings 3 f n × (0 ≤ n)
-  run-asked size =
-      let w = run.words in (
-        record { step = omega arith; few = omega (arith, w, number, size); within = λ i g. omega (arith, w, first, number, g); ascending = rises },
-        omega arith,
-      )
-
-  pub posting-there : (i : ℕ) → i < n → f + i < length ix.postings / 3
-  posting-there i g = let w = run.words in omega (arith, w, first, number, g)
 
   -- what the words of its posting say
   abbrev Says : ℕ → ℕ → Type 0
@@ -101,9 +91,6 @@ module _ (ix : Index) (q : List ℕ) (at d : ℕ) where
   pub terms-none : (terms : List ℕ) → take (3 * 0) terms ≡ phrase_words ix d (list_to 0 (term_at q at))
   unfolding list_to phrase_words
   terms-none terms = refl
-
-  pub terms-all : (terms : List ℕ) (j : ℕ) → j ≡ record_children q at → take (3 * j) terms ≡ phrase_words ix d (list_to j (term_at q at)) → take (3 * record_children q at) terms ≡ phrase_words ix d (phrase_terms_of q at)
-  terms-all terms j e h = rw (← e) h
 
 module _ {ix : Index} {q : List ℕ} (asks : Asks ix q) where
   module _ (at : ℕ) (here : at < record_count q) (kind : record_kind q at ≡ 2) where

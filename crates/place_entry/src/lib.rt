@@ -22,6 +22,7 @@ use refusal::Refusal;
 use run::lower;
 
 // 13: no such document, no such record, or one that is no phrase.
+// Kept: no plainer: `record_number, document` are Place's own two numbers, lent on; a struct would be made of them only to be taken apart here.
 #[tactic(auto, unfolding(meaning::specs::CallRefusals::wrong13_place))]
 fn wrong_place(lent: &Lent, q: &[u32], record_number: u32, document: u32) -> bool
     ensures { result ≡ wrong13_place (index_of lent.now) q.now record_number document }
@@ -33,6 +34,7 @@ fn wrong_place(lent: &Lent, q: &[u32], record_number: u32, document: u32) -> boo
 }
 
 // The lowest of 1 to 10, 12 and 13 whose condition holds.
+// Kept: the C interface lends the two phrase buffers each by itself, here and below, and `phrase::place` takes them so.
 fn place_refusal(
     lent: &Lent,
     q: &[u32],
@@ -44,7 +46,7 @@ fn place_refusal(
     ensures { refusal_of result ≡ place_refusal (index_of lent.now) q.now record_number document (work 0 starts other_starts 0) }
 {
     order_check::check_order(lent, q)?;
-    if order_check::starts_short(lent.leaves, lent.postings, q, starts, other_starts) {
+    if order_check::starts_short(lent, q, starts, other_starts) {
         return Err(Refusal::Buffers);
     }
     if wrong_place(lent, q, record_number, document) {
@@ -73,13 +75,14 @@ fn locate(
 }
 
 // Where a term's positions in a document begin, and how many there are.
+// Kept: no plainer as an Option: `first_of` and `frequency_of` give 0 without a posting, and `write_terms` writes both words either way.
 #[derive(Clone, Copy)]
 pub struct Occurrences {
     pub first: u32,
     pub frequency: u32,
 }
 
-// Those of a leaf, 0 and 0 without a posting: a search by halves in its run.
+// Those of a leaf, 0 and 0 without a posting.
 fn occurrences_in(lent: &Lent, l: usize, document: u32) -> Occurrences
     requires { RunOk (index_of lent.now) l }
     ensures first { result.first ≡ first_of (index_of lent.now) l (posting_at (index_of lent.now) l document) }
@@ -105,6 +108,7 @@ fn occurrences_in(lent: &Lent, l: usize, document: u32) -> Occurrences
 }
 
 // The three words of each term of the phrase at `at` in a document: where its positions begin, how many there are, its offset.
+// Kept: no plainer: words in one array, since `phrase::place` reads its terms as `phrase::frequency` does, for which `leaf_scorer` gathers words.
 fn write_terms(lent: &Lent, q: &[u32], at: usize, document: u32, terms: &mut [u32; 96])
     requires asks { Asks (index_of lent.now) q.now }
     requires phrase { (at < record_count q.now) × (record_kind q.now at ≡ 2) }

@@ -26,12 +26,13 @@ pub fn above(planes: &[u64], least: u32, want: u64) -> u64
 {
     let mut more: u64 = 0;
     let mut equal = want;
+    // Kept: tried over `planes.iter().enumerate().rev()`, and the proof did not close: that what the loop keeps holds at its start was not found.
     for j in (0..planes.len()).rev() {
-        if (least >> (j as u32)) % 2 == 1 {
-            equal = equal & planes[j];
+        if (least >> j) % 2 == 1 {
+            equal &= planes[j];
         } else {
-            more = more | (equal & planes[j]);
-            equal = equal & !planes[j];
+            more |= equal & planes[j];
+            equal &= !planes[j];
         }
     }
     more

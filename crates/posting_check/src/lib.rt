@@ -10,9 +10,9 @@ ghost use Rattle.posting_check.specs.Runs.{wrong_record};
 
 use adjacent_leaves::plain_leaves;
 use index::fields::{Field, field_at};
-use index::leaves::leaf_at;
+use index::leaves::{leaf_at, leaf_count};
 use index::lent::Lent;
-use index::postings::{LARGEST_FREQUENCY, NO_MORE_DOCS};
+use index::postings::{LARGEST_FREQUENCY, NO_MORE_DOCS, POSTING};
 use posting_positions::wrong_run_places;
 
 // The records of a run in one pass without a branch. The or of all words shows in its high bits whether one is too large:
@@ -46,8 +46,8 @@ fn wrong_run(lent: &Lent, l: usize) -> bool
 {
     let leaf = leaf_at(lent.leaves, l);
     let field = field_at(lent.fields, leaf.field as usize);
-    let from = 3 * leaf.first as usize;
-    let to = from + 3 * leaf.number as usize;
+    let from = POSTING * leaf.first as usize;
+    let to = from + POSTING * leaf.number as usize;
     let run = &lent.postings[from..to];
     if wrong_records(run, lent.max_doc, field) {
         return true;
@@ -66,18 +66,19 @@ fn wrong_runs(lent: &Lent, l: usize, end: usize) -> bool
 }
 
 // 5, the posting words: not whole, or something wrong in a leaf's run. Leaves that are not plainly right are read one by one.
+// Kept: no plainer: a struct of the `Lent` with the two facts of it would be made by `index_check` for this one call.
 pub fn wrong_postings(lent: &Lent) -> bool
     requires max_doc_bound { lent.now.max_doc ≤ 1048576 }
     requires leaves_right { wrong4 (index_of lent.now) ≡ false }
     ensures { result ≡ wrong5 (index_of lent.now) }
 {
-    if lent.postings.len() % 3 != 0 {
+    if lent.postings.len() % POSTING != 0 {
         return true;
     }
-    let count = lent.leaves.len() / 4;
+    let count = leaf_count(lent.leaves);
     let mut bad = false;
     let mut l = 0;
-    // Kept: no plainer: each turn says itself how far it came, so there is no range to go through.
+    // Kept: no plainer: how far a turn comes is what `plain_leaves` answers, so no range has its steps.
     while l < count {
         match plain_leaves(lent, l, count) {
             Ok(end) => l = end,

@@ -8,7 +8,8 @@ use Rattle.meaning.proofs.Tests.{and_second}
 use Rattle.meaning.proofs.Below.{none_below, any_none, any_some, any-like, any-or}
 use Rattle.posting_positions.proofs.Gaps.{gap-small}
 use Rattle.posting_positions.proofs.Places.{pred-suc}
-use Rattle.posting_positions.proofs.Prefix.{before, before-zero, before-next, before-le, any-parts, count-like, more-than-firsts}
+use Rattle.index.proofs.Chains.{count-like}
+use Rattle.posting_positions.proofs.Prefix.{before, before-zero, before-next, before-le, any-parts, more-than-firsts}
 
 -- a fall from the word before
 unfoldable pub fall_at : List ℕ → ℕ → Bool

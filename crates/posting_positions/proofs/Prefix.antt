@@ -19,11 +19,6 @@ unfolding any_below count_below
 count-any zero p = refl
 count-any (suc n) p = above-add (count_below n p) (cond (p n) 1 0) ∙ ap (λ (b : Bool). b || ltb 0 (cond (p n) 1 0)) (count-any n p) ∙ ap (λ (b : Bool). any_below n p || b) (above-cond (p n))
 
-pub count-like : (n : ℕ) (p q : ℕ → Bool) → ((i : ℕ) → i < n → p i ≡ q i) → count_below n p ≡ count_below n q
-unfolding count_below
-count-like zero p q h = refl
-count-like (suc n) p q h = rw (count-like n p q (λ i l. h i (omega arith)), h n (le_refl _))
-
 add-shift : (a b c : ℕ) → a + b + c ≡ a + (b + c)
 add-shift a b c = omega arith
 

@@ -5,7 +5,7 @@ ghost use Rattle.std.specs.Prelude.{◌≡◌, ℕ, ◌+◌, ◌*◌, ◌/◌, �
 ghost use Rattle.meaning.specs.Below.{any_below, count_below};
 ghost use Rattle.posting_positions.specs.Places.{wrong_place, wrong_places, apart_at, seam_at, drop_at};
 
-use index::postings::NO_MORE_DOCS;
+use index::postings::{NO_MORE_DOCS, POSTING};
 
 // The positions of one posting in one pass without a branch: falling, or above NO_MORE_DOCS, by the high bit of an or.
 fn wrong_places(part: &[u32]) -> bool
@@ -83,8 +83,8 @@ fn seams(run: &[u32], positions: &[u32]) -> usize
     let mut falls: usize = 0;
     // Kept: tried the records as arrays; 1.1 times slower in the check of all postings. Tried filter and count: 1.05 times slower where
     // no position falls, 2 times where half of them do (measured).
-    for i in 1..run.len() / 3 {
-        let index = run[3 * i + 2] as usize;
+    for i in 1..run.len() / POSTING {
+        let index = run[POSTING * i + 2] as usize;
         if positions[index] < positions[index - 1] {
             falls += 1;
         }
@@ -100,7 +100,7 @@ pub fn plain_positions(run: &[u32], positions: &[u32], frequencies: u32) -> bool
     requires by_index { (i : ℕ) → i < length run.now / 3 → (0 < slice_index run.now (3 * i + 1)) × (slice_index run.now (3 * i + 1) ≤ frequencies) }
     ensures { result ≡ true → any_below (length run.now / 3) (wrong_places run.now positions.now) ≡ false }
 {
-    let last = 3 * (run.len() / 3 - 1);
+    let last = POSTING * (run.len() / POSTING - 1);
     let from = run[2] as usize;
     let end = run[last + 2] as usize + run[last + 1] as usize;
     if end > positions.len() {

@@ -8,7 +8,8 @@ use Rattle.posting_rows.specs.Rows.{up_at, off_at, Lane, Over, document_up, inde
 use Rattle.posting_rows.specs.declared.Lanes.{Lanes}
 use Rattle.posting_rows.specs.declared.Tally.{Tally}
 use Rattle.posting_positions.proofs.High.{or-ge}
-use Rattle.posting_positions.proofs.Prefix.{count-like, count_add}
+use Rattle.index.proofs.Chains.{count-like}
+use Rattle.posting_positions.proofs.Prefix.{count_add}
 use Rattle.posting_positions.proofs.Gaps.{or_right}
 
 -- ---- a part of the run

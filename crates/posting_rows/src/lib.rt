@@ -5,6 +5,7 @@ ghost use Rattle.std.specs.Prelude.{◌≡◌, ℕ, ◌+◌, ◌-◌, ◌/◌, �
 ghost use Rattle.posting_rows.specs.Rows.{Lane, Over, lane_documents, lane_indexes, joined_of};
 
 // What is gathered of each of the twelve words of a row.
+// Kept: no plainer as twelve structs: each array is for itself in vector registers, and of two of them only some words are read.
 #[derive(Drop)]
 pub struct Lanes {
     pub rises: [u32; 12],
@@ -55,6 +56,7 @@ fn rows(part: &[u32]) -> Lanes
     let (words, _) = part[6..].as_chunks::<12>();
     let (before, _) = part[3..].as_chunks::<12>();
     let (counts, _) = part[2..].as_chunks::<12>();
+    // Kept: no plainer: a zip would be of three slices here, and of six arrays below; a function for the inner loop would be lent all six.
     for i in 0..words.len() {
         for j in 0..12 {
             let word = words[i][j];
@@ -80,6 +82,7 @@ fn head(run: &[u32], to: usize) -> Tally
         frequencies: run[1],
         indexes: run[2],
     };
+    // Kept: no plainer: each record is read beside the one before, so a walk over records would carry that one's three words along.
     for i in 1..to {
         let at = 3 * i;
         let doc = run[at];

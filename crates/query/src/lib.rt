@@ -16,6 +16,18 @@ use index::columns::NumericRange;
 pub use kinds::{Kind, UnknownKind};
 pub use occurrences::{Occur, UnknownOccur};
 
+// The limits of document 01: 256 records, a depth of 16 where the root's is 1, 1 to 32 terms of a Phrase, 64 clauses of a Boolean,
+// a boost of 0 to 65,536 as f32 bits.
+pub const MAX_RECORDS: usize = 256;
+
+pub const MAX_DEPTH: u32 = 16;
+
+pub const MAX_PHRASE_TERMS: usize = 32;
+
+pub const MAX_CLAUSES: u32 = 64;
+
+pub const LARGEST_BOOST: u32 = 0x4780_0000;
+
 // How many whole records the query has.
 pub fn record_count(q: &[u32]) -> usize
     ensures { result ≡ record_count q.now }
@@ -44,7 +56,7 @@ pub fn kind_at(q: &[u32], at: usize) -> Option<Kind>
     requires { at < record_count q.now }
     ensures { IsKind (record_kind q.now at) result }
 {
-    Kind::try_from(q[9 * at]).ok()
+    Kind::try_from(kind(q, at)).ok()
 }
 
 // How the clause at `at` occurs in its Boolean, or `None` where its number is no occurrence's: 0 outside of a Boolean.
@@ -52,7 +64,7 @@ pub fn occur_at(q: &[u32], at: usize) -> Option<Occur>
     requires { at < record_count q.now }
     ensures { IsOccur (record_occurrence q.now at) result }
 {
-    Occur::try_from(q[9 * at + 1]).ok()
+    Occur::try_from(occurrence(q, at)).ok()
 }
 
 pub fn children(q: &[u32], at: usize) -> u32

@@ -4,9 +4,13 @@ ghost use Rattle.meaning.specs.Query.{record_count, record_children, decode, dec
 ghost use Rattle.meaning.specs.QueryRefusals.{wrong7};
 ghost use Rattle.query.specs.Inner.{end_of, end_of_clauses, fitting};
 
-use crate::{Kind, children, kind_at, occur_at, occurrence, record_count};
+use crate::{
+    Kind, MAX_CLAUSES, MAX_DEPTH, MAX_PHRASE_TERMS, MAX_RECORDS, children, kind_at, occur_at,
+    occurrence, record_count,
+};
 
 // Below a phrase stand PhraseTerms, of occurrence 0 and without children.
+// Kept: no plainer, here and below: `q, at` as in `query`, whose definitions take them so.
 fn is_phrase_term(q: &[u32], at: usize) -> bool
     requires { at < record_count q.now }
     ensures { result ≡ is_phrase_term q.now at }
@@ -28,7 +32,7 @@ fn phrase_end(q: &[u32], depth: u32, at: usize) -> Option<usize>
     ensures { result ≡ fitting a_phrase q.now at (end_of (decode_phrase q.now depth at)) }
 {
     let terms = children(q, at) as usize;
-    if terms == 0 || 32 < terms || depth == 0 {
+    if terms == 0 || MAX_PHRASE_TERMS < terms || depth == 0 {
         return None;
     }
     let end = at + 1 + terms;
@@ -59,7 +63,7 @@ fn clauses_end(q: &[u32], depth: u32, at: usize) -> Option<usize>
     ensures { result ≡ fitting a_boolean q.now at (end_of_clauses (decode_clauses q.now (decode q.now depth) (record_children q.now at) (at + 1))) }
 {
     let count = children(q, at);
-    if 64 < count {
+    if MAX_CLAUSES < count {
         return None;
     }
     let mut next = at + 1;
@@ -99,7 +103,7 @@ pub fn wrong_records(q: &[u32]) -> bool
     let count = record_count(q);
     q.len() % 9 != 0
         || count == 0
-        || 256 < count
+        || MAX_RECORDS < count
         || occurrence(q, 0) != 0
-        || tree_end(q, 16, 0) != Some(count)
+        || tree_end(q, MAX_DEPTH, 0) != Some(count)
 }

@@ -1,6 +1,7 @@
 -- What a chain over a range gives, as the definitions of numbers below a bound say it. Assumes nothing.
-use Rattle.std.proofs.Common.{◌≡◌, ℕ, zero, suc, ◌+◌, ◌-◌, ◌≤◌, ◌<◌, Bool, true, false, ◌||◌, ◌&&◌, cond, ◌∷◌, map, length, leb, max, unwrap_or, refl, ◌∙◌, ap, arith, add-zero, zero-add}
+use Rattle.std.proofs.Common.{◌≡◌, ℕ, zero, suc, ◌+◌, ◌-◌, ◌*◌, ◌≤◌, ◌<◌, Bool, true, false, ◌||◌, ◌&&◌, cond, ◌∷◌, map, length, leb, max, unwrap_or, List, get_or, drop, refl, ◌∙◌, ap, arith, add-zero, zero-add, drop-drop, get_or-take, get_or-drop}
 use Rattle.std.specs.List.{range_with_len, list_any, filter, fold, reduce}
+use Rattle.std.specs.Simd.{first_chunks}
 use borrow.Author.Tests.{leb-true, leb-false}
 use Rattle.meaning.specs.Below.{any_below, count_below, largest_below}
 use Rattle.meaning.proofs.Below.{any-like}
@@ -68,7 +69,7 @@ fold-largest f a (suc n) x =
     let later = largest-same n (λ j. f (a + 1 + j)) (λ j. f (a + suc j)) (λ j. let e : a + 1 + j ≡ a + suc j = omega arith in ap f e) in
     omega (arith, fold-largest f (a + 1) n (max x (f a)), largest-first n (λ j. f (a + j)), here, later)
 
-pub range-largest : (f : ℕ → ℕ) (a n : ℕ) → unwrap_or (reduce max (map f (range_with_len a n))) 0 ≡ largest_below n (λ j. f (a + j))
+range-largest : (f : ℕ → ℕ) (a n : ℕ) → unwrap_or (reduce max (map f (range_with_len a n))) 0 ≡ largest_below n (λ j. f (a + j))
 unfolding largest_below
 range-largest f a zero = refl
 range-largest f a (suc n) =
@@ -83,3 +84,11 @@ below-largest f n m e =
 pub below-count : (p : ℕ → Bool) (n m : ℕ) → n ≡ m → length (filter p (range_with_len 0 n)) ≡ count_below m p
 below-count p n m e =
     range-count p 0 n ∙ count-same n (λ j. p (0 + j)) p (λ j. ap p (zero-add j)) ∙ ap (λ z. count_below z p) e
+
+-- the second words of records of three, from record a on
+pub second_words : (n a : ℕ) (xs : List ℕ) → map (λ r. get_or r 1 0) (first_chunks 3 n (drop (3 * a) xs)) ≡ map (λ i. get_or xs (3 * i + 1) 0) (range_with_len a n)
+second_words zero a xs = refl
+second_words (suc n) a xs =
+    let here = get_or-take 3 (drop (3 * a) xs) 1 0 (omega arith) ∙ get_or-drop (3 * a) xs 1 0 in
+    let next : 3 * a + 3 ≡ 3 * (a + 1) = omega arith in
+    rw (here, drop-drop 3 (3 * a) xs, next, second_words n (a + 1) xs) refl

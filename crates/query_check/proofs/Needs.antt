@@ -2,11 +2,12 @@
 use mathlib.Core.Path.{◌≡◌, refl, sym, ◌∙◌, ap}
 use mathlib.Core.Bool.{cond}
 use mathlib.Core.List.{List}
-use Prim.Native.Nat.{ℕ, ◌+◌, ◌*◌, ◌^◌, ◌≤◌, ◌<◌}
+use Prim.Native.Nat.{ℕ, zero, suc, ◌+◌, ◌-◌, ◌*◌, ◌/◌, ◌^◌, ◌≤◌, ◌<◌}
 use native.Mathlib.Omega.{arith}
 use native.Mathlib.Nat.{mul-le-mul, lt_of_le_of_lt}
 use lib.Dec.{eqb, lit<}
-use lib.ListN.{length, get_or}
+use lib.ListN.{length, get_or, take, drop, length-take, length-drop}
+use lib.Seq.{get_or-take, get_or-drop}
 use borrow.Author.Tests.{eq-eqb, ne_eqb}
 use Rattle.meaning.specs.Below.{count_below, largest_below}
 use Rattle.meaning.specs.Lent.{Index}
@@ -40,6 +41,24 @@ unfolding ranges_needed
 ranges-words ix q m n f e z = rw (← e, ne_eqb n 0 z, f)
 
 -- ---- starts
+largest-like : (n : ℕ) (f g : ℕ → ℕ) → ((j : ℕ) → j < n → f j ≡ g j) → largest_below n f ≡ largest_below n g
+unfolding largest_below
+largest-like zero f g h = refl
+largest-like (suc n) f g h = rw (largest-like n f g (λ j l. h j (omega arith)), h n (omega arith))
+
+-- a run of its own, and the same among all postings
+pub run-largest : (postings run : List ℕ) (first number : ℕ) → run ≡ take (3 * (first + number) - 3 * first) (drop (3 * first) postings) → 3 * (first + number) ≤ length postings → largest_below (length run / 3) (λ i. get_or run (3 * i + 1) 0) ≡ largest_below number (λ i. get_or postings (3 * (first + i) + 1) 0)
+run-largest postings run first number is within =
+    ap (λ (z : ℕ). largest_below z (λ i. get_or run (3 * i + 1) 0)) count ∙ largest-like number (λ i. get_or run (3 * i + 1) 0) (λ i. get_or postings (3 * (first + i) + 1) 0) same
+  where
+    count : length run / 3 ≡ number
+    count = let long = ap length is ∙ length-take (3 * (first + number) - 3 * first) (drop (3 * first) postings) in let left = length-drop (3 * first) postings in omega (arith, long, left, within)
+
+    same : (i : ℕ) → i < number → get_or run (3 * i + 1) 0 ≡ get_or postings (3 * (first + i) + 1) 0
+    same i h =
+        let there : 3 * first + (3 * i + 1) ≡ 3 * (first + i) + 1 = omega arith in
+        ap (λ (z : List ℕ). get_or z (3 * i + 1) 0) is ∙ get_or-take (3 * (first + number) - 3 * first) (drop (3 * first) postings) (3 * i + 1) 0 (omega arith) ∙ get_or-drop (3 * first) postings (3 * i + 1) 0 ∙ ap (λ (z : ℕ). get_or postings z 0) there
+
 abbrev pub starts_at : Index → List ℕ → ℕ → ℕ
 starts_at ix q r = cond (eqb (record_kind q r) 9) (largest_in ix (record_value q r 0)) 0
 

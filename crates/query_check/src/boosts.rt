@@ -6,15 +6,17 @@ ghost use Rattle.meaning.specs.QueryRefusals.{wrong7, wrong9};
 ghost use Rattle.query.specs.Read.{Boosts};
 ghost use Rattle.query.specs.Inner.{end_below_limit, clauses_below_limit};
 
-use query::{Kind, children, kind_at, occur_at, value};
+use query::{Kind, LARGEST_BOOST, MAX_DEPTH, children, kind_at, occur_at, value};
 
 // The record after the tree at `at`, or none where the boost that reaches it, or one below it, goes above 65,536.
+// Kept: no plainer, here and below: `q, at` as in `query`, whose definitions take them so.
 #[cycle(clauses_below_tree_below)]
 fn tree_below(q: &[u32], depth: u32, at: usize, boost: f32) -> Option<usize>
     requires { Boosts q.now × ((t : Decoded) × (decode q.now depth at ≡ some t)) }
     ensures { result ≡ end_below_limit (decode q.now depth at) boost }
 {
-    if 65536.0 < boost {
+    let limit = f32::from_bits(LARGEST_BOOST);
+    if limit < boost {
         return None;
     }
     match kind_at(q, at)? {
@@ -51,5 +53,5 @@ pub fn wrong_boost(q: &[u32]) -> bool
     requires { (wrong7 q.now ≡ false) × Boosts q.now }
     ensures { result ≡ wrong9 q.now }
 {
-    tree_below(q, 16, 0, 1.0).is_none()
+    tree_below(q, MAX_DEPTH, 0, 1.0).is_none()
 }

@@ -10,14 +10,13 @@ use index::fields::field_at;
 use query::{Kind, kind_at, record_count, value};
 
 // A phrase in a field without positions, at `at`.
+// Kept: no plainer, here and below: `q, at` as in `query`, whose definitions take them so.
 fn without_positions(q: &[u32], fields: &[u32], at: usize) -> bool
     requires { (at < record_count q.now) × (record_kind q.now at ≡ 2 → record_value q.now at 0 < length fields.now / 3) }
     ensures { result ≡ without_positions fields.now q.now at }
 {
-    if kind_at(q, at) != Some(Kind::Phrase) {
-        return false;
-    }
-    !field_at(fields, value(q, at, 0) as usize).has_positions()
+    kind_at(q, at) == Some(Kind::Phrase)
+        && !field_at(fields, value(q, at, 0) as usize).has_positions()
 }
 
 // 10: a phrase in a field without positions.

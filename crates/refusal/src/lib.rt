@@ -29,6 +29,7 @@ pub enum Refusal {
 
 impl Refusal {
     // Its number.
+    // Kept: no plainer by From: `as u32` is the whole of it, and `refusal.number()` says which number it is.
     pub fn number(self) -> u32
         ensures { result ≡ number_of self }
     {

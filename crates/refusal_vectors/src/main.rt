@@ -37,7 +37,7 @@ fn check(file: &[u32], norms: &[u8], live: &[u64], case: [u32; 10]) -> Result<()
         values: list(file, values),
     };
     index_check::check_index(&lent)?;
-    query_check::check_query(list(file, query), lent.fields, lent.leaves, lent.columns)
+    query_check::check_query(&lent, list(file, query))
 }
 
 fn print_refusals(out: &mut impl Write, file: &[u32]) -> io::Result<()> {

@@ -1,13 +1,13 @@
 // A search in a run of documents: records of `stride` words, the run's first record at `first`.
 #![tactic(auto)]
 
-ghost use Rattle.std.specs.Prelude.{◌≡◌, ℕ, ◌+◌, ◌*◌, ◌≤◌, ◌<◌, length};
+ghost use Rattle.std.specs.Prelude.{◌≡◌, ℕ, ◌+◌, ◌*◌, ◌≤◌, ◌<◌, length, MatchOption};
 ghost use Rattle.run.specs.Run.{document_at, Run, Lower, Between};
 
 // So many postings are looked at one after the other before the search takes longer steps.
 const NEAR: usize = 4;
 
-// Kept: no plainer as the method alone: callers hold a run's words and numbers, without the proof that its documents ascend.
+// Kept: no plainer as the method alone, which asks for a run that ascends, and this does not; who reads one or two documents makes no `Postings`.
 pub fn document(words: &[u32], stride: usize, first: usize, i: usize) -> u32
     requires { (0 < stride) × (stride * (first + i) < length words.now) }
     ensures { result ≡ document_at words.now stride first i }
@@ -33,8 +33,20 @@ impl Postings<'_> {
         document(self.words, self.stride, self.first, i)
     }
 
+    // The document at a place, if the run goes so far.
+    pub fn get(self, i: usize) -> Option<u32>
+        ensures { MatchOption result (self.entry.count ≤ i) (λ d. (i < self.entry.count) × (d ≡ document_at self.entry.words.now self.entry.stride self.entry.first i)) }
+    {
+        if i < self.count {
+            Some(self.document(i))
+        } else {
+            None
+        }
+    }
+
     // By halves, between two places.
-    // Kept: no plainer: the stride is a number, so there is no slice of records for `partition_point`.
+    // Kept: no plainer: `lower` promises it for every stride, so there is no slice of records for `partition_point`; a method for 3 alone
+    // would be a second one.
     fn halve(self, from: usize, to: usize, target: u32) -> usize
         requires { Between self.words.now self.stride self.first self.count from to target }
         ensures { Lower self.entry.words.now self.entry.stride self.entry.first self.entry.count from target result }
@@ -73,6 +85,7 @@ impl Postings<'_> {
     }
 
     // The first place from the cursor on whose document is at least the target: mostly it is near.
+    #[inline(always)]
     pub fn lower(self, from: usize, target: u32) -> usize
         requires { from ≤ self.count }
         ensures { Lower self.entry.words.now self.entry.stride self.entry.first self.entry.count from target result }
@@ -88,6 +101,7 @@ impl Postings<'_> {
 }
 
 // The same for a caller that has the run's words and numbers.
+// Kept: no plainer as the method alone: who searches once has a run's words and numbers, and would make a `Postings` for that one call.
 pub fn lower(
     words: &[u32],
     stride: usize,

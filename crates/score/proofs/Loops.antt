@@ -27,7 +27,7 @@ use Rattle.leaf_scorer.specs.Buffers.{places_in, SameBuffers}
 use Rattle.score.specs.Asked.{Scorables, RequiredPre, RequiredPost, OptionalPre, OptionalPost}
 use Rattle.leaf_score.specs.Asked.{LentAt, Scorable, ScorePre, ScorePost, TermPre, TermPost}
 use Rattle.score.proofs.Parts.{part_same}
-use Rattle.score.proofs.Sums.{counted, scores-word, matches-at, required-counted, optional-counted, required-matched, optional-matched, SumAt, sum-start, sum-end, sum-open, sum-there, sum-scores, sum-size, sum-kind, sum-stop, sum-scorable, sum-matched, sum-part, sum-part-kind, sum-renewed, sum-skipped, sum-took}
+use Rattle.score.proofs.Sums.{counted, scores-word, matches-at, required-counted, optional-counted, required-matched, optional-matched, SumAt, sum-start, sum-end, sum-open, sum-there, sum-scores, sum-size, sum-kind, sum-scorable, sum-matched, sum-part, sum-part-kind, sum-renewed, sum-skipped, sum-took}
 
 -- the phrase buffers keep their lengths
 pub places_same : {b b' : PhraseBuffers} → SameBuffers b b' → places_in b' ≡ places_in b
@@ -77,12 +77,6 @@ module _ {kids₀ : List ℕ} {start : Float} {reader : LeafReader} {places doc 
     required_there P =
         let o = open_at P.0 P.1 P.2 P.3 P.4 P.5 P.6 P.7 in
         sum-there o.3
-
-    -- where a term's part ends
-    pub required-stop : Asked → get_or kids at 0 ≡ 1 → (e : ℕ) → e ≡ at + node_state_words → e ≡ at + get_or kids (at + 1) 0
-    required-stop P t =
-        let o = open_at P.0 P.1 P.2 P.3 P.4 P.5 P.6 P.7 in
-        sum-stop o.3 t
 
     module _ {e : ℕ} (stop : e ≡ at + get_or kids (at + 1) 0) where
       pub required-skip : (get_or kids (at + 15) 0 ≡ 1 → ⊥) → Again kids e sum
@@ -174,11 +168,6 @@ module _ {kids₀ : List ℕ} {reader : LeafReader} {places doc depth : ℕ} {ki
     optional_there P =
         let o = opened P.0 P.1 P.2 P.3 P.4 in
         sum-there o.3
-
-    pub optional-stop : AskedOptional → get_or kids at 0 ≡ 1 → (e : ℕ) → e ≡ at + node_state_words → e ≡ at + get_or kids (at + 1) 0
-    optional-stop P t =
-        let o = opened P.0 P.1 P.2 P.3 P.4 in
-        sum-stop o.3 t
 
     module _ {e : ℕ} (stop : e ≡ at + get_or kids (at + 1) 0) (a b : ℕ) (same : min a b ≡ places) where
       pub optional-ask : AskedOptional → AdvancePre (lent_of reader) a b (take (e - at) (drop at kids)) doc depth

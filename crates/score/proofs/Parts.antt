@@ -34,16 +34,6 @@ leaf-kind ix ranges (phrase f ts) s w b p = p.kind-is
 leaf-kind ix ranges (range r) s w b p = p.0.kind-is
 leaf-kind ix ranges everything s w b p = p.0
 
--- a term's part is its record
-pub term-size : (T : Scorer) → kind_word T ≡ 1 → size_of T ≡ node_state_words
-unfolding kind_word leaf_kind size_of leaf_size
-term-size (leaf nothing c) e = refl
-term-size (leaf (term l) c) e = refl
-term-size (leaf (phrase f ts) c) e = absurd (omega (arith, e))
-term-size (leaf (range r) c) e = refl
-term-size (leaf everything c) e = refl
-term-size (boolean c j need rs os ps) e = absurd (omega (arith, e))
-
 -- ---- the record at the head of a part
 pub record Head (T : Scorer) (sc : ℕ) (y : List ℕ) : Type 0 where
   pub s : State

@@ -18,7 +18,7 @@ use Rattle.weight.specs.Sound.{Sounds, TablesOf, nodes, nodes_of}
 use Rattle.node.specs.Words.{ChildThere}
 use Rattle.leaf_score.specs.Asked.{Scorable, ScoreIs}
 use Rattle.leaf_score.proofs.Bounds.{scores-add, scores-more}
-use Rattle.score.proofs.Parts.{Zip, zip_start, zip_end, zip-none, zip-next, zip-renewed, kind_word, term-size, ok-kind, view, child-there, part-ok}
+use Rattle.score.proofs.Parts.{Zip, zip_start, zip_end, zip-none, zip-next, zip-renewed, kind_word, ok-kind, view, child-there, part-ok}
 
 -- the scores of the children that count
 unfoldable pub counted : (Bool → Scorer → Bool) → Index → Scorers → ℕ → List Float
@@ -99,10 +99,6 @@ module _ {c : Bool → Scorer → Bool} {ix : Index} {ranges : List ℕ} {table 
 
     pub sum-kind : get_or kids at 0 ≡ kind_word T
     sum-kind = (view p.zip).kind
-
-    -- where a term's part ends
-    pub sum-stop : get_or kids at 0 ≡ 1 → (e : ℕ) → e ≡ at + node_state_words → e ≡ at + get_or kids (at + 1) 0
-    sum-stop t e stop = omega (arith, stop, sum-size, term-size T (sym sum-kind ∙ t))
 
     pub sum-scorable : most ≤ 256 → Scorable ix table places T
     unfolding Sounds TablesOf nodes_of

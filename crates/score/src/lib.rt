@@ -11,6 +11,8 @@ use node::{Boolean, NodeKind, boolean_at, child_at};
 use weight::NODE_STATE_WORDS;
 
 // The score of the document where the node matches it. The children were left at it or before it.
+// Kept: no plainer as one struct of the two, here and below: of them only `buffers` is lent for writing; with the reader in it, each clause would
+// also say that it stays.
 #[cycle(joined_optional_required_score)]
 pub fn score(
     st: &mut [u32],
@@ -99,33 +101,26 @@ fn required(
 {
     let mut sum = start;
     let mut at = 0;
-    // Kept: parts differ in length, each says itself where the next one begins, and std has no iterator over such parts.
+    // Kept: no plainer: parts differ in length and are lent for writing, so an iterator would hold `kids` and `at` itself.
     while at < kids.len() {
         let child = child_at(kids, at);
+        let end = child.end;
         match child.kind {
             NodeKind::Term => {
-                let end = at + NODE_STATE_WORDS;
                 if child.scores { // a Must: a Filter scores nothing
-                    let s = term_score(
-                        &kids[at..end],
-                        reader.postings,
-                        reader.norms,
-                        reader.inverses,
-                        doc,
-                    );
+                    let part = &kids[at..end];
+                    let s = term_score(part, reader, doc);
                     sum = ieee754::add_score(sum, s);
                 }
-                at = end;
             }
             _ => {
-                let end = child.end;
                 if child.scores {
                     let s = score(&mut kids[at..end], reader, buffers, doc, depth);
                     sum = ieee754::add_score(sum, s);
                 }
-                at = end;
             }
         }
+        at = end;
     }
     sum
 }
@@ -146,33 +141,26 @@ fn optional(
 {
     let mut sum = 0.0;
     let mut at = 0;
-    // Kept: parts differ in length, each says itself where the next one begins, and std has no iterator over such parts.
+    // Kept: no plainer: parts differ in length and are lent for writing, so an iterator would hold `kids` and `at` itself.
     while at < kids.len() {
         let child = child_at(kids, at);
+        let end = child.end;
         match child.kind {
             NodeKind::Term => {
-                let end = at + NODE_STATE_WORDS;
                 if scorer::advance_term(&mut kids[at..end], reader.postings, doc) == doc {
-                    let s = term_score(
-                        &kids[at..end],
-                        reader.postings,
-                        reader.norms,
-                        reader.inverses,
-                        doc,
-                    );
+                    let part = &kids[at..end];
+                    let s = term_score(part, reader, doc);
                     sum = ieee754::add_score(sum, s);
                 }
-                at = end;
             }
             _ => {
-                let end = child.end;
                 if scorer::advance(&mut kids[at..end], reader, buffers, doc, depth) == doc {
                     let s = score(&mut kids[at..end], reader, buffers, doc, depth);
                     sum = ieee754::add_score(sum, s);
                 }
-                at = end;
             }
         }
+        at = end;
     }
     sum
 }

@@ -17,9 +17,9 @@ use Rattle.node.specs.Words.{ChildThere, ChildIs}
 use Rattle.node.specs.declared.Child.{Child}
 use Rattle.node.specs.declared.NodeKind.TheVariants.{Term, Range}
 use Rattle.node.proofs.Scorers.{term-word, range-word}
-use Rattle.scorer.specs.Calls.{NodeHeld, AdvancePost, PartsHeld}
+use Rattle.scorer.specs.Calls.{NodeHeld, AdvancePre, AdvancePost, AskPre, TermPre, RangePre, PartsHeld}
 use Rattle.leaf_scorer.specs.Calls.{Lent, RoomIn}
-use Rattle.leaf_scorer.proofs.Bounds.{front_long, front-size, ok-mono, oks-mono, ok-front, ok-cached, ok-single}
+use Rattle.leaf_scorer.proofs.Bounds.{front_long, front-size, ok-mono, oks-mono, ok-front, ok-cached}
 
 -- g are the children that are left, whose words are z; the words before them are x. Nothing is said of those passed but how to put them back.
 pub record Zip (E : Lent) (ix : Index) (p k : ℕ) (fs g : Scorers) (kids : List ℕ) (at t : ℕ) : Type 0 where
@@ -163,29 +163,6 @@ child-is-term is e = term-word _ (sym is.kind-is ∙ e)
 pub child-is-range : {kids : List ℕ} {at : ℕ} {c : Child} → ChildIs kids at c → c.kind ≡ Range → get_or kids at 0 ≡ 4
 child-is-range is e = range-word _ (sym is.kind-is ∙ e)
 
--- a child whose first word is not that of a phrase or a Boolean: its part is one record
-module _ {E : Lent} {ix : Index} {p k : ℕ} {fs : Scorers} {kids : List ℕ} {at t : ℕ} where
-  pub child-single : (g : Scorers) → Zip E ix p k fs g kids at t → at < length kids → (get_or kids at 0 ≡ 2 → ⊥) → (get_or kids at 0 ≡ 3 → ⊥) → get_or kids (at + 1) 0 ≡ node_state_words
-  child-single end q l n2 n3 = absurd (omega (arith, zip-none q))
-  child-single (more f T g) q l n2 n3 =
-      let v = view q in
-      let n : ℕ = at + get_or kids (at + 1) 0 in
-      let first : get_or v.y 0 0 ≡ get_or kids at 0 = ap (λ (y : List ℕ). get_or y 0 0) (sym (part v n refl)) ∙ child-kind kids at n (child-facts (more f T g) q l) refl in
-      v.size ∙ ok-single ix E.ranges T k (cond f 1 0) v.y t v.ok (λ e. n2 (sym first ∙ e)) (λ e. n3 (sym first ∙ e))
-
-  -- so one whose first word is that of a term or a range
-  pub child-term : (g : Scorers) → Zip E ix p k fs g kids at t → at < length kids → get_or kids at 0 ≡ 1 → get_or kids (at + 1) 0 ≡ node_state_words
-  child-term g q l e = child-single g q l (λ x. omega (arith, e)) (λ x. omega (arith, e))
-
-  pub child-range : (g : Scorers) → Zip E ix p k fs g kids at t → at < length kids → get_or kids at 0 ≡ 4 → get_or kids (at + 1) 0 ≡ node_state_words
-  child-range g q l e = child-single g q l (λ x. omega (arith, e)) (λ x. omega (arith, e))
-
-  pub term-end : (g : Scorers) → Zip E ix p k fs g kids at t → at < length kids → get_or kids at 0 ≡ 1 → at + node_state_words ≡ at + get_or kids (at + 1) 0
-  term-end g q l e = ap (λ (n : ℕ). at + n) (sym (child-term g q l e))
-
-  pub range-end : (g : Scorers) → Zip E ix p k fs g kids at t → at < length kids → get_or kids at 0 ≡ 4 → at + node_state_words ≡ at + get_or kids (at + 1) 0
-  range-end g q l e = ap (λ (n : ℕ). at + n) (sym (child-range g q l e))
-
 -- the child where a loop stands, asked for documents from t on
 pub record ChildHere (E : Lent) (a b k : ℕ) (kids : List ℕ) (at t : ℕ) : Type 0 where
   pub ix : Index
@@ -195,8 +172,6 @@ pub record ChildHere (E : Lent) (a b k : ℕ) (kids : List ℕ) (at t : ℕ) : T
   pub top : t ≤ no_more_docs
   pub room : RoomIn places a b
   pub there : ChildThere kids at
-  pub term-end : get_or kids at 0 ≡ 1 → at + node_state_words ≡ at + get_or kids (at + 1) 0
-  pub range-end : get_or kids at 0 ≡ 4 → at + node_state_words ≡ at + get_or kids (at + 1) 0
   pub held : (e : ℕ) → e ≡ at + get_or kids (at + 1) 0 → NodeHeld E ix places scorer k scores (take (e - at) (drop at kids)) t
 
 pub child-here : {E : Lent} {ix : Index} {p k a b : ℕ} {fs : Scorers} {kids : List ℕ} {at t : ℕ} → t ≤ no_more_docs → RoomIn p a b → (g : Scorers) → Zip E ix p k fs g kids at t → at < length kids → ChildHere E a b k kids at t
@@ -210,7 +185,19 @@ child-here {ix = ix} {p = p} top room (more f T g) q l =
       top = top;
       room = room;
       there = child-facts (more f T g) q l;
-      term-end = term-end (more f T g) q l;
-      range-end = range-end (more f T g) q l;
       held = held (view q);
     }
+
+-- .. what is asked of it: c is what its record says
+module _ {E : Lent} {a b k : ℕ} {kids : List ℕ} {at t : ℕ} (h : ChildHere E a b k kids at t) {c : Child} (is : ChildIs kids at c) where
+  pub child-asked : AdvancePre E a b (take (c.end - at) (drop at kids)) t k
+  child-asked = (h.top, (h.ix, h.places, h.scorer, h.scores, h.room, h.held _ is.end_is))
+
+  pub phrase-asked : get_or kids at 0 ≡ 2 → c.cached ≤ t → AskPre E.postings E.positions a b (take (c.end - at) (drop at kids)) t
+  phrase-asked w due = (h.top, child-kind kids at _ h.there is.end_is ∙ w, child-cached kids at _ h.there is.end_is _ is.cached-is due, (E, refl, refl, h.ix, h.places, h.scorer, k, h.scores, h.room, h.held _ is.end_is))
+
+  pub term-asked : c.kind ≡ Term → TermPre E.postings (take (c.end - at) (drop at kids)) t
+  term-asked e = (h.top, child-kind kids at _ h.there is.end_is ∙ child-is-term is e, (E, refl, h.ix, h.places, h.scorer, k, h.scores, h.held _ is.end_is))
+
+  pub range-asked : c.kind ≡ Range → RangePre E.ranges (take (c.end - at) (drop at kids)) t
+  range-asked e = (h.top, child-kind kids at _ h.there is.end_is ∙ child-is-range is e, (E, refl, h.ix, h.places, h.scorer, k, h.scores, h.held _ is.end_is))

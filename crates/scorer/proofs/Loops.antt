@@ -15,6 +15,9 @@ use Rattle.weight.specs.ScorerTree.{Scorer, Scorers, end, more, matches, all_mat
 use Rattle.weight.specs.Held.{Ok}
 use Rattle.scorer.specs.Calls.{NodeHeld, AdvancePost, PartsHeld, Tally, LeastIs, Passes, Asks}
 use Rattle.leaf_scorer.specs.Calls.{Lent, RoomIn}
+use Rattle.leaf_scorer.specs.Buffers.{room, other_room}
+use Rattle.leaf_scorer.specs.declared.PhraseBuffers.{PhraseBuffers}
+use Rattle.leaf_scorer.proofs.Loops.{Lengths, same_room}
 use Rattle.meaning.proofs.Tests.{cmp}
 use Rattle.scorer.proofs.Firsts.{matching-hit, matching-miss, matching-end, all-hit, all-miss, all_rest, all_end}
 use Rattle.scorer.proofs.Children.{ChildHere, child-here, Zip, zip-later, zip_end, zip-none, view, zip-took, zip-skip, held, of-advance, of-cached}
@@ -128,8 +131,8 @@ module _ {E : Lent} {ix : Index} {p k : ℕ} {fs : Scorers} where
             let a = of-advance (view z) e stop r ys post in
             least-next f T g e r best' n' (omega (arith, (view z).long, (view z).size)) q.lo q.top q.few u h q.some' (zip-took (view z) e stop ys len a.1) a.0 w
 
-pub least-child : {E : Lent} {a b k : ℕ} {kids₀ kids : List ℕ} {t best n at : ℕ} → ((ix : Index) × (p : ℕ) × (ss : Scorers) × RoomIn p a b × PartsHeld E ix p ss k kids₀ t) → ((ix : Index) (p : ℕ) (ss : Scorers) → PartsHeld E ix p ss k kids₀ t → LeastAt E ix p k ss kids t best n at) → at < length kids → ChildHere E a b k kids at t
-least-child P now l = let q = now P.0 P.1 P.2 P.4 in child-here (le_trans q.lo q.top) P.3 q.left q.zip l
+pub least-child : {E : Lent} {k : ℕ} {kids₀ kids : List ℕ} {b₀ b : PhraseBuffers} {t best n at : ℕ} → ((ix : Index) × (p : ℕ) × (ss : Scorers) × RoomIn p (room b₀) (other_room b₀) × PartsHeld E ix p ss k kids₀ t) → Lengths (length kids) (length kids₀) b₀ b × ((ix : Index) (p : ℕ) (ss : Scorers) → PartsHeld E ix p ss k kids₀ t → LeastAt E ix p k ss kids t best n at) → at < length kids → ChildHere E (room b) (other_room b) k kids at t
+least-child P now l = let q = now.1 P.0 P.1 P.2 P.4 in child-here (le_trans q.lo q.top) (same_room P.3 now.0.buffers-same) q.left q.zip l
 
 -- ---- a pass
 pub record PassAt (E : Lent) (ix : Index) (p k : ℕ) (fs : Scorers) (from : ℕ) (kids : List ℕ) (d at : ℕ) : Type 0 where
@@ -199,5 +202,5 @@ module _ {E : Lent} {ix : Index} {p k : ℕ} {fs : Scorers} {from : ℕ} where
             let a = post ix p T (cond f 1 0) (held (view z) e stop) in
             pass-next f T g e r q.lo q.before u h (zip-took (view (zip-later r a.0.from z)) e stop ys len a.1) a.0
 
-pub pass-child : {E : Lent} {a b k : ℕ} {kids₀ kids : List ℕ} {t d at : ℕ} → ((ix : Index) × (p : ℕ) × (ss : Scorers) × RoomIn p a b × PartsHeld E ix p ss k kids₀ t) → ((ix : Index) (p : ℕ) (ss : Scorers) → PartsHeld E ix p ss k kids₀ t → PassAt E ix p k ss t kids d at) → at < length kids → ChildHere E a b k kids at d
-pass-child P now l = let q = now P.0 P.1 P.2 P.4 in child-here q.top P.3 q.left q.zip l
+pub pass-child : {E : Lent} {k : ℕ} {kids₀ kids : List ℕ} {b₀ b : PhraseBuffers} {t d at : ℕ} → ((ix : Index) × (p : ℕ) × (ss : Scorers) × RoomIn p (room b₀) (other_room b₀) × PartsHeld E ix p ss k kids₀ t) → Lengths (length kids) (length kids₀) b₀ b × ((ix : Index) (p : ℕ) (ss : Scorers) → PartsHeld E ix p ss k kids₀ t → PassAt E ix p k ss t kids d at) → at < length kids → ChildHere E (room b) (other_room b) k kids at d
+pass-child P now l = let q = now.1 P.0 P.1 P.2 P.4 in child-here q.top (same_room P.3 now.0.buffers-same) q.left q.zip l

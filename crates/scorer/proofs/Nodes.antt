@@ -26,41 +26,7 @@ use Rattle.leaf_scorer.proofs.Loops.{first-like}
 
 -- a record with another cached document
 abbrev pub cached_at : State → ℕ → State
-cached_at s c =
-    record {
-      kind = s.kind;
-      size = s.size;
-      cached = c;
-      need = s.need;
-      required_end = s.required_end;
-      optional_end = s.optional_end;
-      first = s.first;
-      number = s.number;
-      cursor = s.cursor;
-      offset = s.offset;
-      field = s.field;
-      constant = s.constant;
-      weight = s.weight;
-      afterwards = s.afterwards;
-      group_at = s.group_at;
-      scores = s.scores;
-      frequency_of = s.frequency_of;
-      frequency = s.frequency;
-      norms = s.norms;
-      window_first = s.window_first;
-      window_low = s.window_low;
-      window_high = s.window_high;
-      window_next = s.window_next;
-      ones_low = s.ones_low;
-      ones_high = s.ones_high;
-      twos_low = s.twos_low;
-      twos_high = s.twos_high;
-      spare1 = s.spare1;
-      spare2 = s.spare2;
-      spare3 = s.spare3;
-      spare4 = s.spare4;
-      spare5 = s.spare5;
-    }
+cached_at s c = record s { cached = c }
 
 -- ---- leaves
 pub leaf-kind : (ix : Index) (R : List ℕ) (l : Leaf) (s : State) (w : List ℕ) (b : ℕ) → LeafIs ix R l s w b → s.kind ≡ 3 → ⊥

@@ -1,9 +1,9 @@
 -- A node that is a term, moved with the postings alone, or a range, with the range buffer. Assumes nothing.
-use mathlib.Core.Path.{◌≡◌, sym, ap, subst}
+use mathlib.Core.Path.{◌≡◌, sym, subst}
 use mathlib.Core.List.{List}
-use Prim.Native.Nat.{ℕ, ◌+◌, ◌≤◌, ◌<◌}
+use Prim.Native.Nat.{ℕ, ◌+◌, ◌≤◌}
 use native.Mathlib.Omega.{arith}
-use lib.ListN.{get_or, length, set}
+use lib.ListN.{get_or, set}
 use Rattle.meaning.specs.Limits.{no_more_docs}
 use Rattle.meaning.specs.Lent.{Index}
 use Rattle.meaning.specs.First.{First}
@@ -15,17 +15,14 @@ use Rattle.leaf_scorer.specs.Calls.{Lent}
 use Rattle.scorer.proofs.Nodes.{node-leaf, node-sought}
 use Rattle.leaf_scorer.proofs.Seeks.{seek-term-pre, seek-term-done, seek-range-pre, seek-range-done}
 
-module _ {ps st : List ℕ} {t : ℕ} {E : Lent} {ix : Index} {p : ℕ} {T : Scorer} {k o : ℕ} (is : get_or st 0 0 ≡ 1) (size : length ps < 9223372036854775808) (due : get_or st 2 0 ≤ t) (same : E.postings ≡ ps) (h : NodeHeld E ix p T k o st t) where
-  room : length E.postings < 9223372036854775808
-  room = omega (arith, size, ap length same)
-
+module _ {ps st : List ℕ} {t : ℕ} {E : Lent} {ix : Index} {p : ℕ} {T : Scorer} {k o : ℕ} (is : get_or st 0 0 ≡ 1) (due : get_or st 2 0 ≤ t) (same : E.postings ≡ ps) (h : NodeHeld E ix p T k o st t) where
   pub term_asks : SearchPre ps 3 st t
-  term_asks = let n = node-leaf due (λ e. omega (arith, is, e)) T h in subst (λ (y : List ℕ). SearchPre y 3 st t) same (seek-term-pre E st t is room ix p n.0 n.1 n.2 n.3)
+  term_asks = let n = node-leaf due (λ e. omega (arith, is, e)) T h in subst (λ (y : List ℕ). SearchPre y 3 st t) same (seek-term-pre E st t is ix p n.0 n.1 n.2 n.3)
 
   pub term-sought : t ≤ no_more_docs → (r : ℕ) (st' : List ℕ) → SearchPost ps 3 st t r st' → First (matches ix T) t r × Ok ix E.ranges T k o (set st' 2 (r + 1)) t
   term-sought top r st' post =
       let own : SearchPost E.postings 3 st t r st' = subst (λ (y : List ℕ). SearchPost y 3 st t r st') (sym same) post in
-      node-sought due top (λ e. omega (arith, is, e)) r st' (seek-term-done E st t is room top r st' own) T h
+      node-sought due top (λ e. omega (arith, is, e)) r st' (seek-term-done E st t is top r st' own) T h
 
 module _ {rs st : List ℕ} {t : ℕ} {E : Lent} {ix : Index} {p : ℕ} {T : Scorer} {k o : ℕ} (is : get_or st 0 0 ≡ 4) (due : get_or st 2 0 ≤ t) (same : E.ranges ≡ rs) (h : NodeHeld E ix p T k o st t) where
   pub range-asks : RangePre rs st

@@ -18,23 +18,28 @@ pub struct Standing {
     pub count: usize,
 }
 
-fn tally(best: u32, count: usize, d: u32) -> Standing
-    requires { count < 18446744073709551615 }
-    ensures { Tally best count d result.doc result.count }
-{
-    if d < best {
-        return Standing { doc: d, count: 1 };
+impl Standing {
+    // With one document more.
+    fn with(self, d: u32) -> Standing
+        requires { self.count < 18446744073709551615 }
+        ensures { Tally self.doc self.count d result.doc result.count }
+    {
+        if d < self.doc {
+            return Standing { doc: d, count: 1 };
+        }
+        if d == self.doc {
+            return Standing {
+                count: self.count + 1,
+                ..self
+            };
+        }
+        self
     }
-    if d == best {
-        return Standing {
-            doc: best,
-            count: count + 1,
-        };
-    }
-    Standing { doc: best, count }
 }
 
 // A node that is a term: two slices and no call that is not inlined, for loops over children.
+// Kept: no plainer by one function over a closure that seeks, for this and `advance_range`: it needs clauses on when it may be asked,
+// what it answers and how far it goes, in the place of seven lines; `advance` seeks through its own cycle.
 pub fn advance_term(st: &mut [u32], postings: &[u32], target: u32) -> u32
     requires { TermPre postings.now st.old target }
     ensures term_post { TermPost postings.now st.old target result st.new }
@@ -65,6 +70,8 @@ fn advance_range(st: &mut [u32], ranges: &[u32], target: u32) -> u32
 
 // A node that is a phrase, asked by a pass from `from` on that has come to the target. Its positions cost most, so it is asked
 // only where no child before it moved the pass, and about no other document.
+// Kept: no plainer as one struct of the two, here and below: of them only `buffers` is lent for writing; with the reader in it, each clause would
+// also say that it stays.
 fn ask_phrase(
     st: &mut [u32],
     reader: &LeafReader<'_>,
@@ -79,7 +86,7 @@ fn ask_phrase(
     if from != target {
         return target;
     }
-    let d = leaf_scorer::phrase_at(st, reader.postings, reader.positions, buffers, target);
+    let d = leaf_scorer::phrase_at(st, reader, buffers, target);
     if d != target {
         return d;
     }
@@ -138,15 +145,7 @@ fn excluding(
     let mut t = target;
     // Kept: each turn begins where the answer of the one before lies; a loop is plainer than an iterator of such steps.
     loop {
-        let d = lead(
-            &mut kids[..n.optional_end],
-            reader,
-            buffers,
-            n.required_end,
-            n.need,
-            t,
-            depth,
-        );
+        let d = lead(&mut kids[..n.optional_end], reader, buffers, n, t, depth);
         if d == NO_MORE_DOCS {
             return d;
         }
@@ -154,61 +153,56 @@ fn excluding(
             return d;
         }
         let x = least(&mut kids[n.optional_end..], reader, buffers, d, depth);
-        if x.doc == d {
-            t = d + 1;
-        } else {
+        if x.doc != d {
             return d;
         }
+        t = d + 1;
     }
 }
 
-// Every required child and, where some are needed, so many of the optional.
-// Kept: two numbers of the Boolean; no plainer by its struct: `kids` ends where the optional do, so `optional_end` would say it again.
+// Every required child and, where some are needed, so many of the optional. `kids` ends where the optional do.
 #[cycle(advance_conjunction_disjunction_excluding_lead_least_pass_step)]
 fn lead(
     kids: &mut [u32],
     reader: &LeafReader<'_>,
     buffers: &mut PhraseBuffers<'_>,
-    required_end: usize,
-    need: u32,
+    n: Boolean,
     target: u32,
     depth: u32,
 ) -> u32
-    requires { LeadPre (lent_of reader.now) (room buffers.old) (other_room buffers.old) kids.old required_end target depth }
-    ensures lead_post { LeadPost (lent_of reader.now) kids.old required_end need target depth result kids.new }
+    requires { LeadPre (lent_of reader.now) (room buffers.old) (other_room buffers.old) kids.old n.required_end target depth }
+    ensures lead_post { LeadPost (lent_of reader.now) kids.old n.required_end n.need target depth result kids.new }
     ensures same_buffers { SameBuffers buffers.old buffers.new }
 {
-    if required_end == 0 {
-        if need == 0 {
+    if n.required_end == 0 {
+        if n.need == 0 {
             target
         } else {
-            disjunction(kids, reader, buffers, need, target, depth)
+            disjunction(kids, reader, buffers, n.need, target, depth)
         }
     } else {
-        conjunction(kids, reader, buffers, required_end, need, target, depth)
+        conjunction(kids, reader, buffers, n, target, depth)
     }
 }
 
 // Passes until one moves nothing.
-// Kept: seven parameters, as in `lead`.
 #[cycle(advance_conjunction_disjunction_excluding_lead_least_pass_step)]
 fn conjunction(
     kids: &mut [u32],
     reader: &LeafReader<'_>,
     buffers: &mut PhraseBuffers<'_>,
-    required_end: usize,
-    need: u32,
+    n: Boolean,
     target: u32,
     depth: u32,
 ) -> u32
-    requires { LeadPre (lent_of reader.now) (room buffers.old) (other_room buffers.old) kids.old required_end target depth }
-    ensures lead_post { LeadPost (lent_of reader.now) kids.old required_end need target depth result kids.new }
+    requires { LeadPre (lent_of reader.now) (room buffers.old) (other_room buffers.old) kids.old n.required_end target depth }
+    ensures lead_post { LeadPost (lent_of reader.now) kids.old n.required_end n.need target depth result kids.new }
     ensures same_buffers { SameBuffers buffers.old buffers.new }
 {
     let mut d = target;
     // Kept: each turn begins where the answer of the one before lies; a loop is plainer than an iterator of such steps.
     loop {
-        let e = step(kids, reader, buffers, required_end, need, d, depth);
+        let e = step(kids, reader, buffers, n, d, depth);
         if e == d {
             return d;
         }
@@ -217,30 +211,29 @@ fn conjunction(
 }
 
 // One pass over the required children and then, where some are needed, the optional.
-// Kept: seven parameters, as in `lead`.
 #[cycle(advance_conjunction_disjunction_excluding_lead_least_pass_step)]
 fn step(
     kids: &mut [u32],
     reader: &LeafReader<'_>,
     buffers: &mut PhraseBuffers<'_>,
-    required_end: usize,
-    need: u32,
+    n: Boolean,
     target: u32,
     depth: u32,
 ) -> u32
-    requires { LeadPre (lent_of reader.now) (room buffers.old) (other_room buffers.old) kids.old required_end target depth }
-    ensures step_post { StepPost (lent_of reader.now) kids.old required_end need target depth result kids.new }
+    requires { LeadPre (lent_of reader.now) (room buffers.old) (other_room buffers.old) kids.old n.required_end target depth }
+    ensures step_post { StepPost (lent_of reader.now) kids.old n.required_end n.need target depth result kids.new }
     ensures same_buffers { SameBuffers buffers.old buffers.new }
 {
-    let e = pass(&mut kids[..required_end], reader, buffers, target, depth);
-    if need == 0 {
+    let end = n.required_end;
+    let e = pass(&mut kids[..end], reader, buffers, target, depth);
+    if n.need == 0 {
         e
     } else {
-        disjunction(&mut kids[required_end..], reader, buffers, need, e, depth)
+        disjunction(&mut kids[end..], reader, buffers, n.need, e, depth)
     }
 }
 
-// Each child in turn, cheapest first, advanced to where the one before it got; phrases as `ask_phrase` says. The part of a term or a range is one record: its end is known without its size word.
+// Each child in turn, cheapest first, advanced to where the one before it got; phrases as `ask_phrase` says.
 #[cycle(advance_conjunction_disjunction_excluding_lead_least_pass_step)]
 fn pass(
     kids: &mut [u32],
@@ -255,34 +248,24 @@ fn pass(
 {
     let mut d = target;
     let mut at = 0;
-    // Kept: parts differ in length, each says itself where the next one begins, and std has no iterator over such parts.
+    // Kept: no plainer: parts differ in length and are lent for writing, so an iterator would hold `kids` and `at` itself.
     while at < kids.len() {
         let child = child_at(kids, at);
+        let end = child.end;
         match child.kind {
-            NodeKind::Term => {
-                let end = at + NODE_STATE_WORDS;
-                d = advance_term(&mut kids[at..end], reader.postings, d);
-                at = end;
-            }
-            NodeKind::Range => {
-                let end = at + NODE_STATE_WORDS;
-                d = advance_range(&mut kids[at..end], reader.ranges, d);
-                at = end;
-            }
+            NodeKind::Term => d = advance_term(&mut kids[at..end], reader.postings, d),
+            NodeKind::Range => d = advance_range(&mut kids[at..end], reader.ranges, d),
             _ => {
-                let end = child.end;
                 if d < child.cached {
                     d = child.cached - 1;
-                    at = end;
                 } else if child.kind == NodeKind::Phrase {
                     d = ask_phrase(&mut kids[at..end], reader, buffers, target, d);
-                    at = end;
                 } else {
                     d = advance(&mut kids[at..end], reader, buffers, d, depth);
-                    at = end;
                 }
             }
         }
+        at = end;
     }
     d
 }
@@ -310,11 +293,10 @@ fn disjunction(
         if d == NO_MORE_DOCS {
             return d;
         }
-        if x.count < enough {
-            t = d + 1;
-        } else {
+        if enough <= x.count {
             return d;
         }
+        t = d + 1;
     }
 }
 
@@ -331,36 +313,27 @@ fn least(
     ensures least_post { LeastPost (lent_of reader.now) kids.old target depth result.doc result.count kids.new }
     ensures same_buffers { SameBuffers buffers.old buffers.new }
 {
-    let mut best = NO_MORE_DOCS;
-    let mut count = 0;
+    let mut least = Standing {
+        doc: NO_MORE_DOCS,
+        count: 0,
+    };
     let mut at = 0;
-    // Kept: parts differ in length, each says itself where the next one begins, and std has no iterator over such parts.
+    // Kept: no plainer: parts differ in length and are lent for writing, so an iterator would hold `kids` and `at` itself.
     while at < kids.len() {
         let child = child_at(kids, at);
+        let end = child.end;
         match child.kind {
             NodeKind::Term => {
-                let end = at + NODE_STATE_WORDS;
                 let d = advance_term(&mut kids[at..end], reader.postings, target);
-                let x = tally(best, count, d);
-                best = x.doc;
-                count = x.count;
-                at = end;
+                least = least.with(d);
             }
-            _ if target < child.cached => {
-                let x = tally(best, count, child.cached - 1);
-                best = x.doc;
-                count = x.count;
-                at = child.end;
-            }
+            _ if target < child.cached => least = least.with(child.cached - 1),
             _ => {
-                let end = child.end;
                 let d = advance(&mut kids[at..end], reader, buffers, target, depth);
-                let x = tally(best, count, d);
-                best = x.doc;
-                count = x.count;
-                at = end;
+                least = least.with(d);
             }
         }
+        at = end;
     }
-    Standing { doc: best, count }
+    least
 }

@@ -1,7 +1,7 @@
 -- What Search and Page answer and leave in their outputs, refused or not. Assumes nothing.
 use mathlib.Core.Path.{◌≡◌, refl, ap, ◌∙◌, subst}
 use mathlib.Core.List.{List, [], ◌∷◌, ◌++◌, map}
-use Prim.Native.Nat.{ℕ, ◌≤◌}
+use Prim.Native.Nat.{ℕ}
 use native.Mathlib.Omega.{arith}
 use lib.ListN.{length, take, drop, length-take}
 use lib.IntN.{ℤ}
@@ -24,24 +24,19 @@ use Rattle.refusal.specs.Numbers.{number_of}
 use Rattle.order_check.proofs.Answered.{number-above}
 use Rattle.order_check.proofs.CallConditions.{Searches, search-lends, Pages, page-lends}
 use Rattle.node_state.specs.Standing.{Standing}
-use Rattle.searcher.specs.Answers.{searched_numbers, paged_numbers, used}
+use Rattle.searcher.specs.Answers.{searched_numbers, paged_numbers}
 use Rattle.searcher.specs.declared.buffers.Buffers.{Buffers}
 use Rattle.searcher.specs.WorkBuffers.{lengths_of, KeptBuffers, SameBuffers}
 use Rattle.searcher.proofs.Preparing.{untouched, not-kept, unmoved}
 use Rattle.meaning.proofs.Lowest.{answered-refused, answered-accepted}
 
--- a call uses no more records than there are
-pub used-least : {T : Type 0} (a : Result T Refusal) (n : ℕ) → used a n ≤ n
-used-least (Err _) n = omega arith
-used-least (Ok _) n = omega arith
-
 -- ---- Search
-module _ (ix : Index) (q : List ℕ) (k t : ℕ) (b : Buffers) (buffer : List ℤ) where
+module _ (ix : Index) (q : List ℕ) (k t : ℕ) (b : Buffers ℕ) (buffer : List ℤ) where
   abbrev found : ℕ
   found = search_refusal ix q k (lengths_of b) (length buffer)
 
   -- what a call promises
-  abbrev pub Searched : Buffers → List ℤ → Result TopDocs Refusal → Type 0
+  abbrev pub Searched : Buffers ℕ → List ℤ → Result TopDocs Refusal → Type 0
   Searched b' buffer' r = record {
     result_value : searched_numbers r ≡ search_answer ix q k t (lengths_of b) (length buffer);
     hits_after : buffer' ≡ search_hits ix q k (lengths_of b) buffer;
@@ -71,7 +66,7 @@ module _ (ix : Index) (q : List ℕ) (k t : ℕ) (b : Buffers) (buffer : List �
     search-known = search-lends ix q k (lengths_of b) (length buffer) 0 accepted refl
 
     -- the hits stand in the first k places
-    pub search-found : (b' : Buffers) → SameBuffers b b' → Standing ix q b'.ranges.now b'.states.now no_more_docs → (top : TopDocs) (out : List ℤ) → top ≡ answer (length (take k buffer)) t (full_list ix (query_tree q)) → out ≡ written (hits (length (take k buffer)) (full_list ix (query_tree q))) (take k buffer) → Searched b' (out ++ drop k buffer) (Ok top)
+    pub search-found : (b' : Buffers ℕ) → SameBuffers b b' → Standing ix q b'.ranges.now b'.states.now no_more_docs → (top : TopDocs) (out : List ℤ) → top ≡ answer (length (take k buffer)) t (full_list ix (query_tree q)) → out ≡ written (hits (length (take k buffer)) (full_list ix (query_tree q))) (take k buffer) → Searched b' (out ++ drop k buffer) (Ok top)
     unfolding searched_numbers search_answer search_hits
     search-found b' s stands top out f g =
         let l = search-known.room in
@@ -86,7 +81,7 @@ module _ (ix : Index) (q : List ℕ) (k t : ℕ) (b : Buffers) (buffer : List �
         }
 
 -- ---- Page
-module _ (ix : Index) (q : List ℕ) (target : ℕ) (b : Buffers) (docs bits : List ℕ) where
+module _ (ix : Index) (q : List ℕ) (target : ℕ) (b : Buffers ℕ) (docs bits : List ℕ) where
   abbrev refused : ℕ
   refused = page_refusal ix q target (lengths_of b) (length docs) (length bits)
 
@@ -100,7 +95,7 @@ module _ (ix : Index) (q : List ℕ) (target : ℕ) (b : Buffers) (docs bits : L
   given = 0 ∷ length (page_of ix q target (length docs)).given ∷ (page_of ix q target (length docs)).next ∷ []
 
   -- what a call promises
-  abbrev pub Paged : Buffers → List ℕ → List ℕ → Result Listed Refusal → Type 0
+  abbrev pub Paged : Buffers ℕ → List ℕ → List ℕ → Result Listed Refusal → Type 0
   Paged b' docs' bits' r = record {
     result_value : paged_numbers r ≡ page_answer ix q target (lengths_of b) (length docs) (length bits);
     documents_after : docs' ≡ page_documents ix q target (lengths_of b) docs bits;
@@ -131,7 +126,7 @@ module _ (ix : Index) (q : List ℕ) (target : ℕ) (b : Buffers) (docs bits : L
     pub page-known : Pages ix q target (lengths_of b) (length docs) (length bits)
     page-known = page-lends ix q target (lengths_of b) (length docs) (length bits) 0 page-accepted refl
 
-    pub page-given : (b' : Buffers) → SameBuffers b b' → (l : Listed) → Standing ix q b'.ranges.now b'.states.now l.next → (docs' bits' : List ℕ) → PageIs (page_of ix q target (length docs)) docs bits l docs' bits' → Paged b' docs' bits' (Ok l)
+    pub page-given : (b' : Buffers ℕ) → SameBuffers b b' → (l : Listed) → Standing ix q b'.ranges.now b'.states.now l.next → (docs' bits' : List ℕ) → PageIs (page_of ix q target (length docs)) docs bits l docs' bits' → Paged b' docs' bits' (Ok l)
     unfolding paged_numbers page_answer page_documents page_scores
     page-given b' s l stands docs' bits' p =
         record {

@@ -3,7 +3,7 @@ use mathlib.Core.Path.{◌≡◌, refl, sym, ap, ◌∙◌, subst}
 use mathlib.Core.Logic.{⊎_elim}
 use mathlib.Core.Bool.{Bool, true, false, not, ◌||◌}
 use mathlib.Core.List.{List, [], ◌∷◌, ◌++◌, map}
-use Prim.Native.Nat.{ℕ, zero, suc, ◌*◌, ◌≤◌, ◌<◌}
+use Prim.Native.Nat.{ℕ, ◌*◌, ◌≤◌}
 use native.Mathlib.Nat.{eq-or-lt_of_le}
 use native.Mathlib.Omega.{arith}
 use borrow.Author.Tests.{lt-ltb, le-ltb, ltb-true, ltb-false}
@@ -94,15 +94,6 @@ module _ (ix : Index) (q : List ℕ) (v w : Work) where
     pub page-scores-by : page_scores ix q target v documents scores ≡ page_scores ix q target w documents scores
     unfolding page_scores
     page-scores-by = ap (λ (z : ℕ). answered z (written (map (λ h. to_bits binary32 h.score) (page_of ix q target (length documents)).given) scores) (λ i. scores)) e
-
--- one number alone is a refused call's answer, and several are an accepted one's
-pub refused-alone : (z x v : ℕ) (vs : List ℕ) → (x ∷ []) ≡ answered z (0 ∷ v ∷ vs) (λ m. m ∷ []) → z ≡ 0 → ⊥
-refused-alone zero x v vs e h = let l = ap length e in absurd (omega (arith, l))
-refused-alone (suc z) x v vs e h = absurd (omega (arith, h))
-
-pub found-several : (z v : ℕ) (vs ys : List ℕ) → (0 ∷ v ∷ vs) ≡ answered z ys (λ m. m ∷ []) → 0 < z → ⊥
-found-several zero v vs ys e h = absurd (omega (arith, h))
-found-several (suc z) v vs ys e h = let l = ap length e in absurd (omega (arith, l))
 
 -- ---- the tree in the words of records
 module _ (ix : Index) (q ranges words more : List ℕ) (from : ℕ) where

@@ -2,3 +2,4 @@
 pub mod Preparing
 pub mod Answering
 pub mod Fewer
+pub mod OnRecords

@@ -45,18 +45,18 @@ use Rattle.order_check.specs.Lends.{work}
 
 -- ---- the work buffers
 -- not written yet
-pub untouched : (n : ℕ) (b : Buffers) → KeptBuffers n b b
+pub untouched : (n : ℕ) (b : Buffers ℕ) → KeptBuffers n b b
 untouched n b = record { states = λ h. refl; starts = λ h. refl; other_starts = λ h. refl; ranges = λ h. refl }
 
 -- in a call that is not refused
-pub not-kept : (n : ℕ) (b b' : Buffers) → (0 < n → ⊥) → KeptBuffers n b b'
+pub not-kept : (n : ℕ) (b b' : Buffers ℕ) → (0 < n → ⊥) → KeptBuffers n b b'
 not-kept n b b' h = record { states = λ z. absurd (h z); starts = λ z. absurd (h z); other_starts = λ z. absurd (h z); ranges = λ z. absurd (h z) }
 
-pub unmoved : (b : Buffers) → SameBuffers b b
+pub unmoved : (b : Buffers ℕ) → SameBuffers b b
 unmoved b = record { lengths = refl; states = refl; starts = refl; other_starts = refl; ranges = refl }
 
 -- after two calls
-pub moved-on : (a b c : Buffers) → SameBuffers a b → SameBuffers b c → SameBuffers a c
+pub moved-on : (a b c : Buffers ℕ) → SameBuffers a b → SameBuffers b c → SameBuffers a c
 moved-on a b c s t = record {
   lengths = t.lengths ∙ s.lengths;
   states = t.states ∙ s.states;

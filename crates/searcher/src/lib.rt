@@ -5,6 +5,7 @@ pub mod buffers;
 pub mod length;
 pub mod page;
 mod reader;
+pub mod records;
 pub mod resume;
 pub mod search;
 mod tables;

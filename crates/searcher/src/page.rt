@@ -16,11 +16,13 @@ use crate::reader::reader_of;
 use crate::tables::over_inverses;
 use index::lent::Lent;
 use leaf_scorer::PhraseBuffers;
+use query::MAX_DEPTH;
 use refusal::Refusal;
 use walk::Listed;
 
 // The live matches of the tree from a document on.
-// Kept: slices and no `Buffers`: tried, and the proof of `list_by` with the reader in it did not close: over the index and a field's slice of `Buffers` it has two lifetimes, which the borrow checker does not cover.
+// Kept: slices and no `Buffers`: tried, and the proof of `list_by` with the reader in it did not close: over the index and a field's slice of
+// `Buffers` it has two lifetimes, which the borrow checker does not cover.
 fn list_tree(
     lent: &Lent,
     inverses: &[f32],
@@ -40,11 +42,19 @@ fn list_tree(
         starts,
         other_starts,
     };
-    walk::list(tree, &reader, &mut buffers, from, 16, documents, scores)
+    walk::list(
+        tree,
+        &reader,
+        &mut buffers,
+        from,
+        MAX_DEPTH,
+        documents,
+        scores,
+    )
 }
 
 // The page of the walk that goes on from the tree in the node states, over the inverses of the order's fields.
-// Kept: the six parameters of Page and the inverses.
+// Kept: no plainer: Page's own six, lent on, and the inverses; `query` stands for the clauses.
 fn list_by(
     lent: &Lent,
     query: &[u32],

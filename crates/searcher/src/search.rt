@@ -22,6 +22,7 @@ use crate::tables::over_inverses;
 use collector::{TopDocs, TopScoreDocCollector};
 use index::lent::Lent;
 use leaf_scorer::PhraseBuffers;
+use query::MAX_DEPTH;
 use refusal::Refusal;
 
 // The live documents that the tree matches to the collector.
@@ -49,7 +50,7 @@ fn collect(
         tree,
         &reader,
         &mut buffers,
-        16,
+        MAX_DEPTH,
         0, // one index: its documents keep their numbers
         collector,
         heap,

@@ -24,9 +24,12 @@ const AVERAGES: [u32; 6] = [
 ];
 
 // Boosts and idfs, which make four weights: 1, small, odd and large.
-const BOOSTS: [u32; 4] = [0x3f80_0000, 0x3dcc_cccd, 0x4060_0001, 0x4780_0000];
-
-const IDFS: [u32; 4] = [0x3f80_0000, 0x3e93_4b11, 0x40e3_f7cf, 0x427f_ffff];
+const WEIGHTS: [(u32, u32); 4] = [
+    (0x3f80_0000, 0x3f80_0000),
+    (0x3dcc_cccd, 0x3e93_4b11),
+    (0x4060_0001, 0x40e3_f7cf),
+    (0x4780_0000, 0x427f_ffff),
+];
 
 const FREQUENCIES: [u32; 4] = [1, 2, 7, 16_777_216];
 
@@ -108,8 +111,8 @@ fn weight_scores(out: &mut impl Write, cache: &[f32; 256], weight: f32) -> io::R
 }
 
 fn print_scores(out: &mut impl Write, cache: &[f32; 256]) -> io::Result<()> {
-    for (boost, idf) in BOOSTS.iter().zip(&IDFS) {
-        weight_scores(out, cache, Bm25::weight(f32::of(*boost), f32::of(*idf)))?;
+    for (boost, idf) in WEIGHTS {
+        weight_scores(out, cache, Bm25::weight(f32::of(boost), f32::of(idf)))?;
     }
     Ok(())
 }

@@ -15,6 +15,7 @@ use Rattle.meaning.specs.Tokens.{Token, token_at, positions_at, posting_for, run
 use Rattle.meaning.proofs.Below.{last-or-below, length-list_to}
 use Rattle.meaning.proofs.Sums.{sum_same, sum-none, sum-plus, sum_one}
 use Rattle.meaning.proofs.Tests.{decided, cmp}
+use Rattle.index.proofs.Chains.{count-like}
 use Rattle.packed.proofs.Longer.{positions-append}
 use Rattle.token_index.proofs.Positions.{tokens_to, is_at, not-here, at_leaf, at-document, at-nil, at_next, at-grows, at-longer, at_same, at_none, at_some}
 
@@ -166,11 +167,6 @@ run-number p (suc n) ts l =
     one : (b : Bool) → length (cond b (posting_for p ts l n ∷ []) []) ≡ cond b 1 0
     one true = refl
     one false = refl
-
-count-like : (n : ℕ) (p q : ℕ → Bool) → ((i : ℕ) → i < n → p i ≡ q i) → count_below n p ≡ count_below n q
-unfolding count_below
-count-like zero p q h = refl
-count-like (suc n) p q h = ap₂ (λ (a : ℕ) (b : Bool). a + cond b 1 0) (count-like n p q (λ i l. h i (omega arith))) (h n (le_refl _))
 
 count-more-of : (n : ℕ) (p q : ℕ → Bool) → ((i : ℕ) → i < n → p i ≡ true → q i ≡ true) → count_below n p ≤ count_below n q
 unfolding count_below

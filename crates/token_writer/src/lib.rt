@@ -10,8 +10,9 @@ ghost use Rattle.meaning.specs.TokenRefusals.{wrong15, wrong16, write_answer};
 ghost use Rattle.tokens.specs.Counts.{Counts};
 ghost use Rattle.token_writer.specs.Answers.{written_numbers, outputs, WritesIndex};
 
+use index::postings::POSTING;
 use index::{fields, norms};
-use postings::{POSTING_WORDS, RUN_WORDS};
+use postings::RUN_WORDS;
 use refusal::Refusal;
 use tokens::{Numbers, TokenRecords};
 
@@ -30,9 +31,9 @@ fn outputs_short(records: TokenRecords, numbers: Numbers, room: Outputs) -> bool
     requires counts { Counts records.fields.now records.leaf_fields.now records.tokens.now numbers }
     ensures { result ≡ wrong16 records.entry.max_doc records.entry.fields.now records.entry.leaf_fields.now records.entry.tokens.now (outputs room.norms room.postings room.positions room.runs) }
 {
-    let number = records.fields.len() / 3;
+    let number = fields::field_count(records.fields);
     (room.norms < norms::norms_offset(records.max_doc, records.fields, number))
-        | (room.postings < POSTING_WORDS * numbers.postings)
+        | (room.postings < POSTING * numbers.postings)
         | (room.positions < numbers.positions)
         | (room.runs < RUN_WORDS * records.leaf_fields.len())
 }
@@ -55,7 +56,8 @@ pub fn accept(records: TokenRecords, room: Outputs) -> Result<Numbers, Refusal>
 }
 
 // Writes norms, postings, positions and runs, or refuses and leaves them.
-// Kept: the C interface lends four slices.
+// Kept: the C interface lends four slices, which its entry and the function of `border` hand on as they are; a struct of them would
+// be made there to be taken apart here.
 pub fn write_index(
     records: TokenRecords,
     norms: &mut [u8],
@@ -77,7 +79,7 @@ pub fn write_index(
         records.max_doc,
         records.fields,
         records.leaf_fields,
-        &postings[..POSTING_WORDS * numbers.postings],
+        &postings[..POSTING * numbers.postings],
         &runs[..RUN_WORDS * records.leaf_fields.len()],
         norms,
     );

@@ -5,11 +5,9 @@ ghost use Rattle.meaning.specs.Below.{list_to};
 ghost use Rattle.meaning.specs.Tokens.{token_count, token_at};
 ghost use Rattle.token_writer.specs.Writing.{PostingsPre, PostingsPost, RunPre, RunPost, RunsPre, RunsPost};
 
-use tokens::{TokenRecords, token_at};
+use tokens::{TokenRecords, token_at, token_count};
 
-// Words of a posting, and of a leaf's run: first posting, number of postings.
-pub const POSTING_WORDS: usize = 3;
-
+// The words of a leaf's run: first posting, number of postings.
 pub const RUN_WORDS: usize = 2;
 
 // The positions of the tokens from one on.
@@ -32,7 +30,7 @@ fn write_record<const N: usize>(words: &mut [u32], number: usize, values: [u32; 
 }
 
 // A number where the field has positions, else 0.
-// Kept: no plainer: the flag is what the leaf's field is, and each use takes a number by it.
+// Kept: no plainer as an Option: the flag is of the leaf's field, and the number another at each use.
 fn where_positional(positional: bool, number: usize) -> usize
     ensures { result ≡ cond positional number 0 }
 {
@@ -49,6 +47,7 @@ pub struct Cursor {
 
 // The postings of a leaf, whose tokens begin at the cursor, behind those that are written. A posting is written again with each
 // of its tokens, so that no branch hangs on where it ends.
+// Kept: no plainer: no switch, here and in `write_run`: whether the leaf's field has positions is a number in the sum of what is written.
 fn write_postings(
     records: TokenRecords,
     at: Cursor,
@@ -62,7 +61,7 @@ fn write_postings(
     let mut end = at;
     let mut start = at.token;
     let mut before = None;
-    for token in at.token..records.tokens.len() / 3 {
+    for token in at.token..token_count(records.tokens) {
         let here = token_at(records.tokens, token);
         if here.leaf != leaf {
             break;

@@ -8,13 +8,12 @@ ghost use Rattle.meaning.specs.TokenRefusals.{wrong_token, wrong_leaf_field, wro
 ghost use Rattle.tokens.specs.Records.{token_of};
 ghost use Rattle.tokens.specs.Counts.{begins_posting, Counts};
 
+use index::leaves::MAX_LEAVES;
 use index::{fields, postings};
 use refusal::Refusal;
 
-// The limits of the request: 16,777,216 tokens; of document 01: 512 leaves.
+// The limit of the request: 16,777,216 tokens.
 const MAX_TOKENS: usize = 16777216;
-
-const MAX_LEAVES: usize = 512;
 
 // A token's record by value. Tokens are in the order of its fields.
 #[derive(Clone, Copy, PartialEq, Eq, PartialOrd, Ord)]
@@ -22,6 +21,13 @@ pub struct Token {
     pub leaf: u32,
     pub document: u32,
     pub position: u32,
+}
+
+// How many whole tokens there are.
+pub fn token_count(tokens: &[u32]) -> usize
+    ensures { result ≡ token_count tokens.now }
+{
+    tokens.len() / 3
 }
 
 // Token number i.
@@ -106,7 +112,7 @@ impl TokenRecords<'_> {
     {
         let mut postings = 0;
         let mut positions = 0;
-        for i in 0..self.tokens.len() / 3 {
+        for i in 0..token_count(self.tokens) {
             if self.wrong_token(i) {
                 return Err(Refusal::Tokens);
             }
@@ -124,7 +130,7 @@ impl TokenRecords<'_> {
     fn wrong_leaf_fields(self) -> bool
         ensures { result ≡ any_below (length self.entry.leaf_fields.now) (wrong_leaf_field self.entry.fields.now self.entry.leaf_fields.now) }
     {
-        let number = self.fields.len() / 3;
+        let number = fields::field_count(self.fields);
         self.leaf_fields.iter().any(|f| *f as usize >= number)
     }
 
@@ -135,7 +141,7 @@ impl TokenRecords<'_> {
         ensures counts { IfOk result (Counts self.entry.fields.now self.entry.leaf_fields.now self.entry.tokens.now) }
     {
         if (self.tokens.len() % 3 != 0)
-            | (self.tokens.len() / 3 > MAX_TOKENS)
+            | (token_count(self.tokens) > MAX_TOKENS)
             | (self.leaf_fields.len() > MAX_LEAVES)
             | self.wrong_leaf_fields()
         {

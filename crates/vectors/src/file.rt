@@ -37,11 +37,16 @@ pub fn read_all(file: &mut impl Read, bytes: &mut [u8]) -> Result<usize, usize>
     Ok(done)
 }
 
+// So many of a list from the first one on; none where they aren't within it.
+fn part<T>(list: &[T], first: u32, number: u32) -> &[T] {
+    let begin = first as usize;
+    let end = begin + number as usize;
+    list.get(begin..end).unwrap_or(&[])
+}
+
 // The list that stands at `place`, its first word + 65,536 × its length; none where it isn't within the file.
 pub fn list(file: &[u32], place: u32) -> &[u32] {
-    let first = (place % 65536) as usize;
-    let end = first + (place / 65536) as usize;
-    file.get(first..end).unwrap_or(&[])
+    part(file, place % 65536, place / 65536)
 }
 
 // The records of N words that a file begins with, behind their number.
@@ -58,9 +63,7 @@ pub fn records<const N: usize>(file: &[u32]) -> &[[u32; N]]
 
 // The bytes that stand at `place`, their first word + 65,536 × their number; none where they aren't within the file.
 pub fn bytes_at(bytes: &[u8], place: u32) -> &[u8] {
-    let first = 4 * (place % 65536) as usize;
-    let end = first + (place / 65536) as usize;
-    bytes.get(first..end).unwrap_or(&[])
+    part(bytes, 4 * (place % 65536), place / 65536)
 }
 
 // Words of 64 bits from pairs of words, the low half first, as many as both slices have room for: those that were read.

@@ -42,7 +42,8 @@ impl Format for f32 {
     }
 }
 
-// Kept: no plainer: the two differ in four constants, and the gate takes no impl that a macro of the repository wrote.
+// Kept: a rule of the project: the two differ in a type and three constants, and the gate takes no impl that a macro of the
+// repository wrote.
 impl Format for f64 {
     type Bits = u64;
 

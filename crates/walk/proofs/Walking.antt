@@ -3,7 +3,7 @@ use mathlib.Core.Path.{◌≡◌, refl, sym, ap, subst, ◌∙◌}
 use mathlib.Core.Logic.{⊎_elim}
 use mathlib.Core.Bool.{Bool, true, false, not, ◌&&◌}
 use mathlib.Core.List.{List, [], ◌∷◌, ◌++◌, map, append_assoc, append-nil}
-use Prim.Native.Nat.{ℕ, suc, ◌+◌, ◌*◌, ◌≤◌, ◌<◌, min}
+use Prim.Native.Nat.{ℕ, suc, ◌+◌, ◌≤◌, ◌<◌, min}
 use native.Mathlib.Nat.{le_refl, le_trans, eq-or-lt_of_le}
 use native.Mathlib.Omega.{arith}
 use lib.Dec.{T, ltb}
@@ -21,7 +21,7 @@ use Rattle.ieee754.proofs.Bounds.{atmost-number}
 use Rattle.index.specs.Slices.{live_only}
 use Rattle.weight.specs.ScorerTree.{Scorer, matches, scorer_score}
 use Rattle.weight.specs.Held.{Ok}
-use Rattle.scorer.specs.Calls.{Lent, lent_of, NodeHeld, AdvancePre, AdvancePost}
+use Rattle.scorer.specs.Calls.{Lent, lent_of, NodeHeld, AdvancePost}
 use Rattle.leaf_scorer.specs.declared.LeafReader.{LeafReader}
 use Rattle.leaf_score.specs.Asked.{LentAt, ScoreIs, ScorePre, ScorePost}
 use Rattle.walk.specs.Walks.{live_match, scored, live_scored, NextPre, NextPost, PageHeld, ListPre, PageIs, ListPost}
@@ -59,16 +59,7 @@ is-match ix s d l e m = rw (lt-ltb d ix.max_doc l, e, m)
 pub record WalkAt (E : Lent) (live st₀ : List ℕ) (from depth : ℕ) (st : List ℕ) (target : ℕ) : Type 0 where
   pub passed : (ix : Index) (places : ℕ) (s : Scorer) (scores : ℕ) → ix.live ≡ live → NodeHeld E ix places s depth scores st₀ from → ((d : ℕ) → from ≤ d → d < target → live_match ix s d ≡ false) × Ok ix E.ranges s depth scores st target
 
-pub walk_start : (E : Lent) (live st₀ : List ℕ) (from depth : ℕ) → WalkAt E live st₀ from depth st₀ from
-walk_start E live st₀ from depth = record { passed = λ ix places s scores e H. ((λ d a b. absurd (omega arith)), H.ok) }
-
 module _ {E : Lent} {live st₀ : List ℕ} {from depth : ℕ} {st : List ℕ} {target : ℕ} (I : WalkAt E live st₀ from depth st target) where
-  pub walk-asks : (a b a' b' : ℕ) → a' ≡ a → b' ≡ b → target ≤ no_more_docs → NextPre E live a b st₀ from depth → AdvancePre E a' b' st target depth
-  walk-asks a b a' b' p q m P =
-      let W = P.1 in
-      let H = W.6 in
-      (m, (W.0, W.1, W.2, W.3, record { in-a = omega (arith, W.4.in-a); in_b = omega (arith, W.4.in_b) }, record { lends = H.lends; sound = H.sound; ok = (I.passed W.0 W.1 W.2 W.3 W.5 H).1 }))
-
   module _ {d : ℕ} (st' : List ℕ) (post : AdvancePost E st target depth d st') where
     after : (ix : Index) (places : ℕ) (s : Scorer) (scores : ℕ) → ix.live ≡ live → NodeHeld E ix places s depth scores st₀ from → First (matches ix s) target d × Ok ix E.ranges s depth scores st' target
     after ix places s scores e H = post ix places s scores (record { lends = H.lends; sound = H.sound; ok = (I.passed ix places s scores e H).1 })
@@ -76,17 +67,8 @@ module _ {E : Lent} {live st₀ : List ℕ} {from depth : ℕ} {st : List ℕ} {
     before : (ix : Index) (places : ℕ) (s : Scorer) (scores : ℕ) → ix.live ≡ live → NodeHeld E ix places s depth scores st₀ from → (x : ℕ) → from ≤ x → x < d → live_match ix s x ≡ false
     before ix places s scores e H x a b = ⊎_elim (λ h. (I.passed ix places s scores e H).0 x a h) (λ h. not-match ix s x ((after ix places s scores e H).0.before x h b)) (cmp x target)
 
-    -- the node's answer is within reach
-    pub walk_top : (a b : ℕ) → NextPre E live a b st₀ from depth → d ≤ no_more_docs
-    walk_top a b P = let W = P.1 in (after W.0 W.1 W.2 W.3 W.5 W.6).0.top
-
     pub walk_from : (a b : ℕ) → NextPre E live a b st₀ from depth → target ≤ d
     walk_from a b P = let W = P.1 in (after W.0 W.1 W.2 W.3 W.5 W.6).0.from
-
-    pub walk-live : (a b : ℕ) → NextPre E live a b st₀ from depth → d < E.documents → 0 < length live → d < 64 * length live
-    walk-live a b P l h =
-        let W = P.1 in
-        subst (λ (w : List ℕ). d < 64 * length w) W.5 (W.6.lends.accepted.live_bit (subst (λ (w : List ℕ). 0 < length w) (sym W.5) h) d (subst (λ (i : ℕ). d < i) (sym W.6.lends.documents) l))
 
     pub walk-stop : from ≤ no_more_docs → target ≤ no_more_docs → E.documents ≤ d → NextPost E live st₀ from depth no_more_docs st'
     walk-stop m top l ix places s scores e H = (

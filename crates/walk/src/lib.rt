@@ -11,6 +11,7 @@ use leaf_scorer::{LeafReader, PhraseBuffers};
 pub use index::postings::NO_MORE_DOCS;
 
 // How many were written, and the next live match.
+// Kept: the C interface lends slices of places, so the number of those written stands beside them; `next` is NO_MORE_DOCS at the end, as `index` has it.
 #[derive(Clone, Copy, PartialEq, Eq)]
 pub struct Listed {
     pub given: usize,
@@ -18,6 +19,8 @@ pub struct Listed {
 }
 
 // The first live match at or after a document, or NO_MORE_DOCS.
+// Kept: no plainer as one struct of the two, here and below: of them only `buffers` is lent for writing; with the reader in it, each clause would
+// also say that it stays.
 pub fn next_match(
     st: &mut [u32],
     reader: &LeafReader<'_>,
@@ -44,7 +47,7 @@ pub fn next_match(
 }
 
 // The first live matches at or after a document with their scores' bits, as many as the outputs have places for.
-// Kept: no plainer: the two outputs are lent by the caller as two, and nothing else takes them together.
+// Kept: seven parameters: the C interface lends the two outputs as two, and they go through `searcher` and `node_page` as two.
 pub fn list(
     st: &mut [u32],
     reader: &LeafReader<'_>,

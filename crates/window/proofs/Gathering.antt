@@ -6,10 +6,10 @@ use native.Mathlib.Nat.{eq-or-lt_of_le}
 use Rattle.meaning.specs.Below.{any_below}
 use Rattle.meaning.proofs.Below.{any-add, any_none, any-more, last-or-below}
 use Rattle.meaning.proofs.Tests.{decided}
-use Rattle.run.specs.Run.{document_at}
+use Rattle.run.specs.Run.{document_at, Run}
 use Rattle.bits.specs.Bit.{bit}
 use Rattle.bits.proofs.Laws.{bit-zero}
-use Rattle.window.specs.Windows.{Ready, Gathers}
+use Rattle.window.specs.Windows.{Cursor, Gathers}
 
 -- two tests of equality with the same outcome
 pub same-test : (a b c d : ℕ) → (a ≡ b → c ≡ d) → (c ≡ d → a ≡ b) → eqb a b ≡ eqb c d
@@ -31,19 +31,19 @@ pub record Gathering (words : List ℕ) (stride first count base from i w : ℕ)
   pub passed : (j : ℕ) → j < i → document_at words stride first j < base + 64
   pub bits : (p : ℕ) → p < 64 → bit p w ≡ any_below i (λ j. eqb (document_at words stride first j) (base + p))
 
-module _ (words : List ℕ) (stride first count base from : ℕ) (r : Ready words stride first count base from) where
+module _ {words : List ℕ} {stride first count base from : ℕ} (run : Run words stride first count) (cursor : Cursor words stride first count base from) where
   pub gathering-start : Gathering words stride first count base from from 0
   gathering-start =
       record {
         begun = omega arith;
-        within = r.cursor.within;
-        passed = λ j h. omega (arith, r.cursor.passed j h);
-        bits = λ p h. bit-zero p ∙ sym (any_none from (λ j. eqb (document_at words stride first j) (base + p)) (λ j g. ne_eqb _ _ (λ (e : document_at words stride first j ≡ base + p). omega (arith, r.cursor.passed j g))));
+        within = cursor.within;
+        passed = λ j h. omega (arith, cursor.passed j h);
+        bits = λ p h. bit-zero p ∙ sym (any_none from (λ j. eqb (document_at words stride first j) (base + p)) (λ j g. ne_eqb _ _ (λ (e : document_at words stride first j ≡ base + p). omega (arith, cursor.passed j g))));
       }
 
   module _ (i w : ℕ) (s : Gathering words stride first count base from i w) (h : i < count) (d : ℕ) (here : d ≡ document_at words stride first i) where
     pub not-below : base ≤ d
-    not-below = omega (arith, here, r.cursor.ahead i s.begun h)
+    not-below = omega (arith, here, cursor.ahead i s.begun h)
 
     -- the document's bit was set
     pub gathering-more : (w' : ℕ) → d - base < 64 → ((q : ℕ) → bit q w' ≡ bit q w || eqb q (d - base)) → Gathering words stride first count base from (i + 1) w'
@@ -69,7 +69,7 @@ module _ (words : List ℕ) (stride first count base from : ℕ) (r : Ready word
     gathering-stops h d here l = gathering-done beyond
       where
         beyond : (j : ℕ) → i ≤ j → j < count → base + 64 ≤ document_at words stride first j
-        beyond j a b = ⊎_elim (λ (e : i ≡ j). omega (arith, here, ap (λ (k : ℕ). document_at words stride first k) e)) (λ (e : i < j). omega (arith, here, r.run.ascending i j e b)) (eq-or-lt_of_le a)
+        beyond j a b = ⊎_elim (λ (e : i ≡ j). omega (arith, here, ap (λ (k : ℕ). document_at words stride first k) e)) (λ (e : i < j). omega (arith, here, run.ascending i j e b)) (eq-or-lt_of_le a)
 
     pub gathering-ends : count ≤ i → Gathers words stride first count base from w i
     gathering-ends h = gathering-done (λ j a b. absurd (omega arith))

@@ -1,7 +1,7 @@
 -- The documents of a run in a window of 64, as bits. Assumes nothing: these are definitions.
 use Rattle.std.specs.Prelude.{◌≡◌, Bool, List, ℕ, ◌+◌, ◌≤◌, ◌<◌, eqb}
 use Rattle.meaning.specs.Below.{any_below}
-use Rattle.run.specs.Run.{document_at, Run}
+use Rattle.run.specs.Run.{document_at}
 use Rattle.bits.specs.Bit.{bit}
 
 -- a document is in the run
@@ -14,12 +14,7 @@ pub record Cursor (words : List ℕ) (stride first count d at : ℕ) : Type 0 wh
   pub passed : (i : ℕ) → i < at → document_at words stride first i < d
   pub ahead : (i : ℕ) → at ≤ i → i < count → d ≤ document_at words stride first i
 
--- what a gathering asks: the cursor stands at the window's first document
-pub record Ready (words : List ℕ) (stride first count base from : ℕ) : Type 0 where
-  pub run : Run words stride first count
-  pub cursor : Cursor words stride first count base from
-
--- and what it gives: the window's documents, and the cursor behind them
+-- what a gathering gives: the window's documents, and the cursor behind them
 pub record Gathers (words : List ℕ) (stride first count base from w at : ℕ) : Type 0 where
   pub bits : (p : ℕ) → p < 64 → bit p w ≡ in_run words stride first count (base + p)
   pub from-within : from ≤ at

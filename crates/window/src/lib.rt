@@ -1,9 +1,9 @@
 // The documents of a run in a window of 64, as bits.
 #![tactic(auto)]
 
-ghost use Rattle.window.specs.Windows.{Ready, Gathers};
+ghost use Rattle.window.specs.Windows.{Cursor, Gathers};
 
-use run::document;
+use run::Postings;
 
 // The bits, and where the cursor stands behind the window.
 #[derive(Clone, Copy)]
@@ -12,20 +12,15 @@ pub struct InWindow {
     pub at: usize,
 }
 
-pub fn gathered(
-    words: &[u32],
-    stride: usize,
-    first: usize,
-    number: usize,
-    from: usize,
-    base: u32,
-) -> InWindow
-    requires { Ready words.now stride first number base from }
-    ensures { Gathers words.now stride first number base from result.bits result.at }
+// The documents from a place on that lie in the window at base. Inlined, so that the run stays in registers.
+#[inline(always)]
+pub fn gathered(postings: Postings<'_>, from: usize, base: u32) -> InWindow
+    requires { Cursor postings.words.now postings.stride postings.first postings.count base from }
+    ensures { Gathers postings.entry.words.now postings.entry.stride postings.entry.first postings.entry.count base from result.bits result.at }
 {
     let mut w = 0;
-    for i in from..number {
-        let place = document(words, stride, first, i) - base;
+    for i in from..postings.count {
+        let place = postings.document(i) - base;
         if 64 <= place {
             return InWindow { bits: w, at: i };
         }
@@ -33,6 +28,6 @@ pub fn gathered(
     }
     InWindow {
         bits: w,
-        at: number,
+        at: postings.count,
     }
 }

@@ -1,17 +1,18 @@
 -- A child of a node that is asked by windows: what a question of its part needs, and what the answer says of it. Assumes nothing.
-use Rattle.std.proofs.Common.{get_or-take, get_or-drop, ◌≡◌, refl, sym, ap, ◌∙◌, subst, Bool, true, cond, ◌&&◌, List, ◌++◌, ℕ, ◌+◌, ◌-◌, ◌≤◌, ◌<◌, length, get_or, take, drop, length-take, length-drop, arith, get_or-append-add}
+use Rattle.std.proofs.Common.{◌≡◌, refl, sym, ap, ◌∙◌, subst, Bool, true, cond, ◌&&◌, List, ◌++◌, ℕ, ◌+◌, ◌-◌, ◌≤◌, ◌<◌, length, get_or, take, drop, length-take, length-drop, arith, get_or-append-add}
 use lib.ListN.{get_or-append}
-use Rattle.meaning.specs.Limits.{node_state_words, no_more_docs}
+use Rattle.meaning.specs.Limits.{node_state_words}
 use Rattle.meaning.specs.Lent.{Index}
 use Rattle.bits.specs.Bit.{bit}
-use Rattle.weight.specs.ScorerTree.{Scorer, Scorers, end, more}
+use Rattle.weight.specs.ScorerTree.{Scorer, Scorers, end, more, matches}
 use Rattle.weight.specs.Sound.{Lends, Sound, Sounds, nodes, nodes_of}
 use Rattle.leaf_scorer.specs.Calls.{lent}
 use Rattle.node.specs.Words.{ChildThere}
 use Rattle.window_words.specs.Windowed.{nowhere, places_of, Windowed}
-use Rattle.window_words.proofs.Laws.{windowed-less, windowed-long, windowed-size, windowed-kind, kind_of}
+use Rattle.window_words.proofs.Laws.{windowed-long, windowed-size, windowed-kind, kind_of}
 use Rattle.window_words.proofs.Parts.{Part, Each, Zip, View, zip-none, view, word-at, word-first, part}
-use Rattle.window_leaf.specs.Asks.{everywhere, NodeWindowed, NodeAnswers, BitsPre, TermPre, TermPost}
+use Rattle.window_leaf.specs.Asks.{NodeWindowed, NodeAnswers, BitsPre, TermPost}
+use Rattle.window_leaf.proofs.Nodes.{wanted-answers, wanted-windowed}
 use Rattle.window_bits.specs.Parts.{Called}
 
 -- ---- what is known of each child that is left
@@ -67,32 +68,20 @@ module _ {ix : Index} {R : List ℕ} {k base places : ℕ} {P Q : Part} (low : L
   child-node postings positions n h kind fresh end q l e i j = absurd (omega (arith, zip-none q, l))
   child-node postings positions n h kind fresh (more f s g) q l e i j = (s, cond f 1 0, child-held (view q) postings positions n h kind fresh e i j)
 
--- the first word of a child's part is its kind
-pub child-kind : (kids : List ℕ) (at e : ℕ) → ChildThere kids at → e ≡ at + get_or kids (at + 1) 0 → get_or (take (e - at) (drop at kids)) 0 0 ≡ get_or kids at 0
-child-kind kids at e c h = let z : at + 0 ≡ at = omega arith in get_or-take (e - at) (drop at kids) 0 0 (omega (arith, c.long, h)) ∙ get_or-drop at kids 0 0 ∙ ap (λ (i : ℕ). get_or kids i 0) z
-
 -- ---- what a call asks
 pub bits-pre : {n places a b base want : ℕ} (postings positions ranges : List ℕ) → Called (lent n postings positions ranges) places a b base want → (a' b' w : ℕ) → a' ≡ a → b' ≡ b → ((p : ℕ) → p < 64 → bit p w ≡ true → bit p want ≡ true) → (ix : Index) (q : List ℕ) (depth : ℕ) → (s : Scorer) × (scores : ℕ) × NodeWindowed (lent n postings positions ranges) ix places s depth scores q base → BitsPre (lent n postings positions ranges) a' b' q base w depth
 bits-pre {n} {places} {a} {b} {base} {want} postings positions ranges c a' b' w e f within ix q depth h =
     (c.small, (n, ix, places, h.0, h.1, λ p l t. c.wanted p l (within p l t), record { in-a = omega (arith, c.room.in-a, e); in_b = omega (arith, c.room.in_b, f) }, h.2))
 
-pub term-pre : (n : ℕ) (postings positions ranges : List ℕ) (base : ℕ) → base + 64 ≤ no_more_docs → (ix : Index) (places : ℕ) (q : List ℕ) (depth : ℕ) → get_or q 0 0 ≡ 1 → (s : Scorer) × (scores : ℕ) × NodeWindowed (lent n postings positions ranges) ix places s depth scores q base → TermPre postings q base
-term-pre n postings positions ranges base small ix places q depth kind h = (small, kind, (lent n postings positions ranges, refl, ix, places, h.0, depth, h.1, h.2))
-
 module _ {ix : Index} {R : List ℕ} {k base places : ℕ} {P Q : Part} (low : Low ix R k base P) {ss : Scorers} {kids : List ℕ} {at : ℕ} (postings positions : List ℕ) (n : ℕ) {a b want : ℕ} (called : Called (lent n postings positions R) places a b base want) (lends : Lends ix n postings positions) (kind : ℕ) (fresh : Fresh ix R k base kind P) (g : Scorers) (zip : Zip (AndKnown ix places P) Q ss g kids at) (l : at < length kids) (e : ℕ) (i : e ≡ at + get_or kids (at + 1) 0) (j : kind ≡ get_or kids at 0) where
   pub ask-node : (a' b' w : ℕ) → a' ≡ a → b' ≡ b → ((p : ℕ) → p < 64 → bit p w ≡ true → bit p want ≡ true) → BitsPre (lent n postings positions R) a' b' (take (e - at) (drop at kids)) base w k
   ask-node a' b' w f h within = bits-pre postings positions R called a' b' w f h within ix (take (e - at) (drop at kids)) k (child-node low postings positions n lends kind fresh g zip l e i j)
 
-  pub ask-term : kind ≡ 1 → TermPre postings (take (e - at) (drop at kids)) base
-  ask-term h = term-pre n postings positions R base called.small ix places (take (e - at) (drop at kids)) k (child-kind kids at e (child-there low g zip l) i ∙ sym j ∙ h) (child-node low postings positions n lends kind fresh g zip l e i j)
-
 -- ---- what a call answers: a term's answer, cut to what is wanted
 pub term-answers : (w : ℕ) (ys : List ℕ) {n : ℕ} {postings positions ranges q : List ℕ} {base depth t r : ℕ} → ((p : ℕ) → bit p r ≡ bit p w && bit p t) → TermPost postings q base t ys → NodeAnswers (lent n postings positions ranges) q base (places_of w) depth r ys
 term-answers w ys {n} {postings} {positions} {ranges} {q} {base} {depth} {t} {r} e post ix places s scores h =
-    let a = post (lent n postings positions ranges) depth refl ix places s scores h in (
-      record { bits = λ p l. e p ∙ ap (λ (x : Bool). bit p w && x) (a.0.bits p l); gap = a.0.gap; top = a.0.top },
-      windowed-less ix ranges s depth scores ys (base + 64) base everywhere (places_of w) (λ p l x. refl) a.1,
-    )
+    let a = post (lent n postings positions ranges) depth refl ix places s scores h in
+    (wanted-answers (matches ix s) base w t _ r a.0 e, wanted-windowed ix ranges s depth scores ys (base + 64) base w a.1)
 
 -- ---- words of a part that was put back
 pub word-back : (kids ys : List ℕ) (at e i : ℕ) → at ≤ length kids → i < length ys → get_or (take at kids ++ (ys ++ drop (e - at) (drop at kids))) (at + i) 0 ≡ get_or ys i 0

@@ -1,7 +1,7 @@
 -- The optional children: the loop that looks for one that matches, and the loop that counts those that match. Assumes nothing.
-use Rattle.std.proofs.Common.{◌≡◌, refl, sym, ap, ◌∙◌, subst, Bool, true, false, cond, ◌&&◌, ◌||◌, List, [], ◌∷◌, ◌++◌, ℕ, ◌+◌, ◌-◌, ◌^◌, ◌≤◌, ◌<◌, min, leb, ltb, lt-ltb, length, get_or, take, drop, arith, le_refl}
+use Rattle.std.proofs.Common.{◌≡◌, refl, sym, ap, ◌∙◌, subst, Bool, true, false, cond, ◌&&◌, ◌||◌, ◌⊎◌, inl, inr, List, [], ◌∷◌, ◌++◌, ℕ, ◌+◌, ◌-◌, ◌^◌, ◌≤◌, ◌<◌, min, leb, ltb, lt-ltb, le-leb, length, get_or, take, drop, arith, le_refl}
 use Rattle.std.proofs.lemmas.Bool.{false≢true, and_parts, or_from}
-use mathlib.Core.Bool.{and-false, or-false, or_assoc, and-or_distrib_left}
+use mathlib.Core.Bool.{and-true, and-false, or-false, or_assoc, and-or_distrib_left}
 use Rattle.meaning.specs.Limits.{no_more_docs}
 use Rattle.meaning.specs.Lent.{Index}
 use Rattle.bits.specs.Bit.{bit}
@@ -15,12 +15,12 @@ use Rattle.leaf_scorer.specs.Calls.{lent}
 use Rattle.leaf_scorer.specs.Buffers.{room, other_room, SameBuffers}
 use Rattle.node.specs.Words.{ChildThere}
 use Rattle.window_words.specs.Windowed.{Places, nowhere, places_of, optional_bound, AllWindowed}
-use Rattle.window_words.proofs.Laws.{windowed-less, windowed-mono, all-less, all-mono}
+use Rattle.window_words.proofs.Laws.{windowed-mono, all-less, all-mono}
 use Rattle.window_words.proofs.Parts.{Asked, all-each, each-all, Zip, zip-start, zip-none, zip-end, view, zip-next}
-use Rattle.window_leaf.specs.Asks.{Answers, NodeAnswers, BitsPre, TermPre}
+use Rattle.window_leaf.specs.Asks.{Answers, NodeAnswers, BitsPre}
 use Rattle.window_bits.specs.Parts.{CountsAre, Called, enough}
 use Rattle.window_bits.proofs.Matching.{matching-few, any-one, more-than, too-few}
-use Rattle.window_bits.proofs.Children.{AndKnown, each-known, Low, Fresh, child-there, ask-node, ask-term, stop-is, child-facts, child-held, part-length, word-back}
+use Rattle.window_bits.proofs.Children.{AndKnown, each-known, Low, Fresh, child-there, ask-node, stop-is, child-facts, child-held, part-length, word-back}
 
 module _ (ix : Index) (R : List ℕ) (k base : ℕ) where
   pub unasked-low : Low ix R k base (Asked ix R k base base nowhere)
@@ -44,9 +44,6 @@ module _ (ix : Index) (R : List ℕ) (k places base : ℕ) (D : Places) (ss g : 
   module _ (postings positions : List ℕ) (n : ℕ) {a b want : ℕ} (called : Called (lent n postings positions R) places a b base want) (lends : Lends ix n postings positions) (e : ℕ) (i : e ≡ at + get_or kids (at + 1) 0) where
     pub walk_node : (a' b' w : ℕ) → a' ≡ a → b' ≡ b → ((p : ℕ) → p < 64 → bit p w ≡ true → bit p want ≡ true) → BitsPre (lent n postings positions R) a' b' (take (e - at) (drop at kids)) base w k
     walk_node = ask-node (unasked-low ix R k base) postings positions n called lends (get_or kids at 0) (unasked-fresh ix R k base (get_or kids at 0)) g zip l e i refl
-
-    pub walk_term : get_or kids at 0 ≡ 1 → TermPre postings (take (e - at) (drop at kids)) base
-    walk_term = ask-term (unasked-low ix R k base) postings positions n called lends (get_or kids at 0) (unasked-fresh ix R k base (get_or kids at 0)) g zip l e i refl
 
 -- ---- one that matches
 pub record AnyLeft (ix : Index) (R : List ℕ) (k places base want : ℕ) (ss : Scorers) (kids : List ℕ) (w next at : ℕ) (g : Scorers) : Type 0 where
@@ -90,9 +87,6 @@ module _ {ix : Index} {R : List ℕ} {k places base want : ℕ} {ss : Scorers} {
     module _ {postings positions : List ℕ} {n e : ℕ} (lends : Lends ix n postings positions) (i : e ≡ at + get_or kids (at + 1) 0) where
       pub any-node : {b b' : PhraseBuffers} → Called (lent n postings positions R) places (room b) (other_room b) base want → SameBuffers b b' → BitsPre (lent n postings positions R) (room b') (other_room b') (take (e - at) (drop at kids)) base want k
       any-node called s = walk_node ix R k places base (places_of want) ss q.g kids at q.left.zip l postings positions n called lends e i _ _ want s.starts_length s.other_starts_length (λ p b t. t)
-
-      pub any-term : {a b : ℕ} → Called (lent n postings positions R) places a b base want → get_or kids at 0 ≡ 1 → TermPre postings (take (e - at) (drop at kids)) base
-      any-term called = walk_term ix R k places base (places_of want) ss q.g kids at q.left.zip l postings positions n called lends e i
 
   module _ {e : ℕ} (i : e ≡ at + get_or kids (at + 1) 0) {postings positions : List ℕ} {n : ℕ} (lends : Lends ix n postings positions) (r : ℕ) (ys : List ℕ) {w' next' : ℕ} (m : length ys ≡ length (take (e - at) (drop at kids))) {kids' : List ℕ} (is' : kids' ≡ take at kids ++ (ys ++ drop (e - at) (drop at kids))) (j : next' ≡ min next (get_or kids' (at + 22) 0)) (o : (p : ℕ) → bit p w' ≡ (bit p w || bit p r)) (ans : NodeAnswers (lent n postings positions R) (take (e - at) (drop at kids)) base (places_of want) k r ys) where
     one-took : (g : Scorers) → AnyLeft ix R k places base want ss kids w next at g → at < length kids → AnyAt ix R k places base want ss (take at kids ++ (ys ++ drop (e - at) (drop at kids))) w' next' e
@@ -173,10 +167,7 @@ module _ {ix : Index} {R : List ℕ} {k places base want : ℕ} {ss : Scorers} {
       pub count-node : {b b' : PhraseBuffers} → Called (lent n postings positions R) places (room b) (other_room b) base want → SameBuffers b b' → BitsPre (lent n postings positions R) (room b') (other_room b') (take (e - at) (drop at kids)) base want k
       count-node called s = walk_node ix R k places base (places_of want) ss q.g kids at q.left.zip l postings positions n called lends e i _ _ want s.starts_length s.other_starts_length (λ p b t. t)
 
-      pub count-term : {a b : ℕ} → Called (lent n postings positions R) places a b base want → get_or kids at 0 ≡ 1 → TermPre postings (take (e - at) (drop at kids)) base
-      count-term called = walk_term ix R k places base (places_of want) ss q.g kids at q.left.zip l postings positions n called lends e i
-
-  module _ (few : nodes_of ss ≤ 255) {e : ℕ} (i : e ≡ at + get_or kids (at + 1) 0) {postings positions : List ℕ} {n : ℕ} (lends : Lends ix n postings positions) (D : Places) (among : (p : ℕ) → p < 64 → bit p want ≡ true → D p ≡ true) (r : ℕ) (ys : List ℕ) (carry : ℕ) {planes' : List ℕ} {next' : ℕ} (m : length ys ≡ length (take (e - at) (drop at kids))) {kids' : List ℕ} (is' : kids' ≡ take at kids ++ (ys ++ drop (e - at) (drop at kids))) (j : next' ≡ min next (get_or kids' (at + 22) 0)) (u : length planes' ≡ length planes) (o : (p : ℕ) → count p (planes' ++ (carry ∷ [])) ≡ one (bit p r) + count p planes) (ans : NodeAnswers (lent n postings positions R) (take (e - at) (drop at kids)) base D k r ys) where
+  module _ (few : nodes_of ss ≤ 255) {e : ℕ} (i : e ≡ at + get_or kids (at + 1) 0) {postings positions : List ℕ} {n : ℕ} (lends : Lends ix n postings positions) (r : ℕ) (ys : List ℕ) (carry : ℕ) {planes' : List ℕ} {next' : ℕ} (m : length ys ≡ length (take (e - at) (drop at kids))) {kids' : List ℕ} (is' : kids' ≡ take at kids ++ (ys ++ drop (e - at) (drop at kids))) (j : next' ≡ min next (get_or kids' (at + 22) 0)) (u : length planes' ≡ length planes) (o : (p : ℕ) → count p (planes' ++ (carry ∷ [])) ≡ one (bit p r) + count p planes) (ans : NodeAnswers (lent n postings positions R) (take (e - at) (drop at kids)) base (places_of want) k r ys) where
     next-took : (g : Scorers) → CountLeft ix R k places base want ss kids planes next at g → at < length kids → CountAt ix R k places base want ss (take at kids ++ (ys ++ drop (e - at) (drop at kids))) planes' next' e
     unfolding matching
     next-took end s l = absurd (omega (arith, zip-none s.zip, l))
@@ -186,11 +177,11 @@ module _ {ix : Index} {R : List ℕ} {k places base want : ℕ} {ss : Scorers} {
         let c : ChildThere kids at = child-facts low v in
         let a = ans ix places x (cond f 1 0) (child-held low v postings positions n lends (get_or kids at 0) (unasked-fresh ix R k base (get_or kids at 0)) e i refl) in
         let next-is : next' ≡ min next (get_or ys 22 0) = j ∙ ap (λ (q : List ℕ). min next (get_or q (at + 22) 0)) is' ∙ ap (min next) (word-back kids ys at e 22 (omega (arith, l)) (omega (arith, m, part-length kids at e c i))) in
-        let is : (p : ℕ) → p < 64 → bit p want ≡ true → bit p r ≡ matches ix x (base + p) = λ p b t. a.0.bits p b ∙ ap (λ (y : Bool). y && matches ix x (base + p)) (among p b t) in
+        let is : (p : ℕ) → p < 64 → bit p want ≡ true → bit p r ≡ matches ix x (base + p) = λ p b t. a.0.bits p b ∙ ap (λ (y : Bool). y && matches ix x (base + p)) t in
         record {
           g = g;
           left = record {
-            zip = zip-next v e (stop-is low v e i) ys m (windowed-less ix R x k (cond f 1 0) ys (base + 64) base D (places_of want) among a.1);
+            zip = zip-next v e (stop-is low v e i) ys m a.1;
             long = u ∙ s.long;
             counts = λ p b t. omega (arith, counted planes planes' carry r u o p (matches ix x (base + p)) (matching ix g (base + p)) s.long (is p b t) (omega (arith, s.counts p b t, matching-few ix ss (base + p), few)), s.counts p b t);
             gap = λ d b t z. s.gap d b (omega (arith, next-is, t)) (ap (λ (y : Bool). cond y 1 0 + matching ix g d) (a.0.gap d b (omega (arith, next-is, t))) ∙ omega (arith, z));
@@ -223,12 +214,19 @@ module _ (ix : Index) (R : List ℕ) (k base want : ℕ) (ss : Scorers) (kids : 
       let b : ℕ = optional_bound need (base + 64) base in
       all-less ix R ss k kids b base (places_of want) D h (all-mono ix R ss k kids (base + 64) base (places_of want) b (bound-to (ltb 0 need) base (lt-ltb 0 need g)) q)
 
-  pub nothing-wanted : base + 64 ≤ no_more_docs → want ≡ 0 → AllWindowed ix R ss k kids base base nowhere → Answers (enough ix ss need) base (places_of want) want (base + 64) × AllWindowed ix R ss k kids (optional_bound need (base + 64) base) base (λ p. ltb 0 need && bit p want)
+  nothing-wanted : base + 64 ≤ no_more_docs → want ≡ 0 → AllWindowed ix R ss k kids base base nowhere → Answers (enough ix ss need) base (places_of want) want (base + 64) × AllWindowed ix R ss k kids (optional_bound need (base + 64) base) base (λ p. ltb 0 need && bit p want)
   nothing-wanted small e q =
       let none : (p : ℕ) → bit p want ≡ false = λ p. ap (bit p) e ∙ bit-zero p in (
         record { bits = λ p l. none p ∙ sym (ap (λ (t : Bool). t && enough ix ss need (base + p)) (none p)); gap = λ d a b. absurd (omega (arith, a, b)); top = small },
         raised (λ p. ltb 0 need && bit p want) (λ p l t. false≢true (sym (none p) ∙ (and_parts (ltb 0 need) (bit p want) t).1)) q,
       )
+
+  pub nothing-asked : base + 64 ≤ no_more_docs → (need ≡ 0) ⊎ ((need ≡ 0 → ⊥) × (want ≡ 0)) → AllWindowed ix R ss k kids base base nowhere → Answers (enough ix ss need) base (places_of want) want (base + 64) × AllWindowed ix R ss k kids (optional_bound need (base + 64) base) base (λ p. ltb 0 need && bit p want)
+  nothing-asked small (inl e) q = (
+    record { bits = λ p l. sym (ap (λ (t : Bool). bit p want && t) (le-leb need (matching ix ss (base + p)) (omega (arith, e))) ∙ and-true (bit p want)); gap = λ d a b. absurd (omega (arith, a, b)); top = small },
+    raised (λ p. ltb 0 need && bit p want) (λ p l t. false≢true (sym (ap (ltb 0) e) ∙ (and_parts (ltb 0 need) (bit p want) t).0)) q,
+  )
+  nothing-asked small (inr e) q = nothing-wanted small e.1 q
 
   pub too-many : base + 64 ≤ no_more_docs → nodes_of ss < need → AllWindowed ix R ss k kids base base nowhere → Answers (enough ix ss need) base (places_of want) 0 (base + 64) × AllWindowed ix R ss k kids (optional_bound need (base + 64) base) base (λ p. ltb 0 need && bit p 0)
   too-many small h q = (

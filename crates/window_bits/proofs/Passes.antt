@@ -1,5 +1,5 @@
 -- The required children, asked in two passes: the loop of a pass. Assumes nothing.
-use Rattle.std.proofs.Common.{◌≡◌, refl, sym, ap, ◌∙◌, subst₂, inl, inr, ⊎_elim, Bool, true, false, not, cond, ◌&&◌, ◌||◌, List, ◌++◌, ℕ, ◌+◌, ◌-◌, ◌≤◌, ◌<◌, max, eqb, length, get_or, take, drop, arith, le_refl}
+use Rattle.std.proofs.Common.{◌≡◌, refl, sym, ap, ◌∙◌, subst, inl, inr, ⊎_elim, Bool, true, false, not, cond, ◌&&◌, ◌||◌, List, ◌++◌, ℕ, ◌+◌, ◌-◌, ◌≤◌, ◌<◌, max, eqb, length, get_or, take, drop, arith, le_refl}
 use Rattle.std.proofs.lemmas.Bool.{false≢true, true≢false, not-true, and_parts, and_from, and_left, and_right, cases_lt}
 use mathlib.Core.Bool.{and-true, and_assoc}
 use Rattle.meaning.specs.Limits.{no_more_docs}
@@ -15,10 +15,10 @@ use Rattle.node.specs.Words.{ChildThere}
 use Rattle.window_words.specs.Windowed.{Places, nowhere, places_of, Windowed, AllWindowed}
 use Rattle.window_words.proofs.Laws.{windowed-less, windowed-mono, kind_of}
 use Rattle.window_words.proofs.Parts.{Part, Each, all-each, each-all, each-map, Zip, zip-start, zip-none, zip-end, zip-stop, zip-front-map, view, zip-next, zip-skip}
-use Rattle.window_leaf.specs.Asks.{Answers, NodeAnswers, BitsPre, TermPre}
+use Rattle.window_leaf.specs.Asks.{Answers, NodeAnswers, BitsPre}
 use Rattle.window_bits.specs.Parts.{is_phrase, asked_before, asked_by, asked_after, all_of, asks_all, Through, SomeWindowed, Called}
 use Rattle.window_bits.proofs.Matching.{phrase-kind}
-use Rattle.window_bits.proofs.Children.{AndKnown, each-known, Low, Fresh, child-there, ask-node, ask-term, stop-is, kind-read, child-facts, child-held, part-length, word-back}
+use Rattle.window_bits.proofs.Children.{AndKnown, each-known, Low, Fresh, child-there, ask-node, stop-is, kind-read, child-facts, child-held, part-length, word-back}
 
 -- ---- the parts, of which those of a kind were asked
 abbrev pub SomeAsked : (Scorer → Bool) → Index → List ℕ → ℕ → ℕ → Places → Part
@@ -197,11 +197,8 @@ module _ {ix : Index} {R : List ℕ} {k places : ℕ} {last : Bool} {base want :
   module _ {e : ℕ} (i : e ≡ at + get_or kids (at + 1) 0) where
     -- what a call of this pass asks
     module _ {postings positions : List ℕ} {n : ℕ} (lends : Lends ix n postings positions) (q : PassAt ix R k places last base want ss kids w next at skip) (l : at < length kids) (h : eqb (get_or kids at 0) 2 ≡ last) where
-      pub pass-node : {b b' : PhraseBuffers} → Called (lent n postings positions R) places (room b) (other_room b) base want → SameBuffers b b' → BitsPre (lent n postings positions R) (room b') (other_room b') (take (e - at) (drop at kids)) base w k
-      pass-node called s = ask-node (some-low ix R k base (asked_before last) (places_of want)) postings positions n called lends (get_or kids at 0) (pass-fresh ix R k base last want (get_or kids at 0) h) q.g q.left.zip l e i refl _ _ w s.starts_length s.other_starts_length q.left.within
-
-      pub pass-term : {a b : ℕ} → Called (lent n postings positions R) places a b base want → get_or kids at 0 ≡ 1 → TermPre postings (take (e - at) (drop at kids)) base
-      pass-term called = ask-term (some-low ix R k base (asked_before last) (places_of want)) postings positions n called lends (get_or kids at 0) (pass-fresh ix R k base last want (get_or kids at 0) h) q.g q.left.zip l e i refl
+      pub pass-node : {b b' : PhraseBuffers} → Called (lent n postings positions R) places (room b) (other_room b) base want → SameBuffers b b' → (v : ℕ) → ((p : ℕ) → p < 64 → bit p v ≡ true → bit p want ≡ true) → BitsPre (lent n postings positions R) (room b') (other_room b') (take (e - at) (drop at kids)) base v k
+      pass-node called s v within = ask-node (some-low ix R k base (asked_before last) (places_of want)) postings positions n called lends (get_or kids at 0) (pass-fresh ix R k base last want (get_or kids at 0) h) q.g q.left.zip l e i refl _ _ v s.starts_length s.other_starts_length within
 
     skipped : (g : Scorers) → PassLeft ix R k places last base want ss kids w next at skip g → at < length kids → eqb (get_or kids at 0) 2 ≡ not last → PassAt ix R k places last base want ss kids w next e true
     unfolding all_of
@@ -258,5 +255,5 @@ module _ {ix : Index} {R : List ℕ} {k places : ℕ} {last : Bool} {base want :
             };
           }
 
-      pub pass-took : PassAt ix R k places last base want ss kids w next at skip → at < length kids → eqb (get_or kids at 0) 2 ≡ last → {w' : ℕ} → w' ≡ r → PassAt ix R k places last base want ss kids' w' next' e skip
-      pass-took q l h u = subst₂ (λ (q' : List ℕ) (v : ℕ). PassAt ix R k places last base want ss q' v next' e skip) (sym is) (sym u) (took q.g q.left l h)
+      pub pass-took : PassAt ix R k places last base want ss kids w next at skip → at < length kids → eqb (get_or kids at 0) 2 ≡ last → PassAt ix R k places last base want ss kids' r next' e skip
+      pass-took q l h = subst (λ (q' : List ℕ). PassAt ix R k places last base want ss q' r next' e skip) (sym is) (took q.g q.left l h)

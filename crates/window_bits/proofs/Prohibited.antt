@@ -11,13 +11,13 @@ use Rattle.leaf_scorer.specs.declared.PhraseBuffers.{PhraseBuffers}
 use Rattle.leaf_scorer.specs.Calls.{lent}
 use Rattle.leaf_scorer.specs.Buffers.{room, other_room, SameBuffers}
 use Rattle.node.specs.Words.{ChildThere}
-use Rattle.window_words.specs.Windowed.{Places, nowhere, AllWindowed}
+use Rattle.window_words.specs.Windowed.{nowhere, places_of, AllWindowed}
 use Rattle.window_words.proofs.Laws.{windowed-less, windowed-mono}
 use Rattle.window_words.proofs.Parts.{each-all, zip-none, zip-end, zip-stop, view, zip-next}
-use Rattle.window_leaf.specs.Asks.{NodeAnswers, BitsPre, TermPre}
+use Rattle.window_leaf.specs.Asks.{NodeAnswers, BitsPre}
 use Rattle.window_bits.specs.Parts.{Called}
 use Rattle.window_bits.proofs.Children.{stop-is, child-facts, child-held}
-use Rattle.window_bits.proofs.Optionals.{unasked-low, unasked-fresh, Walk, walk_start, walk_there, walk_node, walk_term}
+use Rattle.window_bits.proofs.Optionals.{unasked-low, unasked-fresh, Walk, walk_start, walk_there, walk_node}
 
 pub record ExcludedLeft (ix : Index) (R : List ℕ) (k places base want : ℕ) (ss : Scorers) (kids : List ℕ) (w at : ℕ) (g : Scorers) : Type 0 where
   pub zip : Walk ix R k places base nowhere ss g kids at
@@ -31,11 +31,11 @@ pub record ExcludedAt (ix : Index) (R : List ℕ) (k places base want : ℕ) (ss
 pub excluded-start : {ix : Index} {R : List ℕ} {k places base want : ℕ} {ss : Scorers} {kids : List ℕ} → Sounds ix places ss → nodes_of ss ≤ 255 → AllWindowed ix R ss k kids base base nowhere → ExcludedAt ix R k places base want ss kids want 0
 excluded-start {ix} {R} {k} {places} {base} {want} {ss} {kids} h n q = record { g = ss; left = record { zip = walk_start ix R k places base nowhere ss kids h n q; within = λ p l e. e; bits = λ p l. refl } }
 
--- one more is taken away: r has its documents where some are wanted
-less-one : (w r d m z : Bool) → r ≡ (d && m) → (w ≡ true → d ≡ true) → ((w && not r) && not z) ≡ (w && not (m || z))
-less-one false r d m z e h = refl
-less-one true r d true z e h = ap (λ (t : Bool). not t && not z) (e ∙ ap (λ (t : Bool). t && true) (h refl))
-less-one true r d false z e h = ap (λ (t : Bool). not t && not z) (e ∙ ap (λ (t : Bool). t && false) (h refl))
+-- one more is taken away: r has those of its documents that are wanted
+less-one : (w r m z : Bool) → r ≡ (w && m) → ((w && not r) && not z) ≡ (w && not (m || z))
+less-one false r m z e = refl
+less-one true r true z e = ap (λ (t : Bool). not t && not z) e
+less-one true r false z e = ap (λ (t : Bool). not t && not z) e
 
 module _ {ix : Index} {R : List ℕ} {k places base want : ℕ} {ss : Scorers} {kids : List ℕ} {w at : ℕ} where
   -- nothing is left: the others are not asked
@@ -62,10 +62,7 @@ module _ {ix : Index} {R : List ℕ} {k places base want : ℕ} {ss : Scorers} {
       pub excluded-node : {b b' : PhraseBuffers} → Called (lent n postings positions R) places (room b) (other_room b) base want → SameBuffers b b' → BitsPre (lent n postings positions R) (room b') (other_room b') (take (e - at) (drop at kids)) base w k
       excluded-node called s = walk_node ix R k places base nowhere ss q.g kids at q.left.zip l postings positions n called lends e i _ _ w s.starts_length s.other_starts_length q.left.within
 
-      pub excluded-term : {a b : ℕ} → Called (lent n postings positions R) places a b base want → get_or kids at 0 ≡ 1 → TermPre postings (take (e - at) (drop at kids)) base
-      excluded-term called = walk_term ix R k places base nowhere ss q.g kids at q.left.zip l postings positions n called lends e i
-
-  module _ {e : ℕ} (i : e ≡ at + get_or kids (at + 1) 0) {postings positions : List ℕ} {n : ℕ} (lends : Lends ix n postings positions) (D : Places) (among : (p : ℕ) → p < 64 → bit p w ≡ true → D p ≡ true) (r : ℕ) (ys : List ℕ) {w' : ℕ} (m : length ys ≡ length (take (e - at) (drop at kids))) {kids' : List ℕ} (is : kids' ≡ take at kids ++ (ys ++ drop (e - at) (drop at kids))) (o : (p : ℕ) → p < 64 → bit p w' ≡ (bit p w && not (bit p r))) (ans : NodeAnswers (lent n postings positions R) (take (e - at) (drop at kids)) base D k r ys) where
+  module _ {e : ℕ} (i : e ≡ at + get_or kids (at + 1) 0) {postings positions : List ℕ} {n : ℕ} (lends : Lends ix n postings positions) (r : ℕ) (ys : List ℕ) {w' : ℕ} (m : length ys ≡ length (take (e - at) (drop at kids))) {kids' : List ℕ} (is : kids' ≡ take at kids ++ (ys ++ drop (e - at) (drop at kids))) (o : (p : ℕ) → p < 64 → bit p w' ≡ (bit p w && not (bit p r))) (ans : NodeAnswers (lent n postings positions R) (take (e - at) (drop at kids)) base (places_of w) k r ys) where
     took : (g : Scorers) → ExcludedLeft ix R k places base want ss kids w at g → at < length kids → ExcludedAt ix R k places base want ss (take at kids ++ (ys ++ drop (e - at) (drop at kids))) w' e
     unfolding any_matches
     took end s l = absurd (omega (arith, zip-none s.zip, l))
@@ -76,9 +73,9 @@ module _ {ix : Index} {R : List ℕ} {k places base want : ℕ} {ss : Scorers} {
         record {
           g = g;
           left = record {
-            zip = zip-next v e (stop-is low v e i) ys m (windowed-less ix R x k (cond f 1 0) ys (base + 64) base D nowhere (λ p b t. absurd (false≢true t)) a.1);
+            zip = zip-next v e (stop-is low v e i) ys m (windowed-less ix R x k (cond f 1 0) ys (base + 64) base (places_of w) nowhere (λ p b t. absurd (false≢true t)) a.1);
             within = λ p b t. s.within p b (and_parts (bit p w) (not (bit p r)) (sym (o p b) ∙ t)).0;
-            bits = λ p b. ap (λ (t : Bool). t && not (any_matches ix g (base + p))) (o p b) ∙ less-one (bit p w) (bit p r) (D p) (matches ix x (base + p)) (any_matches ix g (base + p)) (a.0.bits p b) (among p b) ∙ s.bits p b;
+            bits = λ p b. ap (λ (t : Bool). t && not (any_matches ix g (base + p))) (o p b) ∙ less-one (bit p w) (bit p r) (matches ix x (base + p)) (any_matches ix g (base + p)) (a.0.bits p b) ∙ s.bits p b;
           };
         }
 

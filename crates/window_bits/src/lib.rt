@@ -38,7 +38,7 @@ impl Asks {
 }
 
 // What a pass over the required children leaves of the wanted documents, and whether it left a child to the other pass.
-// Kept: `skipped` is no sign that there is no value: the documents found are an answer either way.
+// Kept: no plainer as an Option: the documents found are an answer whether or not a child was skipped.
 #[derive(Clone, Copy)]
 pub struct Pass {
     pub found: Found,
@@ -46,7 +46,9 @@ pub struct Pass {
 }
 
 // The wanted documents of the window that the node matches.
-#[cycle(any_bits_boolean_bits_counted_bits_excluded_bits_node_bits_optional_bits_phrase_bits_required_bits)]
+// Kept: no plainer as one struct of the two, here and below: of them only `buffers` is lent for writing; with the window in it, each clause would
+// also say that it stays.
+#[cycle(any_bits_boolean_bits_child_bits_counted_bits_excluded_bits_node_bits_optional_bits_phrase_bits_required_bits)]
 pub fn node_bits(
     st: &mut [u32],
     window: &Window<'_>,
@@ -76,8 +78,28 @@ pub fn node_bits(
     }
 }
 
+// Which of the wanted documents a child matches; a term is asked without the call of node_bits.
+#[inline(always)]
+#[cycle(any_bits_boolean_bits_child_bits_counted_bits_excluded_bits_node_bits_optional_bits_phrase_bits_required_bits)]
+pub fn child_bits(
+    st: &mut [u32],
+    window: &Window<'_>,
+    buffers: &mut PhraseBuffers<'_>,
+    want: u64,
+    depth: u32,
+) -> u64
+    requires { BitsPre (lent_of window.now.reader) (room buffers.old) (other_room buffers.old) st.old window.now.base want depth }
+    ensures bits_post { BitsPost (lent_of window.now.reader) (room buffers.old) (other_room buffers.old) st.old window.now.base want depth result st.new }
+    ensures same_buffers { SameBuffers buffers.old buffers.new }
+{
+    match NodeKind::from(st[0]) {
+        NodeKind::Term => bits::both(want, term_bits(st, window.reader.postings, window.base)),
+        _ => node_bits(st, window, buffers, want, depth),
+    }
+}
+
 // The required children, cheapest first, but for phrases; then the optional, the prohibited, and last the phrases, whose positions cost most.
-#[cycle(any_bits_boolean_bits_counted_bits_excluded_bits_node_bits_optional_bits_phrase_bits_required_bits)]
+#[cycle(any_bits_boolean_bits_child_bits_counted_bits_excluded_bits_node_bits_optional_bits_phrase_bits_required_bits)]
 fn boolean_bits(
     kids: &mut [u32],
     window: &Window<'_>,
@@ -117,8 +139,8 @@ fn boolean_bits(
 }
 
 // The second pass over the required children, where the first skipped some.
-// Kept: `skipped` is what the first pass saw, and no way that a caller picks.
-#[cycle(any_bits_boolean_bits_counted_bits_excluded_bits_node_bits_optional_bits_phrase_bits_required_bits)]
+// Kept: no plainer in the caller, where the two ways would join before the answers are put together; `skipped` is what the first pass saw.
+#[cycle(any_bits_boolean_bits_child_bits_counted_bits_excluded_bits_node_bits_optional_bits_phrase_bits_required_bits)]
 fn phrase_bits(
     kids: &mut [u32],
     window: &Window<'_>,
@@ -137,12 +159,12 @@ fn phrase_bits(
     }
     Found {
         bits: want,
-        next: window.base + 64,
+        next: window.end(),
     }
 }
 
 // Each child of the pass is asked for what those before it left, and none once nothing is left.
-#[cycle(any_bits_boolean_bits_counted_bits_excluded_bits_node_bits_optional_bits_phrase_bits_required_bits)]
+#[cycle(any_bits_boolean_bits_child_bits_counted_bits_excluded_bits_node_bits_optional_bits_phrase_bits_required_bits)]
 fn required_bits(
     kids: &mut [u32],
     window: &Window<'_>,
@@ -156,7 +178,7 @@ fn required_bits(
     ensures same_buffers { SameBuffers buffers.old buffers.new }
 {
     let mut w = want;
-    let mut next = window.base + 64;
+    let mut next = window.end();
     let mut skipped = false;
     let mut at = 0;
     // The window is read at each turn: read once before the loops, it was up to 3 parts in a hundred slower.
@@ -171,15 +193,7 @@ fn required_bits(
         let k = child_at(kids, at);
         let end = k.end;
         if asks.takes(k.kind) {
-            match k.kind {
-                NodeKind::Term => {
-                    let term = term_bits(&mut kids[at..end], window.reader.postings, window.base);
-                    w = bits::both(w, term);
-                }
-                _ => {
-                    w = node_bits(&mut kids[at..end], window, buffers, w, depth);
-                }
-            }
+            w = child_bits(&mut kids[at..end], window, buffers, w, depth);
             next = next.max(kids[at + 22]);
         } else {
             skipped = true;
@@ -193,7 +207,7 @@ fn required_bits(
 }
 
 // Those of the wanted documents that at least `need` of the children match; where none is needed they are asked with the score.
-#[cycle(any_bits_boolean_bits_counted_bits_excluded_bits_node_bits_optional_bits_phrase_bits_required_bits)]
+#[cycle(any_bits_boolean_bits_child_bits_counted_bits_excluded_bits_node_bits_optional_bits_phrase_bits_required_bits)]
 fn optional_bits(
     kids: &mut [u32],
     window: &Window<'_>,
@@ -206,16 +220,10 @@ fn optional_bits(
     ensures optional_post { OptionalPost (lent_of window.now.reader) (room buffers.old) (other_room buffers.old) kids.old need window.now.base want depth result.bits result.next kids.new }
     ensures same_buffers { SameBuffers buffers.old buffers.new }
 {
-    if need == 0 {
+    if need == 0 || want == 0 {
         return Found {
             bits: want,
-            next: window.base + 64,
-        };
-    }
-    if want == 0 {
-        return Found {
-            bits: want,
-            next: window.base + 64,
+            next: window.end(),
         };
     }
     if need == 1 {
@@ -224,7 +232,7 @@ fn optional_bits(
     if MOST < need {
         return Found {
             bits: 0,
-            next: window.base + 64,
+            next: window.end(),
         };
     }
     let mut planes = [0u64; PLANES];
@@ -236,7 +244,7 @@ fn optional_bits(
 }
 
 // Those that some child matches.
-#[cycle(any_bits_boolean_bits_counted_bits_excluded_bits_node_bits_optional_bits_phrase_bits_required_bits)]
+#[cycle(any_bits_boolean_bits_child_bits_counted_bits_excluded_bits_node_bits_optional_bits_phrase_bits_required_bits)]
 fn any_bits(
     kids: &mut [u32],
     window: &Window<'_>,
@@ -255,18 +263,10 @@ fn any_bits(
     while at < kids.len() {
         let k = child_at(kids, at);
         let end = k.end;
-        match k.kind {
-            NodeKind::Term => {
-                let term = term_bits(&mut kids[at..end], window.reader.postings, window.base);
-                w = bits::either(w, bits::both(want, term));
-            }
-            _ => {
-                w = bits::either(
-                    w,
-                    node_bits(&mut kids[at..end], window, buffers, want, depth),
-                );
-            }
-        }
+        w = bits::either(
+            w,
+            child_bits(&mut kids[at..end], window, buffers, want, depth),
+        );
         next = next.min(kids[at + 22]); // the first that any of them may match
         at = end;
     }
@@ -274,7 +274,7 @@ fn any_bits(
 }
 
 // How many children match each wanted document, as planes of bits; gives a document before which none matches after the window.
-#[cycle(any_bits_boolean_bits_counted_bits_excluded_bits_node_bits_optional_bits_phrase_bits_required_bits)]
+#[cycle(any_bits_boolean_bits_child_bits_counted_bits_excluded_bits_node_bits_optional_bits_phrase_bits_required_bits)]
 fn counted_bits(
     kids: &mut [u32],
     window: &Window<'_>,
@@ -295,18 +295,8 @@ fn counted_bits(
     while at < kids.len() {
         let k = child_at(kids, at);
         let end = k.end;
-        match k.kind {
-            NodeKind::Term => {
-                let term = term_bits(&mut kids[at..end], window.reader.postings, window.base);
-                let _carry = planes::counted(planes, term);
-            }
-            _ => {
-                let _carry = planes::counted(
-                    planes,
-                    node_bits(&mut kids[at..end], window, buffers, want, depth),
-                );
-            }
-        }
+        let child = child_bits(&mut kids[at..end], window, buffers, want, depth);
+        let _carry = planes::counted(planes, child);
         next = next.min(kids[at + 22]);
         at = end;
     }
@@ -314,7 +304,7 @@ fn counted_bits(
 }
 
 // The wanted documents that no prohibited child matches.
-#[cycle(any_bits_boolean_bits_counted_bits_excluded_bits_node_bits_optional_bits_phrase_bits_required_bits)]
+#[cycle(any_bits_boolean_bits_child_bits_counted_bits_excluded_bits_node_bits_optional_bits_phrase_bits_required_bits)]
 fn excluded_bits(
     kids: &mut [u32],
     window: &Window<'_>,
@@ -335,15 +325,7 @@ fn excluded_bits(
         }
         let k = child_at(kids, at);
         let end = k.end;
-        match k.kind {
-            NodeKind::Term => {
-                let term = term_bits(&mut kids[at..end], window.reader.postings, window.base);
-                w = bits::without(w, term);
-            }
-            _ => {
-                w = bits::without(w, node_bits(&mut kids[at..end], window, buffers, w, depth));
-            }
-        }
+        w = bits::without(w, child_bits(&mut kids[at..end], window, buffers, w, depth));
         at = end;
     }
     w

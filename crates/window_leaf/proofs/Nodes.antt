@@ -57,12 +57,12 @@ module _ (E : Lent) (ix : Index) (places k o : ℕ) (st : List ℕ) (base : ℕ)
   node-front (boolean c j need rs os ps) h = (h.held.0, h.held.1 ++ (h.held.2 ++ h.held.3), h.held.4)
 
   -- ---- a term
-  module _ (e : get_or st 0 0 ≡ 1) (size : length E.postings < 9223372036854775808) where
+  module _ (e : get_or st 0 0 ≡ 1) where
     term-held : (l : ℕ) (sc : Scoring) (h : NodeWindowed E ix places (leaf (term l) sc) k o st base) → (s : State) × (w : List ℕ) × SearchHeld ix.postings 3 s w st base
     unfolding Windowed LeafWindowed Sound LeafSound
     term-held l sc h =
         let p = h.held in
-        (p.0, p.1, term-run ix h.lends.accepted 1 l h.sound p.0 base p.4.0 (omega (arith, size, ap length h.lends.postings-are)) p.1 st p.2)
+        (p.0, p.1, term-run ix h.lends.accepted 1 l h.sound p.0 base p.4.0 p.1 st p.2)
 
     pub term-asks : (s : Scorer) → NodeWindowed E ix places s k o st base → (s : State) × (w : List ℕ) × SearchHeld E.postings 3 s w st base
     unfolding kind_of
@@ -83,7 +83,7 @@ module _ (E : Lent) (ix : Index) (places k o : ℕ) (st : List ℕ) (base : ℕ)
           let p = h.held in
           let acc = h.lends.accepted in
           let own : RunPost ix.postings 3 st base r st' = subst (λ (y : List ℕ). RunPost y 3 st base r st') (sym h.lends.postings-are) post in
-          let m = own p.0 p.1 (term-run ix acc 1 l h.sound p.0 base p.4.0 (omega (arith, size, ap length h.lends.postings-are)) p.1 st p.2) in
+          let m = own p.0 p.1 (term-run ix acc 1 l h.sound p.0 base p.4.0 p.1 st p.2) in
           let like = term-run-like ix acc 1 l h.sound p.0 base p.4.0 in (
             run-answers ix.postings 3 p.0 p.1 base r st' m (leaf_matches ix (term l)) like,
             (

@@ -45,41 +45,7 @@ and-first false b e = e
 
 -- a record with other planes
 abbrev pub planed : State → ℕ → ℕ → ℕ → ℕ → State
-planed s ones_low ones_high twos_low twos_high =
-    record {
-      kind = s.kind;
-      size = s.size;
-      cached = s.cached;
-      need = s.need;
-      required_end = s.required_end;
-      optional_end = s.optional_end;
-      first = s.first;
-      number = s.number;
-      cursor = s.cursor;
-      offset = s.offset;
-      field = s.field;
-      constant = s.constant;
-      weight = s.weight;
-      afterwards = s.afterwards;
-      group_at = s.group_at;
-      scores = s.scores;
-      frequency_of = s.frequency_of;
-      frequency = s.frequency;
-      norms = s.norms;
-      window_first = s.window_first;
-      window_low = s.window_low;
-      window_high = s.window_high;
-      window_next = s.window_next;
-      ones_low = ones_low;
-      ones_high = ones_high;
-      twos_low = twos_low;
-      twos_high = twos_high;
-      spare1 = s.spare1;
-      spare2 = s.spare2;
-      spare3 = s.spare3;
-      spare4 = s.spare4;
-      spare5 = s.spare5;
-    }
+planed s ones_low ones_high twos_low twos_high = record s { ones_low = ones_low; ones_high = ones_high; twos_low = twos_low; twos_high = twos_high }
 
 scoring-planed : (sc : Scoring) (s : State) (a b c d : ℕ) → ScoringIs sc s → ScoringIs sc (planed s a b c d)
 unfolding ScoringIs

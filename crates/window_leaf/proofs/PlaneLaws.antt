@@ -1,5 +1,5 @@
 -- The frequency of a phrase at a place of a window, and the frequencies of the window noted in two planes. Assumes nothing.
-use Rattle.std.proofs.Common.{◌≡◌, refl, sym, ap, ap₂, subst, ◌∙◌, Bool, true, false, cond, not, ◌&&◌, ◌||◌, ⊎_elim, List, ℕ, zero, suc, ◌+◌, ◌*◌, ◌≤◌, ◌<◌, min, eqb, eqb-true, eq-eqb, [], length, get_or, arith}
+use Rattle.std.proofs.Common.{◌≡◌, refl, sym, ap, ap₂, subst, ◌∙◌, Bool, true, false, cond, not, ◌&&◌, ◌||◌, ⊎_elim, List, ℕ, zero, suc, ◌+◌, ◌*◌, ◌≤◌, ◌<◌, min, eqb, eqb-true, eq-eqb, [], get_or, arith}
 use mathlib.Core.Bool.{and-true, and-false, or-false, false≢true}
 use Rattle.meaning.proofs.Tests.{decided}
 use Rattle.meaning.specs.Lent.{Index}
@@ -12,15 +12,15 @@ use Rattle.window_leaf.specs.Phrases.{rank_at, PhraseAsked, Noted, PlanesAre}
 use Rattle.window_leaf.proofs.TermLaws.{asked_terms}
 
 -- ---- the frequency at a place
-pub asked-postings : {postings positions : List ℕ} {ix : Index} {places f : ℕ} {ts : List PhraseTerm} {base : ℕ} {D : Places} {terms : List ℕ} (place : ℕ) {P : ℕ → ℕ → Type 0} → length postings < 9223372036854775808 → place < 64 → D place ≡ true → ((at p : ℕ) → P at p → p ≡ 3 * (get_or terms (at + 6) 0 + get_or terms (at + 19) 0 + rank_at terms at place)) → PhraseAsked postings positions ix places f ts base D terms → PostingsHeld postings positions ix places f ts (base + place) terms P
-asked-postings {ix = ix} {ts = ts} {base = base} {D = D} {terms = terms} place {P = P} size low on read h =
+pub asked-postings : {postings positions : List ℕ} {ix : Index} {places f : ℕ} {ts : List PhraseTerm} {base : ℕ} {D : Places} {terms : List ℕ} (place : ℕ) {P : ℕ → ℕ → Type 0} → place < 64 → D place ≡ true → ((at p : ℕ) → P at p → p ≡ 3 * (get_or terms (at + 6) 0 + get_or terms (at + 19) 0 + rank_at terms at place)) → PhraseAsked postings positions ix places f ts base D terms → PostingsHeld postings positions ix places f ts (base + place) terms P
+asked-postings {ix = ix} {ts = ts} {base = base} {D = D} {terms = terms} place {P = P} low on read h =
     let a = h.asked in
     record {
       accepted = a.accepted;
       postings-are = a.postings-are;
       positions-are = h.positions-are;
       sound = h.sound;
-      at = asked_terms ix a.accepted (omega (arith, ap length a.postings-are)) a.bound base place low D on terms P read ts [] terms refl a.held a.there (a.all place low on);
+      at = asked_terms ix a.accepted a.bound base place low D on terms P read ts [] terms refl a.held a.there (a.all place low on);
     }
 
 -- ---- one more frequency

@@ -1,6 +1,7 @@
 -- A range asked for a window: the bits of its bitmap from the window on, and its record with what is stored. Assumes nothing.
-use Rattle.std.proofs.Common.{◌≡◌, sym, ap, ◌∙◌, Bool, false, ⊎_elim, List, ℕ, ◌+◌, ◌-◌, ◌*◌, ◌/◌, ◌%◌, ◌^◌, ◌≤◌, ◌<◌, pow-add, arith}
+use Rattle.std.proofs.Common.{◌≡◌, sym, ap, ◌∙◌, Bool, false, ⊎_elim, List, ℕ, ◌+◌, ◌-◌, ◌*◌, ◌/◌, ◌%◌, ◌^◌, ◌≤◌, ◌<◌, pow-add, length, get_or, arith}
 use native.Mathlib.Nat.{div-div-eq-div-mul}
+use Rattle.std.proofs.lemmas.List.{get_or_past}
 use Rattle.meaning.specs.Lent.{Index}
 use Rattle.meaning.specs.Range.{NumericRange}
 use Rattle.meaning.proofs.Tests.{cmp}
@@ -8,10 +9,18 @@ use Rattle.weight.specs.State.{State}
 use Rattle.weight.specs.Held.{RangeIs}
 use Rattle.bits.specs.Bit.{bit, Bitmap}
 use Rattle.bits.proofs.Laws.{bit-zero, bit-low, bit-shift}
+use Rattle.leaf_scorer.proofs.Bitmaps.{slice, slice-bitmap, slice-over}
 use Rattle.window_leaf.specs.Runs.{answered, PartOf}
 
-pub part-none : (words : List ℕ) (first number at : ℕ) → number ≤ at → PartOf words first number (32 * at) 0
-part-none words first number at h P B over p l = bit-zero p ∙ sym (over (32 * at + p) (omega arith))
+-- a word of a bitmap; behind its last word there are no bits
+pub part-at : (bitmap : List ℕ) (at : ℕ) {w : ℕ} → w ≡ get_or bitmap at 0 → PartOf bitmap (32 * at) w
+part-at bitmap at e P B over p l =
+    let z : at ≡ 0 + at = omega arith in
+    ap (bit p) e
+    ∙ ⊎_elim
+    (λ h. ap (λ (i : ℕ). bit p (get_or bitmap i 0)) z ∙ B at p h l)
+    (λ h. ap (bit p) (get_or_past bitmap at 0 h) ∙ bit-zero p ∙ sym (over (32 * at + p) (omega arith)))
+    (cmp at (length bitmap))
 
 -- ---- 32 bits from any place on
 -- `(w >> skip) % 2^32`
@@ -25,11 +34,11 @@ shifted w skip p h =
     whole : (x : ℕ) → x / 4294967296 * 2 ^ 32 + x % 4294967296 ≡ x
     whole x = omega arith
 
-module _ (words : List ℕ) (first number at low : ℕ) (low-part : PartOf words first number (32 * (at / 32)) low) where
-  pub part-even : at % 32 ≡ 0 → PartOf words first number at low
+module _ (bitmap : List ℕ) (at low : ℕ) (low-part : PartOf bitmap (32 * (at / 32)) low) where
+  pub part-even : at % 32 ≡ 0 → PartOf bitmap at low
   part-even e P B over p h = low-part P B over p h ∙ ap P (omega arith)
 
-  pub part-across : (high w r : ℕ) → PartOf words first number (32 * (at / 32 + 1)) high → ((q : ℕ) → q < 32 → bit q w ≡ bit q low) → ((q : ℕ) → 32 ≤ q → bit q w ≡ bit (q - 32) high) → r ≡ w / 2 ^ (at % 32) % 4294967296 → PartOf words first number at r
+  pub part-across : (high w r : ℕ) → PartOf bitmap (32 * (at / 32 + 1)) high → ((q : ℕ) → q < 32 → bit q w ≡ bit q low) → ((q : ℕ) → 32 ≤ q → bit q w ≡ bit (q - 32) high) → r ≡ w / 2 ^ (at % 32) % 4294967296 → PartOf bitmap at r
   part-across high w r high-part lows highs e P B over p h =
       ap (bit p) e ∙ shifted w (at % 32) p h
       ∙ ⊎_elim
@@ -38,9 +47,11 @@ module _ (words : List ℕ) (first number at low : ℕ) (low-part : PartOf words
       (cmp (at % 32 + p) 32)
 
 -- ---- the window's 64
-pub window-part : (words : List ℕ) (first number base low high w : ℕ) → PartOf words first number base low → PartOf words first number (base + 32) high → ((q : ℕ) → q < 32 → bit q w ≡ bit q low) → ((q : ℕ) → 32 ≤ q → bit q w ≡ bit (q - 32) high) → (P : ℕ → Bool) → Bitmap P words first number → ((d : ℕ) → 32 * number ≤ d → P d ≡ false) → (p : ℕ) → p < 64 → bit p w ≡ P (base + p)
-window-part words first number base low high w lp hp lows highs P B over p h =
-    ⊎_elim (λ l. lows p l ∙ lp P B over p l) (λ g. highs p g ∙ hp P B over (p - 32) (omega arith) ∙ ap P (omega arith)) (cmp p 32)
+pub window-part : (words : List ℕ) (first number base low high w : ℕ) → first + number ≤ length words → PartOf (slice words first number) base low → PartOf (slice words first number) (base + 32) high → ((q : ℕ) → q < 32 → bit q w ≡ bit q low) → ((q : ℕ) → 32 ≤ q → bit q w ≡ bit (q - 32) high) → (P : ℕ → Bool) → Bitmap P words first number → ((d : ℕ) → 32 * number ≤ d → P d ≡ false) → (p : ℕ) → p < 64 → bit p w ≡ P (base + p)
+window-part words first number base low high w there lp hp lows highs P B over p h =
+    let own = slice-bitmap words first number there P B in
+    let past = slice-over words first number there P over in
+    ⊎_elim (λ l. lows p l ∙ lp P own past p l) (λ g. highs p g ∙ hp P own past (p - 32) (omega arith) ∙ ap P (omega arith)) (cmp p 32)
 
 -- ---- the record, with an answer stored
 pub range-answered : (ix : Index) (R : List ℕ) (r : NumericRange) (s : State) (bits next : ℕ) → RangeIs ix R r s → RangeIs ix R r (answered s bits next)

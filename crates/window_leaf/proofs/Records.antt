@@ -1,5 +1,7 @@
 -- A record whose run was moved over a window: what it stores, and that it is again the record of its term, with the window's documents. Assumes nothing.
 use Rattle.std.proofs.Common.{◌≡◌, refl, sym, ap, ◌∙◌, Bool, true, false, ⊎_elim, List, ◌++◌, ℕ, ◌+◌, ◌/◌, ◌%◌, ◌≤◌, ◌<◌, eqb, get_or, set, arith, ne_eqb}
+use Rattle.std.specs.Prelude.{Option, Some, None, MatchOption}
+use Rattle.std.specs.Option.{unwrap_or}
 use Rattle.std.proofs.lemmas.Bool.{eqb-false, false≢true}
 use Rattle.meaning.specs.Limits.{no_more_docs}
 use Rattle.meaning.specs.Lent.{Index, leaf_first, leaf_number, leaf_document, leaf_count}
@@ -17,7 +19,7 @@ use Rattle.bits.proofs.Laws.{halves-joined}
 use Rattle.leaf_scorer.specs.Search.{SearchHeld}
 use Rattle.window.specs.Windows.{in_run, Cursor, Gathers}
 use Rattle.window_words.specs.Windowed.{window_bits, TermWindow}
-use Rattle.window_leaf.specs.Runs.{window_at, PutPost, DocumentPost, RunMoved, RunPost}
+use Rattle.window_leaf.specs.Runs.{window_at, PutPost, RunMoved, RunPost}
 
 -- ---- what a record stores
 -- the bits are joined again
@@ -31,6 +33,15 @@ scoring-kept (constant c) s cursor first r next h = h
 scoring-kept (weighted w) s cursor first r next h = h
 
 -- ---- a run, moved
+-- the run's document at a place, or the end
+pub record NextIs (words : List ℕ) (stride first count at next : ℕ) : Type 0 where
+  pub there : at < count → next ≡ document_at words stride first at
+  pub ended : count ≤ at → next ≡ no_more_docs
+
+pub next-is : {words : List ℕ} {stride first count at next : ℕ} (d : Option ℕ) → MatchOption d (count ≤ at) (λ x. (at < count) × (x ≡ document_at words stride first at)) → next ≡ unwrap_or d no_more_docs → NextIs words stride first count at next
+next-is None m e = record { there = λ l. absurd (omega arith); ended = λ l. e }
+next-is (Some x) m e = record { there = λ l. e ∙ m.1; ended = λ l. absurd (omega (arith, m.0)) }
+
 module _ (words : List ℕ) (stride base : ℕ) (s : State) (w : List ℕ) (st : List ℕ) (h : SearchHeld words stride s w st base) where
   -- where the search came to, the cursor stands at the window's first document
   pub lower-cursor : (u from : ℕ) → u ≡ s.cursor → Lower words stride s.first s.number u base from → Cursor words stride s.first s.number base from
@@ -44,7 +55,7 @@ module _ (words : List ℕ) (stride base : ℕ) (s : State) (w : List ℕ) (st :
       ahead : (i : ℕ) → from ≤ i → i < s.number → base ≤ document_at words stride s.first i
       ahead i a b = ⊎_elim (λ (g : i < from). absurd (omega arith)) (λ _. ⊎_elim (λ (g : from < i). omega (arith, l.stops (omega arith), h.run.ascending from i g b)) (λ (g : i ≤ from). let z : from ≡ i = omega arith in omega (arith, ap (λ (k : ℕ). document_at words stride s.first k) z, l.stops (omega arith))) (cmp from i)) (cmp i from)
 
-  module _ (from at r next : ℕ) (c : Cursor words stride s.first s.number base from) (g : Gathers words stride s.first s.number base from r at) (d : DocumentPost words stride s.first s.number at next) where
+  module _ (from at r next : ℕ) (c : Cursor words stride s.first s.number base from) (g : Gathers words stride s.first s.number base from r at) (d : NextIs words stride s.first s.number at next) where
     -- up to the document at the cursor nothing follows the window
     next-gap : (x : ℕ) → base + 64 ≤ x → x < next → in_run words stride s.first s.number x ≡ false
     next-gap x a b = any_none s.number (λ i. eqb (document_at words stride s.first i) x) (λ i m. ne_eqb _ _ (λ (e : document_at words stride s.first i ≡ x). off i m e))
@@ -80,48 +91,14 @@ put-answer st r next low high el eh s w e = rw (el, eh, e)
 
 -- the record with its cursor behind the window and the run's first place in it, its answer not stored yet
 abbrev pub placed : State → ℕ → ℕ → State
-placed s cursor first =
-    record {
-      kind = s.kind;
-      size = s.size;
-      cached = s.cached;
-      need = s.need;
-      required_end = s.required_end;
-      optional_end = s.optional_end;
-      first = s.first;
-      number = s.number;
-      cursor = cursor;
-      offset = s.offset;
-      field = s.field;
-      constant = s.constant;
-      weight = s.weight;
-      afterwards = s.afterwards;
-      group_at = s.group_at;
-      scores = s.scores;
-      frequency_of = s.frequency_of;
-      frequency = s.frequency;
-      norms = s.norms;
-      window_first = first;
-      window_low = s.window_low;
-      window_high = s.window_high;
-      window_next = s.window_next;
-      ones_low = s.ones_low;
-      ones_high = s.ones_high;
-      twos_low = s.twos_low;
-      twos_high = s.twos_high;
-      spare1 = s.spare1;
-      spare2 = s.spare2;
-      spare3 = s.spare3;
-      spare4 = s.spare4;
-      spare5 = s.spare5;
-    }
+placed s cursor first = record s { cursor = cursor; window_first = first }
 
 -- `run_bits`: what it stores before the answer, and what it gives
 module _ (words : List ℕ) (stride base : ℕ) (st : List ℕ) (from at : ℕ) where
   pub placed-words : (s : State) (w : List ℕ) → st ≡ words_of s ++ w → set (set st 8 at) 19 from ≡ words_of (placed s at from) ++ w
   placed-words s w e = rw e
 
-  pub run-answer : (r next : ℕ) (st' : List ℕ) → Lower words stride (get_or st 6 0) (get_or st 7 0) (get_or st 8 0) base from → Gathers words stride (get_or st 6 0) (get_or st 7 0) base from r at → DocumentPost words stride (get_or st 6 0) (get_or st 7 0) at next → PutPost (set (set st 8 at) 19 from) r next st' → RunPost words stride st base r st'
+  pub run-answer : (r next : ℕ) (st' : List ℕ) → Lower words stride (get_or st 6 0) (get_or st 7 0) (get_or st 8 0) base from → Gathers words stride (get_or st 6 0) (get_or st 7 0) base from r at → NextIs words stride (get_or st 6 0) (get_or st 7 0) at next → PutPost (set (set st 8 at) 19 from) r next st' → RunPost words stride st base r st'
   run-answer r next st' l g d post s w h =
       let first : get_or st 6 0 ≡ s.first = rw h.words_are in
       let number : get_or st 7 0 ≡ s.number = rw h.words_are in

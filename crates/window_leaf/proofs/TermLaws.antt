@@ -26,12 +26,12 @@ use Rattle.window_leaf.proofs.Records.{term-run-like, term-passed, term-window}
 use Rattle.window_leaf.specs.Phrases.{rank_at}
 
 -- ---- the posting at a place whose bit is set
-pub term-posting : (ix : Index) → Accepted ix → (k l : ℕ) → l < leaf_count ix → (s : State) (b : ℕ) → TermIs ix k l s b → length ix.postings < 9223372036854775808 → (base : ℕ) → TermWindow ix l s base → (p : ℕ) → p < 64 → found (posting_at ix l (base + p)) ≡ true → (s.window_first + count_below p (λ q. bit q (window_bits s)) < s.cursor) × (leaf_document ix l (s.window_first + count_below p (λ q. bit q (window_bits s))) ≡ base + p)
-term-posting ix acc k l there s b is size base w p h e =
+pub term-posting : (ix : Index) → Accepted ix → (k l : ℕ) → l < leaf_count ix → (s : State) (b : ℕ) → TermIs ix k l s b → (base : ℕ) → TermWindow ix l s base → (p : ℕ) → p < 64 → found (posting_at ix l (base + p)) ≡ true → (s.window_first + count_below p (λ q. bit q (window_bits s)) < s.cursor) × (leaf_document ix l (s.window_first + count_below p (λ q. bit q (window_bits s))) ≡ base + p)
+term-posting ix acc k l there s b is base w p h e =
     let f = is.first-is in
     let n = is.number_is in
     rw f at
-    (posting-of-bit ix.postings 3 s.first s.number base s.window_first (window_bits s) (term-run ix acc k l there s b is size [] (words_of s) refl).run
+    (posting-of-bit ix.postings 3 s.first s.number base s.window_first (window_bits s) (term-run ix acc k l there s b is [] (words_of s) refl).run
     (record { within = omega (arith, n, w.first-within, w.within); passed = rw f w.before; ahead = rw (f, n) w.from })
     (λ q g. w.bits q g ∙ sym (term-run-like ix acc k l there s b is (base + q)))
     s.cursor
@@ -106,7 +106,7 @@ module _ {postings : List ℕ} {ix : Index} {ts : List PhraseTerm} {base want : 
         go [] r b k = (record { bits = λ p h. sym (and-true (bit p w)) ∙ b p h; gap = q.gap; top = q.top }, rw q.is (k (places_of w) (λ p h e. e) q.z r))
         go (t ∷ g) r b k = absurd (omega (arith, ap length q.is, length-append q.x q.z, ap length r.2, q.place))
 
-    module _ (l : at < length terms) (e : ℕ) (stop : e ≡ at + node_state_words) (size : length postings < 9223372036854775808) where
+    module _ (l : at < length terms) (e : ℕ) (stop : e ≡ at + node_state_words) where
       pub asking-next : (at + node_state_words ≤ length terms) × ((s : State) × (y : List ℕ) × SearchHeld postings 3 s y (take (e - at) (drop at terms)) base)
       unfolding TermsWindowed LeavesThere
       asking-next = go q.left q.rest q.there
@@ -116,7 +116,7 @@ module _ {postings : List ℕ} {ix : Index} {ts : List PhraseTerm} {base want : 
           go (t ∷ g) r h =
               let is = q.is ∙ ap (λ (y : List ℕ). q.x ++ y) r.2 in (
                 record-fits terms q.x r.1 r.0 at e is q.place stop,
-                (r.0, [], subst (λ (y : List ℕ). SearchHeld y 3 r.0 [] (take (e - at) (drop at terms)) base) q.postings-are (term-run ix q.accepted 9 t.leaf h.0 r.0 base r.3 (omega (arith, ap length q.postings-are)) [] (take (e - at) (drop at terms)) (record-part terms q.x r.1 r.0 at e is q.place stop))),
+                (r.0, [], subst (λ (y : List ℕ). SearchHeld y 3 r.0 [] (take (e - at) (drop at terms)) base) q.postings-are (term-run ix q.accepted 9 t.leaf h.0 r.0 base r.3 [] (take (e - at) (drop at terms)) (record-part terms q.x r.1 r.0 at e is q.place stop))),
               )
 
       -- the term was asked: r are its documents, and w' those wanted that are left
@@ -134,7 +134,7 @@ module _ {postings : List ℕ} {ix : Index} {ts : List PhraseTerm} {base want : 
               let st = take (e - at) (drop at terms) in
               let part : st ≡ words_of h.0 = record-part terms q.x h.1 h.0 at e is q.place stop in
               let own : RunPost ix.postings 3 st base r ys = subst (λ (y : List ℕ). RunPost y 3 st base r ys) (sym q.postings-are) post in
-              let m = own h.0 [] (term-run ix q.accepted 9 t.leaf k.0 h.0 base h.3 (omega (arith, ap length q.postings-are)) [] st part) in
+              let m = own h.0 [] (term-run ix q.accepted 9 t.leaf k.0 h.0 base h.3 [] st part) in
               let s' = window_at h.0 m.cursor m.first r m.next in
               let like = term-run-like ix q.accepted 9 t.leaf k.0 h.0 base h.3 in
               let here : ys ≡ words_of s' = m.words_are in
@@ -163,7 +163,7 @@ and-both : (a b : Bool) → (a && b) ≡ true → (a ≡ true) × (b ≡ true)
 and-both true b e = (refl, e)
 and-both false b e = absurd (false≢true e)
 
-module _ (ix : Index) (acc : Accepted ix) (size : length ix.postings < 9223372036854775808) (bound base place : ℕ) (low : place < 64) (D : Places) (on : D place ≡ true) (terms : List ℕ) (P : ℕ → ℕ → Type 0) (read : (at p : ℕ) → P at p → p ≡ 3 * (get_or terms (at + 6) 0 + get_or terms (at + 19) 0 + rank_at terms at place)) where
+module _ (ix : Index) (acc : Accepted ix) (bound base place : ℕ) (low : place < 64) (D : Places) (on : D place ≡ true) (terms : List ℕ) (P : ℕ → ℕ → Type 0) (read : (at p : ℕ) → P at p → p ≡ 3 * (get_or terms (at + 6) 0 + get_or terms (at + 19) 0 + rank_at terms at place)) where
   pub asked_terms : (ts : List PhraseTerm) (x z : List ℕ) → terms ≡ x ++ z → TermsWindowed ix ts z bound base D → LeavesThere ix ts → all_found ix ts (base + place) ≡ true → PostingsAt ix ts terms (length x) (base + place) P
   unfolding TermsWindowed LeavesThere all_found PostingsAt
   asked_terms [] x z is r h f = omega (arith, ap length is, length-append x z, ap length r)
@@ -177,7 +177,7 @@ module _ (ix : Index) (acc : Accepted ix) (size : length ix.postings < 922337203
       let twenty-one : get_or terms (length x + 21) 0 ≡ r.0.window_high = word 21 in
       let rank : rank_at terms (length x) place ≡ count_below place (λ q. bit q (window_bits r.0)) = ap₂ (λ (a b : ℕ). count_below place (λ k. bit k (joined a b))) twenty twenty-one in
       let asked = r.5 place low on in
-      let posting = term-posting ix acc 9 t.leaf h.0 r.0 bound r.3 size base asked place low both.0 in
+      let posting = term-posting ix acc 9 t.leaf h.0 r.0 bound r.3 base asked place low both.0 in
       let end : length (x ++ words_of r.0) ≡ length x + node_state_words = length-append x (words_of r.0) in (
         record-fits terms x r.1 r.0 (length x) (length x + node_state_words) whole refl refl,
         word 9 ∙ r.4,

@@ -1,5 +1,5 @@
 -- A phrase, asked for a window: its terms, its frequency at a place, its planes. Assumes nothing: these are definitions.
-use Rattle.std.specs.Prelude.{◌≡◌, true, false, cond, ◌&&◌, ◌||◌, List, ℕ, ◌+◌, ◌*◌, ◌≤◌, ◌<◌, eqb, min, length, get_or}
+use Rattle.std.specs.Prelude.{◌≡◌, true, false, cond, ◌&&◌, ◌||◌, List, ℕ, ◌+◌, ◌*◌, ◌/◌, ◌%◌, ◌≤◌, ◌<◌, eqb, min, length, get_or, set}
 use Rattle.meaning.specs.Below.{count_below}
 use Rattle.meaning.specs.Limits.{no_more_docs, node_state_words}
 use Rattle.meaning.specs.Lent.{Index}
@@ -77,3 +77,12 @@ PlanesPre postings positions terms a b base candidates =
 abbrev pub PlanesPost : List ℕ → List ℕ → List ℕ → ℕ → ℕ → ℕ → ℕ → Type 0
 PlanesPost postings positions terms base candidates ones twos =
     (ix : Index) (places f : ℕ) (ts : List PhraseTerm) → PhraseAsked postings positions ix places f ts base (places_of candidates) terms → PlanesAre ix ts base candidates ones twos
+
+-- the planes in a phrase's record
+pub record PlanesRead (st : List ℕ) (ones twos : ℕ) : Type 0 where
+  pub ones-are : ones ≡ joined (get_or st 23 0) (get_or st 24 0)
+  pub twos-are : twos ≡ joined (get_or st 25 0) (get_or st 26 0)
+
+-- what storing them leaves
+abbrev pub PlanesPut : List ℕ → ℕ → ℕ → List ℕ → Type 0
+PlanesPut st ones twos st' = st' ≡ set (set (set (set st 23 (ones % 4294967296)) 24 (ones / 4294967296)) 25 (twos % 4294967296)) 26 (twos / 4294967296)

@@ -5,45 +5,10 @@ use Rattle.weight.specs.State.{State, words_of}
 use Rattle.leaf_scorer.specs.Search.{SearchHeld}
 use Rattle.bits.specs.Bit.{bit, Bitmap}
 use Rattle.window.specs.Windows.{in_run, Cursor}
-use Rattle.run.specs.Run.{document_at}
 
 -- a record with what an answer stores: the cursor behind the window, the run's first place in it, its bits, and the document up to which nothing follows
 abbrev pub window_at : State → ℕ → ℕ → ℕ → ℕ → State
-window_at s cursor first bits next =
-    record {
-      kind = s.kind;
-      size = s.size;
-      cached = s.cached;
-      need = s.need;
-      required_end = s.required_end;
-      optional_end = s.optional_end;
-      first = s.first;
-      number = s.number;
-      cursor = cursor;
-      offset = s.offset;
-      field = s.field;
-      constant = s.constant;
-      weight = s.weight;
-      afterwards = s.afterwards;
-      group_at = s.group_at;
-      scores = s.scores;
-      frequency_of = s.frequency_of;
-      frequency = s.frequency;
-      norms = s.norms;
-      window_first = first;
-      window_low = bits % 4294967296;
-      window_high = bits / 4294967296;
-      window_next = next;
-      ones_low = s.ones_low;
-      ones_high = s.ones_high;
-      twos_low = s.twos_low;
-      twos_high = s.twos_high;
-      spare1 = s.spare1;
-      spare2 = s.spare2;
-      spare3 = s.spare3;
-      spare4 = s.spare4;
-      spare5 = s.spare5;
-    }
+window_at s cursor first bits next = record s { cursor = cursor; window_first = first; window_low = bits % 4294967296; window_high = bits / 4294967296; window_next = next }
 
 -- an answer that moves no cursor
 abbrev pub answered : State → ℕ → ℕ → State
@@ -75,14 +40,6 @@ abbrev pub RunPost : List ℕ → ℕ → List ℕ → ℕ → ℕ → List ℕ 
 RunPost words stride st base r st' = (s : State) (w : List ℕ) → SearchHeld words stride s w st base → RunMoved words stride s w base r st'
 
 -- the bits of r are 32 numbers of a bitmap, from `at` on; behind its last word there are none
-abbrev pub PartOf : List ℕ → ℕ → ℕ → ℕ → ℕ → Type 0
-PartOf words first number at r =
-    (P : ℕ → Bool) → Bitmap P words first number → ((d : ℕ) → 32 * number ≤ d → P d ≡ false) → (p : ℕ) → p < 32 → bit p r ≡ P (at + p)
-
--- the run's document at a place, or the end
-abbrev pub DocumentPre : List ℕ → ℕ → ℕ → ℕ → ℕ → Type 0
-DocumentPre words stride first number at = (0 < stride) × (at < number → stride * (first + at) < length words)
-
-pub record DocumentPost (words : List ℕ) (stride first number at r : ℕ) : Type 0 where
-  pub there : at < number → r ≡ document_at words stride first at
-  pub ended : number ≤ at → r ≡ no_more_docs
+abbrev pub PartOf : List ℕ → ℕ → ℕ → Type 0
+PartOf bitmap at r =
+    (P : ℕ → Bool) → Bitmap P bitmap 0 (length bitmap) → ((d : ℕ) → 32 * length bitmap ≤ d → P d ≡ false) → (p : ℕ) → p < 32 → bit p r ≡ P (at + p)

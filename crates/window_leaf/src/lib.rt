@@ -2,26 +2,36 @@
 #![tactic(auto)]
 
 ghost use Rattle.std.specs.Prelude.{◌≡◌, ◌+◌, ◌*◌, ◌≤◌, length, get_or};
-ghost use Rattle.meaning.specs.Limits.{node_state_words};
+ghost use Rattle.meaning.specs.Limits.{no_more_docs, node_state_words};
 ghost use Rattle.leaf_scorer.specs.Calls.{lent_of};
 ghost use Rattle.leaf_scorer.specs.Buffers.{room, other_room, SameBuffers};
 ghost use Rattle.window_leaf.specs.Asks.{TermPre, TermPost, RangePre, RangePost, BitsPre, BitsPost};
-ghost use Rattle.window_leaf.specs.Runs.{PutPre, PutPost, RunPre, RunPost, PartOf, DocumentPre, DocumentPost};
+ghost use Rattle.window_leaf.specs.Runs.{PutPre, PutPost, RunPre, RunPost, PartOf};
 
+use index::postings::POSTING;
 use leaf_scorer::{LeafReader, NO_MORE_DOCS, PhraseBuffers};
 use node::NodeKind;
+use run::Postings;
 use window::gathered;
 
 pub mod phrases;
-
-// The words of a posting.
-const POSTING: usize = 3;
 
 // A window of 64 documents: what is read of the index, and its first document.
 #[derive(Clone, Copy)]
 pub struct Window<'a> {
     pub reader: LeafReader<'a>,
     pub base: u32,
+}
+
+impl Window<'_> {
+    // The first document behind the window.
+    #[inline(always)]
+    pub fn end(&self) -> u32
+        requires { self.now.base + 64 ≤ no_more_docs }
+        ensures { result ≡ self.now.base + 64 }
+    {
+        self.base + 64
+    }
 }
 
 // What some nodes answer together: bits, and a document before which nothing follows.
@@ -41,34 +51,23 @@ pub fn put(st: &mut [u32], bits: u64, next: u32)
     st[22] = next;
 }
 
-// The document of a run at a place, or the end.
-fn document_or_end(words: &[u32], stride: usize, first: usize, number: usize, at: usize) -> u32
-    requires { DocumentPre words.now stride first number at }
-    ensures { DocumentPost words.now stride first number at result }
-{
-    if at < number {
-        run::document(words, stride, first, at)
-    } else {
-        NO_MORE_DOCS
-    }
-}
-
 // Moves a record's cursor over the window; gives its documents there.
 pub fn run_bits(st: &mut [u32], words: &[u32], stride: usize, base: u32) -> u64
     requires { RunPre words.now stride st.old base }
     ensures { RunPost words.now stride st.old base result st.new }
 {
-    let first = st[6] as usize;
-    let number = st[7] as usize;
-    let from = run::lower(words, stride, first, number, st[8] as usize, base);
-    let g = gathered(words, stride, first, number, from, base);
+    let postings = Postings {
+        words,
+        stride,
+        first: st[6] as usize,
+        count: st[7] as usize,
+    };
+    let from = postings.lower(st[8] as usize, base);
+    let g = gathered(postings, from, base);
     st[8] = g.at as u32;
     st[19] = from as u32;
-    put(
-        st,
-        g.bits,
-        document_or_end(words, stride, first, number, g.at),
-    );
+    let next = postings.get(g.at).unwrap_or(NO_MORE_DOCS);
+    put(st, g.bits, next);
     g.bits
 }
 
@@ -81,43 +80,44 @@ pub fn term_bits(st: &mut [u32], postings: &[u32], base: u32) -> u64
 }
 
 // A word of a bitmap; behind its last word there are no bits.
-fn word_at(words: &[u32], first: usize, number: usize, at: usize) -> u32
-    requires { first + number ≤ length words.now }
-    ensures { PartOf words.now first number (32 * at) result }
+fn word_at(bitmap: &[u32], at: usize) -> u32
+    ensures { result ≡ get_or bitmap.now at 0 }
 {
-    if at < number { words[first + at] } else { 0 }
+    bitmap.get(at).copied().unwrap_or(0)
 }
 
 // The 32 bits of a bitmap from any place on: mostly one of its words.
-fn bits_from(words: &[u32], first: usize, number: usize, at: u32) -> u32
-    requires { first + number ≤ length words.now }
-    ensures { PartOf words.now first number at result }
+fn bits_from(bitmap: &[u32], at: u32) -> u32
+    ensures { PartOf bitmap.now at result }
 {
     let word = (at / 32) as usize;
-    let low = word_at(words, first, number, word);
+    let low = word_at(bitmap, word);
     let skip = at % 32;
     if skip == 0 {
         return low;
     }
-    let high = word_at(words, first, number, word + 1);
+    let high = word_at(bitmap, word + 1);
     bits::low(bits::joined(low, high) >> skip)
 }
 
-// A range's, likewise.
+// A range's documents in the window, wanted or not.
 pub fn range_bits(st: &mut [u32], ranges: &[u32], base: u32) -> u64
     requires { RangePre ranges.now st.old base }
     ensures { RangePost ranges.now st.old base result st.new }
 {
     let first = st[6] as usize;
-    let number = st[7] as usize;
-    let low = bits_from(ranges, first, number, base);
-    let high = bits_from(ranges, first, number, base + 32);
+    let end = first + st[7] as usize;
+    let bitmap = &ranges[first..end];
+    let low = bits_from(bitmap, base);
+    let high = bits_from(bitmap, base + 32);
     let bits = bits::joined(low, high);
     put(st, bits, base + 64);
     bits
 }
 
 // The wanted documents of the window that a node without children matches.
+// Kept: no plainer as one struct of the two, here and below: of them only `buffers` is lent for writing; with the window in it, each clause would
+// also say that it stays.
 pub fn leaf_bits(
     st: &mut [u32],
     window: &Window<'_>,
@@ -135,7 +135,7 @@ pub fn leaf_bits(
         NodeKind::Phrase => phrases::phrase_bits(st, window, buffers, want),
         NodeKind::Range => bits::both(want, range_bits(st, window.reader.ranges, window.base)),
         NodeKind::Everything => {
-            put(st, want, window.base + 64);
+            put(st, want, window.end());
             want
         }
         _ => {

@@ -1,11 +1,13 @@
 // A phrase in a window: the documents that all its terms have, and then its positions in those alone.
-ghost use Rattle.std.specs.Prelude.{◌≡◌, ◌+◌, ◌*◌, ◌<◌, length, get_or};
+ghost use Rattle.std.specs.Prelude.{◌≡◌, ◌+◌, ◌*◌, ◌<◌, ◌≤◌, length, get_or};
+ghost use Rattle.meaning.specs.Limits.{node_state_words};
 ghost use Rattle.leaf_scorer.specs.Buffers.{room, other_room, SameBuffers};
 ghost use Rattle.window_leaf.specs.Asks.{PhrasePre, PhrasePost};
-ghost use Rattle.window_leaf.specs.Phrases.{TermsPre, TermsPost, rank_at, PostingPre, FrequencyPre, FrequencyPost, Noted, PlanesPre, PlanesPost};
+ghost use Rattle.window_leaf.specs.Phrases.{TermsPre, TermsPost, rank_at, PostingPre, FrequencyPre, FrequencyPost, Noted, PlanesPre, PlanesPost, PlanesRead, PlanesPut};
 
-use crate::{Found, POSTING, Window, put, run_bits};
+use crate::{Found, Window, put, run_bits};
 use bits::SetBits;
+use index::postings::POSTING;
 use leaf_scorer::{PhraseBuffers, frequency_by};
 use weight::NODE_STATE_WORDS;
 
@@ -38,6 +40,8 @@ fn posting_at(terms: &[u32], at: usize, place: u32) -> usize
 }
 
 // The frequency of a phrase at a place that all its terms have.
+// Kept: no plainer as one struct of the two, here and below: of them only `buffers` is lent for writing; with the window in it, each clause would
+// also say that it stays.
 pub fn frequency_at(
     terms: &[u32],
     window: &Window<'_>,
@@ -50,8 +54,7 @@ pub fn frequency_at(
 {
     frequency_by(
         terms,
-        window.reader.postings,
-        window.reader.positions,
+        &window.reader,
         buffers,
         |at| posting_at(terms, at, place),
     )
@@ -64,29 +67,49 @@ pub struct Planes {
     pub twos: u64,
 }
 
+impl Planes {
+    // Those of a phrase's record.
+    pub fn at(st: &[u32]) -> Planes
+        requires { node_state_words ≤ length st.now }
+        ensures { PlanesRead st.now result.ones result.twos }
+    {
+        Planes {
+            ones: bits::joined(st[23], st[24]),
+            twos: bits::joined(st[25], st[26]),
+        }
+    }
+
+    // Stores them in a phrase's record.
+    fn put(self, st: &mut [u32])
+        requires { node_state_words ≤ length st.old }
+        ensures { PlanesPut st.old self.ones self.twos st.new }
+    {
+        st[23] = bits::low(self.ones);
+        st[24] = bits::high(self.ones);
+        st[25] = bits::low(self.twos);
+        st[26] = bits::high(self.twos);
+    }
+}
+
 // One more frequency in the planes.
 fn noted(planes: Planes, place: u32, frequency: u32) -> Planes
     requires { place < 64 }
     ensures { Noted planes.ones planes.twos place frequency result.ones result.twos }
 {
-    if frequency == 0 {
-        return planes;
-    }
-    if frequency == 1 {
-        return Planes {
+    match frequency {
+        0 => planes,
+        1 => Planes {
             ones: bits::set_bit(planes.ones, place),
             ..planes
-        };
-    }
-    if frequency == 2 {
-        return Planes {
+        },
+        2 => Planes {
             twos: bits::set_bit(planes.twos, place),
             ..planes
-        };
-    }
-    Planes {
-        ones: bits::set_bit(planes.ones, place),
-        twos: bits::set_bit(planes.twos, place),
+        },
+        _ => Planes {
+            ones: bits::set_bit(planes.ones, place),
+            twos: bits::set_bit(planes.twos, place),
+        },
     }
 }
 
@@ -128,10 +151,7 @@ pub fn phrase_bits(
     );
     let planes = planes_of(&st[NODE_STATE_WORDS..], window, buffers, t.bits);
     let w = bits::either(planes.ones, planes.twos);
-    st[23] = bits::low(planes.ones);
-    st[24] = bits::high(planes.ones);
-    st[25] = bits::low(planes.twos);
-    st[26] = bits::high(planes.twos);
+    planes.put(st);
     put(st, w, t.next);
     w
 }

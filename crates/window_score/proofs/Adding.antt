@@ -18,7 +18,23 @@ use Rattle.meaning.proofs.Tests.{decided}
 use Rattle.bits.specs.Bit.{bit, LowestBit}
 use Rattle.bits.proofs.Laws.{bit-zero}
 use Rattle.leaf_score.proofs.Bounds.{scores-add, scores-narrow, scores-more}
-use Rattle.window_score.specs.Sums.{Sums, At, Changed, Added}
+use Rattle.window_score.specs.Sums.{Sums, At, Reached, uncalled, called, Answered, Changed, Added}
+
+-- what each call keeps holds of whatever the function has become
+pub reached-keeps : {F : Type 0} {step : F → Float → ℕ → Float → F → Type 0} {want : ℕ} {sums : List Float} {f₀ f : F} (P : F → Type 0) → P f₀ → ((f f' : F) (x : Float) (p : ℕ) (r : Float) → P f → step f x p r f' → P f') → Reached step want sums f₀ f → P f
+reached-keeps P h k uncalled = h
+reached-keeps {sums = sums} P h k (called {f} {f'} {r} {p} R l e s) = k f f' (get_or sums p nan) p r (reached-keeps P h k R) s
+
+-- a function that no call changes
+module _ {F : Type 0} {step : F → Float → ℕ → Float → F → Type 0} {want : ℕ} {sums : List Float} {f₀ : F} (steady : (f f' : F) (x : Float) (p : ℕ) (r : Float) → step f x p r f' → f' ≡ f) where
+  steady-is : {f : F} → Reached step want sums f₀ f → f ≡ f₀
+  steady-is {f} R = reached-keeps (λ (g : F). g ≡ f₀) refl (λ g g' x p r e s. steady g g' x p r s ∙ e) R
+
+  pub steady-pre : (Q : F → ℕ → Type 0) → ((p : ℕ) → p < 64 → bit p want ≡ true → Q f₀ p) → (f : F) → Reached step want sums f₀ f → (p : ℕ) → p < 64 → bit p want ≡ true → Q f p
+  steady-pre Q h f R p l e = subst (λ (g : F). Q g p) (sym (steady-is R)) (h p l e)
+
+  pub steady-step : {x y : Float} {p : ℕ} → Answered step want sums f₀ x p y → (f' : F) × step f₀ x p y f'
+  steady-step {x} {y} {p} k = (k.1, subst (λ (g : F). step g x p y k.1) (steady-is k.2) k.3)
 
 -- the places in `left` still have their sums, the other wanted ones what the function answered
 pub record Changing (post : Float → ℕ → Float → Type 0) (want left : ℕ) (sums sums' : List Float) : Type 0 where
@@ -74,7 +90,7 @@ module _ (post : Float → ℕ → Float → Type 0) (want : ℕ) (sums : List F
             here : post (get_or sums t nan) t (get_or (set sums' t x) t nan)
             here = subst (λ (y : Float). post y t (get_or (set sums' t x) t nan)) change-waits (subst (post (get_or sums' t nan) t) (sym (get_or-set_same sums' t x nan inside)) e)
 
--- ---- where the new sum is a function of the place and the old sum
+-- ---- where the new sum is a function of the place and the old sum, for `bulk_window`
 abbrev pub Adding : (ℕ → Float → Float) → ℕ → ℕ → List Float → List Float → Type 0
 Adding f = Changing (λ x p y. y ≡ f p x)
 

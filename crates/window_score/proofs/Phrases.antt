@@ -1,14 +1,14 @@
 -- A phrase at the wanted places of a window: its frequency there, and its score. Assumes nothing.
 use mathlib.Core.Path.{◌≡◌, refl, sym, ap, subst, ◌∙◌}
 use mathlib.Core.Logic.{⊎_elim}
-use mathlib.Core.Bool.{Bool, true, false, not, cond, ◌&&◌, false≢true}
+use mathlib.Core.Bool.{Bool, true, false, cond, ◌&&◌, false≢true}
 use mathlib.Core.List.{List, ◌++◌}
 use Prim.Native.Nat.{ℕ, ◌+◌, ◌-◌, ◌*◌, ◌^◌, ◌≤◌, ◌<◌, min}
 use native.Mathlib.Omega.{arith}
-use lib.Dec.{T, ltb}
-use lib.ListN.{length, get_or, set, take, drop, length-set}
+use lib.Dec.{ltb}
+use lib.ListN.{length, get_or}
 use lib.Seq.{take-length}
-use lib.Ieee.{Float, nan, binary64, is_nan, add}
+use lib.Ieee.{Float, nan, binary64, add}
 use Rattle.meaning.specs.Limits.{node_state_words}
 use Rattle.meaning.specs.Lent.{Index}
 use Rattle.meaning.specs.Phrase.{PhraseTerm, phrase_frequency}
@@ -24,22 +24,23 @@ use Rattle.weight.specs.Sound.{LeafSound, Sound, FieldTable, LeafTable, Tables, 
 use Rattle.leaf_scorer.specs.Phrases.{all_found}
 use Rattle.leaf_scorer.proofs.PhraseLaws.{leaves-there, lacking}
 use Rattle.leaf_score.specs.declared.ScoreNode.{ScoreNode}
-use Rattle.leaf_score.specs.Words.{ScoreNodeIs}
+use Rattle.leaf_score.specs.Words.{ScoreNodeIs, first_byte, Bytes, Weighs, answer}
 use Rattle.leaf_score.proofs.Frequencies.{phrase-frequency-few}
-use Rattle.leaf_score.proofs.Leaves.{Read, read, Weighs, answer}
-use Rattle.bits.specs.Bit.{bit, LowestBit}
+use Rattle.leaf_score.proofs.Leaves.{Read, read}
+use Rattle.bits.specs.Bit.{bit}
 use Rattle.window_words.specs.Windowed.{places_of, joined, phrase_places, planed_frequency, PhraseWindowed, LeafWindowed, Windowed}
 use Rattle.window_words.proofs.Laws.{windowed-kind, windowed-long, kind_of}
 use Rattle.window_leaf.specs.declared.phrases.Planes.{Planes}
-use Rattle.window_leaf.specs.Phrases.{PhraseAsked, FrequencyPre, FrequencyPost}
-use Rattle.window_score.specs.Words.{PlanesRead, PlanedIs}
+use Rattle.window_leaf.specs.Phrases.{PhraseAsked, FrequencyPre, PlanesRead}
+use Rattle.window_score.specs.Words.{planed_at}
+use Rattle.window_score.specs.Places.{behind, FrequencyRead, PhrasePlace}
+use Rattle.std.proofs.Common.{Bor, MutBor}
+use Rattle.leaf_scorer.specs.declared.PhraseBuffers.{PhraseBuffers}
+use Rattle.leaf_scorer.specs.Buffers.{room, other_room, SameBuffers}
+use Rattle.leaf_scorer.proofs.Loops.{same_refl, same_then}
+use Rattle.window_leaf.specs.declared.Window.{Window}
 use Rattle.window_score.specs.Asked.{Reads, with_ranges, WindowLent, NodeAsked, PhrasePre, PhrasePost}
-use Rattle.window_score.proofs.Adding.{Adding, adding-step, adding-done}
 use Rattle.window_score.proofs.Terms.{field-place, leaf-added}
-
--- the words behind a record
-abbrev pub behind : List ℕ → List ℕ
-behind st = take (length st - node_state_words) (drop node_state_words st)
 
 behind-is : (s : State) (st w : List ℕ) → st ≡ words_of s ++ w → behind st ≡ w
 behind-is s st w e = let size : length st - node_state_words ≡ length w = omega (arith, ap length e) in rw (size, e, take-length)
@@ -95,22 +96,10 @@ module _ (ix : Index) (V : Reads) (places depth scores : ℕ) (st : List ℕ) (w
   phrase-in (leaf everything sc) H k m = absurd (omega (arith, kind-of (leaf everything sc) H, k))
   phrase-in (boolean c j need rs os ps) H k m = absurd (omega (arith, kind-of (boolean c j need rs os ps) H, k))
 
--- a frequency as it is read: that of the planes, and where these say 3 it is worked out
-pub record Frequency (postings positions st : List ℕ) (base p planed r : ℕ) : Type 0 where
-  pub high : planed ≡ 3 → FrequencyPost postings positions (behind st) base p r
-  pub low : (planed ≡ 3 → ⊥) → r ≡ planed
-
-module _ {postings positions st : List ℕ} {base p planed r : ℕ} where
-  pub read-worked-out : {r' : ℕ} → planed ≡ 3 → r ≡ r' → FrequencyPost postings positions (behind st) base p r' → Frequency postings positions st base p planed r
-  read-worked-out {r' = r'} e f h = record { high = λ _. subst (FrequencyPost postings positions (behind st) base p) (sym f) h; low = λ n. absurd (n e) }
-
-  pub read-planed : (planed ≡ 3 → ⊥) → r ≡ planed → Frequency postings positions st base p planed r
-  read-planed n f = record { high = λ e. absurd (n e); low = λ _. f }
-
 few-is : (n r : ℕ) → r ≡ min 3 n → (r ≡ 3 → ⊥) → r ≡ n
 few-is n r e h = ⊎_elim (λ (l : n < 3). omega arith) (λ (g : 3 ≤ n). absurd (h (omega arith))) (cmp n 3)
 
-module _ (ix : Index) (max : ℕ) (V : Reads) (places a b want : ℕ) (L : WindowLent ix max V places a b want) (bytes : (i : ℕ) → get_or V.norms i 0 < 256) (st : List ℕ) (n : ScoreNode) (N : ScoreNodeIs st n) (S : Scorer) (t : PhraseIn ix V.inverses places st V.base want S) where
+module _ (ix : Index) (max : ℕ) (V : Reads) (places a b want : ℕ) (L : WindowLent ix max V places a b want) (st : List ℕ) (n : ScoreNode) (N : ScoreNodeIs st n) (S : Scorer) (t : PhraseIn ix V.inverses places st V.base want S) where
   R : Read n t.s
   R = read st t.v t.s n t.words N
 
@@ -144,9 +133,9 @@ module _ (ix : Index) (max : ℕ) (V : Reads) (places a b want : ℕ) (L : Windo
     pub phrase-there : D p ≡ true
     phrase-there = rw (e, t.stands p l e)
 
-    module _ (planes : Planes) (planes-are : PlanesRead st planes) (planed : ℕ) (planed-is : PlanedIs planes p planed) where
-      planed-min : planed ≡ min 3 (phrase_frequency ix t.ts (V.base + p))
-      planed-min = planed-is ∙ ap (λ (y : ℕ). cond (bit p y) 1 0 + 2 * cond (bit p planes.twos) 1 0) ones ∙ ap (λ (y : ℕ). cond (bit p (joined t.s.ones_low t.s.ones_high)) 1 0 + 2 * cond (bit p y) 1 0) twos ∙ t.held.frequencies p l e
+    module _ (planes : Planes) (planes-are : PlanesRead st planes.ones planes.twos) where
+      planed-min : planed_at planes p ≡ min 3 (phrase_frequency ix t.ts (V.base + p))
+      planed-min = ap (λ (y : ℕ). cond (bit p y) 1 0 + 2 * cond (bit p planes.twos) 1 0) ones ∙ ap (λ (y : ℕ). cond (bit p (joined t.s.ones_low t.s.ones_high)) 1 0 + 2 * cond (bit p y) 1 0) twos ∙ t.held.frequencies p l e
         where
           ones : planes.ones ≡ joined t.s.ones_low t.s.ones_high
           ones = planes-are.ones-are ∙ ap (λ (y : List ℕ). joined (get_or y 23 0) (get_or y 24 0)) t.words
@@ -154,35 +143,35 @@ module _ (ix : Index) (max : ℕ) (V : Reads) (places a b want : ℕ) (L : Windo
           twos : planes.twos ≡ joined t.s.twos_low t.s.twos_high
           twos = planes-are.twos-are ∙ ap (λ (y : List ℕ). joined (get_or y 25 0) (get_or y 26 0)) t.words
 
-      module _ (r : ℕ) (F : Frequency V.postings V.positions st V.base p planed r) where
+      module _ (r : ℕ) (F : FrequencyRead V.postings V.positions st planes V.base p r) where
         pub frequency-is : r ≡ phrase_frequency ix t.ts (V.base + p)
         frequency-is =
             ⊎_elim
-            (λ (g : planed ≡ 3). F.high g ix places t.f t.ts D phrase-there phrase-asked)
-            (λ (g : planed ≡ 3 → ⊥). F.low g ∙ few-is (phrase_frequency ix t.ts (V.base + p)) planed planed-min g)
-            (cases_eq planed 3)
+            (λ (g : planed_at planes p ≡ 3). F.high g ix places t.f t.ts D phrase-there phrase-asked)
+            (λ (g : planed_at planes p ≡ 3 → ⊥). F.low g ∙ few-is (phrase_frequency ix t.ts (V.base + p)) (planed_at planes p) planed-min g)
+            (cases_eq (planed_at planes p) 3)
 
-        pub phrase-place : Weighs n V.norms V.inverses (V.base + p) r × (answer n V.norms V.inverses (V.base + p) r ≡ scorer_score ix S (V.base + p)) × AtMost (2 ^ 29) (answer n V.norms V.inverses (V.base + p) r)
+        pub phrase-place : Weighs n V.norms V.inverses (V.base + p) r × (Bytes V.norms → (answer n V.norms V.inverses (V.base + p) r ≡ scorer_score ix S (V.base + p)) × AtMost (2 ^ 29) (answer n V.norms V.inverses (V.base + p) r))
         unfolding LeafSound scorer_score leaf_score
         phrase-place =
             let x : FloatIs t.w n.weight = subst (λ (i : ℕ). FloatIs t.w i) (sym R.weight_is) t.weight in
-            let k = field-place ix max V places a b want L bytes st n N p l e t.f t.sound.0 t.tables t.w x (R.field_is ∙ t.held.field_is) (R.norms-is ∙ t.held.norms-is) r (omega (arith, frequency-is, phrase-frequency-few ix L.lends.accepted t.f places t.ts (V.base + p) t.sound.4)) in
-            (k.0, k.1 ∙ ap (λ (i : ℕ). field_score ix t.f t.w i (V.base + p)) frequency-is ∙ ap (λ (y : Scorer). scorer_score ix y (V.base + p)) (sym t.is), k.2)
+            let k = field-place ix max V places a b want L st n N p l e t.f t.sound.0 t.tables t.w x (R.field_is ∙ t.held.field_is) (R.norms-is ∙ ap first_byte t.held.norms-is) r (omega (arith, frequency-is, phrase-frequency-few ix L.lends.accepted t.f places t.ts (V.base + p) t.sound.4)) in
+            (k.0, λ bytes. ((k.1 bytes).0 ∙ ap (λ (i : ℕ). field_score ix t.f t.w i (V.base + p)) frequency-is ∙ ap (λ (y : Scorer). scorer_score ix y (V.base + p)) (sym t.is), (k.1 bytes).1))
 
     -- the score is small
-    pub phrase-small : AtMost (2 ^ 29) (scorer_score ix S (V.base + p))
+    pub phrase-small : Bytes V.norms → AtMost (2 ^ 29) (scorer_score ix S (V.base + p))
     unfolding LeafSound scorer_score leaf_score
-    phrase-small =
+    phrase-small bytes =
         let x : FloatIs t.w n.weight = subst (λ (i : ℕ). FloatIs t.w i) (sym R.weight_is) t.weight in
-        let k = field-place ix max V places a b want L bytes st n N p l e t.f t.sound.0 t.tables t.w x (R.field_is ∙ t.held.field_is) (R.norms-is ∙ t.held.norms-is) (phrase_frequency ix t.ts (V.base + p)) (phrase-frequency-few ix L.lends.accepted t.f places t.ts (V.base + p) t.sound.4) in
-        subst (λ (y : Float). AtMost (2 ^ 29) y) (k.1 ∙ ap (λ (y : Scorer). scorer_score ix y (V.base + p)) (sym t.is)) k.2
+        let k = field-place ix max V places a b want L st n N p l e t.f t.sound.0 t.tables t.w x (R.field_is ∙ t.held.field_is) (R.norms-is ∙ ap first_byte t.held.norms-is) (phrase_frequency ix t.ts (V.base + p)) (phrase-frequency-few ix L.lends.accepted t.f places t.ts (V.base + p) t.sound.4) in
+        subst (λ (y : Float). AtMost (2 ^ 29) y) ((k.1 bytes).0 ∙ ap (λ (y : Scorer). scorer_score ix y (V.base + p)) (sym t.is)) (k.1 bytes).1
 
--- ---- the loop of `phrase_scores`
--- the score of any phrase that the words hold is added at each place that is done
-pub record PhraseAdding (st : List ℕ) (V : Reads) (a b want left : ℕ) (sums sums' : List Float) : Type 0 where
+-- ---- what `phrase_scores` asks at a place, and gives
+-- at each wanted place the sum is one more score of a frequency that was read
+pub record PhraseScored (n : ScoreNode) (V : Reads) (st : List ℕ) (planes : Planes) (want : ℕ) (sums sums' : List Float) : Type 0 where
   pub long : length sums' ≡ 64
-  pub wants : (p : ℕ) → bit p left ≡ true → bit p want ≡ true
-  pub each : (ranges : List ℕ) (depth max : ℕ) (ix : Index) (places : ℕ) (S : Scorer) (scores q : ℕ) → WindowLent ix max (with_ranges V ranges) places a b want → NodeAsked ix (with_ranges V ranges) places S depth scores st want q → Adding (λ p x. add binary64 x (scorer_score ix S (V.base + p))) want left sums sums'
+  pub wanted : (p : ℕ) → p < 64 → bit p want ≡ true → (r : ℕ) × FrequencyRead V.postings V.positions st planes V.base p r × (get_or sums' p nan ≡ add binary64 (get_or sums p nan) (answer n V.norms V.inverses (V.base + p) r)) × Bytes V.norms
+  pub others : (p : ℕ) → p < 64 → bit p want ≡ false → get_or sums' p nan ≡ get_or sums p nan
 
 module _ (st : List ℕ) (V : Reads) (a b want : ℕ) (sums : List Float) where
   module _ (P : PhrasePre st V a b want sums) where
@@ -192,9 +181,9 @@ module _ (st : List ℕ) (V : Reads) (a b want : ℕ) (sums : List Float) where
     pre-in : PhraseIn P.2.2.1 V.inverses P.2.2.2 st V.base want P.2.2.3
     pre-in = phrase-in P.2.2.1 (with_ranges V P.2.0) P.2.2.2 P.2.1 P.2.2.4 st want P.2.2.5 P.2.2.3 P.2.2.7 P.0 P.1
 
-    module _ (p : ℕ) (l : p < 64) (e : bit p want ≡ true) where
-      pub pre-frequency : (a' b' : ℕ) → a' ≡ a → b' ≡ b → (bytes : (i : ℕ) → get_or V.norms i 0 < 256) (n : ScoreNode) → ScoreNodeIs st n → FrequencyPre V.postings V.positions (behind st) a' b' V.base p
-      pre-frequency a' b' f g bytes n N =
+    module _ (n : ScoreNode) (N : ScoreNodeIs st n) (planes : Planes) (K : PlanesRead st planes.ones planes.twos) (p : ℕ) (l : p < 64) (e : bit p want ≡ true) where
+      pre-frequency : FrequencyPre V.postings V.positions (behind st) a b V.base p
+      pre-frequency =
           let i = pre-in in (
             l,
             (
@@ -203,43 +192,70 @@ module _ (st : List ℕ) (V : Reads) (a b want : ℕ) (sums : List Float) where
               i.f,
               i.ts,
               phrase_places P.2.2.1 i.ts V.base (places_of want),
-              omega (arith, P.2.2.6.room.in-a, f),
-              omega (arith, P.2.2.6.room.in_b, g),
-              phrase-there P.2.2.1 P.2.2.0 (with_ranges V P.2.0) P.2.2.2 a b want P.2.2.6 bytes st n N P.2.2.3 i p l e,
-              phrase-asked P.2.2.1 P.2.2.0 (with_ranges V P.2.0) P.2.2.2 a b want P.2.2.6 bytes st n N P.2.2.3 i,
+              P.2.2.6.room.in-a,
+              P.2.2.6.room.in_b,
+              phrase-there P.2.2.1 P.2.2.0 (with_ranges V P.2.0) P.2.2.2 a b want P.2.2.6 st n N P.2.2.3 i p l e,
+              phrase-asked P.2.2.1 P.2.2.0 (with_ranges V P.2.0) P.2.2.2 a b want P.2.2.6 st n N P.2.2.3 i,
             ),
           )
 
-      module _ (bytes : (i : ℕ) → get_or V.norms i 0 < 256) (n : ScoreNode) (N : ScoreNodeIs st n) (planes : Planes) (K : PlanesRead st planes) (planed : ℕ) (planed-is : PlanedIs planes p planed) (r : ℕ) (F : Frequency V.postings V.positions st V.base p planed r) where
-        place : Weighs n V.norms V.inverses (V.base + p) r × (answer n V.norms V.inverses (V.base + p) r ≡ scorer_score P.2.2.1 P.2.2.3 (V.base + p)) × AtMost (2 ^ 29) (answer n V.norms V.inverses (V.base + p) r)
-        place = phrase-place P.2.2.1 P.2.2.0 (with_ranges V P.2.0) P.2.2.2 a b want P.2.2.6 bytes st n N P.2.2.3 pre-in p l e planes K planed planed-is r F
+      place : (r : ℕ) → FrequencyRead V.postings V.positions st planes V.base p r → Weighs n V.norms V.inverses (V.base + p) r × (Bytes V.norms → (answer n V.norms V.inverses (V.base + p) r ≡ scorer_score P.2.2.1 P.2.2.3 (V.base + p)) × AtMost (2 ^ 29) (answer n V.norms V.inverses (V.base + p) r))
+      place r F = phrase-place P.2.2.1 P.2.2.0 (with_ranges V P.2.0) P.2.2.2 a b want P.2.2.6 st n N P.2.2.3 pre-in p l e planes K r F
 
-        pub pre-weighs : Weighs n V.norms V.inverses (V.base + p) r
-        pre-weighs = place.0
+      pub pre-place : PhrasePlace n V.norms V.inverses V.postings V.positions st planes a b V.base p
+      pre-place =
+          record {
+            long = pre-long;
+            asks = pre-frequency;
+            few = omega (arith, l, P.2.2.6.small);
+            scores = λ r F. ((place r F).0, λ bytes. atmost-number ((place r F).1 bytes).1);
+          }
 
-        pub pre-number : (x : Float) → x ≡ answer n V.norms V.inverses (V.base + p) r → T (not (is_nan x))
-        pre-number x u = atmost-number (subst (λ (y : Float). AtMost (2 ^ 29) y) (sym u) place.2)
+  pub phrase-done : get_or st 0 0 ≡ 2 → get_or st 11 0 ≡ 0 → (n : ScoreNode) → ScoreNodeIs st n → (planes : Planes) → PlanesRead st planes.ones planes.twos → (sums' : List Float) → PhraseScored n V st planes want sums sums' → PhrasePost st V a b want sums sums'
+  phrase-done kind scored n N planes K sums' D ranges depth max ix places S scores q L H Q =
+      let t = phrase-in ix (with_ranges V ranges) places depth scores st want q S H kind scored in
+      let at : (p : ℕ) (l : p < 64) (e : bit p want ≡ true) → (answer n V.norms V.inverses (V.base + p) (D.wanted p l e).0 ≡ scorer_score ix S (V.base + p)) × AtMost (2 ^ 29) (answer n V.norms V.inverses (V.base + p) (D.wanted p l e).0) = λ p l e. (phrase-place ix max (with_ranges V ranges) places a b want L st n N S t p l e planes K (D.wanted p l e).0 (D.wanted p l e).1).1 (D.wanted p l e).3 in
+      leaf-added ix (with_ranges V ranges) places S depth scores st want q sums sums' (phrase-one t) H Q D.long (λ p. scorer_score ix S (V.base + p)) (record { wanted = λ p l e. (D.wanted p l e).2 ∙ ap (add binary64 (get_or sums p nan)) (at p l e).0; others = D.others })
+      (λ p l e. (refl, subst (λ (y : Float). AtMost (2 ^ 29) y) (at p l e).0 (at p l e).1))
 
-  module _ (kind : get_or st 0 0 ≡ 2) (scored : get_or st 11 0 ≡ 0) (bytes : (i : ℕ) → get_or V.norms i 0 < 256) (n : ScoreNode) (N : ScoreNodeIs st n) (planes : Planes) (K : PlanesRead st planes) (left : ℕ) (sums' : List Float) (A : PhraseAdding st V a b want left sums sums') where
-    -- the score at the lowest place is added
-    pub phrase-step : (p : ℕ) → LowestBit left p → (left' : ℕ) → ((q : ℕ) → bit q left' ≡ (bit q left && not (lib.Dec.eqb q p))) → (planed : ℕ) → PlanedIs planes p planed → (r : ℕ) → Frequency V.postings V.positions st V.base p planed r → (at : ℕ) → at ≡ p → (x y : Float) → y ≡ answer n V.norms V.inverses (V.base + p) r → x ≡ add binary64 (get_or sums' at nan) y → PhraseAdding st V a b want left' sums (set sums' at x)
-    phrase-step p B left' rest planed d r F at f x y u z =
-        record {
-          long = length-set sums' at x ∙ A.long;
-          wants = λ q e. A.wants q (first (bit q left) (not (lib.Dec.eqb q p)) (sym (rest q) ∙ e));
-          each = λ ranges depth max ix places S scores q L H. let t = phrase-in ix (with_ranges V ranges) places depth scores st want q S H kind scored in
-              let k = phrase-place ix max (with_ranges V ranges) places a b want L bytes st n N S t p B.within (A.wants p B.set) planes K planed d r F in
-              adding-step (λ (i : ℕ) (v : Float). add binary64 v (scorer_score ix S (V.base + i))) want sums left sums' (A.each ranges depth max ix places S scores q L H) p B left' rest at x f (z ∙ ap (add binary64 (get_or sums' at nan)) (u ∙ k.1));
-        }
-      where
-        first : (c d : Bool) → c && d ≡ true → c ≡ true
-        first true d e = refl
-        first false d e = absurd (false≢true e)
+-- ---- what its closure has captured: the words, the planes, the window, the buffers, the norms, the inverses, the node and the base
+abbrev pub Captured : Type 0
+Captured = Bor (List ℕ) × Bor Planes × Bor Window × MutBor PhraseBuffers × Bor (List ℕ) × Bor (List Float) × Bor ScoreNode × Bor ℕ
 
-    -- all are done
-    pub phrase-done : left ≡ 0 → PhrasePost st V a b want sums sums'
-    phrase-done z ranges depth max ix places S scores q L H Q =
-        let t = phrase-in ix (with_ranges V ranges) places depth scores st want q S H kind scored in
-        let B = adding-done (λ (i : ℕ) (v : Float). add binary64 v (scorer_score ix S (V.base + i))) want sums left sums' (A.each ranges depth max ix places S scores q L H) z in
-        leaf-added ix (with_ranges V ranges) places S depth scores st want q sums sums' (phrase-one t) H Q A.long (λ p. scorer_score ix S (V.base + p)) B
-        (λ p l e. (refl, phrase-small ix max (with_ranges V ranges) places a b want L bytes st n N S t p l e))
+-- a call leaves all as it is, but for what the buffers hold
+pub record Kept (f f' : Captured) : Type 0 where
+  pub words : f'.0.now ≡ f.0.now
+  pub planes : f'.1.now ≡ f.1.now
+  pub window : f'.2.now ≡ f.2.now
+  pub buffers : SameBuffers f.3.now f'.3.now
+  pub lent : f'.3.ghost_name ≡ f.3.ghost_name
+  pub norms : f'.4.now ≡ f.4.now
+  pub inverses : f'.5.now ≡ f.5.now
+  pub node : f'.6.now ≡ f.6.now
+  pub base : f'.7.now ≡ f.7.now
+
+pub kept-refl : (f : Captured) → Kept f f
+kept-refl f = record { words = refl; planes = refl; window = refl; buffers = same_refl f.3.now; lent = refl; norms = refl; inverses = refl; node = refl; base = refl }
+
+pub kept-then : {f g h : Captured} → Kept f g → Kept g h → Kept f h
+kept-then k i = record { words = i.words ∙ k.words; planes = i.planes ∙ k.planes; window = i.window ∙ k.window; buffers = same_then k.buffers i.buffers; lent = i.lent ∙ k.lent; norms = i.norms ∙ k.norms; inverses = i.inverses ∙ k.inverses; node = i.node ∙ k.node; base = i.base ∙ k.base }
+
+-- what a call asks, and what it gives
+abbrev pub Asks : Captured → ℕ → Type 0
+Asks f p = (f.7.now ≡ f.2.now.base) × PhrasePlace f.6.now f.4.now f.5.now f.2.now.reader.postings.now f.2.now.reader.positions.now f.0.now f.1.now (room f.3.now) (other_room f.3.now) f.7.now p
+
+abbrev pub Scored : Captured → Float → ℕ → Float → Type 0
+Scored f x p y = (r : ℕ) × FrequencyRead f.2.now.reader.postings.now f.2.now.reader.positions.now f.0.now f.1.now f.7.now p r × (y ≡ add binary64 x (answer f.6.now f.4.now f.5.now (f.7.now + p) r))
+
+abbrev pub Gives : Captured → Float → ℕ → Float → Type 0
+Gives f x p y = Scored f x p y × Bytes f.4.now
+
+pub kept-asks : {f f' : Captured} → Kept f f' → (p : ℕ) → Asks f p → Asks f' p
+kept-asks k p t = rw (k.words, k.planes, k.window, k.norms, k.inverses, k.node, k.base, k.buffers.starts_length, k.buffers.other_starts_length) t
+
+pub kept-gives : {f f' : Captured} → Kept f f' → (x : Float) (p : ℕ) (y : Float) → Gives f' x p y → Gives f x p y
+kept-gives k x p y t = rw (sym k.words, sym k.planes, sym k.window, sym k.norms, sym k.inverses, sym k.node, sym k.base) t
+
+-- what the buffers are in the end, where they are still those that were lent
+pub kept-buffers : {f f' : Captured} → Kept f f' → {b : PhraseBuffers} → (f.3.ghost_name ≡ f'.3.ghost_name → b ≡ f'.3.now) → SameBuffers f.3.now b
+kept-buffers {f} k h = subst (SameBuffers f.3.now) (sym (h (sym k.lent))) k.buffers

@@ -7,8 +7,8 @@ use Prim.Native.Nat.{ℕ, zero, suc, ◌+◌, ◌*◌, ◌/◌, ◌^◌, ◌≤�
 use native.Mathlib.Omega.{arith}
 use lib.Dec.{T}
 use lib.ListN.{length, get_or}
-use lib.Ieee.{Float, binary32, is_nan, nan_bits, of_bits}
-use Rattle.meaning.specs.Below.{any_below, count_below, last_below}
+use lib.Ieee.{Float, binary32, nan_bits, of_bits}
+use Rattle.meaning.specs.Below.{any_below, last_below}
 use Rattle.meaning.specs.Limits.{node_state_words, largest_frequency}
 use Rattle.meaning.specs.Lent.{Index, leaf_count, leaf_field, leaf_first, leaf_number, leaf_document, leaf_frequency}
 use Rattle.meaning.specs.Postings.{posting_at, found, frequency_of}
@@ -24,17 +24,18 @@ use Rattle.weight.specs.State.{State, words_of}
 use Rattle.weight.specs.Held.{TermIs, FloatIs, ScoringIs}
 use Rattle.weight.specs.Sound.{LeafSound, Sound, LeafTable, Tables, nodes}
 use Rattle.leaf_score.specs.declared.ScoreNode.{ScoreNode}
-use Rattle.leaf_score.specs.Words.{ScoreNodeIs, constant_score}
+use Rattle.leaf_score.specs.Words.{ScoreNodeIs, first_byte, constant_score, Bytes, Weighs, answer}
 use Rattle.leaf_score.proofs.Constants.{constant-some}
 use Rattle.std.specs.Prelude.{Some}
 use Rattle.leaf_score.specs.Asked.{LentAt}
-use Rattle.leaf_score.proofs.Leaves.{Read, read, Weighs, answer, field-weighs, field-answer}
+use Rattle.leaf_score.proofs.Leaves.{Read, read, field-weighs, field-answer}
 use Rattle.leaf_score.proofs.Weights.{float_back, float-number}
 use Rattle.bits.specs.Bit.{bit}
 use Rattle.window.specs.Windows.{Cursor}
 use Rattle.window.proofs.Rank.{posting-of-bit}
 use Rattle.window_words.specs.Windowed.{nowhere, places_of, joined, window_bits, TermWindow, TermAsked, LeafWindowed, Windowed}
 use Rattle.window_words.proofs.Laws.{windowed-forget, windowed-kind, windowed-long, kind_of}
+use Rattle.window_score.specs.Places.{rank_of, term_score, TermPlace}
 use Rattle.window_score.specs.Sums.{Sums, Added, ConstantPre, ConstantPost}
 use Rattle.window_score.specs.Asked.{Reads, with_lists, WindowLent, NodeAsked, TermPre, TermPost}
 use Rattle.window_score.proofs.Adding.{added-same, added-small}
@@ -48,10 +49,6 @@ any-found (suc n) p = step (p n) (last_below n p) ∙ ap (λ (b : Bool). b || p 
     step : (b : Bool) (o : Option ℕ) → found (cond b (some n) o) ≡ (found o || b)
     step true o = sym (or-true (found o))
     step false o = sym (or-false (found o))
-
--- how many places below one have their bit
-abbrev pub rank_of : ℕ → ℕ → ℕ
-rank_of w p = count_below p (λ q. bit q w)
 
 module _ (ix : Index) (A : Accepted ix) (l : ℕ) (there : l < leaf_count ix) (few : leaf_number ix l < 9223372036854775808) (s : State) (base : ℕ) (W : TermWindow ix l s base) where
   run : Run ix.postings 3 (leaf_first ix l) (leaf_number ix l)
@@ -117,10 +114,6 @@ module _ (ix : Index) (V : Reads) (places depth scores : ℕ) (st : List ℕ) (w
   term-in (leaf everything sc) H k = absurd (omega (arith, kind-of (leaf everything sc) H, k))
   term-in (boolean c j need rs os ps) H k = absurd (omega (arith, kind-of (boolean c j need rs os ps) H, k))
 
--- the score at a place, as the loop works it out
-abbrev pub term_score : ScoreNode → List ℕ → List Float → List ℕ → ℕ → ℕ → ℕ → ℕ → Float
-term_score n norms table postings first bits base p = answer n norms table (base + p) (posting_frequency postings first (rank_of bits p))
-
 -- a constant score
 constant-score : (ix : Index) (l : ℕ) (sc : Scoring) (s : State) (n : ScoreNode) (R : Read n s) → ScoringIs sc s → n.constant ≡ 1 → T (not (nan_bits binary32 n.weight)) × AtMost (2 ^ 29) (of_bits binary32 n.weight) × ((d : ℕ) → of_bits binary32 n.weight ≡ leaf_score ix (term l) sc d)
 unfolding ScoringIs leaf_score
@@ -136,38 +129,15 @@ term-constant {ix} {st = st} t n N e =
     let r = constant-score ix t.l t.sc t.s n (read st [] t.s n t.words N) t.scoring e in
     (r.0, r.1, λ d. r.2 d ∙ ap (λ (x : Scorer). scorer_score ix x d) (sym t.is))
 
--- what `weighted` is asked at a place, and what it answers
-pub record TermPlace (ix : Index) (S : Scorer) (postings norms : List ℕ) (table : List Float) (n : ScoreNode) (first bits base p : ℕ) : Type 0 where
-  pub there : first + rank_of bits p < length postings / 3
-  pub weighs : Weighs n norms table (base + p) (posting_frequency postings first (rank_of bits p))
-  pub is : term_score n norms table postings first bits base p ≡ scorer_score ix S (base + p)
-  pub small : AtMost (2 ^ 29) (term_score n norms table postings first bits base p)
-
--- the frequency and the score as they are read
-module _ {ix : Index} {S : Scorer} {postings norms : List ℕ} {table : List Float} {n : ScoreNode} {first bits base p : ℕ} (t : TermPlace ix S postings norms table n first bits base p) (i r : ℕ) (at : i ≡ rank_of bits p) (read-is : r ≡ posting_frequency postings first i) where
-  frequency-at : r ≡ posting_frequency postings first (rank_of bits p)
-  frequency-at = read-is ∙ ap (posting_frequency postings first) at
-
-  pub place-weighs : Weighs n norms table (base + p) r
-  place-weighs = subst (Weighs n norms table (base + p)) (sym frequency-at) t.weighs
-
-  module _ (x : Float) (score-is : x ≡ answer n norms table (base + p) r) where
-    pub place-score : x ≡ term_score n norms table postings first bits base p
-    place-score = score-is ∙ ap (answer n norms table (base + p)) frequency-at
-
-    pub place-number : T (not (is_nan x))
-    place-number = atmost-number (subst (λ (y : Float). AtMost (2 ^ 29) y) (sym place-score) t.small)
-
-module _ (ix : Index) (max : ℕ) (V : Reads) (places a b want : ℕ) (L : WindowLent ix max V places a b want) (bytes : (i : ℕ) → get_or V.norms i 0 < 256) (st : List ℕ) (n : ScoreNode) (N : ScoreNodeIs st n) where
+module _ (ix : Index) (max : ℕ) (V : Reads) (places a b want : ℕ) (L : WindowLent ix max V places a b want) (st : List ℕ) (n : ScoreNode) (N : ScoreNodeIs st n) where
   lent-at : (p : ℕ) → p < 64 → bit p want ≡ true → LentAt ix max V.postings V.positions V.norms (V.base + p)
   lent-at p l e = record { lends = L.lends; norms-are = L.norms-are; document = L.wanted p l e }
 
   -- a leaf that scores by BM25 at a frequency
-  pub field-place : (p : ℕ) → p < 64 → bit p want ≡ true → (f : ℕ) → f < Rattle.meaning.specs.Lent.field_count ix → Rattle.weight.specs.Sound.FieldTable ix V.inverses f → (w : Float) → FloatIs w n.weight → n.field ≡ f → n.norms ≡ Rattle.weight.specs.Held.norms_word ix f → (frequency : ℕ) → frequency ≤ largest_frequency → Weighs n V.norms V.inverses (V.base + p) frequency × (answer n V.norms V.inverses (V.base + p) frequency ≡ field_score ix f w frequency (V.base + p)) × AtMost (2 ^ 29) (answer n V.norms V.inverses (V.base + p) frequency)
+  pub field-place : (p : ℕ) → p < 64 → bit p want ≡ true → (f : ℕ) → f < Rattle.meaning.specs.Lent.field_count ix → Rattle.weight.specs.Sound.FieldTable ix V.inverses f → (w : Float) → FloatIs w n.weight → n.field ≡ f → n.norms ≡ first_byte (Rattle.weight.specs.Held.norms_word ix f) → (frequency : ℕ) → frequency ≤ largest_frequency → Weighs n V.norms V.inverses (V.base + p) frequency × (Bytes V.norms → (answer n V.norms V.inverses (V.base + p) frequency ≡ field_score ix f w frequency (V.base + p)) × AtMost (2 ^ 29) (answer n V.norms V.inverses (V.base + p) frequency))
   field-place p l e f o F w x g h frequency few =
       let K = lent-at p l e in
-      let r = field-answer ix max V.postings V.positions V.norms (V.base + p) K bytes V.inverses n f o F w x g h frequency few (answer n V.norms V.inverses (V.base + p) frequency) refl in
-      (field-weighs ix max V.postings V.positions V.norms (V.base + p) K bytes V.inverses n f o F w x g h frequency few, r.0, r.1)
+      (field-weighs ix max V.postings V.positions V.norms (V.base + p) K V.inverses n f o F w x g h frequency few, λ bytes. field-answer ix max V.postings V.positions V.norms (V.base + p) K V.inverses n f o F w x g h frequency few bytes (answer n V.norms V.inverses (V.base + p) frequency) refl)
 
   module _ (words : (i : ℕ) → get_or st i 0 < 4294967296) (S : Scorer) (t : TermIn ix V.inverses st V.base want S) where
     R : Read n t.s
@@ -210,19 +180,24 @@ module _ (ix : Index) (max : ℕ) (V : Reads) (places a b want : ℕ) (L : Windo
         place-there : first + rank_of bits p < length V.postings / 3
         place-there = omega (arith, first-at, rank-at, here.0, (L.lends.accepted.leaf t.l t.there).run, ap length L.lends.postings-are)
 
-        place-by : (sc : Scoring) → ScoringIs sc t.s → LeafTable ix V.inverses (term t.l) sc → (n.constant ≡ 1 → ⊥) → Weighs n V.norms V.inverses (V.base + p) frequency × (term_score n V.norms V.inverses V.postings first bits V.base p ≡ leaf_score ix (term t.l) sc (V.base + p)) × AtMost (2 ^ 29) (term_score n V.norms V.inverses V.postings first bits V.base p)
+        place-by : (sc : Scoring) → ScoringIs sc t.s → LeafTable ix V.inverses (term t.l) sc → (n.constant ≡ 1 → ⊥) → Weighs n V.norms V.inverses (V.base + p) frequency × (Bytes V.norms → (term_score n V.norms V.inverses V.postings first bits V.base p ≡ leaf_score ix (term t.l) sc (V.base + p)) × AtMost (2 ^ 29) (term_score n V.norms V.inverses V.postings first bits V.base p))
         unfolding ScoringIs LeafTable leaf_score
         place-by (constant c) k F m = absurd (m (R.constant-is ∙ k.0))
         place-by (weighted w) k F m =
             let x : FloatIs w n.weight = subst (λ (i : ℕ). FloatIs w i) (sym R.weight_is) k.1 in
-            let r = field-place p l e (leaf_field ix t.l) (L.lends.accepted.leaf t.l t.there).field F w x (R.field_is ∙ t.term-is.field_is) (R.norms-is ∙ t.term-is.norms-is) frequency frequency-few in
-            (r.0, r.1 ∙ ap (λ (i : ℕ). field_score ix (leaf_field ix t.l) w i (V.base + p)) frequency-is, r.2)
+            let r = field-place p l e (leaf_field ix t.l) (L.lends.accepted.leaf t.l t.there).field F w x (R.field_is ∙ t.term-is.field_is) (R.norms-is ∙ ap first_byte t.term-is.norms-is) frequency frequency-few in
+            (r.0, λ bytes. ((r.1 bytes).0 ∙ ap (λ (i : ℕ). field_score ix (leaf_field ix t.l) w i (V.base + p)) frequency-is, (r.1 bytes).1))
 
-        pub term-place : (n.constant ≡ 1 → ⊥) → TermPlace ix S V.postings V.norms V.inverses n first bits V.base p
-        unfolding scorer_score
+        pub term-place : (n.constant ≡ 1 → ⊥) → TermPlace n V.norms V.inverses V.postings first bits V.base p
         term-place m =
             let r = place-by t.sc t.scoring t.tables m in
-            record { there = place-there; weighs = r.0; is = r.1 ∙ ap (λ (x : Scorer). scorer_score ix x (V.base + p)) (sym t.is); small = r.2 }
+            record { within = l; few = omega (arith, l, L.small); there = place-there; weighs = r.0; number = λ bytes. atmost-number (r.1 bytes).1 }
+
+        pub term-scores : (n.constant ≡ 1 → ⊥) → Bytes V.norms → (term_score n V.norms V.inverses V.postings first bits V.base p ≡ scorer_score ix S (V.base + p)) × AtMost (2 ^ 29) (term_score n V.norms V.inverses V.postings first bits V.base p)
+        unfolding scorer_score
+        term-scores m bytes =
+            let r = (place-by t.sc t.scoring t.tables m).1 bytes in
+            (r.0 ∙ ap (λ (x : Scorer). scorer_score ix x (V.base + p)) (sym t.is), r.1)
 
 -- ---- the end of a loop
 abbrev pub Scores : Index → List ℕ → Scorer → ℕ → ℕ → List ℕ → ℕ → ℕ → ℕ → List Float → List Float → Type 0
@@ -267,12 +242,12 @@ module _ (V : Reads) {st : List ℕ} {want : ℕ} {sums : List Float} where
           let z = h q 1 (omega (arith, term-one i, H.few), K) small in
           leaf-added ix (with_lists V positions ranges) places S depth scores st want q sums sums' (term-one i) H K z.1.long (λ p. x) z.0 (λ p l e. (c.1 ∙ r.2 (V.base + p), small))
 
-    module _ (bytes : (i : ℕ) → get_or V.norms i 0 < 256) (words : (i : ℕ) → get_or st i 0 < 4294967296) (m : n.constant ≡ 1 → ⊥) (first bits : ℕ) (first-is : first ≡ n.first + get_or st 19 0) (bits-are : bits ≡ joined (get_or st 20 0) (get_or st 21 0)) where
-      pub pre-place : (P : TermPre st V want sums) (p : ℕ) → p < 64 → bit p want ≡ true → TermPlace P.1.5.1 P.1.5.3 V.postings V.norms V.inverses n first bits V.base p
-      pre-place P p l e = term-place P.1.5.1 P.1.5.0 (with_lists V P.1.0 P.1.1) P.1.5.2 P.1.2 P.1.3 want P.1.5.6 bytes st n N words P.1.5.3 (pre-in P) first bits first-is bits-are p l e m
+    module _ (words : (i : ℕ) → get_or st i 0 < 4294967296) (m : n.constant ≡ 1 → ⊥) (first bits : ℕ) (first-is : first ≡ n.first + get_or st 19 0) (bits-are : bits ≡ joined (get_or st 20 0) (get_or st 21 0)) where
+      pub pre-place : (P : TermPre st V want sums) (p : ℕ) → p < 64 → bit p want ≡ true → TermPlace n V.norms V.inverses V.postings first bits V.base p
+      pre-place P p l e = term-place P.1.5.1 P.1.5.0 (with_lists V P.1.0 P.1.1) P.1.5.2 P.1.2 P.1.3 want P.1.5.6 st n N words P.1.5.3 (pre-in P) first bits first-is bits-are p l e m
 
-      pub post-weighted : get_or st 0 0 ≡ 1 → (sums' : List Float) → length sums' ≡ 64 → Added (term_score n V.norms V.inverses V.postings first bits V.base) want sums sums' → TermPost st V want sums sums'
-      post-weighted k sums' long A positions ranges a b depth max ix places S scores q L H K =
+      pub post-weighted : get_or st 0 0 ≡ 1 → (sums' : List Float) → length sums' ≡ 64 → ((p : ℕ) → p < 64 → bit p want ≡ true → Bytes V.norms) → Added (term_score n V.norms V.inverses V.postings first bits V.base) want sums sums' → TermPost st V want sums sums'
+      post-weighted k sums' long bytes A positions ranges a b depth max ix places S scores q L H K =
           let i = term-in ix (with_lists V positions ranges) places depth scores st want q S H k in
           leaf-added ix (with_lists V positions ranges) places S depth scores st want q sums sums' (term-one i) H K long (term_score n V.norms V.inverses V.postings first bits V.base) A
-          (λ p l e. let t = term-place ix max (with_lists V positions ranges) places a b want L bytes st n N words S i first bits first-is bits-are p l e m in (t.is, t.small))
+          (λ p l e. term-scores ix max (with_lists V positions ranges) places a b want L st n N words S i first bits first-is bits-are p l e m (bytes p l e))

@@ -27,11 +27,20 @@ pub record At (f : ℕ → Float → Float) (want : ℕ) (sums sums' : List Floa
   pub wanted : (p : ℕ) → p < 64 → bit p want ≡ true → get_or sums' p nan ≡ f p (get_or sums p nan)
   pub others : (p : ℕ) → p < 64 → bit p want ≡ false → get_or sums' p nan ≡ get_or sums p nan
 
--- a function of a sum and its place, by what it asks: it may be called at each wanted place
-abbrev pub ChangePre : (Float → ℕ → Type 0) → ℕ → List Float → Type 0
-ChangePre pre want sums = (length sums ≡ 64) × ((p : ℕ) → p < 64 → bit p want ≡ true → pre (get_or sums p nan) p)
+-- what a function of a sum and its place may become by calls at wanted places
+pub data Reached {F : Type 0} (step : F → Float → ℕ → Float → F → Type 0) (want : ℕ) (sums : List Float) (f₀ : F) : F → Type 0 where
+  uncalled : Reached step want sums f₀ f₀
+  called : {f f' : F} {r : Float} {p : ℕ} → Reached step want sums f₀ f → p < 64 → bit p want ≡ true → step f (get_or sums p nan) p r f' → Reached step want sums f₀ f'
 
--- .. and by what it answers: that is the sum at each wanted place, and the others stay
+-- it may be called at each wanted place
+abbrev pub ChangePre : {F : Type 0} → (F → Float → ℕ → Type 0) → (F → Float → ℕ → Float → F → Type 0) → F → ℕ → List Float → Type 0
+ChangePre {F} pre step f₀ want sums = (length sums ≡ 64) × ((f : F) → Reached step want sums f₀ f → (p : ℕ) → p < 64 → bit p want ≡ true → pre f (get_or sums p nan) p)
+
+-- what it answers
+abbrev pub Answered : {F : Type 0} → (F → Float → ℕ → Float → F → Type 0) → ℕ → List Float → F → Float → ℕ → Float → Type 0
+Answered {F} step want sums f₀ x p y = (f : F) × (f' : F) × Reached step want sums f₀ f × step f x p y f'
+
+-- the sum at each wanted place is changed so, and the others stay
 pub record Changed (post : Float → ℕ → Float → Type 0) (want : ℕ) (sums sums' : List Float) : Type 0 where
   pub long : length sums' ≡ 64
   pub wanted : (p : ℕ) → p < 64 → bit p want ≡ true → post (get_or sums p nan) p (get_or sums' p nan)

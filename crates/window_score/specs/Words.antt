@@ -4,14 +4,12 @@ use Rattle.bits.specs.Bit.{bit}
 use Rattle.window_words.specs.Windowed.{joined}
 use Rattle.window_leaf.specs.declared.phrases.Planes.{Planes}
 
--- of a phrase: its planes
-pub record PlanesRead (st : List ℕ) (r : Planes) : Type 0 where
-  pub ones-are : r.ones ≡ joined (get_or st 23 0) (get_or st 24 0)
-  pub twos-are : r.twos ≡ joined (get_or st 25 0) (get_or st 26 0)
-
 -- the frequency that two planes have at a place
+abbrev pub planed_at : Planes → ℕ → ℕ
+planed_at planes p = cond (bit p planes.ones) 1 0 + 2 * cond (bit p planes.twos) 1 0
+
 abbrev pub PlanedIs : Planes → ℕ → ℕ → Type 0
-PlanedIs planes p r = r ≡ cond (bit p planes.ones) 1 0 + 2 * cond (bit p planes.twos) 1 0
+PlanedIs planes p r = r ≡ planed_at planes p
 
 -- of an optional child of which some are needed: the documents that its record has, of those that are wanted; the words stay
 pub record StoredAre (st : List ℕ) (want r : ℕ) (st' : List ℕ) : Type 0 where

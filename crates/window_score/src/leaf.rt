@@ -1,12 +1,17 @@
 // The scores of a term and of a phrase at the wanted documents of a window.
-ghost use Rattle.std.specs.Prelude.{ℕ, ◌≤◌, ◌<◌, length, get_or};
+ghost use Rattle.std.specs.Prelude.{◌≡◌, ℕ, ◌+◌, ◌≤◌, ◌<◌, length};
+ghost use Rattle.std.specs.Float.{binary64};
+ghost use Rattle.std.specs.Float.Ieee.{add};
 ghost use Rattle.leaf_scorer.specs.Buffers.{room, other_room, SameBuffers};
 ghost use Rattle.window_score.specs.Asked.{reads_of, TermPre, TermPost, PhrasePre, PhrasePost};
-ghost use Rattle.window_score.specs.Words.{PlanesRead, PlanedIs};
+ghost use Rattle.leaf_score.specs.Words.{Bytes, answer};
+ghost use Rattle.window_score.specs.Places.{TermPlace, term_score, behind, FrequencyRead, PhrasePlace};
+ghost use Rattle.window_leaf.specs.Phrases.{FrequencyPre};
+ghost use Rattle.window_score.specs.Words.{PlanedIs};
 ghost use Rattle.meaning.specs.Limits.{node_state_words};
 
-use crate::sums::add_constant;
-use bits::SetBits;
+use crate::stored_bits;
+use crate::sums::{add_constant, change_sums};
 use ieee754::add_score;
 use index::postings::posting_frequency;
 use leaf_score::{score_node_at, weighted};
@@ -14,11 +19,6 @@ use leaf_scorer::PhraseBuffers;
 use weight::NODE_STATE_WORDS;
 use window_leaf::Window;
 use window_leaf::phrases::{Planes, frequency_at};
-
-// Nothing is done. The clause says what the type of the norms says, which is not known of a slice behind the window's reader.
-fn bytes(norms: &[u8])
-    ensures { (i : ℕ) → get_or norms.now i 0 < 256 }
-{}
 
 // A term's posting at a place: as many postings of the window stand before it as bits below it.
 pub fn term_scores(st: &[u32], window: &Window<'_>, want: u64, sums: &mut [f64])
@@ -30,30 +30,26 @@ pub fn term_scores(st: &[u32], window: &Window<'_>, want: u64, sums: &mut [f64])
     let norms = window.reader.norms;
     let inverses = window.reader.inverses;
     let base = window.base;
-    bytes(norms);
     let n = score_node_at(st);
     if let Some(score) = n.constant_score() {
         add_constant(score, want, sums);
         return;
     }
     let first = n.first + st[19] as usize;
-    let bits = bits::joined(st[20], st[21]);
-    for place in (SetBits { left: want }) {
-        let frequency = posting_frequency(postings, first, bits::rank(bits, place) as usize);
-        let s = weighted(norms, inverses, n, frequency, base + place);
-        let at = place as usize;
-        sums[at] = add_score(sums[at], s);
-    }
-}
-
-fn planes_at(st: &[u32]) -> Planes
-    requires { node_state_words ≤ length st.now }
-    ensures { PlanesRead st.now result }
-{
-    Planes {
-        ones: bits::joined(st[23], st[24]),
-        twos: bits::joined(st[25], st[26]),
-    }
+    let bits = stored_bits(st);
+    change_sums(
+        want,
+        sums,
+        &mut |sum, place|
+            requires { TermPlace n norms.now inverses.now postings.now first bits base place }
+            ensures score { result ≡ add binary64 sum (term_score n norms.entry.now inverses.entry.now postings.entry.now first bits base place) }
+            ensures bytes { Bytes norms.entry.now }
+        {
+            let frequency = posting_frequency(postings, first, bits::rank(bits, place) as usize);
+            let s = weighted(norms, inverses, n, frequency, base + place);
+            add_score(sum, s)
+        },
+    );
 }
 
 // The frequency at a place as the planes have it: 3 where it is 3 or more.
@@ -61,18 +57,30 @@ fn planed(planes: Planes, place: u32) -> u32
     requires { place < 64 }
     ensures { PlanedIs planes place result }
 {
-    let one: u32 = if bits::is_set(planes.ones, place) {
-        1
-    } else {
-        0
-    };
-    if bits::is_set(planes.twos, place) {
-        return 2 + one;
-    }
-    one
+    u32::from(bits::is_set(planes.ones, place)) + 2 * u32::from(bits::is_set(planes.twos, place))
 }
 
-// A frequency above 2 is worked out once more.
+// A phrase's frequency at a place: one above 2 is worked out once more.
+fn phrase_frequency(
+    st: &[u32],
+    planes: Planes,
+    window: &Window<'_>,
+    buffers: &mut PhraseBuffers<'_>,
+    place: u32,
+) -> u32
+    requires long { node_state_words ≤ length st.now }
+    requires asks { FrequencyPre window.now.reader.postings.now window.now.reader.positions.now (behind st.now) (room buffers.old) (other_room buffers.old) window.now.base place }
+    ensures read { FrequencyRead window.now.reader.postings.now window.now.reader.positions.now st.now planes window.now.base place result }
+    ensures same_buffers { SameBuffers buffers.old buffers.new }
+{
+    let frequency = planed(planes, place);
+    if frequency == 3 {
+        return frequency_at(&st[NODE_STATE_WORDS..], window, buffers, place);
+    }
+    frequency
+}
+
+// The scores of a phrase.
 pub fn phrase_scores(
     st: &[u32],
     window: &Window<'_>,
@@ -87,16 +95,21 @@ pub fn phrase_scores(
     let norms = window.reader.norms;
     let inverses = window.reader.inverses;
     let base = window.base;
-    bytes(norms);
     let n = score_node_at(st);
-    let planes = planes_at(st);
-    for place in (SetBits { left: want }) {
-        let mut frequency = planed(planes, place);
-        if frequency == 3 {
-            frequency = frequency_at(&st[NODE_STATE_WORDS..], window, buffers, place);
-        }
-        let s = weighted(norms, inverses, n, frequency, base + place);
-        let at = place as usize;
-        sums[at] = add_score(sums[at], s);
-    }
+    let planes = Planes::at(st);
+    change_sums(
+        want,
+        sums,
+        &mut |sum, place|
+            requires same { base ≡ window.now.base }
+            requires there { PhrasePlace n norms.now inverses.now window.now.reader.postings.now window.now.reader.positions.now st.now planes (room buffers.now) (other_room buffers.now) base place }
+            ensures score { (r : ℕ) × FrequencyRead window.entry.now.reader.postings.now window.entry.now.reader.positions.now st.entry.now planes base place r × (result ≡ add binary64 sum (answer n norms.entry.now inverses.entry.now (base + place) r)) }
+            ensures bytes { Bytes norms.entry.now }
+            ensures same_buffers { SameBuffers buffers.entry.now buffers.exit.now }
+        {
+            let frequency = phrase_frequency(st, planes, window, buffers, place);
+            let s = weighted(norms, inverses, n, frequency, base + place);
+            add_score(sum, s)
+        },
+    );
 }

@@ -15,8 +15,8 @@ use leaf_scorer::PhraseBuffers;
 use node::{Boolean, NodeKind, boolean_at, child_at};
 use sums::{add_constant, add_narrowed, join_after};
 use weight::NODE_STATE_WORDS;
-use window_bits::node_bits;
-use window_leaf::{Window, term_bits};
+use window_bits::child_bits;
+use window_leaf::Window;
 
 pub mod leaf;
 pub mod root;
@@ -30,25 +30,9 @@ fn stored_bits(st: &[u32]) -> u64
     bits::joined(st[20], st[21])
 }
 
-// Which of the wanted documents a child matches; a term is asked without the call of node_bits.
-fn child_bits(
-    st: &mut [u32],
-    window: &Window<'_>,
-    buffers: &mut PhraseBuffers<'_>,
-    want: u64,
-    depth: u32,
-) -> u64
-    requires { BitsPre (lent_of window.now.reader) (room buffers.old) (other_room buffers.old) st.old window.now.base want depth }
-    ensures bits_post { BitsPost (lent_of window.now.reader) (room buffers.old) (other_room buffers.old) st.old window.now.base want depth result st.new }
-    ensures same_buffers { SameBuffers buffers.old buffers.new }
-{
-    match NodeKind::from(st[0]) {
-        NodeKind::Term => bits::both(want, term_bits(st, window.reader.postings, window.base)),
-        _ => node_bits(st, window, buffers, want, depth),
-    }
-}
-
 // Which of the wanted documents an optional child matches: its record has them, but where none is needed it is asked only now.
+// Kept: no plainer as one struct of the two, here and below: of them only `buffers` is lent for writing; with the window in it, each clause would
+// also say that it stays.
 fn optional_child_bits(
     st: &mut [u32],
     need: u32,
@@ -111,7 +95,7 @@ pub fn node_scores(
 }
 
 // A Boolean has sums of its own, which are added to its parent's, narrowed.
-// Kept: seven parameters: `want` and `sums` change from call to call, each by itself, so a struct of them is no plainer.
+// Kept: seven parameters: no plainer: `window_bits` takes `window` and `buffers` apart, and `want` and `sums` change from call to call, each by itself.
 #[cycle(boolean_scores_group_scores_node_scores_optional_scores_part_scores_required_scores)]
 fn boolean_scores(
     kids: &mut [u32],
@@ -131,7 +115,8 @@ fn boolean_scores(
     add_narrowed(&own, want, sums);
 }
 
-// A Boolean's children, into sums that are 0. Where there are only required ones or only optional ones, they need no other sums. Inlined at both calls: one call more for each Boolean of a window costs a deep tree a twentieth.
+// A Boolean's children, into sums that are 0. Where there are only required ones or only optional ones, they need no other sums. Inlined at
+// both calls: one call more for each Boolean of a window costs a deep tree a twentieth.
 // Kept: seven parameters, as in `boolean_scores`.
 #[inline(always)]
 #[cycle(boolean_scores_group_scores_node_scores_optional_scores_part_scores_required_scores)]

@@ -1,18 +1,21 @@
 // The sums of a window's 64 documents: one more score at each wanted place.
 ghost use Rattle.std.specs.Prelude.{◌≡◌};
-ghost use Rattle.window_score.specs.Sums.{ChangePre, Changed, ConstantPre, ConstantPost, NarrowedPre, NarrowedPost, AfterPre, AfterPost, BothPre, both_of};
+ghost use Rattle.window_score.specs.Sums.{ChangePre, Changed, Reached, Answered, ConstantPre, ConstantPost, NarrowedPre, NarrowedPost, AfterPre, AfterPost, BothPre, both_of};
 
 use bits::SetBits;
 use ieee754::{add_score, narrow};
 
 // The sum at each wanted place becomes what `changed` makes of it there; the others stay.
-fn change_sums<F: Fn(f64, usize) -> f64>(want: u64, sums: &mut [f64], changed: F)
-    requires { ChangePre (F.pre changed) want sums.old }
-    ensures { Changed (F.post changed) want sums.old sums.new }
+// Kept: a rule of the project: a contract asks no more than it did; who calls `term_scores` and the like may lend any slice that is 64 long.
+#[inline(always)]
+pub(crate) fn change_sums<F: FnMut(f64, u32) -> f64>(want: u64, sums: &mut [f64], changed: &mut F)
+    requires { ChangePre F.pre F.step changed.old want sums.old }
+    ensures reached { Reached F.step want sums.old changed.old changed.new }
+    ensures changed { Changed (Answered F.step want sums.old changed.old) want sums.old sums.new }
 {
     for place in (SetBits { left: want }) {
         let at = place as usize;
-        sums[at] = changed(sums[at], at);
+        sums[at] = changed(sums[at], place);
     }
 }
 
@@ -29,7 +32,7 @@ pub fn add_constant(score: f32, want: u64, sums: &mut [f64])
     requires { ConstantPre score sums.old }
     ensures { ConstantPost score want sums.old sums.new }
 {
-    change_sums(want, sums, |sum, _| add_score(sum, score));
+    change_sums(want, sums, &mut |sum, _| add_score(sum, score));
 }
 
 // A Boolean's own sums, narrowed.
@@ -37,7 +40,11 @@ pub fn add_narrowed(own: &[f64], want: u64, sums: &mut [f64])
     requires { NarrowedPre own.now sums.old }
     ensures { NarrowedPost own.now want sums.old sums.new }
 {
-    change_sums(want, sums, |sum, at| add_score(sum, narrow(own[at])));
+    change_sums(
+        want,
+        sums,
+        &mut |sum, place| add_score(sum, narrow(own[place as usize])),
+    );
 }
 
 // Each sum is narrowed, and the group's, narrowed too, is added to it.
@@ -45,5 +52,9 @@ pub fn join_after(group: &[f64], want: u64, sums: &mut [f64])
     requires { AfterPre group.now sums.old }
     ensures { AfterPost group.now want sums.old sums.new }
 {
-    change_sums(want, sums, |sum, at| both(sum, group[at]));
+    change_sums(
+        want,
+        sums,
+        &mut |sum, place| both(sum, group[place as usize]),
+    );
 }

@@ -5,4 +5,4 @@ use Rattle.adjacent_leaves.proofs.adjacent.Given as goal
 
 abbrev pub invariant-loop-end : goal.invariant-loop-end
 invariant-loop-end l =
-    (m : ℕ) × ((l.end ≡ l.l + m) × (0 < m) × (l.l + m ≤ l.limit) × (1 ≤ l.last) × (l.last ≤ length l.lent.postings.now / 3) × Together (index_of l.lent) l.l m l.last l.falls false)
+    (m : ℕ) × ((l.end ≡ l.l + m) × (0 < m) × (l.l + m ≤ l.limit) × (1 ≤ l.runs_end) × (l.runs_end ≤ length l.lent.postings.now / 3) × Together (index_of l.lent) l.l m l.runs_end l.falls false)

@@ -25,7 +25,7 @@ overflow_mul-to c =
     let t = v.1.3 in
     let first = leaf_first_lem ix c.args.l _ c.leaf_at-leaf.ensures in
     let ok = leaf-ok ix c.requires.leaves_right (c.args.l + (m - 1)) (omega (arith, v.1.1, v.1.2, c.requires.l_lt_limit)) in
-    let fits : 3 * c.in_ok-s.s.last ≤ length c.args.lent.now.postings.now = omega (arith, t.ends, ok.words) in
+    let fits : 3 * c.in_ok-s.s.runs_end ≤ length c.args.lent.now.postings.now = omega (arith, t.ends, ok.words) in
     omega (arith, fits, c.well_formed)
 
 pub slice_bounds-run-count : goal.slice_bounds-run-count
@@ -36,7 +36,7 @@ slice_bounds-run-count c =
     let t = v.1.3 in
     let first = leaf_first_lem ix c.args.l _ c.leaf_at-leaf.ensures in
     let ok = leaf-ok ix c.requires.leaves_right (c.args.l + (m - 1)) (omega (arith, v.1.1, v.1.2, c.requires.l_lt_limit)) in
-    let fits : 3 * c.in_ok-s.s.last ≤ length c.args.lent.now.postings.now = omega (arith, t.ends, ok.words) in
+    let fits : 3 * c.in_ok-s.s.runs_end ≤ length c.args.lent.now.postings.now = omega (arith, t.ends, ok.words) in
     omega (arith, last-is ix c.args.l m _ _ t v.1.1 _ first fits)
 
 pub slice_bounds-run-start : goal.slice_bounds-run-start
@@ -47,7 +47,7 @@ slice_bounds-run-start c =
     let t = v.1.3 in
     let first = leaf_first_lem ix c.args.l _ c.leaf_at-leaf.ensures in
     let ok = leaf-ok ix c.requires.leaves_right (c.args.l + (m - 1)) (omega (arith, v.1.1, v.1.2, c.requires.l_lt_limit)) in
-    let fits : 3 * c.in_ok-s.s.last ≤ length c.args.lent.now.postings.now = omega (arith, t.ends, ok.words) in
+    let fits : 3 * c.in_ok-s.s.runs_end ≤ length c.args.lent.now.postings.now = omega (arith, t.ends, ok.words) in
     omega (arith, last-is ix c.args.l m _ _ t v.1.1 _ first fits)
 
 pub slice_bounds-run-end : goal.slice_bounds-run-end
@@ -58,7 +58,7 @@ slice_bounds-run-end c =
     let t = v.1.3 in
     let first = leaf_first_lem ix c.args.l _ c.leaf_at-leaf.ensures in
     let ok = leaf-ok ix c.requires.leaves_right (c.args.l + (m - 1)) (omega (arith, v.1.1, v.1.2, c.requires.l_lt_limit)) in
-    let fits : 3 * c.in_ok-s.s.last ≤ length c.args.lent.now.postings.now = omega (arith, t.ends, ok.words) in
+    let fits : 3 * c.in_ok-s.s.runs_end ≤ length c.args.lent.now.postings.now = omega (arith, t.ends, ok.words) in
     omega (arith, fits)
 
 pub returns : goal.returns
@@ -69,7 +69,7 @@ returns c =
     let t = v.1.3 in
     let first = leaf_first_lem ix c.args.l _ c.leaf_at-leaf.ensures in
     let ok = leaf-ok ix c.requires.leaves_right (c.args.l + (m - 1)) (omega (arith, v.1.1, v.1.2, c.requires.l_lt_limit)) in
-    let fits : 3 * c.in_ok-s.s.last ≤ length c.args.lent.now.postings.now = omega (arith, t.ends, ok.words) in
+    let fits : 3 * c.in_ok-s.s.runs_end ≤ length c.args.lent.now.postings.now = omega (arith, t.ends, ok.words) in
     record {
       bounds = (omega (arith, v.1.0, v.1.1), omega (arith, v.1.0, v.1.2));
       right = λ k g h.

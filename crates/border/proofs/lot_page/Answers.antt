@@ -3,6 +3,7 @@ use Rattle.std.proofs.Common.{◌∙◌, ap, length, rules}
 use Rattle.meaning.specs.Entries.{page_refusal}
 use Rattle.index.specs.Slices.{lent}
 use Rattle.order_check.specs.Lends.{work}
+use Rattle.border.proofs.Short.{short-of}
 use Rattle.border.proofs.Told.{page-told-short, page-told-refused, page-told-given}
 use Rattle.border.proofs.lot_page.Goals as goal
 
@@ -11,7 +12,7 @@ returns-then-answer-lt2 c =
     let a = c.args in
     let ix = lent a.max_doc a.fields.now a.leaves.now a.postings.now a.positions.now a.norms.now a.live.now a.columns.now a.values.now in
     let w = work (length a.states.now) (length a.a.now) (length a.b.now) (length a.ranges.now) in
-    let t = page-told-short ix a.q.now a.target w a.documents.now a.scores.now a.answer.now a.states.now a.a.now a.b.now a.ranges.now _ _ c.if-answer-lt2.true (c.page_refusal.ensures ∙ ap (λ v. page_refusal ix a.q.now a.target v (length a.documents.now) (length a.scores.now)) c.lengths-work.ensures) c.short_answer.ensures in
+    let t = page-told-short ix a.q.now a.target w a.documents.now a.scores.now a.answer.now a.states.now a.a.now a.b.now a.ranges.now _ _ c.if-answer-lt2.true (c.page_refusal-refused.ensures ∙ ap (λ v. page_refusal ix a.q.now a.target v (length a.documents.now) (length a.scores.now)) c.lengths-work.ensures) (c.short_answer.ensures ∙ short-of _) in
     record { value = t.0; documents_after = t.1.0; scores_after = t.1.1.0; answer_after = t.1.1.1.0; kept = t.1.1.1.1.0; kept_2 = t.1.1.1.1.1.0; kept_3 = t.1.1.1.1.1.1.0; kept_4 = t.1.1.1.1.1.1.1 }
 
 pub returns-in-Err : goal.returns-in-Err

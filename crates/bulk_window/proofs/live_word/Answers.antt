@@ -4,8 +4,8 @@ use Rattle.bits.proofs.Laws.{full}
 use Rattle.bulk_window.proofs.Live.{all-live, word-live}
 use Rattle.bulk_window.proofs.live_word.Goals as goal
 
-pub returns-then-live-eq0 : goal.returns-then-live-eq0
-returns-then-live-eq0 c = λ p h. full p h ∙ sym (all-live c.args.live.now (c.args.base + p) c.if-live-eq0.true)
+pub returns-then-is_empty : goal.returns-then-is_empty
+returns-then-is_empty c = λ p h. full p h ∙ sym (all-live c.args.live.now (c.args.base + p) (sym c.if-is_empty.ensures))
 
 pub returns : goal.returns
-returns c = λ p h. word-live c.args.live.now c.args.base p c.requires.whole h c.if-live-eq0.false
+returns c = λ p h. word-live c.args.live.now c.args.base p c.requires.whole h (sym c.if-is_empty.ensures)

@@ -5,7 +5,7 @@ use Rattle.collector_vectors.proofs.is_good.Goals as goal
 
 pub loop-i-preserved : goal.loop-i-preserved
 loop-i-preserved c =
-    next-seen c.loop-i.invariant (omega arith) c.if-document-least.false c.if-document-ge2147483647.false c.if-scores-i-gt2139095040.false
+    next-seen c.loop-i.invariant (omega arith) c.if-document-least.false c.if-document-ge-NO_MORE_DOCS.false c.if-scores-i-gt-PLUS_INFINITY.false
 
 pub returns : goal.returns
 returns c = λ e. all_seen c.loop-i.invariant (omega arith)

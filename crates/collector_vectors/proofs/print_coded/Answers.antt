@@ -1,18 +1,11 @@
 -- A code can be taken apart again.
-use Rattle.std.proofs.Common.{◌^◌, ◌≤◌, not, T, ℤ, sym, ◌∙◌, subst, w64}
+use Rattle.std.proofs.Common.{◌^◌, not, T, ℤ, sym, ◌∙◌, subst, w64}
 use lib.Signed.{shr_z}
 use lib.Ieee.{binary32, nan_bits}
 use mir.ValLaws.{to_z-of_z}
-use Rattle.meaning.specs.Limits.{no_more_docs}
 use Rattle.meaning.specs.Ieee754.{sortable_bits}
-use Rattle.meaning.specs.Hits.{low_word}
-use Rattle.collector.proofs.Ranked.{code-low, code-number}
+use Rattle.collector.proofs.Ranked.{code-number}
 use Rattle.collector_vectors.proofs.print_coded.Goals as goal
-
-pub to_doc-doc-requires : goal.to_doc-doc-requires
-to_doc-doc-requires g c =
-    let encoded = to_z-of_z w64 c.encode-code.result (record { sfits = c.encode-code.type_inv }) ∙ c.encode-code.ensures in
-    subst (λ (z : ℤ). low_word z ≤ no_more_docs) (sym encoded) (code-low (record { doc = c.args.document; score = c.args.score }))
 
 pub to_score-back-requires : goal.to_score-back-requires
 to_score-back-requires g c =

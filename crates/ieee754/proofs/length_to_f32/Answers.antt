@@ -1,8 +1,9 @@
--- `ieee754::length_to_f32` meets its contract: binary64 holds the length, so `narrow` rounds the length itself. Assumes nothing.
-use Rattle.std.proofs.Common.{ap, ◌∙◌, arith}
-use Rattle.meaning.specs.Ieee754.{narrow}
-use Rattle.ieee754.proofs.Lengths.{length-narrow}
+-- `ieee754::length_to_f32` meets its contract: std's function has the same. Assumes nothing.
+use Rattle.std.proofs.Common.{ℕ, ap, refl, ◌∙◌}
+use lib.IntN.{pos}
+use lib.Ieee.{binary32, of_int}
 use Rattle.ieee754.proofs.length_to_f32.Goals as goal
 
+-- The lengths are compared by themselves: an edit's log then names the one that differs.
 pub returns : goal.returns
-returns c = c.narrow.ensures ∙ ap narrow c.from.ensures ∙ length-narrow c.args.n (omega (arith, c.ranges.n))
+returns c = c.nearest_u32_to_f32.ensures ∙ ap (λ (n : ℕ). of_int binary32 (pos n)) refl

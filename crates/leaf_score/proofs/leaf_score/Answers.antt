@@ -12,12 +12,12 @@ use Rattle.weight.specs.State.{State, words_of}
 use Rattle.leaf_scorer.specs.Buffers.{places_in}
 use Rattle.leaf_score.specs.Asked.{LentAt, LeafAsks}
 use Rattle.leaf_score.proofs.Bounds.{zero-32}
-use Rattle.leaf_score.proofs.Leaves.{Counted, read, few-documents, counted-byte, counted-weighs, counted-done, term-run, term-counted, phrase-asks, phrase-counted, other-done}
+use Rattle.leaf_score.proofs.Leaves.{Counted, read, few-documents, counted-weighs, counted-done, term-run, term-counted, phrase-asks, phrase-counted, other-done}
 use Rattle.leaf_score.proofs.leaf_score.Goals as goal
-use Rattle.leaf_score.proofs.leaf_score.Goals.{After-norm_byte-arg-1, in-Term, in-Phrase}
+use Rattle.leaf_score.proofs.leaf_score.Goals.{After-weighted-arg-2-1, in-Term, in-Phrase}
 
 -- whatever leaf the words hold
-counted : (c : After-norm_byte-arg-1) (m : ℕ) (ix : Index) (ranges : List ℕ) (l : Leaf) (w : Float) (s : State) (v : List ℕ) → LentAt ix m c.args.reader.now.postings.now c.args.reader.now.positions.now c.args.reader.now.norms.now c.args.doc → LeafAsks ix ranges c.args.reader.now.inverses.now (places_in c.args.buffers.now) l w s v c.args.doc → c.args.st.now ≡ words_of s ++ v → Counted ix c.args.reader.now.inverses.now c.score_node_at-n.result ranges l w s c.args.doc c.match-from.frequency c.match-from.st
+counted : (c : After-weighted-arg-2-1) (m : ℕ) (ix : Index) (ranges : List ℕ) (l : Leaf) (w : Float) (s : State) (v : List ℕ) → LentAt ix m c.args.reader.now.postings.now c.args.reader.now.positions.now c.args.reader.now.norms.now c.args.doc → LeafAsks ix ranges c.args.reader.now.inverses.now (places_in c.args.buffers.now) l w s v c.args.doc → c.args.st.now ≡ words_of s ++ v → Counted ix c.args.reader.now.inverses.now c.score_node_at-n.result ranges l w s c.args.doc c.match-from.frequency c.match-from.st
 counted c m ix ranges l w s v L p e =
     let a = c.args in
     let r = a.reader.now in
@@ -48,23 +48,16 @@ returns-in_default-clause-leaf_post c =
     let r = a.reader.now in
     λ m ix ranges l w s v L p e. other-done ix m r.postings.now r.positions.now r.norms.now a.doc L r.inverses.now _ ranges _ w s v a.st.now e (read a.st.now v s _ e c.score_node_at-n.ensures) l p (λ k. c.in_default.not-Term (c.from.ensures ∙ ap kind_of k)) (λ k. c.in_default.not-Phrase (c.from.ensures ∙ ap kind_of k)) _ zero-32
 
-pub norm_byte-requires : goal.norm_byte-requires
-norm_byte-requires c =
+pub weighted-requires : goal.weighted-requires
+weighted-requires c =
     let a = c.args in
     let r = a.reader.now in
     let p = c.requires.1 in
-    counted-byte p.0 c.requires.0 r.postings.now r.positions.now r.norms.now a.doc p.6 r.inverses.now _ p.1 p.2 p.3 p.4 _ _ (counted c c.requires.0 p.0 p.1 p.2 p.3 p.4 p.5 p.6 p.7 p.8)
-
-pub score-requires : goal.score-requires
-score-requires c =
-    let a = c.args in
-    let r = a.reader.now in
-    let p = c.requires.1 in
-    let q = counted-weighs p.0 c.requires.0 r.postings.now r.positions.now r.norms.now a.doc p.6 c.norm_byte.ensures.bytes r.inverses.now _ p.1 p.2 p.3 p.4 _ _ (counted (goal.at.score-requires c).After-norm_byte-arg-1 c.requires.0 p.0 p.1 p.2 p.3 p.4 p.5 p.6 p.7 p.8) in
-    record { frequency_bound = (q.frequency-few, (q.number, q.field-few)); norm_in_bounds = rw c.norm_byte.ensures.byte q.inverse-there }
+    let q = counted-weighs p.0 c.requires.0 r.postings.now r.positions.now r.norms.now a.doc p.6 r.inverses.now _ p.1 p.2 p.3 p.4 _ _ (counted c c.requires.0 p.0 p.1 p.2 p.3 p.4 p.5 p.6 p.7 p.8) in
+    record { frequency_bound = (q.frequency-few, (q.number, q.field-few)); doc_in_bounds = q.byte-there; doc_in_bounds_2 = q.inverse-there }
 
 pub returns-clause-leaf_post : goal.returns-clause-leaf_post
 returns-clause-leaf_post c =
     let a = c.args in
     let r = a.reader.now in
-    λ m ix ranges l w s v L p e. counted-done ix m r.postings.now r.positions.now r.norms.now a.doc L c.norm_byte.ensures.bytes r.inverses.now c.score_node_at-n.result ranges l w s _ _ (counted (goal.at.returns-clause-leaf_post c).After-norm_byte-arg-1 m ix ranges l w s v L p e) _ (rw (← c.norm_byte.ensures.byte) c.score.ensures)
+    λ m ix ranges l w s v L p e. counted-done ix m r.postings.now r.positions.now r.norms.now a.doc L r.inverses.now c.score_node_at-n.result ranges l w s _ _ (counted (goal.at.returns-clause-leaf_post c).After-weighted-arg-2-1 m ix ranges l w s v L p e) c.weighted.ensures.bytes _ c.weighted.ensures.score

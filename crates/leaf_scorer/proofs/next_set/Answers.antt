@@ -1,4 +1,4 @@
-use Rattle.std.proofs.Common.{◌+◌, arith, refl}
+use Rattle.std.proofs.Common.{arith, refl}
 use Rattle.leaf_scorer.proofs.Bitmaps.{none-left, lowest-first, none-first}
 use Rattle.leaf_scorer.proofs.next_set.Goals as goal
 
@@ -8,7 +8,7 @@ pub returns-then-w-ne0 : goal.returns-then-w-ne0
 returns-then-w-ne0 c =
     let a = c.args in
     let l = c.loop-at in
-    lowest-first a.words.now a.first a.number a.target l.at l.skip c.first_bits-below.result c.without-w.result (c.type_inv.words (a.first + l.at)).fits l.invariant.0 c.loop-at-test.true l.invariant.1 c.first_bits-below.ensures c.without-w.ensures l.invariant.2 c.requires.1 c.lowest.result _ c.lowest.ensures refl
+    lowest-first a.bitmap.now a.target l.at l.skip c.first_bits-below.result c.without-w.result (c.type_inv.bitmap l.at).fits l.invariant.0 c.loop-at-test.true l.invariant.1 c.first_bits-below.ensures (rw c.from.ensures at c.without-w.ensures) l.invariant.2 c.requires c.lowest.result _ c.lowest.ensures refl
 
 -- src/lib.rt:92:5
 
@@ -18,10 +18,10 @@ loop-at-preserved c =
     let l = c.loop-at in (
       omega arith,
       omega (arith, l.invariant.0, l.invariant.1),
-      none-left a.words.now a.first a.number a.target l.at l.skip c.first_bits-below.result c.without-w.result (c.type_inv.words (a.first + l.at)).fits l.invariant.0 c.loop-at-test.true l.invariant.1 c.first_bits-below.ensures c.without-w.ensures l.invariant.2 c.if-w-ne0.false,
+      none-left a.bitmap.now a.target l.at l.skip c.first_bits-below.result c.without-w.result (c.type_inv.bitmap l.at).fits l.invariant.0 c.loop-at-test.true l.invariant.1 c.first_bits-below.ensures (rw c.from.ensures at c.without-w.ensures) l.invariant.2 c.if-w-ne0.false,
     )
 
 -- src/lib.rt:86:1
 
 pub returns : goal.returns
-returns c = none-first c.args.words.now c.args.first c.args.number c.args.target c.loop-at.at c.loop-at.skip (omega (arith, c.loop-at-test.false)) c.loop-at.invariant.2
+returns c = none-first c.args.bitmap.now c.args.target c.loop-at.at c.loop-at.skip (omega (arith, c.loop-at-test.false)) c.loop-at.invariant.2

@@ -2,16 +2,20 @@
 use Rattle.leaf_scorer.proofs.PhraseLaws.{TermsZip, terms-start, terms-end, terms-next, terms-took}
 use Rattle.leaf_scorer.proofs.Loops.{back-length}
 use Rattle.meaning.specs.Limits.{node_state_words}
-use lib.ListN.{length, take, drop}
+use lib.ListN.{take, drop}
+use Rattle.meaning.specs.Phrase.{PhraseTerm}
+use Rattle.meaning.specs.Lent.{Index}
+use Rattle.leaf_scorer.specs.Phrases.{TermsHeld}
 use native.Mathlib.Omega.{arith}
-use mathlib.Core.List.{◌++◌}
-use mathlib.Core.Bool.{false, false≢true}
+use mathlib.Core.List.{List, ◌++◌}
+use mathlib.Core.Bool.{Bool, false, false≢true}
 use mathlib.Core.Logic.{inl, inr}
 use mathlib.Core.Path.{◌≡◌, refl, sym, subst, ◌∙◌}
 use lib.Dec.{eqb}
 use Rattle.std.proofs.Common.{eqb-true}
 use Prim.Native.Nat.{ℕ, zero, suc, ◌+◌, ◌-◌, ◌<◌}
 use Rattle.leaf_scorer.proofs.pass_terms.Goals as goal
+use Rattle.leaf_scorer.proofs.pass_terms.Goals.{After-search-e, then-e-d, else-e-d}
 
 -- a term that is not the first moved it
 some_moved : (last : ℕ) → eqb last 0 ≡ false → 0 < last
@@ -19,19 +23,56 @@ some_moved zero e = absurd (false≢true (sym e))
 some_moved (suc m) e = omega arith
 
 pub loop-at-init : goal.loop-at-init
-loop-at-init c = let s = c in (refl, (0, refl, λ ix ts h. terms-start s.requires.0 h))
+loop-at-init c = (refl, (0, refl, λ ix ts h. terms-start c.requires.0 h))
 
 pub slice_bounds-search-end : goal.slice_bounds-search-end
-slice_bounds-search-end c = let s = c in let P = s.requires.1 in let a = c.loop-at in let i = a.invariant.1.2 P.0 P.1 P.2 in let z : length s.args.postings.now < 9223372036854775808 = omega (arith, s.well_formed) in let l = c.loop-at-test.true in let n = terms-next i l (a.at + node_state_words) refl z in omega (arith, n.0, a.invariant.0, s.well_formed)
+slice_bounds-search-end c =
+    let P = c.requires.1 in
+    let l = c.loop-at in
+    let n = terms-next (l.invariant.1.2 P.0 P.1 P.2) (omega arith) (l.at + node_state_words) refl in
+    omega (arith, n.0, l.invariant.0, c.well_formed)
 
 pub search-e-requires : goal.search-e-requires
-search-e-requires c = let s = c in let P = s.requires.1 in let a = c.loop-at in let i = a.invariant.1.2 P.0 P.1 P.2 in let z : length s.args.postings.now < 9223372036854775808 = omega (arith, s.well_formed) in let l = c.loop-at-test.true in let n = terms-next i l (a.at + node_state_words) refl z in n.1
+search-e-requires c =
+    let P = c.requires.1 in
+    let l = c.loop-at in
+    (terms-next (l.invariant.1.2 P.0 P.1 P.2) (omega arith) (l.at + node_state_words) refl).1
 
-pub loop-at-preserved-then-e-d : goal.loop-at-preserved-then-e-d
-loop-at-preserved-then-e-d c = let s = c in let z : length s.args.postings.now < 9223372036854775808 = omega (arith, s.well_formed) in let a = c.loop-at in let g = c.search-e in (back-length a.terms g.new.st a.at (a.at + node_state_words) g.auto.st ∙ a.invariant.0, (a.invariant.1.0, a.invariant.1.1, λ ix ts h. subst (λ (y : ℕ). TermsZip s.args.postings.now ix ts s.args.target (take a.at a.terms ++ (g.new.st ++ drop (a.at + node_state_words - a.at) (drop a.at a.terms))) y a.invariant.1.0 (a.at + node_state_words)) c.if-e-d.true (terms-took (a.invariant.1.2 ix ts h) c.loop-at-test.true (a.at + node_state_words) refl z g.result a.invariant.1.0 (inl (refl, c.if-e-d.true)) g.new.st g.auto.st g.ensures)))
+-- one term more: where the pass stands, and whether all stand there
+abbrev Passed : After-search-e → ℕ → Bool → Type 0
+Passed c d hit =
+    let l = c.loop-at in
+    (last : ℕ) × (hit ≡ eqb last 0) × ((ix : Index) (ts : List PhraseTerm) → TermsHeld c.args.postings.now ix ts c.args.terms.now c.args.target → TermsZip c.args.postings.now ix ts c.args.target (take l.at l.terms ++ (c.search-e.new.st ++ drop (l.at + node_state_words - l.at) (drop l.at l.terms))) d last (l.at + node_state_words))
+
+stays : (c : After-search-e) → c.search-e.result ≡ c.loop-at.d → Passed c c.loop-at.d c.loop-at.hit
+stays c e =
+    let l = c.loop-at in
+    let g = c.search-e in
+    let v = l.invariant.1 in
+    (v.0, v.1, λ ix ts h. subst (λ (y : ℕ). TermsZip c.args.postings.now ix ts c.args.target (take l.at l.terms ++ (g.new.st ++ drop (l.at + node_state_words - l.at) (drop l.at l.terms))) y v.0 (l.at + node_state_words)) e (terms-took (v.2 ix ts h) (omega arith) (l.at + node_state_words) refl g.result v.0 (inl (refl, e)) g.new.st g.auto.st g.ensures))
+
+moves : (c : After-search-e) → (c.search-e.result ≡ c.loop-at.d → ⊥) → Passed c c.search-e.result (eqb c.loop-at.at 0)
+moves c e =
+    let l = c.loop-at in
+    let g = c.search-e in
+    (l.at, refl, λ ix ts h. terms-took (l.invariant.1.2 ix ts h) (omega arith) (l.at + node_state_words) refl g.result l.at (inr (refl, e)) g.new.st g.auto.st g.ensures)
 
 pub loop-at-preserved : goal.loop-at-preserved
-loop-at-preserved c = let s = c in let z : length s.args.postings.now < 9223372036854775808 = omega (arith, s.well_formed) in let a = c.loop-at in let g = c.search-e in (back-length a.terms g.new.st a.at (a.at + node_state_words) g.auto.st ∙ a.invariant.0, (a.at, refl, λ ix ts h. terms-took (a.invariant.1.2 ix ts h) c.loop-at-test.true (a.at + node_state_words) refl z g.result a.at (inr (refl, c.if-e-d.false)) g.new.st g.auto.st g.ensures))
+loop-at-preserved c =
+    let l = c.loop-at in
+    let g = c.search-e in
+    let p = (goal.at.loop-at-preserved c).After-search-e in
+    let q : Passed p c.if-e-d.d c.if-e-d.hit = elim c.if-e-d.branch [ then-e-d w ↦ rw (w.d-is, w.hit-is) (moves p w.if-e-d.true) | else-e-d w ↦ rw (w.d-is, w.hit-is) (stays p w.if-e-d.false) ] in
+    (back-length l.terms g.new.st l.at (l.at + node_state_words) g.auto.st ∙ l.invariant.0, q)
+
+-- the last one
+pub returns-after-e-d : goal.returns-after-e-d
+returns-after-e-d c =
+    let l = c.loop-at in
+    let g = c.search-e in
+    let p = (goal.at.returns-after-e-d c).After-search-e in
+    let q : Passed p c.if-e-d.d c.if-e-d.hit = elim c.if-e-d.branch [ then-e-d w ↦ rw (w.d-is, w.hit-is) (moves p w.if-e-d.true) | else-e-d w ↦ rw (w.d-is, w.hit-is) (stays p w.if-e-d.false) ] in
+    λ ix ts h. terms-end {last = q.0} (q.2 ix ts h) (omega (arith, back-length l.terms g.new.st l.at (l.at + node_state_words) g.auto.st)) c.if-e-d.hit (λ e. eqb-true q.0 0 (sym q.1 ∙ e)) (λ e. some_moved q.0 (sym q.1 ∙ e))
 
 pub returns : goal.returns
-returns c = let a = c.loop-at in λ ix ts h. terms-end (a.invariant.1.2 ix ts h) c.loop-at-test.false a.hit (λ e. eqb-true a.invariant.1.0 0 (sym a.invariant.1.1 ∙ e)) (λ e. some_moved a.invariant.1.0 (sym a.invariant.1.1 ∙ e))
+returns c = let l = c.loop-at in λ ix ts h. terms-end (l.invariant.1.2 ix ts h) (omega (arith, l.invariant.0)) l.hit (λ e. eqb-true l.invariant.1.0 0 (sym l.invariant.1.1 ∙ e)) (λ e. some_moved l.invariant.1.0 (sym l.invariant.1.1 ∙ e))

@@ -3,16 +3,13 @@ use mathlib.Core.Path.{sym, ap, ◌∙◌}
 use Rattle.node.specs.Kinds.{kind_of}
 use Rattle.node.proofs.Scorers.{term-word, phrase-word, range-word}
 use Rattle.leaf_scorer.specs.Calls.{lent_of}
-use lib.ListN.{length}
-use native.Mathlib.Omega.{arith}
-use Prim.Native.Nat.{◌<◌}
 use Rattle.leaf_scorer.proofs.seek.Goals as goal
 
 pub search_postings-requires : goal.search_postings-requires
-search_postings-requires c = let s = c in let P = s.requires.1 in let z : length s.args.reader.now.postings.now < 9223372036854775808 = omega (arith, s.well_formed) in seek-term-pre (lent_of s.args.reader.now) s.args.st.now s.args.target (term-word _ (sym c.in-Term.ensures)) z P.0 P.1 P.2 P.3 P.4 P.6
+search_postings-requires c = let s = c in let P = s.requires.1 in seek-term-pre (lent_of s.args.reader.now) s.args.st.now s.args.target (term-word _ (sym c.in-Term.ensures)) P.0 P.1 P.2 P.3 P.4 P.6
 
 pub returns-in-Term-clause-leaf_post : goal.returns-in-Term-clause-leaf_post
-returns-in-Term-clause-leaf_post c = let s = c in let z : length s.args.reader.now.postings.now < 9223372036854775808 = omega (arith, s.well_formed) in let g = c.search_postings in seek-term-done (lent_of s.args.reader.now) s.args.st.now s.args.target (term-word _ (sym c.in-Term.ensures)) z s.requires.0 g.result g.new.st g.ensures
+returns-in-Term-clause-leaf_post c = let s = c in let g = c.search_postings in seek-term-done (lent_of s.args.reader.now) s.args.st.now s.args.target (term-word _ (sym c.in-Term.ensures)) s.requires.0 g.result g.new.st g.ensures
 
 pub seek_phrase-requires : goal.seek_phrase-requires
 seek_phrase-requires c = let s = c in let P = s.requires.1 in let n = seek-phrase-pre (lent_of s.args.reader.now) s.args.st.now s.args.target (phrase-word _ (sym c.in-Phrase.ensures)) P.0 P.1 P.2 P.3 P.4 P.6 in (s.requires.0, (P.0, P.1, n.0, n.1, P.3, P.4, P.5.in-a, P.5.in_b, n.2))

@@ -11,7 +11,7 @@ use Prim.Native.Nat.{ℕ, ◌-◌, ◌≤◌}
 use Rattle.leaf_scorer.proofs.seek_phrase.Given as goal
 
 abbrev pub invariant-loop-target : goal.invariant-loop-target
-invariant-loop-target l = Lengths (length l.st) (length l.initial.st) l.initial.buffers l.buffers × (l.t ≤ no_more_docs) × ((ix : Index) (p f : ℕ) (ts : List PhraseTerm) (s : State) (w : List ℕ) → PhraseHeld l.postings l.positions ix p f ts s w l.initial.st l.target → Going (λ d. ltb 0 (phrase_frequency ix ts d)) l.target l.t (PhraseMoved ix f ts s l.st l.t))
+invariant-loop-target l = Lengths (length l.st) (length l.initial.st) l.initial.buffers l.buffers × (l.t ≤ no_more_docs) × ((ix : Index) (p f : ℕ) (ts : List PhraseTerm) (s : State) (w : List ℕ) → PhraseHeld l.reader.postings.now l.reader.positions.now ix p f ts s w l.initial.st l.target → Going (λ d. ltb 0 (phrase_frequency ix ts d)) l.target l.t (PhraseMoved ix f ts s l.st l.t))
 
 abbrev pub decreases-loop-target : goal.decreases-loop-target
 decreases-loop-target l = no_more_docs - l.t

@@ -5,6 +5,7 @@ use Rattle.order_check.specs.Lends.{work_of}
 use Rattle.order_check.proofs.Answered.{refused, passed_on}
 use Rattle.order_check.proofs.Refusing.{order-lent}
 use Rattle.order_check.proofs.CallConditions.{page-order, page-short, page-unequal, page-above, page-accepted}
+use Rattle.order_check.proofs.page_refusal.Goals.{then-work_short-via-then-work_short, then-work_short-via-else-work_short+then-documents-scores}
 use Rattle.order_check.proofs.page_refusal.Goals as goal
 
 pub returns-in_err-check_order : goal.returns-in_err-check_order
@@ -27,14 +28,10 @@ returns-then-work_short c =
     let a = c.args in
     let ix = index_of a.lent.now in
     let h = order-lent a.lent.now a.query.now 0 c.in_ok-check_order.ensures refl in
-    page-short ix a.query.now a.target (work_of a.work) a.documents a.scores 0 c.in_ok-check_order.ensures refl _ (c.work_short.ensures ix h) c.if-work_short.true
-
-pub returns-then-documents-scores : goal.returns-then-documents-scores
-returns-then-documents-scores c =
-    let a = c.args in
-    let ix = index_of a.lent.now in
-    let h = order-lent a.lent.now a.query.now 0 c.in_ok-check_order.ensures refl in
-    page-unequal ix a.query.now a.target (work_of a.work) a.documents a.scores 0 c.in_ok-check_order.ensures refl _ (c.work_short.ensures ix h) c.if-work_short.false c.if-documents-scores.true
+    elim c.then-work_short.branch [
+      | then-work_short-via-then-work_short w ↦ page-short ix a.query.now a.target (work_of a.work) a.documents a.scores 0 c.in_ok-check_order.ensures refl _ (c.work_short.ensures ix h) w.if-work_short.true
+      | then-work_short-via-else-work_short+then-documents-scores w ↦ page-unequal ix a.query.now a.target (work_of a.work) a.documents a.scores 0 c.in_ok-check_order.ensures refl _ (c.work_short.ensures ix h) w.if-work_short.false w.if-documents-scores.true
+    ]
 
 pub returns-then-lent-target : goal.returns-then-lent-target
 returns-then-lent-target c =

@@ -1,10 +1,11 @@
 -- The order's refusal first, then 11, then 12.
-use Rattle.std.proofs.Common.{◌≡◌, ◌∙◌, refl, Err, rules}
+use Rattle.std.proofs.Common.{◌≡◌, sym, ◌∙◌, refl, Err, rules}
 use Rattle.index.specs.IndexOf.{index_of}
 use Rattle.order_check.specs.Lends.{work_of}
 use Rattle.order_check.proofs.Answered.{refused, passed_on}
 use Rattle.order_check.proofs.Refusing.{order-lent}
-use Rattle.order_check.proofs.CallConditions.{search-order, search-no-hits, search-many-hits, search-short, search-few-places, search-accepted}
+use Rattle.order_check.proofs.CallConditions.{search-order, search-wrong-hits, search-short, search-few-places, search-accepted}
+use Rattle.order_check.proofs.search_refusal.Goals.{then-work_short-via-then-work_short, then-work_short-via-else-work_short+then-places-k}
 use Rattle.order_check.proofs.search_refusal.Goals as goal
 
 pub returns-in_err-check_order : goal.returns-in_err-check_order
@@ -15,17 +16,11 @@ returns-in_err-check_order c =
     let f : c.from_residual.result ≡ Err r = search rules in
     passed_on _ _ r e f ∙ search-order (index_of a.lent.now) a.query.now a.k (work_of a.work) a.places _ c.check_order.ensures (refused _ r e)
 
-pub returns-then-k-lt1 : goal.returns-then-k-lt1
-returns-then-k-lt1 c =
+pub returns-then-wrong_hits : goal.returns-then-wrong_hits
+returns-then-wrong_hits c =
     let a = c.args in
     let ix = index_of a.lent.now in
-    search-no-hits ix a.query.now a.k (work_of a.work) a.places 0 c.in_ok-check_order.ensures refl c.if-k-lt1.true
-
-pub returns-then-k-gt1024 : goal.returns-then-k-gt1024
-returns-then-k-gt1024 c =
-    let a = c.args in
-    let ix = index_of a.lent.now in
-    search-many-hits ix a.query.now a.k (work_of a.work) a.places 0 c.in_ok-check_order.ensures refl c.if-k-lt1.false c.if-k-gt1024.true
+    search-wrong-hits ix a.query.now a.k (work_of a.work) a.places 0 c.in_ok-check_order.ensures refl (sym c.wrong_hits.ensures ∙ c.if-wrong_hits.true)
 
 pub work_short-requires : goal.work_short-requires
 work_short-requires c =
@@ -39,18 +34,15 @@ returns-then-work_short c =
     let a = c.args in
     let ix = index_of a.lent.now in
     let h = order-lent a.lent.now a.query.now 0 c.in_ok-check_order.ensures refl in
-    search-short ix a.query.now a.k (work_of a.work) a.places 0 c.in_ok-check_order.ensures refl c.if-k-lt1.false c.if-k-gt1024.false _ (c.work_short.ensures ix h) c.if-work_short.true
-
-pub returns-then-places-k : goal.returns-then-places-k
-returns-then-places-k c =
-    let a = c.args in
-    let ix = index_of a.lent.now in
-    let h = order-lent a.lent.now a.query.now 0 c.in_ok-check_order.ensures refl in
-    search-few-places ix a.query.now a.k (work_of a.work) a.places 0 c.in_ok-check_order.ensures refl c.if-k-lt1.false c.if-k-gt1024.false _ (c.work_short.ensures ix h) c.if-work_short.false c.if-places-k.true
+    let right = sym c.wrong_hits.ensures ∙ c.if-wrong_hits.false in
+    elim c.then-work_short.branch [
+      | then-work_short-via-then-work_short w ↦ search-short ix a.query.now a.k (work_of a.work) a.places 0 c.in_ok-check_order.ensures refl right _ (c.work_short.ensures ix h) w.if-work_short.true
+      | then-work_short-via-else-work_short+then-places-k w ↦ search-few-places ix a.query.now a.k (work_of a.work) a.places 0 c.in_ok-check_order.ensures refl right _ (c.work_short.ensures ix h) w.if-work_short.false w.if-places-k.true
+    ]
 
 pub returns : goal.returns
 returns c =
     let a = c.args in
     let ix = index_of a.lent.now in
     let h = order-lent a.lent.now a.query.now 0 c.in_ok-check_order.ensures refl in
-    search-accepted ix a.query.now a.k (work_of a.work) a.places 0 c.in_ok-check_order.ensures refl c.if-k-lt1.false c.if-k-gt1024.false _ (c.work_short.ensures ix h) c.if-work_short.false c.if-places-k.false
+    search-accepted ix a.query.now a.k (work_of a.work) a.places 0 c.in_ok-check_order.ensures refl (sym c.wrong_hits.ensures ∙ c.if-wrong_hits.false) _ (c.work_short.ensures ix h) c.if-work_short.false c.if-places-k.false

@@ -1,12 +1,11 @@
 -- The states, the phrase buffers, the ranges, in this order.
-use Rattle.std.proofs.Common.{◌∙◌}
+use Rattle.std.proofs.Common.{sym, ◌∙◌, true≢false}
+use borrow.Author.Tests.{lt-ltb}
 use Rattle.order_check.specs.Lends.{work_of}
 use Rattle.order_check.proofs.Refusing.{query-few}
 use Rattle.order_check.proofs.Rooms.{starts-alone, states-short, starts-short, ranges-short}
+use Rattle.order_check.proofs.work_short.Goals.{then-work-states_needed, else-work-states_needed}
 use Rattle.order_check.proofs.work_short.Goals as goal
-
-pub returns-then-work-states_needed : goal.returns-then-work-states_needed
-returns-then-work-states_needed c = λ ix h. states-short ix c.args.query.now (work_of c.args.work) c.states_needed.result c.states_needed.ensures c.if-work-states_needed.true
 
 pub starts_short-requires : goal.starts_short-requires
 starts_short-requires c = (c.requires.0, c.args.lent.now.max_doc, c.requires.1)
@@ -16,14 +15,20 @@ returns-then-starts_short c = λ ix h.
     let a = c.args in
     let n = c.states_needed in
     let alone = starts-alone ix a.query.now a.work.states a.work.starts a.work.other_starts a.work.ranges in
-    starts-short ix a.query.now (work_of a.work) n.result n.ensures c.if-work-states_needed.false _ (c.starts_short.ensures ix a.lent.now.max_doc h ∙ alone) c.if-starts_short.true
+    c.if-starts_short.true ∙ elim c.if-work-states_needed.branch [
+      | then-work-states_needed w ↦ states-short ix a.query.now (work_of a.work) n.result n.ensures w.if-work-states_needed.true
+      | else-work-states_needed w ↦ starts-short ix a.query.now (work_of a.work) n.result n.ensures w.if-work-states_needed.false _ (w.starts_short.ensures ix a.lent.now.max_doc h ∙ alone) (sym w.value-is ∙ c.if-starts_short.true)
+    ]
 
 pub ranges_needed-requires : goal.ranges_needed-requires
 ranges_needed-requires c = query-few c.requires.0 c.args.lent.now.max_doc c.args.lent.now.leaves.now c.args.lent.now.postings.now c.args.query.now c.requires.1
 
-pub returns : goal.returns
-returns c = λ ix h.
+pub returns-else-starts_short : goal.returns-else-starts_short
+returns-else-starts_short c = λ ix h.
     let a = c.args in
     let n = c.states_needed in
     let alone = starts-alone ix a.query.now a.work.states a.work.starts a.work.other_starts a.work.ranges in
-    ranges-short ix a.query.now (work_of a.work) n.result _ n.ensures c.if-work-states_needed.false _ (c.starts_short.ensures ix a.lent.now.max_doc h ∙ alone) c.if-starts_short.false (c.ranges_needed.ensures ix h.documents)
+    elim c.if-work-states_needed.branch [
+      | then-work-states_needed w ↦ absurd (true≢false (sym (lt-ltb _ _ w.if-work-states_needed.true) ∙ sym w.value-is ∙ c.if-starts_short.false))
+      | else-work-states_needed w ↦ ranges-short ix a.query.now (work_of a.work) n.result _ n.ensures w.if-work-states_needed.false _ (w.starts_short.ensures ix a.lent.now.max_doc h ∙ alone) (sym w.value-is ∙ c.if-starts_short.false) (c.ranges_needed.ensures ix h.documents)
+    ]

@@ -62,18 +62,18 @@ returns-in_default c =
     let k = c.type_inv.terms (c.rarest-best.result + 1) in
     (alone c.requires.0 c.rarest-best.ensures e c.in_default.ensures, omega (arith, long c.requires.0 c.rarest-best.ensures e, k.fits))
 
-pub meet-n-requires : goal.meet-n-requires
-meet-n-requires c =
-    begun c.requires.0 c.rarest-best.ensures (are (goal.at.meet-n-requires c).After-write_starts) c.in-Some.at (length c.args.b.now) c.requires.1.1 c.in-Some.ensures
+pub meet-left-requires : goal.meet-left-requires
+meet-left-requires c =
+    begun c.requires.0 c.rarest-best.ensures (are (goal.at.meet-left-requires c).After-write_starts) c.in-Some.at (length c.args.b.now) c.requires.1.1 c.in-Some.ensures
 
 pub returns-in-None : goal.returns-in-None
 returns-in-None c =
     let k = c.type_inv.terms (c.rarest-best.result + 1) in
-    let l = rw c.in-None.is at c.meet-n.ensures.1 in
-    left-common c.requires.0 c.rarest-best.ensures (are (goal.at.returns-in-None c).After-write_starts) c.in-Some.at (take c.meet-n.result.n c.meet-n.new.spare) c.in-Some.ensures.1 l k.fits
+    let l = rw c.in-None.is at c.meet-left.ensures in
+    left-common c.requires.0 c.rarest-best.ensures (are (goal.at.returns-in-None c).After-write_starts) c.in-Some.at c.meet-left.result.0.now c.in-Some.ensures.1 l k.fits
 
 pub returns-in-Some-next : goal.returns-in-Some-next
 returns-in-Some-next c =
     let k = c.type_inv.terms (c.rarest-best.result + 1) in
-    let f = rw c.in-Some-next.is at c.meet-n.ensures.1 in
+    let f = rw c.in-Some-next.is at c.meet-left.ensures in
     left-common c.requires.0 c.rarest-best.ensures (are (goal.at.returns-in-Some-next c).After-write_starts) c.in-Some.at c.survivors.result.now c.in-Some.ensures.1 (f.on c.survivors.result.now c.survivors.ensures) k.fits

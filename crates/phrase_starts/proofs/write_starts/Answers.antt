@@ -1,6 +1,5 @@
-use Rattle.std.proofs.Common.{◌≡◌, sym, ap, ◌∙◌, subst, List, ℕ, ◌+◌, ◌-◌, ◌≤◌, ◌<◌, length, take, drop, set, get_or, take-suc-set, take_all, add-one, ℤ, arith, w32}
+use Rattle.std.proofs.Common.{◌≡◌, sym, ap, ◌∙◌, subst, List, ℕ, ◌+◌, ◌<◌, length, take, set, get_or, take-suc-set, take_all, add-one, ℤ, arith, w32}
 use Rattle.std.proofs.Math.IntN.{sub_ℕ}
-use mir.Val.{SFits}
 use mir.ValLaws.{to_z-of_z}
 use Rattle.phrase_starts.specs.declared.Term.{Term}
 use Rattle.phrase_starts.specs.Terms.{starts_of}

@@ -1,24 +1,8 @@
 -- The posting that the search finds, and its words.
-use Rattle.std.proofs.Common.{sym, ◌∙◌, arith}
+use Rattle.std.proofs.Common.{sym, ◌∙◌}
 use Rattle.index.specs.IndexOf.{index_of}
-use Rattle.place_entry.proofs.TermWords.{run-asked, posting-there, posting-hit, posting-over, posting-missed}
+use Rattle.place_entry.proofs.TermWords.{posting-hit, posting-over, posting-missed}
 use Rattle.place_entry.proofs.occurrences_in.Goals as goal
-
-pub lower-i-requires : goal.lower-i-requires
-lower-i-requires c =
-    run-asked (index_of c.args.lent.now) _ c.args.document c.requires _ c.leaf_at-leaf.ensures (omega (arith, c.well_formed))
-
-pub posting_document-requires : goal.posting_document-requires
-posting_document-requires c =
-    posting-there (index_of c.args.lent.now) _ c.args.document c.requires _ c.leaf_at-leaf.ensures _ c.if-i-number.true
-
-pub posting_index-requires : goal.posting_index-requires
-posting_index-requires c =
-    posting-there (index_of c.args.lent.now) _ c.args.document c.requires _ c.leaf_at-leaf.ensures _ c.if-i-number.true
-
-pub posting_frequency-requires : goal.posting_frequency-requires
-posting_frequency-requires c =
-    posting-there (index_of c.args.lent.now) _ c.args.document c.requires _ c.leaf_at-leaf.ensures _ c.if-i-number.true
 
 pub returns-then-posting_document-document : goal.returns-then-posting_document-document
 returns-then-posting_document-document c =

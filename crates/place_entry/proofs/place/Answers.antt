@@ -2,7 +2,7 @@
 use Rattle.std.proofs.Common.{◌≡◌, Ok, Err, rules}
 use Rattle.index.specs.IndexOf.{index_of}
 use Rattle.order_check.proofs.Answered.{answered, number-told}
-use Rattle.place_entry.proofs.PlaceEntry.{place-refused, place-lends, place-given, place-not-refused}
+use Rattle.place_entry.proofs.PlaceEntry.{place-refused, place-lends, place-given}
 use Rattle.place_entry.proofs.place.Goals as goal
 
 pub returns-in_err-place_refusal-clause-place_answer : goal.returns-in_err-place_refusal-clause-place_answer
@@ -24,15 +24,3 @@ returns-clause-place_answer c =
     let a = c.args in
     let e : c.place_refusal.result ≡ Ok c.in_ok-place_refusal.field-0 = search rules in
     place-given (index_of a.lent.now) a.q.now a.record_number a.document _ _ _ c.place_refusal.ensures (answered _ c.in_ok-place_refusal.field-0 e) c.locate-start.result c.locate-start.ensures
-
-pub returns-clause-kept : goal.returns-clause-kept
-returns-clause-kept c = λ h.
-    let a = c.args in
-    let e : c.place_refusal.result ≡ Ok c.in_ok-place_refusal.field-0 = search rules in
-    absurd (place-not-refused (index_of a.lent.now) a.q.now a.record_number a.document _ _ _ c.place_refusal.ensures (answered _ c.in_ok-place_refusal.field-0 e) h)
-
-pub returns-clause-kept_2 : goal.returns-clause-kept_2
-returns-clause-kept_2 c = λ h.
-    let a = c.args in
-    let e : c.place_refusal.result ≡ Ok c.in_ok-place_refusal.field-0 = search rules in
-    absurd (place-not-refused (index_of a.lent.now) a.q.now a.record_number a.document _ _ _ c.place_refusal.ensures (answered _ c.in_ok-place_refusal.field-0 e) h)

@@ -1,7 +1,7 @@
 -- A turn's term is there, and so is its leaf's run; three words more stand at the front.
 use Rattle.std.proofs.Common.{arith}
 use Rattle.index.specs.IndexOf.{index_of}
-use Rattle.place_entry.proofs.TermWords.{phrase-here, term-run, terms-none, terms-more, terms-all}
+use Rattle.place_entry.proofs.TermWords.{phrase-here, term-run, terms-none, terms-more}
 use Rattle.place_entry.proofs.write_terms.Goals as goal
 
 pub loop-j-init : goal.loop-j-init
@@ -41,6 +41,3 @@ loop-j-preserved c =
     let few = (phrase-here c.requires.asks c.args.at c.requires.phrase.0 c.requires.phrase.1).few-terms in
     let o = c.occurrences_in-found in
     terms-more c.requires.asks c.args.at c.args.document c.loop-j.j _ _ _ _ c.loop-j.terms c.loop-j.invariant (omega (arith, few, c.children-j-end.ensures)) c.value-leaf.ensures o.ensures.first o.ensures.frequency c.value.ensures
-
-pub returns : goal.returns
-returns c = terms-all (index_of c.args.lent.now) c.args.q.now c.args.at c.args.document _ _ (omega (arith, c.children-j-end.ensures)) c.loop-j.invariant

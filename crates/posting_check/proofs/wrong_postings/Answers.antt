@@ -1,4 +1,5 @@
-use Rattle.std.proofs.Common.{sym, ◌∙◌, arith}
+use Rattle.std.proofs.Common.{sym, ap, ◌∙◌, arith}
+use Rattle.meaning.specs.Below.{any_below}
 use Rattle.meaning.proofs.Below.{any-zero, any-done}
 use Rattle.index.specs.IndexOf.{index_of}
 use Rattle.index.proofs.Whole.{postings-not-whole, postings-some}
@@ -22,4 +23,4 @@ loop-l-preserved c =
     (from-joined (wrong_leaf_run (index_of c.args.lent.now)) c.loop-l.l _ _ _ (omega (arith, e.bounds)) c.loop-l.invariant.0 c.wrong_runs-bad.ensures, e.bounds.1)
 
 pub returns : goal.returns
-returns c = any-done _ _ _ _ c.loop-l.invariant.0 c.loop-l.invariant.1 c.loop-l-test.false ∙ postings-some _ c.if-lent-ne0.false
+returns c = any-done _ _ _ _ c.loop-l.invariant.0 c.loop-l.invariant.1 c.loop-l-test.false ∙ ap (λ n. any_below n (wrong_leaf_run (index_of c.args.lent.now))) c.leaf_count-count.ensures ∙ postings-some _ c.if-lent-ne0.false

@@ -15,7 +15,7 @@ returns-then-wrong_values c =
 
 pub wrong_boost-requires : goal.wrong_boost-requires
 wrong_boost-requires c =
-    let fields = c.args.fields.now in let leaves = c.args.leaves.now in let columns = c.args.columns.now in let q = c.args.q.now in
+    let fields = c.args.lent.now.fields.now in let leaves = c.args.lent.now.leaves.now in let columns = c.args.lent.now.columns.now in let q = c.args.q.now in
     (sym c.wrong_records.ensures ∙ c.if-wrong_records.false, boosts (lent fields leaves columns) q (sym (c.wrong_values.ensures (lent fields leaves columns) (lends fields leaves columns)) ∙ c.if-wrong_values.false))
 
 pub returns-then-wrong_boost : goal.returns-then-wrong_boost
@@ -25,7 +25,7 @@ returns-then-wrong_boost c =
 
 pub wrong_positions-requires : goal.wrong_positions-requires
 wrong_positions-requires c =
-    let fields = c.args.fields.now in let leaves = c.args.leaves.now in let columns = c.args.columns.now in let q = c.args.q.now in
+    let fields = c.args.lent.now.fields.now in let leaves = c.args.lent.now.leaves.now in let columns = c.args.lent.now.columns.now in let q = c.args.q.now in
     phrase-fields (lent fields leaves columns) q (sym (c.wrong_values.ensures (lent fields leaves columns) (lends fields leaves columns)) ∙ c.if-wrong_values.false)
 
 pub returns-then-wrong_positions : goal.returns-then-wrong_positions

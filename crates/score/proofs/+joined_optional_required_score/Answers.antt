@@ -2,13 +2,13 @@
 use mathlib.Core.Path.{◌≡◌, refl, sym, ap, subst, ◌∙◌}
 use native.Mathlib.Omega.{arith}
 use Prim.Native.Nat.{ℕ, ◌≤◌, ◌+◌}
-use lib.ListN.{get_or, length}
+use lib.ListN.{length}
 use mathlib.Core.List.{List}
 use lib.Seq.{length_front, length-take-le}
 use Rattle.meaning.specs.Ieee754.{zero_float}
 use Rattle.leaf_score.proofs.Bounds.{zero-64}
 use Rattle.score.proofs.Parts.{back_length}
-use Rattle.score.proofs.Loops.{OptionalMid, put, places_same, optional-start, optional-end, optional_there, optional-ask, optional-mid, optional-left, optional-child, optional-number, optional-took, optional-stop, optional-term-ask, optional-kind, optional-term-took, required-start, required-end, required_there, required-skip, required-child, required-number, required-took, required-stop, required-term, required-term-took}
+use Rattle.score.proofs.Loops.{OptionalMid, put, places_same, optional-start, optional-end, optional_there, optional-ask, optional-mid, optional-left, optional-child, optional-number, optional-took, optional-term-ask, optional-kind, optional-term-took, required-start, required-end, required_there, required-skip, required-child, required-number, required-took, required-term, required-term-took}
 use Rattle.score.proofs.Alone.{zero-narrowed}
 use Rattle.score.proofs.Booleans.{Lies, Grouped, lies, grouped, ungrouped, after-asks, alone-done, only-done, group-asks, group-number, after-number, after-done, cut-lies, front-asks, rest-asks, rest-done}
 use mathlib.Core.Bool.{not}
@@ -26,7 +26,7 @@ use Rattle.leaf_score.proofs.Constants.{constant-some, constant-none}
 use Rattle.leaf_score.proofs.Nodes.{constant-is, leaf-at}
 use Rattle.scorer.specs.Calls.{lent_of}
 use Rattle.score.proofs.+joined_optional_required_score.Goals as goal
-use Rattle.score.proofs.+joined_optional_required_score.Goals.{joined-Start, joined-Then-end-optional_end, joined-After-narrow-group, joined-Else-n, score-Start, optional-In-Term, optional-Then-advance-doc, optional-Then-advance_term-doc, required-In-Term}
+use Rattle.score.proofs.+joined_optional_required_score.Goals.{joined-Start, joined-Then-end-optional_end, joined-After-narrow-group, joined-Else-n, score-Start, optional-Then-advance-doc, optional-Then-advance_term-doc}
 
 -- where the parts of a Boolean lie
 parts : (t : _) (c : joined-Start t) → Lies c.args.n (length c.args.kids.now)
@@ -248,32 +248,28 @@ optional-loop-at-preserved t c =
 pub optional-returns-clause-optional_post : goal.optional-returns-clause-optional_post
 optional-returns-clause-optional_post t c = optional-end c.loop-at.invariant.sum c.loop-at-test.false
 
--- a term's part ends where its record does
-optional-stops : (t : _) (c : optional-In-Term t) → c.loop-at.at + node_state_words ≡ c.loop-at.at + get_or c.loop-at.kids (c.loop-at.at + 1) 0
-optional-stops t c = optional-stop c.loop-at.invariant.sum c.loop-at-test.true c.requires (term-word _ (sym c.child_at-child.ensures.kind-is ∙ c.in-Term.is)) _ refl
-
 pub optional-advance_term-requires : goal.optional-advance_term-requires
-optional-advance_term-requires t c = optional-term-ask c.loop-at.invariant.sum c.loop-at-test.true (optional-stops t (goal.at.optional-advance_term-requires t c).In-Term) _ _ (places_same c.loop-at.invariant.same_buffers) (term-word _ (sym c.child_at-child.ensures.kind-is ∙ c.in-Term.is)) c.requires
+optional-advance_term-requires t c = optional-term-ask c.loop-at.invariant.sum c.loop-at-test.true c.child_at-child.ensures.end_is _ _ (places_same c.loop-at.invariant.same_buffers) (term-word _ (sym c.child_at-child.ensures.kind-is ∙ c.in-Term.is)) c.requires
 
--- and stands at the document
-term-stands : (t : _) (c : optional-Then-advance_term-doc t) → c.loop-at.at + node_state_words ≡ c.loop-at.at + get_or c.loop-at.kids (c.loop-at.at + 1) 0 → OptionalMid c.args.kids.now c.args.reader.now (places_in c.args.buffers.now) c.args.doc c.args.depth (put c.loop-at.kids c.loop-at.at (c.loop-at.at + node_state_words) c.advance_term.new.st) c.loop-at.at (c.loop-at.at + node_state_words) c.loop-at.sum
-term-stands t c e = optional-mid c.loop-at.invariant.sum c.loop-at-test.true e _ _ (places_same c.loop-at.invariant.same_buffers) _ _ (c.advance_term.ensures.term_post (lent_of c.args.reader.now) c.args.depth refl) c.if-advance_term-doc.true
+-- the term stands at the document
+term-stands : (t : _) (c : optional-Then-advance_term-doc t) → OptionalMid c.args.kids.now c.args.reader.now (places_in c.args.buffers.now) c.args.doc c.args.depth (put c.loop-at.kids c.loop-at.at c.child_at-child.result.end c.advance_term.new.st) c.loop-at.at c.child_at-child.result.end c.loop-at.sum
+term-stands t c = optional-mid c.loop-at.invariant.sum c.loop-at-test.true c.child_at-child.ensures.end_is _ _ (places_same c.loop-at.invariant.same_buffers) _ _ (c.advance_term.ensures.term_post (lent_of c.args.reader.now) c.args.depth refl) c.if-advance_term-doc.true
 
 pub optional-term_score-s-requires : goal.optional-term_score-s-requires
 optional-term_score-s-requires t c =
     let r = c.args.reader.now in (
-      optional-kind c.loop-at.invariant.sum c.loop-at-test.true (optional-stops t (goal.at.optional-term_score-s-requires t c).In-Term) _ _ (places_same c.loop-at.invariant.same_buffers) _ _ (c.advance_term.ensures.term_post (lent_of c.args.reader.now) c.args.depth refl) (term-word _ (sym c.child_at-child.ensures.kind-is ∙ c.in-Term.is)) c.requires,
-      (r.max_doc, r.positions.now, r.ranges.now, places_in c.loop-at.buffers, c.args.depth, optional-child (term-stands t (goal.at.optional-term_score-s-requires t c).Then-advance_term-doc (optional-stops t (goal.at.optional-term_score-s-requires t c).In-Term)) (places_same c.loop-at.invariant.same_buffers) c.requires),
+      optional-kind c.loop-at.invariant.sum c.loop-at-test.true c.child_at-child.ensures.end_is _ _ (places_same c.loop-at.invariant.same_buffers) _ _ (c.advance_term.ensures.term_post (lent_of c.args.reader.now) c.args.depth refl) (term-word _ (sym c.child_at-child.ensures.kind-is ∙ c.in-Term.is)) c.requires,
+      (r.max_doc, r.positions.now, r.ranges.now, places_in c.loop-at.buffers, c.args.depth, optional-child (term-stands t (goal.at.optional-term_score-s-requires t c).Then-advance_term-doc) (places_same c.loop-at.invariant.same_buffers) c.requires),
     )
 
 pub optional-add_score-sum-requires : goal.optional-add_score-sum-requires
-optional-add_score-sum-requires t c = optional-number (term-stands t (goal.at.optional-add_score-sum-requires t c).Then-advance_term-doc (optional-stops t (goal.at.optional-add_score-sum-requires t c).In-Term)) (places_same c.loop-at.invariant.same_buffers) _ _ (c.term_score-s.ensures c.args.reader.now.max_doc c.args.reader.now.positions.now c.args.reader.now.ranges.now (places_in c.loop-at.buffers) c.args.depth) c.requires
+optional-add_score-sum-requires t c = optional-number (term-stands t (goal.at.optional-add_score-sum-requires t c).Then-advance_term-doc) (places_same c.loop-at.invariant.same_buffers) _ _ (c.term_score-s.ensures c.args.reader.now.max_doc c.args.reader.now.positions.now c.args.reader.now.ranges.now (places_in c.loop-at.buffers) c.args.depth) c.requires
 
 pub optional-loop-at-preserved-then-advance_term-doc : goal.optional-loop-at-preserved-then-advance_term-doc
-optional-loop-at-preserved-then-advance_term-doc t c = record { long = back_length c.loop-at.kids c.advance_term.new.st c.loop-at.at (c.loop-at.at + node_state_words) c.advance_term.auto.st ∙ c.loop-at.invariant.long; same_buffers = c.loop-at.invariant.same_buffers; sum = optional-term-took (term-stands t (goal.at.optional-loop-at-preserved-then-advance_term-doc t c).Then-advance_term-doc (optional-stops t (goal.at.optional-loop-at-preserved-then-advance_term-doc t c).In-Term)) (places_same c.loop-at.invariant.same_buffers) _ c.term_score-s.ensures _ c.add_score-sum.ensures }
+optional-loop-at-preserved-then-advance_term-doc t c = record { long = back_length c.loop-at.kids c.advance_term.new.st c.loop-at.at c.child_at-child.result.end c.advance_term.auto.st ∙ c.loop-at.invariant.long; same_buffers = c.loop-at.invariant.same_buffers; sum = optional-term-took (term-stands t (goal.at.optional-loop-at-preserved-then-advance_term-doc t c).Then-advance_term-doc) (places_same c.loop-at.invariant.same_buffers) _ c.term_score-s.ensures _ c.add_score-sum.ensures }
 
 pub optional-loop-at-preserved-else-advance_term-doc : goal.optional-loop-at-preserved-else-advance_term-doc
-optional-loop-at-preserved-else-advance_term-doc t c = record { long = back_length c.loop-at.kids c.advance_term.new.st c.loop-at.at (c.loop-at.at + node_state_words) c.advance_term.auto.st ∙ c.loop-at.invariant.long; same_buffers = c.loop-at.invariant.same_buffers; sum = optional-left c.loop-at.invariant.sum c.loop-at-test.true (optional-stops t (goal.at.optional-loop-at-preserved-else-advance_term-doc t c).In-Term) _ _ (places_same c.loop-at.invariant.same_buffers) _ _ (c.advance_term.ensures.term_post (lent_of c.args.reader.now) c.args.depth refl) c.if-advance_term-doc.false }
+optional-loop-at-preserved-else-advance_term-doc t c = record { long = back_length c.loop-at.kids c.advance_term.new.st c.loop-at.at c.child_at-child.result.end c.advance_term.auto.st ∙ c.loop-at.invariant.long; same_buffers = c.loop-at.invariant.same_buffers; sum = optional-left c.loop-at.invariant.sum c.loop-at-test.true c.child_at-child.ensures.end_is _ _ (places_same c.loop-at.invariant.same_buffers) _ _ (c.advance_term.ensures.term_post (lent_of c.args.reader.now) c.args.depth refl) c.if-advance_term-doc.false }
 
 pub required-score-s-requires : goal.required-score-s-requires
 required-score-s-requires t c = (omega arith, required-child c.loop-at.invariant.sum c.loop-at-test.true c.child_at-child.ensures.end_is (scores-one c.child_at-child.ensures.scores-is c.if-child-2.true) (places_same c.loop-at.invariant.same_buffers) c.requires)
@@ -295,18 +291,14 @@ required-loop-at-preserved t c = record { long = c.loop-at.invariant.long; same_
 pub required-returns-clause-required_post : goal.required-returns-clause-required_post
 required-returns-clause-required_post t c = required-end c.loop-at.invariant.sum c.loop-at-test.false
 
--- a term's part ends where its record does
-required-stops : (t : _) (c : required-In-Term t) → c.loop-at.at + node_state_words ≡ c.loop-at.at + get_or c.loop-at.kids (c.loop-at.at + 1) 0
-required-stops t c = required-stop c.loop-at.invariant.sum c.loop-at-test.true c.requires (term-word _ (sym c.child_at-child.ensures.kind-is ∙ c.in-Term.is)) _ refl
-
 pub required-term_score-s-requires : goal.required-term_score-s-requires
-required-term_score-s-requires t c = required-term c.loop-at.invariant.sum c.loop-at-test.true (required-stops t (goal.at.required-term_score-s-requires t c).In-Term) (scores-one c.child_at-child.ensures.scores-is c.if-child.true) (places_same c.loop-at.invariant.same_buffers) (term-word _ (sym c.child_at-child.ensures.kind-is ∙ c.in-Term.is)) c.requires
+required-term_score-s-requires t c = required-term c.loop-at.invariant.sum c.loop-at-test.true c.child_at-child.ensures.end_is (scores-one c.child_at-child.ensures.scores-is c.if-child.true) (places_same c.loop-at.invariant.same_buffers) (term-word _ (sym c.child_at-child.ensures.kind-is ∙ c.in-Term.is)) c.requires
 
 pub required-add_score-sum-requires : goal.required-add_score-sum-requires
-required-add_score-sum-requires t c = required-number c.loop-at.invariant.sum c.loop-at-test.true (required-stops t (goal.at.required-add_score-sum-requires t c).In-Term) (scores-one c.child_at-child.ensures.scores-is c.if-child.true) (places_same c.loop-at.invariant.same_buffers) _ _ (c.term_score-s.ensures c.args.reader.now.max_doc c.args.reader.now.positions.now c.args.reader.now.ranges.now (places_in c.loop-at.buffers) c.args.depth) c.requires
+required-add_score-sum-requires t c = required-number c.loop-at.invariant.sum c.loop-at-test.true c.child_at-child.ensures.end_is (scores-one c.child_at-child.ensures.scores-is c.if-child.true) (places_same c.loop-at.invariant.same_buffers) _ _ (c.term_score-s.ensures c.args.reader.now.max_doc c.args.reader.now.positions.now c.args.reader.now.ranges.now (places_in c.loop-at.buffers) c.args.depth) c.requires
 
 pub required-loop-at-preserved-then-child : goal.required-loop-at-preserved-then-child
-required-loop-at-preserved-then-child t c = record { long = c.loop-at.invariant.long; same_buffers = c.loop-at.invariant.same_buffers; sum = required-term-took c.loop-at.invariant.sum c.loop-at-test.true (required-stops t (goal.at.required-loop-at-preserved-then-child t c).In-Term) (scores-one c.child_at-child.ensures.scores-is c.if-child.true) (places_same c.loop-at.invariant.same_buffers) _ c.term_score-s.ensures _ c.add_score-sum.ensures }
+required-loop-at-preserved-then-child t c = record { long = c.loop-at.invariant.long; same_buffers = c.loop-at.invariant.same_buffers; sum = required-term-took c.loop-at.invariant.sum c.loop-at-test.true c.child_at-child.ensures.end_is (scores-one c.child_at-child.ensures.scores-is c.if-child.true) (places_same c.loop-at.invariant.same_buffers) _ c.term_score-s.ensures _ c.add_score-sum.ensures }
 
 pub required-loop-at-preserved-else-child : goal.required-loop-at-preserved-else-child
-required-loop-at-preserved-else-child t c = record { long = c.loop-at.invariant.long; same_buffers = c.loop-at.invariant.same_buffers; sum = required-skip c.loop-at.invariant.sum c.loop-at-test.true (required-stops t (goal.at.required-loop-at-preserved-else-child t c).In-Term) (scores-none c.child_at-child.ensures.scores-is c.if-child.false) }
+required-loop-at-preserved-else-child t c = record { long = c.loop-at.invariant.long; same_buffers = c.loop-at.invariant.same_buffers; sum = required-skip c.loop-at.invariant.sum c.loop-at-test.true c.child_at-child.ensures.end_is (scores-none c.child_at-child.ensures.scores-is c.if-child.false) }

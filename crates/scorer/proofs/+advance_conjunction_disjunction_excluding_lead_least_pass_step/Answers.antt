@@ -17,7 +17,7 @@ use Rattle.scorer.proofs.Firsts.{pass-done, pass-more, pass-then, pass-only, eno
 use Rattle.leaf_scorer.proofs.Loops.{same_refl, same_then, same_room, part_back, back-length, going_start}
 use Rattle.scorer.proofs.Leads.{front_length, parts-later, lead-fits, lead-required, lead-turn, lead-optional, lead-joined, alone-optional, alone-joined, alone-first, alone-here, boolean-lead, boolean-turn, boolean-prohibited, boolean-joined, boolean-later, boolean-none}
 use Rattle.scorer.proofs.Nodes.{node-long, node-cached, node-leaf, node-sought, node-boolean, node-joined}
-use Rattle.scorer.proofs.Children.{child-is-term, child-is-range, child-kind, child-cached}
+use Rattle.scorer.proofs.Children.{child-asked, phrase-asked, term-asked, range-asked}
 use Rattle.scorer.proofs.Loops.{least-child, least-end, least_skip, least-took, pass-child, pass-end, pass-skip, pass-took, pass-asked}
 use Rattle.scorer.proofs.+advance_conjunction_disjunction_excluding_lead_least_pass_step.Goals as goal
 
@@ -86,79 +86,79 @@ disjunction-loop-x-preserved t c =
       λ ix p ss h.
           let i = a.invariant.2 ix p ss h in
           let q = g.ensures.least_post ix p ss i.held in
-          record { lo = omega (arith, i.lo, q.0.first.from); before = enough-more c.requires.0 i.lo i.before q.0 d c.if-x-enough.true; held = parts-later (g.result.doc + 1) (omega (arith, q.0.first.from)) q.1 },
+          record { lo = omega (arith, i.lo, q.0.first.from); before = enough-more c.requires.0 i.lo i.before q.0 d c.if-enough-x.false; held = parts-later (g.result.doc + 1) (omega (arith, q.0.first.from)) q.1 },
     )
 
-pub disjunction-returns-else-x-enough-clause-disjunction_post : goal.disjunction-returns-else-x-enough-clause-disjunction_post
-disjunction-returns-else-x-enough-clause-disjunction_post t c =
+pub disjunction-returns-then-enough-x-clause-disjunction_post : goal.disjunction-returns-then-enough-x-clause-disjunction_post
+disjunction-returns-then-enough-x-clause-disjunction_post t c =
     let a = c.loop-x in
     let g = c.least-x in
     λ ix p ss h.
     let i = a.invariant.2 ix p ss h in
     let q = g.ensures.least_post ix p ss i.held in
-    (enough-hit c.requires.0 i.lo i.before q.0 c.if-x-enough.false, parts-later g.result.doc q.0.first.from q.1)
+    (enough-hit c.requires.0 i.lo i.before q.0 c.if-enough-x.true, parts-later g.result.doc q.0.first.from q.1)
 
 pub lead-disjunction-requires : goal.lead-disjunction-requires
 lead-disjunction-requires t c =
     let P = c.requires.1 in
-    (omega arith, (omega (arith, c.if-need-eq0.false), (c.requires.0, (P.0, P.1, P.3, P.4, alone-optional P.5 c.if-required_end-eq0.true))))
+    (omega arith, (omega (arith, c.if-n-eq0-2.false), (c.requires.0, (P.0, P.1, P.3, P.4, alone-optional P.5 c.if-n-eq0.true))))
 
-pub lead-returns-then-need-eq0-clause-lead_post : goal.lead-returns-then-need-eq0-clause-lead_post
-lead-returns-then-need-eq0-clause-lead_post t c =
-    λ ix p rs os h. (alone-here h c.if-required_end-eq0.true c.args.need c.if-need-eq0.true c.requires.0, h)
+pub lead-returns-then-n-eq0-2-clause-lead_post : goal.lead-returns-then-n-eq0-2-clause-lead_post
+lead-returns-then-n-eq0-2-clause-lead_post t c =
+    λ ix p rs os h. (alone-here h c.if-n-eq0.true c.args.n.need c.if-n-eq0-2.true c.requires.0, h)
 
-pub lead-returns-else-need-eq0-clause-lead_post : goal.lead-returns-else-need-eq0-clause-lead_post
-lead-returns-else-need-eq0-clause-lead_post t c =
+pub lead-returns-else-n-eq0-2-clause-lead_post : goal.lead-returns-else-n-eq0-2-clause-lead_post
+lead-returns-else-n-eq0-2-clause-lead_post t c =
     let g = c.disjunction in
     λ ix p rs os h.
-    let e = c.if-required_end-eq0.true in
+    let e = c.if-n-eq0.true in
     let q = g.ensures.disjunction_post ix p os (alone-optional h e) in
-    (alone-first h e c.args.need g.result q.0, alone-joined h e g.new.kids g.result q.0.from q.1)
+    (alone-first h e c.args.n.need g.result q.0, alone-joined h e g.new.kids g.result q.0.from q.1)
 
 pub step-slice_bounds-pass-end : goal.step-slice_bounds-pass-end
 step-slice_bounds-pass-end t c = lead-fits c.requires.1.5
 
 pub step-slice_bounds-pass-end-2 : goal.step-slice_bounds-pass-end-2
-step-slice_bounds-pass-end-2 t c = sym (length-take-le c.args.required_end c.args.kids.now (lead-fits c.requires.1.5))
+step-slice_bounds-pass-end-2 t c = sym (length-take-le c.args.n.required_end c.args.kids.now (lead-fits c.requires.1.5))
 
 pub step-pass-e-requires : goal.step-pass-e-requires
 step-pass-e-requires t c = let P = c.requires.1 in (omega arith, (c.requires.0, (P.0, P.1, P.2, P.4, lead-required P.5)))
 
-pub step-offset_bounds-kids-required_end : goal.step-offset_bounds-kids-required_end
-step-offset_bounds-kids-required_end t c = omega (arith, lead-fits c.requires.1.5, c.well_formed)
+pub step-offset_bounds-kids-end : goal.step-offset_bounds-kids-end
+step-offset_bounds-kids-end t c = omega (arith, lead-fits c.requires.1.5, c.well_formed)
 
 pub step-slice_bounds-disjunction-count : goal.step-slice_bounds-disjunction-count
 step-slice_bounds-disjunction-count t c =
     let g = c.pass-e in
-    omega (arith, lead-fits c.requires.1.5, front_length c.args.kids.now g.new.kids c.args.required_end g.auto.kids)
+    omega (arith, lead-fits c.requires.1.5, front_length c.args.kids.now g.new.kids c.args.n.required_end g.auto.kids)
 
 pub step-slice_bounds-disjunction-start : goal.step-slice_bounds-disjunction-start
 step-slice_bounds-disjunction-start t c =
     let g = c.pass-e in
-    omega (arith, lead-fits c.requires.1.5, front_length c.args.kids.now g.new.kids c.args.required_end g.auto.kids, c.well_formed)
+    omega (arith, lead-fits c.requires.1.5, front_length c.args.kids.now g.new.kids c.args.n.required_end g.auto.kids, c.well_formed)
 
 pub step-disjunction-requires : goal.step-disjunction-requires
 step-disjunction-requires t c =
     let P = c.requires.1 in
     let g = c.pass-e in
     let q = lead-turn P.5 g.new.kids g.result g.ensures.pass_post in
-    (omega arith, (omega (arith, c.if-need-eq0.false), (q.0.top, (P.0, P.1, P.3, same_room P.4 g.ensures.same_buffers, lead-optional q.1))))
+    (omega arith, (omega (arith, c.if-n-eq0.false), (q.0.top, (P.0, P.1, P.3, same_room P.4 g.ensures.same_buffers, lead-optional q.1))))
 
-pub step-returns-then-need-eq0-clause-step_post : goal.step-returns-then-need-eq0-clause-step_post
-step-returns-then-need-eq0-clause-step_post t c =
+pub step-returns-then-n-eq0-clause-step_post : goal.step-returns-then-n-eq0-clause-step_post
+step-returns-then-n-eq0-clause-step_post t c =
     let g = c.pass-e in
     λ ix p rs os h.
     let q = lead-turn h g.new.kids g.result g.ensures.pass_post in
-    (pass-only {P = all_match ix rs} {Q = λ d. leb c.args.need (matching ix os d)} (λ d. le-leb c.args.need (matching ix os d) (omega (arith, c.if-need-eq0.true))) q.0, q.1)
+    (pass-only {P = all_match ix rs} {Q = λ d. leb c.args.n.need (matching ix os d)} (λ d. le-leb c.args.n.need (matching ix os d) (omega (arith, c.if-n-eq0.true))) q.0, q.1)
 
-pub step-returns-else-need-eq0-clause-step_post : goal.step-returns-else-need-eq0-clause-step_post
-step-returns-else-need-eq0-clause-step_post t c =
+pub step-returns-else-n-eq0-clause-step_post : goal.step-returns-else-n-eq0-clause-step_post
+step-returns-else-n-eq0-clause-step_post t c =
     let g = c.pass-e in
     let x = c.disjunction in
     λ ix p rs os h.
     let q = lead-turn h g.new.kids g.result g.ensures.pass_post in
     let y = x.ensures.disjunction_post ix p os (lead-optional q.1) in
-    (pass-then {P = all_match ix rs} {Q = λ d. leb c.args.need (matching ix os d)} q.0 y.0, lead-joined q.1 x.new.kids x.result y.0.from y.1)
+    (pass-then {P = all_match ix rs} {Q = λ d. leb c.args.n.need (matching ix os d)} q.0 y.0, lead-joined q.1 x.new.kids x.result y.0.from y.1)
 
 pub advance-bounds-st-2 : goal.advance-bounds-st-2
 advance-bounds-st-2 t c = omega (arith, node-long c.requires.1.5)
@@ -310,11 +310,11 @@ excluding-loop-n-preserved t c =
           let i = a.invariant.2 ix p rs os ps h in
           let q = boolean-turn i.held c.args.n.need g.new.kids g.result g.auto.kids g.ensures.lead_post in
           let y = x.ensures.least_post ix p ps (boolean-prohibited q.1) in
-          record { lo = omega (arith, i.lo, q.0.from); before = kept_more ix rs os ps c.args.n.need i.lo i.before q.0 x.result.doc x.result.count d y.0 c.if-x-d.true; held = boolean-later (boolean-joined q.1 x.new.kids y.1) (g.result + 1) (omega arith) },
+          record { lo = omega (arith, i.lo, q.0.from); before = kept_more ix rs os ps c.args.n.need i.lo i.before q.0 x.result.doc x.result.count d y.0 c.if-x-d.false; held = boolean-later (boolean-joined q.1 x.new.kids y.1) (g.result + 1) (omega arith) },
     )
 
-pub excluding-returns-else-x-d-clause-boolean_post : goal.excluding-returns-else-x-d-clause-boolean_post
-excluding-returns-else-x-d-clause-boolean_post t c =
+pub excluding-returns-then-x-d-clause-boolean_post : goal.excluding-returns-then-x-d-clause-boolean_post
+excluding-returns-then-x-d-clause-boolean_post t c =
     let a = c.loop-n in
     let g = c.lead-d in
     let x = c.least-x in
@@ -322,105 +322,81 @@ excluding-returns-else-x-d-clause-boolean_post t c =
     let i = a.invariant.2 ix p rs os ps h in
     let q = boolean-turn i.held c.args.n.need g.new.kids g.result g.auto.kids g.ensures.lead_post in
     let y = x.ensures.least_post ix p ps (boolean-prohibited q.1) in
-    (kept-hit ix rs os ps c.args.n.need i.lo i.before q.0 x.result.doc x.result.count y.0 c.if-x-d.false, boolean-joined q.1 x.new.kids y.1)
+    (kept-hit ix rs os ps c.args.n.need i.lo i.before q.0 x.result.doc x.result.count y.0 c.if-x-d.true, boolean-joined q.1 x.new.kids y.1)
 
 pub least-slice_bounds-advance_term-end : goal.least-slice_bounds-advance_term-end
-least-slice_bounds-advance_term-end t c =
-    let k = least-child c.requires.1 c.loop-at.invariant.1 c.loop-at-test.true in
-    omega (arith, k.there, k.term-end (child-is-term c.child_at-child.ensures c.in-Term.is), c.loop-at.invariant.0, c.well_formed)
+least-slice_bounds-advance_term-end t c = omega (arith, (least-child c.requires.1 c.loop-at.invariant c.loop-at-test.true).there, c.loop-at.invariant.0, c.well_formed, c.child_at-child.ensures.end_is)
 
 pub least-advance_term-d-requires : goal.least-advance_term-d-requires
-least-advance_term-d-requires t c =
-    let a = c.loop-at in
-    let k = least-child c.requires.1 a.invariant.1 c.loop-at-test.true in
-    let w = child-is-term c.child_at-child.ensures c.in-Term.is in
-    (k.top, child-kind a.kids a.at _ k.there (k.term-end w) ∙ w, (lent_of c.args.reader.now, refl, k.ix, k.places, k.scorer, c.args.depth, k.scores, k.held _ (k.term-end w)))
+least-advance_term-d-requires t c = term-asked (least-child c.requires.1 c.loop-at.invariant c.loop-at-test.true) c.child_at-child.ensures c.in-Term.is
 
 pub least-loop-at-preserved-in-Term : goal.least-loop-at-preserved-in-Term
 least-loop-at-preserved-in-Term t c =
     let a = c.loop-at in
     let l = c.loop-at-test.true in
     let d = c.advance_term-d in
-    let v = (least-child c.requires.1 a.invariant.1 l).term-end (child-is-term c.child_at-child.ensures c.in-Term.is) in
-    (part_back a.kids a.invariant.0 d.new.st a.at _ d.auto.st (same_refl _), λ ix p ss h. least-took (a.invariant.1 ix p ss h) l _ v d.result c.tally-x.result.doc c.tally-x.result.count d.new.st d.auto.st (d.ensures.term_post (lent_of c.args.reader.now) c.args.depth refl) c.tally-x.ensures)
+    (part_back a.kids a.invariant.0 d.new.st a.at _ d.auto.st (same_refl _), λ ix p ss h. least-took (a.invariant.1 ix p ss h) l _ c.child_at-child.ensures.end_is d.result c.with-least.result.doc c.with-least.result.count d.new.st d.auto.st (d.ensures.term_post (lent_of c.args.reader.now) c.args.depth refl) c.with-least.ensures)
 
 pub least-child_at-child-requires : goal.least-child_at-child-requires
-least-child_at-child-requires t c = (least-child c.requires.1 c.loop-at.invariant.1 c.loop-at-test.true).there
+least-child_at-child-requires t c = (least-child c.requires.1 c.loop-at.invariant c.loop-at-test.true).there
 
-pub least-loop-at-smaller-then-target-child : goal.least-loop-at-smaller-then-target-child
-least-loop-at-smaller-then-target-child t c = omega (arith, (least-child c.requires.1 c.loop-at.invariant.1 c.loop-at-test.true).there, c.child_at-child.ensures.end_is)
+pub least-loop-at-smaller-in_default : goal.least-loop-at-smaller-in_default
+least-loop-at-smaller-in_default t c = omega (arith, (least-child c.requires.1 c.loop-at.invariant c.loop-at-test.true).there, c.child_at-child.ensures.end_is)
 
-pub least-loop-at-preserved-then-target-child : goal.least-loop-at-preserved-then-target-child
-least-loop-at-preserved-then-target-child t c =
+pub least-loop-at-preserved-in_default : goal.least-loop-at-preserved-in_default
+least-loop-at-preserved-in_default t c =
     let a = c.loop-at in
     let k = c.child_at-child in
-    let y = c.tally-x-in_default in
+    let y = c.with-least-in_default in
     (a.invariant.0, λ ix p ss h. least_skip (a.invariant.1 ix p ss h) c.loop-at-test.true k.result.end k.ensures.end_is k.result.cached y.result.doc y.result.count k.ensures.cached-is c.if-target-child.true y.ensures)
 
 pub least-slice_bounds-advance-end : goal.least-slice_bounds-advance-end
-least-slice_bounds-advance-end t c = omega (arith, (least-child c.requires.1 c.loop-at.invariant.1 c.loop-at-test.true).there, c.loop-at.invariant.0, c.well_formed, c.child_at-child.ensures.end_is)
+least-slice_bounds-advance-end t c = omega (arith, (least-child c.requires.1 c.loop-at.invariant c.loop-at-test.true).there, c.loop-at.invariant.0, c.well_formed, c.child_at-child.ensures.end_is)
 
 pub least-advance-d-requires : goal.least-advance-d-requires
-least-advance-d-requires t c =
-    let a = c.loop-at in
-    let k = least-child c.requires.1 a.invariant.1 c.loop-at-test.true in
-    (omega arith, (k.top, (k.ix, k.places, k.scorer, k.scores, same_room k.room a.invariant.0.buffers-same, k.held _ c.child_at-child.ensures.end_is)))
+least-advance-d-requires t c = (omega arith, child-asked (least-child c.requires.1 c.loop-at.invariant c.loop-at-test.true) c.child_at-child.ensures)
 
 pub least-loop-at-preserved : goal.least-loop-at-preserved
 least-loop-at-preserved t c =
     let a = c.loop-at in
     let d = c.advance-d in
-    let y = c.tally-x-in_default-2 in
+    let y = c.with-least-in_default-2 in
     (part_back a.kids a.invariant.0 d.new.st a.at _ d.auto.st d.ensures.same_buffers, λ ix p ss h. least-took (a.invariant.1 ix p ss h) c.loop-at-test.true _ c.child_at-child.ensures.end_is d.result y.result.doc y.result.count d.new.st d.auto.st d.ensures.advance_post y.ensures)
 
 pub least-returns-clause-least_post : goal.least-returns-clause-least_post
 least-returns-clause-least_post t c = λ ix p ss h. least-end (c.loop-at.invariant.1 ix p ss h) c.loop-at-test.false
 
 pub pass-slice_bounds-advance_term-end : goal.pass-slice_bounds-advance_term-end
-pass-slice_bounds-advance_term-end t c =
-    let k = pass-child c.requires.1 c.loop-at.invariant.1 c.loop-at-test.true in
-    omega (arith, k.there, k.term-end (child-is-term c.child_at-child.ensures c.in-Term.is), c.loop-at.invariant.0, c.well_formed)
+pass-slice_bounds-advance_term-end t c = omega (arith, (pass-child c.requires.1 c.loop-at.invariant c.loop-at-test.true).there, c.loop-at.invariant.0, c.well_formed, c.child_at-child.ensures.end_is)
 
 pub pass-advance_term-d-requires : goal.pass-advance_term-d-requires
-pass-advance_term-d-requires t c =
-    let a = c.loop-at in
-    let k = pass-child c.requires.1 a.invariant.1 c.loop-at-test.true in
-    let w = child-is-term c.child_at-child.ensures c.in-Term.is in
-    (k.top, child-kind a.kids a.at _ k.there (k.term-end w) ∙ w, (lent_of c.args.reader.now, refl, k.ix, k.places, k.scorer, c.args.depth, k.scores, k.held _ (k.term-end w)))
+pass-advance_term-d-requires t c = term-asked (pass-child c.requires.1 c.loop-at.invariant c.loop-at-test.true) c.child_at-child.ensures c.in-Term.is
 
 pub pass-loop-at-preserved-in-Term : goal.pass-loop-at-preserved-in-Term
 pass-loop-at-preserved-in-Term t c =
     let a = c.loop-at in
     let l = c.loop-at-test.true in
     let d = c.advance_term-d in
-    let v = (pass-child c.requires.1 a.invariant.1 l).term-end (child-is-term c.child_at-child.ensures c.in-Term.is) in
-    (part_back a.kids a.invariant.0 d.new.st a.at _ d.auto.st (same_refl _), λ ix p ss h. pass-took (a.invariant.1 ix p ss h) l _ v d.result d.new.st d.auto.st (d.ensures.term_post (lent_of c.args.reader.now) c.args.depth refl))
+    (part_back a.kids a.invariant.0 d.new.st a.at _ d.auto.st (same_refl _), λ ix p ss h. pass-took (a.invariant.1 ix p ss h) l _ c.child_at-child.ensures.end_is d.result d.new.st d.auto.st (d.ensures.term_post (lent_of c.args.reader.now) c.args.depth refl))
 
 pub pass-slice_bounds-advance_range-end : goal.pass-slice_bounds-advance_range-end
-pass-slice_bounds-advance_range-end t c =
-    let k = pass-child c.requires.1 c.loop-at.invariant.1 c.loop-at-test.true in
-    omega (arith, k.there, k.range-end (child-is-range c.child_at-child.ensures c.in-Range.is), c.loop-at.invariant.0, c.well_formed)
+pass-slice_bounds-advance_range-end t c = omega (arith, (pass-child c.requires.1 c.loop-at.invariant c.loop-at-test.true).there, c.loop-at.invariant.0, c.well_formed, c.child_at-child.ensures.end_is)
 
 pub pass-advance_range-d-requires : goal.pass-advance_range-d-requires
-pass-advance_range-d-requires t c =
-    let a = c.loop-at in
-    let k = pass-child c.requires.1 a.invariant.1 c.loop-at-test.true in
-    let w = child-is-range c.child_at-child.ensures c.in-Range.is in
-    (k.top, child-kind a.kids a.at _ k.there (k.range-end w) ∙ w, (lent_of c.args.reader.now, refl, k.ix, k.places, k.scorer, c.args.depth, k.scores, k.held _ (k.range-end w)))
+pass-advance_range-d-requires t c = range-asked (pass-child c.requires.1 c.loop-at.invariant c.loop-at-test.true) c.child_at-child.ensures c.in-Range.is
 
 pub pass-loop-at-preserved-in-Range : goal.pass-loop-at-preserved-in-Range
 pass-loop-at-preserved-in-Range t c =
     let a = c.loop-at in
     let l = c.loop-at-test.true in
     let d = c.advance_range-d in
-    let v = (pass-child c.requires.1 a.invariant.1 l).range-end (child-is-range c.child_at-child.ensures c.in-Range.is) in
-    (part_back a.kids a.invariant.0 d.new.st a.at _ d.auto.st (same_refl _), λ ix p ss h. pass-took (a.invariant.1 ix p ss h) l _ v d.result d.new.st d.auto.st (d.ensures (lent_of c.args.reader.now) c.args.depth refl))
+    (part_back a.kids a.invariant.0 d.new.st a.at _ d.auto.st (same_refl _), λ ix p ss h. pass-took (a.invariant.1 ix p ss h) l _ c.child_at-child.ensures.end_is d.result d.new.st d.auto.st (d.ensures (lent_of c.args.reader.now) c.args.depth refl))
 
 pub pass-child_at-child-requires : goal.pass-child_at-child-requires
-pass-child_at-child-requires t c = (pass-child c.requires.1 c.loop-at.invariant.1 c.loop-at-test.true).there
+pass-child_at-child-requires t c = (pass-child c.requires.1 c.loop-at.invariant c.loop-at-test.true).there
 
 pub pass-loop-at-smaller-then-d-child : goal.pass-loop-at-smaller-then-d-child
-pass-loop-at-smaller-then-d-child t c = omega (arith, (pass-child c.requires.1 c.loop-at.invariant.1 c.loop-at-test.true).there, c.child_at-child.ensures.end_is)
+pass-loop-at-smaller-then-d-child t c = omega (arith, (pass-child c.requires.1 c.loop-at.invariant c.loop-at-test.true).there, c.child_at-child.ensures.end_is)
 
 pub pass-loop-at-preserved-then-d-child : goal.pass-loop-at-preserved-then-d-child
 pass-loop-at-preserved-then-d-child t c =
@@ -429,21 +405,21 @@ pass-loop-at-preserved-then-d-child t c =
     (a.invariant.0, λ ix p ss h. pass-skip (a.invariant.1 ix p ss h) c.loop-at-test.true k.result.end k.ensures.end_is k.result.cached k.ensures.cached-is c.if-d-child.true)
 
 pub pass-slice_bounds-ask_phrase-end : goal.pass-slice_bounds-ask_phrase-end
-pass-slice_bounds-ask_phrase-end t c = omega (arith, (pass-child c.requires.1 c.loop-at.invariant.1 c.loop-at-test.true).there, c.loop-at.invariant.0, c.well_formed, c.child_at-child.ensures.end_is)
+pass-slice_bounds-ask_phrase-end t c = omega (arith, (pass-child c.requires.1 c.loop-at.invariant c.loop-at-test.true).there, c.loop-at.invariant.0, c.well_formed, c.child_at-child.ensures.end_is)
 
 pub pass-ask_phrase-d-requires : goal.pass-ask_phrase-d-requires
 pass-ask_phrase-d-requires t c =
-    let a = c.loop-at in
-    let k = pass-child c.requires.1 a.invariant.1 c.loop-at-test.true in
     let is = c.child_at-child.ensures in
-    let w = phrase-word _ (sym is.kind-is ∙ is-phrase _ (sym c.eq.ensures ∙ c.if-eq.true)) in
-    (k.top, child-kind a.kids a.at _ k.there is.end_is ∙ w, child-cached a.kids a.at _ k.there is.end_is _ is.cached-is c.if-d-child.false, (lent_of c.args.reader.now, refl, refl, k.ix, k.places, k.scorer, c.args.depth, k.scores, same_room k.room a.invariant.0.buffers-same, k.held _ is.end_is))
+    phrase-asked (pass-child c.requires.1 c.loop-at.invariant c.loop-at-test.true) is (phrase-word _ (sym is.kind-is ∙ is-phrase _ (sym c.eq.ensures ∙ c.if-eq.true))) c.if-d-child.false
+
+pub pass-loop-at-smaller-in-Range : goal.pass-loop-at-smaller-in-Range
+pass-loop-at-smaller-in-Range t c = omega (arith, (pass-child c.requires.1 c.loop-at.invariant c.loop-at-test.true).there, c.child_at-child.ensures.end_is, back-length c.loop-at.kids c.advance_range-d.new.st c.loop-at.at c.child_at-child.result.end c.advance_range-d.auto.st)
 
 pub pass-loop-at-smaller-then-eq : goal.pass-loop-at-smaller-then-eq
 pass-loop-at-smaller-then-eq t c =
     let a = c.loop-at in
     let e = c.child_at-child.ensures.end_is in
-    omega (arith, (pass-child c.requires.1 a.invariant.1 c.loop-at-test.true).there, e, back-length a.kids c.ask_phrase-d.new.st a.at c.child_at-child.result.end c.ask_phrase-d.auto.st)
+    omega (arith, (pass-child c.requires.1 a.invariant c.loop-at-test.true).there, e, back-length a.kids c.ask_phrase-d.new.st a.at c.child_at-child.result.end c.ask_phrase-d.auto.st)
 
 pub pass-loop-at-preserved-then-eq : goal.pass-loop-at-preserved-then-eq
 pass-loop-at-preserved-then-eq t c =
@@ -452,13 +428,10 @@ pass-loop-at-preserved-then-eq t c =
     (part_back a.kids a.invariant.0 d.new.st a.at _ d.auto.st d.ensures.same_buffers, λ ix p ss h. pass-asked (a.invariant.1 ix p ss h) c.loop-at-test.true _ c.child_at-child.ensures.end_is d.result d.new.st d.auto.st (d.ensures.ask_post (lent_of c.args.reader.now) c.args.depth refl refl))
 
 pub pass-slice_bounds-advance-end : goal.pass-slice_bounds-advance-end
-pass-slice_bounds-advance-end t c = omega (arith, (pass-child c.requires.1 c.loop-at.invariant.1 c.loop-at-test.true).there, c.loop-at.invariant.0, c.well_formed, c.child_at-child.ensures.end_is)
+pass-slice_bounds-advance-end t c = omega (arith, (pass-child c.requires.1 c.loop-at.invariant c.loop-at-test.true).there, c.loop-at.invariant.0, c.well_formed, c.child_at-child.ensures.end_is)
 
 pub pass-advance-d-requires : goal.pass-advance-d-requires
-pass-advance-d-requires t c =
-    let a = c.loop-at in
-    let k = pass-child c.requires.1 a.invariant.1 c.loop-at-test.true in
-    (omega arith, (k.top, (k.ix, k.places, k.scorer, k.scores, same_room k.room a.invariant.0.buffers-same, k.held _ c.child_at-child.ensures.end_is)))
+pass-advance-d-requires t c = (omega arith, child-asked (pass-child c.requires.1 c.loop-at.invariant c.loop-at-test.true) c.child_at-child.ensures)
 
 pub pass-loop-at-preserved : goal.pass-loop-at-preserved
 pass-loop-at-preserved t c =

@@ -36,7 +36,7 @@ abbrev pub decreases-step : goal.decreases-step
 decreases-step l = l.depth * 16 + 4
 
 abbrev pub invariant-conjunction-loop-d : goal.invariant-conjunction-loop-d
-invariant-conjunction-loop-d l = Lengths (length l.kids) (length l.initial.kids) l.initial.buffers l.buffers × (l.d ≤ no_more_docs) × ((ix : Index) (p : ℕ) (rs os : Scorers) → LeadHeld (lent_of l.reader) ix p rs os l.depth l.required_end l.initial.kids l.target → Going (leads ix rs os l.need) l.target l.d (LeadHeld (lent_of l.reader) ix p rs os l.depth l.required_end l.kids l.d))
+invariant-conjunction-loop-d l = Lengths (length l.kids) (length l.initial.kids) l.initial.buffers l.buffers × (l.d ≤ no_more_docs) × ((ix : Index) (p : ℕ) (rs os : Scorers) → LeadHeld (lent_of l.reader) ix p rs os l.depth l.n.required_end l.initial.kids l.target → Going (leads ix rs os l.n.need) l.target l.d (LeadHeld (lent_of l.reader) ix p rs os l.depth l.n.required_end l.kids l.d))
 
 abbrev pub decreases-conjunction-loop-d : goal.decreases-conjunction-loop-d
 decreases-conjunction-loop-d l = no_more_docs - l.d
@@ -54,7 +54,7 @@ abbrev pub decreases-excluding-loop-n : goal.decreases-excluding-loop-n
 decreases-excluding-loop-n l = no_more_docs - l.t
 
 abbrev pub invariant-least-loop-at : goal.invariant-least-loop-at
-invariant-least-loop-at l = Lengths (length l.kids) (length l.initial.kids) l.initial.buffers l.buffers × ((ix : Index) (p : ℕ) (ss : Scorers) → PartsHeld (lent_of l.reader) ix p ss l.depth l.initial.kids l.target → LeastAt (lent_of l.reader) ix p l.depth ss l.kids l.target l.best l.count l.at)
+invariant-least-loop-at l = Lengths (length l.kids) (length l.initial.kids) l.initial.buffers l.buffers × ((ix : Index) (p : ℕ) (ss : Scorers) → PartsHeld (lent_of l.reader) ix p ss l.depth l.initial.kids l.target → LeastAt (lent_of l.reader) ix p l.depth ss l.kids l.target l.least.doc l.least.count l.at)
 
 abbrev pub decreases-least-loop-at : goal.decreases-least-loop-at
 decreases-least-loop-at l = length l.kids - l.at

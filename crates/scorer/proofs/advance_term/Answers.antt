@@ -12,13 +12,13 @@ pub returns-then-target-cached-clause-term_post : goal.returns-then-target-cache
 returns-then-target-cached-clause-term_post c = λ E k same ix p T o z. (node-cached z c.if-target-cached.true, z.ok)
 
 pub search_postings-d-requires : goal.search_postings-d-requires
-search_postings-d-requires c = let P = c.requires.2 in term_asks c.requires.1 (omega (arith, c.well_formed)) c.if-target-cached.false P.1 P.7
+search_postings-d-requires c = let P = c.requires.2 in term_asks c.requires.1 c.if-target-cached.false P.1 P.7
 
 pub overflow_add-st : goal.overflow_add-st
 overflow_add-st c =
     let P = c.requires.2 in
     let y = c.search_postings-d in
-    let d = term-sought c.requires.1 (omega (arith, c.well_formed)) c.if-target-cached.false P.1 P.7 c.requires.0 y.result y.new.st y.ensures in
+    let d = term-sought c.requires.1 c.if-target-cached.false P.1 P.7 c.requires.0 y.result y.new.st y.ensures in
     omega (arith, d.0.top)
 
 pub bounds-st-2-2 : goal.bounds-st-2-2
@@ -27,7 +27,7 @@ bounds-st-2-2 c = omega (arith, node-long c.requires.2.7, c.search_postings-d.au
 pub returns-clause-term_post : goal.returns-clause-term_post
 returns-clause-term_post c =
     let y = c.search_postings-d in
-    λ E k same ix p T o z. term-sought c.requires.1 (omega (arith, c.well_formed)) c.if-target-cached.false same z c.requires.0 y.result y.new.st y.ensures
+    λ E k same ix p T o z. term-sought c.requires.1 c.if-target-cached.false same z c.requires.0 y.result y.new.st y.ensures
 
 pub returns-clause-st_after : goal.returns-clause-st_after
 returns-clause-st_after c = let y = c.search_postings-d in get_or-set_same y.new.st 2 (y.result + 1) 0 (omega (arith, node-long c.requires.2.7, y.auto.st))

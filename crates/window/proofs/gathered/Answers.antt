@@ -3,10 +3,10 @@ use Rattle.window.proofs.Gathering.{gathering-start, gathering-more, gathering-s
 use Rattle.window.proofs.gathered.Goals as goal
 
 pub loop-i-init : goal.loop-i-init
-loop-i-init c = gathering-start c.args.words.now c.args.stride c.args.first c.args.number c.args.base c.args.from c.requires
+loop-i-init c = gathering-start c.args.postings.run c.requires
 
 pub returns-then-place-ge64 : goal.returns-then-place-ge64
-returns-then-place-ge64 c = gathering-stops c.args.words.now c.args.stride c.args.first c.args.number c.args.base c.args.from c.requires c.loop-i.i c.loop-i.w c.loop-i.invariant c.loop-i-test.true c.document.result c.document.ensures c.if-place-ge64.true
+returns-then-place-ge64 c = gathering-stops c.args.postings.run c.requires c.loop-i.i c.loop-i.w c.loop-i.invariant c.loop-i-test.true c.document.result c.document.ensures c.if-place-ge64.true
 
 pub loop-i-preserved : goal.loop-i-preserved
-loop-i-preserved c = gathering-more c.args.words.now c.args.stride c.args.first c.args.number c.args.base c.args.from c.requires c.loop-i.i c.loop-i.w c.loop-i.invariant c.loop-i-test.true c.document.result c.document.ensures c.set_bit-w.result (omega (arith, c.if-place-ge64.false)) c.set_bit-w.ensures
+loop-i-preserved c = gathering-more c.args.postings.run c.requires c.loop-i.i c.loop-i.w c.loop-i.invariant c.loop-i-test.true c.document.result c.document.ensures c.set_bit-w.result (omega (arith, c.if-place-ge64.false)) c.set_bit-w.ensures

@@ -2,4 +2,4 @@ use Rattle.window.proofs.Gathering.{Gathering}
 use Rattle.window.proofs.gathered.Given as goal
 
 abbrev pub invariant-loop-i : goal.invariant-loop-i
-invariant-loop-i l = Gathering l.words l.stride l.first l.number l.base l.from l.i l.w
+invariant-loop-i l = Gathering l.postings.words.now l.postings.stride l.postings.first l.postings.count l.base l.from l.i l.w

@@ -1,4 +1,4 @@
-use Rattle.std.proofs.Common.{refl, ◌+◌, ◌≤◌, length, arith}
+use Rattle.std.proofs.Common.{refl, sym, ◌+◌, ◌≤◌, length, arith}
 use Rattle.leaf_scorer.specs.Calls.{lent}
 use Rattle.meaning.specs.Limits.{node_state_words}
 use Rattle.window_words.specs.Windowed.{nowhere}
@@ -35,7 +35,7 @@ pub put-requires : goal.put-requires
 put-requires c = let q = c.requires.bits_pre.1 in node-front (lent q.0 c.args.window.now.reader.postings.now c.args.window.now.reader.positions.now c.args.window.now.reader.ranges.now) q.1 q.2 c.args.depth q.4 c.args.st.now c.args.window.now.base q.3 q.7
 
 pub returns-in-Everything-clause-bits_post : goal.returns-in-Everything-clause-bits_post
-returns-in-Everything-clause-bits_post c = λ n all ix places s o h. all-answer (lent n c.args.window.now.reader.postings.now c.args.window.now.reader.positions.now c.args.window.now.reader.ranges.now) ix places c.args.depth o c.args.st.now c.args.window.now.base (word-read _ Everything c.in-Everything.ensures refl) c.args.want c.put.new.st c.requires.bits_pre.0 all c.put.ensures s h
+returns-in-Everything-clause-bits_post c = λ n all ix places s o h. all-answer (lent n c.args.window.now.reader.postings.now c.args.window.now.reader.positions.now c.args.window.now.reader.ranges.now) ix places c.args.depth o c.args.st.now c.args.window.now.base (word-read _ Everything c.in-Everything.ensures refl) c.args.want c.put.new.st c.requires.bits_pre.0 all (rw (sym c.end.ensures) c.put.ensures) s h
 
 pub put-requires-in_default : goal.put-requires-in_default
 put-requires-in_default c = let q = c.requires.bits_pre.1 in node-front (lent q.0 c.args.window.now.reader.postings.now c.args.window.now.reader.positions.now c.args.window.now.reader.ranges.now) q.1 q.2 c.args.depth q.4 c.args.st.now c.args.window.now.base q.3 q.7

@@ -1,4 +1,4 @@
-use Rattle.std.proofs.Common.{ap, ◌≤◌, length, arith}
+use Rattle.std.proofs.Common.{ap, ◌+◌, ◌≤◌, length, get_or, arith}
 use Rattle.meaning.specs.Limits.{node_state_words}
 use Rattle.window_words.specs.Windowed.{nowhere}
 use Rattle.window_words.proofs.Laws.{windowed-long}
@@ -14,13 +14,9 @@ bounds-st-6 c = let q = c.requires.2 in let z : node_state_words ≤ length c.ar
 pub bounds-st-7 : goal.bounds-st-7
 bounds-st-7 c = let q = c.requires.2 in let z : node_state_words ≤ length c.args.st.now = windowed-long q.2 q.0.ranges q.4 q.5 q.6 c.args.st.now c.args.base c.args.base nowhere q.7.held in omega (arith, z)
 
--- src/lib.rt:124:9
-pub bits_from-low-requires : goal.bits_from-low-requires
-bits_from-low-requires c = let q = c.requires.2 in omega (arith, range-asks q.0 q.2 q.3 q.5 q.6 c.args.st.now c.args.base c.requires.1 q.4 q.7, ap length q.1)
-
--- src/lib.rt:125:9
-pub bits_from-high-requires : goal.bits_from-high-requires
-bits_from-high-requires c = let q = c.requires.2 in omega (arith, range-asks q.0 q.2 q.3 q.5 q.6 c.args.st.now c.args.base c.requires.1 q.4 q.7, ap length q.1)
+-- the bitmap lies within the ranges
+pub slice_bounds-bitmap-end : goal.slice_bounds-bitmap-end
+slice_bounds-bitmap-end c = let q = c.requires.2 in omega (arith, range-asks q.0 q.2 q.3 q.5 q.6 c.args.st.now c.args.base c.requires.1 q.4 q.7, ap length q.1)
 
 -- src/lib.rt:127:5
 pub put-requires : goal.put-requires
@@ -30,5 +26,7 @@ put-requires c = let q = c.requires.2 in node-front q.0 q.2 q.3 q.5 q.6 c.args.s
 pub returns : goal.returns
 returns c = λ E k same ix places s o h.
     let R = c.args.ranges.now in
-    let part = window-part R _ _ c.args.base c.bits_from-low.result c.bits_from-high.result c.joined-bits.result c.bits_from-low.ensures c.bits_from-high.ensures c.joined-bits.ensures.low_bits c.joined-bits.ensures.high_bits in
+    let q = c.requires.2 in
+    let there : get_or c.args.st.now 6 0 + get_or c.args.st.now 7 0 ≤ length R = omega (arith, range-asks q.0 q.2 q.3 q.5 q.6 c.args.st.now c.args.base c.requires.1 q.4 q.7, ap length q.1) in
+    let part = window-part R (get_or c.args.st.now 6 0) (get_or c.args.st.now 7 0) c.args.base c.bits_from-low.result c.bits_from-high.result c.joined-bits.result there c.bits_from-low.ensures c.bits_from-high.ensures c.joined-bits.ensures.low_bits c.joined-bits.ensures.high_bits in
     range-answer E ix places k o c.args.st.now c.args.base c.requires.1 c.joined-bits.result c.put.new.st c.requires.0 c.put.ensures (rw same part) s h

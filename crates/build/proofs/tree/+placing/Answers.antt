@@ -1,17 +1,14 @@
 -- The cycle of calls that places a tree: a tree, a Boolean, its required clauses, its others, and a list of clauses.
 use borrow.Rule.Slice.PartMut.{put_mid, same_len_mid, mid_len, post_of}
-use Rattle.std.proofs.Common.{◌≡◌, ◌≤◌, ◌<◌, Bool, List, cond, ℕ, ◌+◌, ◌-◌, refl, ◌∙◌, ap, length, take, arith, rules}
-use Rattle.std.specs.Prelude.{is_some}
+use Rattle.std.proofs.Common.{◌≡◌, ◌≤◌, ◌<◌, Bool, List, cond, ℕ, ◌+◌, ◌-◌, refl, ◌∙◌, ap, length, arith, rules}
 use Rattle.meaning.specs.Limits.{node_state_words}
 use Rattle.meaning.specs.Query.{is_must}
 use Rattle.query.specs.Kinds.{kind_number, occur_number}
 use Rattle.clauses.specs.Clauses.{wanted_at}
 use Rattle.measure.proofs.Arrays.{present-at}
-use Rattle.node_words.specs.Placed.{kept_score}
-use Rattle.node_words.specs.Prepared.{given}
 use Rattle.node_words.proofs.AtRecord.{TreeHere, tree-here}
 use Rattle.node_words.proofs.Kept.{kept-or}
-use Rattle.build.proofs.Found.{marked, from-there}
+use Rattle.build.proofs.Found.{found, marked, from-there}
 use Rattle.build.proofs.PlacingLists.{kept-nothing, list-starts, list-here, list-within, list-ends, list-tree, list-fits, list-more}
 use Rattle.build.proofs.PlacingParts.{others-known, others-listed, others-placed, required-known, required-here, required-first, required-within, required-second, required-fits, required-placed}
 use Rattle.build.proofs.PlacingBooleans.{tree-deep, tree-kept, nothing_placed, boolean-known, boolean-required, first_fits, boolean-optional, second_fits, boolean-prohibited, whole-fits, whole-small, group-within, whole-placed}
@@ -35,72 +32,34 @@ place-overflow_sub-depth t c = (tree t (goal.at.place-overflow_sub-depth t c).St
 
 pub place-place-requires : goal.place-place-requires
 place-place-requires t c =
-    let E = given c.args.records.now in
-    let at = c.args.at in
-    let fixed = is_some c.args.passed.kept in
-    let kept = kept_score c.args.passed.kept in
-    let boost = c.args.passed.boost in
-    let words = length c.args.st.now in
-    let depth = c.args.depth in
-    let pre = c.requires in
     let kind = c.in-Some-ConstantScore.ensures ∙ ap kind_number c.in-Some-ConstantScore.field-0-is in
-    (omega (arith, c.decreases, tree-deep E at fixed kept boost words depth pre), constant-asked E at fixed kept boost words depth kind c.unwrap_or.result (c.unwrap_or.ensures ∙ kept-or c.args.passed.kept boost) pre)
+    (omega (arith, c.decreases, tree-deep c.requires), constant-asked c.requires kind (c.unwrap_or.ensures ∙ kept-or c.args.passed.kept c.args.passed.boost))
 
 pub place-value-requires : goal.place-value-requires
 place-value-requires t c = ((tree t (goal.at.place-value-requires t c).Start).here, omega arith)
 
 pub place-float_from_bits-below : goal.place-float_from_bits-below
 place-float_from_bits-below t c =
-    let E = given c.args.records.now in
-    let at = c.args.at in
-    let fixed = is_some c.args.passed.kept in
-    let kept = kept_score c.args.passed.kept in
-    let boost = c.args.passed.boost in
-    let words = length c.args.st.now in
-    let depth = c.args.depth in
-    let pre = c.requires in
     let kind = c.in-Some-Boost.ensures ∙ ap kind_number c.in-Some-Boost.field-0-is in
-    boost-number-here E at fixed kept boost words depth kind c.value.result c.value.ensures pre
+    boost-number-here c.requires kind c.value.ensures
 
 pub place-overflow_sub-depth-in-Some-Boost : goal.place-overflow_sub-depth-in-Some-Boost
 place-overflow_sub-depth-in-Some-Boost t c = (tree t (goal.at.place-overflow_sub-depth-in-Some-Boost t c).Start).levels
 
 pub place-place-requires-in-Some-Boost : goal.place-place-requires-in-Some-Boost
 place-place-requires-in-Some-Boost t c =
-    let E = given c.args.records.now in
-    let at = c.args.at in
-    let fixed = is_some c.args.passed.kept in
-    let kept = kept_score c.args.passed.kept in
-    let boost = c.args.passed.boost in
-    let words = length c.args.st.now in
-    let depth = c.args.depth in
-    let pre = c.requires in
     let kind = c.in-Some-Boost.ensures ∙ ap kind_number c.in-Some-Boost.field-0-is in
-    (omega (arith, c.decreases, tree-deep E at fixed kept boost words depth pre), boost-asked E at fixed kept boost words depth kind c.value.result c.value.ensures pre)
+    (omega (arith, c.decreases, tree-deep c.requires), boost-asked c.requires kind c.value.ensures)
 
 pub place-returns-in-Some-ConstantScore-clause-tree_post : goal.place-returns-in-Some-ConstantScore-clause-tree_post
 place-returns-in-Some-ConstantScore-clause-tree_post t c =
-    let E = given c.args.records.now in
-    let at = c.args.at in
-    let fixed = is_some c.args.passed.kept in
-    let kept = kept_score c.args.passed.kept in
-    let boost = c.args.passed.boost in
-    let words = length c.args.st.now in
-    let depth = c.args.depth in
     let kind = c.in-Some-ConstantScore.ensures ∙ ap kind_number c.in-Some-ConstantScore.field-0-is in
-    constant-placed E at fixed kept boost words depth kind c.unwrap_or.result (c.unwrap_or.ensures ∙ kept-or c.args.passed.kept boost) c.args.passed.scores c.place.result c.place.new.st c.place.ensures.tree_post
+    constant-placed c.requires kind (c.unwrap_or.ensures ∙ kept-or c.args.passed.kept c.args.passed.boost) c.place.ensures.tree_post
 
 pub place-returns-in-Some-Boost-clause-tree_post : goal.place-returns-in-Some-Boost-clause-tree_post
 place-returns-in-Some-Boost-clause-tree_post t c =
-    let E = given c.args.records.now in
-    let at = c.args.at in
-    let fixed = is_some c.args.passed.kept in
-    let kept = kept_score c.args.passed.kept in
-    let boost = c.args.passed.boost in
-    let words = length c.args.st.now in
-    let depth = c.args.depth in
     let kind = c.in-Some-Boost.ensures ∙ ap kind_number c.in-Some-Boost.field-0-is in
-    boost-placed E at fixed kept boost words depth kind c.value.result c.value.ensures c.args.passed.scores c.place-in-Some-Boost.result c.place-in-Some-Boost.new.st c.place-in-Some-Boost.ensures.tree_post
+    boost-placed c.requires kind c.value.ensures c.place-in-Some-Boost.ensures.tree_post
 
 pub place-returns-in_default-clause-tree_post : goal.place-returns-in_default-clause-tree_post
 place-returns-in_default-clause-tree_post t c =
@@ -118,33 +77,15 @@ place_boolean-place_nothing-requires t c = (boolean t (goal.at.place_boolean-pla
 
 pub place_boolean-returns-then-not-records-at-clause-tree_post : goal.place_boolean-returns-then-not-records-at-clause-tree_post
 place_boolean-returns-then-not-records-at-clause-tree_post t c =
-    let E = given c.args.records.now in
-    let at = c.args.at in
-    let fixed = is_some c.args.passed.kept in
-    let kept = kept_score c.args.passed.kept in
-    let boost = c.args.passed.boost in
-    let words = length c.args.st.now in
-    let depth = c.args.depth in
-    let pre = c.requires.tree_pre in
-    let kind = c.requires.at_value in
-    nothing_placed E at fixed kept boost words depth kind c.args.passed.scores c.place_nothing.result c.place_nothing.new.st (present-at c.args.records.now.measures.now at ∙ ap (λ (b : Bool). cond b 1 0) c.if-not-records-at.true) c.place_nothing.ensures.placed
+    nothing_placed c.requires.tree_pre c.requires.at_value c.args.passed.scores c.place_nothing.result c.place_nothing.new.st (present-at c.args.records.now.measures.now c.args.at ∙ ap (λ (b : Bool). cond b 1 0) c.if-not-records-at.true) c.place_nothing.ensures.placed
 
 pub place_boolean-value-msm-requires : goal.place_boolean-value-msm-requires
 place_boolean-value-msm-requires t c = ((boolean t (goal.at.place_boolean-value-msm-requires t c).Start).here, omega arith)
 
 pub place_boolean-has_required-required-requires : goal.place_boolean-has_required-required-requires
 place_boolean-has_required-required-requires t c =
-    let E = given c.args.records.now in
-    let at = c.args.at in
-    let fixed = is_some c.args.passed.kept in
-    let kept = kept_score c.args.passed.kept in
-    let boost = c.args.passed.boost in
-    let words = length c.args.st.now in
-    let depth = c.args.depth in
-    let pre = c.requires.tree_pre in
-    let kind = c.requires.at_value in
-    let there = marked c.args.records.now.measures.now at c.if-not-records-at.false in
-    let s = boolean-known E at fixed kept boost words depth kind there c.args.records.now.measures.now (refl, refl, refl) pre in
+    let there = marked c.args.records.now.measures.now c.args.at c.if-not-records-at.false in
+    let s = boolean-known c.requires.tree_pre c.requires.at_value there (found c.args.records.now) in
     (s.0, s.1, s.2, s.3, record { measures = c.args.records.now.measures.now; nexts = refl; known = s.4 })
 
 pub place_boolean-slice_bounds-place_required-count : goal.place_boolean-slice_bounds-place_required-count
@@ -158,19 +99,10 @@ place_boolean-overflow_sub-depth t c = (boolean t (goal.at.place_boolean-overflo
 
 pub place_boolean-place_required-first-requires : goal.place_boolean-place_required-first-requires
 place_boolean-place_required-first-requires t c =
-    let E = given c.args.records.now in
-    let at = c.args.at in
-    let fixed = is_some c.args.passed.kept in
-    let kept = kept_score c.args.passed.kept in
-    let boost = c.args.passed.boost in
-    let words = length c.args.st.now in
-    let depth = c.args.depth in
-    let pre = c.requires.tree_pre in
-    let kind = c.requires.at_value in
-    let there = marked c.args.records.now.measures.now at c.if-not-records-at.false in
+    let there = marked c.args.records.now.measures.now c.args.at c.if-not-records-at.false in
     let st₀ = c.args.st.now in
-    let part₁ = mid_len node_state_words words st₀ (omega arith) in
-    (omega (arith, c.decreases, tree-deep E at fixed kept boost words depth pre), boolean-required E at fixed kept boost words depth kind there _ part₁ pre)
+    let part₁ = mid_len node_state_words (length st₀) st₀ (omega arith) in
+    (omega (arith, c.decreases, tree-deep c.requires.tree_pre), boolean-required c.requires.tree_pre c.requires.at_value there part₁)
 
 -- its required children's parts are there, in words as many as before
 abbrev words₁ : (t : _) → goal.place_boolean-After-place_required-first t → List ℕ
@@ -181,7 +113,7 @@ first t c =
     let there = marked c.args.records.now.measures.now c.args.at c.if-not-records-at.false in
     let a = c.place_required-first in
     let part₁ = mid_len node_state_words (length c.args.st.now) c.args.st.now (omega arith) in (
-      first_fits (given c.args.records.now) c.args.at (is_some c.args.passed.kept) (kept_score c.args.passed.kept) c.args.passed.boost (length c.args.st.now) c.args.depth c.requires.at_value there _ part₁ a.result.group_at a.result.end a.new.st a.ensures.required_post c.requires.tree_pre,
+      first_fits c.requires.tree_pre c.requires.at_value there part₁ a.ensures.required_post,
       same_len_mid node_state_words (length c.args.st.now - node_state_words) c.args.st.now a.new.st a.auto.st,
     )
 
@@ -202,24 +134,15 @@ place_boolean-overflow_sub-depth-2 t c = (boolean t (goal.at.place_boolean-overf
 
 pub place_boolean-place_others-shoulds-requires : goal.place_boolean-place_others-shoulds-requires
 place_boolean-place_others-shoulds-requires t c =
-    let E = given c.args.records.now in
-    let at = c.args.at in
-    let fixed = is_some c.args.passed.kept in
-    let kept = kept_score c.args.passed.kept in
-    let boost = c.args.passed.boost in
-    let words = length c.args.st.now in
-    let depth = c.args.depth in
-    let pre = c.requires.tree_pre in
-    let kind = c.requires.at_value in
-    let there = marked c.args.records.now.measures.now at c.if-not-records-at.false in
+    let there = marked c.args.records.now.measures.now c.args.at c.if-not-records-at.false in
     let st₀ = c.args.st.now in
-    let part₁ = mid_len node_state_words words st₀ (omega arith) in
+    let part₁ = mid_len node_state_words (length st₀) st₀ (omega arith) in
     let a = c.place_required-first in
     let e₁ = a.result.end in
-    let st₁ = put_mid node_state_words (words - node_state_words) st₀ a.new.st in
-    let long₁ = same_len_mid node_state_words (words - node_state_words) st₀ a.new.st a.auto.st in
+    let st₁ = put_mid node_state_words (length st₀ - node_state_words) st₀ a.new.st in
+    let long₁ = same_len_mid node_state_words (length st₀ - node_state_words) st₀ a.new.st a.auto.st in
     let part₂ = mid_len (node_state_words + e₁) (length st₁) st₁ (omega arith) ∙ ap (λ (z : ℕ). z - (node_state_words + e₁)) long₁ in
-    (omega (arith, c.decreases, tree-deep E at fixed kept boost words depth pre), boolean-optional E at fixed kept boost words depth kind there _ part₁ a.result.group_at e₁ a.new.st a.ensures.required_post _ part₂ pre)
+    (omega (arith, c.decreases, tree-deep c.requires.tree_pre), boolean-optional c.requires.tree_pre c.requires.at_value there part₁ a.ensures.required_post part₂)
 
 -- and the optional ones'
 abbrev words₂ : (t : _) → goal.place_boolean-After-place_others-shoulds t → List ℕ
@@ -233,14 +156,14 @@ second t c =
     let there = marked c.args.records.now.measures.now c.args.at c.if-not-records-at.false in
     let st₀ = c.args.st.now in
     let words = length st₀ in
-    let part₁ = mid_len node_state_words words st₀ (omega arith) in
+    let part₁ = mid_len node_state_words (length st₀) st₀ (omega arith) in
     let a = c.place_required-first in
     let e₁ = a.result.end in
-    let st₁ = put_mid node_state_words (words - node_state_words) st₀ a.new.st in
-    let long₁ = same_len_mid node_state_words (words - node_state_words) st₀ a.new.st a.auto.st in
+    let st₁ = put_mid node_state_words (length st₀ - node_state_words) st₀ a.new.st in
+    let long₁ = same_len_mid node_state_words (length st₀ - node_state_words) st₀ a.new.st a.auto.st in
     let part₂ = mid_len (node_state_words + e₁) (length st₁) st₁ (omega arith) ∙ ap (λ (z : ℕ). z - (node_state_words + e₁)) long₁ in
     let b = c.place_others-shoulds in (
-      second_fits (given c.args.records.now) c.args.at (is_some c.args.passed.kept) (kept_score c.args.passed.kept) c.args.passed.boost words c.args.depth c.requires.at_value there _ part₁ a.result.group_at e₁ a.new.st a.ensures.required_post _ part₂ b.result b.new.st b.ensures.others_post c.requires.tree_pre,
+      second_fits c.requires.tree_pre c.requires.at_value there part₁ a.ensures.required_post part₂ b.ensures.others_post,
       same_len_mid (node_state_words + e₁) (length st₁ - (node_state_words + e₁)) st₁ b.new.st b.auto.st ∙ long₁,
     )
 
@@ -264,29 +187,20 @@ place_boolean-overflow_sub-depth-3 t c = (boolean t (goal.at.place_boolean-overf
 
 pub place_boolean-place_others-nots-requires : goal.place_boolean-place_others-nots-requires
 place_boolean-place_others-nots-requires t c =
-    let E = given c.args.records.now in
-    let at = c.args.at in
-    let fixed = is_some c.args.passed.kept in
-    let kept = kept_score c.args.passed.kept in
-    let boost = c.args.passed.boost in
-    let words = length c.args.st.now in
-    let depth = c.args.depth in
-    let pre = c.requires.tree_pre in
-    let kind = c.requires.at_value in
-    let there = marked c.args.records.now.measures.now at c.if-not-records-at.false in
+    let there = marked c.args.records.now.measures.now c.args.at c.if-not-records-at.false in
     let st₀ = c.args.st.now in
-    let part₁ = mid_len node_state_words words st₀ (omega arith) in
+    let part₁ = mid_len node_state_words (length st₀) st₀ (omega arith) in
     let a = c.place_required-first in
     let e₁ = a.result.end in
-    let st₁ = put_mid node_state_words (words - node_state_words) st₀ a.new.st in
-    let long₁ = same_len_mid node_state_words (words - node_state_words) st₀ a.new.st a.auto.st in
+    let st₁ = put_mid node_state_words (length st₀ - node_state_words) st₀ a.new.st in
+    let long₁ = same_len_mid node_state_words (length st₀ - node_state_words) st₀ a.new.st a.auto.st in
     let part₂ = mid_len (node_state_words + e₁) (length st₁) st₁ (omega arith) ∙ ap (λ (z : ℕ). z - (node_state_words + e₁)) long₁ in
     let b = c.place_others-shoulds in
     let e₂ = b.result in
     let st₂ = put_mid (node_state_words + e₁) (length st₁ - (node_state_words + e₁)) st₁ b.new.st in
     let long₂ = same_len_mid (node_state_words + e₁) (length st₁ - (node_state_words + e₁)) st₁ b.new.st b.auto.st ∙ long₁ in
     let part₃ = mid_len (node_state_words + (e₁ + e₂)) (length st₂) st₂ (omega arith) ∙ ap (λ (z : ℕ). z - (node_state_words + (e₁ + e₂))) long₂ in
-    (omega (arith, c.decreases, tree-deep E at fixed kept boost words depth pre), boolean-prohibited E at fixed kept boost words depth kind there _ part₁ a.result.group_at e₁ a.new.st a.ensures.required_post _ part₂ e₂ b.new.st b.ensures.others_post _ part₃ pre)
+    (omega (arith, c.decreases, tree-deep c.requires.tree_pre), boolean-prohibited c.requires.tree_pre c.requires.at_value there part₁ a.ensures.required_post part₂ b.ensures.others_post part₃)
 
 pub place_boolean-overflow_add-size : goal.place_boolean-overflow_add-size
 place_boolean-overflow_add-size t c = omega (arith, (second t (goal.at.place_boolean-overflow_add-size t c).After-place_others-shoulds).0, c.well_formed)
@@ -305,22 +219,13 @@ size₃ t c = node_state_words + (c.place_required-first.result.end + c.place_ot
 
 third : (t : _) (c : goal.place_boolean-After-place_others-nots t) → (size₃ t c ≤ length c.args.st.now) × (length (words₃ t c) ≡ length c.args.st.now) × (size₃ t c < 4294967296) × (c.place_required-first.result.group_at ≤ size₃ t c)
 third t c =
-    let E = given c.args.records.now in
-    let at = c.args.at in
-    let fixed = is_some c.args.passed.kept in
-    let kept = kept_score c.args.passed.kept in
-    let boost = c.args.passed.boost in
-    let words = length c.args.st.now in
-    let depth = c.args.depth in
-    let pre = c.requires.tree_pre in
-    let kind = c.requires.at_value in
-    let there = marked c.args.records.now.measures.now at c.if-not-records-at.false in
+    let there = marked c.args.records.now.measures.now c.args.at c.if-not-records-at.false in
     let st₀ = c.args.st.now in
-    let part₁ = mid_len node_state_words words st₀ (omega arith) in
+    let part₁ = mid_len node_state_words (length st₀) st₀ (omega arith) in
     let a = c.place_required-first in
     let e₁ = a.result.end in
-    let st₁ = put_mid node_state_words (words - node_state_words) st₀ a.new.st in
-    let long₁ = same_len_mid node_state_words (words - node_state_words) st₀ a.new.st a.auto.st in
+    let st₁ = put_mid node_state_words (length st₀ - node_state_words) st₀ a.new.st in
+    let long₁ = same_len_mid node_state_words (length st₀ - node_state_words) st₀ a.new.st a.auto.st in
     let part₂ = mid_len (node_state_words + e₁) (length st₁) st₁ (omega arith) ∙ ap (λ (z : ℕ). z - (node_state_words + e₁)) long₁ in
     let b = c.place_others-shoulds in
     let e₂ = b.result in
@@ -328,11 +233,10 @@ third t c =
     let long₂ = same_len_mid (node_state_words + e₁) (length st₁ - (node_state_words + e₁)) st₁ b.new.st b.auto.st ∙ long₁ in
     let part₃ = mid_len (node_state_words + (e₁ + e₂)) (length st₂) st₂ (omega arith) ∙ ap (λ (z : ℕ). z - (node_state_words + (e₁ + e₂))) long₂ in
     let d = c.place_others-nots in
-    let e₃ = d.result in
     let long₃ = same_len_mid (node_state_words + (e₁ + e₂)) (length st₂ - (node_state_words + (e₁ + e₂))) st₂ d.new.st d.auto.st ∙ long₂ in
-    let fits = whole-fits E at fixed kept boost words depth kind there _ part₁ a.result.group_at e₁ a.new.st a.ensures.required_post _ part₂ e₂ b.new.st b.ensures.others_post _ part₃ e₃ d.new.st d.ensures.others_post pre in
-    let small = whole-small E at fixed kept boost words depth kind there _ part₁ a.result.group_at e₁ a.new.st a.ensures.required_post _ part₂ e₂ b.new.st b.ensures.others_post _ part₃ e₃ d.new.st d.ensures.others_post pre in
-    let group = group-within E at fixed kept boost words depth kind there _ part₁ a.result.group_at e₁ a.new.st a.ensures.required_post _ part₂ e₂ b.new.st b.ensures.others_post _ part₃ e₃ d.new.st d.ensures.others_post pre in
+    let fits = whole-fits c.requires.tree_pre c.requires.at_value there part₁ a.ensures.required_post part₂ b.ensures.others_post part₃ d.ensures.others_post in
+    let small = whole-small c.requires.tree_pre c.requires.at_value there part₁ a.ensures.required_post part₂ b.ensures.others_post part₃ d.ensures.others_post in
+    let group = group-within c.requires.tree_pre c.requires.at_value there part₁ a.ensures.required_post part₂ b.ensures.others_post part₃ d.ensures.others_post in
     (omega (arith, fits), long₃, omega (arith, small), omega (arith, group))
 
 pub place_boolean-overflow_add-size-2 : goal.place_boolean-overflow_add-size-2
@@ -342,26 +246,17 @@ pub place_boolean-put_boolean-requires : goal.place_boolean-put_boolean-requires
 place_boolean-put_boolean-requires t c =
     let some = boolean t (goal.at.place_boolean-put_boolean-requires t c).Start in
     let all = third t (goal.at.place_boolean-put_boolean-requires t c).After-place_others-nots in
-    (omega (arith, some.room, all.1), omega (arith, all.2), omega arith, omega arith, omega (arith, all.3), tree-kept (given c.args.records.now) c.args.at (is_some c.args.passed.kept) (kept_score c.args.passed.kept) c.args.passed.boost (length c.args.st.now) c.args.depth c.requires.tree_pre)
+    (omega (arith, some.room, all.1), omega (arith, all.2), omega arith, omega arith, omega (arith, all.3), tree-kept c.requires.tree_pre)
 
 pub place_boolean-returns-clause-tree_post : goal.place_boolean-returns-clause-tree_post
 place_boolean-returns-clause-tree_post t c =
-    let E = given c.args.records.now in
-    let at = c.args.at in
-    let fixed = is_some c.args.passed.kept in
-    let kept = kept_score c.args.passed.kept in
-    let boost = c.args.passed.boost in
-    let words = length c.args.st.now in
-    let depth = c.args.depth in
-    let pre = c.requires.tree_pre in
-    let kind = c.requires.at_value in
-    let there = marked c.args.records.now.measures.now at c.if-not-records-at.false in
+    let there = marked c.args.records.now.measures.now c.args.at c.if-not-records-at.false in
     let st₀ = c.args.st.now in
-    let part₁ = mid_len node_state_words words st₀ (omega arith) in
+    let part₁ = mid_len node_state_words (length st₀) st₀ (omega arith) in
     let a = c.place_required-first in
     let e₁ = a.result.end in
-    let st₁ = put_mid node_state_words (words - node_state_words) st₀ a.new.st in
-    let long₁ = same_len_mid node_state_words (words - node_state_words) st₀ a.new.st a.auto.st in
+    let st₁ = put_mid node_state_words (length st₀ - node_state_words) st₀ a.new.st in
+    let long₁ = same_len_mid node_state_words (length st₀ - node_state_words) st₀ a.new.st a.auto.st in
     let part₂ = mid_len (node_state_words + e₁) (length st₁) st₁ (omega arith) ∙ ap (λ (z : ℕ). z - (node_state_words + e₁)) long₁ in
     let b = c.place_others-shoulds in
     let e₂ = b.result in
@@ -369,134 +264,79 @@ place_boolean-returns-clause-tree_post t c =
     let long₂ = same_len_mid (node_state_words + e₁) (length st₁ - (node_state_words + e₁)) st₁ b.new.st b.auto.st ∙ long₁ in
     let part₃ = mid_len (node_state_words + (e₁ + e₂)) (length st₂) st₂ (omega arith) ∙ ap (λ (z : ℕ). z - (node_state_words + (e₁ + e₂))) long₂ in
     let d = c.place_others-nots in
-    let e₃ = d.result in
-    whole-placed E at fixed kept boost words depth kind there _ part₁ a.result.group_at e₁ a.new.st a.ensures.required_post _ part₂ e₂ b.new.st b.ensures.others_post _ part₃ e₃ d.new.st d.ensures.others_post c.args.records.now.measures.now (refl, refl, refl) st₀ (post_of node_state_words (words - node_state_words) st₀) (post_of (node_state_words + e₁) (length st₁ - (node_state_words + e₁)) st₁) (post_of (node_state_words + (e₁ + e₂)) (length st₂ - (node_state_words + (e₁ + e₂))) st₂) c.put_boolean.new.st c.args.passed.scores c.shoulds_needed-need.result c.value-msm.result c.has_required-required.result c.joins_afterwards-afterwards.result refl pre c.put_boolean.ensures.score_fits c.value-msm.ensures (λ ix k C b known. c.has_required-required.ensures ix k C b (record { measures = c.args.records.now.measures.now; nexts = refl; known = known })) c.shoulds_needed-need.ensures c.joins_afterwards-afterwards.ensures c.put_boolean.ensures.written
+    whole-placed c.requires.tree_pre c.requires.at_value there part₁ a.ensures.required_post part₂ b.ensures.others_post part₃ d.ensures.others_post (found c.args.records.now) st₀ (post_of node_state_words (length st₀ - node_state_words) st₀) (post_of (node_state_words + e₁) (length st₁ - (node_state_words + e₁)) st₁) (post_of (node_state_words + (e₁ + e₂)) (length st₂ - (node_state_words + (e₁ + e₂))) st₂) c.put_boolean.new.st c.args.passed.scores c.shoulds_needed-need.result c.value-msm.result c.has_required-required.result c.joins_afterwards-afterwards.result refl c.put_boolean.ensures.score_fits c.value-msm.ensures (λ ix k C b known. c.has_required-required.ensures ix k C b (record { measures = c.args.records.now.measures.now; nexts = refl; known = known })) c.shoulds_needed-need.ensures c.joins_afterwards-afterwards.ensures c.put_boolean.ensures.written
 
 pub place_list-loop-at-init : goal.place_list-loop-at-init
 place_list-loop-at-init t c =
-    list-starts (given c.args.records.now) c.args.list.now c.args.boost (length c.args.st.now) c.args.depth c.args.st.now
+    list-starts c.args.list.now c.args.boost c.requires c.args.st.now
 
 pub place_list-occur_at-occurrence-requires : goal.place_list-occur_at-occurrence-requires
-place_list-occur_at-occurrence-requires t c = list-here (given c.args.records.now) c.args.list.now c.args.boost (length c.args.st.now) c.args.depth c.loop-at.at-index c.requires (omega arith)
+place_list-occur_at-occurrence-requires t c = list-here c.args.list.now c.args.boost c.requires (omega arith)
 
 pub place_list-offset_bounds-st-used : goal.place_list-offset_bounds-st-used
-place_list-offset_bounds-st-used t c = omega (arith, list-within (given c.args.records.now) c.args.list.now c.args.boost (length c.args.st.now) c.args.depth c.loop-at.at-index c.loop-at.used c.loop-at.st c.loop-at.invariant c.requires, c.well_formed)
+place_list-offset_bounds-st-used t c = omega (arith, list-within c.args.list.now c.args.boost c.requires c.loop-at.invariant, c.well_formed)
 
 pub place_list-slice_bounds-place-count : goal.place_list-slice_bounds-place-count
-place_list-slice_bounds-place-count t c = omega (arith, list-within (given c.args.records.now) c.args.list.now c.args.boost (length c.args.st.now) c.args.depth c.loop-at.at-index c.loop-at.used c.loop-at.st c.loop-at.invariant c.requires)
+place_list-slice_bounds-place-count t c = omega (arith, list-within c.args.list.now c.args.boost c.requires c.loop-at.invariant)
 
 pub place_list-slice_bounds-place-start : goal.place_list-slice_bounds-place-start
-place_list-slice_bounds-place-start t c = omega (arith, list-within (given c.args.records.now) c.args.list.now c.args.boost (length c.args.st.now) c.args.depth c.loop-at.at-index c.loop-at.used c.loop-at.st c.loop-at.invariant c.requires)
+place_list-slice_bounds-place-start t c = omega (arith, list-within c.args.list.now c.args.boost c.requires c.loop-at.invariant)
 
 pub place_list-place-used-requires : goal.place_list-place-used-requires
 place_list-place-used-requires t c =
-    let E = given c.args.records.now in
     let l = c.loop-at in
     let st₀ = c.args.st.now in
-    let list = c.args.list.now in
-    let boost = c.args.boost in
-    let depth = c.args.depth in
-    (omega (arith, c.decreases), list-tree E list boost (length st₀) depth l.at-index l.used l.st l.invariant _ c.occur_at-occurrence.result _ c.passed_on.result (omega arith) refl c.occur_at-occurrence.ensures c.passed_on.ensures kept-nothing c.requires.6 (omega arith) _ (mid_len l.used (length l.st) l.st (omega arith)) c.requires)
+    (omega (arith, c.decreases), list-tree c.args.list.now c.args.boost c.requires l.invariant c.occur_at-occurrence.result (omega arith) refl c.occur_at-occurrence.ensures c.passed_on.ensures kept-nothing c.requires.6 (omega arith) (mid_len l.used (length l.st) l.st (omega arith)))
 
 pub place_list-overflow_add-used : goal.place_list-overflow_add-used
 place_list-overflow_add-used t c =
-    let E = given c.args.records.now in
     let l = c.loop-at in
     let st₀ = c.args.st.now in
-    let list = c.args.list.now in
-    let boost = c.args.boost in
-    let depth = c.args.depth in
-    let fits = list-fits E list boost (length st₀) depth l.at-index l.used l.st l.invariant _ c.occur_at-occurrence.result _ c.passed_on.result (omega arith) refl c.occur_at-occurrence.ensures c.passed_on.ensures kept-nothing c.requires.6 (omega arith) _ (mid_len l.used (length l.st) l.st (omega arith)) c.from.result c.place-used.result c.place-used.new.st c.requires c.place-used.auto.st c.place-used.ensures.tree_post in
+    let fits = list-fits c.args.list.now c.args.boost c.requires l.invariant c.occur_at-occurrence.result (omega arith) refl c.occur_at-occurrence.ensures c.passed_on.ensures kept-nothing c.requires.6 (omega arith) (mid_len l.used (length l.st) l.st (omega arith)) c.place-used.auto.st c.place-used.ensures.tree_post in
     omega (arith, fits, c.well_formed)
 
 pub place_list-loop-at-preserved : goal.place_list-loop-at-preserved
 place_list-loop-at-preserved t c =
-    let E = given c.args.records.now in
     let l = c.loop-at in
     let st₀ = c.args.st.now in
-    let list = c.args.list.now in
-    let boost = c.args.boost in
-    let depth = c.args.depth in
     let scores : c.from.result ≡ cond (wanted_at is_must c.occur_at-occurrence.result) 1 0 = search rules in
-    list-more E list boost (length st₀) depth l.at-index l.used l.st l.invariant _ c.occur_at-occurrence.result _ c.passed_on.result (omega arith) refl c.occur_at-occurrence.ensures c.passed_on.ensures kept-nothing c.requires.6 (omega arith) _ (mid_len l.used (length l.st) l.st (omega arith)) c.from.result c.place-used.result c.place-used.new.st (post_of l.used (length l.st - l.used) l.st) scores c.place-used.ensures.tree_post
+    list-more c.args.list.now c.args.boost c.requires l.invariant c.occur_at-occurrence.result (omega arith) refl c.occur_at-occurrence.ensures c.passed_on.ensures kept-nothing c.requires.6 (omega arith) (mid_len l.used (length l.st) l.st (omega arith)) (post_of l.used (length l.st - l.used) l.st) scores c.place-used.ensures.tree_post
 
 pub place_list-returns-clause-list_post : goal.place_list-returns-clause-list_post
-place_list-returns-clause-list_post t c = list-ends (given c.args.records.now) c.args.list.now c.args.boost (length c.args.st.now) c.args.depth c.loop-at.at-index c.loop-at.used c.loop-at.st c.loop-at.invariant (omega arith)
+place_list-returns-clause-list_post t c = list-ends c.args.list.now c.args.boost c.requires c.loop-at.invariant (omega arith)
 
 pub place_others-clauses_of-list-requires : goal.place_others-clauses_of-list-requires
 place_others-clauses_of-list-requires t c =
-    let E = given c.args.records.now in
-    let at = c.args.at in
-    let boost = c.args.boost in
-    let words = length c.args.st.now in
-    let depth = c.args.depth in
-    let ms = c.args.records.now.measures.now in
-    others-known E ms (refl, refl, refl) at boost words depth (occur_number c.args.occurrence) c.requires
+    others-known (occur_number c.args.occurrence) c.requires (found c.args.records.now)
 
 pub place_others-place_list-requires : goal.place_others-place_list-requires
 place_others-place_list-requires t c =
-    let E = given c.args.records.now in
-    let at = c.args.at in
-    let boost = c.args.boost in
-    let words = length c.args.st.now in
-    let depth = c.args.depth in
-    let ms = c.args.records.now.measures.now in
-    (omega (arith, c.decreases), others-listed E ms (refl, refl, refl) at boost words depth (occur_number c.args.occurrence) c.clauses_of-list.result.now (c.clauses_of-list.ensures.readies_at _ refl) c.requires)
+    (omega (arith, c.decreases), others-listed (occur_number c.args.occurrence) c.requires (found c.args.records.now) c.clauses_of-list.result.now (c.clauses_of-list.ensures.readies_at _ refl))
 
 pub place_others-returns-clause-others_post : goal.place_others-returns-clause-others_post
 place_others-returns-clause-others_post t c =
-    let E = given c.args.records.now in
-    let at = c.args.at in
-    let boost = c.args.boost in
-    let words = length c.args.st.now in
-    let depth = c.args.depth in
-    let ms = c.args.records.now.measures.now in
-    others-placed E ms (refl, refl, refl) at boost words depth (occur_number c.args.occurrence) c.clauses_of-list.result.now (c.clauses_of-list.ensures.readies_at _ refl) c.place_list.result c.place_list.new.st c.place_list.ensures.list_post
+    others-placed (occur_number c.args.occurrence) c.requires (found c.args.records.now) c.clauses_of-list.result.now (c.clauses_of-list.ensures.readies_at _ refl) c.place_list.ensures.list_post
 
 pub place_required-group_cost-group-requires : goal.place_required-group_cost-group-requires
 place_required-group_cost-group-requires t c =
-    let E = given c.args.records.now in
-    let at = c.args.at in
-    let boost = c.args.boost in
-    let words = length c.args.st.now in
-    let depth = c.args.depth in
-    let ms = c.args.records.now.measures.now in
-    required-known E ms (refl, refl, refl) at boost words depth c.requires
+    required-known c.requires (found c.args.records.now)
 
 pub place_required-required_clauses-list-requires : goal.place_required-required_clauses-list-requires
 place_required-required_clauses-list-requires t c =
-    let E = given c.args.records.now in
-    let at = c.args.at in
-    let boost = c.args.boost in
-    let words = length c.args.st.now in
-    let depth = c.args.depth in
-    let ms = c.args.records.now.measures.now in
-    required-known E ms (refl, refl, refl) at boost words depth c.requires
+    required-known c.requires (found c.args.records.now)
 
 pub place_required-no_dearer-before-requires : goal.place_required-no_dearer-before-requires
 place_required-no_dearer-before-requires t c =
-    let E = given c.args.records.now in
-    let at = c.args.at in
-    let boost = c.args.boost in
-    let words = length c.args.st.now in
-    let depth = c.args.depth in
-    let ms = c.args.records.now.measures.now in
     let o = c.required_clauses-list in
     let list = o.result.now in
-    required-here E ms (refl, refl, refl) at boost words depth list o.ensures.readies_at c.requires
+    required-here c.requires (found c.args.records.now) c.required_clauses-list.result.now c.required_clauses-list.ensures.readies_at
 
 pub place_required-place_list-group_at-requires : goal.place_required-place_list-group_at-requires
 place_required-place_list-group_at-requires t c =
-    let E = given c.args.records.now in
-    let at = c.args.at in
-    let boost = c.args.boost in
-    let words = length c.args.st.now in
-    let depth = c.args.depth in
-    let ms = c.args.records.now.measures.now in
     let o = c.required_clauses-list in
     let list = o.result.now in
     let n = c.no_dearer-before.result in
-    (omega (arith, c.decreases), required-first E ms (refl, refl, refl) at boost words depth list o.ensures.readies_at n (take n list) refl c.requires)
+    (omega (arith, c.decreases), required-first c.requires (found c.args.records.now) o.result.now o.ensures.readies_at n refl)
 
 -- the part before the group is within the words
 before : (t : _) (c : goal.place_required-After-place_list-group_at t) → c.place_list-group_at.result ≤ length c.place_list-group_at.new.st
@@ -504,7 +344,7 @@ before t c =
     let list = c.required_clauses-list.result.now in
     let n = c.no_dearer-before.result in
     let p = c.place_list-group_at in
-    required-within (given c.args.records.now) c.args.records.now.measures.now (refl, refl, refl) c.args.at c.args.boost (length c.args.st.now) c.args.depth list c.required_clauses-list.ensures.readies_at n (take n list) refl p.result p.new.st p.auto.st p.ensures.list_post c.requires
+    required-within c.requires (found c.args.records.now) c.required_clauses-list.result.now c.required_clauses-list.ensures.readies_at n refl p.auto.st p.ensures.list_post
 
 pub place_required-offset_bounds-st-group_at : goal.place_required-offset_bounds-st-group_at
 place_required-offset_bounds-st-group_at t c = omega (arith, before t (goal.at.place_required-offset_bounds-st-group_at t c).After-place_list-group_at, c.place_list-group_at.auto.st, c.well_formed)
@@ -517,46 +357,28 @@ place_required-slice_bounds-place_list-start t c = before t (goal.at.place_requi
 
 pub place_required-place_list-rest-requires : goal.place_required-place_list-rest-requires
 place_required-place_list-rest-requires t c =
-    let E = given c.args.records.now in
-    let at = c.args.at in
-    let boost = c.args.boost in
-    let words = length c.args.st.now in
-    let depth = c.args.depth in
-    let ms = c.args.records.now.measures.now in
     let o = c.required_clauses-list in
     let list = o.result.now in
     let n = c.no_dearer-before.result in
     let p = c.place_list-group_at in
     let part = mid_len p.result (length p.new.st) p.new.st (omega arith) in
-    (omega (arith, c.decreases), required-second E ms (refl, refl, refl) at boost words depth list o.ensures.readies_at n (take n list) refl p.result p.new.st p.auto.st p.ensures.list_post _ (from-there list n) _ part c.requires)
+    (omega (arith, c.decreases), required-second c.requires (found c.args.records.now) o.result.now o.ensures.readies_at n refl p.auto.st p.ensures.list_post (from-there list n) part)
 
 pub place_required-overflow_add-result : goal.place_required-overflow_add-result
 place_required-overflow_add-result t c =
-    let E = given c.args.records.now in
-    let at = c.args.at in
-    let boost = c.args.boost in
-    let words = length c.args.st.now in
-    let depth = c.args.depth in
-    let ms = c.args.records.now.measures.now in
     let o = c.required_clauses-list in
     let list = o.result.now in
     let n = c.no_dearer-before.result in
     let p = c.place_list-group_at in
     let part = mid_len p.result (length p.new.st) p.new.st (omega arith) in
-    let fits = required-fits E ms (refl, refl, refl) at boost words depth list o.ensures.readies_at n (take n list) refl p.result p.new.st p.auto.st p.ensures.list_post _ (from-there list n) _ part c.place_list-rest.result c.place_list-rest.new.st c.place_list-rest.ensures.list_post c.requires c.place_list-rest.auto.st in
+    let fits = required-fits c.requires (found c.args.records.now) o.result.now o.ensures.readies_at n refl p.auto.st p.ensures.list_post (from-there list n) part c.place_list-rest.ensures.list_post c.place_list-rest.auto.st in
     omega (arith, fits, p.auto.st, c.well_formed)
 
 pub place_required-returns-clause-required_post : goal.place_required-returns-clause-required_post
 place_required-returns-clause-required_post t c =
-    let E = given c.args.records.now in
-    let at = c.args.at in
-    let boost = c.args.boost in
-    let words = length c.args.st.now in
-    let depth = c.args.depth in
-    let ms = c.args.records.now.measures.now in
     let o = c.required_clauses-list in
     let list = o.result.now in
     let n = c.no_dearer-before.result in
     let p = c.place_list-group_at in
     let part = mid_len p.result (length p.new.st) p.new.st (omega arith) in
-    required-placed E ms (refl, refl, refl) at boost words depth list o.ensures.readies_at n (take n list) refl p.result p.new.st p.auto.st p.ensures.list_post _ (from-there list n) _ part c.place_list-rest.result c.place_list-rest.new.st c.place_list-rest.ensures.list_post c.group_cost-group.result c.group_cost-group.ensures c.no_dearer-before.ensures.0 (post_of p.result (length p.new.st - p.result) p.new.st)
+    required-placed c.requires (found c.args.records.now) o.result.now o.ensures.readies_at n refl p.auto.st p.ensures.list_post (from-there list n) part c.place_list-rest.ensures.list_post c.group_cost-group.result c.group_cost-group.ensures c.no_dearer-before.ensures.0 (post_of p.result (length p.new.st - p.result) p.new.st)

@@ -22,9 +22,9 @@ returns-in-Some c = let a = c.args in
 pub weighted-requires : goal.weighted-requires
 weighted-requires c = let s = c in
     let a = s.args in
-    let q = posting-weighs a.norms.now a.inverses.now a.n a.frequency a.doc s.requires.0 s.requires.1 (λ i. omega (arith, c.shared_slice_known-1.given i)) s.requires.2 s.requires.3 (constant-none a.n c.in-None.ensures) in
+    let q = posting-weighs a.norms.now a.inverses.now a.n a.frequency a.doc s.requires.0 s.requires.1 s.requires.2 s.requires.3 (constant-none a.n c.in-None.ensures) in
     record { frequency_bound = (q.frequency-few, (q.number, q.field-few)); doc_in_bounds = q.byte-there; doc_in_bounds_2 = q.inverse-there }
 
 pub returns-in-None : goal.returns-in-None
 returns-in-None c = let a = c.args in
-    λ ix l sc p. posting-weighted a.norms.now a.inverses.now a.n a.frequency a.doc ix l (λ i. omega (arith, c.shared_slice_known-1.given i)) sc p (constant-none a.n c.in-None.ensures) c.weighted.result c.weighted.ensures
+    λ ix l sc p. posting-weighted a.norms.now a.inverses.now a.n a.frequency a.doc ix l sc p (constant-none a.n c.in-None.ensures) c.weighted.ensures.bytes c.weighted.result c.weighted.ensures.score

@@ -1,11 +1,13 @@
 -- `codes::float_to_sortable_int` meets its contract: the lower bits of a negative pattern are turned over. Assumes nothing.
-use Rattle.std.proofs.Common.{sym, ap, ◌∙◌, subst, T}
+use Rattle.std.proofs.Common.{sym, ap, ◌∙◌, subst, T, w32}
+use mir.ValLaws.{to_z-of_z}
 use lib.Ieee.{binary32, to_bits}
 use lib.Ieee.Bits.{to_bits-lt}
-use Rattle.collector.proofs.Halves.{flipped, turned, flipped-int}
+use Rattle.collector.specs.Flipped.{flipped}
+use Rattle.collector.proofs.Halves.{flipped-int}
 use Rattle.collector.proofs.codes.float_to_sortable_int.Goals as goal
 
 pub returns : goal.returns
 returns c =
-    let b = to_bits binary32 c.args.f in
-    turned c.cast_signed-bits.result (record { sfits = c.cast_signed-bits.type_inv }) ∙ ap flipped c.cast_signed-bits.ensures ∙ flipped-int b (to_bits-lt binary32 c.args.f (subst T (sym c.well_formed.0.1) tt))
+    to_z-of_z w32 c.flipped.result (record { sfits = c.flipped.type_inv }) ∙ c.flipped.ensures ∙ ap flipped (to_z-of_z w32 c.cast_signed.result (record { sfits = c.cast_signed.type_inv }) ∙ c.cast_signed.ensures)
+    ∙ flipped-int (to_bits binary32 c.args.f) (to_bits-lt binary32 c.args.f (subst T (sym c.well_formed.0.1) tt))

@@ -1,8 +1,10 @@
 -- `codes::sortable_bits` meets its contract: the way back turns the same bits. Assumes nothing.
 use Rattle.std.proofs.Common.{ap, ◌∙◌, w32}
 use mir.Val.{of_z}
-use Rattle.collector.proofs.Halves.{turned, flipped-bits}
+use mir.ValLaws.{to_z-of_z}
+use Rattle.collector.specs.Flipped.{flipped}
+use Rattle.collector.proofs.Halves.{flipped-bits}
 use Rattle.collector.proofs.codes.sortable_bits.Goals as goal
 
 pub returns : goal.returns
-returns c = c.cast_unsigned.ensures ∙ ap (of_z w32) (turned c.args.i c.ranges.i) ∙ flipped-bits c.args.i c.ranges.i
+returns c = c.cast_unsigned.ensures ∙ ap (of_z w32) (to_z-of_z w32 c.flipped.result (record { sfits = c.flipped.type_inv }) ∙ c.flipped.ensures ∙ ap flipped (to_z-of_z w32 c.args.i c.ranges.i)) ∙ flipped-bits c.args.i c.ranges.i

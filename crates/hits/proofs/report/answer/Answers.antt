@@ -1,5 +1,5 @@
 -- The text of what Search answers with the program's buffers.
-use Rattle.std.proofs.Common.{◌+◌, ◌*◌, ◌≡◌, refl, sym, ◌∙◌, List, ℤ, ℕ, ◌≤◌, length, arith}
+use Rattle.std.proofs.Common.{refl, sym, ◌∙◌}
 use lib.Seq.{length-take-le}
 use Rattle.index.specs.IndexOf.{index_of}
 use Rattle.hits.proofs.Answering.{refused-text, found-text}
@@ -15,16 +15,6 @@ slice_bounds-found-end c =
     let index = index_of c.args.index in
     let shown = found-text index c.args.query.now c.args.k c.args.t _ _ refl refl _ c.in-Ok.top _ _ refl c.in-Ok.is c.search-found_hits.ensures.result_value c.search-found_hits.ensures.hits_after in
     sym (length-take-le _ _ shown.few)
-
--- the text of as many codes as are held has room
-few : (codes : List ℤ) (held places : ℕ) → length codes ≡ held → held ≤ places → places ≡ 1024 → 28 + 30 * length codes ≤ 32768
-few codes held places e h n = omega (arith, e, h, n)
-
-pub found-requires : goal.found-requires
-found-requires c =
-    let index = index_of c.args.index in
-    let shown = found-text index c.args.query.now c.args.k c.args.t _ _ refl refl _ c.in-Ok.top _ _ refl c.in-Ok.is c.search-found_hits.ensures.result_value c.search-found_hits.ensures.hits_after in
-    (omega arith, few _ _ _ (length-take-le _ _ shown.few) shown.few c.search-found_hits.auto.hits)
 
 pub returns-in-Err : goal.returns-in-Err
 returns-in-Err c =

@@ -13,27 +13,27 @@ few : (d n : ℕ) (z : ℤ) → d ≡ n → n ≡ to_doc z → length (decimal d
 few d n z e f = let g : d ≡ to_doc z = e ∙ f in omega (arith, ap (λ (m : ℕ). length (decimal m)) g, document-short z)
 
 pub push_decimal-requires : goal.push_decimal-requires
-push_decimal-requires g c = omega (arith, few _ _ _ c.from.ensures c.document.ensures, c.requires)
+push_decimal-requires g c = omega (arith, few _ _ _ c.from.ensures c.to_doc.ensures, c.requires)
 
 -- how long the text is behind the document
 behind : (old new : List ℕ) (d : ℕ) → length (decimal d) ≤ 20 → new ≡ old ++ decimal d → length new ≤ length old + 20
 behind old new d f e = omega (arith, f, ap length e, length-append old (decimal d))
 
 pub push-requires : goal.push-requires
-push-requires g c = omega (arith, behind _ _ _ (few _ _ _ c.from.ensures c.document.ensures) c.push_decimal.ensures, c.requires)
+push-requires g c = omega (arith, behind _ _ _ (few _ _ _ c.from.ensures c.to_doc.ensures) c.push_decimal.ensures, c.requires)
 
 pub push_hex-requires : goal.push_hex-requires
-push_hex-requires g c = omega (arith, behind _ _ _ (few _ _ _ c.from.ensures c.document.ensures) c.push_decimal.ensures, c.push.ensures.len, c.requires)
+push_hex-requires g c = omega (arith, behind _ _ _ (few _ _ _ c.from.ensures c.to_doc.ensures) c.push_decimal.ensures, c.push.ensures.len, c.requires)
 
 pub push-requires-2 : goal.push-requires-2
 push-requires-2 g c =
-    omega (arith, behind _ _ _ (few _ _ _ c.from.ensures c.document.ensures) c.push_decimal.ensures, c.push.ensures.len, ap length c.push_hex.ensures, length-append c.push.new.self.items (hex8 c.score_bits.result), length-hex 8 c.score_bits.result, c.requires)
+    omega (arith, behind _ _ _ (few _ _ _ c.from.ensures c.to_doc.ensures) c.push_decimal.ensures, c.push.ensures.len, ap length c.push_hex.ensures, length-append c.push.new.self.items (hex8 c.from-2.result), length-hex 8 c.from-2.result, c.requires)
 
 pub returns : goal.returns
 returns g c =
     let same = to_z-of_z w64 c.args.code c.ranges.code in
     let old = c.args.text.now.items in
-    let hex = hex8 c.score_bits.result in
+    let hex = hex8 c.from-2.result in
     put-more old (decimal c.from.result) (32 ∷ (hex ++ (10 ∷ []))) _ _ c.push_decimal.ensures
     (put-more _ (32 ∷ []) (hex ++ (10 ∷ [])) _ _ c.push.ensures.items (put-more _ hex (10 ∷ []) _ _ c.push_hex.ensures c.push-2.ensures.items))
-    ∙ ap (λ (l : List ℕ). old ++ l) (line-is c.args.code c.from.result c.score_bits.result (c.from.ensures ∙ c.document.ensures ∙ ap to_doc same) (c.score_bits.ensures ∙ ap score_bits same))
+    ∙ ap (λ (l : List ℕ). old ++ l) (line-is c.args.code c.from.result c.from-2.result (c.from.ensures ∙ c.to_doc.ensures ∙ ap to_doc same) (c.from-2.ensures ∙ c.score_bits.ensures ∙ ap score_bits same))

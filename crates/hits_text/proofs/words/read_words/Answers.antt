@@ -1,12 +1,23 @@
--- The slice in front has every word of the file.
-use Rattle.std.proofs.Common.{of_calls, ◌∙◌, length, drop, ◌/◌}
-use lib.Seq.{length-take-le}
+-- One word more, and at the end all of them.
+use Rattle.std.proofs.Common.{sym, ap, ◌∙◌, ℕ, List, [], ◌/◌, length, w32, arith}
+use Rattle.std.specs.Int.{from_le_bytes}
+use lib.ListN.{get_or}
+use Rattle.meaning.proofs.Below.{list_to-zero}
 use Rattle.hits_text.specs.Text.{word_at, words_of}
-use Rattle.hits_text.proofs.Filling.{filled_front}
+use Rattle.hits_text.proofs.Filling.{filled_more, filled-all, chunk-word}
 use Rattle.hits_text.proofs.words.read_words.Goals as goal
+
+pub loop-i-init : goal.loop-i-init
+loop-i-init c = sym (list_to-zero (word_at c.args.bytes.now))
+
+pub loop-i-preserved : goal.loop-i-preserved
+loop-i-preserved c =
+    let bytes = c.args.bytes.now in
+    let n = length bytes / 4 in
+    let l = c.loop-i in
+    filled_more l.words l.i c.from_le_bytes.result (word_at bytes) (omega arith) l.invariant
+    (c.from_le_bytes.ensures ∙ ap (λ (chunks : List (List ℕ)). from_le_bytes w32 (get_or chunks l.i [])) c.as_chunks.ensures.front ∙ chunk-word bytes n l.i (omega arith))
 
 pub returns : goal.returns
 unfolding words_of
-returns c =
-    let n = length c.args.bytes.now / 4 in
-    filled_front c.fill.new.words (drop n c.args.words.now) n (word_at c.args.bytes.now) (c.fill.auto.words ∙ length-take-le n c.args.words.now c.requires) (λ k d h. search of_calls)
+returns c = filled-all c.loop-i.words _ _ _ (word_at c.args.bytes.now) c.loop-i.invariant (omega arith) c.as_chunks.ensures.front_len

@@ -2,14 +2,10 @@
 use mathlib.Core.Path.{sym, ap, ◌∙◌, subst}
 use Prim.Native.Nat.{ℕ, ◌-◌, ◌*◌, ◌^◌, ◌≤◌, ◌<◌}
 use native.Mathlib.Omega.{arith}
-use lib.Dec.{lit≤}
 use lib.Ieee.{binary32, of_bits}
 use Rattle.ieee754.proofs.NarrowSteps.{nan-free}
 use Rattle.ieee754.proofs.PatternSteps.{pattern-is, overflow-large, overflow-small, steps-normal, steps-large}
 use Rattle.ieee754.proofs.convert_format.in_steps.Goals as goal
-
-pub float_from_bits-result : goal.float_from_bits-result
-float_from_bits-result c = nan-free 0x7f80_0000 (lit≤ tt)
 
 pub returns-then-overflows : goal.returns-then-overflows
 returns-then-overflows c =
@@ -24,8 +20,8 @@ small c = overflow-small c.rounded-pattern.result (sym c.overflows.ensures ∙ c
 pub overflow_cast-result : goal.overflow_cast-result
 overflow_cast-result c = omega (arith, small c)
 
-pub float_from_bits-result-2 : goal.float_from_bits-result-2
-float_from_bits-result-2 c = nan-free (c.rounded-pattern.result - 896 * 2 ^ 23) (omega (arith, small c))
+pub float_from_bits-result : goal.float_from_bits-result
+float_from_bits-result c = nan-free (c.rounded-pattern.result - 896 * 2 ^ 23) (omega (arith, small c))
 
 pub returns : goal.returns
 returns c =

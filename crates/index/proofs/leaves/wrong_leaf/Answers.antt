@@ -3,4 +3,4 @@ use Rattle.index.proofs.leaves.wrong_leaf.Goals as goal
 
 pub returns : goal.returns
 unfolding wrong_leaf
-returns c = rw (c.end.ensures, c.leaf_at-leaf.ensures)
+returns c = rw (c.field_count.ensures, c.end.ensures, c.leaf_at-leaf.ensures)

@@ -3,6 +3,7 @@ use lib.Ieee.{binary32, to_bits}
 use mathlib.Core.Path.{sym, subst}
 use Rattle.ieee754.proofs.Bounds.{atmost-number}
 use Rattle.node_words.proofs.Placing.{placed-everything, score-is}
+use Rattle.node_words.proofs.Zeros.{zeros-are}
 use Rattle.node_words.proofs.place.place_everything.Goals as goal
 
 pub float_to_bits-score : goal.float_to_bits-score
@@ -10,4 +11,4 @@ float_to_bits-score c = atmost-number c.requires.1
 
 pub returns-clause-placed : goal.returns-clause-placed
 returns-clause-placed c =
-    λ ix ranges d. placed-everything ix ranges c.args.st.now c.put.new.st d c.args.scores c.requires.0 c.args.score (to_bits binary32 c.args.score) (score-is c.args.score (subst T (sym c.well_formed.1.0.1) tt) c.requires.1) (rw c.word.ensures at c.put.ensures)
+    λ ix ranges d. placed-everything ix ranges c.args.st.now c.put.new.st d c.args.scores c.requires.0 c.args.score (to_bits binary32 c.args.score) (score-is c.args.score (subst T (sym c.well_formed.1.0.1) tt) c.requires.1) (rw (c.word.ensures, zeros-are c.default.result c.default.ensures) at c.put.ensures)

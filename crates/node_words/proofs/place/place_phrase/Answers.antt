@@ -16,6 +16,7 @@ use Rattle.node_words.proofs.PhraseParts.{phrase_state, placed-phrase}
 use Rattle.node_words.proofs.Placing.{put_same, score-is}
 use Rattle.node_words.proofs.Weighing.{phrase-there, phrase-small}
 use Rattle.node_words.proofs.place.place_phrase.Goals.{After-children}
+use Rattle.node_words.proofs.Zeros.{zeros-are}
 use Rattle.node_words.proofs.place.place_phrase.Goals as goal
 
 -- the size of so few terms is a word
@@ -78,7 +79,7 @@ returns-clause-placed c =
     let post = post_of node_state_words (length st₀ - node_state_words) st₀ in
     let st₁ = put_mid node_state_words (length st₀ - node_state_words) st₀ out in
     let st = c.put.new.st in
-    let put = rw c.word.ensures at c.put.ensures in
+    let put = rw (c.word.ensures, zeros-are c.default.result c.default.ensures) at c.put.ensures in
     let size = node_state_words + node_state_words * c.children.result in
     let many = c.children.ensures in
     let room = h.0 in

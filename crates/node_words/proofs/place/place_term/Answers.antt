@@ -11,6 +11,7 @@ use Rattle.node_words.proofs.Idf.{idf-small}
 use Rattle.node_words.proofs.Norms.{leaf-there, leaf-read, field-known}
 use Rattle.node_words.proofs.Placing.{placed-term, score-is}
 use Rattle.node_words.proofs.Weighing.{term-there, term-small}
+use Rattle.node_words.proofs.Zeros.{zeros-are}
 use Rattle.node_words.proofs.place.place_term.Goals as goal
 
 pub leaf_at-run-requires : goal.leaf_at-run-requires
@@ -59,4 +60,4 @@ returns-clause-placed c =
     λ ix ranges d k D l e has.
     let read = leaf-read ix r leaf l run.result run.ensures in
     rw (term-there ix r.query.now k c.args.at D e h.2 c.args.passed.boost (kept_score c.args.passed.kept) fixed 1 (sym (ap (λ (z : Bool). cond z 1 0) has)) leaf c.idf_of.result score (λ z. omega (arith, z)) c.value-leaf.ensures (c.idf_of.ensures ix l.leaves-are) c.scored_by-score.ensures)
-    (placed-term ix ranges c.args.st.now c.put.new.st d c.args.passed.scores h.0 score (to_bits binary32 score) (score-is score (subst T (sym c.scored_by-score.type_inv) tt) small) fixed leaf c.from.result run.result.first run.result.number run.result.field c.norms_word.result constant read.first-is read.number-is read.field-is (c.norms_word.ensures ix l.field-lent) (rw c.word.ensures at c.put.ensures))
+    (placed-term ix ranges c.args.st.now c.put.new.st d c.args.passed.scores h.0 score (to_bits binary32 score) (score-is score (subst T (sym c.scored_by-score.type_inv) tt) small) fixed leaf c.from.result run.result.first run.result.number run.result.field c.norms_word.result constant read.first-is read.number-is read.field-is (c.norms_word.ensures ix l.field-lent) (rw (c.word.ensures, zeros-are c.default.result c.default.ensures) at c.put.ensures))

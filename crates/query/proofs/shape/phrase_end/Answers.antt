@@ -6,7 +6,7 @@ use Rattle.std.proofs.lemmas.Iterator.Search.{all_from_yields_List}
 use Rattle.meaning.specs.Query.{a_phrase, is_phrase_term, record_children}
 use Rattle.query.proofs.Chains.{range-all}
 use Rattle.query.proofs.Steps.{fit-no, fit-none, fit-yes, no-terms, many-terms, terms-fit, phrase-shallow, phrase-missing, phrase-terms}
-use Rattle.query.proofs.shape.phrase_end.Goals.{then-terms-eq0-via-then-terms-eq0, then-terms-eq0-via-else-terms-eq0+then-terms-gt32, then-terms-eq0-via-else-terms-eq0+else-terms-gt32+then-depth-eq0}
+use Rattle.query.proofs.shape.phrase_end.Goals.{then-terms-eq0-via-then-terms-eq0, then-terms-eq0-via-else-terms-eq0+then-terms-gt-MAX_PHRASE_TERMS, then-terms-eq0-via-else-terms-eq0+else-terms-gt-MAX_PHRASE_TERMS+then-depth-eq0}
 use Rattle.query.proofs.shape.phrase_end.Goals as goal
 
 pub returns-then-terms-eq0 : goal.returns-then-terms-eq0
@@ -14,8 +14,8 @@ returns-then-terms-eq0 c =
     let q = c.args.q.now in let at = c.args.at in
     elim c.then-terms-eq0.branch [
       | then-terms-eq0-via-then-terms-eq0 w ↦ fit-no a_phrase q at _ (no-terms (record_children q at) (omega arith))
-      | then-terms-eq0-via-else-terms-eq0+then-terms-gt32 w ↦ fit-no a_phrase q at _ (many-terms (record_children q at) (omega arith))
-      | then-terms-eq0-via-else-terms-eq0+else-terms-gt32+then-depth-eq0 w ↦ fit-none a_phrase q at _ (phrase-shallow q at c.args.depth w.if-depth-eq0.true)
+      | then-terms-eq0-via-else-terms-eq0+then-terms-gt-MAX_PHRASE_TERMS w ↦ fit-no a_phrase q at _ (many-terms (record_children q at) (omega arith))
+      | then-terms-eq0-via-else-terms-eq0+else-terms-gt-MAX_PHRASE_TERMS+then-depth-eq0 w ↦ fit-none a_phrase q at _ (phrase-shallow q at c.args.depth w.if-depth-eq0.true)
     ]
 
 pub returns-then-record_count-end : goal.returns-then-record_count-end

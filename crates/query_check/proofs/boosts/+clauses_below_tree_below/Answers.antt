@@ -50,16 +50,21 @@ clauses_below-returns t c =
     none-left-below q (decode q c.args.depth) (record_children q c.args.at - c.loop.counter) c.loop.next c.loop.invariant.0 c.args.boost (omega arith) c.loop.invariant.1 ∙ c.loop.invariant.2
 
 -- ---- the tree
-pub tree_below-returns-then-boost : goal.tree_below-returns-then-boost
-tree_below-returns-then-boost t c =
-    limit-passed (decode c.args.q.now c.args.depth c.args.at) c.args.boost (limit c.args.boost true c.if-boost.true)
+pub tree_below-returns-then-limit-boost : goal.tree_below-returns-then-limit-boost
+tree_below-returns-then-limit-boost t c =
+    limit-passed (decode c.args.q.now c.args.depth c.args.at) c.args.boost (limit c.args.boost true c.if-limit-boost.true)
+
+-- the limit is no NaN
+pub tree_below-float_from_bits-limit : goal.tree_below-float_from_bits-limit
+unfolding lib.Ieee.nan_bits
+tree_below-float_from_bits-limit t c = tt
 
 pub tree_below-kind_at-requires : goal.tree_below-kind_at-requires
 tree_below-kind_at-requires t c = decoded-here c.args.q.now c.args.depth c.args.at c.requires.1.0 c.requires.1.1
 
 pub tree_below-returns-in_err-kind_at : goal.tree_below-returns-in_err-kind_at
 tree_below-returns-in_err-kind_at t c =
-    let k = kind-known c.args.q.now c.args.depth c.args.at c.requires.1.0 c.args.boost c.requires.1.1 (limit c.args.boost false c.if-boost.false) in
+    let k = kind-known c.args.q.now c.args.depth c.args.at c.requires.1.0 c.args.boost c.requires.1.1 (limit c.args.boost false c.if-limit-boost.false) in
     absurd (omega (arith, k.0, k.1, c.in_err-kind_at.ensures))
 
 pub tree_below-children-requires : goal.tree_below-children-requires
@@ -72,7 +77,7 @@ tree_below-overflow_sub-depth t c =
 pub tree_below-clauses_below-requires : goal.tree_below-clauses_below-requires
 tree_below-clauses_below-requires t c =
     let q = c.args.q.now in let depth = c.args.depth in let at = c.args.at in let e = c.requires.1.1 in
-    (omega (arith, level q depth at _ e), (c.requires.0, decoded-here q depth at _ e, below-clauses q depth at _ c.args.boost e (limit c.args.boost false c.if-boost.false) (c.in_ok-kind_at.ensures ∙ ap kind_number c.in-Boolean.is)))
+    (omega (arith, level q depth at _ e), (c.requires.0, decoded-here q depth at _ e, below-clauses q depth at _ c.args.boost e (limit c.args.boost false c.if-limit-boost.false) (c.in_ok-kind_at.ensures ∙ ap kind_number c.in-Boolean.is)))
 
 pub tree_below-overflow_sub-depth-in-ConstantScore : goal.tree_below-overflow_sub-depth-in-ConstantScore
 tree_below-overflow_sub-depth-in-ConstantScore t c =
@@ -81,7 +86,7 @@ tree_below-overflow_sub-depth-in-ConstantScore t c =
 pub tree_below-tree_below-requires : goal.tree_below-tree_below-requires
 tree_below-tree_below-requires t c =
     let q = c.args.q.now in let depth = c.args.depth in let at = c.args.at in let e = c.requires.1.1 in
-    (omega (arith, level q depth at _ e), (c.requires.0, below-constant-child q depth at _ c.args.boost e (limit c.args.boost false c.if-boost.false) (c.in_ok-kind_at.ensures ∙ ap kind_number c.in-ConstantScore.is)))
+    (omega (arith, level q depth at _ e), (c.requires.0, below-constant-child q depth at _ c.args.boost e (limit c.args.boost false c.if-limit-boost.false) (c.in_ok-kind_at.ensures ∙ ap kind_number c.in-ConstantScore.is)))
 
 pub tree_below-overflow_sub-depth-in-Boost : goal.tree_below-overflow_sub-depth-in-Boost
 tree_below-overflow_sub-depth-in-Boost t c =
@@ -99,30 +104,30 @@ tree_below-float_from_bits-value t c =
 pub tree_below-tree_below-requires-in-Boost : goal.tree_below-tree_below-requires-in-Boost
 tree_below-tree_below-requires-in-Boost t c =
     let q = c.args.q.now in let depth = c.args.depth in let at = c.args.at in let e = c.requires.1.1 in
-    (omega (arith, level q depth at _ e), (c.requires.0, below-boost-child q depth at _ c.args.boost e (limit c.args.boost false c.if-boost.false) (c.in_ok-kind_at.ensures ∙ ap kind_number c.in-Boost.is)))
+    (omega (arith, level q depth at _ e), (c.requires.0, below-boost-child q depth at _ c.args.boost e (limit c.args.boost false c.if-limit-boost.false) (c.in_ok-kind_at.ensures ∙ ap kind_number c.in-Boost.is)))
 
 pub tree_below-returns-in-Term : goal.tree_below-returns-in-Term
 tree_below-returns-in-Term t c =
-    below-leaf c.args.q.now c.args.depth c.args.at _ c.args.boost c.requires.1.1 (limit c.args.boost false c.if-boost.false) _ c.in-Term.is c.in_ok-kind_at.ensures
+    below-leaf c.args.q.now c.args.depth c.args.at _ c.args.boost c.requires.1.1 (limit c.args.boost false c.if-limit-boost.false) _ c.in-Term.is c.in_ok-kind_at.ensures
 
 pub tree_below-returns-in-Phrase : goal.tree_below-returns-in-Phrase
 tree_below-returns-in-Phrase t c =
-    rw c.children.ensures (below-phrase c.args.q.now c.args.depth c.args.at _ c.args.boost c.requires.1.1 (limit c.args.boost false c.if-boost.false) (c.in_ok-kind_at.ensures ∙ ap kind_number c.in-Phrase.is))
+    rw c.children.ensures (below-phrase c.args.q.now c.args.depth c.args.at _ c.args.boost c.requires.1.1 (limit c.args.boost false c.if-limit-boost.false) (c.in_ok-kind_at.ensures ∙ ap kind_number c.in-Phrase.is))
 
 pub tree_below-returns-in-Boolean : goal.tree_below-returns-in-Boolean
 tree_below-returns-in-Boolean t c =
-    c.clauses_below.ensures ∙ below-boolean c.args.q.now c.args.depth c.args.at _ c.args.boost c.requires.1.1 (limit c.args.boost false c.if-boost.false) (c.in_ok-kind_at.ensures ∙ ap kind_number c.in-Boolean.is)
+    c.clauses_below.ensures ∙ below-boolean c.args.q.now c.args.depth c.args.at _ c.args.boost c.requires.1.1 (limit c.args.boost false c.if-limit-boost.false) (c.in_ok-kind_at.ensures ∙ ap kind_number c.in-Boolean.is)
 
 pub tree_below-returns-in-ConstantScore : goal.tree_below-returns-in-ConstantScore
 tree_below-returns-in-ConstantScore t c =
-    c.tree_below.ensures ∙ below-constant c.args.q.now c.args.depth c.args.at _ c.args.boost c.requires.1.1 (limit c.args.boost false c.if-boost.false) (c.in_ok-kind_at.ensures ∙ ap kind_number c.in-ConstantScore.is)
+    c.tree_below.ensures ∙ below-constant c.args.q.now c.args.depth c.args.at _ c.args.boost c.requires.1.1 (limit c.args.boost false c.if-limit-boost.false) (c.in_ok-kind_at.ensures ∙ ap kind_number c.in-ConstantScore.is)
 
 pub tree_below-returns-in-Boost : goal.tree_below-returns-in-Boost
 tree_below-returns-in-Boost t c =
     let q = c.args.q.now in let depth = c.args.depth in let at = c.args.at in let boost = c.args.boost in
-    c.tree_below-in-Boost.ensures ∙ ap (λ (z : ℕ). end_below_limit (decode q (depth - 1) (at + 1)) (boosted boost z)) c.value.ensures ∙ below-boost q depth at _ boost c.requires.1.1 (limit boost false c.if-boost.false) (c.in_ok-kind_at.ensures ∙ ap kind_number c.in-Boost.is)
+    c.tree_below-in-Boost.ensures ∙ ap (λ (z : ℕ). end_below_limit (decode q (depth - 1) (at + 1)) (boosted boost z)) c.value.ensures ∙ below-boost q depth at _ boost c.requires.1.1 (limit boost false c.if-limit-boost.false) (c.in_ok-kind_at.ensures ∙ ap kind_number c.in-Boost.is)
 
 pub tree_below-returns-in-PhraseTerm : goal.tree_below-returns-in-PhraseTerm
 tree_below-returns-in-PhraseTerm t c =
-    let k = kind-known c.args.q.now c.args.depth c.args.at c.requires.1.0 c.args.boost c.requires.1.1 (limit c.args.boost false c.if-boost.false) in
+    let k = kind-known c.args.q.now c.args.depth c.args.at c.requires.1.0 c.args.boost c.requires.1.1 (limit c.args.boost false c.if-limit-boost.false) in
     absurd (omega (arith, k.1, c.in_ok-kind_at.ensures ∙ ap kind_number c.in-PhraseTerm.is))

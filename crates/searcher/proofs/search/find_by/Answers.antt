@@ -9,9 +9,6 @@ use Rattle.searcher.specs.WorkBuffers.{lengths_of}
 use Rattle.searcher.proofs.Preparing.{tree_of, answer-full, root-held, stands_on, same-work, same-long, moved-on}
 use Rattle.searcher.proofs.search.find_by.Goals as goal
 
-pub slice_bounds-collect-end : goal.slice_bounds-collect-end
-slice_bounds-collect-end c = c.build_tree-size.ensures.placed.within
-
 pub collect-collector-requires : goal.collect-collector-requires
 collect-collector-requires c =
     let a = c.args in

@@ -13,11 +13,6 @@ f-requires g c = c.requires.callable _ (c.first_inverses-bm25.ensures (index_of 
 pub returns-then-lent-le3 : goal.returns-then-lent-le3
 returns-then-lent-le3 g c = (_, c.first_inverses-bm25.ensures (index_of c.args.lent.now) c.args.query.now c.requires.asks refl, c.f.ensures)
 
-pub fill_inverses-requires : goal.fill_inverses-requires
-fill_inverses-requires g c =
-    let a = c.args in
-    ((index_of a.lent.now, a.lent.now.max_doc, c.requires.asks, leaf-lent a.lent.now a.query.now c.requires.asks), refl)
-
 pub f-requires-2 : goal.f-requires-2
 f-requires-2 g c =
     let a = c.args in

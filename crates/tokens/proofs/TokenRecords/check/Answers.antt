@@ -2,11 +2,13 @@
 use Rattle.meaning.specs.TokenRefusals.{wrong15}
 use Rattle.tokens.proofs.TokenRecords.check.Goals as goal
 
-pub returns-then-self-wrong_leaf_fields-clause-wrong :
-    goal.returns-then-self-wrong_leaf_fields-clause-wrong
+pub returns-then-self-token_count-clause-wrong :
+    goal.returns-then-self-token_count-clause-wrong
 unfolding wrong15
-returns-then-self-wrong_leaf_fields-clause-wrong c = rw (← c.wrong_leaf_fields.ensures, c.if-self-wrong_leaf_fields.true)
+returns-then-self-token_count-clause-wrong c = rw (← c.wrong_leaf_fields.ensures, ← c.token_count.ensures, c.if-self-token_count.true)
 
 pub returns-clause-wrong : goal.returns-clause-wrong
 unfolding wrong15
-returns-clause-wrong c = rw (← c.wrong_leaf_fields.ensures, c.if-self-wrong_leaf_fields.false) c.count_tokens.ensures.wrong
+returns-clause-wrong c =
+    let right = rw c.token_count.ensures at c.if-self-token_count.false in
+    rw (← c.wrong_leaf_fields.ensures, right) c.count_tokens.ensures.wrong

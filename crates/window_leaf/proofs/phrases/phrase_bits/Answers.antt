@@ -1,5 +1,5 @@
-use Rattle.std.proofs.Common.{arith}
-use Rattle.window_leaf.proofs.PhraseNodes.{given-long, given-terms, given-words, given-asked-long, given-planes, given-put, given-answer, written-long}
+use Rattle.std.proofs.Common.{refl, sym, arith}
+use Rattle.window_leaf.proofs.PhraseNodes.{given-long, given-terms, given-words, given-asked-long, given-planes, given-put, given-answer}
 use Rattle.window_leaf.proofs.phrases.phrase_bits.Goals as goal
 
 pub slice_bounds-terms_bits-count : goal.slice_bounds-terms_bits-count
@@ -20,32 +20,17 @@ slice_bounds-planes_of-start c = let t = c.terms_bits-t in given-asked-long c.re
 pub planes_of-planes-requires : goal.planes_of-planes-requires
 planes_of-planes-requires c = let t = c.terms_bits-t in given-planes c.requires c.args.want t.result.bits t.result.next t.new.terms t.ensures
 
-pub bounds-st-23 : goal.bounds-st-23
-bounds-st-23 c = let t = c.terms_bits-t in omega (arith, given-asked-long c.requires c.args.want t.result.bits t.result.next t.new.terms t.ensures)
-
-pub bounds-st-24 : goal.bounds-st-24
-bounds-st-24 c =
-    let t = c.terms_bits-t in
-    (written-long (given-words c.requires c.args.want t.result.bits t.result.next t.new.terms t.ensures) c.low.result 0 0 (given-asked-long c.requires c.args.want t.result.bits t.result.next t.new.terms t.ensures)).0
-
-pub bounds-st-25 : goal.bounds-st-25
-bounds-st-25 c =
-    let t = c.terms_bits-t in
-    (written-long (given-words c.requires c.args.want t.result.bits t.result.next t.new.terms t.ensures) c.low.result c.high.result 0 (given-asked-long c.requires c.args.want t.result.bits t.result.next t.new.terms t.ensures)).1
-
-pub bounds-st-26 : goal.bounds-st-26
-bounds-st-26 c =
-    let t = c.terms_bits-t in
-    (written-long (given-words c.requires c.args.want t.result.bits t.result.next t.new.terms t.ensures) c.low.result c.high.result c.low-2.result (given-asked-long c.requires c.args.want t.result.bits t.result.next t.new.terms t.ensures)).2
-
 pub put-requires : goal.put-requires
-put-requires c =
+put-requires c = let t = c.terms_bits-t in given-asked-long c.requires c.args.want t.result.bits t.result.next t.new.terms t.ensures
+
+pub put-requires-2 : goal.put-requires-2
+put-requires-2 c =
     let t = c.terms_bits-t in
     let p = c.planes_of-planes in
-    given-put c.requires c.args.want t.result.bits t.result.next t.new.terms t.ensures p.result.ones p.result.twos c.either-w.result p.ensures.planes_post c.either-w.ensures c.low.result c.high.result c.low-2.result c.high-2.result c.low.ensures c.high.ensures c.low-2.ensures c.high-2.ensures
+    rw c.put.ensures (given-put c.requires c.args.want t.result.bits t.result.next t.new.terms t.ensures p.result.ones p.result.twos c.either-w.result p.ensures.planes_post c.either-w.ensures _ _ _ _ refl refl refl refl)
 
 pub returns-clause-phrase_post : goal.returns-clause-phrase_post
 returns-clause-phrase_post c =
     let t = c.terms_bits-t in
     let p = c.planes_of-planes in
-    given-answer c.requires c.args.want t.result.bits t.result.next t.new.terms t.ensures p.result.ones p.result.twos c.either-w.result p.ensures.planes_post c.either-w.ensures c.low.result c.high.result c.low-2.result c.high-2.result c.low.ensures c.high.ensures c.low-2.ensures c.high-2.ensures c.put.new.st c.put.ensures
+    given-answer c.requires c.args.want t.result.bits t.result.next t.new.terms t.ensures p.result.ones p.result.twos c.either-w.result p.ensures.planes_post c.either-w.ensures _ _ _ _ refl refl refl refl c.put-2.new.st (rw (sym c.put.ensures) c.put-2.ensures)

@@ -13,7 +13,7 @@ took : (c : goal.After-max-next) (ix : Index) (ts : List PhraseTerm) → TermsHe
 took c ix ts h =
     let l = c.loop-at in
     let g = c.run_bits in
-    asking-took (l.invariant.1 ix ts h) (omega arith) (l.at + node_state_words) refl (omega (arith, c.well_formed)) g.result c.both-w.result c.max-next.result g.new.st g.ensures c.both-w.ensures c.max-next.ensures
+    asking-took (l.invariant.1 ix ts h) (omega arith) (l.at + node_state_words) refl g.result c.both-w.result c.max-next.result g.new.st g.ensures c.both-w.ensures c.max-next.ensures
 
 pub returns-then-w-eq0 : goal.returns-then-w-eq0
 returns-then-w-eq0 c = λ ix ts h. asking-none (c.loop-at.invariant.1 ix ts h) c.if-w-eq0.true
@@ -22,14 +22,14 @@ pub slice_bounds-run_bits-end : goal.slice_bounds-run_bits-end
 slice_bounds-run_bits-end c =
     let P = c.requires.1 in
     let l = c.loop-at in
-    let n = asking-next (l.invariant.1 P.0 P.1 P.2) (omega arith) (l.at + node_state_words) refl (omega (arith, c.well_formed)) in
+    let n = asking-next (l.invariant.1 P.0 P.1 P.2) (omega arith) (l.at + node_state_words) refl in
     omega (arith, n.0, l.invariant.0)
 
 pub run_bits-requires : goal.run_bits-requires
 run_bits-requires c =
     let P = c.requires.1 in
     let l = c.loop-at in
-    (c.requires.0, (asking-next (l.invariant.1 P.0 P.1 P.2) (omega arith) (l.at + node_state_words) refl (omega (arith, c.well_formed))).1)
+    (c.requires.0, (asking-next (l.invariant.1 P.0 P.1 P.2) (omega arith) (l.at + node_state_words) refl).1)
 
 pub loop-at-preserved : goal.loop-at-preserved
 loop-at-preserved c =

@@ -1,13 +1,11 @@
-use mathlib.Core.Path.{ap, ◌∙◌}
-use Rattle.std.proofs.Common.{refl, ◌+◌, arith, get_or}
-use lib.Ieee.{nan, binary64, add}
-use Rattle.leaf_score.proofs.Leaves.{Weighs}
+use Rattle.std.proofs.Common.{rules, refl, ◌+◌, arith, get_or}
 use Rattle.leaf_score.proofs.Constants.{constant-none}
+use Rattle.window_score.specs.Places.{term_score}
+use Rattle.window_score.specs.Sums.{Added}
 use Rattle.window_score.specs.Asked.{reads_of}
-use Rattle.window_score.proofs.Adding.{adding-step, adding-done, place-wanted}
-use Rattle.window_score.proofs.Terms.{TermPlace, place-weighs, place-number, place-score, pre-long, pre-number, pre-constant, pre-place, post-constant, post-weighted}
+use Rattle.window_score.proofs.Adding.{steady-pre, steady-step}
+use Rattle.window_score.proofs.Terms.{pre-long, pre-number, pre-constant, pre-place, post-constant, post-weighted}
 use Rattle.window_score.proofs.leaf.term_scores.Goals as goal
-use Rattle.window_score.proofs.leaf.term_scores.Goals.{After-rank}
 
 pub score_node_at-n-requires : goal.score_node_at-n-requires
 score_node_at-n-requires c = pre-long (reads_of c.args.window.now) c.requires
@@ -24,48 +22,19 @@ returns-in-Some c = post-constant (reads_of c.args.window.now) c.score_node_at-n
 pub bounds-st-19 : goal.bounds-st-19
 bounds-st-19 c = omega (arith, pre-long (reads_of c.args.window.now) c.requires)
 
-pub bounds-st-20 : goal.bounds-st-20
-bounds-st-20 c = omega (arith, pre-long (reads_of c.args.window.now) c.requires)
+pub stored_bits-bits-requires : goal.stored_bits-bits-requires
+stored_bits-bits-requires c = pre-long (reads_of c.args.window.now) c.requires
 
-pub bounds-st-21 : goal.bounds-st-21
-bounds-st-21 c = omega (arith, pre-long (reads_of c.args.window.now) c.requires)
-
--- what is known at the place, and of the frequency there
-at-posting : (c : After-rank) → TermPlace c.requires.1.5.1 c.requires.1.5.3 c.args.window.now.reader.postings.now c.args.window.now.reader.norms.now c.args.window.now.reader.inverses.now c.score_node_at-n.result (c.score_node_at-n.result.first + get_or c.args.st.now 19 0) c.joined-bits.result c.args.window.now.base c.in-Some-place.place
-at-posting c =
-    pre-place (reads_of c.args.window.now) c.score_node_at-n.result c.score_node_at-n.ensures c.bytes.ensures (λ i. omega (arith, c.type_inv.st i)) (constant-none c.score_node_at-n.result c.in_default.ensures) _ c.joined-bits.result refl c.joined-bits.ensures.word c.requires c.in-Some-place.place c.in-Some-place.ensures.steps.0.within
-    (place-wanted _ c.args.want c.args.sums.now c.loop-place.place-iterator.left c.loop-place.sums c.loop-place.invariant c.in-Some-place.place c.in-Some-place.ensures.steps.0)
-
-at-frequency : (c : goal.After-posting_frequency-frequency) → Weighs c.score_node_at-n.result c.args.window.now.reader.norms.now c.args.window.now.reader.inverses.now (c.args.window.now.base + c.in-Some-place.place) c.posting_frequency-frequency.result
-at-frequency c = place-weighs (at-posting (goal.at.weighted-s-requires-clause-frequency_bound c).After-rank) c.rank.result c.posting_frequency-frequency.result c.rank.ensures c.posting_frequency-frequency.ensures
-
-pub posting_frequency-frequency-requires : goal.posting_frequency-frequency-requires
-posting_frequency-frequency-requires c = omega (arith, (at-posting c).there, c.rank.ensures)
-
-pub weighted-s-requires-clause-frequency_bound : goal.weighted-s-requires-clause-frequency_bound
-weighted-s-requires-clause-frequency_bound c = let q = at-frequency c in (q.frequency-few, (q.number, q.field-few))
-
-pub weighted-s-requires-clause-doc_in_bounds : goal.weighted-s-requires-clause-doc_in_bounds
-weighted-s-requires-clause-doc_in_bounds c = (at-frequency c).byte-there
-
-pub weighted-s-requires-clause-doc_in_bounds_2 : goal.weighted-s-requires-clause-doc_in_bounds_2
-weighted-s-requires-clause-doc_in_bounds_2 c = (at-frequency c).inverse-there
-
-pub add_score-requires : goal.add_score-requires
-add_score-requires c =
-    place-number (at-posting (goal.at.add_score-requires c).After-rank) c.rank.result c.posting_frequency-frequency.result c.rank.ensures c.posting_frequency-frequency.ensures c.weighted-s.result c.weighted-s.ensures
-
-pub loop-place-preserved : goal.loop-place-preserved
-loop-place-preserved c =
-    let l = c.loop-place in
-    let n = c.in-Some-place.ensures.steps in
-    adding-step _ c.args.want c.args.sums.now l.place-iterator.left l.sums l.invariant c.in-Some-place.place n.0 c.next.new.self.left n.1 c.in-Some-place.place c.add_score.result refl
-    (c.add_score.ensures
-    ∙ ap (add binary64 (get_or l.sums c.in-Some-place.place nan))
-    (place-score (at-posting (goal.at.loop-place-preserved c).After-rank) c.rank.result c.posting_frequency-frequency.result c.rank.ensures c.posting_frequency-frequency.ensures c.weighted-s.result c.weighted-s.ensures))
+pub change_sums-requires : goal.change_sums-requires
+change_sums-requires c = (
+  c.requires.1.5.8.long,
+  steady-pre (λ f f' x p r s. search rules) _ (pre-place (reads_of c.args.window.now) c.score_node_at-n.result c.score_node_at-n.ensures (λ i. omega (arith, c.type_inv.st i)) (constant-none c.score_node_at-n.result c.in_default.ensures) _ c.stored_bits-bits.result refl c.stored_bits-bits.ensures c.requires),
+)
 
 pub returns : goal.returns
 returns c =
-    let l = c.loop-place in
-    post-weighted (reads_of c.args.window.now) c.score_node_at-n.result c.score_node_at-n.ensures c.bytes.ensures (λ i. omega (arith, c.type_inv.st i)) (constant-none c.score_node_at-n.result c.in_default.ensures) _ c.joined-bits.result refl c.joined-bits.ensures.word c.requires.0 l.sums l.invariant.long
-    (adding-done _ c.args.want c.args.sums.now l.place-iterator.left l.sums l.invariant c.in-None.ensures.steps.0)
+    let n = c.score_node_at-n.result in
+    let r = c.args.window.now.reader in
+    let s = c.change_sums.ensures.changed in
+    let A : Added (term_score n r.norms.now r.inverses.now r.postings.now (n.first + get_or c.args.st.now 19 0) c.stored_bits-bits.result c.args.window.now.base) c.args.want c.args.sums.now c.change_sums.new.sums = record { wanted = λ p l e. let k = steady-step (λ f f' x p r s. search rules) (s.wanted p l e) in search rules; others = s.others } in
+    post-weighted (reads_of c.args.window.now) n c.score_node_at-n.ensures (λ i. omega (arith, c.type_inv.st i)) (constant-none n c.in_default.ensures) _ c.stored_bits-bits.result refl c.stored_bits-bits.ensures c.requires.0 c.change_sums.new.sums s.long (λ p l e. let k = steady-step (λ f f' x p r s. search rules) (s.wanted p l e) in search rules) A

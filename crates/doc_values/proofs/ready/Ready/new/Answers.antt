@@ -1,11 +1,11 @@
-use Rattle.std.proofs.Common.{◌<◌, ◌^◌, ◌+◌, ◌*◌, ap, ◌∙◌, arith}
+use Rattle.std.proofs.Common.{◌<◌, ◌^◌, ◌+◌, ◌*◌, ap, ◌∙◌, arith, length-take, length-drop}
 use Rattle.meaning.specs.Lent.{column_type}
 use Rattle.meaning.specs.Entries.{columns_only}
 use Rattle.index.specs.Ranges.{asked}
 use Rattle.column_keys.specs.declared.column_type.ColumnType.{ColumnType}
 use Rattle.column_keys.specs.Keys.{type_number, range_key, value_in}
 use Rattle.column_keys.proofs.KeyOrder.{range-typed, value_in-typed}
-use Rattle.doc_values.proofs.Ranges.{column-there, column_fits, value-as-range}
+use Rattle.doc_values.proofs.Ranges.{column-there, column_fits, value_in-from, value-as-range}
 use Rattle.doc_values.proofs.ready.Ready.new.Goals as goal
 
 pub bounds-columns-at : goal.bounds-columns-at
@@ -16,8 +16,26 @@ overflow_mul-result-2 c =
     let a = c.args in
     omega (arith, column_fits (columns_only a.max_doc a.columns.now a.values.now) (asked a.range) c.requires.right.columns c.requires.right.range, c.well_formed)
 
+pub offset_bounds-values-at : goal.offset_bounds-values-at
+offset_bounds-values-at c =
+    let a = c.args in
+    omega (arith, column_fits (columns_only a.max_doc a.columns.now a.values.now) (asked a.range) c.requires.right.columns c.requires.right.range, c.well_formed)
+
+pub slice_bounds-result-count : goal.slice_bounds-result-count
+slice_bounds-result-count c =
+    let a = c.args in
+    omega (arith, column_fits (columns_only a.max_doc a.columns.now a.values.now) (asked a.range) c.requires.right.columns c.requires.right.range)
+
+pub slice_bounds-result-start : goal.slice_bounds-result-start
+slice_bounds-result-start c =
+    let a = c.args in
+    omega (arith, column_fits (columns_only a.max_doc a.columns.now a.values.now) (asked a.range) c.requires.right.columns c.requires.right.range)
+
 pub invariant_of-result : goal.invariant_of-result
-invariant_of-result c = let a = c.args in record { there = column_fits (columns_only a.max_doc a.columns.now a.values.now) (asked a.range) c.requires.right.columns c.requires.right.range }
+invariant_of-result c =
+    let a = c.args in
+    let fits = column_fits (columns_only a.max_doc a.columns.now a.values.now) (asked a.range) c.requires.right.columns c.requires.right.range in
+    record { there = simp (length-take, length-drop) (omega (arith, fits)) }
 
 pub returns-clause-takes : goal.returns-clause-takes
 returns-clause-takes c =
@@ -27,7 +45,8 @@ returns-clause-takes c =
     let type = column_type (columns_only a.max_doc a.columns.now a.values.now) a.range.column in
     let keys = c.range_keys.result in
     λ d.
-    ap (λ (t : ColumnType). value_in a.values.now (3 * (a.range.column * a.max_doc) + 3 * d) (type_number t) keys.from keys.to) c.from-column_type.ensures
+    value_in-from a.values.now (3 * (a.range.column * a.max_doc)) d (type_number c.from-column_type.result) keys.from keys.to
+    ∙ ap (λ (t : ColumnType). value_in a.values.now (3 * (a.range.column * a.max_doc) + 3 * d) (type_number t) keys.from keys.to) c.from-column_type.ensures
     ∙ value_in-typed type a.values.now (3 * (a.range.column * a.max_doc) + 3 * d) keys.from keys.to
     ∙ value-as-range a.max_doc a.columns.now a.values.now (asked a.range) (λ i. (c.type_inv.values i).fits) lower upper keys.from keys.to
     (λ k h. c.range_keys.ensures k h ∙ ap (λ (t : ColumnType). range_key (type_number t) a.range.kinds a.range.lower a.range.upper k) c.from-column_type.ensures ∙ range-typed type a.range.kinds a.range.lower a.range.upper k)
