@@ -9,7 +9,7 @@ use native.Mathlib.Omega.{arith}
 use lib.Dec.{T}
 use lib.ListN.{get_or, length, take, drop}
 use lib.Ieee.{Float, binary64, is_nan, add}
-use Rattle.meaning.specs.Limits.{no_more_docs, node_state_words}
+use Rattle.meaning.specs.Limits.{no_more_docs}
 use Rattle.meaning.specs.Lent.{Index}
 use Rattle.meaning.specs.First.{First}
 use Rattle.meaning.specs.Ieee754.{zero_float, sum_from}

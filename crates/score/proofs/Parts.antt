@@ -9,7 +9,7 @@ use lib.Seq.{take_at, drop_at, get_or-append-add}
 use Rattle.meaning.specs.Limits.{node_state_words}
 use Rattle.meaning.specs.Lent.{Index}
 use Rattle.weight.specs.ScorerTree.{Leaf, nothing, term, phrase, range, everything, Scorer, leaf, boolean, Scorers, end, more}
-use Rattle.weight.specs.State.{State, words_of, leaf_size, size_of}
+use Rattle.weight.specs.State.{State, words_of, size_of}
 use Rattle.weight.specs.Held.{LeafIs, Ok, Oks}
 use Rattle.leaf_scorer.proofs.Bounds.{leaf-sizes, ok-length, ok-long}
 use Rattle.node.specs.Words.{ChildThere}

@@ -1,10 +1,7 @@
 -- One more term has its words; at the end all have.
-use Rattle.std.proofs.Common.{arith, refl}
-use Rattle.leaf_scorer.proofs.PhraseLaws.{postings-length, gather-start, gather-took, gather-end}
+use Rattle.std.proofs.Common.{arith}
+use Rattle.leaf_scorer.proofs.PhraseLaws.{postings-length, gather-took, gather-end}
 use Rattle.leaf_scorer.proofs.gather.Goals as goal
-
-pub loop-at-init : goal.loop-at-init
-loop-at-init g c = (refl, refl, λ ix ts d h. gather-start h)
 
 pub loop-at-preserved : goal.loop-at-preserved
 loop-at-preserved g c =

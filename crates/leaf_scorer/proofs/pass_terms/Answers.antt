@@ -1,5 +1,5 @@
 -- `leaf_scorer::pass_terms` meets its contract: each term moved in turn, and which was the last to move them on. Assumes nothing.
-use Rattle.leaf_scorer.proofs.PhraseLaws.{TermsZip, terms-start, terms-end, terms-next, terms-took}
+use Rattle.leaf_scorer.proofs.PhraseLaws.{TermsZip, terms-end, terms-next, terms-took}
 use Rattle.leaf_scorer.proofs.Loops.{back-length}
 use Rattle.meaning.specs.Limits.{node_state_words}
 use lib.ListN.{take, drop}
@@ -21,9 +21,6 @@ use Rattle.leaf_scorer.proofs.pass_terms.Goals.{After-search-e, then-e-d, else-e
 some_moved : (last : ℕ) → eqb last 0 ≡ false → 0 < last
 some_moved zero e = absurd (false≢true (sym e))
 some_moved (suc m) e = omega arith
-
-pub loop-at-init : goal.loop-at-init
-loop-at-init c = (refl, (0, refl, λ ix ts h. terms-start c.requires.0 h))
 
 pub slice_bounds-search-end : goal.slice_bounds-search-end
 slice_bounds-search-end c =

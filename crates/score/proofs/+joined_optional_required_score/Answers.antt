@@ -1,14 +1,14 @@
 -- The answers of the cycle.
 use mathlib.Core.Path.{◌≡◌, refl, sym, ap, subst, ◌∙◌}
 use native.Mathlib.Omega.{arith}
-use Prim.Native.Nat.{ℕ, ◌≤◌, ◌+◌}
+use Prim.Native.Nat.{ℕ, ◌≤◌}
 use lib.ListN.{length}
 use mathlib.Core.List.{List}
 use lib.Seq.{length_front, length-take-le}
 use Rattle.meaning.specs.Ieee754.{zero_float}
 use Rattle.leaf_score.proofs.Bounds.{zero-64}
 use Rattle.score.proofs.Parts.{back_length}
-use Rattle.score.proofs.Loops.{OptionalMid, put, places_same, optional-start, optional-end, optional_there, optional-ask, optional-mid, optional-left, optional-child, optional-number, optional-took, optional-term-ask, optional-kind, optional-term-took, required-start, required-end, required_there, required-skip, required-child, required-number, required-took, required-term, required-term-took}
+use Rattle.score.proofs.Loops.{OptionalMid, put, places_same, optional-start, optional-end, optional-ask, optional-mid, optional-left, optional-child, optional-number, optional-took, optional-term-ask, optional-kind, optional-term-took, required-start, required-end, required-skip, required-child, required-number, required-took, required-term, required-term-took}
 use Rattle.score.proofs.Alone.{zero-narrowed}
 use Rattle.score.proofs.Booleans.{Lies, Grouped, lies, grouped, ungrouped, after-asks, alone-done, only-done, group-asks, group-number, after-number, after-done, cut-lies, front-asks, rest-asks, rest-done}
 use mathlib.Core.Bool.{not}
@@ -66,25 +66,11 @@ joined-returns-then-end-eq0-clause-join_post t c = only-done (group t (goal.at.j
 pub joined-offset_bounds-kids-end : goal.joined-offset_bounds-kids-end
 joined-offset_bounds-kids-end t c = omega (arith, parts t (goal.at.joined-offset_bounds-kids-end t c).Start, c.well_formed)
 
-pub joined-slice_bounds-optional-count : goal.joined-slice_bounds-optional-count
-joined-slice_bounds-optional-count t c = omega (arith, parts t (goal.at.joined-slice_bounds-optional-count t c).Start, c.well_formed)
-
-pub joined-slice_bounds-optional-start : goal.joined-slice_bounds-optional-start
-joined-slice_bounds-optional-start t c = omega (arith, parts t (goal.at.joined-slice_bounds-optional-start t c).Start, c.well_formed)
-
 pub joined-slice_bounds-optional-end : goal.joined-slice_bounds-optional-end
 joined-slice_bounds-optional-end t c = omega (arith, parts t (goal.at.joined-slice_bounds-optional-end t c).Start, c.well_formed)
 
 pub joined-optional-requires : goal.joined-optional-requires
 joined-optional-requires t c = (omega arith, group-asks c.args.kids.now c.args.n c.args.reader.now _ _ _ c.requires)
-
-pub joined-slice_bounds-required-end-then-n : goal.joined-slice_bounds-required-end-then-n
-joined-slice_bounds-required-end-then-n t c = omega (arith, parts t (goal.at.joined-slice_bounds-required-end-then-n t c).Start, whole t (goal.at.joined-slice_bounds-required-end-then-n t c).After-narrow-group)
-
-pub joined-slice_bounds-required-end-then-n-2 : goal.joined-slice_bounds-required-end-then-n-2
-joined-slice_bounds-required-end-then-n-2 t c =
-    let e : c.args.n.required_end ≤ length (kids₁ t (goal.at.joined-slice_bounds-required-end-then-n-2 t c).After-narrow-group) = omega (arith, parts t (goal.at.joined-slice_bounds-required-end-then-n-2 t c).Start, whole t (goal.at.joined-slice_bounds-required-end-then-n-2 t c).After-narrow-group) in
-    sym (length-take-le _ _ e)
 
 pub joined-required-sum-requires : goal.joined-required-sum-requires
 joined-required-sum-requires t c = (omega arith, after-asks (group t (goal.at.joined-required-sum-requires t c).After-narrow-group) c.narrow-group.ensures (places_same c.optional.ensures.same_buffers) zero-64 c.requires)
@@ -130,10 +116,6 @@ pub joined-slice_bounds-required-start : goal.joined-slice_bounds-required-start
 joined-slice_bounds-required-start t c =
     omega (arith, parts t (goal.at.joined-slice_bounds-required-start t c).Start, whole t (goal.at.joined-slice_bounds-required-start t c).After-narrow-group, length_front (kids₁ t (goal.at.joined-slice_bounds-required-start t c).After-narrow-group) c.required-front.new.kids c.args.n.group_at c.required-front.auto.kids, cut-here t (goal.at.joined-slice_bounds-required-start t c).Else-n (group t (goal.at.joined-slice_bounds-required-start t c).After-narrow-group), c.well_formed)
 
-pub joined-slice_bounds-required-end-4 : goal.joined-slice_bounds-required-end-4
-joined-slice_bounds-required-end-4 t c =
-    omega (arith, parts t (goal.at.joined-slice_bounds-required-end-4 t c).Start, whole t (goal.at.joined-slice_bounds-required-end-4 t c).After-narrow-group, length_front (kids₁ t (goal.at.joined-slice_bounds-required-end-4 t c).After-narrow-group) c.required-front.new.kids c.args.n.group_at c.required-front.auto.kids, cut-here t (goal.at.joined-slice_bounds-required-end-4 t c).Else-n (group t (goal.at.joined-slice_bounds-required-end-4 t c).After-narrow-group), c.well_formed)
-
 pub joined-required-requires-2 : goal.joined-required-requires-2
 joined-required-requires-2 t c = (omega arith, rest-asks (group t (goal.at.joined-required-requires-2 t c).After-narrow-group) c.narrow-group.ensures (places_same c.optional.ensures.same_buffers) zero-64 c.if-n.false _ _ c.required-front.auto.kids c.required-front.ensures.required_post (places_same c.required-front.ensures.same_buffers) c.add_score-sum.ensures c.requires)
 
@@ -158,9 +140,6 @@ score-slice_bounds-joined-count t c = omega (arith, record-there t (goal.at.scor
 
 pub score-slice_bounds-joined-start : goal.score-slice_bounds-joined-start
 score-slice_bounds-joined-start t c = omega (arith, record-there t (goal.at.score-slice_bounds-joined-start t c).Start)
-
-pub score-slice_bounds-joined-end : goal.score-slice_bounds-joined-end
-score-slice_bounds-joined-end t c = omega (arith, record-there t (goal.at.score-slice_bounds-joined-end t c).Start)
 
 pub score-constant_score-requires : goal.score-constant_score-requires
 score-constant_score-requires t c = λ e. let p = c.requires in
@@ -207,14 +186,8 @@ score-returns-in_default-from-clause-score_post t c = let p = c.requires in
 pub optional-loop-at-init : goal.optional-loop-at-init
 optional-loop-at-init t c = record { long = refl; same_buffers = same_refl _; sum = optional-start zero-64 }
 
-pub optional-child_at-child-requires : goal.optional-child_at-child-requires
-optional-child_at-child-requires t c = optional_there c.loop-at.invariant.sum c.loop-at-test.true c.requires
-
 pub required-loop-at-init : goal.required-loop-at-init
 required-loop-at-init t c = record { long = refl; same_buffers = same_refl _; sum = required-start }
-
-pub required-child_at-child-requires : goal.required-child_at-child-requires
-required-child_at-child-requires t c = required_there c.loop-at.invariant.sum c.loop-at-test.true c.requires
 
 pub optional-advance-requires : goal.optional-advance-requires
 optional-advance-requires t c = optional-ask c.loop-at.invariant.sum c.loop-at-test.true c.child_at-child.ensures.end_is _ _ (places_same c.loop-at.invariant.same_buffers) c.requires
