@@ -22,6 +22,7 @@ pub mod lots;
 pub mod oracle;
 pub mod query;
 pub mod random;
+pub mod ranges;
 #[cfg(oracle)]
 pub mod record;
 pub mod refusal;

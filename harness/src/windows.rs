@@ -29,9 +29,15 @@ pub fn case(seed: u64) -> Case {
         return generate::over(&mut random, index.lend(&crate::query::match_none(), [1, 0]));
     }
     let order = Orders::new(&mut random, &index).order();
-    let k = random.pick(&[1, 2, 3, 10, 63, 64, 65, 1024]);
-    let t = random.pick(&[0, 0, 1, 2, 9, 63, 64, u32::MAX]);
-    index.lend(&order, [k, t])
+    index.asked(&mut random, &order)
+}
+
+/// The case of a seed whose order is of Booleans with only children, one in the other.
+pub fn of_only_children(seed: u64) -> Case {
+    let mut random = Random::new(seed);
+    let index = Index::new(&mut random);
+    let order = Orders::new(&mut random, &index).only_children(4);
+    index.asked(&mut random, &order)
 }
 
 /// An index, and what the orders over it name.
@@ -96,6 +102,13 @@ impl Index {
             numbers,
             values,
         }
+    }
+
+    /// With any k and t.
+    fn asked(&self, random: &mut Random, order: &crate::query::Node) -> Case {
+        let k = random.pick(&[1, 2, 3, 10, 63, 64, 65, 1024]);
+        let t = random.pick(&[0, 0, 1, 2, 9, 63, 64, u32::MAX]);
+        self.lend(order, [k, t])
     }
 
     fn lend(&self, order: &crate::query::Node, [k, t]: [u32; 2]) -> Case {

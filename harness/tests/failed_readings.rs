@@ -274,6 +274,7 @@ fn reached(case: &Case, reach: &mut Reach) {
     let places = places(case, &root, 0, 1);
     assert_eq!(places.len(), failed_ranges(case).len());
     note(reach, "two or more in an order", places.len() > 1);
+    note(reach, "whole words of 32 documents", case.n >= 32);
     let ranges = root.all().iter().filter(|node| node.kind == RANGE).count();
     note(reach, "another range beside it", ranges > places.len());
     for place in places {

@@ -1,31 +1,19 @@
 //! What the generator reaches: every kind, occurrence and boundary that it claims, never refused.
 mod common;
 
+use common::reach::Reach;
 use common::{Seed, plain};
 use harness::case::{Case, FILE_LIMIT};
-use harness::failed::{asks_failed_value, failed, has_failed_end};
+use harness::failed::{asks_failed_value, ends, failed, has_failed_end};
 use harness::generate;
 use harness::query::*;
 use harness::refusal::refusal;
-use std::collections::BTreeMap;
 
 const CASES: u64 = 20_000;
 const MOST: u32 = 2_147_483_647;
 
-/// How often the cases reach what a name says.
-#[derive(Default)]
-struct Reach {
-    counts: BTreeMap<String, u32>,
-}
-
-impl Reach {
-    fn note(&mut self, name: impl Into<String>, reached: bool) {
-        *self.counts.entry(name.into()).or_default() += u32::from(reached);
-    }
-}
-
 fn run(case: &Case, reach: &mut Reach) {
-    for n in [0, 1, 2, 40, 63, 64, 65] {
+    for n in [0, 1, 2, 31, 32, 33, 40, 63, 64, 65] {
         reach.note(format!("N {n}"), case.n == n);
     }
     reach.note("k 1", case.k == 1);
@@ -265,6 +253,28 @@ fn range_node(case: &Case, node: &Node, reach: &mut Reach) {
     }
     let crossed = lower as i64 > upper as i64;
     reach.note("crossed ends", both && !float && crossed);
+    whole_words(case, node, reach);
+}
+
+/// Ranges of whole words of 32 documents that list some of these and not all, by where the ends lie.
+fn whole_words(case: &Case, node: &Node, reach: &mut Reach) {
+    let float = case.columns[node.values[0] as usize] == 1;
+    let sides = ends(node.values).map(|(end, bits)| match (end, bits >> 63) {
+        (0, _) => "open",
+        (_, 0) => "0 or above",
+        _ => "below 0",
+    });
+    let mut documents = 0..case.n / 32 * 32;
+    let held = |document| plain::in_range(case, node.values, document);
+    let parts = documents.clone().any(held) && !documents.all(held);
+    for lower in ["open", "0 or above", "below 0"] {
+        for upper in ["open", "0 or above", "below 0"] {
+            let name = format!("whole words, {lower} to {upper}, f64 {float}");
+            if [lower, upper] != ["0 or above", "below 0"] {
+                reach.note(name, sides == [lower, upper] && parts);
+            }
+        }
+    }
 }
 
 #[test]
@@ -282,15 +292,7 @@ fn the_generator_reaches_what_it_claims() {
         columns(&case, &mut reach);
         query(&case, &Node::decode(&case.query).unwrap(), &mut reach);
     }
-    for (name, count) in &reach.counts {
-        println!("{count:7} {name}");
-    }
-    let missed: Vec<_> = reach
-        .counts
-        .iter()
-        .filter(|(_, count)| **count < 3)
-        .collect();
-    assert!(missed.is_empty(), "{missed:?}");
+    reach.each_at_least(3);
 }
 
 /// NaN values in half of the cases with documents and f64 columns or more, and never a NaN end.

@@ -49,20 +49,45 @@
 //! | as the last                                                                   |   82 |    21 |
 //! | never after the required sum                                                  |   11 |    27 |
 //! | always after it                                                               |   82 |     2 |
-//! | the required sum is not narrowed before the Shoulds' joins it                 |   30 |    27 |
-//! | a Boolean's sum is not narrowed                                               |   28 |    49 |
+//! | the required sum is not narrowed before several Shoulds' joins it             |   60 |   823 |
+//! | a Boolean's sum is not narrowed                                               |   66 |    49 |
 //! | a Should is scored where it does not match                                    |    3 |     7 |
 //! | the norm of a place, not of the document                                      |    7 |  2411 |
 //! | the sum of the place below                                                    |    3 |     2 |
 //!
 //! No answer changes where phrases are asked in the first pass (it only costs time) or where Filters
 //! are scored (their scores are 0).
+//!
+//! Of an only child, whose score joins as it is, so too; first the case of
+//! `only_children_beside_the_rust`.
+//!
+//! | what is wrong                                                     | only | here | there |
+//! |-------------------------------------------------------------------|-----:|-----:|------:|
+//! | several children are taken for an only one                        |    4 |   28 |    27 |
+//! | an only required child's score is that of a Boolean with Shoulds  |    4 |   66 |    32 |
+//! | an only required child's score is left out                        |    9 |  263 |   171 |
+//! | the sum that it joins is narrowed                                 |   96 |      |       |
+//! | the required sum is not narrowed before an only Should's joins it |   20 |   30 |    27 |
+//! | the Shoulds' sum is not narrowed before an only Must's joins it   |   96 |   54 |   247 |
+//! | an only Should joins after the required sum, whatever is needed   |    5 |   82 |     2 |
+//! | it is scored as a required clause                                 |    3 |    9 |    78 |
+//! | a required clause is scored in its place                          |    3 |    9 |    78 |
+//! | it is scored twice                                                |   27 |   75 |    78 |
+//! | it is left out                                                    |    3 |    9 |    78 |
+//! | it is not asked: its bits of an earlier window                    |    3 |    9 |    78 |
+//! | Shoulds beside an only Must are scored as required clauses        |    4 |   28 |    32 |
+//! | they are not asked                                                |    4 |   28 |    32 |
+//! | the only Must is left out                                         |   22 |   54 |    32 |
+//!
+//! No answer changes where an only child's score is narrowed all the same.
 #![cfg_attr(not(all(oracle, linked)), allow(unused))]
 #[macro_use]
 mod common;
 
+use common::reach::Reach;
 use common::taken::Taken;
 use common::{Seed, each, plain};
+use harness::border::Entries;
 use harness::case::Case;
 #[cfg(oracle)]
 use harness::compare::Compare;
@@ -72,11 +97,13 @@ use harness::query::*;
 use harness::random::Random;
 use harness::refusal::order;
 use harness::windows::{self, SIZES, WINDOW};
-use std::collections::BTreeMap;
 
 const CASES: u64 = 40_000;
 
-/// Of these cases it is counted what they reach.
+/// Of Booleans with only children.
+const ONLY_CHILDREN: u64 = 10_000;
+
+/// Of these cases of either sort it is counted what they reach.
 const COUNTED: u64 = 8000;
 
 #[test]
@@ -86,23 +113,29 @@ const COUNTED: u64 = 8000;
 )]
 fn cases_beside_the_rust() {
     with_library!(library, {
-        each(CASES, |seed| {
-            let (case, mut random) = (windows::case(seed), Random::new(!seed));
-            let mut calls = Compare::new(library, &case, &mut random);
-            assert_eq!(calls.right.judge.order, 0);
-            calls.asked();
+        each(CASES, |seed| beside(library, &windows::case(seed), seed));
+    });
+}
+
+#[test]
+#[cfg_attr(
+    not(all(oracle, linked)),
+    ignore = "the library or the Rust source is absent"
+)]
+fn only_children_beside_the_rust() {
+    with_library!(library, {
+        each(ONLY_CHILDREN, |seed| {
+            beside(library, &windows::of_only_children(seed), seed);
         });
     });
 }
 
-/// How often the cases reach what a name says.
-#[derive(Default)]
-struct Reach(BTreeMap<String, u32>);
-
-impl Reach {
-    fn note(&mut self, name: impl Into<String>, reached: bool) {
-        *self.0.entry(name.into()).or_default() += u32::from(reached);
-    }
+#[cfg(oracle)]
+fn beside(entries: &dyn Entries, case: &Case, seed: u64) {
+    let mut random = Random::new(!seed);
+    let mut calls = Compare::new(entries, case, &mut random);
+    assert_eq!(calls.right.judge.order, 0);
+    calls.asked();
 }
 
 /// The windows of some documents, ascending.
@@ -335,11 +368,7 @@ fn tree(case: &Case, root: &Taken, reach: &mut Reach) {
         let deep = takes && root.booleans() == depth;
         reach.note(format!("{depth} Booleans deep"), deep);
     }
-    let matches: Vec<_> = root
-        .list()
-        .into_iter()
-        .filter(|d| case.is_live(*d))
-        .collect();
+    let matches: Vec<_> = matches(case, root).collect();
     for taken in root.all() {
         match taken.node.kind {
             TERM => postings(case, &taken.list(), reach),
@@ -351,26 +380,183 @@ fn tree(case: &Case, root: &Taken, reach: &mut Reach) {
     }
 }
 
+/// A Boolean with documents at which it is scored, and whether it stands below another.
+struct Scored<'a> {
+    boolean: &'a Taken<'a>,
+    wanted: Vec<u32>,
+    place: &'static str,
+}
+
+/// The Booleans of a tree that are scored at some of the documents.
+fn scored<'a>(tree: &'a Taken<'a>, wanted: &[u32], place: &'static str) -> Vec<Scored<'a>> {
+    if tree.node.kind == BOOST {
+        return scored(&tree.below[0], wanted, place);
+    }
+    let taken = wanted.iter().filter(|d| tree.documents[**d as usize]);
+    let wanted: Vec<_> = taken.copied().collect();
+    if tree.node.kind != BOOLEAN || wanted.is_empty() {
+        return vec![];
+    }
+    let clauses = tree.of(MUST).chain(tree.of(SHOULD));
+    let below = clauses.flat_map(|clause| scored(clause, &wanted, "below another"));
+    let mut all: Vec<_> = below.collect();
+    all.push(Scored {
+        boolean: tree,
+        wanted,
+        place,
+    });
+    all
+}
+
+/// What scores a clause, below any Boosts.
+fn sort(node: &Node) -> &'static str {
+    match node.kind {
+        BOOST => sort(&node.children[0]),
+        TERM => "term",
+        PHRASE => "phrase",
+        BOOLEAN => "Boolean",
+        _ => "constant",
+    }
+}
+
+/// How many clauses of an occurrence there are: an only one takes documents, and of several two or
+/// more do.
+#[derive(Clone, Copy, PartialEq, Eq)]
+enum Number {
+    Zero,
+    One,
+    Several,
+}
+
+const MUSTS: [(&str, Number); 2] = [
+    ("an only Must", Number::One),
+    ("several Musts", Number::Several),
+];
+
+const SHOULDS: [(&str, Number); 3] = [
+    ("no Should", Number::Zero),
+    ("an only Should", Number::One),
+    ("several Shoulds", Number::Several),
+];
+
+/// Musts and Filters.
+const REQUIRED: [(&str, [Number; 2]); 4] = [
+    ("an only Must", [Number::One, Number::Zero]),
+    ("an only Filter", [Number::Zero, Number::One]),
+    ("several Musts", [Number::Several, Number::Zero]),
+    ("a Must and a Filter", [Number::One, Number::One]),
+];
+
+fn number(boolean: &Taken, occurrence: u32) -> Option<Number> {
+    let taking = boolean.of(occurrence);
+    let taking = taking.filter(|c| c.documents.contains(&true)).count();
+    match (boolean.of(occurrence).count(), taking) {
+        (0, _) => Some(Number::Zero),
+        (1, 1) => Some(Number::One),
+        (_, 2..) => Some(Number::Several),
+        _ => None,
+    }
+}
+
+/// A Boolean's required clauses beside its Shoulds, where the one or the other may be an only child.
+fn only_children(scored: &Scored, reach: &mut Reach) {
+    let Scored { boolean, place, .. } = scored;
+    let numbers = [MUST, FILTER, SHOULD].map(|occurrence| number(boolean, occurrence));
+    let [Some(musts), Some(filters), Some(shoulds)] = numbers else {
+        return;
+    };
+    for (required, own) in REQUIRED {
+        let name = format!("{required} {place}");
+        let own = own == [musts, filters];
+        beside_shoulds(scored, &name, own.then_some(shoulds), reach);
+    }
+    if boolean.node.values[0] == 0 && filters == Number::Zero {
+        sorts_of_only_children(scored, [musts, shoulds], reach);
+    }
+}
+
+/// How many Shoulds stand beside required clauses of a name, where the Boolean has such.
+fn beside_shoulds(scored: &Scored, name: &str, own: Option<Number>, reach: &mut Reach) {
+    let msm = scored.boolean.node.values[0];
+    reach.note(format!("{name}, no Should"), own == Some(Number::Zero));
+    for (shoulds, number) in &SHOULDS[1..] {
+        for least in [0, 1] {
+            let name = format!("{name}, {shoulds}, msm {least}");
+            reach.note(name, own == Some(*number) && msm == least);
+        }
+    }
+    let mut clauses = scored.boolean.of(SHOULD);
+    let misses = |should: &Taken| {
+        let mut wanted = scored.wanted.iter();
+        wanted.any(|document| !should.documents[*document as usize])
+    };
+    let missed = own == Some(Number::One) && clauses.any(misses);
+    let name = format!("{name}, a match without the only Should");
+    reach.note(name, missed);
+}
+
+/// What scores an only child.
+fn sorts_of_only_children(scored: &Scored, [musts, shoulds]: [Number; 2], reach: &mut Reach) {
+    let of = |occurrence| scored.boolean.of(occurrence).next().map(|c| sort(c.node));
+    let (must, should) = (of(MUST), of(SHOULD));
+    for wanted in ["term", "phrase", "Boolean", "constant"] {
+        for (beside, number) in SHOULDS {
+            let own = musts == Number::One && must == Some(wanted);
+            let name = format!("a {wanted} as only Must {}, {beside}", scored.place);
+            reach.note(name, own && shoulds == number);
+        }
+        for (beside, number) in MUSTS {
+            let own = shoulds == Number::One && should == Some(wanted);
+            let name = format!("a {wanted} as only Should {}, {beside}", scored.place);
+            reach.note(name, own && musts == number);
+        }
+    }
+}
+
+/// The order of an accepted case; its matches are the Rust's.
+fn order_of(case: &Case) -> Node {
+    assert_eq!(order(case), 0);
+    let root = Node::decode(&case.query).unwrap();
+    #[cfg(oracle)]
+    {
+        let right = Right::new(case).list;
+        assert!(matches(case, &Taken::new(case, &root)).eq(right.iter().map(|hit| hit.document)));
+    }
+    root
+}
+
+/// The live documents that an order takes.
+fn matches<'a>(case: &'a Case, root: &Taken) -> impl Iterator<Item = u32> + use<'a> {
+    let taken = root.list().into_iter();
+    taken.filter(|document| case.is_live(*document))
+}
+
 #[test]
 fn the_windows_are_reached() {
     let mut reach = Reach::default();
     for seed in 0..COUNTED {
         let _seed = Seed(seed);
         let case = windows::case(seed);
-        assert_eq!(order(&case), 0);
-        let root = Node::decode(&case.query).unwrap();
+        let root = order_of(&case);
         let root = Taken::new(&case, &root);
-        #[cfg(oracle)]
-        {
-            let matches = root.list().into_iter().filter(|d| case.is_live(*d));
-            assert!(matches.eq(Right::new(&case).list.iter().map(|hit| hit.document)));
-        }
         lent(&case, &root, &mut reach);
         tree(&case, &root, &mut reach);
     }
-    for (name, count) in &reach.0 {
-        println!("{count:7} {name}");
+    reach.each_at_least(10);
+}
+
+#[test]
+fn the_only_children_are_reached() {
+    let mut reach = Reach::default();
+    for seed in 0..COUNTED {
+        let _seed = Seed(seed);
+        let case = windows::of_only_children(seed);
+        let root = order_of(&case);
+        let root = Taken::new(&case, &root);
+        let matches: Vec<_> = matches(&case, &root).collect();
+        for boolean in scored(&root, &matches, "at the root") {
+            only_children(&boolean, &mut reach);
+        }
     }
-    let missed: Vec<_> = reach.0.iter().filter(|(_, count)| **count < 10).collect();
-    assert!(missed.is_empty(), "{missed:?}");
+    reach.each_at_least(10);
 }

@@ -11,7 +11,7 @@ use lib.IntN.{ℤ, pos, negsuc, neg_ℤ, ◌+ℤ◌, ◌*ℤ◌}
 use lib.Signed.{shr_z}
 use mir.Syntax.{w32, w64}
 use mir.Val.{SFits, of_z, to_z}
-use mir.ValLaws.{to_z_pos, to_z-neg, to_z-of_z}
+use mir.ValLaws.{to_z_pos, to_z-neg}
 use Rattle.meaning.specs.Ieee754.{sortable_int, sortable_bits}
 use Rattle.meaning.specs.Hits.{low_word}
 use Rattle.collector.specs.Flipped.{flipped}
@@ -157,14 +157,3 @@ low-is (negsuc n) f = ap (to_z w64) (and_mask (18446744073709551616 - suc n) 32 
   where
     go : (n : ℕ) → n < 2 ^ 63 → (18446744073709551616 - suc n) % full ≡ full - 1 - n % full
     go n h = omega arith
-
-pub high_fits : (c : ℤ) → SFits w64 c → SFits w32 (shr_z c full)
-high_fits (pos n) f = record { sfits = omega (arith, f.sfits) }
-high_fits (negsuc n) f = record { sfits = omega (arith, f.sfits) }
-
-pub high_is : (c : ℤ) → SFits w64 c → to_z w64 (of_z w64 (shr_z (to_z w64 (of_z w64 c)) full)) ≡ shr_z c full
-high_is c f =
-    ap (λ (z : ℤ). to_z w64 (of_z w64 (shr_z z full))) (to_z-of_z w64 c f) ∙ to_z-of_z w64 (shr_z c full) (wider (shr_z c full) (high_fits c f))
-  where
-    wider : (z : ℤ) → SFits w32 z → SFits w64 z
-    wider z g = record { sfits = omega (arith, g.sfits) }

@@ -14,7 +14,7 @@ use lib.Ieee.Bits.{of_bits-to_bits, to_bits-lt, nan_bits_is}
 use Rattle.meaning.specs.Limits.{no_more_docs}
 use Rattle.meaning.specs.Ieee754.{sortable_int, sortable_bits}
 use Rattle.meaning.specs.FullList.{ScoreDoc}
-use Rattle.meaning.specs.Hits.{low_word, code, to_doc, to_score}
+use Rattle.meaning.specs.Hits.{code, to_doc, to_score}
 use Rattle.ieee754.specs.Nonneg.{sign_clear}
 use Rattle.ieee754.proofs.Patterns.{clear-bits, clear-lt, clear-le}
 use Rattle.collector.specs.Collected.{Scored}
@@ -47,11 +47,7 @@ pub to_score-code : (h : ScoreDoc) → T (fits binary32 h.score) → to_score (c
 unfolding to_score
 to_score-code h F = ap (of_bits binary32) (high-code h F) ∙ of_bits-to_bits binary32 h.score F
 
--- what `to_doc` and `to_score` require of a code
-pub code-low : (h : ScoreDoc) → low_word (code h) ≤ no_more_docs
-unfolding code
-code-low h = subst (λ (n : ℕ). n ≤ no_more_docs) (sym (low-joined (sortable_int (score_bits h)) (no_more_docs - h.doc) (omega arith))) (omega arith)
-
+-- what `to_score` requires of a code
 pub code-number : (h : ScoreDoc) → T (fits binary32 h.score) → T (not (is_nan h.score)) → T (not (nan_bits binary32 (sortable_bits (shr_z (code h) (2 ^ 32)))))
 code-number h F N =
     subst (λ (n : ℕ). T (not (nan_bits binary32 n))) (sym (high-code h F))

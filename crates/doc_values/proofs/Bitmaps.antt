@@ -1,57 +1,58 @@
 -- The numbers that have a property as the bits of words: a bit more, a word more, and how many there are. Assumes nothing.
-use Rattle.std.proofs.Common.{◌≡◌, refl, sym, ap, ap₂, ◌∙◌, Bool, true, false, cond, ◌&&◌, ◌||◌, ⊎_elim, List, [], ◌∷◌, ◌++◌, ℕ, zero, suc, ◌+◌, ◌-◌, ◌*◌, ◌%◌, ◌^◌, ◌≤◌, ◌<◌, eqb, ltb, bit_or, length, get_or, set, length-append, arith, eq-eqb, ne_eqb, lt-ltb, le-ltb}
-use Rattle.std.proofs.lemmas.Nat.{one_shl}
+use mir.Val.{bool_byte}
+use Rattle.std.proofs.Common.{◌≡◌, refl, sym, ap, ap₂, ◌∙◌, Bool, true, false, cond, ◌&&◌, ◌||◌, ⊎_elim, List, [], ◌∷◌, ◌++◌, ℕ, zero, suc, ◌+◌, ◌-◌, ◌*◌, ◌/◌, ◌%◌, ◌^◌, ◌≤◌, ◌<◌, ltb, bit_or, length, get_or, set, length-append, arith, lt-ltb, le-ltb}
 use lib.Count.{ones}
 use lib.Seq.{get_or-set_same, get_or-set_other}
 use Rattle.meaning.specs.Below.{count_below, list_below}
 use Rattle.meaning.proofs.Below.{count-le}
-use Rattle.meaning.proofs.Tests.{cmp}
-use Rattle.bits.specs.Bit.{bit, Bitmap}
-use Rattle.bits.proofs.Laws.{bit-or, bit-pow, bit-zero}
+use Rattle.meaning.proofs.Tests.{cmp, ltb-as-ltb}
+use Rattle.bits.specs.Bit.{digit, bit, Bitmap}
+use Rattle.bits.proofs.Laws.{bit-or, bit-zero, bit-low}
 use Rattle.bits.proofs.Ranks.{ones-below}
 
 -- the numbers below n alone
 abbrev pub cut_at : ℕ → (ℕ → Bool) → ℕ → Bool
 cut_at n p d = ltb d n && p d
 
--- ---- a bit more
-no-bit : (q j : ℕ) → bit q (0 * 2 ^ j % 2 ^ 32) ≡ false
-no-bit q j = ap (bit q) (none (2 ^ j)) ∙ bit-zero q
-  where
-    none : (n : ℕ) → 0 * n % 2 ^ 32 ≡ 0
-    none n = omega arith
+-- ---- a bit more: the others go up by one place, and it stands below them
+module _ (w x : ℕ) (b : Bool) (is : x ≡ bool_byte b) where
+  -- the bit that was put in
+  pub bit-below : bit 0 (bit_or (w * 2 % 2 ^ 32) x) ≡ b
+  unfolding bit
+  bit-below =
+      let even : w * 2 % 2 ^ 32 % 2 ≡ 0 = omega arith in
+      bit-or 0 (w * 2 % 2 ^ 32) x ∙ ap₂ (λ (n : ℕ) (y : ℕ). digit n || digit (y % 2)) even is ∙ of b
+    where
+      of : (b : Bool) → digit (bool_byte b % 2) ≡ b
+      of true = refl
+      of false = refl
 
-pub put-bit : (q w j x : ℕ) (b : Bool) → x ≡ cond b 1 0 → j < 32 → bit q (bit_or w (x * 2 ^ j % 2 ^ 32)) ≡ bit q w || b && eqb q j
-put-bit q w j x true e h = bit-or q w (x * 2 ^ j % 2 ^ 32) ∙ ap (λ (t : Bool). bit q w || t) (ap (λ (y : ℕ). bit q (y * 2 ^ j % 2 ^ 32)) e ∙ ap (bit q) (one_shl j 32 h) ∙ bit-pow q j)
-put-bit q w j x false e h = bit-or q w (x * 2 ^ j % 2 ^ 32) ∙ ap (λ (t : Bool). bit q w || t) (ap (λ (y : ℕ). bit q (y * 2 ^ j % 2 ^ 32)) e ∙ no-bit q j)
+  -- those that were there
+  pub bits-above : (q : ℕ) → suc q < 32 → bit (suc q) (bit_or (w * 2 % 2 ^ 32) x) ≡ bit q w
+  unfolding bit
+  bits-above q h =
+      let half : w * 2 % 2 ^ 32 / 2 ≡ w % 2 ^ 31 = omega arith in
+      let parts : w / 2 ^ 31 * 2 ^ 31 + w % 2 ^ 31 ≡ w = omega arith in
+      bit-or (suc q) (w * 2 % 2 ^ 32) x ∙ ap₂ (λ (n : ℕ) (y : ℕ). bit q n || bit q (y / 2)) half is ∙ ap (λ (n : ℕ). bit q (w % 2 ^ 31) || bit q n) (none b) ∙ ap (λ (t : Bool). bit q (w % 2 ^ 31) || t) (bit-zero q) ∙ or-none (bit q (w % 2 ^ 31))
+      ∙ sym (bit-low 31 q (w / 2 ^ 31) (w % 2 ^ 31) (omega arith)) ∙ ap (bit q) parts
+    where
+      none : (b : Bool) → bool_byte b / 2 ≡ 0
+      none true = refl
+      none false = refl
 
-or-none : (a : Bool) → (a || false) ≡ a
-or-none true = refl
-or-none false = refl
+      or-none : (a : Bool) → (a || false) ≡ a
+      or-none true = refl
+      or-none false = refl
 
-and-none : (a : Bool) → (a && false) ≡ false
-and-none true = refl
-and-none false = refl
-
-and-one : (a : Bool) → (a && true) ≡ a
-and-one true = refl
-and-one false = refl
-
--- the bits below j, and bit j
-pub more-bits : (p : ℕ → Bool) (q j : ℕ) → (ltb q j && p q || p j && eqb q j) ≡ (ltb q (j + 1) && p q)
-more-bits p q j = ⊎_elim below (λ g. ⊎_elim above (here g) (cmp j q)) (cmp q j)
-  where
-    below : q < j → (ltb q j && p q || p j && eqb q j) ≡ (ltb q (j + 1) && p q)
-    below l = rw (lt-ltb q j l, lt-ltb q (j + 1) (omega arith), ne_eqb q j (λ e. omega arith), and-none (p j)) (or-none (p q))
-
-    above : j < q → (ltb q j && p q || p j && eqb q j) ≡ (ltb q (j + 1) && p q)
-    above l = rw (le-ltb q j (omega arith), le-ltb q (j + 1) (omega arith), ne_eqb q j (λ e. omega arith), and-none (p j)) refl
-
-    here : j ≤ q → q ≤ j → (ltb q j && p q || p j && eqb q j) ≡ (ltb q (j + 1) && p q)
-    here g l = go (omega arith)
-      where
-        go : q ≡ j → (ltb q j && p q || p j && eqb q j) ≡ (ltb q (j + 1) && p q)
-        go e = rw (e, le-ltb j j (omega arith), lt-ltb j (j + 1) (omega arith), eq-eqb j j refl) (and-one (p j))
+-- the bits of a run's numbers from place j on, and then from place k on, the one before
+module _ (takes : ℕ → Bool) (first count j k w x : ℕ) (b : Bool) (next : k + 1 ≡ j) (within : j ≤ count) (is : x ≡ bool_byte b) (taken : b ≡ takes (first + k)) (so_far : (p : ℕ) → p < 32 → bit p w ≡ (ltb p (count - j) && takes (first + j + p))) where
+  pub one-more : (p : ℕ) → p < 32 → bit p (bit_or (w * 2 % 2 ^ 32) x) ≡ (ltb p (count - k) && takes (first + k + p))
+  one-more zero h =
+      let here : first + k ≡ first + k + 0 = omega arith in
+      bit-below w x b is ∙ taken ∙ ap takes here ∙ sym (ap (λ (t : Bool). t && takes (first + k + 0)) (lt-ltb 0 (count - k) (omega arith)))
+  one-more (suc q) h =
+      let there : first + j + q ≡ first + k + suc q = omega (arith, next) in
+      bits-above w x b is q h ∙ so_far q (omega arith) ∙ ap₂ (λ (t : Bool) (d : ℕ). t && takes d) (ltb-as-ltb q (count - j) (suc q) (count - k) (λ l. omega (arith, next)) (λ g. omega (arith, next))) there
 
 -- ---- how many there are
 pub list-count : (n : ℕ) (p : ℕ → Bool) → length (list_below n p) ≡ count_below n p

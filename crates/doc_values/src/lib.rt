@@ -1,9 +1,10 @@
 // Numeric columns: the documents whose value lies in a range, by one scan of the column, as a list or as a bitmap.
 #![tactic(auto)]
 
+mod interval;
 mod ready;
 
-ghost use Rattle.std.specs.Prelude.{ℕ, ◌+◌, ◌-◌, ◌*◌, ◌≤◌, ◌<◌, ◌≡◌, ◌&&◌, ltb, length};
+ghost use Rattle.std.specs.Prelude.{Bool, ℕ, ◌+◌, ◌-◌, ◌*◌, ◌^◌, ◌≤◌, ◌<◌, ◌≡◌, ◌&&◌, ltb, Some, length};
 ghost use Rattle.meaning.specs.Below.{list_below};
 ghost use Rattle.meaning.specs.Range.{in_range, range_documents};
 ghost use Rattle.meaning.specs.Entries.{written, columns_only};
@@ -15,6 +16,7 @@ ghost use Rattle.doc_values.specs.RangeRight.{RangeRight};
 
 use column_keys::column_type::ColumnType;
 use index::columns::NumericRange;
+use interval::BitInterval;
 use ready::Ready;
 
 // The columns of so many documents, and their values.
@@ -23,6 +25,20 @@ pub struct Columns<'a> {
     pub max_doc: u32,
     pub columns: &'a [u32],
     pub values: &'a [u32],
+}
+
+// Some documents from the first one on: bit j is whether the j-th of them is let in.
+// From the last one back, since each bit is then shifted by one and not by its place.
+fn word_of<F: Fn(usize) -> bool>(first: usize, count: usize, lists: F) -> u32
+    requires in_usize { first + count < 2 ^ 64 }
+    requires may_ask { (d : ℕ) → d < first + count → F.pre lists d }
+    ensures { (takes : ℕ → Bool) → ((d : ℕ) (b : Bool) → F.post lists d b → b ≡ takes d) → (p : ℕ) → p < 32 → bit p result ≡ ltb p count && takes (first + p) }
+{
+    let mut w = 0;
+    for j in (0..count).rev() {
+        w = w << 1 | u32::from(lists(first + j));
+    }
+    w
 }
 
 impl<'a> Ready<'a> {
@@ -35,11 +51,13 @@ impl<'a> Ready<'a> {
     {
         let at = range.column as usize;
         let column_type = ColumnType::from(columns[at]);
+        let keys = column_keys::range_keys(column_type, range.kinds, range.lower, range.upper);
         Ready {
             values: &values[3 * (at * max_doc as usize)..],
             max_doc,
             column_type,
-            keys: column_keys::range_keys(column_type, range.kinds, range.lower, range.upper),
+            keys,
+            bits: BitInterval::of_keys(column_type, keys),
         }
     }
 
@@ -49,6 +67,17 @@ impl<'a> Ready<'a> {
         ensures { result ≡ listed self.entry document }
     {
         column_keys::value_in(self.values, 3 * document, self.column_type, self.keys)
+    }
+
+    // The same by the interval of the bits, with no key made.
+    fn lists_by_bits(self, interval: BitInterval, document: usize) -> bool
+        requires in_bounds { document < self.max_doc }
+        requires given { self.bits ≡ Some interval }
+        ensures { result ≡ listed self.entry document }
+    {
+        let at = 3 * document;
+        let bits = column_keys::joined(self.values[at + 1], self.values[at + 2]);
+        (self.values[at] == 1) & interval.contains(bits)
     }
 
     // The documents that are let in, to the front of the output.
@@ -69,18 +98,6 @@ impl<'a> Ready<'a> {
         held as u32
     }
 
-    // Some documents from the first one on: bit j is whether the j-th of them is let in.
-    fn word_of(self, first: usize, count: u32) -> u32
-        requires { (count ≤ 32) × (first + count ≤ self.max_doc) }
-        ensures { (p : ℕ) → bit p result ≡ ltb p count && listed self.entry (first + p) }
-    {
-        let mut w = 0;
-        for j in 0..count {
-            w |= u32::from(self.lists(first + j as usize)) << j;
-        }
-        w
-    }
-
     // The next 32 of the documents from the first one on, or all that are left.
     // Kept: tried one call with `left.min(32)`: 1.06 times slower (measured), since a whole word's loop then has no fixed number of turns.
     fn next_word(self, first: usize) -> u32
@@ -88,10 +105,12 @@ impl<'a> Ready<'a> {
         ensures { (p : ℕ) → p < 32 → bit p result ≡ ltb p (self.entry.max_doc - first) && listed self.entry (first + p) }
     {
         let left = self.max_doc as usize - first;
-        if 32 <= left {
-            self.word_of(first, 32)
-        } else {
-            self.word_of(first, left as u32)
+        if left < 32 {
+            return word_of(first, left, |document| self.lists(document));
+        }
+        match self.bits {
+            Some(interval) => word_of(first, 32, |document| self.lists_by_bits(interval, document)),
+            None => word_of(first, 32, |document| self.lists(document)),
         }
     }
 

@@ -1,5 +1,6 @@
 -- What the pass over rows of records gathers, word by word of a row. Assumes nothing.
-use Rattle.std.proofs.Common.{◌≡◌, ℕ, zero, suc, ◌+◌, ◌-◌, ◌*◌, ◌/◌, ◌%◌, ◌<◌, ◌≤◌, Bool, cond, leb, List, [], ◌∷◌, length, get_or, set, sym, refl, ap, ◌∙◌, subst, ⊎_elim, arith, length-set, get_or-set_other, get_or-set_same, take, drop, length-take, length-drop, get_or-take, get_or-drop}
+use Rattle.std.proofs.Common.{◌≡◌, ℕ, zero, suc, ◌+◌, ◌-◌, ◌*◌, ◌/◌, ◌%◌, ◌<◌, ◌≤◌, Bool, cond, leb, List, [], ◌∷◌, length, get_or, set, min, sym, refl, ap, ◌∙◌, subst, ⊎_elim, arith, length-set, get_or-set_other, get_or-set_same, take, drop, length-take, length-drop, get_or-take, get_or-drop}
+use Rattle.std.proofs.Math.Nat.{min-eq_left}
 use lib.Bits.{bit_or}
 use Rattle.meaning.proofs.Below.{count-zero, count-more, count-le, last-or-below}
 use Rattle.posting_positions.specs.Places.{gap}
@@ -72,13 +73,14 @@ module _ (words : List ℕ) (i j : ℕ) (R A O : List ℕ) (h : Filled words i j
           (lane-more words (6 + j) i _ _ _ k s x (h.left j (omega arith) l) e g m n f))
 
   -- the same as the code writes it: a word, that of the record before, and the one before that
-  pub filled_word : (k w b c : ℕ) → k ≡ 6 + j + 12 * i → get_or words k 0 ≡ w → get_or words (k - 3) 0 ≡ b → get_or words (k - 4) 0 ≡ c → w < 4294967296 → b < 4294967296 → Filled words i (j + 1) (set R j (get_or R j 0 + (b + (4294967296 - w)) % 4294967296 / 2147483648)) (set A j (bit_or (get_or A j 0) (((b + (4294967296 - w)) % 4294967296 + c) % 4294967296))) (set O j (bit_or (get_or O j 0) w))
-  filled_word k w b c e ew eb ec lw lb =
+  pub filled_word : (k w b c r : ℕ) → k ≡ 6 + j + 12 * i → get_or words k 0 ≡ w → get_or words (k - 3) 0 ≡ b → get_or words (k - 4) 0 ≡ c → w < 4294967296 → b < 4294967296 → r ≡ get_or R j 0 + (b + (4294967296 - w)) % 4294967296 / 2147483648 → Filled words i (j + 1) (set R j r) (set A j (bit_or (get_or A j 0) (((b + (4294967296 - w)) % 4294967296 + c) % 4294967296))) (set O j (bit_or (get_or O j 0) w))
+  filled_word k w b c r e ew eb ec lw lb er =
       let small : get_or words k 0 < 4294967296 = omega arith in
       let back : ((b + (4294967296 - w)) % 4294967296 + get_or words k 0) % 4294967296 ≡ get_or words (k - 3) 0 = ap (λ (z : ℕ). ((b + (4294967296 - w)) % 4294967296 + z) % 4294967296) ew ∙ wraps b w lb lw ∙ sym eb in
       let sum : ((b + (4294967296 - w)) % 4294967296 + c) % 4294967296 ≡ ((b + (4294967296 - w)) % 4294967296 + get_or words (k - 4) 0) % 4294967296 = ap (λ (z : ℕ). ((b + (4294967296 - w)) % 4294967296 + z) % 4294967296) (sym ec) in
-      subst (λ (z : ℕ). Filled words i (j + 1) (set R j (get_or R j 0 + (b + (4294967296 - w)) % 4294967296 / 2147483648)) (set A j (bit_or (get_or A j 0) (((b + (4294967296 - w)) % 4294967296 + c) % 4294967296))) (set O j (bit_or (get_or O j 0) z))) ew
-      (filled_more k _ _ e back (wrap_fits _) small sum)
+      subst (λ (z : ℕ). Filled words i (j + 1) (set R j z) (set A j (bit_or (get_or A j 0) (((b + (4294967296 - w)) % 4294967296 + c) % 4294967296))) (set O j (bit_or (get_or O j 0) w))) (sym er)
+      (subst (λ (z : ℕ). Filled words i (j + 1) (set R j (get_or R j 0 + (b + (4294967296 - w)) % 4294967296 / 2147483648)) (set A j (bit_or (get_or A j 0) (((b + (4294967296 - w)) % 4294967296 + c) % 4294967296))) (set O j (bit_or (get_or O j 0) z))) ew
+      (filled_more k _ _ e back (wrap_fits _) small sum))
 
 -- a word of a chunk of twelve in what is left from a place on
 pub row-word : (words : List ℕ) (from n i j : ℕ) (rows : List (List ℕ)) → rows ≡ first_chunks 12 n (take (length words - from) (drop from words)) → from ≤ length words → n ≡ length (take (length words - from) (drop from words)) / 12 → i < n → j < 12 → (k : ℕ) → k ≡ from + 12 * i + j → get_or words k 0 ≡ get_or (get_or rows i []) j 0
@@ -118,3 +120,7 @@ filled_none words =
 -- all rows
 pub filled-all : (words : List ℕ) (i n : ℕ) (R A O : List ℕ) → Filled words i 0 R A O → i ≡ n → (j : ℕ) → j < 12 → Lane words (6 + j) n (get_or R j 0) (get_or A j 0) (get_or O j 0)
 filled-all words i n R A O h e j l = subst (λ (z : ℕ). Lane words (6 + j) z (get_or R j 0) (get_or A j 0) (get_or O j 0)) e (h.left j (omega arith) l)
+
+-- a sum that fits is not cut
+pub unsaturated : (a b r : ℕ) → r ≡ min (a + b) 4294967295 → a + b ≤ 4294967295 → r ≡ a + b
+unsaturated a b r e h = e ∙ min-eq_left h

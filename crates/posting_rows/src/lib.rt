@@ -61,7 +61,8 @@ fn rows(part: &[u32]) -> Lanes
         for j in 0..12 {
             let word = words[i][j];
             let step = before[i][j].wrapping_sub(word);
-            rises[j] += step >> 31;
+            // Saturating, which it never is: with a plain sum clang goes over four rows at a time, word by word (1.3 times slower).
+            rises[j] = rises[j].saturating_add(step >> 31);
             apart[j] |= step.wrapping_add(counts[i][j]);
             all[j] |= word;
         }

@@ -1,5 +1,5 @@
 -- What a phrase answers of a window: its terms' documents where it stands, and its frequencies as two planes. Assumes nothing.
-use Rattle.std.proofs.Common.{◌≡◌, refl, sym, ap, ap₂, subst, ◌∙◌, Bool, true, false, cond, ◌&&◌, ◌||◌, ⊎_elim, List, ◌++◌, append-nil, ℕ, ◌+◌, ◌-◌, ◌*◌, ◌/◌, ◌%◌, ◌≤◌, ◌<◌, min, ltb, length, get_or, set, take, drop, length-set, arith, lt-ltb, le-ltb, ltb-false}
+use Rattle.std.proofs.Common.{◌≡◌, refl, sym, ap, ap₂, subst, ◌∙◌, Bool, true, false, cond, ◌&&◌, ◌||◌, ⊎_elim, List, ◌++◌, append-nil, ℕ, ◌+◌, ◌-◌, ◌*◌, ◌/◌, ◌%◌, ◌≤◌, ◌<◌, min, ltb, length, get_or, set, take, drop, arith, lt-ltb, le-ltb, ltb-false}
 use Rattle.std.proofs.lemmas.Bool.{eqb-false, false≢true}
 use lib.Seq.{drop-length}
 use Rattle.meaning.specs.Limits.{node_state_words}
@@ -287,11 +287,3 @@ module _ {postings positions : List ℕ} {a b : ℕ} {st : List ℕ} {base : ℕ
             let asked-terms = phrase-asked E ix places k o st base q.0 q.1 q.2 own ep eq want r next ys asked in
             subst (λ (t : Scorer). Answers (matches ix t) base (places_of want) w (get_or st' 22 0) × Windowed ix E.ranges t k o st' (base + 64) base (places_of want)) (sym q.3)
             (phrase-leaf E ix places k o st base q.0 q.1 q.2 own ep eq want r next ys asked ones twos w (planes ix places q.0 q.1 asked-terms) some x y u v ex ey eu ev st' post)
-
--- a word of the record is there after the ones before it are written
-pub written-long : (y : List ℕ) (a b c : ℕ) → node_state_words ≤ length y → (24 < length (set y 23 a)) × (25 < length (set (set y 23 a) 24 b)) × (26 < length (set (set (set y 23 a) 24 b) 25 c))
-written-long y a b c h = (
-  omega (arith, h, length-set y 23 a),
-  omega (arith, h, length-set y 23 a, length-set (set y 23 a) 24 b),
-  omega (arith, h, length-set y 23 a, length-set (set y 23 a) 24 b, length-set (set (set y 23 a) 24 b) 25 c),
-)

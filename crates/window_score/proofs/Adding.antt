@@ -1,7 +1,7 @@
 -- A loop over the wanted places of a window that changes the sum at each, the lowest one first. Assumes nothing.
 use mathlib.Core.Path.{◌≡◌, refl, sym, ap, subst, ◌∙◌}
 use mathlib.Core.Logic.{⊎_elim}
-use mathlib.Core.Bool.{Bool, true, false, not, ◌&&◌, and-true, false≢true}
+use mathlib.Core.Bool.{Bool, true, false, not, cond, ◌&&◌, and-true, false≢true}
 use mathlib.Core.List.{List}
 use Prim.Native.Nat.{ℕ, ◌+◌, ◌*◌, ◌^◌, ◌≤◌, ◌<◌}
 use native.Mathlib.Omega.{arith}
@@ -148,3 +148,18 @@ after-small want r t sums sums' group A long few S G =
           (λ (e : bit p want ≡ false). subst (λ (x : Float). AtMost ((r + t) * 2 ^ 29) x) (sym (A.others p l e)) (scores-more r (r + t) (get_or sums p nan) (omega arith) (S.small p l)))
           (decided (bit p want));
     }
+
+-- each sum narrowed, or left as it is
+pub narrow-small : (only : Bool) (want q : ℕ) (sums sums' : List Float) → At (λ p x. cond only x (narrow x)) want sums sums' → length sums' ≡ 64 → q + 0 ≤ 256 → Sums q sums → Sums q sums'
+narrow-small only want q sums sums' A long few S =
+    record {
+      long = long;
+      small = λ p l. ⊎_elim
+          (λ (e : bit p want ≡ true). subst (λ (x : Float). AtMost (q * 2 ^ 29) x) (sym (A.wanted p l e)) (either only p l))
+          (λ (e : bit p want ≡ false). subst (λ (x : Float). AtMost (q * 2 ^ 29) x) (sym (A.others p l e)) (S.small p l))
+          (decided (bit p want));
+    }
+  where
+    either : (b : Bool) (p : ℕ) → p < 64 → AtMost (q * 2 ^ 29) (cond b (get_or sums p nan) (narrow (get_or sums p nan)))
+    either true p l = S.small p l
+    either false p l = narrowed-small q sums p (omega (arith, few)) S l

@@ -20,16 +20,16 @@ use Rattle.window_score.proofs.Splits.{zero-sums}
 use Rattle.window_score.proofs.Groups.{added-as, summed}
 
 -- ---- a list in three parts
-mid-part : (x v z kids : List ℕ) (a e : ℕ) → kids ≡ x ++ (v ++ z) → length x ≡ a → a + length v ≡ e → take (e - a) (drop a kids) ≡ v
+pub mid-part : (x v z kids : List ℕ) (a e : ℕ) → kids ≡ x ++ (v ++ z) → length x ≡ a → a + length v ≡ e → take (e - a) (drop a kids) ≡ v
 mid-part x v z kids a e i l m = let s : length v ≡ e - a = omega (arith, m) in rw (i, drop_at x (v ++ z) a l, take_at v z (e - a) s)
 
-mid_back : (x v z kids : List ℕ) (a e : ℕ) → kids ≡ x ++ (v ++ z) → length x ≡ a → a + length v ≡ e → (ys : List ℕ) → put kids a e ys ≡ x ++ (ys ++ z)
+pub mid_back : (x v z kids : List ℕ) (a e : ℕ) → kids ≡ x ++ (v ++ z) → length x ≡ a → a + length v ≡ e → (ys : List ℕ) → put kids a e ys ≡ x ++ (ys ++ z)
 mid_back x v z kids a e i l m ys = let s : length v ≡ e - a = omega (arith, m) in rw (i, take_at x (v ++ z) a l, drop_at x (v ++ z) a l, drop_at v z (e - a) s)
 
-front-part : (x y kids : List ℕ) (a : ℕ) → kids ≡ x ++ y → length x ≡ a → take a kids ≡ x
+pub front-part : (x y kids : List ℕ) (a : ℕ) → kids ≡ x ++ y → length x ≡ a → take a kids ≡ x
 front-part x y kids a i l = rw (i, take_at x y a l)
 
-front-back : (x y kids : List ℕ) (a : ℕ) → kids ≡ x ++ y → length x ≡ a → (ys : List ℕ) → ys ++ drop a kids ≡ ys ++ y
+pub front-back : (x y kids : List ℕ) (a : ℕ) → kids ≡ x ++ y → length x ≡ a → (ys : List ℕ) → ys ++ drop a kids ≡ ys ++ y
 front-back x y kids a i l ys = rw (i, drop_at x y a l)
 
 bound-below : (t : Bool) (b base : ℕ) → base ≤ b → cond t b base ≤ b
@@ -37,13 +37,13 @@ bound-below true b base h = le_refl b
 bound-below false b base h = h
 
 module _ {kids : List ℕ} {node : Boolean} {V : Reads} {a b want : ℕ} {sums : List Float} {depth : ℕ} where
-  abbrev goal-score : BooleanPre kids node V a b want sums depth → ℕ → Float
+  abbrev pub goal-score : BooleanPre kids node V a b want sums depth → ℕ → Float
   goal-score w p = joined_score w.3 (required_scores w.1 w.4 (V.base + p)) (narrowed_sum (optional_scores w.1 w.5 (V.base + p)))
 
-  required-long : (w : BooleanPre kids node V a b want sums depth) → length w.9.x ≡ node.required_end
+  pub required-long : (w : BooleanPre kids node V a b want sums depth) → length w.9.x ≡ node.required_end
   required-long w = all-length w.1 V.ranges w.4 depth w.9.x (V.base + 64) V.base (places_of want) w.9.required ∙ sym w.9.required-end
 
-  optional-long : (w : BooleanPre kids node V a b want sums depth) → node.required_end + length w.9.v ≡ node.optional_end
+  pub optional-long : (w : BooleanPre kids node V a b want sums depth) → node.required_end + length w.9.v ≡ node.optional_end
   optional-long w =
       omega (arith, all-length w.1 V.ranges w.5 depth w.9.v (optional_bound node.need (V.base + 64) V.base) V.base (λ p. ltb 0 node.need && bit p want) w.9.optional, w.9.required-end, w.9.optional-end)
 
@@ -54,14 +54,14 @@ module _ {kids : List ℕ} {node : Boolean} {V : Reads} {a b want : ℕ} {sums :
   pub required-lies : BooleanPre kids node V a b want sums depth → node.required_end ≤ node.optional_end
   required-lies w = omega (arith, optional-long w)
 
-  front-is : (w : BooleanPre kids node V a b want sums depth) → take node.required_end kids ≡ w.9.x
+  pub front-is : (w : BooleanPre kids node V a b want sums depth) → take node.required_end kids ≡ w.9.x
   front-is w = front-part w.9.x (w.9.v ++ w.6) kids node.required_end w.9.is (required-long w)
 
   -- what was asked is forgotten
   required-left : (w : BooleanPre kids node V a b want sums depth) → AllWindowed w.1 V.ranges w.4 depth w.9.x (V.base + 64) (V.base + 64) nowhere
   required-left w = all-forget w.1 V.ranges w.4 depth w.9.x (V.base + 64) V.base (places_of want) (V.base + 64) (le_refl _) (omega arith) w.9.required
 
-  optional-left : (w : BooleanPre kids node V a b want sums depth) → AllWindowed w.1 V.ranges w.5 depth w.9.v (V.base + 64) (V.base + 64) nowhere
+  pub optional-left : (w : BooleanPre kids node V a b want sums depth) → AllWindowed w.1 V.ranges w.5 depth w.9.v (V.base + 64) (V.base + 64) nowhere
   optional-left w =
       all-forget w.1 V.ranges w.5 depth w.9.v (optional_bound node.need (V.base + 64) V.base) V.base (λ p. ltb 0 node.need && bit p want) (V.base + 64)
       (bound-below (ltb 0 node.need) (V.base + 64) V.base (omega arith)) (omega arith) w.9.optional
@@ -76,7 +76,7 @@ module _ {kids : List ℕ} {node : Boolean} {V : Reads} {a b want : ℕ} {sums :
     alone-ask w = (w.0, w.1, w.2, w.4, 0, w.8, alone-asked w, zero-sums own own-zero)
 
     module _ (xs : List ℕ) (own' : List Float) (post : RequiredPost (take node.required_end kids) V a b want own depth xs own') where
-      alone-own : (w : BooleanPre kids node V a b want sums depth) → AddedAll (λ p. scoring (required_scores w.1 w.4 (V.base + p))) want own own' × Sums (0 + nodes_of w.4) own' × AllWindowed w.1 V.ranges w.4 depth xs (V.base + 64) (V.base + 64) nowhere
+      pub alone-own : (w : BooleanPre kids node V a b want sums depth) → AddedAll (λ p. scoring (required_scores w.1 w.4 (V.base + p))) want own own' × Sums (0 + nodes_of w.4) own' × AllWindowed w.1 V.ranges w.4 depth xs (V.base + 64) (V.base + 64) nowhere
       alone-own w = post w.0 w.1 w.2 w.4 0 w.8 (alone-asked w) (zero-sums own own-zero)
 
       alone-few : (w : BooleanPre kids node V a b want sums depth) → nodes_of w.4 ≤ 256
@@ -110,11 +110,14 @@ module _ {kids : List ℕ} {node : Boolean} {V : Reads} {a b want : ℕ} {sums :
     group-ask w = (w.0, w.1, w.2, w.5, 0, w.8, group-asked w, zero-sums own own-zero)
 
     module _ (vs : List ℕ) (group : List Float) (post : OptionalPost (take (node.optional_end - node.required_end) (drop node.required_end kids)) node.need V a b want own depth vs group) where
-      group-own : (w : BooleanPre kids node V a b want sums depth) → AddedAll (λ p. optional_scores w.1 w.5 (V.base + p)) want own group × Sums (0 + nodes_of w.5) group × AllWindowed w.1 V.ranges w.5 depth vs (V.base + 64) (V.base + 64) nowhere
+      pub group-own : (w : BooleanPre kids node V a b want sums depth) → AddedAll (λ p. optional_scores w.1 w.5 (V.base + p)) want own group × Sums (0 + nodes_of w.5) group × AllWindowed w.1 V.ranges w.5 depth vs (V.base + 64) (V.base + 64) nowhere
       group-own w = post w.0 w.1 w.2 w.5 0 w.8 (group-asked w) (zero-sums own own-zero)
 
-      back : (w : BooleanPre kids node V a b want sums depth) → (put kids node.required_end node.optional_end vs) ≡ w.9.x ++ (vs ++ w.6)
+      pub back : (w : BooleanPre kids node V a b want sums depth) → (put kids node.required_end node.optional_end vs) ≡ w.9.x ++ (vs ++ w.6)
       back w = mid_back w.9.x w.9.v w.6 kids node.required_end node.optional_end w.9.is (required-long w) (optional-long w) vs
+
+      pub group-fits : BooleanPre kids node V a b want sums depth → node.required_end ≤ length (put kids node.required_end node.optional_end vs)
+      group-fits w = omega (arith, ap length (back w), length-append w.9.x (vs ++ w.6), required-long w)
 
       -- no required children: the group is the score
       only-few : (w : BooleanPre kids node V a b want sums depth) → nodes_of w.5 ≤ 256

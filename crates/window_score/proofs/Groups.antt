@@ -34,7 +34,7 @@ no-after (one_more m) rs a b p h = (m, refl, p.1)
 no-after afterwards rs true b p h = absurd (true≢false h)
 no-after afterwards rs false b p h = absurd (omega (arith, p))
 
-is-after : (j : Joining) (rs : Scorers) (a : Bool) (b : ℕ) → JoinsAt j rs (cond a 1 0) b → a ≡ true → j ≡ afterwards
+pub is-after : (j : Joining) (rs : Scorers) (a : Bool) (b : ℕ) → JoinsAt j rs (cond a 1 0) b → a ≡ true → j ≡ afterwards
 unfolding JoinsAt
 is-after (one_more m) rs true b p h = absurd (omega (arith, p.0))
 is-after (one_more m) rs false b p h = absurd (true≢false (sym h))

@@ -7,6 +7,8 @@ mod Required
 mod Optional
 mod Splits
 mod Groups
+mod OnlyChild
 mod Booleans
+mod Joined
 pub mod Alone
 mod Nodes

@@ -1,5 +1,5 @@
 -- What the scores of a window ask and give, of a node and of the parts of some children. Assumes nothing: these are definitions.
-use Rattle.std.specs.Prelude.{◌≡◌, true, cond, ◌&&◌, List, ◌++◌, ℕ, ◌+◌, ◌≤◌, ◌<◌, ltb, get_or, Float}
+use Rattle.std.specs.Prelude.{◌≡◌, true, cond, ◌&&◌, List, ◌++◌, ℕ, ◌+◌, ◌≤◌, ◌<◌, ltb, length, take, drop, get_or, Float}
 use Rattle.std.specs.Float.{nan}
 use Rattle.meaning.specs.Limits.{no_more_docs}
 use Rattle.meaning.specs.Lent.{Index}
@@ -177,3 +177,11 @@ RootGroupPre kids node group V a b want sums depth =
 abbrev pub RootGroupPost : List ℕ → Boolean → List Float → Reads → ℕ → ℕ → ℕ → List Float → ℕ → List ℕ → List Float → Type 0
 RootGroupPost kids node group V a b want sums depth kids' sums' =
     (n : ℕ) (ix : Index) (places : ℕ) (j : Joining) (rs os : Scorers) → WindowLent ix n V places a b want → GroupAsked ix V places j rs os node depth kids want 0 group → NarrowedIs (λ p. joined_score j (required_scores ix rs (V.base + p)) (narrowed_sum (optional_scores ix os (V.base + p)))) want sums sums' × Sums (nodes_of rs + nodes_of os) sums' × AllWindowed ix V.ranges rs depth kids' (V.base + 64) (V.base + 64) nowhere
+
+-- the parts are of one child at most
+abbrev pub OnlyChild : List ℕ → Type 0
+OnlyChild parts = get_or parts 1 0 ≡ length parts
+
+-- the group joins after the required sum is narrowed, its parts are the last ones, and where it is of more than one child, the required is an only child
+abbrev pub JoinedPre : List ℕ → Boolean → Type 0
+JoinedPre kids node = (node.afterwards ≡ true) × (length kids ≡ node.optional_end) × ((OnlyChild (drop node.required_end kids) → ⊥) → OnlyChild (take node.required_end kids))

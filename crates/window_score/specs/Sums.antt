@@ -1,5 +1,5 @@
 -- The sums of a window's 64 documents. Assumes nothing: these are definitions.
-use Rattle.std.specs.Prelude.{◌≡◌, true, false, not, T, List, ℕ, ◌+◌, ◌*◌, ◌^◌, ◌≤◌, ◌<◌, length, get_or, Float}
+use Rattle.std.specs.Prelude.{◌≡◌, Bool, true, false, cond, not, T, List, ℕ, ◌+◌, ◌*◌, ◌^◌, ◌≤◌, ◌<◌, length, get_or, Float}
 use Rattle.std.specs.Float.{nan, binary64}
 use Rattle.std.specs.Float.Ieee.{is_nan, add}
 use Rattle.meaning.specs.Ieee754.{zero_float, sum_from, narrow}
@@ -85,3 +85,10 @@ AfterPre group sums = (r : ℕ) × (t : ℕ) × RoomFor r t sums × Sums t group
 
 abbrev pub AfterPost : List Float → ℕ → List Float → List Float → Type 0
 AfterPost group want sums sums' = At (λ p x. add binary64 (narrow x) (narrow (get_or group p nan))) want sums sums' × (length sums' ≡ 64) × ((r t : ℕ) → RoomFor r t sums → Sums t group → Sums (r + t) sums')
+
+-- each sum is narrowed, or stays where it is of an only child's score
+abbrev pub NarrowSumsPre : List Float → Type 0
+NarrowSumsPre sums = (q : ℕ) × RoomFor q 0 sums
+
+abbrev pub NarrowSumsPost : Bool → ℕ → List Float → List Float → Type 0
+NarrowSumsPost only want sums sums' = At (λ p x. cond only x (narrow x)) want sums sums' × ((q : ℕ) → RoomFor q 0 sums → Sums q sums')

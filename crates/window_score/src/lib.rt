@@ -1,19 +1,19 @@
 // The scores of a window's documents: each node adds its own to the sums of the wanted documents, one node after the other in the order of the parts.
 #![tactic(auto)]
 
-ghost use Rattle.std.specs.Prelude.{◌≡◌, ◌≤◌, length, get_or};
+ghost use Rattle.std.specs.Prelude.{◌≡◌, ◌≤◌, length, get_or, eqb};
 ghost use Rattle.meaning.specs.Limits.{node_state_words};
 ghost use Rattle.window_words.specs.Windowed.{joined};
 ghost use Rattle.leaf_scorer.specs.Calls.{lent_of};
 ghost use Rattle.leaf_scorer.specs.Buffers.{room, other_room, SameBuffers};
 ghost use Rattle.window_leaf.specs.Asks.{BitsPre, BitsPost};
 ghost use Rattle.window_score.specs.Words.{StoredAre};
-ghost use Rattle.window_score.specs.Asked.{reads_of, ScoresPre, ScoresPost, RequiredPre, RequiredPost, OptionalPre, OptionalPost, BooleanPre, BooleanPost, RootPartsPre, RootPartsPost, RootGroupPre, RootGroupPost};
+ghost use Rattle.window_score.specs.Asked.{reads_of, ScoresPre, ScoresPost, RequiredPre, RequiredPost, OptionalPre, OptionalPost, BooleanPre, BooleanPost, RootPartsPre, RootPartsPost, RootGroupPre, RootGroupPost, JoinedPre};
 
 use leaf_score::score_node_at;
 use leaf_scorer::PhraseBuffers;
 use node::{Boolean, NodeKind, boolean_at, child_at};
-use sums::{add_constant, add_narrowed, join_after};
+use sums::{add_constant, add_narrowed, join_after, narrow_sums};
 use weight::NODE_STATE_WORDS;
 use window_bits::child_bits;
 use window_leaf::Window;
@@ -54,7 +54,7 @@ fn optional_child_bits(
 }
 
 // The node's score is added to the sum of each wanted document, all of which it matches.
-#[cycle(boolean_scores_group_scores_node_scores_optional_scores_part_scores_required_scores)]
+#[cycle(boolean_scores_group_scores_grouped_scores_joined_scores_node_scores_optional_scores_part_scores_required_scores)]
 pub fn node_scores(
     st: &mut [u32],
     window: &Window<'_>,
@@ -94,9 +94,16 @@ pub fn node_scores(
     }
 }
 
-// A Boolean has sums of its own, which are added to its parent's, narrowed.
+// Whether the parts are of one child at most: its score is an f32, so narrowing a sum of it alone would change nothing.
+fn is_only_child(parts: &[u32]) -> bool
+    ensures { result ≡ eqb (get_or parts.now 1 0) (length parts.now) }
+{
+    parts.get(1).copied().unwrap_or(0) as usize == parts.len()
+}
+
+// A Boolean has sums of its own, which are added to its parent's, narrowed. An only required child's score is the Boolean's.
 // Kept: seven parameters: no plainer: `window_bits` takes `window` and `buffers` apart, and `want` and `sums` change from call to call, each by itself.
-#[cycle(boolean_scores_group_scores_node_scores_optional_scores_part_scores_required_scores)]
+#[cycle(boolean_scores_group_scores_grouped_scores_joined_scores_node_scores_optional_scores_part_scores_required_scores)]
 fn boolean_scores(
     kids: &mut [u32],
     n: Boolean,
@@ -110,16 +117,22 @@ fn boolean_scores(
     ensures boolean_post { BooleanPost kids.old n (reads_of window.now) (room buffers.old) (other_room buffers.old) want sums.old depth kids.new sums.new }
     ensures same_buffers { SameBuffers buffers.old buffers.new }
 {
+    let end = n.required_end;
+    if (end == n.optional_end) & is_only_child(&kids[..end]) {
+        required_scores(&mut kids[..end], window, buffers, want, sums, depth);
+        return;
+    }
     let mut own = [0.0f64; 64];
     part_scores(kids, n, window, buffers, want, &mut own, depth);
     add_narrowed(&own, want, sums);
 }
 
-// A Boolean's children, into sums that are 0. Where there are only required ones or only optional ones, they need no other sums. Inlined at
-// both calls: one call more for each Boolean of a window costs a deep tree a twentieth.
+// A Boolean's children, into sums that are 0. They need no other sums where there are only required ones or only optional ones, nor where
+// the group joins after the required and one of the two is an only child. Inlined at both calls: one call more for each Boolean of a window
+// costs a deep tree a twentieth.
 // Kept: seven parameters, as in `boolean_scores`.
 #[inline(always)]
-#[cycle(boolean_scores_group_scores_node_scores_optional_scores_part_scores_required_scores)]
+#[cycle(boolean_scores_group_scores_grouped_scores_joined_scores_node_scores_optional_scores_part_scores_required_scores)]
 fn part_scores(
     kids: &mut [u32],
     n: Boolean,
@@ -151,6 +164,40 @@ fn part_scores(
         );
         return;
     }
+    if n.afterwards & (is_only_child(&kids[..end]) | is_only_child(&kids[end..optional_end])) {
+        joined_scores(
+            &mut kids[..optional_end],
+            n,
+            window,
+            buffers,
+            want,
+            sums,
+            depth,
+        );
+        return;
+    }
+    grouped_scores(kids, n, window, buffers, want, sums, depth);
+}
+
+// Required children and a group that has sums of its own, into sums that are 0.
+// Kept: seven parameters, as in `boolean_scores`.
+#[inline(always)]
+#[cycle(boolean_scores_group_scores_grouped_scores_joined_scores_node_scores_optional_scores_part_scores_required_scores)]
+fn grouped_scores(
+    kids: &mut [u32],
+    n: Boolean,
+    window: &Window<'_>,
+    buffers: &mut PhraseBuffers<'_>,
+    want: u64,
+    sums: &mut [f64],
+    depth: u32,
+)
+    requires { RootPartsPre kids.old n (reads_of window.now) (room buffers.old) (other_room buffers.old) want sums.old depth }
+    ensures root_parts_post { RootPartsPost kids.old n (reads_of window.now) (room buffers.old) (other_room buffers.old) want sums.old depth kids.new sums.new }
+    ensures same_buffers { SameBuffers buffers.old buffers.new }
+{
+    let end = n.required_end;
+    let optional_end = n.optional_end;
     let mut group = [0.0f64; 64];
     optional_scores(
         &mut kids[end..optional_end],
@@ -173,9 +220,40 @@ fn part_scores(
     );
 }
 
+// Required children and a group that joins after them, one of the two an only child, into sums that are 0: the sum of the other is
+// narrowed first, and the only child's score is added to it.
+// Kept: seven parameters, as in `boolean_scores`.
+#[cycle(boolean_scores_group_scores_grouped_scores_joined_scores_node_scores_optional_scores_part_scores_required_scores)]
+fn joined_scores(
+    kids: &mut [u32],
+    n: Boolean,
+    window: &Window<'_>,
+    buffers: &mut PhraseBuffers<'_>,
+    want: u64,
+    sums: &mut [f64],
+    depth: u32,
+)
+    requires parts { RootPartsPre kids.old n (reads_of window.now) (room buffers.old) (other_room buffers.old) want sums.old depth }
+    requires only_child { JoinedPre kids.old n }
+    ensures root_parts_post { RootPartsPost kids.old n (reads_of window.now) (room buffers.old) (other_room buffers.old) want sums.old depth kids.new sums.new }
+    ensures same_buffers { SameBuffers buffers.old buffers.new }
+{
+    let end = n.required_end;
+    if is_only_child(&kids[end..]) {
+        let only = is_only_child(&kids[..end]);
+        required_scores(&mut kids[..end], window, buffers, want, sums, depth);
+        narrow_sums(only, want, sums);
+        optional_scores(&mut kids[end..], n.need, window, buffers, want, sums, depth);
+        return;
+    }
+    optional_scores(&mut kids[end..], n.need, window, buffers, want, sums, depth);
+    narrow_sums(false, want, sums);
+    required_scores(&mut kids[..end], window, buffers, want, sums, depth);
+}
+
 // The required children, into sums that are 0: the group, whose sums are given, joins as one more, or after theirs are narrowed.
 // Kept: eight parameters, as in `boolean_scores`, and the group's sums.
-#[cycle(boolean_scores_group_scores_node_scores_optional_scores_part_scores_required_scores)]
+#[cycle(boolean_scores_group_scores_grouped_scores_joined_scores_node_scores_optional_scores_part_scores_required_scores)]
 fn group_scores(
     kids: &mut [u32],
     n: Boolean,
@@ -202,7 +280,7 @@ fn group_scores(
 }
 
 // The scores of the Must children, in the order of their parts.
-#[cycle(boolean_scores_group_scores_node_scores_optional_scores_part_scores_required_scores)]
+#[cycle(boolean_scores_group_scores_grouped_scores_joined_scores_node_scores_optional_scores_part_scores_required_scores)]
 fn required_scores(
     kids: &mut [u32],
     window: &Window<'_>,
@@ -236,7 +314,7 @@ fn required_scores(
 
 // The scores of the optional children at those of the wanted documents that they match; where none is needed they are asked only now.
 // Kept: seven parameters, as in `boolean_scores`.
-#[cycle(boolean_scores_group_scores_node_scores_optional_scores_part_scores_required_scores)]
+#[cycle(boolean_scores_group_scores_grouped_scores_joined_scores_node_scores_optional_scores_part_scores_required_scores)]
 fn optional_scores(
     kids: &mut [u32],
     need: u32,

@@ -1,6 +1,8 @@
 // The sums of a window's 64 documents: one more score at each wanted place.
-ghost use Rattle.std.specs.Prelude.{◌≡◌};
-ghost use Rattle.window_score.specs.Sums.{ChangePre, Changed, Reached, Answered, ConstantPre, ConstantPost, NarrowedPre, NarrowedPost, AfterPre, AfterPost, BothPre, both_of};
+ghost use Rattle.std.specs.Prelude.{◌≡◌, not, T};
+ghost use Rattle.std.specs.Float.Ieee.{is_nan};
+ghost use Rattle.meaning.specs.Ieee754.{narrow};
+ghost use Rattle.window_score.specs.Sums.{ChangePre, Changed, Reached, Answered, ConstantPre, ConstantPost, NarrowedPre, NarrowedPost, AfterPre, AfterPost, NarrowSumsPre, NarrowSumsPost, BothPre, both_of};
 
 use bits::SetBits;
 use ieee754::{add_score, narrow};
@@ -44,6 +46,24 @@ pub fn add_narrowed(own: &[f64], want: u64, sums: &mut [f64])
         want,
         sums,
         &mut |sum, place| add_score(sum, narrow(own[place as usize])),
+    );
+}
+
+// Each sum is narrowed, but where it is of an only child's score: that is an f32 as it is.
+pub fn narrow_sums(only_child: bool, want: u64, sums: &mut [f64])
+    requires { NarrowSumsPre sums.old }
+    ensures { NarrowSumsPost only_child want sums.old sums.new }
+{
+    if only_child {
+        return;
+    }
+    change_sums(
+        want,
+        sums,
+        &mut |sum, _|
+            requires { T (not (is_nan (narrow sum))) }
+            ensures { result ≡ narrow sum }
+        { narrow(sum) as f64 },
     );
 }
 

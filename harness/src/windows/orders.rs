@@ -257,4 +257,43 @@ impl Orders<'_> {
         self.random.shuffle(&mut clauses);
         boolean(self.random.pick(&[0, 0, 0, 1, 2]), clauses)
     }
+
+    /// A Boolean of which the required clause, or the Should, is often an only child.
+    pub fn only_children(&mut self, levels: u32) -> Node {
+        let required = [[1, 0], [1, 0], [2, 0], [3, 0], [3, 0], [0, 1], [1, 1]];
+        let [musts, filters] = self.random.pick(&required);
+        let shoulds = self.random.pick(&[0, 1, 1, 2, 3]);
+        let nots = u32::from(self.random.once_in(8));
+        let mut clauses = Vec::new();
+        for (number, occurrence) in [musts, shoulds, nots, filters].into_iter().zip(OCCURRENCES) {
+            for _ in 0..number {
+                let clause = match occurrence {
+                    MUST_NOT => self.term(),
+                    _ => self.only_child(levels),
+                };
+                clauses.push(clause.occurring(occurrence));
+            }
+        }
+        self.random.shuffle(&mut clauses);
+        boolean(self.random.pick(&[0, 0, 0, 1]), clauses)
+    }
+
+    /// A clause of such a Boolean; where no more records may be made, a term.
+    fn only_child(&mut self, levels: u32) -> Node {
+        if self.records < CLAUSE {
+            return term(self.core());
+        }
+        self.records -= CLAUSE;
+        let weight = self.random.pick(&BY_ORDER);
+        match self.random.below(16) {
+            0..=3 if levels > 1 => self.only_children(levels - 1),
+            4..=6 => self.phrase(),
+            7 => weighted(weight, term(self.core())),
+            8 => weighted(weight, match_all()),
+            9 | 10 => boolean(0, [weighted(weight, term(self.core())).must()]),
+            11 => self.range(),
+            12 => self.term(),
+            _ => term(self.core()),
+        }
+    }
 }

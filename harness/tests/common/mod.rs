@@ -5,6 +5,7 @@ pub mod leaves;
 #[cfg(oracle)]
 pub mod model;
 pub mod plain;
+pub mod reach;
 pub mod taken;
 
 use harness::answer::Hit;

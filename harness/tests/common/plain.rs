@@ -72,7 +72,7 @@ pub fn between(case: &Case, range: [u32; 6], document: u32) -> bool {
 
 /// Where a value stands in its column's order: as i64, or in IEEE 754's totalOrder, in which the
 /// patterns with a sign stand before all others and the other way round.
-fn place(float: bool, bits: u64) -> i64 {
+pub fn place(float: bool, bits: u64) -> i64 {
     match float && bits >> 63 == 1 {
         true => i64::MIN + (u64::MAX - bits) as i64,
         false => bits as i64,

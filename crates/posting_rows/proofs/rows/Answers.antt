@@ -1,15 +1,9 @@
 use Rattle.std.proofs.Common.{◌≡◌, ◌+◌, ◌-◌, ◌*◌, ◌/◌, ◌<◌, [], length, get_or, take, drop, length-take, length-drop, refl, arith}
-use Rattle.posting_rows.proofs.Filling.{filled_none, filled-all, filled_word, row-word, lane_count}
+use Rattle.posting_rows.proofs.Filling.{filled_none, filled-all, filled_word, row-word, lane_count, unsaturated}
 use Rattle.posting_rows.proofs.rows.Goals as goal
 
 pub loop-i-init : goal.loop-i-init
 loop-i-init c = filled_none _
-
-pub overflow_add-rises : goal.overflow_add-rises
-overflow_add-rises c =
-    let part = c.args.part.now in
-    let few = lane_count part (6 + c.loop-j.j) c.loop-i.i _ _ _ (c.loop-j.invariant.left c.loop-j.j (omega arith) c.loop-j-test.true) in
-    omega (arith, few, c.as_chunks.ensures.front_len, c.loop-i-test.true, length-take (length part - 6) (drop 6 part), length-drop 6 part, c.requires)
 
 pub loop-j-preserved : goal.loop-j-preserved
 loop-j-preserved c =
@@ -27,7 +21,9 @@ loop-j-preserved c =
     let count = row-word part 2 _ i j c.as_chunks-3.result.0.now c.as_chunks-3.ensures.front (omega arith) refl in2 c.loop-j-test.true (6 + j + 12 * i - 4) (omega arith) in
     let small : get_or (get_or c.as_chunks.result.0.now i []) j 0 < 4294967296 = omega (arith, word, c.type_inv.part (6 + j + 12 * i)) in
     let low : get_or (get_or c.as_chunks-2.result.0.now i []) j 0 < 4294967296 = omega (arith, before, c.type_inv.part (6 + j + 12 * i - 3)) in
-    filled_word part i j c.loop-j.rises c.loop-j.apart c.loop-j.all c.loop-j.invariant c.loop-j-test.true (6 + j + 12 * i) _ _ _ refl word before count small low
+    let few = lane_count part (6 + j) i _ _ _ (c.loop-j.invariant.left j (omega arith) c.loop-j-test.true) in
+    let rises = unsaturated (get_or c.loop-j.rises j 0) _ _ c.saturating_add.ensures (omega (arith, few, in6, size6, length-drop 6 part, c.requires)) in
+    filled_word part i j c.loop-j.rises c.loop-j.apart c.loop-j.all c.loop-j.invariant c.loop-j-test.true (6 + j + 12 * i) _ _ _ _ refl word before count small low rises
 
 pub returns : goal.returns
 returns c =

@@ -1,5 +1,5 @@
-use Rattle.std.proofs.Common.{refl, sym, arith}
-use Rattle.window_leaf.proofs.PhraseNodes.{given-long, given-terms, given-words, given-asked-long, given-planes, given-put, given-answer}
+use Rattle.std.proofs.Common.{refl, sym}
+use Rattle.window_leaf.proofs.PhraseNodes.{given-long, given-terms, given-asked-long, given-planes, given-put, given-answer}
 use Rattle.window_leaf.proofs.phrases.phrase_bits.Goals as goal
 
 pub slice_bounds-terms_bits-count : goal.slice_bounds-terms_bits-count
