@@ -58,7 +58,7 @@
 //! No answer changes where phrases are asked in the first pass (it only costs time) or where Filters
 //! are scored (their scores are 0).
 //!
-//! Of an only child, whose score joins as it is, so too; first the case of
+//! The same of only children, whose scores join as they are; the first column is the first case of
 //! `only_children_beside_the_rust`.
 //!
 //! | what is wrong                                                     | only | here | there |

@@ -44,7 +44,7 @@ module _ (w x : ℕ) (b : Bool) (is : x ≡ bool_byte b) where
       or-none true = refl
       or-none false = refl
 
--- the bits of a run's numbers from place j on, and then from place k on, the one before
+-- the bits of some numbers from place j on, and then from place k on, the one before
 module _ (takes : ℕ → Bool) (first count j k w x : ℕ) (b : Bool) (next : k + 1 ≡ j) (within : j ≤ count) (is : x ≡ bool_byte b) (taken : b ≡ takes (first + k)) (so_far : (p : ℕ) → p < 32 → bit p w ≡ (ltb p (count - j) && takes (first + j + p))) where
   pub one-more : (p : ℕ) → p < 32 → bit p (bit_or (w * 2 % 2 ^ 32) x) ≡ (ltb p (count - k) && takes (first + k + p))
   one-more zero h =

@@ -1,4 +1,4 @@
-// The bits of the values that a range lets in, where they are one interval: then no key is made of each value.
+// The bits of the values that a range lets in, as one interval where that is plain: then no key is made of each value.
 ghost use Rattle.std.specs.Prelude.{◌≡◌, IfSome};
 ghost use Rattle.doc_values.specs.Intervals.{interval_has, SameBits};
 

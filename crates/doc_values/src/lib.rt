@@ -99,7 +99,8 @@ impl<'a> Ready<'a> {
     }
 
     // The next 32 of the documents from the first one on, or all that are left.
-    // Kept: tried one call with `left.min(32)`: 1.06 times slower (measured), since a whole word's loop then has no fixed number of turns.
+    // The documents behind the last whole word go by keys: they are few.
+    // Kept: tried one call with `left.min(32)`, when all went by keys: 1.06 times slower (measured), for then no loop has a fixed number of turns.
     fn next_word(self, first: usize) -> u32
         requires { first ≤ self.max_doc }
         ensures { (p : ℕ) → p < 32 → bit p result ≡ ltb p (self.entry.max_doc - first) && listed self.entry (first + p) }

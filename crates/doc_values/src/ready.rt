@@ -8,7 +8,7 @@ use column_keys::column_type::ColumnType;
 use column_keys::keys::Keys;
 
 // The words of the column's values and of those behind it, how many values it has, their type, the keys that the range lets in,
-// and the bits that have these keys, where they are one interval.
+// and the bits that have these keys, where `of_keys` gives them as an interval.
 // Kept: no plainer as a slice of triples: `column_keys` `value_in` reads words at a place, for any caller, so `max_doc` says how many there are.
 #[derive(Clone, Copy)]
 pub(crate) struct Ready<'a> {

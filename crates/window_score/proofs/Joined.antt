@@ -22,12 +22,12 @@ use Rattle.window_words.specs.Windowed.{nowhere, places_of, optional_bound, AllW
 use Rattle.window_words.proofs.Laws.{all-length, all-ok}
 use Rattle.node.specs.declared.Boolean.{Boolean}
 use Rattle.window_score.specs.Sums.{Sums, Zeros, NarrowedIs, AddedAll, NarrowSumsPre, NarrowSumsPost}
-use Rattle.window_score.specs.Asked.{Reads, BooleanAsked, BooleanLeft, RequiredAsked, RequiredPre, RequiredPost, OptionalAsked, OptionalPre, OptionalPost, BooleanPre, BooleanPost, RootPartsPre, RootPartsPost, OnlyChild, JoinedPre}
+use Rattle.window_score.specs.Asked.{Reads, BooleanAsked, BooleanLeft, RequiredAsked, RequiredPre, RequiredPost, OptionalAsked, OptionalPre, OptionalPost, BooleanPre, BooleanPost, RootPartsPre, RootPartsPost, OnlyChild, SharedPre}
 use Rattle.window_score.proofs.Loops.{put, sums-more}
 use Rattle.window_score.proofs.Required.{lent-at}
 use Rattle.window_score.proofs.Splits.{zero-sums}
 use Rattle.window_score.proofs.Groups.{is-after, summed}
-use Rattle.window_score.proofs.OnlyChild.{Only, nobody, one, only-of, either-way, only-optional, only-required, only-narrow-required}
+use Rattle.window_score.proofs.OnlyChild.{Only, nobody, one, only-of, add-comm, only-optional, only-required, only-narrow-required}
 use Rattle.window_score.proofs.Booleans.{mid-part, mid_back, front-part, front-back, goal-score, required-long, optional-long, front-is, optional-left, alone-own, group-ask, group-own}
 
 -- an only child is the first of its children
@@ -153,8 +153,8 @@ module _ {kids : List ℕ} {node : Boolean} {V : Reads} {a b want : ℕ} {sums :
       }
 
   -- an only child of these is one of the whole
-  pub joined-only : (w : BooleanPre kids node V a b want sums depth) (r o : Bool) → r ≡ eqb (get_or (take node.required_end kids) 1 0) (length (take node.required_end kids)) → o ≡ eqb (get_or (take (node.optional_end - node.required_end) (drop node.required_end kids)) 1 0) (length (take (node.optional_end - node.required_end) (drop node.required_end kids))) → node.afterwards && (r || o) ≡ true → JoinedPre (take node.optional_end kids) node
-  joined-only w r o R O e =
+  pub shared-pre : (w : BooleanPre kids node V a b want sums depth) (r o : Bool) → r ≡ eqb (get_or (take node.required_end kids) 1 0) (length (take node.required_end kids)) → o ≡ eqb (get_or (take (node.optional_end - node.required_end) (drop node.required_end kids)) 1 0) (length (take (node.optional_end - node.required_end) (drop node.required_end kids))) → node.afterwards && (r || o) ≡ true → SharedPre (take node.optional_end kids) node
+  shared-pre w r o R O e =
       let t = and_parts node.afterwards (r || o) e in (
         t.0,
         ap length (parts-are w) ∙ ap (λ (l : List ℕ). length (w.9.x ++ l)) (append-nil w.9.v) ∙ parts-long w,
@@ -203,9 +203,6 @@ module _ {kids : List ℕ} {node : Boolean} {V : Reads} {a b want : ℕ} {sums :
       front-parts : (w : BooleanPre kids node V a b want sums depth) → node.required_end + length w.9.v ≡ length (with-front xs kids node.required_end)
       front-parts w =
           omega (arith, ap length (front-is-put w), length-append xs (w.9.v ++ w.6), ap length w.9.is, length-append w.9.x (w.9.v ++ w.6), front-long w, required-long w, optional-long w, whole)
-
-      pub front-fits : BooleanPre kids node V a b want sums depth → node.required_end ≤ length (with-front xs kids node.required_end)
-      front-fits w = omega (arith, front-parts w)
 
       module _ (only : Bool) (own₂ : List Float) (post₂ : NarrowSumsPost only want own₁ own₂) where
         front-sums : (w : BooleanPre kids node V a b want sums depth) → Sums (0 + nodes_of w.4) own₂
@@ -275,9 +272,6 @@ module _ {kids : List ℕ} {node : Boolean} {V : Reads} {a b want : ℕ} {sums :
       whole-is-put : (w : BooleanPre kids node V a b want sums depth) → put kids node.required_end (length kids) vs ≡ w.9.x ++ (vs ++ w.6)
       whole-is-put w = mid_back w.9.x w.9.v w.6 kids node.required_end (length kids) w.9.is (required-long w) (optional-long w ∙ sym whole) vs
 
-      pub whole-fits : BooleanPre kids node V a b want sums depth → node.required_end ≤ length (put kids node.required_end (length kids) vs)
-      whole-fits w = omega (arith, ap length (whole-is-put w), length-append w.9.x (vs ++ w.6), required-long w)
-
       module _ (own₂ : List Float) (post₂ : NarrowSumsPost false want group own₂) where
         whole-sums : (w : BooleanPre kids node V a b want sums depth) → Sums (0 + nodes_of w.5) own₂
         whole-sums w = post₂.1 (0 + nodes_of w.5) (whole-few w, (whole-own w).1)
@@ -316,7 +310,7 @@ module _ {kids : List ℕ} {node : Boolean} {V : Reads} {a b want : ℕ} {sums :
                 ap narrow
                 (r.0.wanted p l e
                 ∙ only-adds w one-child p s (subst (λ (x : Float). T (fits binary64 x)) (r.0.wanted p l e) (wide p)) sign
-                ∙ either-way s req sign (narrowed-sign w one-child p)
+                ∙ add-comm s req sign (narrowed-sign w one-child p)
                 ∙ ap (add binary64 req) (whole-at w p l e))
                 ∙ after-is after w p
 
@@ -329,11 +323,11 @@ module _ {kids : List ℕ} {node : Boolean} {V : Reads} {a b want : ℕ} {sums :
 
 -- ---- the children of a root, whose sums were 0
 module _ {kids : List ℕ} {node : Boolean} {V : Reads} {a b want : ℕ} {sums : List Float} {depth : ℕ} (w : RootPartsPre kids node V a b want sums depth) where
-  pub joined-ask : (r o : Bool) → r ≡ eqb (get_or (take node.required_end kids) 1 0) (length (take node.required_end kids)) → o ≡ eqb (get_or (take (node.optional_end - node.required_end) (drop node.required_end kids)) 1 0) (length (take (node.optional_end - node.required_end) (drop node.required_end kids))) → node.afterwards && (r || o) ≡ true → RootPartsPre (take node.optional_end kids) node V a b want sums depth × JoinedPre (take node.optional_end kids) node
+  pub joined-ask : (r o : Bool) → r ≡ eqb (get_or (take node.required_end kids) 1 0) (length (take node.required_end kids)) → o ≡ eqb (get_or (take (node.optional_end - node.required_end) (drop node.required_end kids)) 1 0) (length (take (node.optional_end - node.required_end) (drop node.required_end kids))) → node.afterwards && (r || o) ≡ true → RootPartsPre (take node.optional_end kids) node V a b want sums depth × SharedPre (take node.optional_end kids) node
   joined-ask r o R O e =
       let k = w.1 in
       let all : BooleanPre kids node V a b want sums depth = (k.0, k.1, k.2, k.3, k.4, k.5, k.6, 0, k.7, k.8, zero-sums sums w.0) in
-      ((w.0, (k.0, k.1, k.2, k.3, k.4, k.5, [], k.7, parts-asked all)), joined-only all r o R O e)
+      ((w.0, (k.0, k.1, k.2, k.3, k.4, k.5, [], k.7, parts-asked all)), shared-pre all r o R O e)
 
   pub joined-done : (kids' : List ℕ) (sums' : List Float) → RootPartsPost (take node.optional_end kids) node V a b want sums depth kids' sums' → RootPartsPost kids node V a b want sums depth (kids' ++ drop node.optional_end kids) sums'
   joined-done kids' sums' post n ix places j rs os rest L A =
@@ -342,7 +336,7 @@ module _ {kids : List ℕ} {node : Boolean} {V : Reads} {a b want : ℕ} {sums :
       (r.0, r.1, parts-left k r.2)
 
 -- where the group is of more than one child, the required is an only one
-pub required-is-only : (kids : List ℕ) (node : Boolean) → JoinedPre kids node → false ≡ eqb (get_or (take (length kids - node.required_end) (drop node.required_end kids)) 1 0) (length (take (length kids - node.required_end) (drop node.required_end kids))) → OnlyChild (take node.required_end kids)
+pub required-is-only : (kids : List ℕ) (node : Boolean) → SharedPre kids node → false ≡ eqb (get_or (take (length kids - node.required_end) (drop node.required_end kids)) 1 0) (length (take (length kids - node.required_end) (drop node.required_end kids))) → OnlyChild (take node.required_end kids)
 required-is-only kids node J e =
     let group : List ℕ = drop node.required_end kids in
     let all : take (length kids - node.required_end) group ≡ group = ap (λ (i : ℕ). take i group) (sym (length-drop node.required_end kids)) ∙ take-length group in

@@ -16,13 +16,11 @@ use Rattle.weight.specs.ScorerTree.{Scorer, Scorers, end, more, matches, scorer_
 use Rattle.weight.specs.Sound.{Sounds, nodes_of}
 use Rattle.weight.proofs.Weights.{WeightedAll}
 use Rattle.score.specs.Asked.{Scorables}
-use Rattle.score.proofs.Alone.{zero-narrowed}
-use Rattle.score.proofs.Small.{score-small, score-fits as weighted-fits, oks-weighted}
+use lib.Ieee.Fits.{fits_widens}
+use Rattle.score.proofs.Alone.{zero-narrowed, zero-plus, plus-zero}
+use Rattle.score.proofs.Small.{score-small, score-fits, oks-weighted}
 use Rattle.window_words.specs.Windowed.{Places, AllWindowed}
 use Rattle.window_words.proofs.Laws.{windowed-long, windowed-size, all-mono, all-ok}
--- what fits binary32 fits binary64; 0 before and after
-pub use lib.Ieee.Fits.{fits_widens as fits-wide}
-pub use Rattle.score.proofs.Alone.{zero-plus as zero-before, plus-zero as zero-after}
 
 -- ---- some scorers of which there is one at most
 pub data Only : Scorers → Type 0 where
@@ -43,9 +41,9 @@ only-of ix ranges (more f s (more g t ss)) depth x b base D p e =
     sym (windowed-size ix ranges s depth (cond f 1 0) y b base D p.3) ∙ sym (get_or-append y p.1 0 1 there) ∙ ap (λ (l : List ℕ). get_or l 1 0) (sym p.2) ∙ e in
     absurd (omega (arith, size, ap length p.2, length-append y p.1, ap length q.2, length-append q.0 q.1, windowed-long ix ranges t depth (cond g 1 0) q.0 b base D q.3))
 
--- ---- two values that are not negative may be added either way
-pub either-way : (x y : Float) → T (nonneg x) → T (nonneg y) → add binary64 x y ≡ add binary64 y x
-either-way x y p q =
+-- ---- addition of values that are not negative is commutative
+pub add-comm : (x y : Float) → T (nonneg x) → T (nonneg y) → add binary64 x y ≡ add binary64 y x
+add-comm x y p q =
     add_is binary64 x y p q
     ∙ ap (λ (n : ℕ). round binary64 false n (den x * den y)) (add_comm (num x * den y) (num y * den x))
     ∙ ap (λ (n : ℕ). round binary64 false (num y * den x + num x * den y) n) (mul_comm (den x) (den y))
@@ -64,16 +62,16 @@ data Single : List Float → Type 0 where
 -- added to a sum it is its own narrowed sum added
 single-joined : {xs : List Float} → Single xs → (s : Float) → T (fits binary64 (sum_from s xs)) → T (nonneg s) → sum_from s xs ≡ add binary64 s (narrowed_sum xs)
 unfolding sum_from narrowed_sum
-single-joined no_score s h p = sym (ap (add binary64 s) (sym zero-narrowed) ∙ zero-after s h p)
+single-joined no_score s h p = sym (ap (add binary64 s) (sym zero-narrowed) ∙ plus-zero s h p)
 single-joined (one_score {x} f q) s h p =
-    ap (add binary64 s) (sym (ap narrow (zero-before x (fits-wide x f) q) ∙ narrow_exact x f))
+    ap (add binary64 s) (sym (ap narrow (zero-plus x (fits_widens x f) q) ∙ narrow_exact x f))
 
 -- and its sum from 0 is narrow
 single-narrow : {xs : List Float} → Single xs → narrow (sum_from zero_float xs) ≡ sum_from zero_float xs
 unfolding sum_from
 single-narrow no_score = sym zero-narrowed
 single-narrow (one_score {x} f q) =
-    let e = zero-before x (fits-wide x f) q in
+    let e = zero-plus x (fits_widens x f) q in
     ap narrow e ∙ narrow_exact x f ∙ sym e
 
 -- an only child's score, where it counts
@@ -87,13 +85,13 @@ module _ {ix : Index} (A : Accepted ix) {table : List Float} {places q : ℕ} wh
   unfolding optional_scores WeightedAll Sounds nodes_of
   optional-single nobody w h d = no_score
   optional-single (one {f} {s}) w h d =
-      counted-single (matches ix s d) (scorer_score ix s d) (weighted-fits ix s d w.0) (score-small ix A places d s w.0 h.sound.0 (omega (arith, h.few))).sign
+      counted-single (matches ix s d) (scorer_score ix s d) (score-fits ix s d w.0) (score-small ix A places d s w.0 h.sound.0 (omega (arith, h.few))).sign
 
   required-single : {ss : Scorers} → Only ss → WeightedAll ss → Scorables ix table places q ss → (d : ℕ) → Single (scoring (required_scores ix ss d))
   unfolding required_scores scoring WeightedAll Sounds nodes_of
   required-single nobody w h d = no_score
   required-single (one {f} {s}) w h d =
-      counted-single f (scorer_score ix s d) (weighted-fits ix s d w.0) (score-small ix A places d s w.0 h.sound.0 (omega (arith, h.few))).sign
+      counted-single f (scorer_score ix s d) (score-fits ix s d w.0) (score-small ix A places d s w.0 h.sound.0 (omega (arith, h.few))).sign
 
 -- ---- the same of the parts of a window
 module _ (ix : Index) (ranges : List ℕ) (ss : Scorers) (depth : ℕ) (x : List ℕ) (b base : ℕ) (D : Places) (only : Only ss) (held : AllWindowed ix ranges ss depth x b base D) (A : Accepted ix) {table : List Float} {places q : ℕ} (h : Scorables ix table places q ss) (d : ℕ) where

@@ -183,5 +183,5 @@ abbrev pub OnlyChild : List ℕ → Type 0
 OnlyChild parts = get_or parts 1 0 ≡ length parts
 
 -- the group joins after the required sum is narrowed, its parts are the last ones, and where it is of more than one child, the required is an only child
-abbrev pub JoinedPre : List ℕ → Boolean → Type 0
-JoinedPre kids node = (node.afterwards ≡ true) × (length kids ≡ node.optional_end) × ((OnlyChild (drop node.required_end kids) → ⊥) → OnlyChild (take node.required_end kids))
+abbrev pub SharedPre : List ℕ → Boolean → Type 0
+SharedPre kids node = (node.afterwards ≡ true) × (length kids ≡ node.optional_end) × ((OnlyChild (drop node.required_end kids) → ⊥) → OnlyChild (take node.required_end kids))

@@ -1,4 +1,5 @@
-// The scores of a window's documents: each node adds its own to the sums of the wanted documents, one node after the other in the order of the parts.
+// The scores of a window's documents: each node adds its own to the sums of the wanted documents, one node after the other, in the order
+// of the parts or in one that gives the same sums.
 #![tactic(auto)]
 
 ghost use Rattle.std.specs.Prelude.{◌≡◌, ◌≤◌, length, get_or, eqb};
@@ -8,7 +9,7 @@ ghost use Rattle.leaf_scorer.specs.Calls.{lent_of};
 ghost use Rattle.leaf_scorer.specs.Buffers.{room, other_room, SameBuffers};
 ghost use Rattle.window_leaf.specs.Asks.{BitsPre, BitsPost};
 ghost use Rattle.window_score.specs.Words.{StoredAre};
-ghost use Rattle.window_score.specs.Asked.{reads_of, ScoresPre, ScoresPost, RequiredPre, RequiredPost, OptionalPre, OptionalPost, BooleanPre, BooleanPost, RootPartsPre, RootPartsPost, RootGroupPre, RootGroupPost, JoinedPre};
+ghost use Rattle.window_score.specs.Asked.{reads_of, ScoresPre, ScoresPost, RequiredPre, RequiredPost, OptionalPre, OptionalPost, BooleanPre, BooleanPost, RootPartsPre, RootPartsPost, RootGroupPre, RootGroupPost, SharedPre};
 
 use leaf_score::score_node_at;
 use leaf_scorer::PhraseBuffers;
@@ -54,7 +55,7 @@ fn optional_child_bits(
 }
 
 // The node's score is added to the sum of each wanted document, all of which it matches.
-#[cycle(boolean_scores_group_scores_grouped_scores_joined_scores_node_scores_optional_scores_part_scores_required_scores)]
+#[cycle(boolean_scores_group_scores_node_scores_optional_scores_part_scores_required_scores_separate_scores_shared_scores)]
 pub fn node_scores(
     st: &mut [u32],
     window: &Window<'_>,
@@ -101,9 +102,10 @@ fn is_only_child(parts: &[u32]) -> bool
     parts.get(1).copied().unwrap_or(0) as usize == parts.len()
 }
 
-// A Boolean has sums of its own, which are added to its parent's, narrowed. An only required child's score is the Boolean's.
+// A Boolean has sums of its own, which are added to its parent's, narrowed. With no optional children, an only required child's score joins the
+// parent's sums as it is.
 // Kept: seven parameters: no plainer: `window_bits` takes `window` and `buffers` apart, and `want` and `sums` change from call to call, each by itself.
-#[cycle(boolean_scores_group_scores_grouped_scores_joined_scores_node_scores_optional_scores_part_scores_required_scores)]
+#[cycle(boolean_scores_group_scores_node_scores_optional_scores_part_scores_required_scores_separate_scores_shared_scores)]
 fn boolean_scores(
     kids: &mut [u32],
     n: Boolean,
@@ -127,12 +129,11 @@ fn boolean_scores(
     add_narrowed(&own, want, sums);
 }
 
-// A Boolean's children, into sums that are 0. They need no other sums where there are only required ones or only optional ones, nor where
-// the group joins after the required and one of the two is an only child. Inlined at both calls: one call more for each Boolean of a window
-// costs a deep tree a twentieth.
+// A Boolean's children, into sums that are 0: into these alone where that can be. Inlined at both calls, as `separate_scores` at its own: one
+// call more for each Boolean of a window costs a deep tree a twentieth.
 // Kept: seven parameters, as in `boolean_scores`.
 #[inline(always)]
-#[cycle(boolean_scores_group_scores_grouped_scores_joined_scores_node_scores_optional_scores_part_scores_required_scores)]
+#[cycle(boolean_scores_group_scores_node_scores_optional_scores_part_scores_required_scores_separate_scores_shared_scores)]
 fn part_scores(
     kids: &mut [u32],
     n: Boolean,
@@ -165,7 +166,7 @@ fn part_scores(
         return;
     }
     if n.afterwards & (is_only_child(&kids[..end]) | is_only_child(&kids[end..optional_end])) {
-        joined_scores(
+        shared_scores(
             &mut kids[..optional_end],
             n,
             window,
@@ -176,14 +177,14 @@ fn part_scores(
         );
         return;
     }
-    grouped_scores(kids, n, window, buffers, want, sums, depth);
+    separate_scores(kids, n, window, buffers, want, sums, depth);
 }
 
 // Required children and a group that has sums of its own, into sums that are 0.
 // Kept: seven parameters, as in `boolean_scores`.
 #[inline(always)]
-#[cycle(boolean_scores_group_scores_grouped_scores_joined_scores_node_scores_optional_scores_part_scores_required_scores)]
-fn grouped_scores(
+#[cycle(boolean_scores_group_scores_node_scores_optional_scores_part_scores_required_scores_separate_scores_shared_scores)]
+fn separate_scores(
     kids: &mut [u32],
     n: Boolean,
     window: &Window<'_>,
@@ -223,8 +224,8 @@ fn grouped_scores(
 // Required children and a group that joins after them, one of the two an only child, into sums that are 0: the sum of the other is
 // narrowed first, and the only child's score is added to it.
 // Kept: seven parameters, as in `boolean_scores`.
-#[cycle(boolean_scores_group_scores_grouped_scores_joined_scores_node_scores_optional_scores_part_scores_required_scores)]
-fn joined_scores(
+#[cycle(boolean_scores_group_scores_node_scores_optional_scores_part_scores_required_scores_separate_scores_shared_scores)]
+fn shared_scores(
     kids: &mut [u32],
     n: Boolean,
     window: &Window<'_>,
@@ -234,7 +235,7 @@ fn joined_scores(
     depth: u32,
 )
     requires parts { RootPartsPre kids.old n (reads_of window.now) (room buffers.old) (other_room buffers.old) want sums.old depth }
-    requires only_child { JoinedPre kids.old n }
+    requires only_child { SharedPre kids.old n }
     ensures root_parts_post { RootPartsPost kids.old n (reads_of window.now) (room buffers.old) (other_room buffers.old) want sums.old depth kids.new sums.new }
     ensures same_buffers { SameBuffers buffers.old buffers.new }
 {
@@ -253,7 +254,7 @@ fn joined_scores(
 
 // The required children, into sums that are 0: the group, whose sums are given, joins as one more, or after theirs are narrowed.
 // Kept: eight parameters, as in `boolean_scores`, and the group's sums.
-#[cycle(boolean_scores_group_scores_grouped_scores_joined_scores_node_scores_optional_scores_part_scores_required_scores)]
+#[cycle(boolean_scores_group_scores_node_scores_optional_scores_part_scores_required_scores_separate_scores_shared_scores)]
 fn group_scores(
     kids: &mut [u32],
     n: Boolean,
@@ -280,7 +281,7 @@ fn group_scores(
 }
 
 // The scores of the Must children, in the order of their parts.
-#[cycle(boolean_scores_group_scores_grouped_scores_joined_scores_node_scores_optional_scores_part_scores_required_scores)]
+#[cycle(boolean_scores_group_scores_node_scores_optional_scores_part_scores_required_scores_separate_scores_shared_scores)]
 fn required_scores(
     kids: &mut [u32],
     window: &Window<'_>,
@@ -314,7 +315,7 @@ fn required_scores(
 
 // The scores of the optional children at those of the wanted documents that they match; where none is needed they are asked only now.
 // Kept: seven parameters, as in `boolean_scores`.
-#[cycle(boolean_scores_group_scores_grouped_scores_joined_scores_node_scores_optional_scores_part_scores_required_scores)]
+#[cycle(boolean_scores_group_scores_node_scores_optional_scores_part_scores_required_scores_separate_scores_shared_scores)]
 fn optional_scores(
     kids: &mut [u32],
     need: u32,

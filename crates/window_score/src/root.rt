@@ -1,4 +1,4 @@
-// The scores of a whole tree, from sums that are 0: a Boolean needs no sums of its own but the group's.
+// The scores of a whole tree, from sums that are 0: a Boolean needs no sums of its own but at most the group's.
 ghost use Rattle.leaf_scorer.specs.Buffers.{room, other_room, SameBuffers};
 ghost use Rattle.window_score.specs.Asked.{reads_of, RootPre, RootPost};
 

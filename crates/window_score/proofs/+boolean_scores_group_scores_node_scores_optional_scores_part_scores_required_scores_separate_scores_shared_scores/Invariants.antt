@@ -4,7 +4,7 @@ use Rattle.leaf_scorer.specs.Buffers.{room, other_room, SameBuffers}
 use Rattle.window_score.specs.Asked.{reads_of}
 use Rattle.window_score.proofs.Required.{RequiredAt}
 use Rattle.window_score.proofs.Optional.{OptionalAt}
-use Rattle.window_score.proofs.+boolean_scores_group_scores_grouped_scores_joined_scores_node_scores_optional_scores_part_scores_required_scores.Given as goal
+use Rattle.window_score.proofs.+boolean_scores_group_scores_node_scores_optional_scores_part_scores_required_scores_separate_scores_shared_scores.Given as goal
 
 abbrev pub decreases-boolean_scores : goal.decreases-boolean_scores
 decreases-boolean_scores l = 8 * l.depth + 5
@@ -12,11 +12,11 @@ decreases-boolean_scores l = 8 * l.depth + 5
 abbrev pub decreases-group_scores : goal.decreases-group_scores
 decreases-group_scores l = 8 * l.depth + 2
 
-abbrev pub decreases-grouped_scores : goal.decreases-grouped_scores
-decreases-grouped_scores l = 8 * l.depth + 3
+abbrev pub decreases-separate_scores : goal.decreases-separate_scores
+decreases-separate_scores l = 8 * l.depth + 3
 
-abbrev pub decreases-joined_scores : goal.decreases-joined_scores
-decreases-joined_scores l = 8 * l.depth + 2
+abbrev pub decreases-shared_scores : goal.decreases-shared_scores
+decreases-shared_scores l = 8 * l.depth + 2
 
 abbrev pub decreases-node_scores : goal.decreases-node_scores
 decreases-node_scores l = 8 * l.depth

@@ -16,7 +16,7 @@ use Rattle.std.proofs.Math.Seq.{length_front}
 use Rattle.std.proofs.lemmas.List.{length-take}
 use Rattle.window_words.proofs.Parts.{back-length}
 use Rattle.window_score.proofs.Loops.{put}
-use Rattle.window_score.proofs.+boolean_scores_group_scores_grouped_scores_joined_scores_node_scores_optional_scores_part_scores_required_scores.Goals as goal
+use Rattle.window_score.proofs.+boolean_scores_group_scores_node_scores_optional_scores_part_scores_required_scores_separate_scores_shared_scores.Goals as goal
 
 pub boolean_scores-slice_bounds-is_only_child-end :
     goal.boolean_scores-slice_bounds-is_only_child-end
@@ -59,36 +59,36 @@ pub boolean_scores-returns-clause-boolean_post : goal.boolean_scores-returns-cla
 boolean_scores-returns-clause-boolean_post t c =
     own-done c.part_scores.ensures.root_parts_post c.add_narrowed.ensures
 
-pub joined_scores-required_scores-requires : goal.joined_scores-required_scores-requires
-joined_scores-required_scores-requires t c =
+pub shared_scores-required_scores-requires : goal.shared_scores-required_scores-requires
+shared_scores-required_scores-requires t c =
     (omega (arith, c.decreases), alone-ask c.args.sums.now c.requires.parts.0 (root-parts-as c.requires.parts))
 
-pub joined_scores-narrow_sums-requires : goal.joined_scores-narrow_sums-requires
-joined_scores-narrow_sums-requires t c =
+pub shared_scores-narrow_sums-requires : goal.shared_scores-narrow_sums-requires
+shared_scores-narrow_sums-requires t c =
     front-narrow c.args.sums.now c.requires.parts.0 c.requires.only_child.0 c.requires.only_child.1 c.required_scores.new.kids c.required_scores.new.sums c.required_scores.ensures.required_post (root-parts-as c.requires.parts)
 
-pub joined_scores-optional_scores-requires : goal.joined_scores-optional_scores-requires
-joined_scores-optional_scores-requires t c =
+pub shared_scores-optional_scores-requires : goal.shared_scores-optional_scores-requires
+shared_scores-optional_scores-requires t c =
     (omega (arith, c.decreases), next-ask c.args.sums.now c.requires.parts.0 c.requires.only_child.0 c.requires.only_child.1 c.required_scores.new.kids c.required_scores.new.sums c.required_scores.ensures.required_post c.is_only_child-only.result c.narrow_sums.new.sums c.narrow_sums.ensures (room c.required_scores.new.buffers) (other_room c.required_scores.new.buffers) c.required_scores.ensures.same_buffers.starts_length c.required_scores.ensures.same_buffers.other_starts_length (root-parts-as c.requires.parts))
 
-pub joined_scores-returns-then-is_only_child-clause-root_parts_post : goal.joined_scores-returns-then-is_only_child-clause-root_parts_post
-joined_scores-returns-then-is_only_child-clause-root_parts_post t c =
+pub shared_scores-returns-then-is_only_child-clause-root_parts_post : goal.shared_scores-returns-then-is_only_child-clause-root_parts_post
+shared_scores-returns-then-is_only_child-clause-root_parts_post t c =
     λ n ix places j rs os rest L A. next-root c.args.sums.now c.requires.parts.0 c.requires.only_child.0 c.requires.only_child.1 c.required_scores.new.kids c.required_scores.new.sums c.required_scores.ensures.required_post c.is_only_child-only.result c.narrow_sums.new.sums c.narrow_sums.ensures (room c.required_scores.new.buffers) (other_room c.required_scores.new.buffers) c.required_scores.ensures.same_buffers.starts_length c.required_scores.ensures.same_buffers.other_starts_length c.is_only_child-only.ensures (eqb-true _ _ (sym c.if-is_only_child.ensures)) c.optional_scores.new.kids c.optional_scores.new.sums c.type_inv.sums c.optional_scores.ensures.optional_post (n, ix, places, j, rs, os, rest, 0, L, A, zero-sums c.args.sums.now c.requires.parts.0)
 
-pub joined_scores-optional_scores-requires-2 : goal.joined_scores-optional_scores-requires-2
-joined_scores-optional_scores-requires-2 t c =
+pub shared_scores-optional_scores-requires-2 : goal.shared_scores-optional_scores-requires-2
+shared_scores-optional_scores-requires-2 t c =
     (omega (arith, c.decreases), whole-ask c.args.sums.now c.requires.parts.0 c.requires.only_child.0 c.requires.only_child.1 (root-parts-as c.requires.parts))
 
-pub joined_scores-narrow_sums-requires-2 : goal.joined_scores-narrow_sums-requires-2
-joined_scores-narrow_sums-requires-2 t c =
+pub shared_scores-narrow_sums-requires-2 : goal.shared_scores-narrow_sums-requires-2
+shared_scores-narrow_sums-requires-2 t c =
     whole-narrow c.args.sums.now c.requires.parts.0 c.requires.only_child.0 c.requires.only_child.1 c.optional_scores-2.new.kids c.optional_scores-2.new.sums c.optional_scores-2.ensures.optional_post (root-parts-as c.requires.parts)
 
-pub joined_scores-required_scores-requires-2 : goal.joined_scores-required_scores-requires-2
-joined_scores-required_scores-requires-2 t c =
+pub shared_scores-required_scores-requires-2 : goal.shared_scores-required_scores-requires-2
+shared_scores-required_scores-requires-2 t c =
     (omega (arith, c.decreases), last-ask c.args.sums.now c.requires.parts.0 c.requires.only_child.0 c.requires.only_child.1 c.optional_scores-2.new.kids c.optional_scores-2.new.sums c.optional_scores-2.ensures.optional_post c.narrow_sums-2.new.sums c.narrow_sums-2.ensures (room c.optional_scores-2.new.buffers) (other_room c.optional_scores-2.new.buffers) c.optional_scores-2.ensures.same_buffers.starts_length c.optional_scores-2.ensures.same_buffers.other_starts_length (root-parts-as c.requires.parts))
 
-pub joined_scores-returns-clause-root_parts_post : goal.joined_scores-returns-clause-root_parts_post
-joined_scores-returns-clause-root_parts_post t c =
+pub shared_scores-returns-clause-root_parts_post : goal.shared_scores-returns-clause-root_parts_post
+shared_scores-returns-clause-root_parts_post t c =
     λ n ix places j rs os rest L A. last-root c.args.sums.now c.requires.parts.0 c.requires.only_child.0 c.requires.only_child.1 c.optional_scores-2.new.kids c.optional_scores-2.new.sums c.optional_scores-2.ensures.optional_post c.narrow_sums-2.new.sums c.narrow_sums-2.ensures (room c.optional_scores-2.new.buffers) (other_room c.optional_scores-2.new.buffers) c.optional_scores-2.ensures.same_buffers.starts_length c.optional_scores-2.ensures.same_buffers.other_starts_length (required-is-only c.args.kids.now c.args.n c.requires.only_child c.if-is_only_child.ensures) c.required_scores-2.new.kids c.required_scores-2.new.sums c.type_inv.sums c.required_scores-2.ensures.required_post (n, ix, places, j, rs, os, rest, 0, L, A, zero-sums c.args.sums.now c.requires.parts.0)
 
 pub part_scores-slice_bounds-is_only_child-end :
@@ -106,13 +106,13 @@ pub part_scores-slice_bounds-is_only_child-end-3 :
 part_scores-slice_bounds-is_only_child-end-3 t c =
     omega (arith, parts-lie (root-parts-as c.requires), required-lies (root-parts-as c.requires))
 
-pub part_scores-joined_scores-requires : goal.part_scores-joined_scores-requires
-part_scores-joined_scores-requires t c =
+pub part_scores-shared_scores-requires : goal.part_scores-shared_scores-requires
+part_scores-shared_scores-requires t c =
     (omega (arith, c.decreases), joined-ask c.requires c.is_only_child.result c.is_only_child-2.result c.is_only_child.ensures c.is_only_child-2.ensures c.if-n-is_only_child.true)
 
 pub part_scores-returns-then-n-is_only_child-clause-root_parts_post : goal.part_scores-returns-then-n-is_only_child-clause-root_parts_post
 part_scores-returns-then-n-is_only_child-clause-root_parts_post t c =
-    joined-done c.requires c.joined_scores.new.kids c.joined_scores.new.sums c.joined_scores.ensures.root_parts_post
+    joined-done c.requires c.shared_scores.new.kids c.shared_scores.new.sums c.shared_scores.ensures.root_parts_post
 
 pub part_scores-slice_bounds-required_scores-end : goal.part_scores-slice_bounds-required_scores-end
 part_scores-slice_bounds-required_scores-end t c =
@@ -146,44 +146,44 @@ pub part_scores-returns-then-end-eq0-clause-root_parts_post : goal.part_scores-r
 part_scores-returns-then-end-eq0-clause-root_parts_post t c =
     root-only c.requires c.if-end-eq0.true c.optional_scores.new.kids c.optional_scores.new.sums c.optional_scores.ensures.optional_post
 
-pub part_scores-grouped_scores-requires : goal.part_scores-grouped_scores-requires
-part_scores-grouped_scores-requires t c =
+pub part_scores-separate_scores-requires : goal.part_scores-separate_scores-requires
+part_scores-separate_scores-requires t c =
     (omega (arith, c.decreases), c.requires)
 
 pub part_scores-returns-clause-root_parts_post : goal.part_scores-returns-clause-root_parts_post
 part_scores-returns-clause-root_parts_post t c =
-    c.grouped_scores.ensures.root_parts_post
+    c.separate_scores.ensures.root_parts_post
 
-pub grouped_scores-slice_bounds-optional_scores-end : goal.grouped_scores-slice_bounds-optional_scores-end
-grouped_scores-slice_bounds-optional_scores-end t c =
+pub separate_scores-slice_bounds-optional_scores-end : goal.separate_scores-slice_bounds-optional_scores-end
+separate_scores-slice_bounds-optional_scores-end t c =
     omega (arith, parts-lie (root-parts-as c.requires), required-lies (root-parts-as c.requires))
 
-pub grouped_scores-slice_bounds-optional_scores-end-2 : goal.grouped_scores-slice_bounds-optional_scores-end-2
-grouped_scores-slice_bounds-optional_scores-end-2 t c =
+pub separate_scores-slice_bounds-optional_scores-end-2 : goal.separate_scores-slice_bounds-optional_scores-end-2
+separate_scores-slice_bounds-optional_scores-end-2 t c =
     omega (arith, parts-lie (root-parts-as c.requires), required-lies (root-parts-as c.requires))
 
-pub grouped_scores-optional_scores-requires : goal.grouped_scores-optional_scores-requires
-grouped_scores-optional_scores-requires t c =
+pub separate_scores-optional_scores-requires : goal.separate_scores-optional_scores-requires
+separate_scores-optional_scores-requires t c =
     (omega (arith, c.decreases), group-ask _ (zeros _ zero-64) (root-parts-as c.requires))
 
-pub grouped_scores-offset_bounds-kids-end : goal.grouped_scores-offset_bounds-kids-end
-grouped_scores-offset_bounds-kids-end t c =
+pub separate_scores-offset_bounds-kids-end : goal.separate_scores-offset_bounds-kids-end
+separate_scores-offset_bounds-kids-end t c =
     omega (arith, c.well_formed, parts-lie (root-parts-as c.requires), required-lies (root-parts-as c.requires))
 
-pub grouped_scores-slice_bounds-group_scores-end : goal.grouped_scores-slice_bounds-group_scores-end
-grouped_scores-slice_bounds-group_scores-end t c =
+pub separate_scores-slice_bounds-group_scores-end : goal.separate_scores-slice_bounds-group_scores-end
+separate_scores-slice_bounds-group_scores-end t c =
     group-fits _ (zeros _ zero-64) c.optional_scores.new.kids c.optional_scores.new.sums c.optional_scores.ensures.optional_post (root-parts-as c.requires)
 
-pub grouped_scores-slice_bounds-group_scores-end-2 : goal.grouped_scores-slice_bounds-group_scores-end-2
-grouped_scores-slice_bounds-group_scores-end-2 t c =
+pub separate_scores-slice_bounds-group_scores-end-2 : goal.separate_scores-slice_bounds-group_scores-end-2
+separate_scores-slice_bounds-group_scores-end-2 t c =
     omega (arith, length-take c.args.n.required_end (put c.args.kids.now c.args.n.required_end c.args.n.optional_end c.optional_scores.new.kids), group-fits _ (zeros _ zero-64) c.optional_scores.new.kids c.optional_scores.new.sums c.optional_scores.ensures.optional_post (root-parts-as c.requires))
 
-pub grouped_scores-group_scores-requires : goal.grouped_scores-group_scores-requires
-grouped_scores-group_scores-requires t c =
+pub separate_scores-group_scores-requires : goal.separate_scores-group_scores-requires
+separate_scores-group_scores-requires t c =
     (omega (arith, c.decreases), root-both-ask c.requires _ (zeros _ zero-64) c.optional_scores.new.kids c.optional_scores.new.sums c.optional_scores.ensures.optional_post (room c.optional_scores.new.buffers) (other_room c.optional_scores.new.buffers) c.optional_scores.ensures.same_buffers.starts_length c.optional_scores.ensures.same_buffers.other_starts_length)
 
-pub grouped_scores-returns-clause-root_parts_post : goal.grouped_scores-returns-clause-root_parts_post
-grouped_scores-returns-clause-root_parts_post t c =
+pub separate_scores-returns-clause-root_parts_post : goal.separate_scores-returns-clause-root_parts_post
+separate_scores-returns-clause-root_parts_post t c =
     root-both c.requires _ (zeros _ zero-64) c.optional_scores.new.kids c.optional_scores.new.sums c.optional_scores.ensures.optional_post (room c.optional_scores.new.buffers) (other_room c.optional_scores.new.buffers) c.optional_scores.ensures.same_buffers.starts_length c.optional_scores.ensures.same_buffers.other_starts_length c.group_scores.new.kids c.group_scores.new.sums c.group_scores.ensures.root_group_post
 
 pub group_scores-required_scores-requires : goal.group_scores-required_scores-requires
