@@ -1,13 +1,15 @@
 -- A Boolean's children, call by call: the required alone, the group alone, or the group and then both. Assumes nothing.
-use Rattle.std.proofs.Common.{◌≡◌, refl, sym, ap, subst, ◌∙◌, Bool, true, false, cond, ◌&&◌, List, ◌++◌, ℕ, ◌+◌, ◌-◌, ◌≤◌, ltb, length, get_or, take, drop, length-append, take_at, drop_at, le_refl, arith, ◌<◌}
+use Rattle.std.proofs.Common.{◌≡◌, refl, sym, ap, subst, ◌∙◌, Bool, true, false, cond, ◌&&◌, List, ◌++◌, ℕ, ◌+◌, ◌^◌, ◌*◌, ◌-◌, ◌≤◌, ltb, length, get_or, take, drop, length-append, take_at, drop_at, le_refl, arith, ◌<◌}
 use Rattle.std.specs.Prelude.{Float}
 use Rattle.std.specs.Float.{nan}
-use Rattle.meaning.specs.Ieee754.{narrow, narrowed_sum}
+use Rattle.meaning.specs.Ieee754.{zero_float, sum_from, narrow, narrowed_sum}
+use Rattle.ieee754.specs.Nonneg.{AtMost}
 use Rattle.bits.specs.Bit.{bit}
 use Rattle.weight.specs.ScorerTree.{Scorers, end, scoring, required_scores, optional_scores, joined_score}
 use Rattle.weight.specs.Sound.{nodes_of}
+use Rattle.score.specs.Asked.{SumIs}
 use Rattle.score.proofs.Alone.{none_left, joined-alone, joined-only}
-use Rattle.score.proofs.Join.{group-is}
+use Rattle.score.proofs.Join.{first_of, group-is}
 use Rattle.score.proofs.Small.{first_small, oks-weighted}
 use Rattle.window_words.specs.Windowed.{nowhere, places_of, optional_bound, AllWindowed}
 use Rattle.window_words.proofs.Laws.{all-length, all-forget, all-ok}
@@ -66,6 +68,22 @@ module _ {kids : List ℕ} {node : Boolean} {V : Reads} {a b want : ℕ} {sums :
       all-forget w.1 V.ranges w.5 depth w.9.v (optional_bound node.need (V.base + 64) V.base) V.base (λ p. ltb 0 node.need && bit p want) (V.base + 64)
       (bound-below (ltb 0 node.need) (V.base + 64) V.base (omega arith)) (omega arith) w.9.optional
 
+  -- ---- the required: few nodes, and sums that are not negative
+  pub required-few : (w : BooleanPre kids node V a b want sums depth) → nodes_of w.4 ≤ 256
+  required-few w = let f = w.9.few in omega (arith, f)
+
+  pub first-small : (w : BooleanPre kids node V a b want sums depth) (p m : ℕ) → AtMost (nodes_of (first_of m w.4) * 2 ^ 29) (sum_from zero_float (scoring (required_scores w.1 (first_of m w.4) (V.base + p))))
+  first-small w p m =
+      let W = oks-weighted w.1 V.ranges w.4 depth w.9.x (V.base + 64) (all-ok w.1 V.ranges w.4 depth w.9.x (V.base + 64) V.base (places_of want) (omega arith) w.9.required) in
+      first_small w.1 w.8.lends.accepted w.2 (V.base + p) m w.4 W w.9.required-scorables.sound (required-few w)
+
+  -- with no optional children their sum, narrowed, is the Boolean's score
+  pub alone-joined : node.required_end ≡ node.optional_end → (w : BooleanPre kids node V a b want sums depth) (p : ℕ) (sum : Float) → SumIs zero_float (scoring (required_scores w.1 w.4 (V.base + p))) (nodes_of w.4) sum → narrow sum ≡ goal-score w p
+  alone-joined none w p sum s =
+      let os-none : w.5 ≡ end = none_left w.5 (omega (arith, none, w.9.required-end, w.9.optional-end)) in
+      (joined-alone w.1 (V.base + p) w.4 w.3 (required-few w) (λ m. (first-small w p m).sign) sum (narrow sum) s refl).is
+      ∙ ap (λ (o : Scorers). joined_score w.3 (required_scores w.1 w.4 (V.base + p)) (narrowed_sum (optional_scores w.1 o (V.base + p)))) (sym os-none)
+
   module _ (own : List Float) (own-zero : Zeros own) where
     -- ---- no optional children
     alone-asked : (w : BooleanPre kids node V a b want sums depth) → RequiredAsked w.1 V w.2 w.4 depth (take node.required_end kids) want 0
@@ -79,19 +97,10 @@ module _ {kids : List ℕ} {node : Boolean} {V : Reads} {a b want : ℕ} {sums :
       pub alone-own : (w : BooleanPre kids node V a b want sums depth) → AddedAll (λ p. scoring (required_scores w.1 w.4 (V.base + p))) want own own' × Sums (0 + nodes_of w.4) own' × AllWindowed w.1 V.ranges w.4 depth xs (V.base + 64) (V.base + 64) nowhere
       alone-own w = post w.0 w.1 w.2 w.4 0 w.8 (alone-asked w) (zero-sums own own-zero)
 
-      alone-few : (w : BooleanPre kids node V a b want sums depth) → nodes_of w.4 ≤ 256
-      alone-few w = let f = w.9.few in omega (arith, f)
-
       pub alone-score : node.required_end ≡ node.optional_end → (w : BooleanPre kids node V a b want sums depth) (p : ℕ) → p < 64 → bit p want ≡ true → narrow (get_or own' p nan) ≡ goal-score w p
       alone-score none w p l e =
           let r = alone-own w in
-          let ix = w.1 in
-          let rs = w.4 in
-          let os-none : w.5 ≡ end = none_left w.5 (omega (arith, none, w.9.required-end, w.9.optional-end)) in
-          let W = oks-weighted ix V.ranges rs depth w.9.x (V.base + 64) (all-ok ix V.ranges rs depth w.9.x (V.base + 64) V.base (places_of want) (omega arith) w.9.required) in
-          (joined-alone ix (V.base + p) rs w.3 (alone-few w) (λ m. (first_small ix w.8.lends.accepted w.2 (V.base + p) m rs W w.9.required-scorables.sound (alone-few w)).sign) (get_or own' p nan) (narrow (get_or own' p nan))
-          (summed own own' own-zero want (λ i. scoring (required_scores ix rs (V.base + i))) r.0 (nodes_of rs) r.1 p l e) refl).is
-          ∙ ap (λ (o : Scorers). joined_score w.3 (required_scores ix rs (V.base + p)) (narrowed_sum (optional_scores ix o (V.base + p)))) (sym os-none)
+          alone-joined none w p (get_or own' p nan) (summed own own' own-zero want (λ i. scoring (required_scores w.1 w.4 (V.base + i))) r.0 (nodes_of w.4) r.1 p l e)
 
       alone-left : (w : BooleanPre kids node V a b want sums depth) → BooleanLeft w.1 V w.4 w.5 depth w.6 (xs ++ drop node.required_end kids)
       alone-left w = record { x = xs; v = w.9.v; is = front-back w.9.x (w.9.v ++ w.6) kids node.required_end w.9.is (required-long w) xs; required = (alone-own w).2; optional = optional-left w }
@@ -113,7 +122,7 @@ module _ {kids : List ℕ} {node : Boolean} {V : Reads} {a b want : ℕ} {sums :
       pub group-own : (w : BooleanPre kids node V a b want sums depth) → AddedAll (λ p. optional_scores w.1 w.5 (V.base + p)) want own group × Sums (0 + nodes_of w.5) group × AllWindowed w.1 V.ranges w.5 depth vs (V.base + 64) (V.base + 64) nowhere
       group-own w = post w.0 w.1 w.2 w.5 0 w.8 (group-asked w) (zero-sums own own-zero)
 
-      pub back : (w : BooleanPre kids node V a b want sums depth) → (put kids node.required_end node.optional_end vs) ≡ w.9.x ++ (vs ++ w.6)
+      back : (w : BooleanPre kids node V a b want sums depth) → (put kids node.required_end node.optional_end vs) ≡ w.9.x ++ (vs ++ w.6)
       back w = mid_back w.9.x w.9.v w.6 kids node.required_end node.optional_end w.9.is (required-long w) (optional-long w) vs
 
       pub group-fits : BooleanPre kids node V a b want sums depth → node.required_end ≤ length (put kids node.required_end node.optional_end vs)
@@ -198,7 +207,7 @@ module _ {kids : List ℕ} {node : Boolean} {V : Reads} {a b want : ℕ} {sums :
 
 -- ---- the children of a root, whose sums were 0
 module _ {kids : List ℕ} {node : Boolean} {V : Reads} {a b want : ℕ} {sums : List Float} {depth : ℕ} (w : RootPartsPre kids node V a b want sums depth) where
-  pub root-parts-as : BooleanPre kids node V a b want sums depth
+  unfoldable pub root-parts-as : BooleanPre kids node V a b want sums depth
   root-parts-as = let r = w.1 in (r.0, r.1, r.2, r.3, r.4, r.5, r.6, 0, r.7, r.8, zero-sums sums w.0)
 
   pub root-alone : node.required_end ≡ node.optional_end → (xs : List ℕ) (sums' : List Float) → RequiredPost (take node.required_end kids) V a b want sums depth xs sums' → RootPartsPost kids node V a b want sums depth (xs ++ drop node.required_end kids) sums'

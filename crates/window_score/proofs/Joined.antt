@@ -1,7 +1,7 @@
 -- A Boolean with an only child: the score of an only required one joins the caller's sums as it is, and where a group joins after the
 -- required sum is narrowed, an only child's score is added to the other sum, narrowed. Assumes nothing.
-use Rattle.std.proofs.Common.{◌≡◌, refl, sym, ap, subst, ◌∙◌, Bool, true, false, cond, ◌&&◌, List, [], ◌++◌, ℕ, ◌+◌, ◌-◌, ◌*◌, ◌^◌, ◌≤◌, ◌<◌, T, ltb, length, get_or, take, drop, append-nil, append_assoc, length-append, drop_at, eqb, ◌||◌, arith}
-use Rattle.std.proofs.lemmas.Bool.{and_parts, eqb-true, eqb-false}
+use Rattle.std.proofs.Common.{◌≡◌, refl, sym, ap, subst, ◌∙◌, Bool, true, false, cond, ◌&&◌, List, [], ◌++◌, ℕ, ◌+◌, ◌-◌, ◌*◌, ◌^◌, ◌≤◌, ◌<◌, T, ltb, length, get_or, take, drop, append-nil, append_assoc, length-append, drop_at, ◌||◌, arith}
+use Rattle.std.proofs.lemmas.Bool.{and_parts, false≢true}
 use Rattle.std.proofs.lemmas.List.{length-drop}
 use Rattle.std.proofs.Math.Seq.{take-length}
 use mathlib.Core.Logic.{⊎_elim}
@@ -12,23 +12,21 @@ use Rattle.std.specs.Float.Ieee.{add, fits}
 use Rattle.meaning.specs.Ieee754.{zero_float, narrow, sum_from, narrowed_sum}
 use Rattle.ieee754.specs.Nonneg.{nonneg, AtMost}
 use Rattle.bits.specs.Bit.{bit}
-use Rattle.weight.specs.ScorerTree.{Scorers, end, Joining, scoring, required_scores, optional_scores, joined_score}
+use Rattle.weight.specs.ScorerTree.{Scorers, Joining, scoring, required_scores, optional_scores, joined_score}
 use Rattle.weight.specs.Sound.{nodes_of}
 use Rattle.leaf_score.proofs.Bounds.{scores-narrow}
 use Rattle.score.proofs.Join.{first_of}
-use Rattle.score.proofs.Alone.{none_left, joined-alone}
-use Rattle.score.proofs.Small.{first_small, oks-weighted}
 use Rattle.window_words.specs.Windowed.{nowhere, places_of, optional_bound, AllWindowed}
-use Rattle.window_words.proofs.Laws.{all-length, all-ok}
+use Rattle.window_words.proofs.Laws.{all-length}
 use Rattle.node.specs.declared.Boolean.{Boolean}
 use Rattle.window_score.specs.Sums.{Sums, Zeros, NarrowedIs, AddedAll, NarrowSumsPre, NarrowSumsPost}
-use Rattle.window_score.specs.Asked.{Reads, BooleanAsked, BooleanLeft, RequiredAsked, RequiredPre, RequiredPost, OptionalAsked, OptionalPre, OptionalPost, BooleanPre, BooleanPost, RootPartsPre, RootPartsPost, OnlyChild, SharedPre}
+use Rattle.window_score.specs.Asked.{Reads, BooleanAsked, BooleanLeft, RequiredAsked, RequiredPre, RequiredPost, OptionalAsked, OptionalPre, OptionalPost, BooleanPre, BooleanPost, RootPartsPre, RootPartsPost, only_child, SharedPre}
 use Rattle.window_score.proofs.Loops.{put, sums-more}
 use Rattle.window_score.proofs.Required.{lent-at}
 use Rattle.window_score.proofs.Splits.{zero-sums}
 use Rattle.window_score.proofs.Groups.{is-after, summed}
 use Rattle.window_score.proofs.OnlyChild.{Only, nobody, one, only-of, add-comm, only-optional, only-required, only-narrow-required}
-use Rattle.window_score.proofs.Booleans.{mid-part, mid_back, front-part, front-back, goal-score, required-long, optional-long, front-is, optional-left, alone-own, group-ask, group-own}
+use Rattle.window_score.proofs.Booleans.{mid-part, mid_back, front-part, front-back, goal-score, required-long, optional-long, front-is, optional-left, required-few, first-small, alone-joined, alone-own, group-ask, group-own, root-parts-as}
 
 -- an only child is the first of its children
 only-first : {ss : Scorers} → Only ss → first_of 1 ss ≡ ss
@@ -54,17 +52,9 @@ module _ {kids : List ℕ} {node : Boolean} {V : Reads} {a b want : ℕ} {sums :
   optional-at w p = optional_scores w.1 w.5 (V.base + p)
 
   -- ---- an only required child
-  only-required-of : (w : BooleanPre kids node V a b want sums depth) → OnlyChild (take node.required_end kids) → Only w.4
+  only-required-of : (w : BooleanPre kids node V a b want sums depth) → only_child (take node.required_end kids) ≡ true → Only w.4
   only-required-of w e =
-      only-of w.1 V.ranges w.4 depth w.9.x (V.base + 64) V.base (places_of want) w.9.required (subst (λ (l : List ℕ). OnlyChild l) (front-is w) e)
-
-  required-few : (w : BooleanPre kids node V a b want sums depth) → nodes_of w.4 ≤ 256
-  required-few w = let f = w.9.few in omega (arith, f)
-
-  first-small : (w : BooleanPre kids node V a b want sums depth) (p m : ℕ) → AtMost (nodes_of (first_of m w.4) * 2 ^ 29) (sum_from zero_float (scoring (required_scores w.1 (first_of m w.4) (V.base + p))))
-  first-small w p m =
-      let W = oks-weighted w.1 V.ranges w.4 depth w.9.x (V.base + 64) (all-ok w.1 V.ranges w.4 depth w.9.x (V.base + 64) V.base (places_of want) (omega arith) w.9.required) in
-      first_small w.1 w.8.lends.accepted w.2 (V.base + p) m w.4 W w.9.required-scorables.sound (required-few w)
+      only-of w.1 V.ranges w.4 depth w.9.x (V.base + 64) V.base (places_of want) w.9.required (subst (λ (l : List ℕ). only_child l ≡ true) (front-is w) e)
 
   only-small : (w : BooleanPre kids node V a b want sums depth) → Only w.4 → (p : ℕ) → AtMost (nodes_of w.4 * 2 ^ 29) (sum_from zero_float (required-at w p))
   only-small w only p =
@@ -92,13 +82,9 @@ module _ {kids : List ℕ} {node : Boolean} {V : Reads} {a b want : ℕ} {sums :
   -- its score, narrowed, is the Boolean's
   straight-is : node.required_end ≡ node.optional_end → (w : BooleanPre kids node V a b want sums depth) → Only w.4 → (p : ℕ) → narrowed_sum (required-at w p) ≡ goal-score w p
   unfolding narrowed_sum
-  straight-is none w only p =
-      let sum = sum_from zero_float (required-at w p) in
-      let os-none : w.5 ≡ end = none_left w.5 (omega (arith, none, w.9.required-end, w.9.optional-end)) in
-      (joined-alone w.1 (V.base + p) w.4 w.3 (required-few w) (λ m. (first-small w p m).sign) sum (narrow sum) (record { is = refl; small = only-small w only p }) refl).is
-      ∙ ap (λ (o : Scorers). joined_score w.3 (required_scores w.1 w.4 (V.base + p)) (narrowed_sum (optional_scores w.1 o (V.base + p)))) (sym os-none)
+  straight-is none w only p = alone-joined none w p (sum_from zero_float (required-at w p)) (record { is = refl; small = only-small w only p })
 
-  pub straight-done : node.required_end ≡ node.optional_end → OnlyChild (take node.required_end kids) → (xs : List ℕ) (sums' : List Float) → ((i : ℕ) → T (fits binary64 (get_or sums' i nan))) → RequiredPost (take node.required_end kids) V a b want sums depth xs sums' → BooleanPost kids node V a b want sums depth (xs ++ drop node.required_end kids) sums'
+  pub straight-done : node.required_end ≡ node.optional_end → only_child (take node.required_end kids) ≡ true → (xs : List ℕ) (sums' : List Float) → ((i : ℕ) → T (fits binary64 (get_or sums' i nan))) → RequiredPost (take node.required_end kids) V a b want sums depth xs sums' → BooleanPost kids node V a b want sums depth (xs ++ drop node.required_end kids) sums'
   straight-done none single xs sums' wide post n ix places j rs os rest q L A S =
       let w : BooleanPre kids node V a b want sums depth = (n, ix, places, j, rs, os, rest, q, L, A, S) in
       let only = only-required-of w single in
@@ -153,16 +139,16 @@ module _ {kids : List ℕ} {node : Boolean} {V : Reads} {a b want : ℕ} {sums :
       }
 
   -- an only child of these is one of the whole
-  pub shared-pre : (w : BooleanPre kids node V a b want sums depth) (r o : Bool) → r ≡ eqb (get_or (take node.required_end kids) 1 0) (length (take node.required_end kids)) → o ≡ eqb (get_or (take (node.optional_end - node.required_end) (drop node.required_end kids)) 1 0) (length (take (node.optional_end - node.required_end) (drop node.required_end kids))) → node.afterwards && (r || o) ≡ true → SharedPre (take node.optional_end kids) node
+  pub shared-pre : (w : BooleanPre kids node V a b want sums depth) (r o : Bool) → r ≡ only_child (take node.required_end kids) → o ≡ only_child (take (node.optional_end - node.required_end) (drop node.required_end kids)) → node.afterwards && (r || o) ≡ true → SharedPre (take node.optional_end kids) node
   shared-pre w r o R O e =
       let t = and_parts node.afterwards (r || o) e in (
         t.0,
         ap length (parts-are w) ∙ ap (λ (l : List ℕ). length (w.9.x ++ l)) (append-nil w.9.v) ∙ parts-long w,
         λ many. ⊎_elim
-            (λ (h : r ≡ true). subst (λ (l : List ℕ). OnlyChild l) (front-is w ∙ sym (front-part w.9.x (w.9.v ++ []) (take node.optional_end kids) node.required_end (parts-are w) (required-long w))) (eqb-true _ _ (sym R ∙ h)))
+            (λ (h : r ≡ true). subst (λ (l : List ℕ). only_child l ≡ true) (front-is w ∙ sym (front-part w.9.x (w.9.v ++ []) (take node.optional_end kids) node.required_end (parts-are w) (required-long w))) (sym R ∙ h))
             (λ (h : r ≡ false).
             let g : o ≡ true = ap (λ (c : Bool). c || o) (sym h) ∙ t.1 in
-            absurd (many (subst (λ (l : List ℕ). OnlyChild l) (optional-same w) (eqb-true _ _ (sym O ∙ g)))))
+            absurd (false≢true (sym many ∙ subst (λ (l : List ℕ). only_child l ≡ true) (optional-same w) (sym O ∙ g))))
             (decided r),
       )
     where
@@ -221,14 +207,14 @@ module _ {kids : List ℕ} {node : Boolean} {V : Reads} {a b want : ℕ} {sums :
           pub next-ask : BooleanPre kids node V a b want sums depth → OptionalPre (take (length (with-front xs kids node.required_end) - node.required_end) (drop node.required_end (with-front xs kids node.required_end))) node.need V a' b' want own₂ depth
           next-ask w = (w.0, w.1, w.2, w.5, 0 + nodes_of w.4, lent-at a' b' want same-a same-b (λ p l e. e) w.8, next-asked w, front-sums w)
 
-          module _ (only-is : only ≡ eqb (get_or (take node.required_end kids) 1 0) (length (take node.required_end kids))) (single : OnlyChild (take (length kids - node.required_end) (drop node.required_end kids))) (ys : List ℕ) (own₃ : List Float) (wide : (i : ℕ) → T (fits binary64 (get_or own₃ i nan))) (post₃ : OptionalPost (take (length (with-front xs kids node.required_end) - node.required_end) (drop node.required_end (with-front xs kids node.required_end))) node.need V a' b' want own₂ depth ys own₃) where
+          module _ (only-is : only ≡ only_child (take node.required_end kids)) (single : only_child (take (length kids - node.required_end) (drop node.required_end kids)) ≡ true) (ys : List ℕ) (own₃ : List Float) (wide : (i : ℕ) → T (fits binary64 (get_or own₃ i nan))) (post₃ : OptionalPost (take (length (with-front xs kids node.required_end) - node.required_end) (drop node.required_end (with-front xs kids node.required_end))) node.need V a' b' want own₂ depth ys own₃) where
             next-own : (w : BooleanPre kids node V a b want sums depth) → AddedAll (optional-at w) want own₂ own₃ × Sums (0 + nodes_of w.4 + nodes_of w.5) own₃ × AllWindowed w.1 V.ranges w.5 depth ys (V.base + 64) (V.base + 64) nowhere
             next-own w = post₃ w.0 w.1 w.2 w.5 (0 + nodes_of w.4) (lent-at a' b' want same-a same-b (λ p l e. e) w.8) (next-asked w) (front-sums w)
 
             only-optional-of : (w : BooleanPre kids node V a b want sums depth) → Only w.5
             only-optional-of w =
                 only-of w.1 V.ranges w.5 depth w.9.v (optional_bound node.need (V.base + 64) V.base) V.base (λ p. ltb 0 node.need && bit p want) w.9.optional
-                (subst (λ (l : List ℕ). OnlyChild l) (mid-part w.9.x w.9.v w.6 kids node.required_end (length kids) w.9.is (required-long w) (optional-long w ∙ sym whole)) single)
+                (subst (λ (l : List ℕ). only_child l ≡ true) (mid-part w.9.x w.9.v w.6 kids node.required_end (length kids) w.9.is (required-long w) (optional-long w ∙ sym whole)) single)
 
             -- the required sum is narrow, also where it is of an only child and stays
             front-at : (w : BooleanPre kids node V a b want sums depth) (p : ℕ) → p < 64 → bit p want ≡ true → get_or own₂ p nan ≡ narrowed_sum (required-at w p)
@@ -236,7 +222,7 @@ module _ {kids : List ℕ} {node : Boolean} {V : Reads} {a b want : ℕ} {sums :
             front-at w p l e =
                 let r = front-own w in
                 let s = summed own own₁ own-zero want (required-at w) r.0 (nodes_of w.4) r.1 p l e in
-                let alone : only ≡ true → Only w.4 = λ h. only-required-of w (eqb-true _ _ (sym only-is ∙ h)) in
+                let alone : only ≡ true → Only w.4 = λ h. only-required-of w (sym only-is ∙ h) in
                 let same : only ≡ true → narrow (get_or own₁ p nan) ≡ get_or own₁ p nan = λ h. subst (λ (x : Float). narrow x ≡ x) (sym s.is) (only-narrow-required w.1 V.ranges w.4 depth w.9.x (V.base + 64) V.base (places_of want) (alone h) w.9.required w.8.lends.accepted w.9.required-scorables (V.base + p)) in
                 post₂.0.wanted p l e ∙ narrow-either only (get_or own₁ p nan) same ∙ ap narrow s.is
 
@@ -290,7 +276,7 @@ module _ {kids : List ℕ} {node : Boolean} {V : Reads} {a b want : ℕ} {sums :
           pub last-ask : BooleanPre kids node V a b want sums depth → RequiredPre (take node.required_end (put kids node.required_end (length kids) vs)) V a' b' want own₂ depth
           last-ask w = (w.0, w.1, w.2, w.4, 0 + nodes_of w.5, lent-at a' b' want same-a same-b (λ p l e. e) w.8, last-asked w, whole-sums w)
 
-          module _ (single : OnlyChild (take node.required_end kids)) (ys : List ℕ) (own₃ : List Float) (wide : (i : ℕ) → T (fits binary64 (get_or own₃ i nan))) (post₃ : RequiredPost (take node.required_end (put kids node.required_end (length kids) vs)) V a' b' want own₂ depth ys own₃) where
+          module _ (single : only_child (take node.required_end kids) ≡ true) (ys : List ℕ) (own₃ : List Float) (wide : (i : ℕ) → T (fits binary64 (get_or own₃ i nan))) (post₃ : RequiredPost (take node.required_end (put kids node.required_end (length kids) vs)) V a' b' want own₂ depth ys own₃) where
             last-own : (w : BooleanPre kids node V a b want sums depth) → AddedAll (required-at w) want own₂ own₃ × Sums (0 + nodes_of w.5 + nodes_of w.4) own₃ × AllWindowed w.1 V.ranges w.4 depth ys (V.base + 64) (V.base + 64) nowhere
             last-own w = post₃ w.0 w.1 w.2 w.4 (0 + nodes_of w.5) (lent-at a' b' want same-a same-b (λ p l e. e) w.8) (last-asked w) (whole-sums w)
 
@@ -323,10 +309,11 @@ module _ {kids : List ℕ} {node : Boolean} {V : Reads} {a b want : ℕ} {sums :
 
 -- ---- the children of a root, whose sums were 0
 module _ {kids : List ℕ} {node : Boolean} {V : Reads} {a b want : ℕ} {sums : List Float} {depth : ℕ} (w : RootPartsPre kids node V a b want sums depth) where
-  pub joined-ask : (r o : Bool) → r ≡ eqb (get_or (take node.required_end kids) 1 0) (length (take node.required_end kids)) → o ≡ eqb (get_or (take (node.optional_end - node.required_end) (drop node.required_end kids)) 1 0) (length (take (node.optional_end - node.required_end) (drop node.required_end kids))) → node.afterwards && (r || o) ≡ true → RootPartsPre (take node.optional_end kids) node V a b want sums depth × SharedPre (take node.optional_end kids) node
+  pub joined-ask : (r o : Bool) → r ≡ only_child (take node.required_end kids) → o ≡ only_child (take (node.optional_end - node.required_end) (drop node.required_end kids)) → node.afterwards && (r || o) ≡ true → RootPartsPre (take node.optional_end kids) node V a b want sums depth × SharedPre (take node.optional_end kids) node
+  unfolding root-parts-as
   joined-ask r o R O e =
       let k = w.1 in
-      let all : BooleanPre kids node V a b want sums depth = (k.0, k.1, k.2, k.3, k.4, k.5, k.6, 0, k.7, k.8, zero-sums sums w.0) in
+      let all = root-parts-as w in
       ((w.0, (k.0, k.1, k.2, k.3, k.4, k.5, [], k.7, parts-asked all)), shared-pre all r o R O e)
 
   pub joined-done : (kids' : List ℕ) (sums' : List Float) → RootPartsPost (take node.optional_end kids) node V a b want sums depth kids' sums' → RootPartsPost kids node V a b want sums depth (kids' ++ drop node.optional_end kids) sums'
@@ -336,8 +323,8 @@ module _ {kids : List ℕ} {node : Boolean} {V : Reads} {a b want : ℕ} {sums :
       (r.0, r.1, parts-left k r.2)
 
 -- where the group is of more than one child, the required is an only one
-pub required-is-only : (kids : List ℕ) (node : Boolean) → SharedPre kids node → false ≡ eqb (get_or (take (length kids - node.required_end) (drop node.required_end kids)) 1 0) (length (take (length kids - node.required_end) (drop node.required_end kids))) → OnlyChild (take node.required_end kids)
+pub required-is-only : (kids : List ℕ) (node : Boolean) → SharedPre kids node → false ≡ only_child (take (length kids - node.required_end) (drop node.required_end kids)) → only_child (take node.required_end kids) ≡ true
 required-is-only kids node J e =
     let group : List ℕ = drop node.required_end kids in
     let all : take (length kids - node.required_end) group ≡ group = ap (λ (i : ℕ). take i group) (sym (length-drop node.required_end kids)) ∙ take-length group in
-    J.2 (λ one-child. eqb-false _ _ (sym e) (subst (λ (l : List ℕ). OnlyChild l) (sym all) one-child))
+    J.2 (subst (λ (l : List ℕ). only_child l ≡ false) all (sym e))

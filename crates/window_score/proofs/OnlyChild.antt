@@ -10,12 +10,14 @@ use Rattle.meaning.specs.Lent.{Index}
 use Rattle.meaning.specs.Ieee754.{zero_float, narrow, sum_from, narrowed_sum}
 use Rattle.ieee754.specs.Nonneg.{nonneg}
 use Rattle.ieee754.proofs.Ranges.{add_is}
-use Rattle.ieee754.proofs.Narrowing.{narrow_exact}
 use Rattle.index.specs.Accepted.{Accepted}
 use Rattle.weight.specs.ScorerTree.{Scorer, Scorers, end, more, matches, scorer_score, scoring, required_scores, optional_scores}
 use Rattle.weight.specs.Sound.{Sounds, nodes_of}
 use Rattle.weight.proofs.Weights.{WeightedAll}
 use Rattle.score.specs.Asked.{Scorables}
+use Rattle.window_score.specs.Asked.{only_child}
+use Rattle.window_score.proofs.Alone.{narrow-alone}
+use Rattle.std.proofs.lemmas.Bool.{eqb-true}
 use lib.Ieee.Fits.{fits_widens}
 use Rattle.score.proofs.Alone.{zero-narrowed, zero-plus, plus-zero}
 use Rattle.score.proofs.Small.{score-small, score-fits, oks-weighted}
@@ -28,7 +30,7 @@ pub data Only : Scorers → Type 0 where
   one : {f : Bool} {s : Scorer} → Only (more f s end)
 
 -- the first part is all of the words, so there is no second one
-pub only-of : (ix : Index) (ranges : List ℕ) (ss : Scorers) (depth : ℕ) (x : List ℕ) (b base : ℕ) (D : Places) → AllWindowed ix ranges ss depth x b base D → get_or x 1 0 ≡ length x → Only ss
+pub only-of : (ix : Index) (ranges : List ℕ) (ss : Scorers) (depth : ℕ) (x : List ℕ) (b base : ℕ) (D : Places) → AllWindowed ix ranges ss depth x b base D → only_child x ≡ true → Only ss
 unfolding AllWindowed
 only-of ix ranges end depth x b base D p e = nobody
 only-of ix ranges (more f s end) depth x b base D p e = one
@@ -38,7 +40,7 @@ only-of ix ranges (more f s (more g t ss)) depth x b base D p e =
     let long = windowed-long ix ranges s depth (cond f 1 0) y b base D p.3 in
     let there : 1 < length y = omega (arith, long) in
     let size : length y ≡ length x =
-    sym (windowed-size ix ranges s depth (cond f 1 0) y b base D p.3) ∙ sym (get_or-append y p.1 0 1 there) ∙ ap (λ (l : List ℕ). get_or l 1 0) (sym p.2) ∙ e in
+    sym (windowed-size ix ranges s depth (cond f 1 0) y b base D p.3) ∙ sym (get_or-append y p.1 0 1 there) ∙ ap (λ (l : List ℕ). get_or l 1 0) (sym p.2) ∙ eqb-true _ _ e in
     absurd (omega (arith, size, ap length p.2, length-append y p.1, ap length q.2, length-append q.0 q.1, windowed-long ix ranges t depth (cond g 1 0) q.0 b base D q.3))
 
 -- ---- addition of values that are not negative is commutative
@@ -64,15 +66,14 @@ single-joined : {xs : List Float} → Single xs → (s : Float) → T (fits bina
 unfolding sum_from narrowed_sum
 single-joined no_score s h p = sym (ap (add binary64 s) (sym zero-narrowed) ∙ plus-zero s h p)
 single-joined (one_score {x} f q) s h p =
-    ap (add binary64 s) (sym (ap narrow (zero-plus x (fits_widens x f) q) ∙ narrow_exact x f))
+    ap (add binary64 s) (sym (narrow-alone x f q))
 
 -- and its sum from 0 is narrow
 single-narrow : {xs : List Float} → Single xs → narrow (sum_from zero_float xs) ≡ sum_from zero_float xs
 unfolding sum_from
 single-narrow no_score = sym zero-narrowed
 single-narrow (one_score {x} f q) =
-    let e = zero-plus x (fits_widens x f) q in
-    ap narrow e ∙ narrow_exact x f ∙ sym e
+    narrow-alone x f q ∙ sym (zero-plus x (fits_widens x f) q)
 
 -- an only child's score, where it counts
 counted-single : (c : Bool) (x : Float) → T (fits binary32 x) → T (nonneg x) → Single (cond c (x ∷ []) [] ++ [])

@@ -1,5 +1,5 @@
 -- What the scores of a window ask and give, of a node and of the parts of some children. Assumes nothing: these are definitions.
-use Rattle.std.specs.Prelude.{◌≡◌, true, cond, ◌&&◌, List, ◌++◌, ℕ, ◌+◌, ◌≤◌, ◌<◌, ltb, length, take, drop, get_or, Float}
+use Rattle.std.specs.Prelude.{◌≡◌, Bool, true, false, cond, ◌&&◌, List, ◌++◌, ℕ, ◌+◌, ◌≤◌, ◌<◌, ltb, eqb, length, take, drop, get_or, Float}
 use Rattle.std.specs.Float.{nan}
 use Rattle.meaning.specs.Limits.{no_more_docs}
 use Rattle.meaning.specs.Lent.{Index}
@@ -178,10 +178,10 @@ abbrev pub RootGroupPost : List ℕ → Boolean → List Float → Reads → ℕ
 RootGroupPost kids node group V a b want sums depth kids' sums' =
     (n : ℕ) (ix : Index) (places : ℕ) (j : Joining) (rs os : Scorers) → WindowLent ix n V places a b want → GroupAsked ix V places j rs os node depth kids want 0 group → NarrowedIs (λ p. joined_score j (required_scores ix rs (V.base + p)) (narrowed_sum (optional_scores ix os (V.base + p)))) want sums sums' × Sums (nodes_of rs + nodes_of os) sums' × AllWindowed ix V.ranges rs depth kids' (V.base + 64) (V.base + 64) nowhere
 
--- the parts are of one child at most
-abbrev pub OnlyChild : List ℕ → Type 0
-OnlyChild parts = get_or parts 1 0 ≡ length parts
+-- whether some parts are of one child at most: the size of the first is that of all, 0 where there are none
+abbrev pub only_child : List ℕ → Bool
+only_child parts = eqb (get_or parts 1 0) (length parts)
 
 -- the group joins after the required sum is narrowed, its parts are the last ones, and where it is of more than one child, the required is an only child
 abbrev pub SharedPre : List ℕ → Boolean → Type 0
-SharedPre kids node = (node.afterwards ≡ true) × (length kids ≡ node.optional_end) × ((OnlyChild (drop node.required_end kids) → ⊥) → OnlyChild (take node.required_end kids))
+SharedPre kids node = (node.afterwards ≡ true) × (length kids ≡ node.optional_end) × (only_child (drop node.required_end kids) ≡ false → only_child (take node.required_end kids) ≡ true)

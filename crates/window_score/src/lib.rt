@@ -2,14 +2,14 @@
 // of the parts or in one that gives the same sums.
 #![tactic(auto)]
 
-ghost use Rattle.std.specs.Prelude.{◌≡◌, ◌≤◌, length, get_or, eqb};
+ghost use Rattle.std.specs.Prelude.{◌≡◌, ◌≤◌, length, get_or};
 ghost use Rattle.meaning.specs.Limits.{node_state_words};
 ghost use Rattle.window_words.specs.Windowed.{joined};
 ghost use Rattle.leaf_scorer.specs.Calls.{lent_of};
 ghost use Rattle.leaf_scorer.specs.Buffers.{room, other_room, SameBuffers};
 ghost use Rattle.window_leaf.specs.Asks.{BitsPre, BitsPost};
 ghost use Rattle.window_score.specs.Words.{StoredAre};
-ghost use Rattle.window_score.specs.Asked.{reads_of, ScoresPre, ScoresPost, RequiredPre, RequiredPost, OptionalPre, OptionalPost, BooleanPre, BooleanPost, RootPartsPre, RootPartsPost, RootGroupPre, RootGroupPost, SharedPre};
+ghost use Rattle.window_score.specs.Asked.{reads_of, ScoresPre, ScoresPost, RequiredPre, RequiredPost, OptionalPre, OptionalPost, BooleanPre, BooleanPost, RootPartsPre, RootPartsPost, RootGroupPre, RootGroupPost, only_child, SharedPre};
 
 use leaf_score::score_node_at;
 use leaf_scorer::PhraseBuffers;
@@ -97,7 +97,7 @@ pub fn node_scores(
 
 // Whether the parts are of one child at most: its score is an f32, so narrowing a sum of it alone would change nothing.
 fn is_only_child(parts: &[u32]) -> bool
-    ensures { result ≡ eqb (get_or parts.now 1 0) (length parts.now) }
+    ensures { result ≡ only_child parts.now }
 {
     parts.get(1).copied().unwrap_or(0) as usize == parts.len()
 }

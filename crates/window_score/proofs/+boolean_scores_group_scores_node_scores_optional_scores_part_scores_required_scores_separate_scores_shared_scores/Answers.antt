@@ -45,7 +45,7 @@ boolean_scores-required_scores-requires t c =
 pub boolean_scores-returns-then-end-n-clause-boolean_post : goal.boolean_scores-returns-then-end-n-clause-boolean_post
 boolean_scores-returns-then-end-n-clause-boolean_post t c =
     let t = and_parts _ _ c.if-end-n.true in
-    straight-done (eqb-true _ _ t.0) (eqb-true _ _ (sym c.is_only_child.ensures ∙ t.1)) c.required_scores.new.kids c.required_scores.new.sums c.type_inv.sums c.required_scores.ensures.required_post
+    straight-done (eqb-true _ _ t.0) (sym c.is_only_child.ensures ∙ t.1) c.required_scores.new.kids c.required_scores.new.sums c.type_inv.sums c.required_scores.ensures.required_post
 
 pub boolean_scores-part_scores-requires : goal.boolean_scores-part_scores-requires
 boolean_scores-part_scores-requires t c =
@@ -73,7 +73,7 @@ shared_scores-optional_scores-requires t c =
 
 pub shared_scores-returns-then-is_only_child-clause-root_parts_post : goal.shared_scores-returns-then-is_only_child-clause-root_parts_post
 shared_scores-returns-then-is_only_child-clause-root_parts_post t c =
-    λ n ix places j rs os rest L A. next-root c.args.sums.now c.requires.parts.0 c.requires.only_child.0 c.requires.only_child.1 c.required_scores.new.kids c.required_scores.new.sums c.required_scores.ensures.required_post c.is_only_child-only.result c.narrow_sums.new.sums c.narrow_sums.ensures (room c.required_scores.new.buffers) (other_room c.required_scores.new.buffers) c.required_scores.ensures.same_buffers.starts_length c.required_scores.ensures.same_buffers.other_starts_length c.is_only_child-only.ensures (eqb-true _ _ (sym c.if-is_only_child.ensures)) c.optional_scores.new.kids c.optional_scores.new.sums c.type_inv.sums c.optional_scores.ensures.optional_post (n, ix, places, j, rs, os, rest, 0, L, A, zero-sums c.args.sums.now c.requires.parts.0)
+    λ n ix places j rs os rest L A. next-root c.args.sums.now c.requires.parts.0 c.requires.only_child.0 c.requires.only_child.1 c.required_scores.new.kids c.required_scores.new.sums c.required_scores.ensures.required_post c.is_only_child-only.result c.narrow_sums.new.sums c.narrow_sums.ensures (room c.required_scores.new.buffers) (other_room c.required_scores.new.buffers) c.required_scores.ensures.same_buffers.starts_length c.required_scores.ensures.same_buffers.other_starts_length c.is_only_child-only.ensures (sym c.if-is_only_child.ensures) c.optional_scores.new.kids c.optional_scores.new.sums c.type_inv.sums c.optional_scores.ensures.optional_post (n, ix, places, j, rs, os, rest, 0, L, A, zero-sums c.args.sums.now c.requires.parts.0)
 
 pub shared_scores-optional_scores-requires-2 : goal.shared_scores-optional_scores-requires-2
 shared_scores-optional_scores-requires-2 t c =
